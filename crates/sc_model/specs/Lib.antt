@@ -1,0 +1,4 @@
+pub mod Cause
+pub mod Growth
+pub mod Outside
+pub mod Sets

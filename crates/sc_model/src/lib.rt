@@ -1,0 +1,12 @@
+//! The definitions that the contracts of the other crates cite, and the words that they speak of.
+#![tactic(auto)]
+
+mod cause;
+mod kind;
+mod laws;
+mod variable_option;
+
+pub use cause::Cause;
+pub use kind::Kind;
+pub use laws::one_to_one_grows;
+pub use variable_option::VariableOption;
