@@ -8,5 +8,5 @@ mod variable_option;
 
 pub use cause::Cause;
 pub use kind::Kind;
-pub use laws::one_to_one_grows;
+pub use laws::lexing_has_one_answer;
 pub use variable_option::VariableOption;
