@@ -1,2 +1,3 @@
 pub mod LexLaws
+mod TextVectors
 mod Vectors

@@ -2,6 +2,10 @@ pub mod Bytes
 pub mod Cause
 pub mod Growth
 pub mod Lex
+pub mod Lines
 pub mod Outside
+pub mod Pre
 pub mod Sets
+pub mod Space
+pub mod Text
 pub mod Token

@@ -2,11 +2,13 @@
 #![tactic(auto)]
 
 mod cause;
+mod conditional;
 mod kind;
 mod laws;
 mod variable_option;
 
 pub use cause::Cause;
+pub use conditional::Conditional;
 pub use kind::Kind;
 pub use laws::lexing_has_one_answer;
 pub use variable_option::VariableOption;

@@ -1,0 +1,42 @@
+-- The text of an answer, computed on an example.
+use Rattle.std.proofs.Common.{◌≡◌, ℕ, refl, codes, List, [], ◌∷◌, Option, Some, Result, Ok}
+use Rattle.std.specs.List.{flat_map}
+use Rattle.std.specs.Option.{option_map}
+use Rattle.std.specs.Fmt.{digits}
+use Rattle.sc_model.specs.declared.variable_option.VariableOption.TheVariants.{Undefined, Number}
+use Rattle.sc_model.specs.Pre.{Fault}
+use Rattle.sc_model.specs.Space.{Space}
+use Rattle.sc_model.specs.Token.{Shown}
+use Rattle.sc_model.specs.Text.{TextLine, condition_line, file_line, token_line, end_line, line_text, Printed, nothing_read, read_lines, at}
+
+abbrev space : Space
+space = record { variables = record { name = codes "A"; options = Undefined ∷ Number 1 ∷ [] } ∷ []; include = []; branches = 4096; include_depth = 64; date = []; time = [] }
+
+abbrev place : ℕ → Printed
+place line = record { file = 0; position = record { line = line; column = 1 } }
+
+abbrev example : List TextLine
+example =
+    condition_line 2 (codes "A") ((codes "undef", 0) ∷ (codes "1", 1) ∷ [])
+    ∷ file_line 0 (codes "m.c")
+    ∷ token_line 2 (place 2) (codes "x")
+    ∷ condition_line 3 (codes "A") ((codes "undef", 1) ∷ (codes "1", 0) ∷ [])
+    ∷ token_line 3 (place 4) (codes "y") ∷ end_line ∷ []
+
+example-text : flat_map line_text example ≡ codes "c 2 A undef:0 1:1\ns 0 m.c\nt 2 0:2:1 x\nc 3 A undef:1 1:0\nt 3 0:4:1 y\nend\n"
+unfolding digits
+example-text = refl
+
+abbrev shown_at : ℕ → List ℕ → Shown
+shown_at line spelling = record { place = record { file = codes "m.c"; position = record { line = line; column = 1 } }; spelling = spelling }
+
+abbrev answer_at : List ℕ → Option (Result (List Shown) Fault)
+answer_at config = option_map (λ r. at r.answer config) (read_lines space nothing_read example)
+
+example-defined : answer_at (1 ∷ []) ≡ Some (Ok (shown_at 2 (codes "x") ∷ []))
+unfolding digits
+example-defined = refl
+
+example-undefined : answer_at (0 ∷ []) ≡ Some (Ok (shown_at 4 (codes "y") ∷ []))
+unfolding digits
+example-undefined = refl
