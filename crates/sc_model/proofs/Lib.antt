@@ -1,3 +1,4 @@
 pub mod LexLaws
+pub mod SetLemmas
 mod TextVectors
 mod Vectors

@@ -1,0 +1,137 @@
+-- What stays of a condition as its store grows, and what a part of one depends on.
+use Rattle.std.proofs.Common.{◌≡◌, ℕ, ◌+◌, ◌<◌, Bool, List, length, refl, sym, ◌∙◌, ap, subst, inl, inr, arith}
+use Rattle.std.proofs.lemmas.Bool.{cases_eq}
+use Rattle.std.proofs.lemmas.List.{length-set, get_or-set_same, get_or-set_other, set-get_or, set-set, set_comm}
+use Rattle.std.specs.Prelude.{slice_index, slice_set}
+use Rattle.sc_model.specs.Sets.{Sets, IsConfig, IsCond, Denotes, Keeps, IsNever, IsAlways, IsSame, DependsOn, DependsFrom, IsTop}
+
+-- a configuration with one variable set to another of its options is one
+pub IsConfig-set : {ns c : List ℕ} (v k : ℕ) → IsConfig ns c → v < length ns → k < slice_index ns v → IsConfig ns (slice_set c v k)
+IsConfig-set {ns} {c} v k config within in_range =
+    let placed : v < length c = omega (arith, config.long) in
+    record {
+      long = length-set c v k ∙ config.long;
+      each = λ u below. elim (cases_eq u v) [
+        | inl same ↦ rw (same, get_or-set_same c v k 0 placed) in_range
+        | inr other ↦ rw (get_or-set_other c v u k 0 other) (config.each u below)
+      ];
+    }
+
+pub Keeps-refl : (s : Sets) → Keeps s s
+Keeps-refl s = record { arities = refl; own = λ a own. own; at = λ a c own listed. refl }
+
+pub Keeps-trans : {r s t : Sets} → Keeps r s → Keeps s t → Keeps r t
+Keeps-trans k l = record {
+  arities = l.arities ∙ k.arities;
+  own = λ a own. l.own a (k.own a own);
+  at = λ a c own listed. l.at a c (k.own a own) (subst (λ ns. IsConfig ns c) (sym k.arities) listed) ∙ k.at a c own listed;
+}
+
+-- a condition passes its own test
+pub Denotes-self : (s : Sets) (a : ℕ) → IsCond s a → Denotes s a (s.has a)
+Denotes-self s a own = record { own = own; at = λ c listed. refl }
+
+module _ {old new : Sets} where
+  -- the configurations are those that they were
+  pub IsConfig-Keeps : {c : List ℕ} → Keeps old new → IsConfig old.arities c → IsConfig new.arities c
+  IsConfig-Keeps {c} keeps listed = subst (λ ns. IsConfig ns c) (sym keeps.arities) listed
+
+  pub IsConfig-kept : {c : List ℕ} → Keeps old new → IsConfig new.arities c → IsConfig old.arities c
+  IsConfig-kept {c} keeps listed = subst (λ ns. IsConfig ns c) keeps.arities listed
+
+  pub IsCond-Keeps : {a : ℕ} → Keeps old new → IsCond old a → IsCond new a
+  IsCond-Keeps {a} keeps own = keeps.own a own
+
+  pub Denotes-Keeps : {a : ℕ} {f : List ℕ → Bool} → Keeps old new → Denotes old a f → Denotes new a f
+  Denotes-Keeps {a} keeps told = record {
+    own = keeps.own a told.own;
+    at = λ c listed. let was = IsConfig-kept keeps listed in keeps.at a c told.own was ∙ told.at c was;
+  }
+
+  pub IsNever-Keeps : {a : ℕ} → Keeps old new → IsCond old a → IsNever old a → IsNever new a
+  IsNever-Keeps {a} keeps own never = record {
+    none = λ c listed. let was = IsConfig-kept keeps listed in keeps.at a c own was ∙ never.none c was;
+  }
+
+  pub IsAlways-Keeps : {a : ℕ} → Keeps old new → IsCond old a → IsAlways old a → IsAlways new a
+  IsAlways-Keeps {a} keeps own always = record {
+    all = λ c listed. let was = IsConfig-kept keeps listed in keeps.at a c own was ∙ always.all c was;
+  }
+
+  pub IsSame-Keeps : {a b : ℕ} → Keeps old new → IsCond old a → IsCond old b → IsSame old a b → IsSame new a b
+  IsSame-Keeps {a} {b} keeps own_a own_b same = record {
+    at = λ c listed. let was = IsConfig-kept keeps listed in keeps.at a c own_a was ∙ same.at c was ∙ sym (keeps.at b c own_b was);
+  }
+
+  -- what a condition depends on, it depended on
+  pub DependsOn-kept : {a v : ℕ} → Keeps old new → IsCond old a → DependsOn new a v → DependsOn old a v
+  DependsOn-kept {a} {v} keeps own depends =
+      let listed = IsConfig-kept keeps depends.listed in
+      let within : v < length old.arities = subst (λ ns. v < length ns) keeps.arities depends.within in
+      let in_range : depends.option < slice_index old.arities v = subst (λ ns. depends.option < slice_index ns v) keeps.arities depends.in_range in
+      record {
+        config = depends.config;
+        option = depends.option;
+        listed = listed;
+        within = within;
+        in_range = in_range;
+        changes = λ same. depends.changes (keeps.at a _ own listed ∙ same ∙ sym (keeps.at a _ own (IsConfig-set v _ listed within in_range)));
+      }
+
+  pub DependsOn-Keeps : {a v : ℕ} → Keeps old new → IsCond old a → DependsOn old a v → DependsOn new a v
+  DependsOn-Keeps {a} {v} keeps own depends = record {
+    config = depends.config;
+    option = depends.option;
+    listed = IsConfig-Keeps keeps depends.listed;
+    within = subst (λ ns. v < length ns) (sym keeps.arities) depends.within;
+    in_range = subst (λ ns. depends.option < slice_index ns v) (sym keeps.arities) depends.in_range;
+    changes = λ same. depends.changes (sym (keeps.at a _ own depends.listed) ∙ same ∙ keeps.at a _ own (IsConfig-set v _ depends.listed depends.within depends.in_range));
+  }
+
+  pub DependsFrom-Keeps : {a v : ℕ} → Keeps old new → IsCond old a → DependsFrom old a v → DependsFrom new a v
+  DependsFrom-Keeps keeps own from = record { free = λ u below depends. from.free u below (DependsOn-kept keeps own depends) }
+
+  pub IsTop-Keeps : {a v : ℕ} → Keeps old new → IsCond old a → IsTop old a v → IsTop new a v
+  IsTop-Keeps keeps own top = record { depends = DependsOn-Keeps keeps own top.depends; first = DependsFrom-Keeps keeps own top.first }
+
+-- b is what remains of a where the variable v has the option k
+pub record IsPart (old new : Sets) (a v k b : ℕ) : Type 0 where
+  pub own : IsCond old a
+  pub within : v < length old.arities
+  pub in_range : k < slice_index old.arities v
+  pub at : (c : List ℕ) → IsConfig old.arities c → new.has b c ≡ old.has a (slice_set c v k)
+
+module _ {old new : Sets} {a v k b : ℕ} where
+  -- a part has the configurations with its option that the whole has
+  pub has-IsPart : IsPart old new a v k b → (c : List ℕ) → IsConfig old.arities c → slice_index c v ≡ k → new.has b c ≡ old.has a c
+  has-IsPart part c listed chosen = part.at c listed ∙ ap (old.has a) (subst (λ x. slice_set c v x ≡ c) chosen (set-get_or c v 0))
+
+  -- a part does not depend on its variable, and else only on what the whole depends on
+  pub DependsOn-IsPart : {u : ℕ} → Keeps old new → IsPart old new a v k b → DependsOn new b u → record { other : u ≡ v → ⊥; whole : DependsOn old a u }
+  DependsOn-IsPart {u} keeps part depends =
+      let c = depends.config in
+      let o = depends.option in
+      let listed = IsConfig-kept keeps depends.listed in
+      let within : u < length old.arities = subst (λ ns. u < length ns) keeps.arities depends.within in
+      let in_range : o < slice_index old.arities u = subst (λ ns. o < slice_index ns u) keeps.arities depends.in_range in
+      let here = part.at c listed in
+      let there = part.at (slice_set c u o) (IsConfig-set u o listed within in_range) in
+      let other : u ≡ v → ⊥ = λ same. depends.changes (here ∙ ap (old.has a) (rw same (sym (set-set c v o k))) ∙ sym there) in
+      record {
+        other = other;
+        whole = record {
+          config = slice_set c v k;
+          option = o;
+          listed = IsConfig-set v k listed part.within part.in_range;
+          within = within;
+          in_range = in_range;
+          changes = λ same. depends.changes (here ∙ same ∙ ap (old.has a) (set_comm c v u k o (λ e. other (sym e))) ∙ sym there);
+        };
+      }
+
+  pub DependsFrom-IsPart : Keeps old new → IsPart old new a v k b → DependsFrom old a v → DependsFrom new b (v + 1)
+  DependsFrom-IsPart keeps part from = record {
+    free = λ u below depends.
+        let found = DependsOn-IsPart keeps part depends in
+        from.free u (omega (arith, found.other)) found.whole;
+  }

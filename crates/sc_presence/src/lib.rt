@@ -1,0 +1,6 @@
+//! Presence conditions: sets of configurations, and their operations.
+#![tactic(auto)]
+
+mod conditions;
+
+pub use conditions::Conditions;
