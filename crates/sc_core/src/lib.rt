@@ -1,0 +1,6 @@
+//! The program as one call.
+#![tactic(auto)]
+
+mod status;
+
+pub use status::Status;
