@@ -1,0 +1,22 @@
+//! What every layer speaks of: places, ids, limits, refusals, and the tables of names and of files.
+#![tactic(auto)]
+
+mod fault;
+mod files;
+mod id;
+mod limits;
+mod names;
+mod place;
+mod stop;
+
+pub use fault::Fault;
+pub use files::Files;
+pub use id::{Cond, FileId, Name, TreeId};
+pub use limits::Limits;
+pub use names::Names;
+pub use place::Place;
+pub use sc_model::Cause;
+pub use stop::{OutOfMemory, Stop};
+
+#[cfg(test)]
+mod tests;
