@@ -1,0 +1,3 @@
+pub mod Logical
+pub mod Source
+pub mod Spell

@@ -1,0 +1,18 @@
+//! From the bytes of a file to its tokens (C11 5.1.1.2 phases 1 and 3, and 6.4).
+#![tactic(auto)]
+
+mod lexer;
+mod line;
+mod piece;
+mod scan;
+mod source;
+mod stop;
+mod token;
+
+pub use lexer::tokens;
+pub use sc_model::Kind;
+pub use stop::LexStop;
+pub use token::{HasToken, Token};
+
+#[cfg(test)]
+mod tests;
