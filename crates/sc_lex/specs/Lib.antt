@@ -1,3 +1,2 @@
-pub mod Logical
-pub mod Source
+pub mod Seen
 pub mod Spell

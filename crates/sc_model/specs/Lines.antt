@@ -9,14 +9,18 @@ use Rattle.sc_model.specs.Token.{Place, Token, name_of}
 abbrev pub Line : Type 0
 Line = List Token
 
-abbrev pub onto_first : Token → List Line → List Line
+abbrev pub onto_first : {T : Type 0} → T → List (List T) → List (List T)
 onto_first t [] = (t ∷ []) ∷ []
 onto_first t (line ∷ lines) = (t ∷ line) ∷ lines
 
--- the tokens up to each newline, without it
+-- the items up to each one that ends a line, without it
+abbrev pub split_lines : {T : Type 0} → (T → Bool) → List T → List (List T)
+split_lines ends [] = []
+split_lines ends (t ∷ ts) = if ends t then [] ∷ split_lines ends ts else onto_first t (split_lines ends ts)
+
+-- the tokens up to each newline
 abbrev pub lines_of : List Token → List Line
-lines_of [] = []
-lines_of (t ∷ ts) = if is_newline t.kind then [] ∷ lines_of ts else onto_first t (lines_of ts)
+lines_of ts = split_lines (λ t. is_newline t.kind) ts
 
 abbrev pub is_hash : Token → Bool
 is_hash t = same_bytes (name_of t.spelling) (codes "#")
@@ -122,12 +126,13 @@ pub record IsMisplaced (lines : List Line) (place : Place) : Type 0 where
   pub stuck : GoesOn (before ++ line ∷ []) → ⊥
   pub at : hash_place line ≡ Some place
 
--- what follows the first line of a section that isn't closed: its groups, parted by its own #elif and #else
-pub data Unclosed : List Line → Type 0 where
-  last : (group : Group) → IsGroup group → Unclosed (group_lines group)
-  later : (group : Group) (head : Line) (conditional : Conditional) (rest : List Line)
-      → IsGroup group → conditional_of head ≡ Some conditional → is_opening conditional ≡ false
-      → Unclosed rest → Unclosed (group_lines group ++ head ∷ rest)
+-- What follows the first line of a section that isn't closed: its groups, parted by its #elif lines and its #else. Whether that has come is told.
+pub data Unclosed : Bool → List Line → Type 0 where
+  first : (group : Group) → IsGroup group → Unclosed false (group_lines group)
+  more : {lines : List Line} (head : Line) (group : Group) → Unclosed false lines → conditional_of head ≡ Some Elif → IsGroup group
+      → Unclosed false (lines ++ head ∷ group_lines group)
+  last : {lines : List Line} (head : Line) (group : Group) → Unclosed false lines → conditional_of head ≡ Some Else → IsGroup group
+      → Unclosed true (lines ++ head ∷ group_lines group)
 
 -- the innermost section that is open at the end
 pub record IsOpenAtEnd (lines : List Line) (place : Place) : Type 0 where
@@ -137,7 +142,8 @@ pub record IsOpenAtEnd (lines : List Line) (place : Place) : Type 0 where
   pub whole : lines ≡ before ++ head ∷ after
   pub fine : GoesOn lines
   pub opens : Opens head
-  pub unclosed : Unclosed after
+  pub has_else : Bool
+  pub unclosed : Unclosed has_else after
   pub at : hash_place head ≡ Some place
 
 -- the group of a whole file, or the place of the first fault in its nesting

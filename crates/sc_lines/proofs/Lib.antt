@@ -1,0 +1,4 @@
+pub mod Judging
+pub mod Nesting
+pub mod SeenLines
+pub mod Splits

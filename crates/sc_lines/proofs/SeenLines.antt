@@ -1,0 +1,116 @@
+-- The lines of tokens, seen through the tables of texts and of files.
+use Rattle.std.proofs.Common.{◌≡◌, ℕ, zero, suc, ◌-◌, ◌<◌, ◌≤◌, Bool, true, false, List, [], ◌∷◌, ◌++◌, length, map, take, drop, get_or, Option, Some, None, Err, refl, sym, ap, ◌∙◌, subst, inl, inr, arith}
+use Rattle.std.proofs.Math.Seq.{drop-cons}
+use Rattle.std.proofs.Math.ListN.{drop_of_length-le}
+use Rattle.std.proofs.lemmas.Bool.{cases_lt}
+use Rattle.std.proofs.lemmas.List.{map-id}
+use Rattle.std.proofs.lemmas.Simd.{map-map}
+use Rattle.std.specs.Prelude.{slice_range, if◌then◌else◌}
+use Rattle.sc_lex.specs.declared.token.Token.{Token}
+use Rattle.sc_lex.specs.Seen.{seen, seen_place}
+use Rattle.sc_lines.specs.declared.line.Line.{Line}
+use Rattle.sc_lines.specs.Judges.{line_at, FailsAt, Judges, no_token}
+use Rattle.sc_lines.specs.Nests.{seen_lines}
+use Rattle.sc_lines.specs.Split.{AreLines, tokens_of, token_lines, conditional_at}
+use Rattle.sc_lines.proofs.Judging.{same_at, same_length}
+use Rattle.sc_model.specs.Lex.{is_newline}
+use Rattle.sc_model.specs.Lines as model
+use Rattle.sc_model.specs.Token.{Place}
+
+onto_first-map : {A B : Type 0} (f : A → B) (t : A) (lines : List (List A)) → model.onto_first (f t) (map (map f) lines) ≡ map (map f) (model.onto_first t lines)
+onto_first-map f t [] = refl
+onto_first-map f t (line ∷ lines) = refl
+
+split_lines-map : {A B : Type 0} (f : A → B) (ends : B → Bool) (ts : List A) → model.split_lines ends (map f ts) ≡ map (map f) (model.split_lines (λ t. ends (f t)) ts)
+split_lines-map f ends [] = refl
+split_lines-map f ends (t ∷ ts) =
+    ap (λ rest. if ends (f t) then [] ∷ rest else model.onto_first (f t) rest) (split_lines-map f ends ts)
+    ∙ elim (ends (f t)) as (λ b. (if b then [] ∷ map (map f) (model.split_lines (λ u. ends (f u)) ts) else model.onto_first (f t) (map (map f) (model.split_lines (λ u. ends (f u)) ts)))
+        ≡ map (map f) (if b then [] ∷ model.split_lines (λ u. ends (f u)) ts else model.onto_first t (model.split_lines (λ u. ends (f u)) ts))) [
+        true ↦ refl
+      | false ↦ onto_first-map f t (model.split_lines (λ u. ends (f u)) ts)
+      ]
+
+map-same : {A B : Type 0} (f g : A → B) → ((x : A) → f x ≡ g x) → (xs : List A) → map f xs ≡ map g xs
+map-same f g same [] = refl
+map-same f g same (x ∷ xs) = ap (λ y. y ∷ map f xs) (same x) ∙ ap (λ ys. g x ∷ ys) (map-same f g same xs)
+
+-- which directive a line is doesn't depend on the names of files
+conditional-files : (names files : List (List ℕ)) (line : List Token) → model.conditional_of (map (seen names files) line) ≡ conditional_at names line
+conditional-files names files [] = refl
+conditional-files names files (hash ∷ []) = refl
+conditional-files names files (hash ∷ word ∷ rest) = refl
+
+module _ (names files : List (List ℕ)) (tokens : List Token) (lines : List Line) (are : AreLines names tokens lines) where
+  pub lines-seen : seen_lines names files tokens ≡ map (λ l. map (seen names files) (tokens_of tokens l)) lines
+  lines-seen =
+      split_lines-map (seen names files) (λ t. is_newline t.kind) tokens
+      ∙ (ap (map (map (seen names files))) (sym are.tokens_are) ∙ map-map (map (seen names files)) (tokens_of tokens) lines)
+
+  pub conditionals-seen : map model.conditional_of (seen_lines names files tokens) ≡ map (λ l. l.conditional) lines
+  conditionals-seen =
+      ap (map model.conditional_of) (split_lines-map (seen names files) (λ t. is_newline t.kind) tokens)
+      ∙ (map-map model.conditional_of (map (seen names files)) (token_lines tokens)
+      ∙ (map-same (λ line. model.conditional_of (map (seen names files) line)) (conditional_at names) (conditional-files names files) (token_lines tokens)
+      ∙ sym are.conditionals))
+
+-- the first token of a line that is a directive
+pub record FirstToken (names files : List (List ℕ)) (tokens : List Token) (first end : ℕ) (token : Token) : Type 0 where
+  pub within : first < length tokens
+  pub place : model.hash_place (map (seen names files) (slice_range tokens first end)) ≡ Some (seen_place files token.place)
+
+taken_none : (names files : List (List ℕ)) (n : ℕ) → model.conditional_of (map (seen names files) (take n [])) ≡ None
+taken_none names files zero = refl
+taken_none names files (suc n) = refl
+
+-- a front of a list that isn't empty
+first_of : (names files : List (List ℕ)) (n : ℕ) (t : Token) (ts : List Token) → (model.conditional_of (map (seen names files) (take n (t ∷ ts))) ≡ None → ⊥)
+    → model.hash_place (map (seen names files) (take n (t ∷ ts))) ≡ Some (seen_place files t.place)
+first_of names files zero t ts directive = absurd (directive refl)
+first_of names files (suc n) t ts directive = refl
+
+pub first_token : (names files : List (List ℕ)) (tokens : List Token) (first end : ℕ) (d : Token)
+    → (model.conditional_of (map (seen names files) (slice_range tokens first end)) ≡ None → ⊥) → FirstToken names files tokens first end (get_or tokens first d)
+first_token names files tokens first end d directive =
+    elim (cases_lt first (length tokens)) [
+      inl h ↦ (let whole : drop first tokens ≡ get_or tokens first d ∷ drop (suc first) tokens = drop-cons tokens first d h in
+        record {
+          within = h;
+          place = ap (λ ts. model.hash_place (map (seen names files) (take (end - first) ts))) whole
+            ∙ first_of names files (end - first) (get_or tokens first d) (drop (suc first) tokens)
+                (λ e. directive (ap (λ ts. model.conditional_of (map (seen names files) (take (end - first) ts))) whole ∙ e));
+        })
+    | inr past ↦ absurd (directive (ap (λ ts. model.conditional_of (map (seen names files) (take (end - first) ts))) (drop_of_length-le tokens past) ∙ taken_none names files (end - first)))
+    ]
+
+module _ (names files : List (List ℕ)) (tokens : List Token) (lines : List Line) (are : AreLines names tokens lines) where
+  -- the line of a number
+  pub line-seen : (i : ℕ) (d : Line) → i < length lines → line_at (seen_lines names files tokens) i ≡ map (seen names files) (tokens_of tokens (get_or lines i d))
+  line-seen i d h = same_at (λ l. l) (λ l. map (seen names files) (tokens_of tokens l)) (seen_lines names files tokens) lines i [] d (map-id (seen_lines names files tokens) ∙ lines-seen names files tokens lines are) h
+
+-- the line at which the nesting fails, whatever the names of files are
+pub fails : (names : List (List ℕ)) (tokens : List Token) (lines : List Line) (found : Option ℕ) (at : ℕ) → AreLines names tokens lines → found ≡ Some at
+    → ((ms : List model.Line) → map model.conditional_of ms ≡ map (λ l. l.conditional) lines → Judges ms found)
+    → (files : List (List ℕ)) → FailsAt (seen_lines names files tokens) at
+fails names tokens lines found at are is judged files =
+    subst (Judges (seen_lines names files tokens)) is (judged (seen_lines names files tokens) (conditionals-seen names files tokens lines are))
+
+module _ (names : List (List ℕ)) (tokens : List Token) (lines : List Line) (are : AreLines names tokens lines) (at : ℕ) (at_fault : (files : List (List ℕ)) → FailsAt (seen_lines names files tokens) at) where
+  pub fault-within : at < length lines
+  fault-within = omega (arith, (at_fault []).within, same_length model.conditional_of (λ l. l.conditional) (seen_lines names [] tokens) lines (conditionals-seen names [] tokens lines are))
+
+  fault-line : (files : List (List ℕ)) (line : Line) → line ≡ get_or lines at line → line_at (seen_lines names files tokens) at ≡ map (seen names files) (tokens_of tokens line)
+  fault-line files line is = line-seen names files tokens lines are at line fault-within ∙ ap (λ l. map (seen names files) (tokens_of tokens l)) (sym is)
+
+  fault-token : (files : List (List ℕ)) (line : Line) (d : Token) → line ≡ get_or lines at line → FirstToken names files tokens line.first line.end (get_or tokens line.first d)
+  fault-token files line d is =
+      first_token names files tokens line.first line.end d (λ e. (at_fault files).directive (ap model.conditional_of (fault-line files line is) ∙ e))
+
+  -- its first token is there
+  pub fault-first : (line : Line) → line ≡ get_or lines at line → line.first < length tokens
+  fault-first line is = (fault-token [] line no_token is).within
+
+  -- and has the place of the fault
+  pub fault-tree : (files : List (List ℕ)) (line : Line) (d : Token) → line ≡ get_or lines at line
+      → model.Tree (seen_lines names files tokens) (Err (seen_place files (get_or tokens line.first d).place))
+  fault-tree files line d is = (at_fault files).fault _ (ap model.hash_place (fault-line files line is) ∙ (fault-token files line d is).place)

@@ -1,0 +1,48 @@
+-- The first line of a list, and the rest.
+use Rattle.std.proofs.Common.{◌≡◌, ℕ, suc, ◌+◌, ◌<◌, ◌≤◌, ◌&&◌, not, Bool, true, false, List, [], ◌∷◌, ◌++◌, length, take, drop, get_or, add-one, refl, sym, ap, ◌∙◌, subst, arith}
+use Rattle.std.proofs.Math.Seq.{split_at, take-length}
+use Rattle.std.proofs.Math.ListN.{drop_of_length-le}
+use Rattle.std.specs.List.{list_all}
+use Rattle.sc_model.specs.Lines.{onto_first, split_lines}
+
+and_first : (a b : Bool) → (a && b) ≡ true → a ≡ true
+and_first true b e = refl
+and_first false b e = e
+
+and_second : (a b : Bool) → (a && b) ≡ true → b ≡ true
+and_second true b e = e
+and_second false b e = cc
+
+from_not : (b : Bool) → not b ≡ true → b ≡ false
+from_not true e = sym e
+from_not false e = refl
+
+module _ {T : Type 0} (ends : T → Bool) where
+  -- no item ends a line
+  abbrev pub is_open : List T → Bool
+  is_open xs = list_all (λ t. not (ends t)) xs
+
+  split-front : (xs : List T) (t : T) (ys : List T) → is_open xs ≡ true → ends t ≡ true → split_lines ends (xs ++ t ∷ ys) ≡ xs ∷ split_lines ends ys
+  split-front [] t ys o e = rw e
+  split-front (x ∷ xs) t ys o e =
+      rw (from_not (ends x) (and_first (not (ends x)) (is_open xs) o)) (ap (onto_first x) (split-front xs t ys (and_second (not (ends x)) (is_open xs) o) e))
+
+  split-open : (x : T) (xs : List T) → is_open (x ∷ xs) ≡ true → split_lines ends (x ∷ xs) ≡ (x ∷ xs) ∷ []
+  split-open x [] o = rw (from_not (ends x) (and_first (not (ends x)) true o))
+  split-open x (y ∷ ys) o =
+      rw (from_not (ends x) (and_first (not (ends x)) (is_open (y ∷ ys)) o)) (ap (onto_first x) (split-open y ys (and_second (not (ends x)) (is_open (y ∷ ys)) o)))
+
+  -- a line up to the first item that ends one
+  pub split-at_end : (ts : List T) (i : ℕ) (d : T) → i < length ts → is_open (take i ts) ≡ true → ends (get_or ts i d) ≡ true
+      → split_lines ends ts ≡ take i ts ∷ split_lines ends (drop (i + 1) ts)
+  split-at_end ts i d h o e = ap (split_lines ends) (split_at ts i d h) ∙ (split-front (take i ts) (get_or ts i d) (drop (suc i) ts) o e ∙ ap (λ k. take i ts ∷ split_lines ends (drop k ts)) (sym (add-one i)))
+
+  -- a last line that no item ends
+  pub split-last : (ts : List T) → 0 < length ts → is_open (take (length ts) ts) ≡ true
+      → split_lines ends ts ≡ take (length ts) ts ∷ split_lines ends (drop (length ts + 1) ts)
+  split-last [] h o = absurd (omega arith)
+  split-last (t ∷ ts) h o =
+      let n = length (t ∷ ts) in
+      let all : take n (t ∷ ts) ≡ t ∷ ts = take-length (t ∷ ts) in
+      let past : drop (n + 1) (t ∷ ts) ≡ [] = drop_of_length-le (t ∷ ts) (omega arith) in
+      split-open t ts (subst (λ xs. is_open xs ≡ true) all o) ∙ sym (ap (λ xs. xs ∷ split_lines ends (drop (n + 1) (t ∷ ts))) all ∙ ap (λ xs. (t ∷ ts) ∷ split_lines ends xs) past)

@@ -1,0 +1,4 @@
+pub mod Judges
+pub mod Nests
+pub mod Sections
+pub mod Split

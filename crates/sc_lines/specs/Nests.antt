@@ -1,0 +1,23 @@
+-- What the groups of a file are.
+use Rattle.std.specs.Prelude.{◌≡◌, ℕ, List, map, Err}
+use Rattle.sc_lex.specs.declared.token.Token.{Token}
+use Rattle.sc_lex.specs.Seen.{seen, seen_place}
+use Rattle.sc_lines.specs.declared.line.FileTree.{FileTree}
+use Rattle.sc_lines.specs.declared.stop.NestStop.{NestStop}
+use Rattle.sc_lines.specs.declared.stop.NestStop.TheVariants.{Nesting, OutOfMemory}
+use Rattle.sc_lines.specs.Split.{AreLines}
+use Rattle.sc_model.specs.Lines as model
+
+-- the lines of the tokens, with any names of files
+abbrev pub seen_lines : List (List ℕ) → List (List ℕ) → List Token → List model.Line
+seen_lines names files tokens = model.lines_of (map (seen names files) tokens)
+
+-- the tree has the lines of the tokens, which are nested
+pub record IsTreeOf (names : List (List ℕ)) (tokens : List Token) (tree : FileTree) : Type 0 where
+  pub lines : AreLines names tokens tree.lines.items
+  pub nested : (files : List (List ℕ)) → (group : model.Group) × model.IsTree (seen_lines names files tokens) group
+
+-- what a refusal says
+abbrev pub Refuses : List (List ℕ) → List Token → NestStop → Type 0
+Refuses names tokens (Nesting place) = (files : List (List ℕ)) → model.Tree (seen_lines names files tokens) (Err (seen_place files place))
+Refuses names tokens OutOfMemory = Unit {0}

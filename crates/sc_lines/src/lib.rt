@@ -1,0 +1,13 @@
+//! The lines of a file and the nesting of its conditional directives (C11 6.10).
+#![tactic(auto)]
+
+mod line;
+mod nest;
+mod section;
+mod split;
+mod stop;
+mod tree;
+
+pub use line::{FileTree, Line};
+pub use stop::NestStop;
+pub use tree::groups;

@@ -1,0 +1,96 @@
+ghost use Rattle.std.specs.Prelude.{◌≡◌, ◌+◌, ◌<◌, ◌≤◌, ◌∷◌, All, IfOk, length, take, drop};
+ghost use Rattle.sc_lex.specs.Seen.{IsHeld};
+ghost use Rattle.sc_model.specs.Bytes.{same_bytes};
+ghost use Rattle.sc_model.specs.Lex.{is_newline};
+ghost use Rattle.sc_model.specs.Lines.{conditional_named};
+ghost use Rattle.sc_lines.specs.Split.{AreLines, conditional_at, token_lines};
+
+use crate::Line;
+use sc_base::{Names, OutOfMemory};
+use sc_lex::{Kind, Token};
+use sc_model::Conditional;
+use std::alloc::Global;
+
+/// The lines of a file's tokens. None names another line yet.
+pub fn lines(alloc: Global, names: &Names, tokens: &[Token]) -> Result<Vec<Line>, OutOfMemory>
+    requires { All (IsHeld names.now) tokens.now }
+    ensures { IfOk result (λ lines. AreLines names.now tokens.now lines.items) }
+{
+    let mut lines = Vec::new(alloc);
+    let mut first = 0;
+    while first < tokens.len() {
+        let end = first + line_length(&tokens[first..]);
+        let index = lines.len();
+        lines.push(Line {
+            first,
+            end,
+            conditional: conditional(names, &tokens[first..end]),
+            next: index,
+            close: index,
+        })?;
+        first = end + 1;
+    }
+    Ok(lines)
+}
+
+/// How many tokens the first line has.
+fn line_length(tokens: &[Token]) -> usize
+    requires { 0 < length tokens.now }
+    ensures within { result ≤ length tokens.now }
+    ensures splits { token_lines tokens.now ≡ take result tokens.now ∷ token_lines (drop (result + 1) tokens.now) }
+{
+    for (i, token) in tokens.iter().enumerate() {
+        if ends_line(token) {
+            return i;
+        }
+    }
+    tokens.len()
+}
+
+fn ends_line(token: &Token) -> bool
+    ensures { result ≡ is_newline token.now.kind }
+{
+    matches!(token.kind, Kind::Newline)
+}
+
+/// The conditional directive that a line is.
+pub fn conditional(names: &Names, line: &[Token]) -> Option<Conditional>
+    requires { All (IsHeld names.now) line.now }
+    ensures { result ≡ conditional_at names.now line.now }
+{
+    let [hash, word, ..] = line else {
+        return None;
+    };
+    if !is_same(names.text(hash.name), b"#") {
+        return None;
+    }
+    named(names.text(word.spelling))
+}
+
+/// The conditional directive of a name.
+fn named(word: &[u8]) -> Option<Conditional>
+    ensures { result ≡ conditional_named word.now }
+{
+    if is_same(word, b"if") {
+        Some(Conditional::If)
+    } else if is_same(word, b"ifdef") {
+        Some(Conditional::Ifdef)
+    } else if is_same(word, b"ifndef") {
+        Some(Conditional::Ifndef)
+    } else if is_same(word, b"elif") {
+        Some(Conditional::Elif)
+    } else if is_same(word, b"else") {
+        Some(Conditional::Else)
+    } else if is_same(word, b"endif") {
+        Some(Conditional::Endif)
+    } else {
+        None
+    }
+}
+
+/// Whether two texts are the same.
+fn is_same(a: &[u8], b: &[u8]) -> bool
+    ensures { result ≡ same_bytes a.now b.now }
+{
+    a == b
+}
