@@ -1,8 +1,6 @@
 use Rattle.std.proofs.Common.{sym}
 use Rattle.std.specs.Prelude.{string_bytes}
-use Rattle.sc_base.proofs.Growth.{Extends-refl}
 use Rattle.sc_base.proofs.InternLemmas.{known_at, stored_at, Interns-known, Interns-fresh, Extends-Interns, IsOneToOne-Interns}
-use Rattle.sc_base.specs.Interns.{Interns}
 use Rattle.sc_base.proofs.files.Files.intern.Goals as goal
 
 pub returns-in-Some-clause-named : goal.returns-in-Some-clause-named

@@ -1,7 +1,5 @@
 use Rattle.std.proofs.Common.{sym}
-use Rattle.sc_base.proofs.Growth.{Extends-refl}
 use Rattle.sc_base.proofs.InternLemmas.{known_at, stored_at, Interns-known, Interns-fresh, Extends-Interns, IsOneToOne-Interns}
-use Rattle.sc_base.specs.Interns.{Interns}
 use Rattle.sc_base.proofs.names.Names.intern.Goals as goal
 
 pub returns-in-Some-clause-named : goal.returns-in-Some-clause-named
