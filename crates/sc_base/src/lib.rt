@@ -1,6 +1,7 @@
 //! What every layer speaks of: places, ids, limits, refusals, and the tables of names and of files.
 #![tactic(auto)]
 
+mod bytes;
 mod fault;
 mod files;
 mod id;
@@ -9,6 +10,7 @@ mod names;
 mod place;
 mod stop;
 
+pub use bytes::is_same;
 pub use fault::Fault;
 pub use files::Files;
 pub use id::{Cond, FileId, Name, TreeId};

@@ -1,12 +1,11 @@
 ghost use Rattle.std.specs.Prelude.{◌≡◌, ◌+◌, ◌<◌, ◌≤◌, ◌∷◌, All, IfOk, length, take, drop};
 ghost use Rattle.sc_lex.specs.Seen.{IsHeld};
-ghost use Rattle.sc_model.specs.Bytes.{same_bytes};
 ghost use Rattle.sc_model.specs.Lex.{is_newline};
 ghost use Rattle.sc_model.specs.Lines.{conditional_named};
 ghost use Rattle.sc_lines.specs.Split.{AreLines, conditional_at, token_lines};
 
 use crate::Line;
-use sc_base::{Names, OutOfMemory};
+use sc_base::{Names, OutOfMemory, is_same};
 use sc_lex::{Kind, Token};
 use sc_model::Conditional;
 use std::alloc::Global;
@@ -86,11 +85,4 @@ fn named(word: &[u8]) -> Option<Conditional>
     } else {
         None
     }
-}
-
-/// Whether two texts are the same.
-fn is_same(a: &[u8], b: &[u8]) -> bool
-    ensures { result ≡ same_bytes a.now b.now }
-{
-    a == b
 }

@@ -1,5 +1,5 @@
 -- Configurations: the variables, their options, and the macros with which a configuration starts.
-use Rattle.std.specs.Prelude.{ℕ, List, [], ◌∷◌, length, map, codes, decimal, Option, Some, None, slice_get, if◌then◌else◌}
+use Rattle.std.specs.Prelude.{Bool, ℕ, List, [], ◌∷◌, length, map, codes, decimal, Option, Some, None, slice_get, is_some, if◌then◌else◌}
 use Rattle.std.specs.List.{list_any}
 use Rattle.std.specs.Option.{option_and_then}
 use Rattle.sc_model.specs.declared.variable_option.VariableOption.{VariableOption}
@@ -49,6 +49,10 @@ predefined_names =
 abbrev pub definition_of : VariableOption → Option Definition
 definition_of Undefined = None
 definition_of (Number n) = Some (object (decimal n ∷ []))
+
+-- the option of this index defines its name
+abbrev pub is_defining : List VariableOption → ℕ → Bool
+is_defining options k = is_some (option_and_then definition_of (slice_get options k))
 
 -- what the options of a configuration define a name to be
 abbrev pub variable_definition : List Variable → List ℕ → List ℕ → Option Definition

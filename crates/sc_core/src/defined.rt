@@ -1,0 +1,69 @@
+ghost use Rattle.std.specs.Prelude.{◌≡◌, ◌<◌, length, slice_index, IfOk, is_some};
+ghost use Rattle.std.specs.List.{list_any};
+ghost use Rattle.sc_model.specs.Bytes.{same_bytes};
+ghost use Rattle.sc_model.specs.Sets.{IsCond, Denotes, Keeps};
+ghost use Rattle.sc_model.specs.Space.{arities_of, initial_macros, is_defining, predefined_names};
+ghost use Rattle.sc_space.specs.Seen.{seen_space};
+
+use sc_base::{Cond, OutOfMemory, is_same};
+use sc_presence::Conditions;
+use sc_space::{Space, VariableOption};
+
+#[tactic(auto, using(sc_model::proofs::SetLemmas::conditions))]
+/// The configurations that start with a macro of this name.
+pub fn defined<C: Conditions>(
+    conds: &mut C,
+    space: &Space,
+    name: &[u8],
+) -> Result<Cond, OutOfMemory>
+    requires { (C.sets conds.old).arities ≡ arities_of (seen_space space.now) }
+    ensures own { IfOk result (λ r. IsCond (C.sets conds.new) r.0) }
+    ensures meaning { IfOk result (λ r. Denotes (C.sets conds.new) r.0 (λ c. is_some (initial_macros (seen_space space.now) c name.now))) }
+    ensures keeps { Keeps (C.sets conds.old) (C.sets conds.new) }
+{
+    if is_predefined(name) {
+        return Ok(conds.always());
+    }
+    for (i, variable) in space.variables.iter().enumerate() {
+        if is_same(variable.name.as_bytes(), name) {
+            return numbered(conds, i, &variable.options);
+        }
+    }
+    Ok(conds.never())
+}
+
+/// Whether every configuration starts with a macro of this name (C11 6.10.8.1).
+fn is_predefined(name: &[u8]) -> bool
+    ensures { result ≡ list_any (same_bytes name.now) predefined_names }
+{
+    is_same(name, b"__FILE__")
+        || is_same(name, b"__LINE__")
+        || is_same(name, b"__DATE__")
+        || is_same(name, b"__TIME__")
+        || is_same(name, b"__STDC__")
+        || is_same(name, b"__STDC_VERSION__")
+        || is_same(name, b"__STDC_HOSTED__")
+}
+
+#[tactic(auto, using(sc_model::proofs::SetLemmas::conditions))]
+/// The configurations in which the option of the variable is a number.
+fn numbered<C: Conditions>(
+    conds: &mut C,
+    variable: usize,
+    options: &[VariableOption],
+) -> Result<Cond, OutOfMemory>
+    requires variable { variable < length (C.sets conds.old).arities }
+    requires options { slice_index (C.sets conds.old).arities variable ≡ length options.now }
+    ensures own { IfOk result (λ r. IsCond (C.sets conds.new) r.0) }
+    ensures meaning { IfOk result (λ r. Denotes (C.sets conds.new) r.0 (λ c. is_defining options.now (slice_index c variable))) }
+    ensures keeps { Keeps (C.sets conds.old) (C.sets conds.new) }
+{
+    let mut found = conds.never();
+    for (k, option) in options.iter().enumerate() {
+        if let VariableOption::Number(_) = option {
+            let one = conds.choose(variable, k)?;
+            found = conds.apply_or(found, one)?;
+        }
+    }
+    Ok(found)
+}
