@@ -1,6 +1,6 @@
 -- What stays of a condition as its store grows, and what a part of one depends on.
-use Rattle.std.proofs.Common.{◌≡◌, ℕ, ◌+◌, ◌<◌, Bool, List, length, refl, sym, ◌∙◌, ap, subst, inl, inr, arith}
-use Rattle.std.proofs.lemmas.Bool.{cases_eq}
+use Rattle.std.proofs.Common.{◌≡◌, ℕ, ◌+◌, ◌<◌, ◌≤◌, Bool, List, length, refl, sym, ◌∙◌, ap, subst, inl, inr, arith}
+use Rattle.std.proofs.lemmas.Bool.{cases_eq, cases_lt}
 use Rattle.std.proofs.lemmas.List.{length-set, get_or-set_same, get_or-set_other, set-get_or, set-set, set_comm}
 use Rattle.std.specs.Prelude.{slice_index, slice_set}
 use Rattle.sc_model.specs.Sets.{Sets, IsConfig, IsCond, Denotes, Keeps, IsNever, IsAlways, IsSame, DependsOn, DependsFrom, IsTop}
@@ -94,6 +94,10 @@ module _ {old new : Sets} where
   pub IsTop-Keeps : {a v : ℕ} → Keeps old new → IsCond old a → IsTop old a v → IsTop new a v
   IsTop-Keeps keeps own top = record { depends = DependsOn-Keeps keeps own top.depends; first = DependsFrom-Keeps keeps own top.first }
 
+-- the first variable is not before one that the condition starts from
+pub le-IsTop : {s : Sets} {a v n : ℕ} → IsTop s a v → DependsFrom s a n → n ≤ v
+le-IsTop {s} {a} {v} {n} top from = elim (cases_lt v n) [ inl below ↦ absurd (from.free v below top.depends) | inr above ↦ above ]
+
 -- b is what remains of a where the variable v has the option k
 pub record IsPart (old new : Sets) (a v k b : ℕ) : Type 0 where
   pub own : IsCond old a
@@ -135,3 +139,6 @@ module _ {old new : Sets} {a v k b : ℕ} where
         let found = DependsOn-IsPart keeps part depends in
         from.free u (omega (arith, found.other)) found.whole;
   }
+
+-- for the `using` of a function that makes several conditions
+pub ruleset conditions = (Keeps-refl, Keeps-trans, IsCond-Keeps, DependsFrom-Keeps, IsTop-Keeps, IsNever-Keeps, IsAlways-Keeps)

@@ -4,3 +4,6 @@
 mod conditions;
 
 pub use conditions::Conditions;
+
+#[cfg(test)]
+mod tests;
