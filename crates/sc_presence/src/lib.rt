@@ -2,6 +2,8 @@
 #![tactic(auto)]
 
 mod conditions;
+mod ranks;
+mod rows;
 
 pub use conditions::Conditions;
 
