@@ -4,18 +4,20 @@ use Rattle.std.specs.Bool.{Decides, beq}
 use Rattle.std.specs.Cmp.Lexicographic.{pointwise}
 use Rattle.std.specs.List.{list_any}
 use Rattle.std.specs.Option.{option_map}
+use Rattle.std.specs.Prelude.{slice_index}
 use Rattle.std.proofs.lemmas.Bool.{cases_Bool, cases_lt, true≢false, false≢true}
 use Rattle.std.proofs.lemmas.Option.{slice_get-map, slice_get_within, get_or_from_slice_get, slice_get-get_or}
 use Rattle.std.proofs.lemmas.List.Folds.{list_any_at}
-use Rattle.std.proofs.lemmas.List.{map-append, length-map, get_or-map, length_push, get_or_push, get_or_append_left, length-replicate, get_or-replicate}
+use Rattle.std.proofs.lemmas.List.{get_or_read, map-append, length-map, get_or-map, length_push, get_or_push, get_or_append_left, length-replicate, get_or-replicate}
 use Rattle.std.proofs.lemmas.Slice.Eq.{slice_eq-Decides}
 use Rattle.sc_model.specs.Growth.{Extends, IsOneToOne}
 use Rattle.sc_model.specs.Sets.{Sets, IsConfig, HasOptions, config_count}
 use Rattle.sc_base.specs.Interns.{Interns, known, fresh}
 use Rattle.sc_base.proofs.Growth.{Extends-keeps}
 use Rattle.sc_base.proofs.InternLemmas.{Extends-Interns, IsOneToOne-Interns}
-use Rattle.sc_presence.specs.Plain.{Plain, IsPlain, row_of, sets_of}
-use Rattle.sc_presence.proofs.RankLemmas.{config_count_pos}
+use Rattle.sc_presence.specs.Plain.{Plain, IsPlain, IsKept, row_of}
+use Rattle.sc_presence.specs.Rank.{strides_of}
+use Rattle.sc_presence.proofs.RankLemmas.{config_count_pos, length-strides_of, strides_of_pos}
 
 -- `==` on truth values, and on rows, is equality
 beq-Decides : (a b : Bool) → Decides (beq a b) (a ≡ b)
@@ -107,3 +109,20 @@ IsPlain-Interns p rows row plain long adds = record {
       | inl below ↦ ap length (get_or_append_left p.rows (row ∷ []) [] a below) ∙ plain.long a below
       | inr above ↦ ap length (get_or_push p.rows row [] a (omega (arith, length_push p.rows row))) ∙ long
     ])
+
+module _ {strides : List ℕ} {count : ℕ} {p : Plain} where
+  -- the strides that are kept are those of the arities
+  pub lt-IsKept : {v : ℕ} → IsKept strides count p → v < length p.arities → v < length strides
+  lt-IsKept kept within = omega (arith, ap length kept.wide, length-strides_of p.arities)
+
+  pub stride-IsKept : (v x : ℕ) → IsKept strides count p → v < length p.arities → x ≡ get_or strides v x → x ≡ slice_index (strides_of p.arities) v
+  stride-IsKept v x kept within read = get_or_read strides v x (lt-IsKept kept within) read 0 ∙ ap (λ ss. slice_index ss v) kept.wide
+
+  pub stride_pos-IsKept : (v x : ℕ) → IsKept strides count p → v < length p.arities → x ≡ get_or strides v x → 0 < x
+  stride_pos-IsKept v x kept within read = rw (stride-IsKept v x kept within read) (strides_of_pos p.arities v kept.plain.options within)
+
+-- the row that is read at a place has a value for each configuration
+pub length-row : {X : Type 0} (view : X → List Bool) (ns : List ℕ) (keys : List X) (a : ℕ) (x : X) → IsPlain (record { arities = ns; rows = map view keys }) → a < length keys → x ≡ get_or keys a x
+    → length (view x) ≡ config_count ns
+length-row view ns keys a x plain within read =
+    ap (λ y. length (view y)) read ∙ ap length (sym (get_or-map view keys a x [] within)) ∙ plain.long a (omega (arith, length-map keys view))

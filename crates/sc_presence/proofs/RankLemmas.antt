@@ -6,7 +6,8 @@ use Rattle.std.proofs.Math.Nat.{mul-add-div_right, mul-add-mod_self_right, mod-e
 use Rattle.std.proofs.Math.Arith.{mod-mul}
 use Rattle.std.specs.Prelude.{slice_index, slice_set}
 use Rattle.sc_model.specs.Sets.{IsConfig, HasOptions, config_count}
-use Rattle.sc_presence.specs.Rank.{strides_of, rank, digit, config_at}
+use Rattle.sc_model.proofs.SetLemmas.{IsConfig-set}
+use Rattle.sc_presence.specs.Rank.{strides_of, rank, digit, moved, config_at}
 
 -- the first option of a configuration, and the others
 pub IsConfig-head : {n : ℕ} {ns : List ℕ} {x : ℕ} {xs : List ℕ} → IsConfig (n ∷ ns) (x ∷ xs) → x < n
@@ -119,3 +120,26 @@ HasOptions-drop ns v some = record { each = λ u below. rw (get_or-drop v ns u 0
 -- a product without its last factor is no larger
 pub product_le : (m a r t : ℕ) → 0 < r → m * (a * r) ≡ t → m * a ≤ t
 product_le m a r t pos is = omega (arith, le-mul_of_pos_right (m * a) pos)
+
+-- the option of a variable, read off the rank
+pub digit-rank : (ns c : List ℕ) (v : ℕ) → IsConfig ns c → v < length ns → digit (slice_index (strides_of ns) v) (slice_index ns v) (rank (strides_of ns) c) ≡ slice_index c v
+digit-rank ns c v listed within = sym (get_or-config_at ns (rank (strides_of ns) c) v within) ∙ ap (λ x. slice_index x v) (config_at-rank ns c listed)
+
+-- the rank after an option is set
+pub moved-rank : (ns c : List ℕ) (v k : ℕ) → IsConfig ns c → v < length ns → moved (slice_index (strides_of ns) v) (slice_index ns v) k (rank (strides_of ns) c) ≡ rank (strides_of ns) (set c v k)
+moved-rank ns c v k listed within =
+    let ss = strides_of ns in
+    let wide : v < length ss = omega (arith, length-strides_of ns) in
+    let placed : v < length c = omega (arith, listed.long) in
+    rw (digit-rank ns c v listed within) (omega (arith, rank-set ss c v k wide placed, rank-set ss c v 0 wide placed))
+
+pub rank-config_at-lt : (ns : List ℕ) (i : ℕ) → HasOptions ns → i < config_count ns → rank (strides_of ns) (config_at ns i) ≡ i
+rank-config_at-lt ns i some below = rank-config_at ns i some ∙ mod-eq_of_lt below
+
+-- which stays within the ranks
+pub moved-lt : (ns : List ℕ) (v k i : ℕ) → HasOptions ns → v < length ns → k < slice_index ns v → i < config_count ns → moved (slice_index (strides_of ns) v) (slice_index ns v) k i < config_count ns
+moved-lt ns v k i some within in_range below =
+    let c = config_at ns i in
+    let listed = IsConfig-config_at ns i some in
+    let same = rw (rank-config_at-lt ns i some below) at (moved-rank ns c v k listed within) in
+    rw same (rank-lt ns (set c v k) (IsConfig-set v k listed within in_range))

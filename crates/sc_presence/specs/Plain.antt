@@ -28,3 +28,15 @@ pub record IsPlain (p : Plain) : Type 0 where
   pub never : slice_get p.rows 0 ≡ Some (replicate (config_count p.arities) false)
   pub always : slice_get p.rows 1 ≡ Some (replicate (config_count p.arities) true)
   pub different : IsOneToOne p.rows
+
+-- what is kept beside the rows: the strides, and how many configurations there are
+pub record IsKept (strides : List ℕ) (count : ℕ) (p : Plain) : Type 0 where
+  pub plain : IsPlain p
+  pub wide : strides ≡ strides_of p.arities
+  pub whole : count ≡ config_count p.arities
+
+-- r is a condition of the new ones with this row
+pub record Stores (old new : Plain) (r : ℕ) (row : List Bool) : Type 0 where
+  pub plain : IsPlain old
+  pub arities : new.arities ≡ old.arities
+  pub stored : slice_get new.rows r ≡ Some row

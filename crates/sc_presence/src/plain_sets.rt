@@ -1,7 +1,7 @@
-ghost use Rattle.std.specs.Prelude.{◌≡◌, ℕ, ◌<◌, ◌≤◌, Some, length, slice_get, IfOk};
-ghost use Rattle.sc_model.specs.Growth.{Extends};
-ghost use Rattle.sc_model.specs.Sets.{HasOptions, config_count};
-ghost use Rattle.sc_presence.specs.Plain.{IsPlain, sets_of, row_of};
+ghost use Rattle.std.specs.Prelude.{◌≡◌, ◌<◌, ◌≤◌, length, slice_index, IfOk};
+ghost use Rattle.sc_model.specs.Sets.{HasOptions, IsCond, Keeps, config_count};
+ghost use Rattle.sc_presence.specs.Plain.{Stores, sets_of, row_of};
+ghost use Rattle.sc_presence.specs.Rank.{strides_of};
 ghost use Rattle.sc_presence.specs.declared.plain_sets.TheConstants.{MAX_CONFIGS};
 
 use crate::{ranks, rows};
@@ -26,18 +26,15 @@ pub struct PlainSets {
 }
 
 impl Model for PlainSets {
-    ghost use Rattle.std.specs.Prelude.{◌≡◌, map};
-    ghost use Rattle.sc_model.specs.Sets.{config_count};
-    ghost use Rattle.sc_presence.specs.Rank.{strides_of};
-    ghost use Rattle.sc_presence.specs.Plain.{Plain, IsPlain};
+    ghost use Rattle.std.specs.Prelude.{map};
+    ghost use Rattle.sc_presence.specs.Plain.{Plain, IsKept};
 
     ghost Value = { Plain };
 
     ghost view = { λ p. record { arities = p.arities.items; rows = map (λ row. row.items) p.rows.keys } };
 
-    ghost invariant = { λ p. IsPlain (record { arities = p.arities.items; rows = map (λ row. row.items) p.rows.keys })
-        × (p.strides.items ≡ strides_of p.arities.items)
-        × (p.count ≡ config_count p.arities.items) };
+    ghost invariant = { λ p. IsKept p.strides.items p.count
+        (record { arities = p.arities.items; rows = map (λ row. row.items) p.rows.keys }) };
 }
 
 impl PlainSets {
@@ -61,11 +58,29 @@ impl PlainSets {
         })
     }
 
+    /// How many options a variable has.
+    fn arity(&self, variable: usize) -> usize
+        requires { variable < length self.now.arities }
+        ensures arity { result ≡ slice_index self.now.arities variable }
+        ensures some { 0 < result }
+    {
+        self.arities[variable]
+    }
+
+    /// How many configurations the variables after this one have.
+    fn stride(&self, variable: usize) -> usize
+        requires { variable < length self.now.arities }
+        ensures stride { result ≡ slice_index (strides_of self.now.arities) variable }
+        ensures some { 0 < result }
+    {
+        self.strides[variable]
+    }
+
     /// The row of a condition.
     fn row(&self, a: Cond) -> &[bool]
-        requires { a.0 < length self.now.rows }
+        requires { IsCond (sets_of self.now) a.0 }
         ensures row { result.now ≡ row_of self.now a.0 }
-        ensures plain { IsPlain self.now }
+        ensures long { length result.now ≡ config_count self.now.arities }
     {
         self.rows.as_slice()[a.0].as_slice()
     }
@@ -73,12 +88,11 @@ impl PlainSets {
     /// The condition with this row: the one that has it, or else a new one.
     fn intern(&mut self, row: Vec<bool>) -> Result<Cond, OutOfMemory>
         requires { length row.items ≡ config_count self.old.arities }
-        ensures stored { IfOk result (λ r. slice_get self.new.rows r.0 ≡ Some row.items) }
+        ensures own { IfOk result (λ r. IsCond (sets_of self.new) r.0) }
+        ensures stores { IfOk result (λ r. Stores self.old self.new r.0 row.items) }
 
         // at every outcome
-        ensures arities { self.new.arities ≡ self.old.arities }
-        ensures grows { Extends self.old.rows self.new.rows }
-        ensures plain { IsPlain self.new }
+        ensures keeps { Keeps (sets_of self.old) (sets_of self.new) }
     {
         let (index, _) = self.rows.insert_full(row)?;
         Ok(Cond(index))

@@ -1,5 +1,5 @@
 //! Rows: one truth value for each configuration, in the order of their ranks.
-ghost use Rattle.std.specs.Prelude.{◌≡◌, ℕ, ◌+◌, ◌*◌, ◌<◌, ◌≤◌, ◌^◌, ◌==◌, ◌&&◌, ◌||◌, not, length, map, replicate, position, slice_index, EachIndex, IfOk, IfSome, IfNone, ◌⊎◌};
+ghost use Rattle.std.specs.Prelude.{◌≡◌, ℕ, ◌+◌, ◌*◌, ◌<◌, ◌≤◌, ◌^◌, ◌==◌, ◌&&◌, ◌||◌, not, length, map, replicate, true, false, EachIndex, IfOk, IfSome, IfNone, ◌⊎◌};
 ghost use Rattle.std.specs.Bool.{OnTrue, OnFalse};
 ghost use Rattle.std.specs.List.{zip, range_with_len};
 ghost use Rattle.sc_model.specs.Sets.{Sets, HasOptions, IsNever, IsAlways, IsTop, config_count};
@@ -86,7 +86,8 @@ pub fn varies(row: &[bool], block: usize) -> bool
 
 /// The rank of the first configuration in the row.
 pub fn first(row: &[bool]) -> Option<usize>
-    ensures { result ≡ position (λ x. x) row.now }
+    ensures some { IfSome result (λ i. (i < length row.now) × (value_at row.now i ≡ true)) }
+    ensures none { IfNone result (EachIndex row.now (λ i. value_at row.now i ≡ false)) }
 {
     row.iter().position(|x| *x)
 }
