@@ -133,6 +133,15 @@ pub record IsPart (old new : Sets) (a v k b : ℕ) : Type 0 where
   pub at : (c : List ℕ) → IsConfig old.arities c → new.has b c ≡ old.has a (slice_set c v k)
 
 module _ {old new : Sets} {a v k b : ℕ} where
+  -- what a store's `part` makes is one
+  pub IsPart-Denotes : IsCond old a → v < length old.arities → k < slice_index old.arities v → Keeps old new → Denotes new b (λ c. old.has a (slice_set c v k)) → IsPart old new a v k b
+  IsPart-Denotes own within in_range keeps told = record {
+    own = own;
+    within = within;
+    in_range = in_range;
+    at = λ c listed. told.at c (IsConfig-Keeps keeps listed);
+  }
+
   -- a part has the configurations with its option that the whole has
   pub has-IsPart : IsPart old new a v k b → (c : List ℕ) → IsConfig old.arities c → slice_index c v ≡ k → new.has b c ≡ old.has a c
   has-IsPart part c listed chosen = part.at c listed ∙ ap (old.has a) (subst (λ x. slice_set c v x ≡ c) chosen (set-get_or c v 0))

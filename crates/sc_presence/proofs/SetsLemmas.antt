@@ -1,18 +1,19 @@
 -- The sets that rows make, and what the operations on rows do to them.
-use Rattle.std.proofs.Common.{◌≡◌, ◌≢◌, ℕ, ◌+◌, ◌<◌, ◌≤◌, ◌==◌, Bool, true, false, ◌&&◌, ◌||◌, not, List, [], ◌∷◌, map, length, slice_get, get_or, set, replicate, Some, ◌⊎◌, inl, inr, refl, sym, ap, subst, ◌∙◌, arith}
+use Rattle.std.proofs.Common.{◌≡◌, ◌≢◌, ℕ, ◌+◌, ◌<◌, ◌≤◌, ◌==◌, Bool, true, false, ◌&&◌, ◌||◌, not, List, [], ◌∷◌, map, length, slice_get, get_or, set, ◌↔◌, Option, None, IfSome, IfNone, IsNone, replicate, Some, ◌⊎◌, inl, inr, refl, sym, ap, subst, ◌∙◌, arith}
 use Rattle.std.specs.List.{zip, range_with_len}
 use Rattle.std.specs.Prelude.{slice_index, slice_set}
+use Rattle.std.proofs.lemmas.Bool.{false≢true, true≢false}
 use Rattle.std.proofs.lemmas.Option.{slice_get_within, get_or_from_slice_get, slice_get-get_or, unwrap_or-slice_get}
 use Rattle.std.proofs.lemmas.List.{length-map, get_or-map, ext_get_or, length-replicate, get_or-replicate}
 use Rattle.std.proofs.lemmas.List.FromFn.{length-map-range_with_len, get_or-map-range_with_len}
 use Rattle.std.proofs.lemmas.Slice.Zip.{length-zip, get_or-zip}
 use Rattle.sc_model.specs.Growth.{Extends, IsOneToOne}
-use Rattle.sc_model.specs.Sets.{Sets, IsConfig, HasOptions, IsCond, Denotes, Keeps, IsNever, IsAlways, IsSame, IsCanonical, config_count}
-use Rattle.sc_model.proofs.SetLemmas.{IsConfig-set}
-use Rattle.sc_presence.specs.Plain.{Plain, IsPlain, Stores, row_of, sets_of}
+use Rattle.sc_model.specs.Sets.{Sets, IsConfig, HasOptions, IsCond, Denotes, Keeps, IsNever, IsAlways, IsSame, IsCanonical, IsTop, config_count}
+use Rattle.sc_model.proofs.SetLemmas.{IsConfig-set, IsNever-DependsOn, IsAlways-DependsOn}
+use Rattle.sc_presence.specs.Plain.{Plain, IsPlain, IsKept, Stores, row_of, sets_of}
 use Rattle.sc_presence.specs.Rank.{strides_of, rank, digit, moved, config_at}
 use Rattle.sc_presence.specs.Rows.{value_at, IsRowOf}
-use Rattle.sc_presence.proofs.RankLemmas.{rank-lt, digit-rank, moved-rank, rank-config_at-lt, IsConfig-config_at, config_count_pos}
+use Rattle.sc_presence.proofs.RankLemmas.{length-strides_of, rank-lt, digit-rank, moved-rank, rank-config_at-lt, IsConfig-config_at, config_count_pos}
 
 -- a row that stands at a place is the row of that place
 row_of-stored : (p : Plain) (a : ℕ) (row : List Bool) → slice_get p.rows a ≡ Some row → row_of p a ≡ row
@@ -79,11 +80,11 @@ module _ {p q : Plain} {r : ℕ} {row : List Bool} where
       let low : i < length (row_of p a) = omega (arith, rank-lt p.arities c listed, is.plain.long a told.own.made) in
       ap (λ xs. value_at xs i) made ∙ get_or-map not (row_of p a) i false false low ∙ ap not (told.at c listed))
 
-module _ {p : Plain} (plain : IsPlain p) where
-  -- a condition is read off its row
-  pub IsRowOf-row_of : (a : ℕ) → IsRowOf (sets_of p) a p.arities (row_of p a)
-  IsRowOf-row_of a = record { over = refl; at = λ c listed. refl }
+-- a condition is read off its row
+pub IsRowOf-row_of : (p : Plain) (a : ℕ) → IsRowOf (sets_of p) a p.arities (row_of p a)
+IsRowOf-row_of p a = record { over = refl; at = λ c listed. refl }
 
+module _ {p : Plain} (plain : IsPlain p) where
   -- conditions that mean the same have equal rows
   same_rows : (a b : ℕ) → IsCond (sets_of p) a → IsCond (sets_of p) b → IsSame (sets_of p) a b → row_of p a ≡ row_of p b
   same_rows a b own_a own_b same = ext_get_or false (row_of p a) (row_of p b) (plain.long a own_a.made ∙ sym (plain.long b own_b.made)) (λ i below.
@@ -122,3 +123,37 @@ module _ {p : Plain} (plain : IsPlain p) where
 
   pub at-IsNever : (a : ℕ) → IsCond (sets_of p) a → IsNever (sets_of p) a → a ≡ 0
   at-IsNever a own never = IsCanonical-IsPlain.one a 0 own IsCond-never (record { at = λ c listed. never.none c listed ∙ sym (Denotes-never.at c listed) })
+
+-- a zip of two rows is as long as they are
+pub length-zipped : (op : Bool → Bool → Bool) (xs ys : List Bool) (n : ℕ) → length xs ≡ n → length ys ≡ n → length (map (λ (x : Bool × Bool). op x.0 x.1) (zip xs ys)) ≡ n
+length-zipped op xs ys n long_x long_y = omega (arith, length-map (zip xs ys) (λ (x : Bool × Bool). op x.0 x.1), length-zip xs ys)
+
+-- the first variable is missing exactly at never and always
+pub IsNone-IsTop : {s : Sets} {a : ℕ} (o : Option ℕ) → IfSome o (IsTop s a) → IfNone o (IsNever s a ⊎ IsAlways s a) → IsNone o ↔ (IsNever s a ⊎ IsAlways s a)
+IsNone-IsTop None top none = (λ _. none, λ _. refl)
+IsNone-IsTop (Some v) top none = (
+  λ e. absurd (true≢false e),
+  λ constant. absurd (elim constant [ inl never ↦ IsNever-DependsOn top.depends never | inr always ↦ IsAlways-DependsOn top.depends always ]),
+)
+
+-- what is kept, at a configuration's rank
+module _ {strides : List ℕ} {count : ℕ} {p : Plain} where
+  pub long-IsKept : (c : List ℕ) → IsKept strides count p → IsConfig p.arities c → length c ≡ length strides
+  long-IsKept c kept listed = listed.long ∙ sym (length-strides_of p.arities) ∙ ap length (sym kept.wide)
+
+  pub rank-IsKept : (c : List ℕ) → IsKept strides count p → IsConfig p.arities c → rank strides c < config_count p.arities
+  rank-IsKept c kept listed = rw kept.wide (rank-lt p.arities c listed)
+
+-- the configuration at the rank of a value that is true
+pub record IsExample (p : Plain) (a : ℕ) (into : List ℕ) : Type 0 where
+  pub listed : IsConfig p.arities into
+  pub has : (sets_of p).has a into ≡ true
+
+pub IsExample-config_at : (p : Plain) (a i : ℕ) (into : List ℕ) → IsPlain p → IsCond (sets_of p) a → into ≡ config_at p.arities i → i < length (row_of p a) → value_at (row_of p a) i ≡ true → IsExample p a into
+IsExample-config_at p a i into plain own same within holds = rw same (record {
+  listed = IsConfig-config_at p.arities i plain.options;
+  has = ap (value_at (row_of p a)) (rank-config_at-lt p.arities i plain.options (omega (arith, plain.long a own.made))) ∙ holds;
+})
+
+pub IsNever-IsExample : {p : Plain} {a : ℕ} {into : List ℕ} → IsExample p a into → IsNever (sets_of p) a → ⊥
+IsNever-IsExample example never = false≢true (sym (never.none _ example.listed) ∙ example.has)

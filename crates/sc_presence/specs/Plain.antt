@@ -2,6 +2,7 @@
 use Rattle.std.specs.Prelude.{◌≡◌, ℕ, ◌<◌, ◌≤◌, Bool, true, false, List, [], length, slice_get, slice_index_or, Some, replicate}
 use Rattle.sc_model.specs.Growth.{IsOneToOne}
 use Rattle.sc_model.specs.Sets.{Sets, HasOptions, config_count}
+use Rattle.sc_presence.specs.declared.plain_sets.TheConstants.{MAX_CONFIGS}
 use Rattle.sc_presence.specs.Rank.{strides_of, rank}
 use Rattle.sc_presence.specs.Rows.{value_at}
 
@@ -34,6 +35,7 @@ pub record IsKept (strides : List ℕ) (count : ℕ) (p : Plain) : Type 0 where
   pub plain : IsPlain p
   pub wide : strides ≡ strides_of p.arities
   pub whole : count ≡ config_count p.arities
+  pub small : count ≤ MAX_CONFIGS
 
 -- r is a condition of the new ones with this row
 pub record Stores (old new : Plain) (r : ℕ) (row : List Bool) : Type 0 where

@@ -4,7 +4,7 @@ ghost use Rattle.sc_presence.specs.Plain.{Stores, sets_of, row_of};
 ghost use Rattle.sc_presence.specs.Rank.{strides_of};
 ghost use Rattle.sc_presence.specs.declared.plain_sets.TheConstants.{MAX_CONFIGS};
 
-use crate::{ranks, rows};
+use crate::{Conditions, ranks, rows};
 use indexmap::IndexSet;
 use sc_base::{Cond, OutOfMemory};
 use std::alloc::Global;
@@ -96,5 +96,88 @@ impl PlainSets {
     {
         let (index, _) = self.rows.insert_full(row)?;
         Ok(Cond(index))
+    }
+}
+
+/// The ids of the first two rows.
+const NEVER: Cond = Cond(0);
+const ALWAYS: Cond = Cond(1);
+
+impl Conditions for PlainSets {
+    ghost use Rattle.sc_presence.specs.Plain.{sets_of};
+
+    ghost sets = { sets_of };
+
+    fn always(&self) -> Cond {
+        let _rows = &self.rows;
+        ALWAYS
+    }
+
+    fn never(&self) -> Cond {
+        let _rows = &self.rows;
+        NEVER
+    }
+
+    fn choose(&mut self, variable: usize, option: usize) -> Result<Cond, OutOfMemory> {
+        let stride = self.stride(variable);
+        let arity = self.arity(variable);
+        let row = rows::choice(self.alloc, self.count, stride, arity, option)?;
+        self.intern(row)
+    }
+
+    fn apply_and(&mut self, a: Cond, b: Cond) -> Result<Cond, OutOfMemory> {
+        let row = rows::meet(self.alloc, self.row(a), self.row(b))?;
+        self.intern(row)
+    }
+
+    fn apply_or(&mut self, a: Cond, b: Cond) -> Result<Cond, OutOfMemory> {
+        let row = rows::join(self.alloc, self.row(a), self.row(b))?;
+        self.intern(row)
+    }
+
+    fn negate(&mut self, a: Cond) -> Result<Cond, OutOfMemory> {
+        let row = rows::complement(self.alloc, self.row(a))?;
+        self.intern(row)
+    }
+
+    fn part(&mut self, a: Cond, variable: usize, option: usize) -> Result<Cond, OutOfMemory> {
+        let stride = self.stride(variable);
+        let arity = self.arity(variable);
+        let row = rows::part(self.alloc, self.row(a), stride, arity, option)?;
+        self.intern(row)
+    }
+
+    fn top(&self, a: Cond) -> Option<usize> {
+        rows::first_variable(self.row(a), &self.strides, &self.arities)
+    }
+
+    fn is_never(&self, a: Cond) -> bool {
+        let _rows = &self.rows;
+        a == NEVER
+    }
+
+    fn same(&self, a: Cond, b: Cond) -> bool {
+        let _rows = &self.rows;
+        a == b
+    }
+
+    fn holds(&self, a: Cond, config: &[usize]) -> bool {
+        self.row(a)[ranks::rank_of(&self.strides, config)]
+    }
+
+    fn example(&self, a: Cond, into: &mut [usize]) -> bool {
+        let Some(rank) = rows::first(self.row(a)) else {
+            return false;
+        };
+        ranks::write_config(rank, &self.strides, &self.arities, into);
+        true
+    }
+
+    fn canonical(&self) {
+        let _rows = &self.rows;
+    }
+
+    fn has_options(&self) {
+        let _rows = &self.rows;
     }
 }

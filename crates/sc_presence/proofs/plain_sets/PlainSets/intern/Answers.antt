@@ -13,6 +13,7 @@ invariant_of-self-2 c =
       plain = IsPlain-Interns _ _ _ c.self.invariant.plain (c.requires ∙ ap (λ p. config_count p.arities) (sym c.self.view_is)) adds;
       wide = c.self.invariant.wide;
       whole = c.self.invariant.whole;
+      small = c.self.invariant.small;
     }
 
 pub returns-clause-stores : goal.returns-clause-stores

@@ -14,4 +14,5 @@ invariant_of-result c =
           (rw (c.in_ok-constant-2.ensures, c.count_configs-count.ensures) at second);
       wide = c.in_ok-strides.ensures;
       whole = c.count_configs-count.ensures;
+      small = rw c.count_configs-count.ensures c.requires.small;
     })
