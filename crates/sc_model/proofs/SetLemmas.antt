@@ -1,6 +1,6 @@
 -- What stays of a condition as its store grows, and what a part of one depends on.
-use Rattle.std.proofs.Common.{◌≡◌, ℕ, ◌+◌, ◌<◌, Bool, List, length, refl, sym, ◌∙◌, ap, subst, inl, inr, arith}
-use Rattle.std.proofs.lemmas.Bool.{cases_eq}
+use Rattle.std.proofs.Common.{◌≡◌, ℕ, ◌+◌, ◌<◌, ◌≤◌, Bool, true, false, List, length, refl, sym, ◌∙◌, ap, subst, inl, inr, arith}
+use Rattle.std.proofs.lemmas.Bool.{cases_eq, cases_lt, true≢false, false≢true}
 use Rattle.std.proofs.lemmas.List.{length-set, get_or-set_same, get_or-set_other, set-get_or, set-set, set_comm}
 use Rattle.std.specs.Prelude.{slice_index, slice_set}
 use Rattle.sc_model.specs.Sets.{Sets, IsConfig, IsCond, Denotes, Keeps, IsNever, IsAlways, IsSame, DependsOn, DependsFrom, IsTop}
@@ -94,6 +94,37 @@ module _ {old new : Sets} where
   pub IsTop-Keeps : {a v : ℕ} → Keeps old new → IsCond old a → IsTop old a v → IsTop new a v
   IsTop-Keeps keeps own top = record { depends = DependsOn-Keeps keeps own top.depends; first = DependsFrom-Keeps keeps own top.first }
 
+-- the first variable is not before one that the condition starts from
+pub le-IsTop : {s : Sets} {a v n : ℕ} → IsTop s a v → DependsFrom s a n → n ≤ v
+le-IsTop {s} {a} {v} {n} top from = elim (cases_lt v n) [ inl below ↦ absurd (from.free v below top.depends) | inr above ↦ above ]
+
+-- two tests that can't differ are the same
+stable : (x y : Bool) → ((x ≡ y → ⊥) → ⊥) → x ≡ y
+stable true true h = refl
+stable false false h = refl
+stable true false h = absurd (h (λ e. absurd (true≢false e)))
+stable false true h = absurd (h (λ e. absurd (false≢true e)))
+
+-- the option of a variable on which the condition does not depend makes no difference
+pub has-DependsFrom : {s : Sets} {a n : ℕ} (c : List ℕ) (v k : ℕ) → DependsFrom s a n → v < n → IsConfig s.arities c → v < length s.arities → k < slice_index s.arities v → s.has a (slice_set c v k) ≡ s.has a c
+has-DependsFrom {s} {a} c v k from below listed within in_range = stable _ _ (λ differ. from.free v below (record {
+    config = c;
+    option = k;
+    listed = listed;
+    within = within;
+    in_range = in_range;
+    changes = λ same. differ (sym same);
+  }))
+
+-- a condition that depends on a variable is not never, and not always
+pub IsNever-DependsOn : {s : Sets} {a v : ℕ} → DependsOn s a v → IsNever s a → ⊥
+IsNever-DependsOn {s} {a} {v} depends never =
+    depends.changes (never.none _ depends.listed ∙ sym (never.none _ (IsConfig-set v _ depends.listed depends.within depends.in_range)))
+
+pub IsAlways-DependsOn : {s : Sets} {a v : ℕ} → DependsOn s a v → IsAlways s a → ⊥
+IsAlways-DependsOn {s} {a} {v} depends always =
+    depends.changes (always.all _ depends.listed ∙ sym (always.all _ (IsConfig-set v _ depends.listed depends.within depends.in_range)))
+
 -- b is what remains of a where the variable v has the option k
 pub record IsPart (old new : Sets) (a v k b : ℕ) : Type 0 where
   pub own : IsCond old a
@@ -102,6 +133,15 @@ pub record IsPart (old new : Sets) (a v k b : ℕ) : Type 0 where
   pub at : (c : List ℕ) → IsConfig old.arities c → new.has b c ≡ old.has a (slice_set c v k)
 
 module _ {old new : Sets} {a v k b : ℕ} where
+  -- what a store's `part` makes is one
+  pub IsPart-Denotes : IsCond old a → v < length old.arities → k < slice_index old.arities v → Keeps old new → Denotes new b (λ c. old.has a (slice_set c v k)) → IsPart old new a v k b
+  IsPart-Denotes own within in_range keeps told = record {
+    own = own;
+    within = within;
+    in_range = in_range;
+    at = λ c listed. told.at c (IsConfig-Keeps keeps listed);
+  }
+
   -- a part has the configurations with its option that the whole has
   pub has-IsPart : IsPart old new a v k b → (c : List ℕ) → IsConfig old.arities c → slice_index c v ≡ k → new.has b c ≡ old.has a c
   has-IsPart part c listed chosen = part.at c listed ∙ ap (old.has a) (subst (λ x. slice_set c v x ≡ c) chosen (set-get_or c v 0))
@@ -135,3 +175,6 @@ module _ {old new : Sets} {a v k b : ℕ} where
         let found = DependsOn-IsPart keeps part depends in
         from.free u (omega (arith, found.other)) found.whole;
   }
+
+-- for the `using` of a function that makes several conditions
+pub ruleset conditions = (Keeps-refl, Keeps-trans, IsCond-Keeps, DependsFrom-Keeps, IsTop-Keeps, IsNever-Keeps, IsAlways-Keeps)

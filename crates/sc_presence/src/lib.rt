@@ -2,5 +2,12 @@
 #![tactic(auto)]
 
 mod conditions;
+mod plain_sets;
+mod ranks;
+mod rows;
 
 pub use conditions::Conditions;
+pub use plain_sets::{MAX_CONFIGS, PlainSets};
+
+#[cfg(test)]
+mod tests;

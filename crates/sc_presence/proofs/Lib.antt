@@ -1,0 +1,4 @@
+pub mod PlainLemmas
+pub mod RankLemmas
+pub mod SetsLemmas
+pub mod VariableLemmas
