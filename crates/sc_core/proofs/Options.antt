@@ -8,15 +8,12 @@ use Rattle.sc_model.specs.declared.variable_option.VariableOption.{VariableOptio
 use Rattle.sc_model.specs.declared.variable_option.VariableOption.TheVariants.{Undefined, Number}
 use Rattle.sc_model.specs.Bytes.{same_bytes}
 use Rattle.sc_model.specs.Sets.{Sets, IsConfig, Denotes}
+use Rattle.sc_core.specs.Variables.{is_defining_option, no_variable, Finds}
 use Rattle.sc_model.specs.Space.{Variable, Space, definition_of, is_defining, variable_definition}
 
 -- a test that agrees with another at every configuration
 pub Denotes-as : {s : Sets} {a : ℕ} {f : List ℕ → Bool} (g : List ℕ → Bool) → Denotes s a f → ((c : List ℕ) → IsConfig s.arities c → f c ≡ g c) → Denotes s a g
 Denotes-as g d same = record { own = d.own; at = λ c listed. d.at c listed ∙ same c listed }
-
-or_false : (b : Bool) → (b || false) ≡ b
-or_false true = refl
-or_false false = refl
 
 nothing : (a b : Bool) → (a || (b && false)) ≡ a
 nothing true b = refl
@@ -32,27 +29,26 @@ differs_zero n = grind (arith, nat_tests)
 same_suc : (m n : ℕ) → (suc m == suc n) ≡ (m == n)
 same_suc m n = grind (arith, nat_tests)
 
--- an option that defines its name
-abbrev pub defines : VariableOption → Bool
-defines o = is_some (definition_of o)
-
-defining-push : (options : List VariableOption) (o : VariableOption) (j : ℕ) → is_defining (options ++ o ∷ []) j ≡ (is_defining options j || (defines o && (j == length options)))
+defining-push : (options : List VariableOption) (o : VariableOption) (j : ℕ) → is_defining (options ++ o ∷ []) j ≡ (is_defining options j || (is_defining_option o && (j == length options)))
 defining-push [] Undefined zero = refl
 defining-push [] (Number n) zero = refl
 defining-push [] Undefined (suc j) = refl
 defining-push [] (Number n) (suc j) = sym (zero_differs j)
-defining-push (x ∷ options) o zero = sym (ap (λ b. is_defining (x ∷ options) 0 || (defines o && b)) (differs_zero (length options)) ∙ nothing (is_defining (x ∷ options) 0) (defines o))
-defining-push (x ∷ options) o (suc j) = defining-push options o j ∙ ap (λ b. is_defining options j || (defines o && b)) (sym (same_suc j (length options)))
+defining-push (x ∷ options) o zero = sym (ap (λ b. is_defining (x ∷ options) 0 || (is_defining_option o && b)) (differs_zero (length options)) ∙ nothing (is_defining (x ∷ options) 0) (is_defining_option o))
+defining-push (x ∷ options) o (suc j) = defining-push options o j ∙ ap (λ b. is_defining options j || (is_defining_option o && b)) (sym (same_suc j (length options)))
 
 module _ (options : List VariableOption) (k j : ℕ) (d : VariableOption) (h : k < length options) where
-  more : (o : VariableOption) → get_or options k d ≡ o → is_defining (take (k + 1) options) j ≡ (is_defining (take k options) j || (defines o && (j == k)))
-  more o e =
+  pub defining-more : (o : VariableOption) → get_or options k d ≡ o → is_defining (take (k + 1) options) j ≡ (is_defining (take k options) j || (is_defining_option o && (j == k)))
+  defining-more o e =
       ap (λ os. is_defining os j) (take_more options k d h)
       ∙ (ap (λ x. is_defining (take k options ++ x ∷ []) j) e
-      ∙ (defining-push (take k options) o j ∙ ap (λ n. is_defining (take k options) j || (defines o && (j == n))) (length-take-le k options (omega arith))))
+      ∙ (defining-push (take k options) o j ∙ ap (λ n. is_defining (take k options) j || (is_defining_option o && (j == n))) (length-take-le k options (omega arith))))
 
-  pub defining-number : (n : ℕ) → get_or options k d ≡ Number n → is_defining (take (k + 1) options) j ≡ (is_defining (take k options) j || (j == k))
-  defining-number n e = more (Number n) e
+-- the variables that are left say what all say
+pub definition-next : (vs : List Variable) (config : List ℕ) (i : ℕ) (name : List ℕ) → i < length vs → length config ≡ length vs → same_bytes (get_or vs i no_variable).name name ≡ false
+    → variable_definition (drop (i + 1) vs) (drop (i + 1) config) name ≡ variable_definition (drop i vs) (drop i config) name
+definition-next vs config i name h long differs = ?
 
-  pub defining-undefined : get_or options k d ≡ Undefined → is_defining (take (k + 1) options) j ≡ is_defining (take k options) j
-  defining-undefined e = more Undefined e ∙ or_false (is_defining (take k options) j)
+pub definition-here : (vs : List Variable) (config : List ℕ) (i : ℕ) (name : List ℕ) → i < length vs → length config ≡ length vs → same_bytes (get_or vs i no_variable).name name ≡ true
+    → variable_definition (drop i vs) (drop i config) name ≡ option_and_then definition_of (slice_get (get_or vs i no_variable).options (get_or config i 0))
+definition-here vs config i name h long same = ?

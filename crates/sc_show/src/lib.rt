@@ -1,0 +1,6 @@
+//! The texts of results.
+#![tactic(auto)]
+
+mod tokens;
+
+pub use tokens::show_tokens;
