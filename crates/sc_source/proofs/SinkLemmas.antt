@@ -1,5 +1,5 @@
 -- What a failed write leaves.
-use Rattle.std.proofs.Common.{◌≡◌, ℕ, List, [], ◌∷◌, ◌++◌, true, false, None, Some, Result, Ok, Err, OnOk, OnErr, IsErr, sym, append-nil, ◌∙◌}
+use Rattle.std.proofs.Common.{◌≡◌, ℕ, List, [], ◌∷◌, ◌++◌, false, None, Some, Result, Ok, Err, OnOk, OnErr, IsErr, sym, append-nil, ◌∙◌}
 use Rattle.sc_model.specs.Outside.{Write, nothing, front}
 use Rattle.sc_source.specs.Sink.{WritesCut}
 

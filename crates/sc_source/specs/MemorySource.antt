@@ -1,5 +1,5 @@
 -- What a source in memory holds.
-use Rattle.std.specs.Prelude.{◌≡◌, ℕ, List, Option, Some, if◌then◌else◌}
+use Rattle.std.specs.Prelude.{ℕ, List, Some, if◌then◌else◌}
 use Rattle.std.specs.Option.{option_map}
 use Rattle.std.specs.Str.{bytes_eq}
 use Rattle.indexmap.specs.IndexMap.{get_by_text}

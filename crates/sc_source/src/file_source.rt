@@ -43,7 +43,7 @@ impl<R: Files> Source for FileSource<R> {
         ensures counted { faults_of self.old ≤ faults_of self.new }
         ensures failed { IsErrOf result SourceStop.Failed → Rose (faults_of self.old) (faults_of self.new) }
         ensures bounded { IfOk result (λ text. IfSome text (λ bytes. vec_len bytes ≤ MOST_READ)) }
-        ensures zero_byte { Contains name.now 0 → IfOk result (λ text. text ≡ None) }
+        ensures zero_byte { Contains name.now 0 → result ≡ Ok None }
     {
         let answer = read_file(&self.rt, alloc, name);
         if matches!(&answer, Err(SourceStop::Failed)) {
@@ -53,34 +53,30 @@ impl<R: Files> Source for FileSource<R> {
     }
 }
 
-fn read_file<R: Files>(
-    rt: &R,
-    alloc: Global,
-    name: &str,
-) -> Result<Option<Vec<u8>>, SourceStop>
+fn read_file<R: Files>(rt: &R, alloc: Global, name: &str) -> Result<Option<Vec<u8>>, SourceStop>
     ensures bounded { IfOk result (λ text. IfSome text (λ bytes. vec_len bytes ≤ MOST_READ)) }
-    ensures zero_byte { Contains name.now 0 → IfOk result (λ text. text ≡ None) }
+    ensures zero_byte { Contains name.now 0 → result ≡ Ok None }
 {
     if name.as_bytes().contains(&0) {
         return Ok(None);
     }
     match File::open(rt, name) {
-        Ok(file) => Ok(Some(read_front(file, alloc)?)),
+        Ok(file) => Ok(Some(read_front(file, alloc, MOST_READ)?)),
         Err(e) if e.kind() == ErrorKind::NotFound => Ok(None),
         Err(_) => Err(SourceStop::Failed),
     }
 }
 
-// A file's bytes, as far as they are read.
-fn read_front<F: Read + Drop>(file: F, alloc: Global) -> Result<Vec<u8>, SourceStop>
-    ensures bounded { IfOk result (λ bytes. vec_len bytes ≤ MOST_READ) }
-    ensures front { IfSome (F.remaining file) (λ all. IfOk result (λ bytes. bytes.items ≡ take MOST_READ all)) }
+// The first bytes of a file, `most` or as many as it has.
+fn read_front<F: Read + Drop>(file: F, alloc: Global, most: usize) -> Result<Vec<u8>, SourceStop>
+    ensures bounded { IfOk result (λ bytes. vec_len bytes ≤ most) }
+    ensures front { IfSome (F.remaining file) (λ all. IfOk result (λ bytes. bytes.items ≡ take most all)) }
 {
     let mut bytes = Vec::new(alloc);
-    match file.take(MOST_READ as u64).read_to_end(&mut bytes) {
+    match file.take(most as u64).read_to_end(&mut bytes) {
         Ok(_) => {
             // No more was read. The contract of `read_to_end` doesn't say so.
-            bytes.truncate(MOST_READ);
+            bytes.truncate(most);
             Ok(bytes)
         }
         Err(e) if e.kind() == ErrorKind::OutOfMemory => Err(SourceStop::OutOfMemory),

@@ -9,7 +9,7 @@ mod sink;
 mod source;
 mod std_sink;
 
-pub use file_source::FileSource;
+pub use file_source::{FileSource, MOST_READ};
 pub use memory_sink::{MemorySink, Written};
 pub use memory_source::MemorySource;
 pub use sink::{Failed, Sink};

@@ -1,6 +1,7 @@
 ghost use Rattle.std.specs.Prelude.{◌≡◌, ◌≤◌, [], ◌∷◌, ◌++◌, map, Contains, Some, IfOk, IsErr, OnOk, OnErr};
 ghost use Rattle.std.specs.List.{flat_map};
 ghost use Rattle.sc_model.specs.Outside.{Rose, Writes, whole_write};
+ghost use Rattle.sc_source.specs.MemorySink.{log_of, plan_of, write_of};
 ghost use Rattle.sc_source.specs.Plan.{Advances};
 ghost use Rattle.sc_source.specs.Sink.{WritesCut};
 
@@ -28,8 +29,6 @@ pub struct MemorySink {
 }
 
 impl MemorySink {
-    ghost use Rattle.sc_source.specs.MemorySink.{log_of, plan_of, write_of};
-
     /// A log without writes, which keeps `alloc` for those that come.
     pub fn new(alloc: Global) -> Self
         ensures log { log_of result ≡ [] }
@@ -65,8 +64,6 @@ impl MemorySink {
     }
 }
 
-ghost use Rattle.sc_source.specs.MemorySink.{write_of};
-
 fn joined(alloc: Global, writes: &[Written]) -> Result<Vec<u8>, OutOfMemory>
     ensures { IfOk result (λ all. all.items ≡ flat_map (λ write. write.bytes) (map write_of writes.now)) }
 {
@@ -87,8 +84,6 @@ fn note(writes: &mut Vec<Written>, bytes: &[u8], whole: bool) -> Result<(), OutO
 }
 
 impl Sink for MemorySink {
-    ghost use Rattle.sc_source.specs.MemorySink.{log_of, plan_of};
-
     ghost log = { λ s. Some (log_of s) };
 
     ghost faults = { λ s. (plan_of s).faults };

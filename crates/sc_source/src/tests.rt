@@ -1,6 +1,4 @@
 use super::*;
-use crate::file_source::MOST_READ;
-use std::alloc::Global;
 use std::fs::File;
 use std::io::{Error, ErrorKind, Write};
 use std::test::Fail;
@@ -16,8 +14,14 @@ fn memory_source(rt: HostRuntime) -> Result<(), Fail> {
     let main = source.read(rt.alloc(), "m.c")?.ok_or("absent")?;
     assert_eq!(rt; main.as_slice(), b"int y;".as_slice());
     assert!(rt; source.read(rt.alloc(), "m.h")?.is_none());
-    assert_eq!(rt; source.read(rt.alloc(), "h").err(), Some(SourceStop::Failed));
-    assert_eq!(rt; source.read(rt.alloc(), "h")?.map(|bytes| bytes.len()), Some(0));
+    assert_eq!(rt;
+        source.read(rt.alloc(), "h").err(),
+        Some(SourceStop::Failed)
+    );
+    assert_eq!(rt;
+        source.read(rt.alloc(), "h")?.map(|bytes| bytes.len()),
+        Some(0)
+    );
     Ok(())
 }
 
@@ -49,10 +53,16 @@ fn file_source(rt: HostRuntime) -> Result<(), Fail> {
     let mut source = FileSource::new(&rt);
     let found = source.read(alloc, short.as_str())?.ok_or("absent")?;
     assert_eq!(rt; found.as_slice(), b"int x;\n".as_slice());
-    assert_eq!(rt; source.read(alloc, long.as_str())?.map(|bytes| bytes.len()), Some(MOST_READ));
+    assert_eq!(rt;
+        source.read(alloc, long.as_str())?.map(|bytes| bytes.len()),
+        Some(MOST_READ)
+    );
     assert!(rt; source.read(alloc, missing.as_str())?.is_none());
     assert!(rt; source.read(alloc, "short\0.c")?.is_none());
-    assert_eq!(rt; source.read(alloc, dir.as_str()).err(), Some(SourceStop::Failed));
+    assert_eq!(rt;
+        source.read(alloc, dir.as_str()).err(),
+        Some(SourceStop::Failed)
+    );
     fs::remove_dir_all(&rt, dir.as_str())?;
     Ok(())
 }
