@@ -1,2 +1,4 @@
+pub mod LineSteps
 pub mod Machine
 pub mod Options
+pub mod WalkMoves

@@ -8,77 +8,7 @@ use Rattle.sc_model.specs.Lines.{Line, is_directive, conditional_of, hash_place,
 use Rattle.sc_model.specs.Pre.{Fault, State, Becomes, unexpanded, Closes, closed, refused, RefusedAt, operand_of, Decides, if_defined, if_undefined, no_name, expression, is_null, is_named, ignored_names, Steps, text, null, stopped, ignored, unknown, Walks, done, line, line_stops, taken, taken_stops, passed, passed_stops, head_stops, WalksBranches, none_taken, last_taken, later_taken, later_passed, later_stops, fault_at, first_place}
 use Rattle.sc_model.specs.Space.{Macros}
 use Rattle.sc_model.specs.Token.{Place, Token}
-
--- Whether the lines are taken, for each open section whether it stands in lines that are taken and whether none of its branches was taken yet,
--- the text that was put out, and the first fault.
-pub record Machine : Type 0 where
-  pub active : Bool
-  pub sections : List (Bool × Bool)
-  pub output : List Token
-  pub fault : Option Fault
-
--- the line does something
-abbrev pub acts : Machine → Bool
-acts m = m.active && is_none m.fault
-
--- the place of the line's first token
-abbrev pub place_of : Line → Place
-place_of [] = first_place []
-place_of (t ∷ ts) = t.place
-
-abbrev pub refusal : Line → Fault
-refusal l = fault_at BadDirective (place_of l)
-
--- the line is refused where it does something
-abbrev pub refusing : Machine → Line → Machine
-refusing m l = record { active = m.active; sections = m.sections; output = m.output; fault = if acts m then Some (refusal l) else m.fault }
-
--- lines of this group are taken from here on
-abbrev pub turned : Machine → Bool → List (Bool × Bool) → Machine
-turned m active sections = record { active = active; sections = sections; output = m.output; fault = m.fault }
-
-abbrev pub put_out : Machine → Line → Machine
-put_out m l = record { active = m.active; sections = m.sections; output = if acts m then m.output ++ l else m.output; fault = m.fault }
-
--- a section begins, and its first branch is taken where the test holds
-abbrev pub opened : Machine → Bool → Machine
-opened m test = turned m (m.active && test) ((m.active, m.active && not test) ∷ m.sections)
-
-abbrev pub opened_by_name : Machine → Line → (List ℕ → Bool) → Option (List ℕ) → Machine
-opened_by_name m l test None = opened (refusing m l) false
-opened_by_name m l test (Some name) = opened m (test name)
-
--- the next branch of a section; the last part says that it is refused where it would be decided
-abbrev pub next_branch : Machine → List (Bool × Bool) → Machine
-next_branch m [] = m
-next_branch m (s ∷ ss) = turned m s.1 ((s.0, false) ∷ ss)
-
-abbrev pub ended : Machine → List (Bool × Bool) → Machine
-ended m [] = m
-ended m (s ∷ ss) = turned m s.0 ss
-
--- a line that is no conditional directive
-abbrev pub plain_step : Machine → Line → Machine
-plain_step m l =
-    if is_directive l then (if is_null l then m else (if is_named ignored_names l then m else refusing m l))
-    else put_out m l
-
-abbrev pub step_by : Macros → Machine → Line → Option Conditional → Machine
-step_by macros m l None = plain_step m l
-step_by macros m l (Some If) = opened (refusing m l) false
-step_by macros m l (Some Ifdef) = opened_by_name m l (λ name. is_some (macros name)) (operand_of l)
-step_by macros m l (Some Ifndef) = opened_by_name m l (λ name. not (is_some (macros name))) (operand_of l)
-step_by macros m l (Some Elif) = refusing (next_branch m m.sections) l
-step_by macros m l (Some Else) = next_branch m m.sections
-step_by macros m l (Some Endif) = ended m m.sections
-
-abbrev pub step : Macros → Machine → Line → Machine
-step macros m l = step_by macros m l (conditional_of l)
-
--- the lines in order
-abbrev pub run : Macros → Machine → List Line → Machine
-run macros m [] = m
-run macros m (l ∷ ls) = run macros (step macros m l) ls
+use Rattle.sc_core.specs.Machine.{Machine, acts, place_of, refusal, refusing, turned, put_out, opened, opened_by_name, next_branch, ended, plain_step, step_by, step, run}
 
 pub run-append : (macros : Macros) (m : Machine) (xs ys : List Line) → run macros m (xs ++ ys) ≡ run macros (run macros m xs) ys
 run-append macros m [] ys = refl

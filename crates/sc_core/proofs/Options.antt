@@ -1,8 +1,9 @@
 -- Which configurations start with a macro of a name.
-use Rattle.std.proofs.Common.{◌≡◌, ℕ, zero, suc, ◌+◌, ◌<◌, ◌≤◌, ◌||◌, ◌&&◌, Bool, true, false, List, [], ◌∷◌, ◌++◌, length, map, take, drop, get_or, Option, Some, None, is_some, eqb, refl, sym, ap, ◌∙◌, subst, inl, inr, arith}
+use Rattle.std.proofs.Common.{◌≡◌, ℕ, zero, suc, ◌+◌, ◌<◌, ◌≤◌, ◌||◌, ◌&&◌, Bool, true, false, List, [], ◌∷◌, ◌++◌, length, map, take, drop, get_or, Option, Some, None, is_some, eqb, add-one, refl, sym, ap, ◌∙◌, subst, inl, inr, arith}
+use Rattle.std.proofs.Math.Seq.{drop-cons}
 use Rattle.std.proofs.lemmas.List.{take_more, length-take-le}
 use Rattle.std.proofs.lemmas.Bool.Decides.{nat_tests}
-use Rattle.std.specs.Prelude.{◌==◌, slice_get, slice_index}
+use Rattle.std.specs.Prelude.{if◌then◌else◌, ◌==◌, slice_get, slice_index}
 use Rattle.std.specs.Option.{option_and_then}
 use Rattle.sc_model.specs.declared.variable_option.VariableOption.{VariableOption}
 use Rattle.sc_model.specs.declared.variable_option.VariableOption.TheVariants.{Undefined, Number}
@@ -44,11 +45,22 @@ module _ (options : List VariableOption) (k j : ℕ) (d : VariableOption) (h : k
       ∙ (ap (λ x. is_defining (take k options ++ x ∷ []) j) e
       ∙ (defining-push (take k options) o j ∙ ap (λ n. is_defining (take k options) j || (is_defining_option o && (j == n))) (length-take-le k options (omega arith))))
 
--- the variables that are left say what all say
-pub definition-next : (vs : List Variable) (config : List ℕ) (i : ℕ) (name : List ℕ) → i < length vs → length config ≡ length vs → same_bytes (get_or vs i no_variable).name name ≡ false
-    → variable_definition (drop (i + 1) vs) (drop (i + 1) config) name ≡ variable_definition (drop i vs) (drop i config) name
-definition-next vs config i name h long differs = ?
+module _ (vs : List Variable) (config : List ℕ) (i : ℕ) (name : List ℕ) (h : i < length vs) (long : length config ≡ length vs) where
+  definition-split : variable_definition (drop i vs) (drop i config) name
+      ≡ (if same_bytes (get_or vs i no_variable).name name then option_and_then definition_of (slice_get (get_or vs i no_variable).options (get_or config i 0))
+         else variable_definition (drop (suc i) vs) (drop (suc i) config) name)
+  definition-split =
+      ap (λ xs. variable_definition xs (drop i config) name) (drop-cons vs i no_variable h)
+      ∙ ap (λ ks. variable_definition (get_or vs i no_variable ∷ drop (suc i) vs) ks name) (drop-cons config i 0 (omega arith))
 
-pub definition-here : (vs : List Variable) (config : List ℕ) (i : ℕ) (name : List ℕ) → i < length vs → length config ≡ length vs → same_bytes (get_or vs i no_variable).name name ≡ true
-    → variable_definition (drop i vs) (drop i config) name ≡ option_and_then definition_of (slice_get (get_or vs i no_variable).options (get_or config i 0))
-definition-here vs config i name h long same = ?
+  -- the variables that are left say what all say
+  pub definition-next : same_bytes (get_or vs i no_variable).name name ≡ false
+      → variable_definition (drop (i + 1) vs) (drop (i + 1) config) name ≡ variable_definition (drop i vs) (drop i config) name
+  definition-next differs =
+      ap (λ n. variable_definition (drop n vs) (drop n config) name) (add-one i)
+      ∙ sym (definition-split ∙ ap (λ b. if b then option_and_then definition_of (slice_get (get_or vs i no_variable).options (get_or config i 0)) else variable_definition (drop (suc i) vs) (drop (suc i) config) name) differs)
+
+  pub definition-here : same_bytes (get_or vs i no_variable).name name ≡ true
+      → variable_definition (drop i vs) (drop i config) name ≡ option_and_then definition_of (slice_get (get_or vs i no_variable).options (get_or config i 0))
+  definition-here same =
+      definition-split ∙ ap (λ b. if b then option_and_then definition_of (slice_get (get_or vs i no_variable).options (get_or config i 0)) else variable_definition (drop (suc i) vs) (drop (suc i) config) name) same

@@ -1,1 +1,4 @@
+pub mod LineKind
+pub mod Machine
+pub mod Mirrors
 pub mod Variables

@@ -97,7 +97,7 @@ fn with_option<C: Conditions>(
         VariableOption::Undefined => Ok(found),
         VariableOption::Number(_) => {
             let chosen = conds.choose(variable, index)?;
-            conds.apply_or(found, chosen)
+            Ok(conds.apply_or(found, chosen)?)
         }
     }
 }

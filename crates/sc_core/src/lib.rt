@@ -2,6 +2,10 @@
 #![tactic(auto)]
 
 mod defined;
+mod line_kind;
+mod moves;
 mod status;
+mod steps;
+mod walk;
 
 pub use status::Status;

@@ -1,0 +1,16 @@
+use Rattle.std.proofs.Common.{◌≡◌, ◌∙◌, ◌++◌, sym, ap, subst, refl, ℕ, length, take, map, arith}
+use Rattle.std.proofs.Math.Seq.{take-length}
+use Rattle.sc_core.specs.declared.walk.Walk.{Walk}
+use Rattle.sc_core.specs.Machine.{put_out}
+use Rattle.sc_core.specs.Mirrors.{Advances}
+use Rattle.sc_core.proofs.WalkMoves.{under, puts}
+use Rattle.sc_lex.specs.Seen.{seen}
+use Rattle.sc_core.proofs.moves.put.Goals as goal
+
+pub returns : goal.returns
+returns c = λ names s owns.
+    let w = c.args.walk.now in
+    let whole : c.loop-token.token-index ≡ length c.args.line.now = omega arith in
+    let all = ap (λ n. w.list ++ under w.live (take n c.args.line.now)) whole ∙ ap (λ ts. w.list ++ under w.live ts) (take-length c.args.line.now) in
+    subst (λ next. Advances names s w s next (λ files config m. put_out m (map (seen names files) c.args.line.now))) (sym c.loop-token.invariant)
+      (puts names s w owns c.args.line.now (w.list ++ under w.live (take c.loop-token.token-index c.args.line.now)) all)
