@@ -78,3 +78,7 @@ step macros m l = step_by macros m l (conditional_of l)
 abbrev pub run : Macros → Machine → List Line → Machine
 run macros m [] = m
 run macros m (l ∷ ls) = run macros (step macros m l) ls
+
+-- the machine before the first line
+abbrev pub start : Machine
+start = record { active = true; sections = []; output = []; fault = None }

@@ -7,5 +7,6 @@ mod moves;
 mod status;
 mod steps;
 mod walk;
+mod walk_file;
 
 pub use status::Status;

@@ -1,0 +1,19 @@
+use Rattle.std.proofs.Common.{ℕ, List, map, take}
+use Rattle.sc_lex.specs.Seen.{seen}
+use Rattle.sc_lines.specs.Split.{tokens_of}
+use Rattle.sc_model.specs.Sets.{IsConfig, Keeps}
+use Rattle.sc_model.specs.Space.{initial_macros}
+use Rattle.sc_space.specs.Seen.{seen_space}
+use Rattle.sc_core.specs.Machine.{run, start}
+use Rattle.sc_core.specs.Mirrors.{Owns, Mirrors}
+use Rattle.sc_core.proofs.walk_file.walk_file.Given as goal
+
+-- at each configuration the walk is where the machine is after the lines so far
+abbrev pub invariant-loop-line : goal.invariant-loop-line
+invariant-loop-line g l = record {
+  owns : Owns (g.C.Conditions.sets l.conds) l.walk;
+  keeps : Keeps (g.C.Conditions.sets l.fn.conds) (g.C.Conditions.sets l.conds);
+  at : (files : List (List ℕ)) (config : List ℕ) → IsConfig (g.C.Conditions.sets l.fn.conds).arities config
+      → Mirrors (g.C.Conditions.sets l.conds) l.names files l.walk config
+        (run (initial_macros (seen_space l.space) config) start (map (λ line. map (seen l.names files) (tokens_of l.tokens line)) (take l.line-index l.lines)));
+}
