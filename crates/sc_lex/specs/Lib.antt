@@ -1,3 +1,4 @@
 pub mod Logical
+pub mod Scan
 pub mod Source
 pub mod Spell
