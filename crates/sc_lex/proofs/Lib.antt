@@ -1,2 +1,4 @@
 pub mod Fronts
 pub mod Names
+pub mod Punctuators
+pub mod Quotes

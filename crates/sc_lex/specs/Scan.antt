@@ -1,7 +1,8 @@
 -- Which front of a text a scan finds.
-use Rattle.std.specs.Prelude.{◌≡◌, ℕ, ◌<◌, ◌≤◌, ◌==◌, ◌&&◌, ◌||◌, nat_le, nat_lt, Bool, true, false, List, [], ◌∷◌, length, take, drop, slice_index, if◌then◌else◌}
+use Rattle.std.specs.Prelude.{◌≡◌, ℕ, ◌<◌, ◌≤◌, ◌==◌, ◌&&◌, ◌||◌, nat_le, nat_lt, not, Bool, true, false, List, [], ◌∷◌, length, take, drop, slice_index, if◌then◌else◌}
 use Rattle.std.specs.List.{list_all}
 use Rattle.sc_model.specs.Bytes.{is_hex_digit, is_digit, is_letter}
+use Rattle.sc_model.specs.Lex.{is_punctuator}
 
 -- The longest front that passes the test has n bytes; where n is 0 none passes.
 pub record IsLongestFront (test : List ℕ → Bool) (bytes : List ℕ) (n : ℕ) : Type 0 where
@@ -45,3 +46,12 @@ abbrev pub quoted_length : List ℕ → ℕ
 quoted_length bs =
     if slice_index bs 0 == 10 then 0
     else (if slice_index bs 0 == 92 then (if nat_lt (length bs) 2 || slice_index bs 1 == 10 then 0 else 2) else 1)
+
+-- the opening byte comes first, and then something other than the closing one where that is asked for
+abbrev pub opens : ℕ → ℕ → Bool → List ℕ → Bool
+opens start end filled bs =
+    nat_le 2 (length bs) && (slice_index bs 0 == start && not (filled && slice_index bs 1 == end))
+
+-- the first n bytes are a punctuator
+abbrev pub has_punctuator : ℕ → List ℕ → Bool
+has_punctuator n bs = nat_le n (length bs) && is_punctuator (take n bs)

@@ -8,7 +8,7 @@ ghost use Rattle.sc_model.specs.Lex.{is_identifier, goes_on, is_number, is_expon
 ghost use Rattle.sc_model.specs.Lex.{is_character, is_text, is_quoted, closes};
 ghost use Rattle.sc_model.specs.Lex.{is_header, is_delimited, header_closes, is_punctuator};
 ghost use Rattle.sc_model.specs.declared.kind.Kind.TheVariants as kind;
-ghost use Rattle.sc_lex.specs.Scan.{IsLongestFront, hex_front, universal_length, letter_length, number_letter_length, begins_name, begins_number, quoted_length};
+ghost use Rattle.sc_lex.specs.Scan.{IsLongestFront, hex_front, universal_length, letter_length, number_letter_length, begins_name, begins_number, quoted_length, opens, has_punctuator};
 
 pub fn blank(text: &[u8]) -> usize
     ensures { IsLongestFront is_white_byte text.now result }
@@ -36,14 +36,16 @@ pub fn comment(text: &[u8]) -> Option<usize>
     ensures ended { OnSome result (IsUnended text.now → ⊥) }
     ensures none { IfNone result (IsUnended text.now) }
 {
-    if text.len() < 2 || text[0] != b'/' {
-        return Some(0);
+    if text.starts_with(b"//") {
+        return Some(2 + line_length(&text[2..]));
     }
-    match text[1] {
-        b'/' => Some(2 + line_length(&text[2..])),
-        b'*' => Some(2 + comment_end(&text[2..])?),
-        _ => Some(0),
+    if text.starts_with(b"/*") {
+        return match comment_end(&text[2..]) {
+            Some(end) => Some(2 + end),
+            None => None,
+        };
     }
+    Some(0)
 }
 
 /// How many bytes stand before the first newline.
@@ -219,9 +221,11 @@ fn prefixed(text: &[u8], prefix: &[u8], quote: u8, filled: bool) -> usize
     if !text.starts_with(prefix) {
         return 0;
     }
-    match quoted(&text[prefix.len()..], quote, filled) {
-        0 => 0,
-        length => prefix.len() + length,
+    let length = quoted(&text[prefix.len()..], quote, filled);
+    if length == 0 {
+        0
+    } else {
+        prefix.len() + length
     }
 }
 
@@ -229,13 +233,20 @@ fn prefixed(text: &[u8], prefix: &[u8], quote: u8, filled: bool) -> usize
 fn quoted(text: &[u8], quote: u8, filled: bool) -> usize
     ensures { IsLongestFront (is_quoted quote filled) text.now result }
 {
-    if text.len() < 2 || text[0] != quote || (filled && text[1] == quote) {
+    if !opens(text, quote, quote, filled) {
         return 0;
     }
     match closing(&text[1..], quote) {
         0 => 0,
         length => 1 + length,
     }
+}
+
+/// The opening byte comes first, and then something other than the closing one where that is asked for.
+fn opens(text: &[u8], start: u8, end: u8, filled: bool) -> bool
+    ensures { result ≡ opens start end filled text.now }
+{
+    text.len() >= 2 && text[0] == start && !(filled && text[1] == end)
 }
 
 /// The length of the front that ends in the closing quote. The line may end before.
@@ -278,7 +289,7 @@ pub fn header(text: &[u8]) -> usize
 fn delimited(text: &[u8], start: u8, end: u8) -> usize
     ensures { IsLongestFront (is_delimited start end) text.now result }
 {
-    if text.len() < 2 || text[0] != start || text[1] == end {
+    if !opens(text, start, end, true) {
         return 0;
     }
     match header_closing(&text[1..], end) {
@@ -305,20 +316,41 @@ fn header_closing(text: &[u8], end: u8) -> usize
 pub fn punctuator(text: &[u8]) -> usize
     ensures { IsLongestFront is_punctuator text.now result }
 {
-    let most = text.len();
-    if most >= 4 && is_four(text[0], text[1], text[2], text[3]) {
-        return 4;
+    if has_four(text) {
+        4
+    } else if has_three(text) {
+        3
+    } else if has_two(text) {
+        2
+    } else if has_one(text) {
+        1
+    } else {
+        0
     }
-    if most >= 3 && is_three(text[0], text[1], text[2]) {
-        return 3;
-    }
-    if most >= 2 && is_two(text[0], text[1]) {
-        return 2;
-    }
-    if most >= 1 && is_one(text[0]) {
-        return 1;
-    }
-    0
+}
+
+fn has_four(text: &[u8]) -> bool
+    ensures { result ≡ has_punctuator 4 text.now }
+{
+    text.len() >= 4 && is_four(text[0], text[1], text[2], text[3])
+}
+
+fn has_three(text: &[u8]) -> bool
+    ensures { result ≡ has_punctuator 3 text.now }
+{
+    text.len() >= 3 && is_three(text[0], text[1], text[2])
+}
+
+fn has_two(text: &[u8]) -> bool
+    ensures { result ≡ has_punctuator 2 text.now }
+{
+    text.len() >= 2 && is_two(text[0], text[1])
+}
+
+fn has_one(text: &[u8]) -> bool
+    ensures { result ≡ has_punctuator 1 text.now }
+{
+    !text.is_empty() && is_one(text[0])
 }
 
 fn is_four(a: u8, b: u8, c: u8, d: u8) -> bool
