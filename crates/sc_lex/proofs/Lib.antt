@@ -1,3 +1,4 @@
+pub mod Best
 pub mod Fronts
 pub mod Names
 pub mod Punctuators

@@ -1,4 +1,5 @@
 pub mod Logical
+pub mod Piece
 pub mod Scan
 pub mod Source
 pub mod Spell
