@@ -20,7 +20,7 @@ or_false : (x : Bool) → (x || false) ≡ x
 or_false true = refl
 or_false false = refl
 
-eqb_comm : (a b : ℕ) → (a == b) ≡ (b == a)
+pub eqb_comm : (a b : ℕ) → (a == b) ≡ (b == a)
 eqb_comm a b = elim (cases_Bool (b == a)) [
   | inl e ↦ eq-eqb a b (sym (eqb-true b a e)) ∙ sym e
   | inr e ↦ ne_eqb a b (λ h. eqb-false b a e (sym h)) ∙ sym e

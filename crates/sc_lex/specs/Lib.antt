@@ -1,3 +1,4 @@
+pub mod Line
 pub mod Logical
 pub mod Piece
 pub mod Scan
