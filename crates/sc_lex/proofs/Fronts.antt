@@ -1,8 +1,8 @@
 -- How a scan over a text tells its longest front that passes a test.
-use Rattle.std.proofs.Common.{◌≡◌, ℕ, zero, suc, ◌+◌, ◌-◌, max, ◌<◌, ◌≤◌, ◌&&◌, ◌||◌, inl, inr, Bool, true, false, List, [], ◌∷◌, ◌++◌, length, take, drop, get_or, refl, sym, ap, ◌∙◌, subst, arith, append-nil, append_assoc, length-append, length-drop, length-take, get_or-drop, add-zero}
+use Rattle.std.proofs.Common.{◌≡◌, ℕ, zero, suc, ◌+◌, ◌-◌, max, ◌<◌, ◌≤◌, ◌&&◌, ◌||◌, inl, inr, Bool, true, false, List, [], ◌∷◌, ◌++◌, length, take, drop, get_or, refl, sym, ap, ◌∙◌, subst, arith, append-nil, append_assoc, length-drop, get_or-drop, add-zero}
 use Rattle.std.proofs.Math.Seq.{take-add}
-use Rattle.std.proofs.lemmas.Bool.{cases_lt, cases_Bool, or_left, or_right, or_from}
-use Rattle.std.proofs.lemmas.List.{length-take-le, take_all, drop_more}
+use Rattle.std.proofs.lemmas.Bool.{cases_lt, or_left, or_right, or_from}
+use Rattle.std.proofs.lemmas.List.{take_all, drop_more}
 use Rattle.sc_model.specs.Bytes.{same_bytes}
 use Rattle.sc_lex.specs.Scan.{IsLongestFront}
 

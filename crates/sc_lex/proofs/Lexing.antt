@@ -1,5 +1,5 @@
 -- One piece after another, the tokens of a file.
-use Rattle.std.proofs.Common.{◌≡◌, ℕ, ◌+◌, ◌<◌, ◌≤◌, Bool, true, false, List, [], ◌∷◌, ◌++◌, length, map, take, drop, Result, Ok, Err, Some, slice_get, refl, sym, ap, ◌∙◌, subst, arith, append_assoc, append-nil, length-drop}
+use Rattle.std.proofs.Common.{◌≡◌, ℕ, ◌+◌, ◌<◌, ◌≤◌, Bool, true, false, List, [], ◌∷◌, ◌++◌, length, take, drop, Result, Ok, Err, Some, slice_get, refl, sym, ap, ◌∙◌, subst, arith, append_assoc, append-nil, length-drop}
 use Rattle.std.specs.Option.{option_map}
 use Rattle.std.proofs.lemmas.List.{drop-map, drop-drop, length-map}
 use Rattle.sc_base.specs.declared.id.FileId.{FileId}
@@ -7,7 +7,7 @@ use Rattle.sc_base.specs.declared.place.Place.{Place}
 use Rattle.sc_model.specs.declared.kind.Kind.{Kind}
 use Rattle.sc_model.specs.Growth.{Extends}
 use Rattle.sc_model.specs.Token.{Position, Lexeme, name_of}
-use Rattle.sc_model.specs.Lex.{Row, token, Marked, bytes_of, IsLongest, IsUnended, is_white, is_newline, line_after, with_first, lexeme, Lexes, nothing, white, piece, unended, Lexed, phase_1}
+use Rattle.sc_model.specs.Lex.{Row, token, Marked, bytes_of, IsLongest, IsUnended, is_white, is_newline, line_after, with_first, Lexes, nothing, white, piece, unended, Lexed, phase_1}
 use Rattle.sc_lex.specs.declared.token.Token.{Token}
 use Rattle.sc_lex.specs.declared.line.LineFront.{LineFront}
 use Rattle.sc_lex.specs.Line.{front_of}

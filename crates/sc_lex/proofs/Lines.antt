@@ -1,11 +1,9 @@
 -- A line with one more token.
-use Rattle.std.proofs.Common.{◌≡◌, ℕ, ◌==◌, ◌&&◌, inl, inr, Bool, true, false, cond, nat_eq, List, [], ◌∷◌, ◌++◌, codes, refl, sym, ap, ◌∙◌, subst}
-use Rattle.std.proofs.lemmas.Bool.{cases_Bool}
+use Rattle.std.proofs.Common.{◌≡◌, ℕ, ◌==◌, ◌&&◌, Bool, true, false, cond, nat_eq, List, [], ◌∷◌, ◌++◌, codes, refl, ap}
 use lib.Pointwise.{pointwise}
 use Rattle.sc_model.specs.Bytes.{same_bytes}
 use Rattle.sc_model.specs.Token.{name_of}
-use Rattle.sc_model.specs.Lex.{expects_header, line_after, is_newline}
-use Rattle.sc_model.specs.declared.kind.Kind.{Kind}
+use Rattle.sc_model.specs.Lex.{expects_header}
 use Rattle.sc_lex.specs.declared.line.LineFront.{LineFront}
 use Rattle.sc_lex.specs.declared.line.LineFront.TheVariants.{Start, Hash, Include, Other}
 use Rattle.sc_lex.specs.Line.{front_of}

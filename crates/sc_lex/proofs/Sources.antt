@@ -1,9 +1,8 @@
 -- A source steps through the text that phase 1 makes of a file.
-use Rattle.std.proofs.Common.{◌≡◌, ℕ, zero, suc, ◌+◌, ◌<◌, ◌≤◌, ◌==◌, ◌&&◌, not, inl, inr, Bool, true, false, cond, List, [], ◌∷◌, length, map, drop, get_or, Option, Some, None, refl, sym, ap, ◌∙◌, subst, arith}
-use Rattle.std.proofs.lemmas.Bool.{cases_Bool, and_parts, and_left, and_right, eqb-true, eqb-false, eq-eqb, ne_eqb, true≢false}
+use Rattle.std.proofs.Common.{◌≡◌, ℕ, ◌+◌, ◌==◌, ◌&&◌, not, Bool, true, false, cond, List, [], ◌∷◌, drop, Option, Some, None, refl, sym, ap, ◌∙◌, subst, arith}
+use Rattle.std.proofs.lemmas.Bool.{and_parts, eqb-true}
 use Rattle.sc_model.specs.Bytes.{begins_with}
-use Rattle.sc_model.specs.Token.{Position}
-use Rattle.sc_model.specs.Lex.{Marked, marked_from, bytes_of, without_order_mark, without_returns, with_last_newline, phase_1}
+use Rattle.sc_model.specs.Lex.{Marked, marked_from, bytes_of, without_returns, with_last_newline, phase_1}
 use Rattle.sc_lex.specs.Source.{logical, Takes}
 use Rattle.sc_lex.proofs.Quotes.{eqb_comm}
 

@@ -1,5 +1,5 @@
 -- A file from some byte on, as the later phases of translation see it (C11 5.1.1.2, phase 1).
-use Rattle.std.specs.Prelude.{◌≡◌, ℕ, ◌+◌, ◌==◌, ◌&&◌, Bool, true, false, not, List, [], ◌∷◌, Option, Some, None, if◌then◌else◌}
+use Rattle.std.specs.Prelude.{◌≡◌, ℕ, ◌+◌, ◌==◌, ◌&&◌, Bool, true, false, List, [], ◌∷◌, Option, Some, None, if◌then◌else◌}
 use Rattle.sc_model.specs.Bytes.{begins_with}
 use Rattle.sc_model.specs.Lex.{Marked}
 

@@ -1,8 +1,8 @@
-use Rattle.std.proofs.Common.{◌≡◌, ℕ, ◌-◌, ◌<◌, ◌≤◌, List, [], ◌∷◌, ◌++◌, slice_get, Some, length, take, drop, ◌⊎◌, inl, inr, true, false, refl, sym, ap, ◌∙◌, subst, arith}
+use Rattle.std.proofs.Common.{◌≡◌, ℕ, ◌-◌, ◌<◌, List, [], ◌∷◌, ◌++◌, Some, length, take, drop, ◌⊎◌, inl, inr, true, false, refl, sym, ap, ◌∙◌, subst, arith}
 use Rattle.std.proofs.lemmas.List.{take_rest}
-use Rattle.sc_model.specs.Lex.{bytes_of, is_newline, line_after, IsLongest, IsUnended, is_white, expects_header}
+use Rattle.sc_model.specs.Lex.{bytes_of, is_newline, line_after, IsLongest, IsUnended, is_white}
 use Rattle.sc_lex.specs.declared.piece.Row.{Row}
-use Rattle.sc_lex.specs.declared.piece.Row.TheVariants.{Blank, Comment, Token}
+use Rattle.sc_lex.specs.declared.piece.Row.TheVariants.{Blank, Comment}
 use Rattle.sc_lex.specs.declared.line.LineFront.TheVariants.{Start}
 use Rattle.sc_base.proofs.Growth.{Extends-refl, Extends-trans}
 use Rattle.sc_lex.specs.Line.{front_of}

@@ -1,8 +1,7 @@
-use Rattle.std.proofs.Common.{◌≡◌, ℕ, ◌<◌, List, [], ◌∷◌, true, false, length, get_or, refl, arith}
-use Rattle.sc_model.specs.Lex.{Row, blank, comment, token, fits, fits_here, expects_header, is_header_row, IsLongest}
-use Rattle.sc_model.specs.declared.kind.Kind.TheVariants.{Identifier, Number, Character, Text, Header, Punctuator, Other, Newline}
+use Rattle.std.proofs.Common.{◌≡◌, ℕ, false, refl}
+use Rattle.sc_model.specs.Lex.{Row, blank, comment, token, fits, is_header_row}
+use Rattle.sc_model.specs.declared.kind.Kind.TheVariants.{Identifier, Number, Character, Text, Punctuator, Other, Newline}
 use Rattle.sc_lex.specs.Scan.{IsLongestFront}
-use Rattle.sc_lex.specs.Piece.{row_of, IsBestBefore}
 use Rattle.sc_lex.proofs.Best.{best_of_first, front_here, longest_of_best, one_byte_fits, some_byte}
 use Rattle.sc_lex.proofs.piece.longest.Goals as goal
 

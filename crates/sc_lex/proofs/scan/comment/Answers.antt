@@ -1,9 +1,9 @@
-use Rattle.std.proofs.Common.{◌≡◌, ◌<◌, true, false, [], ◌∷◌, length, take, drop, refl, arith, sym, ◌∙◌, subst, ap}
+use Rattle.std.proofs.Common.{[], ◌∷◌, take, arith, sym, ◌∙◌, subst, ap}
 use Rattle.std.proofs.lemmas.List.{take_rest}
 use Rattle.std.proofs.lemmas.Bool.{true≢false}
-use Rattle.sc_model.specs.Lex.{is_comment, comment_closes, has_no_newline}
+use Rattle.sc_model.specs.Lex.{comment_closes, has_no_newline}
 use Rattle.sc_lex.specs.Scan.{IsLongestFront}
-use Rattle.sc_lex.proofs.Quotes.{starts_with-is, line_comment, block_comment, no_comment, unended, ended_elsewhere}
+use Rattle.sc_lex.proofs.Quotes.{starts_with-is, line_comment, block_comment, no_comment, unended}
 use Rattle.sc_lex.proofs.scan.comment.Goals as goal
 
 pub returns-then-starts_with-clause-some : goal.returns-then-starts_with-clause-some

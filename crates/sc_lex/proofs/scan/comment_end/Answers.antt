@@ -1,4 +1,4 @@
-use Rattle.std.proofs.Common.{◌≡◌, true, false, refl, arith, subst, eq-eqb, ◌<◌}
+use Rattle.std.proofs.Common.{true, false, arith, subst, eq-eqb}
 use Rattle.sc_lex.specs.Scan.{IsLongestFront}
 use Rattle.sc_lex.proofs.Fronts.{Unmet, Unmet-met, at_place}
 use Rattle.sc_lex.proofs.Quotes.{closes_after, comment-found}

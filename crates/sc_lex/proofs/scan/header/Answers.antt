@@ -1,4 +1,4 @@
-use Rattle.std.proofs.Common.{sym, subst, ◌∙◌, max}
+use Rattle.std.proofs.Common.{sym, subst}
 use Rattle.sc_model.specs.Lex.{is_header, is_delimited}
 use Rattle.sc_lex.specs.Scan.{IsLongestFront}
 use Rattle.sc_lex.proofs.Fronts.{either}

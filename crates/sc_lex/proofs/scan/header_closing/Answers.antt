@@ -1,7 +1,7 @@
-use Rattle.std.proofs.Common.{◌≡◌, true, false, refl, arith, subst, eq-eqb, ne_eqb, ◌<◌}
+use Rattle.std.proofs.Common.{arith, eq-eqb, ne_eqb}
 use Rattle.sc_model.specs.Lex.{header_closes}
 use Rattle.sc_lex.specs.Scan.{IsLongestFront}
-use Rattle.sc_lex.proofs.Fronts.{IsStuck, Unmet, Unmet-met, Unmet-never, never_longest, at_place}
+use Rattle.sc_lex.proofs.Fronts.{IsStuck, Unmet-met, Unmet-never, never_longest, at_place}
 use Rattle.sc_lex.proofs.Quotes.{header-found, header-stops}
 use Rattle.sc_lex.proofs.scan.header_closing.Goals as goal
 

@@ -1,8 +1,8 @@
-use Rattle.std.proofs.Common.{◌≡◌, ◌<◌, ◌≤◌, ◌+◌, length, drop, refl, arith, ap, ◌∙◌, length-drop}
+use Rattle.std.proofs.Common.{◌<◌, ◌≤◌, ◌+◌, length, drop, refl, arith, ap, ◌∙◌, length-drop}
 use Rattle.std.proofs.lemmas.List.{take_rest}
 use Rattle.sc_model.specs.Lex.{goes_on}
 use Rattle.sc_lex.specs.Scan.{letter_length}
-use Rattle.sc_lex.proofs.Fronts.{Becomes, longest_where_stuck, IsStuck-end}
+use Rattle.sc_lex.proofs.Fronts.{longest_where_stuck, IsStuck-end}
 use Rattle.sc_lex.proofs.Names.{letter-steps, more_parts, last_part}
 use Rattle.sc_lex.proofs.scan.letters.Goals as goal
 use Rattle.sc_lex.proofs.scan.letters.Goals.{After-letter-part}

@@ -1,4 +1,4 @@
-use Rattle.std.proofs.Common.{refl, arith, sym, rules, ◌==◌}
+use Rattle.std.proofs.Common.{refl, rules, ◌==◌}
 use Rattle.sc_model.specs.Lex.{fits, token}
 use Rattle.sc_model.specs.declared.kind.Kind.TheVariants as kind
 use Rattle.sc_lex.proofs.Fronts.{one_byte}

@@ -1,4 +1,4 @@
-use Rattle.std.proofs.Common.{◌≡◌, ℕ, length, drop, false, arith, sym, subst, ◌∙◌}
+use Rattle.std.proofs.Common.{false, sym, subst, ◌∙◌}
 use Rattle.std.proofs.lemmas.List.{take_rest}
 use Rattle.sc_model.specs.Lex.{number_goes_on}
 use Rattle.sc_lex.specs.Scan.{IsLongestFront}

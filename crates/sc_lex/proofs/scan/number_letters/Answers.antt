@@ -1,4 +1,4 @@
-use Rattle.std.proofs.Common.{◌≡◌, ◌<◌, ◌≤◌, ◌+◌, Bool, length, drop, get_or, refl, arith, sym, ap, subst, ◌∙◌, length-drop, get_or-drop, add-zero}
+use Rattle.std.proofs.Common.{◌≡◌, ◌≤◌, ◌+◌, length, drop, get_or, refl, arith, sym, ap, subst, ◌∙◌, length-drop, get_or-drop, add-zero}
 use Rattle.std.proofs.lemmas.List.{take_rest}
 use Rattle.sc_model.specs.Lex.{number_goes_on, is_exponent}
 use Rattle.sc_lex.specs.Scan.{number_letter_length}

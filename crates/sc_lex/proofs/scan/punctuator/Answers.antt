@@ -1,4 +1,4 @@
-use Rattle.std.proofs.Common.{sym, ◌∙◌, arith, ◌≡◌}
+use Rattle.std.proofs.Common.{sym, ◌∙◌, arith}
 use Rattle.sc_lex.proofs.Punctuators.{longest_punctuator, above_three, above_two, above_one, above_none}
 use Rattle.sc_lex.proofs.scan.punctuator.Goals as goal
 
