@@ -1,5 +1,7 @@
 -- Tokens spell the same in a table that has grown.
 use Rattle.std.proofs.Common.{◌≡◌, ℕ, List, [], ◌∷◌, ◌++◌, map, Option, Some, None, slice_get, refl, sym, ap, ◌∙◌}
+use Rattle.std.specs.Prelude.{All}
+use Rattle.std.proofs.lemmas.Option.{slice_get_within}
 use Rattle.std.specs.Option.{option_map}
 use Rattle.std.specs.List.{AllByRecursion}
 use Rattle.std.proofs.lemmas.List.{map-append}
@@ -9,7 +11,7 @@ use Rattle.sc_model.specs.Token.{Lexeme, name_of}
 use Rattle.sc_model.specs.Growth.{Extends}
 use Rattle.sc_base.proofs.Growth.{Extends-keeps}
 use Rattle.sc_lex.specs.declared.token.Token.{Token}
-use Rattle.sc_lex.specs.Spell.{position_of, lexeme_at, Spell}
+use Rattle.sc_lex.specs.Spell.{position_of, lexeme_at, Spell, IsHeld}
 
 -- what one token is
 abbrev lexeme_of : Token → List ℕ → Lexeme
@@ -70,3 +72,19 @@ Spell-push {names} {file} {ls} {ts} l t spell is named placed = record {
   named = All-push (IsNamed names) ts t spell.named named;
   placed = All-push (λ t. t.place.file ≡ file) ts t spell.placed placed;
 }
+
+held : (names : List (List ℕ)) (ts : List Token) (ls : List Lexeme) → map (lexeme_at names) ts ≡ map (λ x. Some x) ls → AllByRecursion (IsNamed names) ts → AllByRecursion (IsHeld names) ts
+held names [] ls e all = tt
+held names (t ∷ ts) [] e all = cc
+held names (t ∷ ts) (l ∷ ls) e all =
+    let head : lexeme_at names t ≡ Some l = cc in
+    let tail : map (lexeme_at names) ts ≡ map (λ x. Some x) ls = cc in
+    let s = some_spelling names t (slice_get names t.spelling.0) l head in
+    (record {
+      name = slice_get_within names t.name.0 (name_of s.0) (all.0 ∙ ap (option_map name_of) s.1);
+      spelling = slice_get_within names t.spelling.0 s.0 s.1;
+    }, held names ts ls tail all.1)
+
+-- the table holds what the tokens are spelled with
+pub Spell-held : {names : List (List ℕ)} {file : FileId} {ls : List Lexeme} {ts : List Token} → Spell names file ls ts → All (IsHeld names) ts
+Spell-held {names} {file} {ls} {ts} spell = All-from_recursion (IsHeld names) ts (held names ts ls spell.each (recursion_from_All (IsNamed names) ts spell.named))

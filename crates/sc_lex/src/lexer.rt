@@ -1,8 +1,8 @@
-ghost use Rattle.std.specs.Prelude.{◌≡◌, Some, slice_get, IfOk, IfErr};
+ghost use Rattle.std.specs.Prelude.{◌≡◌, Some, slice_get, All, IfOk, IfErr};
 ghost use Rattle.sc_model.specs.Growth.{Extends, IsOneToOne};
 ghost use Rattle.sc_model.specs.Lex.{is_newline};
 ghost use Rattle.sc_model.specs.Token.{name_of};
-ghost use Rattle.sc_lex.specs.Spell.{position_of, lexeme_at, AreTokensOf, Refuses};
+ghost use Rattle.sc_lex.specs.Spell.{position_of, lexeme_at, IsHeld, AreTokensOf, Refuses};
 
 use crate::line::{LineFront, digraph};
 use crate::piece::{Row, longest};
@@ -19,6 +19,7 @@ pub fn tokens(
     names: &mut Names,
 ) -> Result<Vec<Token>, LexStop>
     ensures ok { IfOk result (λ ts. AreTokensOf names.new file bytes.now ts.items) }
+    ensures own { IfOk result (λ ts. All (IsHeld names.new) ts.items) }
     ensures err { IfErr result (Refuses file bytes.now) }
 
     // at every outcome

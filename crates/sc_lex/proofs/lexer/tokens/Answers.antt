@@ -12,6 +12,7 @@ use Rattle.sc_model.specs.Token.{name_of}
 use Rattle.sc_lex.specs.Spell.{position_of}
 use Rattle.sc_lex.specs.Piece.{row_of}
 use Rattle.sc_lex.proofs.Lexing.{LexedSoFar, nothing_yet, after_white, after_token, unended_here, all_lexed}
+use Rattle.sc_lex.proofs.Spells.{Spell-held}
 use Rattle.sc_lex.proofs.lexer.tokens.Goals as goal
 use Rattle.sc_lex.proofs.lexer.tokens.Goals.{After-longest, in-Blank, in-Token+in_ok-token-in-Token+in_ok-push-in-Token}
 
@@ -75,3 +76,6 @@ loop-offset-preserved c =
 
 pub returns-clause-ok : goal.returns-clause-ok
 returns-clause-ok c = all_lexed c.loop-offset.invariant.so_far (let len = c.len.ensures in let all = c.in_ok-text.text.ok.0 in let past = c.loop-offset-test.false in omega arith)
+
+pub returns-clause-own : goal.returns-clause-own
+returns-clause-own c = Spell-held c.loop-offset.invariant.so_far.spell
