@@ -1,2 +1,7 @@
+pub mod Line
+pub mod Logical
+pub mod Piece
+pub mod Scan
 pub mod Seen
+pub mod Source
 pub mod Spell

@@ -1,6 +1,8 @@
-ghost use Rattle.std.specs.Prelude.{IfOk, IfErr};
+ghost use Rattle.std.specs.Prelude.{◌≡◌, Some, slice_get, All, IfOk, IfErr};
 ghost use Rattle.sc_model.specs.Growth.{Extends, IsOneToOne};
-ghost use Rattle.sc_lex.specs.Spell.{AreTokensOf, Refuses};
+ghost use Rattle.sc_model.specs.Lex.{is_newline};
+ghost use Rattle.sc_model.specs.Token.{name_of};
+ghost use Rattle.sc_lex.specs.Spell.{position_of, lexeme_at, IsHeld, AreTokensOf, Refuses};
 
 use crate::line::{LineFront, digraph};
 use crate::piece::{Row, longest};
@@ -17,22 +19,23 @@ pub fn tokens(
     names: &mut Names,
 ) -> Result<Vec<Token>, LexStop>
     ensures ok { IfOk result (λ ts. AreTokensOf names.new file bytes.now ts.items) }
+    ensures own { IfOk result (λ ts. All (IsHeld names.new) ts.items) }
     ensures err { IfErr result (Refuses file bytes.now) }
 
     // at every outcome
     ensures grows { Extends names.old names.new }
-    ensures one_to_one { IsOneToOne names.new }
+    ensures one_to_one { IsOneToOne names.old → IsOneToOne names.new }
 {
     let text = Source::new(bytes).text(alloc)?;
     let mut source = Source::new(bytes);
     let mut tokens = Vec::new(alloc);
-    let mut line = LineFront::Start;
+    let mut front = LineFront::Start;
     let mut space = false;
     let mut offset = 0;
     while offset < text.len() {
         let place = source.place(file);
         let rest = &text[offset..];
-        let Some(piece) = longest(rest, line.expects_header()) else {
+        let Some(piece) = longest(rest, front.expects_header()) else {
             return Err(LexStop::Comment(place));
         };
         match piece.row {
@@ -40,14 +43,20 @@ pub fn tokens(
             Row::Token(kind) => {
                 let spelling = &rest[..piece.length];
                 tokens.push(token(names, kind, spelling, space, place)?)?;
-                line = line.after(kind, spelling);
-                space = kind == Kind::Newline;
+                front = front.after(kind, spelling);
+                space = is_newline(kind);
             }
         }
         source.advance(piece.length);
         offset += piece.length;
     }
     Ok(tokens)
+}
+
+fn is_newline(kind: Kind) -> bool
+    ensures { result ≡ is_newline kind }
+{
+    matches!(kind, Kind::Newline)
 }
 
 /// The token of this kind and spelling.
@@ -57,7 +66,17 @@ fn token(
     spelling: &[u8],
     space: bool,
     place: Place,
-) -> Result<Token, OutOfMemory> {
+) -> Result<Token, OutOfMemory>
+    ensures spelled { IfOk result (λ t. lexeme_at names.new t ≡ Some (record {
+        kind = kind; spelling = spelling.now; space = space; position = position_of place })) }
+    ensures named { IfOk result (λ t. slice_get names.new t.name.0 ≡ Some (name_of spelling.now)) }
+    ensures text { IfOk result (λ t. slice_get names.new t.spelling.0 ≡ Some spelling.now) }
+    ensures placed { IfOk result (λ t. t.place ≡ place) }
+
+    // at every outcome
+    ensures grows { Extends names.old names.new }
+    ensures one_to_one { IsOneToOne names.new }
+{
     let text = names.intern(spelling)?;
     let name = match digraph(spelling) {
         Some(name) => names.intern(name)?,

@@ -1,5 +1,5 @@
 //! From the bytes of a file to its tokens (C11 5.1.1.2 phases 1 and 3, and 6.4).
-#![tactic(auto)]
+#![tactic(auto, using(sc_base::proofs::Growth::growth))]
 
 mod lexer;
 mod line;

@@ -1,9 +1,12 @@
-ghost use Rattle.std.specs.Prelude.{◌≡◌, IfSome, IfNone, IsTrue, ◌↔◌};
+ghost use Rattle.std.specs.Prelude.{◌≡◌, ℕ, List, codes, IfSome, IfNone};
+ghost use Rattle.sc_model.specs.Bytes.{same_bytes};
+ghost use Rattle.sc_model.specs.Lex.{expects_header, line_after};
+ghost use Rattle.sc_model.specs.Token.{name_of};
 
 use sc_model::Kind;
 
 /// How much stands on a line of what a header name may follow: `#` and `include` at its start (C11 6.4p4).
-#[derive(Clone, Copy, PartialEq, Eq)]
+#[derive(Clone, Copy, Debug, PartialEq, Eq)]
 pub enum LineFront {
     Start,
     Hash,
@@ -12,35 +15,64 @@ pub enum LineFront {
 }
 
 impl LineFront {
+    ghost use Rattle.sc_lex.specs.Line.{front_of};
+
     /// A header name may come next.
-    pub fn expects_header(self) -> bool {
-        self == LineFront::Include
+    pub fn expects_header(self) -> bool
+        ensures { (line : List (List ℕ)) → front_of line ≡ self → expects_header line ≡ result }
+    {
+        matches!(self, LineFront::Include)
     }
 
     /// The line with one more token.
-    pub fn after(self, kind: Kind, spelling: &[u8]) -> LineFront {
+    pub fn after(self, kind: Kind, spelling: &[u8]) -> LineFront
+        ensures { (line : List (List ℕ)) → front_of line ≡ self
+            → front_of (line_after line kind spelling.now) ≡ result }
+    {
+        if matches!(kind, Kind::Newline) {
+            return LineFront::Start;
+        }
         match self {
-            _ if kind == Kind::Newline => LineFront::Start,
-            LineFront::Start if is_hash(spelling) => LineFront::Hash,
-            LineFront::Hash if spelling == b"include".as_slice() => LineFront::Include,
+            LineFront::Start if is(name_of(spelling), b"#") => LineFront::Hash,
+            LineFront::Hash if is(spelling, b"include") => LineFront::Include,
             _ => LineFront::Other,
         }
     }
 }
 
-fn is_hash(spelling: &[u8]) -> bool {
-    matches!(spelling, b"#" | b"%:")
+fn name_of(spelling: &[u8]) -> &[u8]
+    ensures { result.now ≡ name_of spelling.now }
+{
+    match digraph(spelling) {
+        Some(name) => name,
+        None => spelling,
+    }
 }
 
 /// What a digraph stands for (C11 6.4.6p3).
-pub fn digraph(spelling: &[u8]) -> Option<&'static [u8]> {
-    match spelling {
-        b"<:" => Some(b"["),
-        b":>" => Some(b"]"),
-        b"<%" => Some(b"{"),
-        b"%>" => Some(b"}"),
-        b"%:" => Some(b"#"),
-        b"%:%:" => Some(b"##"),
-        _ => None,
+pub fn digraph(spelling: &[u8]) -> Option<&'static [u8]>
+    ensures some { IfSome result (λ name. name_of spelling.now ≡ name.now) }
+    ensures none { IfNone result (name_of spelling.now ≡ spelling.now) }
+{
+    if is(spelling, b"<:") {
+        Some(b"[")
+    } else if is(spelling, b":>") {
+        Some(b"]")
+    } else if is(spelling, b"<%") {
+        Some(b"{")
+    } else if is(spelling, b"%>") {
+        Some(b"}")
+    } else if is(spelling, b"%:") {
+        Some(b"#")
+    } else if is(spelling, b"%:%:") {
+        Some(b"##")
+    } else {
+        None
     }
+}
+
+fn is(spelling: &[u8], text: &[u8]) -> bool
+    ensures { result ≡ same_bytes spelling.now text.now }
+{
+    spelling == text
 }

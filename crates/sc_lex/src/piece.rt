@@ -1,4 +1,8 @@
-ghost use Rattle.std.specs.Prelude.{◌≡◌};
+ghost use Rattle.std.specs.Prelude.{◌≡◌, ◌+◌, ◌<◌, ℕ, List, length, IfSome, IfNone};
+ghost use Rattle.sc_model.specs.Lex.{token, rank, fits_here, expects_header, IsLongest, IsUnended};
+ghost use Rattle.sc_model.specs.declared.kind.Kind.TheVariants as kind;
+ghost use Rattle.sc_lex.specs.Scan.{IsLongestFront};
+ghost use Rattle.sc_lex.specs.Piece.{row_of, IsBestBefore};
 
 use crate::scan;
 use sc_model::Kind;
@@ -20,7 +24,12 @@ pub struct Piece {
 
 impl Piece {
     /// The longer one, and of two just as long this one.
-    fn or_longer(self, row: Row, length: usize) -> Piece {
+    fn or_longer(self, row: Row, length: usize) -> Piece
+        ensures { (line : List (List ℕ)) (bytes : List ℕ) (bound : ℕ)
+            → IsBestBefore bound line bytes (row_of self.row) self.length → rank (row_of row) ≡ bound
+            → IsLongestFront (fits_here line (row_of row)) bytes length
+            → IsBestBefore (bound + 1) line bytes (row_of result.row) result.length }
+    {
         if self.length < length {
             Piece { row, length }
         } else {
@@ -29,13 +38,17 @@ impl Piece {
     }
 }
 
-/// The longest piece at the front of a text that is not empty. None comes where a comment without an end begins.
-pub fn longest(text: &[u8], expects_header: bool) -> Option<Piece> {
+/// The longest piece at the front of a text. None comes where a comment without an end begins.
+pub fn longest(text: &[u8], expects: bool) -> Option<Piece>
+    requires { 0 < length text.now }
+    ensures some { IfSome result (λ piece. (line : List (List ℕ)) → expects_header line ≡ expects
+        → IsLongest line text.now (row_of piece.row) piece.length) }
+    ensures none { IfNone result (IsUnended text.now) }
+{
     let comment = scan::comment(text)?;
-    let header = if expects_header { scan::header(text) } else { 0 };
     let best = Piece {
         row: Row::Token(Kind::Header),
-        length: header,
+        length: header(text, expects),
     };
     Some(
         best.or_longer(Row::Blank, scan::blank(text))
@@ -48,4 +61,12 @@ pub fn longest(text: &[u8], expects_header: bool) -> Option<Piece> {
             .or_longer(Row::Token(Kind::Punctuator), scan::punctuator(text))
             .or_longer(Row::Token(Kind::Other), 1),
     )
+}
+
+/// A header name, where one may stand.
+fn header(text: &[u8], expects: bool) -> usize
+    ensures { (line : List (List ℕ)) → expects_header line ≡ expects
+        → IsLongestFront (fits_here line (token kind.Header)) text.now result }
+{
+    if expects { scan::header(text) } else { 0 }
 }

@@ -1,4 +1,7 @@
-ghost use Rattle.std.specs.Prelude.{◌≡◌, ◌+◌, ◌^◌, ◌<◌, ◌∷◌, [], length, drop, IfSome, IfNone, IfOk};
+ghost use Rattle.std.specs.Prelude.{◌≡◌, ◌+◌, ◌^◌, ◌<◌, [], ◌∷◌, false, List, length, drop, IfOk};
+ghost use Rattle.sc_model.specs.Bytes.{begins_with};
+ghost use Rattle.sc_model.specs.Lex.{Marked, phase_1, bytes_of};
+ghost use Rattle.sc_lex.specs.Source.{Takes};
 
 use sc_base::{FileId, OutOfMemory, Place};
 use std::alloc::Global;
@@ -17,33 +20,36 @@ pub struct Source<'a> {
 }
 
 impl<'a> Source<'a> {
-    ghost use Rattle.std.specs.Prelude.{List};
-    ghost use Rattle.sc_model.specs.Lex.{phase_1, bytes_of};
-    ghost use Rattle.sc_lex.specs.Source.{logical};
     ghost use Rattle.sc_lex.specs.Logical.{logical_of};
+    ghost use Rattle.sc_lex.specs.Spell.{position_of};
 
     /// A whole file.
     pub fn new(bytes: &'a [u8]) -> Source<'a>
         ensures { logical_of result ≡ phase_1 bytes.now }
     {
-        match bytes {
-            [0xef, 0xbb, 0xbf, rest @ ..] => Source {
-                rest,
+        if bytes.starts_with(b"\xef\xbb\xbf") {
+            return Source {
+                rest: &bytes[3..],
                 line: 1,
                 column: 4,
                 wanted: false,
-            },
-            _ => Source {
-                rest: bytes,
-                line: 1,
-                column: 1,
-                wanted: false,
-            },
+            };
+        }
+        Source {
+            rest: bytes,
+            line: 1,
+            column: 1,
+            wanted: false,
         }
     }
 
     /// Where the next byte stands.
-    pub fn place(&mut self, file: FileId) -> Place {
+    pub fn place(&mut self, file: FileId) -> Place
+        ensures same { logical_of self.new ≡ logical_of self.old }
+        ensures in_file { result.file ≡ file }
+        ensures first { (m : Marked) (ms : List Marked)
+            → logical_of self.old ≡ m ∷ ms → m.position ≡ position_of result }
+    {
         self.skip_return();
         Place {
             file,
@@ -53,8 +59,11 @@ impl<'a> Source<'a> {
     }
 
     /// Steps over a carriage return before a newline.
-    fn skip_return(&mut self) {
-        if let [b'\r', b'\n', ..] = self.rest {
+    fn skip_return(&mut self)
+        ensures same { logical_of self.new ≡ logical_of self.old }
+        ensures none { begins_with (13 ∷ 10 ∷ []) self.new.rest.now ≡ false }
+    {
+        if self.rest.starts_with(b"\r\n") {
             self.rest = &self.rest[1..];
             self.column += 1;
             self.wanted = true;
@@ -62,37 +71,40 @@ impl<'a> Source<'a> {
     }
 
     /// Takes the next byte.
-    fn next(&mut self) -> Option<u8> {
+    fn next(&mut self) -> Option<u8>
+        ensures { Takes (logical_of self.old) result (logical_of self.new) }
+    {
         self.skip_return();
-        match self.rest {
-            [] if self.wanted => {
-                self.wanted = false;
-                Some(b'\n')
-            }
-            [] => None,
-            [b, rest @ ..] => {
-                self.rest = rest;
-                self.wanted = *b != b'\n';
-                if self.wanted {
-                    self.column += 1;
-                } else {
-                    self.line += 1;
-                    self.column = 1;
-                }
-                Some(*b)
-            }
+        if self.rest.is_empty() {
+            let wanted = self.wanted;
+            self.wanted = false;
+            return wanted.then_some(b'\n');
         }
+        let b = self.rest[0];
+        self.rest = &self.rest[1..];
+        self.wanted = b != b'\n';
+        if self.wanted {
+            self.column += 1;
+        } else {
+            self.line += 1;
+            self.column = 1;
+        }
+        Some(b)
     }
 
     /// Steps over so many bytes.
-    pub fn advance(&mut self, count: usize) {
+    pub fn advance(&mut self, count: usize)
+        ensures { logical_of self.new ≡ drop count (logical_of self.old) }
+    {
         for _ in 0..count {
             let _ = self.next();
         }
     }
 
     /// All the bytes.
-    pub fn text(mut self, alloc: Global) -> Result<Vec<u8>, OutOfMemory> {
+    pub fn text(mut self, alloc: Global) -> Result<Vec<u8>, OutOfMemory>
+        ensures { IfOk result (λ text. text.items ≡ bytes_of (logical_of self.entry)) }
+    {
         let mut text = Vec::with_capacity(alloc, self.rest.len() + 1)?;
         while let Some(b) = self.next() {
             text.push(b)?;

@@ -1,3 +1,5 @@
+ghost use Rattle.sc_lex.specs.Spell.{IsHeld};
+
 use super::*;
 use sc_base::{FileId, Names};
 use std::alloc::Global;
@@ -40,32 +42,40 @@ const ROWS: [(&[u8], &[u8]); 32] = [
     (b"'\"' \"'\" L\"L'\"'\\\"'", b"Character 1:1 '\"'|Text~ 1:5 \"'\"|Text~ 1:9 L\"L'\"|Character 1:14 '\\\"'|Newline 1:18 \n|"),
 ];
 
-/// The tokens as the table shows them.
+/// A token as the table shows it.
+fn show(alloc: Global, names: &Names, t: &Token, out: &mut Vec<u8>) -> Result<(), Fail>
+    requires { IsHeld names.now t.now }
+{
+    let kind = t.kind;
+    let space = if t.space { "~" } else { "" };
+    let line = t.place.line;
+    let column = t.place.column;
+    out.extend_from_slice(format!(in alloc; "{kind:?}{space} {line}:{column} ")?.as_bytes())?;
+    out.extend_from_slice(names.text(t.spelling))?;
+    if t.name != t.spelling {
+        out.extend_from_slice(b" = ")?;
+        out.extend_from_slice(names.text(t.name))?;
+    }
+    out.push(b'|')?;
+    Ok(())
+}
+
+/// The tokens of a file as the table shows them.
 fn shown(alloc: Global, bytes: &[u8]) -> Result<Vec<u8>, Fail> {
     let mut names = Names::new(alloc)?;
     let mut out = Vec::new(alloc);
-    let found = match tokens(alloc, FileId(0), bytes, &mut names) {
-        Ok(found) => found,
+    match tokens(alloc, FileId(0), bytes, &mut names) {
+        Ok(found) => {
+            for t in found.iter() {
+                show(alloc, &names, t, &mut out)?;
+            }
+        }
         Err(LexStop::Comment(place)) => {
             let line = place.line;
             let column = place.column;
             out.extend_from_slice(format!(in alloc; "! {line}:{column}")?.as_bytes())?;
-            return Ok(out);
         }
         Err(LexStop::OutOfMemory) => return Err(Fail::from(LexStop::OutOfMemory)),
-    };
-    for t in found.iter() {
-        let kind = t.kind;
-        let space = if t.space { "~" } else { "" };
-        let line = t.place.line;
-        let column = t.place.column;
-        out.extend_from_slice(format!(in alloc; "{kind:?}{space} {line}:{column} ")?.as_bytes())?;
-        out.extend_from_slice(names.text(t.spelling))?;
-        if t.name != t.spelling {
-            out.extend_from_slice(b" = ")?;
-            out.extend_from_slice(names.text(t.name))?;
-        }
-        out.push(b'|')?;
     }
     Ok(out)
 }

@@ -32,7 +32,7 @@ row_at-rank (token Punctuator) = refl
 row_at-rank (token Other) = refl
 row_at-rank (token Newline) = refl
 
-same_rank : (r s : Row) → rank r ≡ rank s → r ≡ s
+pub same_rank : (r s : Row) → rank r ≡ rank s → r ≡ s
 same_rank r s e = sym (row_at-rank r) ∙ (ap row_at e ∙ row_at-rank s)
 
 pub same_length : {line : List (List ℕ)} {bytes : List ℕ} {r s : Row} {n m : ℕ} → IsLongest line bytes r n → IsLongest line bytes s m → n ≡ m

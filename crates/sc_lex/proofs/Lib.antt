@@ -1,0 +1,9 @@
+pub mod Best
+pub mod Fronts
+pub mod Lexing
+pub mod Lines
+pub mod Names
+pub mod Punctuators
+pub mod Quotes
+pub mod Sources
+pub mod Spells

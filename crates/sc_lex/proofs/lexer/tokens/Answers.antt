@@ -1,0 +1,81 @@
+use Rattle.std.proofs.Common.{◌≡◌, ℕ, ◌-◌, ◌<◌, List, [], ◌∷◌, ◌++◌, Some, length, take, drop, ◌⊎◌, inl, inr, true, false, refl, sym, ap, ◌∙◌, subst, arith}
+use Rattle.std.proofs.lemmas.List.{take_rest}
+use Rattle.sc_model.specs.Lex.{bytes_of, is_newline, line_after, IsLongest, IsUnended, is_white}
+use Rattle.sc_lex.specs.declared.piece.Row.{Row}
+use Rattle.sc_lex.specs.declared.piece.Row.TheVariants.{Blank, Comment}
+use Rattle.sc_lex.specs.declared.line.LineFront.TheVariants.{Start}
+use Rattle.sc_base.proofs.Growth.{Extends-refl, Extends-trans}
+use Rattle.sc_lex.specs.Line.{front_of}
+use Rattle.sc_lex.specs.Logical.{logical_of}
+use Rattle.std.specs.Option.{option_map}
+use Rattle.sc_model.specs.Token.{name_of}
+use Rattle.sc_lex.specs.Spell.{position_of}
+use Rattle.sc_lex.specs.Piece.{row_of}
+use Rattle.sc_lex.proofs.Lexing.{LexedSoFar, nothing_yet, after_white, after_token, unended_here, all_lexed}
+use Rattle.sc_lex.proofs.Spells.{Spell-held}
+use Rattle.sc_lex.proofs.lexer.tokens.Goals as goal
+use Rattle.sc_lex.proofs.lexer.tokens.Goals.{After-longest, in-Blank, in-Token+in_ok-token-in-Token+in_ok-push-in-Token}
+
+-- there are bytes left
+some_left : (c : After-longest) → c.loop-offset.offset < length c.in_ok-text.text.items
+some_left c = let len = c.len.ensures in let all = c.in_ok-text.text.ok.0 in omega arith
+
+-- what `longest` is given
+rest_is : (c : After-longest) → take (length c.deref.result.now - c.loop-offset.offset) (drop c.loop-offset.offset c.deref.result.now) ≡ drop c.loop-offset.offset c.in_ok-text.text.items
+rest_is c = take_rest c.deref.result.now c.loop-offset.offset ∙ ap (drop c.loop-offset.offset) c.deref.ensures.value
+
+is_white_piece : (row : Row) → (row ≡ Blank) ⊎ (row ≡ Comment) → is_white (row_of row) ≡ true
+is_white_piece row (inl e) = ap (λ r. is_white (row_of r)) e
+is_white_piece row (inr e) = ap (λ r. is_white (row_of r)) e
+
+pub loop-offset-init : goal.loop-offset-init
+loop-offset-init c = record {
+  so_far = subst (λ ts. LexedSoFar c.args.names.now c.args.file c.args.bytes.now c.in_ok-text.text.items Start false (logical_of c.new-source.result) 0 ts) (sym c.new-tokens.ensures.items)
+      (nothing_yet c.args.names.now c.args.file c.args.bytes.now c.in_ok-text.text.items Start (logical_of c.new-source.result) refl c.new-source.ensures (c.in_ok-text.ensures ∙ ap bytes_of c.new.ensures));
+  grows = Extends-refl c.args.names.now;
+  one_to_one = λ one. one;
+}
+
+pub returns-in_default-clause-err : goal.returns-in_default-clause-err
+returns-in_default-clause-err c =
+    let d = (goal.at.returns-in_default-clause-err c).After-longest in
+    unended_here c.loop-offset.invariant.so_far c.place-place.result (some_left d) c.place-place.ensures.first (subst IsUnended (rest_is d) c.in_default.ensures.none) c.place-place.ensures.in_file
+
+pub loop-offset-preserved : goal.loop-offset-preserved
+loop-offset-preserved c =
+    let d = (goal.at.loop-offset-preserved c).After-longest in
+    let so = c.loop-offset.invariant.so_far in
+    let next = c.advance.ensures ∙ ap (drop c.in-Some.piece.length) c.place-place.ensures.same in
+    let longest = λ (line : List (List ℕ)) (f : front_of line ≡ c.loop-offset.front). subst (λ bs. IsLongest line bs (row_of c.in-Some.piece.row) c.in-Some.piece.length) (rest_is d) (c.in-Some.ensures.some line (c.expects_header.ensures line f)) in
+    elim c.match-piece.branch [
+      | in-Blank w ↦ record {
+        so_far = rw (w.names-is, w.tokens-is, w.front-is, w.space-is) (after_white so (row_of c.in-Some.piece.row) c.in-Some.piece.length _ (some_left d) (is_white_piece c.in-Some.piece.row w.in-Blank.is) longest next);
+        grows = rw w.names-is c.loop-offset.invariant.grows;
+        one_to_one = rw w.names-is c.loop-offset.invariant.one_to_one;
+      }
+      | in-Token+in_ok-token-in-Token+in_ok-push-in-Token w ↦ record {
+        so_far =
+          let t = w.in_ok-token-in-Token.field-0 in
+          let n = c.in-Some.piece.length in
+          let kind = w.in-Token.kind in
+          let made = w.in_ok-token-in-Token.ensures in
+          let items : c.match-piece.tokens.items ≡ c.loop-offset.tokens.items ++ t ∷ [] = ap (λ v. v.items) w.tokens-is ∙ w.in_ok-push-in-Token.ensures.items in
+          let space : c.match-piece.space ≡ is_newline kind = w.space-is ∙ w.is_newline-space.ensures in
+          rw (w.names-is, items, w.front-is, space)
+          (after_token so w.token.new.names t kind n c.place-place.result _ w.after-front.result (some_left d)
+            (λ line f. subst (λ row. IsLongest line (drop c.loop-offset.offset c.in_ok-text.text.items) (row_of row) n) w.in-Token.is (longest line f))
+            (λ line f. subst (λ bs. front_of (line_after line kind (take n bs)) ≡ w.after-front.result) (rest_is d) (w.after-front.ensures line f))
+            c.place-place.ensures.first next w.token.ensures.grows
+            (made.spelled ∙ ap (λ bs. Some (record { kind = kind; spelling = take n bs; space = c.loop-offset.space; position = position_of c.place-place.result })) (rest_is d))
+            (made.named ∙ sym (ap (option_map name_of) made.text))
+            (ap (λ p. p.file) made.placed ∙ c.place-place.ensures.in_file));
+        grows = rw w.names-is (Extends-trans c.loop-offset.invariant.grows w.token.ensures.grows);
+        one_to_one = rw w.names-is (λ one. w.token.ensures.one_to_one);
+      }
+    ]
+
+pub returns-clause-ok : goal.returns-clause-ok
+returns-clause-ok c = all_lexed c.loop-offset.invariant.so_far (let len = c.len.ensures in let all = c.in_ok-text.text.ok.0 in let past = c.loop-offset-test.false in omega arith)
+
+pub returns-clause-own : goal.returns-clause-own
+returns-clause-own c = Spell-held c.loop-offset.invariant.so_far.spell

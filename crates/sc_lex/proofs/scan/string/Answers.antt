@@ -1,0 +1,18 @@
+use Rattle.std.proofs.Common.{ℕ, Bool, false, ◌||◌, List, [], ◌∷◌, take}
+use Rattle.sc_model.specs.Lex.{is_quoted, is_text}
+use Rattle.sc_lex.proofs.Fronts.{IsLongestFront-same, longer}
+use Rattle.sc_lex.proofs.Quotes.{behind, five_tests}
+use Rattle.sc_lex.proofs.scan.string.Goals as goal
+
+abbrev after : List ℕ → List ℕ → Bool
+after prefix = behind prefix (is_quoted 34 false)
+
+pub returns : goal.returns
+returns c =
+    let bs = c.args.text.now in
+    let two = longer (after []) (after (117 ∷ 56 ∷ [])) bs _ _ _ c.max.ensures c.prefixed.ensures c.prefixed-2.ensures in
+    let three = longer (λ xs. after [] xs || after (117 ∷ 56 ∷ []) xs) (after (117 ∷ [])) bs _ _ _ c.max-2.ensures two c.prefixed-3.ensures in
+    let four = longer (λ xs. (after [] xs || after (117 ∷ 56 ∷ []) xs) || after (117 ∷ []) xs) (after (85 ∷ [])) bs _ _ _ c.max-3.ensures three c.prefixed-4.ensures in
+    let five = longer (λ xs. ((after [] xs || after (117 ∷ 56 ∷ []) xs) || after (117 ∷ []) xs) || after (85 ∷ []) xs) (after (76 ∷ [])) bs _ _ _ c.max-4.ensures four c.prefixed-5.ensures in
+    IsLongestFront-same is_text (λ xs. (((after [] xs || after (117 ∷ 56 ∷ []) xs) || after (117 ∷ []) xs) || after (85 ∷ []) xs) || after (76 ∷ []) xs) bs _
+    (λ m positive. five_tests (after [] (take m bs)) (after (117 ∷ 56 ∷ []) (take m bs)) (after (117 ∷ []) (take m bs)) (after (85 ∷ []) (take m bs)) (after (76 ∷ []) (take m bs))) five
