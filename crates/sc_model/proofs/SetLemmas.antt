@@ -177,4 +177,4 @@ module _ {old new : Sets} {a v k b : ℕ} where
   }
 
 -- for the `using` of a function that makes several conditions
-pub ruleset conditions = (Keeps-refl, Keeps-trans, IsCond-Keeps, DependsFrom-Keeps, IsTop-Keeps, IsNever-Keeps, IsAlways-Keeps)
+pub ruleset conditions = (Keeps-refl, Keeps-trans, IsCond-Keeps, Denotes-Keeps, DependsFrom-Keeps)

@@ -10,6 +10,9 @@ tree_size-requires g t c κs within =
       (within, (c.in_ok-child.ensures.own, (c.in_ok-child.ensures.later c.loop-option.invariant.later, c.part.ensures.keeps.arities ∙ c.loop-option.invariant.keeps.arities ∙ c.requires.arities))),
     )
 
+pub returns-in_err-child : goal.returns-in_err-child
+returns-in_err-child g t c = record { keeps = Keeps-trans c.loop-option.invariant.keeps c.in_err-child.ensures.keeps }
+
 pub returns-in_err-tree_size : goal.returns-in_err-tree_size
 returns-in_err-tree_size g t c = record {
   keeps = Keeps-trans c.loop-option.invariant.keeps (Keeps-trans c.part.ensures.keeps c.in_err-tree_size.ensures.keeps);
