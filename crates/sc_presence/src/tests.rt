@@ -20,7 +20,7 @@ fn without<C: Conditions>(conds: &mut C, a: Cond, b: Cond) -> Result<Cond, OutOf
     conds.apply_and(a, others)
 }
 
-/// Counts the leaves of the decision tree below a condition that depends on no variable before `from`.
+/// Counts the nodes and the leaves of the decision tree below a condition that depends on no variable before `from`.
 fn tree_size<C: Conditions>(
     conds: &mut C,
     arities: &[usize],
@@ -138,7 +138,7 @@ fn checks_composites<C: Conditions>(
     assert_eq!(rt; config, [0, 2, 0]);
     assert!(rt; !conds.example(conds.never(), &mut config));
     assert_eq!(rt; config, [0, 2, 0]);
-    assert_eq!(rt; tree_size(conds, &[2, 3, 1], difference, 0)?, 4);
+    assert_eq!(rt; tree_size(conds, &[2, 3, 1], difference, 0)?, 6);
     Ok(())
 }
 
