@@ -176,5 +176,27 @@ module _ {old new : Sets} {a v k b : ℕ} where
         from.free u (omega (arith, found.other)) found.whole;
   }
 
+-- a part stays one as the store grows
+pub IsPart-Keeps : {old mid new : Sets} {a v k b : ℕ} → IsPart old mid a v k b → Keeps old mid → IsCond mid b → Keeps mid new → IsPart old new a v k b
+IsPart-Keeps {old} {mid} {new} {a} {v} {k} {b} part keeps own later = record {
+  own = part.own;
+  within = part.within;
+  in_range = part.in_range;
+  at = λ c listed. later.at b c own (IsConfig-Keeps keeps listed) ∙ part.at c listed;
+}
+
+-- the parts at a variable on which the condition depends are not all the same
+pub parts_differ : {old new : Sets} {a v : ℕ} (b : ℕ → ℕ) (j : ℕ) → Keeps old new → DependsOn old a v → ((k : ℕ) → k < slice_index old.arities v → IsPart old new a v k (b k))
+    → ((k : ℕ) → k < slice_index old.arities v → IsSame new (b k) (b j)) → ⊥
+parts_differ {old} {new} {a} {v} b j keeps depends parts same =
+    let c = depends.config in
+    let o = depends.option in
+    let x = slice_index c v in
+    let low : x < slice_index old.arities v = depends.listed.each v depends.within in
+    let listed = IsConfig-Keeps keeps depends.listed in
+    let here = has-IsPart (parts x low) c depends.listed refl in
+    let there = (parts o depends.in_range).at c depends.listed in
+    depends.changes (sym here ∙ (same x low).at c listed ∙ sym ((same o depends.in_range).at c listed) ∙ there)
+
 -- for the `using` of a function that makes several conditions
 pub ruleset conditions = (Keeps-refl, Keeps-trans, IsCond-Keeps, Denotes-Keeps, DependsFrom-Keeps)

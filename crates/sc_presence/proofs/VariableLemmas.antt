@@ -59,10 +59,14 @@ IsConfig-cleared {ns} (suc v) some within listed = IsConfig-set v 0 (IsConfig-cl
 value-Repeats : (row : List Bool) (stride arity x t : ℕ) → stride * arity ≤ length row → x < arity → t < stride → Repeats stride (take (stride * arity) row) → value_at row (x * stride + t) ≡ value_at row t
 value-Repeats row stride arity x t within option low repeats =
     let n = stride * arity in
-    let place : x * stride + t < n = mul-add-lt x stride t arity option low in
+    let p = x * stride + t in
+    let place : p < n = mul-add-lt x stride t arity option low in
     let all = length-take-le n row within in
-    let alike = rw (mod-mul-add x stride t low) at (repeats.alike (x * stride + t) (omega (arith, all))) in
-    sym (get_or-take n row (x * stride + t) false place) ∙ alike ∙ get_or-take n row t false (omega arith)
+    let first : p % stride ≡ t = mod-mul-add x stride t low in
+    elim (cases_lt p stride) [
+      | inl inside ↦ ap (value_at row) (sym (mod-eq_of_lt inside) ∙ first)
+      | inr above ↦ sym (get_or-take n row p false place) ∙ repeats.alike p above (omega (arith, all)) ∙ ap (value_at (take n row)) first ∙ get_or-take n row t false (omega arith)
+    ]
 
 module _ (s : Sets) (a : ℕ) (row : List Bool) (some : HasOptions s.arities) (is : IsRowOf s a s.arities row) where
   -- options before the first variable on which the condition depends make no difference
