@@ -108,13 +108,13 @@ stable false true h = absurd (h (λ e. absurd (false≢true e)))
 -- the option of a variable on which the condition does not depend makes no difference
 pub has-DependsFrom : {s : Sets} {a n : ℕ} (c : List ℕ) (v k : ℕ) → DependsFrom s a n → v < n → IsConfig s.arities c → v < length s.arities → k < slice_index s.arities v → s.has a (slice_set c v k) ≡ s.has a c
 has-DependsFrom {s} {a} c v k from below listed within in_range = stable _ _ (λ differ. from.free v below (record {
-    config = c;
-    option = k;
-    listed = listed;
-    within = within;
-    in_range = in_range;
-    changes = λ same. differ (sym same);
-  }))
+  config = c;
+  option = k;
+  listed = listed;
+  within = within;
+  in_range = in_range;
+  changes = λ same. differ (sym same);
+}))
 
 -- a condition that depends on a variable is not never, and not always
 pub IsNever-DependsOn : {s : Sets} {a v : ℕ} → DependsOn s a v → IsNever s a → ⊥

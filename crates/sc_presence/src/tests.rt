@@ -83,11 +83,20 @@ fn checks_choices<C: Conditions>(
     requires { (C.sets conds.old).arities ≡ 2 ∷ 3 ∷ 1 ∷ [] }
 {
     let all = [(0, 0), (0, 1), (0, 2), (1, 0), (1, 1), (1, 2)];
-    assert_eq!(rt; listed(alloc, conds, conds.always())?.as_slice(), all.as_slice());
+    assert_eq!(rt;
+        listed(alloc, conds, conds.always())?.as_slice(),
+        all.as_slice()
+    );
     assert_eq!(rt; listed(alloc, conds, conds.never())?.len(), 0);
     let (one, two) = two_choices(conds)?;
-    assert_eq!(rt; listed(alloc, conds, one)?.as_slice(), [(1, 0), (1, 1), (1, 2)].as_slice());
-    assert_eq!(rt; listed(alloc, conds, two)?.as_slice(), [(0, 2), (1, 2)].as_slice());
+    assert_eq!(rt;
+        listed(alloc, conds, one)?.as_slice(),
+        [(1, 0), (1, 1), (1, 2)].as_slice()
+    );
+    assert_eq!(rt;
+        listed(alloc, conds, two)?.as_slice(),
+        [(0, 2), (1, 2)].as_slice()
+    );
     assert_eq!(rt; conds.top(two), Some(1));
     assert_eq!(rt; conds.top(conds.always()), None);
     Ok(())
@@ -104,9 +113,15 @@ fn checks_operations<C: Conditions>(
     let both = conds.apply_and(one, two)?;
     assert_eq!(rt; listed(alloc, conds, both)?.as_slice(), [(1, 2)].as_slice());
     let either = conds.apply_or(one, two)?;
-    assert_eq!(rt; listed(alloc, conds, either)?.as_slice(), [(0, 2), (1, 0), (1, 1), (1, 2)].as_slice());
+    assert_eq!(rt;
+        listed(alloc, conds, either)?.as_slice(),
+        [(0, 2), (1, 0), (1, 1), (1, 2)].as_slice()
+    );
     let neither = conds.negate(either)?;
-    assert_eq!(rt; listed(alloc, conds, neither)?.as_slice(), [(0, 0), (0, 1)].as_slice());
+    assert_eq!(rt;
+        listed(alloc, conds, neither)?.as_slice(),
+        [(0, 0), (0, 1)].as_slice()
+    );
     Ok(())
 }
 

@@ -1,11 +1,10 @@
-use Rattle.std.proofs.Common.{rules, arith, ◌≤◌, ◌∙◌}
+use Rattle.std.proofs.Common.{rules, ◌≤◌, ◌∙◌}
 use Rattle.sc_model.proofs.SetLemmas.{Keeps-trans, DependsFrom-Keeps, le-IsTop}
 use Rattle.sc_presence.proofs.tests.+tree_size.Goals as goal
 
 pub tree_size-requires : goal.tree_size-requires
 tree_size-requires g t c κs within =
-    let ahead : c.args.from ≤ c.in-Some.variable = le-IsTop c.in-Some.ensures.some c.requires.from in
-    (
+    let ahead : c.args.from ≤ c.in-Some.variable = le-IsTop c.in-Some.ensures.some c.requires.from in (
       search rules,
       (within, (c.in_ok-child.ensures.own, (c.in_ok-child.ensures.later c.loop-option.invariant.later, c.part.ensures.keeps.arities ∙ c.loop-option.invariant.keeps.arities ∙ c.requires.arities))),
     )
