@@ -108,13 +108,13 @@ stable false true h = absurd (h (λ e. absurd (false≢true e)))
 -- the option of a variable on which the condition does not depend makes no difference
 pub has-DependsFrom : {s : Sets} {a n : ℕ} (c : List ℕ) (v k : ℕ) → DependsFrom s a n → v < n → IsConfig s.arities c → v < length s.arities → k < slice_index s.arities v → s.has a (slice_set c v k) ≡ s.has a c
 has-DependsFrom {s} {a} c v k from below listed within in_range = stable _ _ (λ differ. from.free v below (record {
-    config = c;
-    option = k;
-    listed = listed;
-    within = within;
-    in_range = in_range;
-    changes = λ same. differ (sym same);
-  }))
+  config = c;
+  option = k;
+  listed = listed;
+  within = within;
+  in_range = in_range;
+  changes = λ same. differ (sym same);
+}))
 
 -- a condition that depends on a variable is not never, and not always
 pub IsNever-DependsOn : {s : Sets} {a v : ℕ} → DependsOn s a v → IsNever s a → ⊥
@@ -176,5 +176,27 @@ module _ {old new : Sets} {a v k b : ℕ} where
         from.free u (omega (arith, found.other)) found.whole;
   }
 
+-- a part stays one as the store grows
+pub IsPart-Keeps : {old mid new : Sets} {a v k b : ℕ} → IsPart old mid a v k b → Keeps old mid → IsCond mid b → Keeps mid new → IsPart old new a v k b
+IsPart-Keeps {old} {mid} {new} {a} {v} {k} {b} part keeps own later = record {
+  own = part.own;
+  within = part.within;
+  in_range = part.in_range;
+  at = λ c listed. later.at b c own (IsConfig-Keeps keeps listed) ∙ part.at c listed;
+}
+
+-- the parts at a variable on which the condition depends are not all the same
+pub parts_differ : {old new : Sets} {a v : ℕ} (b : ℕ → ℕ) (j : ℕ) → Keeps old new → DependsOn old a v → ((k : ℕ) → k < slice_index old.arities v → IsPart old new a v k (b k))
+    → ((k : ℕ) → k < slice_index old.arities v → IsSame new (b k) (b j)) → ⊥
+parts_differ {old} {new} {a} {v} b j keeps depends parts same =
+    let c = depends.config in
+    let o = depends.option in
+    let x = slice_index c v in
+    let low : x < slice_index old.arities v = depends.listed.each v depends.within in
+    let listed = IsConfig-Keeps keeps depends.listed in
+    let here = has-IsPart (parts x low) c depends.listed refl in
+    let there = (parts o depends.in_range).at c depends.listed in
+    depends.changes (sym here ∙ (same x low).at c listed ∙ sym ((same o depends.in_range).at c listed) ∙ there)
+
 -- for the `using` of a function that makes several conditions
-pub ruleset conditions = (Keeps-refl, Keeps-trans, IsCond-Keeps, DependsFrom-Keeps, IsTop-Keeps, IsNever-Keeps, IsAlways-Keeps)
+pub ruleset conditions = (Keeps-refl, Keeps-trans, IsCond-Keeps, Denotes-Keeps, DependsFrom-Keeps)

@@ -1,21 +1,20 @@
 -- Rows that are kept once each, and the sets that they make.
-use Rattle.std.proofs.Common.{◌≡◌, ℕ, zero, suc, ◌+◌, ◌<◌, ◌≤◌, Bool, true, false, ◌||◌, not, List, [], ◌∷◌, ◌++◌, map, length, slice_get, slice_index_or, get_or, replicate, Some, Contains, ◌⊎◌, inl, inr, if◌then◌else◌, refl, sym, ap, subst, ◌∙◌, arith}
+use Rattle.std.proofs.Common.{◌≡◌, ℕ, zero, suc, ◌<◌, Bool, true, false, ◌||◌, List, [], ◌∷◌, ◌++◌, map, length, slice_get, get_or, replicate, Some, Contains, inl, inr, if◌then◌else◌, refl, sym, ap, subst, ◌∙◌, arith}
 use Rattle.std.specs.Bool.{Decides, beq}
 use Rattle.std.specs.Cmp.Lexicographic.{pointwise}
 use Rattle.std.specs.List.{list_any}
 use Rattle.std.specs.Option.{option_map}
 use Rattle.std.specs.Prelude.{slice_index}
 use Rattle.std.proofs.lemmas.Bool.{cases_Bool, cases_lt, true≢false, false≢true}
-use Rattle.std.proofs.lemmas.Option.{slice_get-map, slice_get_within, get_or_from_slice_get, slice_get-get_or}
+use Rattle.std.proofs.lemmas.Option.{slice_get-map}
 use Rattle.std.proofs.lemmas.List.Folds.{list_any_at}
 use Rattle.std.proofs.lemmas.List.{get_or_read, map-append, length-map, get_or-map, length_push, get_or_push, get_or_append_left, length-replicate, get_or-replicate}
 use Rattle.std.proofs.lemmas.Slice.Eq.{slice_eq-Decides}
-use Rattle.sc_model.specs.Growth.{Extends, IsOneToOne}
-use Rattle.sc_model.specs.Sets.{Sets, IsConfig, HasOptions, config_count}
+use Rattle.sc_model.specs.Sets.{HasOptions, config_count}
 use Rattle.sc_base.specs.Interns.{Interns, known, fresh}
 use Rattle.sc_base.proofs.Growth.{Extends-keeps}
 use Rattle.sc_base.proofs.InternLemmas.{Extends-Interns, IsOneToOne-Interns}
-use Rattle.sc_presence.specs.Plain.{Plain, IsPlain, IsKept, row_of}
+use Rattle.sc_presence.specs.Plain.{Plain, IsPlain, IsKept}
 use Rattle.sc_presence.specs.Rank.{strides_of}
 use Rattle.sc_presence.proofs.RankLemmas.{config_count_pos, length-strides_of, strides_of_pos}
 
@@ -96,12 +95,12 @@ IsPlain-first ns one two some first second =
 -- one more row
 pub IsPlain-Interns : (p : Plain) (rows : List (List Bool)) (row : List Bool) → IsPlain p → length row ≡ config_count p.arities → Interns p.rows rows row → IsPlain (record { arities = p.arities; rows = rows })
 IsPlain-Interns p rows row plain long adds = record {
-    options = plain.options;
-    long = by adds;
-    never = Extends-keeps 0 _ plain.never (Extends-Interns adds);
-    always = Extends-keeps 1 _ plain.always (Extends-Interns adds);
-    different = IsOneToOne-Interns adds plain.different;
-  }
+  options = plain.options;
+  long = by adds;
+  never = Extends-keeps 0 _ plain.never (Extends-Interns adds);
+  always = Extends-keeps 1 _ plain.always (Extends-Interns adds);
+  different = IsOneToOne-Interns adds plain.different;
+}
   where
     by : Interns p.rows rows row → (a : ℕ) → a < length rows → length (get_or rows a []) ≡ config_count p.arities
     by (known has same) = subst (λ rows. (a : ℕ) → a < length rows → length (get_or rows a []) ≡ config_count p.arities) (sym same) plain.long

@@ -1,10 +1,10 @@
 -- Configurations and their places.
-use Rattle.std.proofs.Common.{◌≡◌, ℕ, zero, suc, ◌+◌, ◌-◌, ◌*◌, ◌/◌, ◌%◌, ◌<◌, ◌≤◌, List, [], ◌∷◌, length, get_or, set, drop, refl, sym, ◌∙◌, ap, subst, arith}
+use Rattle.std.proofs.Common.{◌≡◌, ℕ, zero, suc, ◌+◌, ◌*◌, ◌/◌, ◌%◌, ◌<◌, ◌≤◌, List, [], ◌∷◌, length, get_or, set, drop, refl, sym, ◌∙◌, ap, arith}
 use Rattle.std.proofs.lemmas.List.{drop_more, drop_all, get_or-drop, length-drop}
 use Rattle.std.proofs.lemmas.Nat.{mul-add-lt, mul-lt, div-mul-add, mod_below}
 use Rattle.std.proofs.Math.Nat.{mul-add-div_right, mul-add-mod_self_right, mod-eq_of_lt, mod-one, le-mul_of_pos_right}
 use Rattle.std.proofs.Math.Arith.{mod-mul}
-use Rattle.std.specs.Prelude.{slice_index, slice_set}
+use Rattle.std.specs.Prelude.{slice_index}
 use Rattle.sc_model.specs.Sets.{IsConfig, HasOptions, config_count}
 use Rattle.sc_model.proofs.SetLemmas.{IsConfig-set}
 use Rattle.sc_presence.specs.Rank.{strides_of, rank, digit, moved, config_at}

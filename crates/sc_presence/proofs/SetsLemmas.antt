@@ -1,19 +1,19 @@
 -- The sets that rows make, and what the operations on rows do to them.
-use Rattle.std.proofs.Common.{◌≡◌, ◌≢◌, ℕ, ◌+◌, ◌<◌, ◌≤◌, ◌==◌, Bool, true, false, ◌&&◌, ◌||◌, not, List, [], ◌∷◌, map, length, slice_get, get_or, set, ◌↔◌, Option, None, IfSome, IfNone, IsNone, replicate, Some, ◌⊎◌, inl, inr, refl, sym, ap, subst, ◌∙◌, arith}
+use Rattle.std.proofs.Common.{◌≡◌, ℕ, ◌<◌, ◌==◌, Bool, true, false, not, List, [], map, length, slice_get, ◌↔◌, Option, None, IfSome, IfNone, IsNone, Some, ◌⊎◌, inl, inr, refl, sym, ap, subst, ◌∙◌, arith}
 use Rattle.std.specs.List.{zip, range_with_len}
 use Rattle.std.specs.Prelude.{slice_index, slice_set}
 use Rattle.std.proofs.lemmas.Bool.{false≢true, true≢false}
-use Rattle.std.proofs.lemmas.Option.{slice_get_within, get_or_from_slice_get, slice_get-get_or, unwrap_or-slice_get}
-use Rattle.std.proofs.lemmas.List.{length-map, get_or-map, ext_get_or, length-replicate, get_or-replicate}
-use Rattle.std.proofs.lemmas.List.FromFn.{length-map-range_with_len, get_or-map-range_with_len}
+use Rattle.std.proofs.lemmas.Option.{slice_get_within, get_or_from_slice_get, slice_get-get_or}
+use Rattle.std.proofs.lemmas.List.{length-map, get_or-map, ext_get_or, get_or-replicate}
+use Rattle.std.proofs.lemmas.List.FromFn.{get_or-map-range_with_len}
 use Rattle.std.proofs.lemmas.Slice.Zip.{length-zip, get_or-zip}
-use Rattle.sc_model.specs.Growth.{Extends, IsOneToOne}
-use Rattle.sc_model.specs.Sets.{Sets, IsConfig, HasOptions, IsCond, Denotes, Keeps, IsNever, IsAlways, IsSame, IsCanonical, IsTop, config_count}
+use Rattle.sc_model.specs.Growth.{Extends}
+use Rattle.sc_model.specs.Sets.{Sets, IsConfig, IsCond, Denotes, Keeps, IsNever, IsAlways, IsSame, IsCanonical, IsTop, config_count}
 use Rattle.sc_model.proofs.SetLemmas.{IsConfig-set, IsNever-DependsOn, IsAlways-DependsOn}
 use Rattle.sc_presence.specs.Plain.{Plain, IsPlain, IsKept, Stores, row_of, sets_of}
 use Rattle.sc_presence.specs.Rank.{strides_of, rank, digit, moved, config_at}
 use Rattle.sc_presence.specs.Rows.{value_at, IsRowOf}
-use Rattle.sc_presence.proofs.RankLemmas.{length-strides_of, rank-lt, digit-rank, moved-rank, rank-config_at-lt, IsConfig-config_at, config_count_pos}
+use Rattle.sc_presence.proofs.RankLemmas.{length-strides_of, rank-lt, digit-rank, moved-rank, rank-config_at-lt, IsConfig-config_at}
 
 -- a row that stands at a place is the row of that place
 row_of-stored : (p : Plain) (a : ℕ) (row : List Bool) → slice_get p.rows a ≡ Some row → row_of p a ≡ row

@@ -1,15 +1,15 @@
 -- On which variables the condition of a row depends.
-use Rattle.std.proofs.Common.{◌≡◌, ◌≢◌, ℕ, zero, suc, ◌+◌, ◌-◌, ◌*◌, ◌/◌, ◌%◌, ◌<◌, ◌≤◌, Bool, true, false, List, [], ◌∷◌, length, get_or, set, take, drop, ◌⊎◌, inl, inr, refl, sym, ◌∙◌, ap, subst, add-one, arith}
+use Rattle.std.proofs.Common.{◌≡◌, ◌≢◌, ℕ, zero, suc, ◌+◌, ◌*◌, ◌/◌, ◌%◌, ◌<◌, ◌≤◌, Bool, false, List, [], ◌∷◌, length, get_or, set, take, drop, ◌⊎◌, inl, inr, refl, sym, ◌∙◌, ap, subst, add-one, arith}
 use Rattle.std.proofs.lemmas.Bool.{cases_Bool, cases_lt}
-use Rattle.std.proofs.lemmas.List.{drop_more, drop_all, length-set, length-take-le, get_or-take, get_or-set_same, get_or-set_other, drop-set-lt}
-use Rattle.std.proofs.lemmas.Nat.{mul-add-lt, div-mul-add, mod-mul-add, div-add-mod', mod_below, div_below}
+use Rattle.std.proofs.lemmas.List.{length-set, length-take-le, get_or-take, get_or-set_other, drop-set-lt}
+use Rattle.std.proofs.lemmas.Nat.{mul-add-lt, mod-mul-add, div-add-mod', div_below}
 use Rattle.std.proofs.Math.Nat.{mod-eq_of_lt, mod-le, mul_comm, le-mul_of_pos_right}
-use Rattle.std.specs.Prelude.{slice_index, slice_set}
+use Rattle.std.specs.Prelude.{slice_index}
 use Rattle.sc_model.specs.Sets.{Sets, IsConfig, HasOptions, config_count, DependsOn, DependsFrom, IsTop, IsNever, IsAlways}
 use Rattle.sc_model.proofs.SetLemmas.{IsConfig-set, has-DependsFrom}
-use Rattle.sc_presence.specs.Rank.{strides_of, rank, digit, config_at}
+use Rattle.sc_presence.specs.Rank.{strides_of, rank, config_at}
 use Rattle.sc_presence.specs.Rows.{value_at, Varies, Repeats, IsRowOf}
-use Rattle.sc_presence.proofs.RankLemmas.{rank-lt, rank-set, rank-drop, rank-drop_all, length-strides_of, strides_of_pos, IsConfig-config_at, rank-config_at, get_or-config_at, config_count_pos, IsConfig-tail, HasOptions-tail}
+use Rattle.sc_presence.proofs.RankLemmas.{rank-lt, rank-set, rank-drop, rank-drop_all, length-strides_of, strides_of_pos, IsConfig-config_at, rank-config_at, get_or-config_at, IsConfig-tail, HasOptions-tail}
 
 -- the configuration with the first option of each variable before v
 abbrev pub cleared : ℕ → List ℕ → List ℕ
@@ -59,10 +59,14 @@ IsConfig-cleared {ns} (suc v) some within listed = IsConfig-set v 0 (IsConfig-cl
 value-Repeats : (row : List Bool) (stride arity x t : ℕ) → stride * arity ≤ length row → x < arity → t < stride → Repeats stride (take (stride * arity) row) → value_at row (x * stride + t) ≡ value_at row t
 value-Repeats row stride arity x t within option low repeats =
     let n = stride * arity in
-    let place : x * stride + t < n = mul-add-lt x stride t arity option low in
+    let p = x * stride + t in
+    let place : p < n = mul-add-lt x stride t arity option low in
     let all = length-take-le n row within in
-    let alike = rw (mod-mul-add x stride t low) at (repeats.alike (x * stride + t) (omega (arith, all))) in
-    sym (get_or-take n row (x * stride + t) false place) ∙ alike ∙ get_or-take n row t false (omega arith)
+    let first : p % stride ≡ t = mod-mul-add x stride t low in
+    elim (cases_lt p stride) [
+      | inl inside ↦ ap (value_at row) (sym (mod-eq_of_lt inside) ∙ first)
+      | inr above ↦ sym (get_or-take n row p false place) ∙ repeats.alike p above (omega (arith, all)) ∙ ap (value_at (take n row)) first ∙ get_or-take n row t false (omega arith)
+    ]
 
 module _ (s : Sets) (a : ℕ) (row : List Bool) (some : HasOptions s.arities) (is : IsRowOf s a s.arities row) where
   -- options before the first variable on which the condition depends make no difference
@@ -155,14 +159,14 @@ module _ {s : Sets} {a : ℕ} {ns : List ℕ} {row : List Bool} where
       → Repeats (slice_index (strides_of ns) v) (take (slice_index (strides_of ns) v * slice_index ns v) row) → DependsFrom s a v → DependsFrom s a (v + 1)
   DependsFrom-Repeats v is = subst
       (λ ns. IsRowOf s a ns row → HasOptions ns → length row ≡ config_count ns → v < length ns
-        → Repeats (slice_index (strides_of ns) v) (take (slice_index (strides_of ns) v * slice_index ns v) row) → DependsFrom s a v → DependsFrom s a (v + 1))
+      → Repeats (slice_index (strides_of ns) v) (take (slice_index (strides_of ns) v * slice_index ns v) row) → DependsFrom s a v → DependsFrom s a (v + 1))
       is.over (λ is some long within repeats from. free-Repeats s a row some is v long from within repeats) is
 
   pub IsTop-Varies : (v : ℕ) → IsRowOf s a ns row → HasOptions ns → length row ≡ config_count ns → v < length ns
       → Varies (slice_index (strides_of ns) v) (take (slice_index (strides_of ns) v * slice_index ns v) row) → DependsFrom s a v → IsTop s a v
   IsTop-Varies v is = subst
       (λ ns. IsRowOf s a ns row → HasOptions ns → length row ≡ config_count ns → v < length ns
-        → Varies (slice_index (strides_of ns) v) (take (slice_index (strides_of ns) v * slice_index ns v) row) → DependsFrom s a v → IsTop s a v)
+      → Varies (slice_index (strides_of ns) v) (take (slice_index (strides_of ns) v * slice_index ns v) row) → DependsFrom s a v → IsTop s a v)
       is.over (λ is some long within varies from. record { depends = depends-Varies s a row some is v long within varies; first = from }) is
 
   pub constant-IsRowOf : (v : ℕ) → IsRowOf s a ns row → HasOptions ns → length ns ≤ v → DependsFrom s a v → IsNever s a ⊎ IsAlways s a

@@ -1,5 +1,5 @@
 -- Rows: a truth value for each configuration, in order.
-use Rattle.std.specs.Prelude.{◌≡◌, ◌≢◌, ℕ, ◌%◌, ◌<◌, Bool, false, List, length, slice_index_or}
+use Rattle.std.specs.Prelude.{◌≡◌, ◌≢◌, ℕ, ◌%◌, ◌<◌, ◌≤◌, Bool, false, List, length, slice_index_or}
 use Rattle.sc_model.specs.Sets.{Sets, IsConfig}
 use Rattle.sc_presence.specs.Rank.{rank, strides_of}
 
@@ -7,15 +7,15 @@ use Rattle.sc_presence.specs.Rank.{rank, strides_of}
 abbrev pub value_at : List Bool → ℕ → Bool
 value_at row i = slice_index_or row i false
 
--- the blocks of this length are not all alike
+-- not all blocks of this length are like the first
 pub record Varies (block : ℕ) (row : List Bool) : Type 0 where
   pub place : ℕ
   pub within : place < length row
   pub differs : value_at row place ≢ value_at row (place % block)
 
--- the blocks of this length are all alike
+-- all blocks of this length are like the first
 pub record Repeats (block : ℕ) (row : List Bool) : Type 0 where
-  pub alike : (place : ℕ) → place < length row → value_at row place ≡ value_at row (place % block)
+  pub alike : (place : ℕ) → block ≤ place → place < length row → value_at row place ≡ value_at row (place % block)
 
 -- the row has the value of the condition at each configuration
 pub record IsRowOf (s : Sets) (a : ℕ) (arities : List ℕ) (row : List Bool) : Type 0 where

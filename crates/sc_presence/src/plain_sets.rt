@@ -99,8 +99,9 @@ impl PlainSets {
     }
 }
 
-/// The ids of the first two rows.
+// The ids of the first two rows. Where a method has no other use of `rows`, it borrows them for what is known of them.
 const NEVER: Cond = Cond(0);
+
 const ALWAYS: Cond = Cond(1);
 
 impl Conditions for PlainSets {

@@ -73,15 +73,18 @@ pub fn part(
         .collect(alloc)
 }
 
-/// Whether the blocks of this length are not all alike.
+/// Whether a block of this length is not like the first.
 pub fn varies(row: &[bool], block: usize) -> bool
     requires { 0 < block }
     ensures differs { OnTrue result (Varies block row.now) }
     ensures alike { OnFalse result (Repeats block row.now) }
 {
-    row.iter()
-        .enumerate()
-        .any(|(place, value)| *value != row[place % block])
+    for place in block..row.len() {
+        if row[place] != row[place % block] {
+            return true;
+        }
+    }
+    false
 }
 
 /// The rank of the first configuration in the row.

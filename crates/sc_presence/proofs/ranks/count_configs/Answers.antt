@@ -1,5 +1,4 @@
-use Rattle.std.proofs.Common.{◌≡◌, ◌+◌, ◌*◌, ◌≤◌, get_or, drop, arith}
-use Rattle.sc_model.specs.Sets.{config_count}
+use Rattle.std.proofs.Common.{◌+◌, arith}
 use Rattle.sc_presence.proofs.RankLemmas.{config_count-drop, config_count_pos, HasOptions-drop, product_le}
 use Rattle.sc_presence.proofs.ranks.count_configs.Goals as goal
 

@@ -1,6 +1,5 @@
-use Rattle.std.proofs.Common.{◌≡◌, ◌≢◌, ◌∙◌, ◌<◌, length, get_or, get_or-set_other, get_or-set_same, below_more, ap, sym, arith}
+use Rattle.std.proofs.Common.{◌≢◌, ◌∙◌, ◌<◌, length, get_or-set_other, get_or-set_same, below_more, ap, sym, arith}
 use Rattle.std.proofs.lemmas.Grind.{same_number_lists}
-use Rattle.sc_presence.specs.Rank.{config_at}
 use Rattle.sc_presence.proofs.RankLemmas.{length-strides_of, strides_of_pos, length-config_at, get_or-config_at}
 use Rattle.sc_presence.proofs.ranks.write_config.Goals as goal
 

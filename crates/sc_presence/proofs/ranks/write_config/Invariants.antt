@@ -1,4 +1,4 @@
-use Rattle.std.proofs.Common.{◌≡◌, ℕ, ◌<◌, length, get_or}
+use Rattle.std.proofs.Common.{◌≡◌, ℕ, ◌<◌, get_or}
 use Rattle.sc_presence.specs.Rank.{config_at}
 use Rattle.sc_presence.proofs.ranks.write_config.Given as goal
 

@@ -1,4 +1,4 @@
-use Rattle.std.proofs.Common.{length, sym, arith}
+use Rattle.std.proofs.Common.{sym, arith}
 use Rattle.std.proofs.lemmas.List.{length-take-le}
 use Rattle.sc_presence.proofs.RankLemmas.{length-strides_of, lt-strides_of, strides_of_pos}
 use Rattle.sc_presence.proofs.VariableLemmas.{stride_times_le, DependsFrom-Repeats, IsTop-Varies, constant-IsRowOf}

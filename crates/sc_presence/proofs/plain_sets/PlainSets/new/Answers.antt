@@ -1,6 +1,3 @@
-use Rattle.std.proofs.Common.{◌∙◌, ap, sym}
-use Rattle.sc_model.specs.Sets.{config_count}
-use Rattle.sc_presence.specs.Rank.{strides_of}
 use Rattle.sc_presence.proofs.PlainLemmas.{Interns-insert, IsPlain-first}
 use Rattle.sc_presence.proofs.plain_sets.PlainSets.new.Goals as goal
 

@@ -1,5 +1,4 @@
 use Rattle.std.proofs.Common.{subst}
-use Rattle.sc_model.specs.Sets.{Denotes}
 use Rattle.sc_presence.specs.Plain.{IsPlain}
 use Rattle.sc_presence.proofs.SetsLemmas.{Denotes-always}
 use Rattle.sc_presence.proofs.plain_sets.PlainSetsConditions.always.Goals as goal

@@ -1,4 +1,4 @@
-use Rattle.std.proofs.Common.{◌∙◌, length, subst, ap, sym, arith}
+use Rattle.std.proofs.Common.{subst, arith}
 use Rattle.sc_presence.specs.Plain.{IsKept}
 use Rattle.sc_presence.proofs.SetsLemmas.{long-IsKept, rank-IsKept}
 use Rattle.sc_presence.proofs.plain_sets.PlainSetsConditions.holds.Goals as goal
