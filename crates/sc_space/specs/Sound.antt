@@ -1,5 +1,5 @@
 -- What each space that was read keeps.
-use Rattle.std.specs.Prelude.{◌≡◌, ℕ, ◌<◌, ◌≤◌, ◌^◌, true, false, List, map, length, All, AllPairs, Ordering}
+use Rattle.std.specs.Prelude.{◌≡◌, ℕ, ◌<◌, ◌≤◌, ◌^◌, true, false, List, map, length, All, AllPairs}
 use Rattle.std.specs.Cmp.Lexicographic.{slice_cmp}
 use Rattle.std.specs.Ordering.{nat_cmp}
 use Rattle.std.specs.declared.cmp.Ordering.TheVariants.{Less}
@@ -28,10 +28,13 @@ pub record IsSoundVariable (v : Variable) : Type 0 where
 abbrev pub IsBefore : List ℕ → List ℕ → Type 0
 IsBefore a b = slice_cmp nat_cmp a b ≡ Less
 
+abbrev pub names_of : List Variable → List (List ℕ)
+names_of variables = map (λ v. v.name) variables
+
 pub record IsSound (space : Space) : Type 0 where
   pub each : All IsSoundVariable space.variables
-  pub ascending : AllPairs IsBefore (map (λ v. v.name) space.variables)
-  pub names_differ : IsOneToOne (map (λ v. v.name) space.variables)
+  pub ascending : AllPairs IsBefore (names_of space.variables)
+  pub names_differ : IsOneToOne (names_of space.variables)
   pub has_options : HasOptions (arities_of space)
   pub few_variables : length space.variables ≤ 1024
   pub few_configs : config_count (arities_of space) ≤ 4096

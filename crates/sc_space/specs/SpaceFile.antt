@@ -1,5 +1,5 @@
 -- What a space file says, or the first reason for which it is refused.
-use Rattle.std.specs.Prelude.{ℕ, suc, ◌==◌, ◌&&◌, ◌||◌, ◌++◌, ◌^◌, not, nat_lt, nat_le, Bool, true, false, List, [], ◌∷◌, length, codes, pos, Option, Some, None, option_map, Result, Ok, Err, if◌then◌else◌}
+use Rattle.std.specs.Prelude.{ℕ, ◌==◌, ◌&&◌, ◌||◌, ◌++◌, ◌^◌, not, nat_lt, nat_le, Bool, true, false, List, [], ◌∷◌, length, map, codes, pos, Option, Some, None, option_map, Result, Ok, Err, if◌then◌else◌}
 use Rattle.std.specs.List.{list_all, list_any}
 use Rattle.std.specs.Option.{option_and_then, ok_or}
 use Rattle.std.specs.Str.{is_utf8}
@@ -7,7 +7,7 @@ use Rattle.sc_model.specs.declared.variable_option.VariableOption.{VariableOptio
 use Rattle.sc_model.specs.declared.variable_option.VariableOption.TheVariants.{Undefined, Number}
 use Rattle.sc_model.specs.Bytes.{same_bytes, is_between, is_digit}
 use Rattle.sc_model.specs.Sets.{config_count}
-use Rattle.sc_model.specs.Space.{Variable, Space, arities_of, predefined_names}
+use Rattle.sc_model.specs.Space.{Variable, Space, predefined_names}
 use Rattle.toml.specs.Data.{Data, string, integer, array, Items, no_items, item, Members, no_members, member, as_table, get_member}
 use Rattle.toml.specs.Parse.{parse_document}
 
@@ -124,9 +124,8 @@ with_defaults variables = record {
 }
 
 -- at most 1,024 variables and 4,096 configurations
-unfoldable pub check_size : Space → Result Space Fault
-check_size space =
-    if nat_le (length space.variables) 1024 && nat_le (config_count (arities_of space)) 4096 then Ok space else Err too_many
+unfoldable pub is_small : List Variable → Bool
+is_small variables = nat_le (length variables) 1024 && nat_le (config_count (map (λ v. length v.options) variables)) 4096
 
 -- what the file says, or its first fault
 unfoldable pub read_space : List ℕ → Result Space Fault
@@ -135,7 +134,7 @@ read_space bytes = do
   known ← check_keys document
   table ← variables_table document
   variables ← read_variables table
-  check_size (with_defaults variables)
+  if is_small variables then Ok (with_defaults variables) else Err too_many
 
 -- how a fault is written: its name, and after a space its item
 abbrev pub name_of : Fault → List ℕ

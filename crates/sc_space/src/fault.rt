@@ -1,4 +1,4 @@
-ghost use Rattle.std.specs.Prelude.{◌≡◌, option_copied};
+ghost use Rattle.std.specs.Prelude.{◌≡◌};
 ghost use Rattle.sc_space.specs.declared.fault.SpaceStop.TheVariants as stop;
 
 use sc_base::OutOfMemory;

@@ -1,9 +1,11 @@
 //! The parts of a space file, each checked and read by itself.
-ghost use Rattle.std.specs.Prelude.{◌≡◌, ◌&&◌, not, nat_le, map, option_map, IfOk, IsOk};
+ghost use Rattle.std.specs.Prelude.{◌≡◌, min, AllPairs, map, length, option_map, IfOk};
+ghost use Rattle.std.specs.List.{list_all};
 ghost use Rattle.sc_model.specs.Sets.{config_count};
 ghost use Rattle.sc_space.specs.Seen.{seen_variable, Answers};
-ghost use Rattle.sc_space.specs.SpaceFile.{read_document, check_keys, variables_table, is_identifier_start, is_identifier_byte, is_identifier, is_protected, read_option, read_options, are_different, read_variable, read_variables};
-ghost use Rattle.toml.specs.View.{view, table_view};
+ghost use Rattle.sc_space.specs.Sound.{IsBefore, names_of};
+ghost use Rattle.sc_space.specs.SpaceFile.{read_document, check_keys, variables_table, is_identifier_start, is_identifier_byte, is_identifier, is_protected, read_option, read_each, read_options, are_different, read_variable, read_variables, is_small};
+ghost use Rattle.toml.specs.View.{view, items_view, table_view};
 
 use crate::{SpaceFault, SpaceStop, Variable, VariableOption};
 use sc_base::OutOfMemory;
@@ -23,6 +25,7 @@ const MOST_VARIABLES: usize = 1024;
 const MOST_CONFIGS: usize = 4096;
 
 /// The table that a file is.
+#[tactic(auto, unfolding(crate::specs::SpaceFile::read_document))]
 pub(crate) fn read_document(alloc: Global, bytes: &[u8]) -> Result<Table, SpaceStop>
     ensures { Answers table_view result (read_document bytes.now) }
 {
@@ -40,6 +43,7 @@ pub(crate) fn read_document(alloc: Global, bytes: &[u8]) -> Result<Table, SpaceS
 }
 
 /// Refuses the first key that a space file doesn't have.
+#[tactic(auto, unfolding(crate::specs::SpaceFile::check_keys))]
 pub(crate) fn check_keys(alloc: Global, document: &Table) -> Result<(), SpaceStop>
     ensures { Answers (λ _. tt) result (check_keys (table_view document.now)) }
 {
@@ -53,20 +57,26 @@ pub(crate) fn check_keys(alloc: Global, document: &Table) -> Result<(), SpaceSto
 }
 
 /// The table of the variables.
+#[tactic(auto, unfolding(crate::specs::SpaceFile::variables_table))]
 pub(crate) fn variables_table(document: &Table) -> Result<&Table, SpaceStop>
     ensures { Answers (λ t. table_view t.now) result (variables_table (table_view document.now)) }
 {
-    match document.get("variables") {
-        Some(Value::Table(variables)) => Ok(variables),
-        _ => Err(SpaceStop::Fault(SpaceFault::NoVariables)),
+    let Some(value) = document.get("variables") else {
+        return Err(SpaceStop::Fault(SpaceFault::NoVariables));
+    };
+    match value.as_table() {
+        Some(table) => Ok(table),
+        None => Err(SpaceStop::Fault(SpaceFault::NoVariables)),
     }
 }
 
 /// The variables of a table, in the order of their names.
+#[tactic(auto, unfolding(crate::specs::SpaceFile::read_variables))]
 pub(crate) fn read_variables(alloc: Global, table: &Table) -> Result<Vec<Variable>, SpaceStop>
-    ensures { Answers (λ v. map seen_variable v.items) result (read_variables (table_view table.now)) }
+    ensures answer { Answers (λ v. map seen_variable v.items) result (read_variables (table_view table.now)) }
+    ensures ascending { IfOk result (λ v. AllPairs IsBefore (names_of (map seen_variable v.items))) }
 {
-    let mut variables = Vec::new(alloc);
+    let mut variables = Vec::with_capacity(alloc, table.len())?;
     for (name, value) in table {
         variables.push(read_variable(alloc, name.as_str(), value)?)?;
     }
@@ -74,15 +84,16 @@ pub(crate) fn read_variables(alloc: Global, table: &Table) -> Result<Vec<Variabl
 }
 
 /// Whether so many variables and configurations may be.
+#[tactic(auto, unfolding(crate::specs::SpaceFile::is_small))]
 pub(crate) fn is_small(variables: &[Variable]) -> bool
-    ensures { result ≡ (nat_le (length variables.now) 1024 && nat_le (config_count (map (λ v. vec_len v.options) variables.now)) 4096) }
+    ensures { result ≡ is_small (map seen_variable variables.now) }
 {
     variables.len() <= MOST_VARIABLES && count_configs(variables) <= MOST_CONFIGS
 }
 
 // The product of the numbers of options, or the greatest number where it is above that.
 fn count_configs(variables: &[Variable]) -> usize
-    ensures { result ≡ min (config_count (map (λ v. vec_len v.options) variables.now)) usize.MAX }
+    ensures { result ≡ min (config_count (map (λ v. length v.options.items) variables.now)) usize.MAX }
 {
     let mut count: usize = 1;
     for variable in variables {
@@ -91,6 +102,7 @@ fn count_configs(variables: &[Variable]) -> usize
     count
 }
 
+#[tactic(auto, unfolding(crate::specs::SpaceFile::read_variable))]
 fn read_variable(alloc: Global, name: &str, value: &Value) -> Result<Variable, SpaceStop>
     ensures { Answers seen_variable result (read_variable name.now (view value.now)) }
 {
@@ -107,15 +119,22 @@ fn read_variable(alloc: Global, name: &str, value: &Value) -> Result<Variable, S
     Ok(Variable { name, options })
 }
 
+#[tactic(auto, unfolding(crate::specs::SpaceFile::is_identifier))]
 fn is_identifier(name: &[u8]) -> bool
     ensures { result ≡ is_identifier name.now }
 {
     match name {
         [] => false,
         [first, rest @ ..] => {
-            is_identifier_start(*first) && rest.iter().all(|b| is_identifier_byte(*b))
+            is_identifier_start(*first) && are_identifier_bytes(rest)
         }
     }
+}
+
+fn are_identifier_bytes(bytes: &[u8]) -> bool
+    ensures { result ≡ list_all is_identifier_byte bytes.now }
+{
+    bytes.iter().all(|b| is_identifier_byte(*b))
 }
 
 fn is_identifier_start(byte: u8) -> bool
@@ -131,6 +150,7 @@ fn is_identifier_byte(byte: u8) -> bool
 }
 
 // Whether the name is one that no program may define.
+#[tactic(auto, unfolding(crate::specs::SpaceFile::is_protected))]
 fn is_protected(name: &str) -> bool
     ensures { result ≡ is_protected name.now }
 {
@@ -149,6 +169,7 @@ fn is_protected(name: &str) -> bool
 }
 
 // The options of a variable, unless they are no list of 1 to 64.
+#[tactic(auto, unfolding(crate::specs::SpaceFile::read_options))]
 fn read_options(alloc: Global, value: &Value) -> Result<Option<Vec<VariableOption>>, OutOfMemory>
     ensures { IfOk result (λ found. option_map (λ v. v.items) found ≡ read_options (view value.now)) }
 {
@@ -163,6 +184,7 @@ fn read_options(alloc: Global, value: &Value) -> Result<Option<Vec<VariableOptio
 }
 
 // The option that each value is, if each is one.
+#[tactic(auto, unfolding(crate::specs::SpaceFile::read_each))]
 fn read_each(alloc: Global, values: &[Value]) -> Result<Option<Vec<VariableOption>>, OutOfMemory>
     ensures { IfOk result (λ found. option_map (λ v. v.items) found ≡ read_each (items_view values.now)) }
 {
@@ -176,6 +198,7 @@ fn read_each(alloc: Global, values: &[Value]) -> Result<Option<Vec<VariableOptio
     Ok(Some(options))
 }
 
+#[tactic(auto, unfolding(crate::specs::SpaceFile::read_option))]
 fn read_option(value: &Value) -> Option<VariableOption>
     ensures { result ≡ read_option (view value.now) }
 {
@@ -186,6 +209,7 @@ fn read_option(value: &Value) -> Option<VariableOption>
     }
 }
 
+#[tactic(auto, unfolding(crate::specs::SpaceFile::are_different))]
 fn are_different(options: &[VariableOption]) -> bool
     ensures { result ≡ are_different options.now }
 {
