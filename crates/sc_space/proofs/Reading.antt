@@ -3,9 +3,10 @@ use Rattle.std.proofs.Common.{◌≡◌, nat_le, ℕ, zero, suc, ◌+◌, ◌*�
 use Rattle.std.proofs.Math.Nat.{min-eq_left, mul_assoc, mul-zero}
 use Rattle.std.proofs.lemmas.Bool.{cases_lt, false_from_ne_true, le-ltb, le-leb}
 use Rattle.std.proofs.lemmas.Bool.Decides.{same_from_decides, nat_tests}
-use Rattle.std.proofs.lemmas.List.{drop_more, length-map}
+use Rattle.std.proofs.lemmas.List.{drop_more, drop_all, length-map}
 use Rattle.std.proofs.lemmas.Slice.Eq.{compares_Decides, bytes_eq-Decides}
 use Rattle.std.proofs.lemmas.Str.{IsUtf8-from_is_utf8, is_utf8-from_IsUtf8}
+use Rattle.std.specs.Bool.{then_some}
 use Rattle.std.specs.List.{list_all}
 use Rattle.std.specs.Option.{ok_or}
 use Rattle.std.specs.Str.{IsUtf8, is_utf8, bytes_eq}
@@ -16,7 +17,7 @@ use Rattle.sc_model.specs.Space.{Variable, Space}
 use Rattle.sc_space.specs.declared.fault.SpaceStop.{SpaceStop}
 use Rattle.sc_space.specs.declared.fault.SpaceStop.TheVariants as stop
 use Rattle.sc_space.specs.declared.space.Variable.{Variable as ReadVariable}
-use Rattle.sc_space.specs.Seen.{seen_variable, seen_fault, Answers}
+use Rattle.sc_space.specs.Seen.{seen_variable, seen_fault, Refuses}
 use Rattle.sc_space.specs.SpaceFile.{Fault, too_large, not_toml, unknown_key, no_variables, too_many, ◌>>=◌, most_bytes, read_document, known_keys, check_keys, variables_table, is_identifier, is_identifier_start, is_identifier_byte, read_option, read_variable, read_variables, is_small, with_defaults, read_space}
 use Rattle.toml.specs.Data.{Data, string, Members, no_members, member, as_table, get_member}
 use Rattle.toml.specs.Parse.{parse_document}
@@ -52,9 +53,13 @@ pub variables_table-none : (ms : Members) → None ≡ get_member (codes "variab
 unfolding variables_table
 variables_table-none ms found = rw (← found)
 
-pub read_option-string : (text : List ℕ) → read_option (string text) ≡ cond (bytes_eq text (codes "undef")) (Some Undefined) None
+chosen : {A : Type 0} (test : Bool) (a : A) → cond test (Some a) None ≡ then_some test a
+chosen true a = refl
+chosen false a = refl
+
+pub read_option-string : (text : List ℕ) → read_option (string text) ≡ then_some (bytes_eq text (codes "undef")) Undefined
 unfolding read_option
-read_option-string text = rw (same_bytes-bytes_eq text (codes "undef"))
+read_option-string text = rw (same_bytes-bytes_eq text (codes "undef")) (chosen _ _)
 
 regrouped : (rest : Result (List Variable) Fault) (done : List Variable) (v : Variable)
     → (rest >>= (λ vs. Ok (v ∷ vs)) >>= (λ vs. Ok (done ++ vs))) ≡ (rest >>= (λ vs. Ok ((done ++ v ∷ []) ++ vs)))
@@ -91,7 +96,7 @@ counted_more f vs i item count n next m within is_item is_n is_next =
 
 pub counted_all : {V : Type 0} (f : V → ℕ) (vs : List V) (i count all m : ℕ) → length vs ≤ i → count ≤ m → min (count * config_count (map f (drop i vs))) m ≡ all → count ≡ all
 counted_all f vs i count all m past fits left =
-    let full : min (count * 1) m ≡ all = rw drop_past at left in omega arith
+    let full : min (count * 1) m ≡ all = rw (drop_all i vs past) at left in omega arith
 
 option_counts : (vs : List ReadVariable) → map (λ v. length v.options) (map seen_variable vs) ≡ map (λ v. length v.options.items) vs
 option_counts [] = refl
@@ -105,6 +110,30 @@ unfolding is_small
 is_small-seen vs count few is_count = rw (is_count, length-map, le-leb (length vs) 1024 few, option_counts vs) (least_tested _ (2 ^ 64 - 1) (omega arith))
 
 -- the fault of a step is the fault of the whole
-handed_on : {T S U W : Type 0} (see : T → U) (see' : S → W) (stop : SpaceStop) {step : Result U Fault} {whole : Result W Fault} → ((f : Fault) → step ≡ Err f → whole ≡ Err f) → Answers see (Err stop) step → Answers see' (Err stop) whole
-handed_on see see' (stop.Fault refusal) on answer = on (seen_fault refusal) answer
-handed_on see see' stop.OutOfMemory on answer = tt
+handed_on : {T U : Type 0} (refused : SpaceStop) (step : Result T Fault) (whole : Result U Fault) → ((fault : Fault) → step ≡ Err fault → whole ≡ Err fault) → Refuses refused step → Refuses refused whole
+handed_on (stop.Fault refusal) step whole on answer = on (seen_fault refusal) answer
+handed_on stop.OutOfMemory step whole on answer = tt
+
+module _ (bytes : List ℕ) (refused : SpaceStop) where
+  pub read_space-no_document : Refuses refused (read_document bytes) → Refuses refused (read_space bytes)
+  unfolding read_space
+  read_space-no_document answer = handed_on refused (read_document bytes) _ (λ fault at. rw at) answer
+
+  pub read_space-bad_key : (document : Members) → read_document bytes ≡ Ok document → Refuses refused (check_keys document) → Refuses refused (read_space bytes)
+  unfolding read_space
+  read_space-bad_key document read answer = handed_on refused (check_keys document) _ (λ fault at. rw (read, at)) answer
+
+  pub read_space-no_table : (document : Members) → read_document bytes ≡ Ok document → check_keys document ≡ Ok tt → Refuses refused (variables_table document) → Refuses refused (read_space bytes)
+  unfolding read_space
+  read_space-no_table document read known answer = handed_on refused (variables_table document) _ (λ fault at. rw (read, known, at)) answer
+
+  pub read_space-bad_variable : (document table : Members) → read_document bytes ≡ Ok document → check_keys document ≡ Ok tt → variables_table document ≡ Ok table
+      → Refuses refused (read_variables table) → Refuses refused (read_space bytes)
+  unfolding read_space
+  read_space-bad_variable document table read known found answer = handed_on refused (read_variables table) _ (λ fault at. rw (read, known, found, at)) answer
+
+-- each step went well
+pub read_space-variables : (bytes : List ℕ) (document table : Members) (vs : List Variable) (small : Bool) → read_document bytes ≡ Ok document → check_keys document ≡ Ok tt → variables_table document ≡ Ok table → read_variables table ≡ Ok vs
+    → is_small vs ≡ small → read_space bytes ≡ cond small (Ok (with_defaults vs)) (Err too_many)
+unfolding read_space
+read_space-variables bytes document table vs small read known found all is_small = rw (read, known, found, all, is_small)

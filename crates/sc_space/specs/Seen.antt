@@ -32,8 +32,12 @@ seen_fault (fault.BadOption name) = bad_option (string_bytes name)
 seen_fault (fault.RepeatedOption name) = repeated_option (string_bytes name)
 seen_fault fault.TooMany = too_many
 
+-- The call refuses for the fault of the definition, or memory ran out.
+abbrev pub Refuses : {T : Type 0} → SpaceStop → Result T Fault → Type 0
+Refuses (stop.Fault refusal) answer = answer ≡ Err (seen_fault refusal)
+Refuses stop.OutOfMemory answer = Unit {0}
+
 -- The call gave what the definition says: this value, or this fault. Or memory ran out.
 abbrev pub Answers : {T U : Type 0} → (T → U) → Result T SpaceStop → Result U Fault → Type 0
 Answers see (Ok value) answer = answer ≡ Ok (see value)
-Answers see (Err (stop.Fault refusal)) answer = answer ≡ Err (seen_fault refusal)
-Answers see (Err stop.OutOfMemory) answer = Unit {0}
+Answers see (Err refused) answer = Refuses refused answer
