@@ -18,7 +18,7 @@ use Rattle.sc_space.specs.declared.fault.SpaceStop.{SpaceStop}
 use Rattle.sc_space.specs.declared.fault.SpaceStop.TheVariants as stop
 use Rattle.sc_space.specs.declared.space.Variable.{Variable as ReadVariable}
 use Rattle.sc_space.specs.Seen.{seen_variable, seen_fault, Refuses}
-use Rattle.sc_space.specs.SpaceFile.{Fault, too_large, not_toml, unknown_key, no_variables, too_many, ◌>>=◌, most_bytes, read_document, known_keys, check_keys, variables_table, is_identifier, is_identifier_start, is_identifier_byte, read_option, read_variable, read_variables, is_small, with_defaults, read_space}
+use Rattle.sc_space.specs.SpaceFile.{Fault, too_large, not_toml, unknown_key, no_variables, too_many, ◌>>=◌, most_bytes, read_document, known_keys, check_keys, variables_table, is_ascii_identifier, is_identifier_start, is_identifier_byte, read_option, read_variable, read_variables, is_small, with_defaults, read_space}
 use Rattle.toml.specs.Data.{Data, string, Members, no_members, member, as_table, get_member}
 use Rattle.toml.specs.Parse.{parse_document}
 

@@ -1,6 +1,6 @@
 -- What the definition of a space file ensures of each space that it gives.
-use Rattle.std.proofs.Common.{◌≡◌, ℕ, zero, suc, ◌+◌, ◌<◌, ◌≤◌, Bool, true, false, ◌&&◌, ◌||◌, not, cond, List, [], ◌∷◌, ◌++◌, length, get_or, map, Option, Some, None, option_map, Result, Ok, Err, String, Global, pos, refl, sym, ap, subst, ◌∙◌, arith, rules, inl, inr}
-use Rattle.std.proofs.lemmas.Bool.{and_parts, and_from, or_from, or_left, not-true, not_from_false, both_ways, leb-true, ltb-true, eq-eqb, cases_order}
+use Rattle.std.proofs.Common.{◌≡◌, nat_le, codes, ℕ, zero, suc, ◌+◌, ◌<◌, ◌≤◌, Bool, true, false, ◌&&◌, ◌||◌, not, cond, List, [], ◌∷◌, ◌++◌, length, get_or, map, Option, Some, None, option_map, Result, Ok, Err, String, Global, pos, refl, sym, ap, subst, ◌∙◌, arith, rules, inl, inr}
+use Rattle.std.proofs.lemmas.Bool.{and_parts, or_parts, and_from, or_from, or_left, not-true, not_from_false, both_ways, leb-true, ltb-true, eq-eqb, cases_order}
 use Rattle.std.proofs.lemmas.Bool.Decides.{nat_tests}
 use Rattle.std.proofs.lemmas.Cmp.{nat_list_cmp_total, tied_itself}
 use Rattle.std.proofs.lemmas.Option.{same_Some, cond_some, get_or_from_slice_get, slice_get_within}
@@ -16,11 +16,12 @@ use Rattle.std.specs.String.{string_bytes, string_cmp}
 use Rattle.std.specs.declared.cmp.Ordering.TheVariants.{Less}
 use Rattle.sc_model.specs.declared.variable_option.VariableOption.{VariableOption}
 use Rattle.sc_model.specs.declared.variable_option.VariableOption.TheVariants.{Undefined, Number}
-use Rattle.sc_model.specs.Bytes.{is_digit}
-use Rattle.sc_model.specs.Space.{Variable}
+use Rattle.sc_model.specs.Bytes.{same_bytes, is_digit, is_letter}
+use Rattle.sc_model.specs.Lex.{goes_on, is_identifier}
+use Rattle.sc_model.specs.Space.{Variable, predefined_names}
 use Rattle.sc_model.specs.Text.{is_word, is_wordless}
 use Rattle.sc_space.specs.Sound.{IsInRange, IsBefore, IsSoundVariable, IsSound, names_of}
-use Rattle.sc_space.specs.SpaceFile.{Fault, ◌>>=◌, bad_name, bad_option, repeated_option, is_identifier_start, is_identifier_byte, is_identifier, is_protected, read_option, read_each, read_options, same_option, are_different, read_variable, read_variables, is_small, with_defaults}
+use Rattle.sc_space.specs.SpaceFile.{Fault, ◌>>=◌, bad_name, bad_option, repeated_option, is_identifier_start, is_identifier_byte, is_ascii_identifier, is_protected, read_option, read_each, read_options, same_option, are_different, read_variable, read_variables, is_small, with_defaults}
 use Rattle.toml.specs.Data.{Data, string, integer, array, Items, no_items, item, Members, no_members, member}
 use Rattle.toml.specs.View.{members_view}
 use Rattle.toml.specs.declared.value.Value.{Value}
@@ -42,7 +43,7 @@ went_on (Ok a) more b read = (a, refl, read)
 went_on (Err fault) more b read = cc
 
 record ReadsVariable (name : List ℕ) (value : Data) (v : Variable) : Type 0 where
-  identifier : is_identifier name ≡ true
+  identifier : is_ascii_identifier name ≡ true
   unprotected : is_protected name ≡ false
   options : read_options value ≡ Some v.options
   different : are_different v.options ≡ true
@@ -154,24 +155,46 @@ one_place (o ∷ os) different (suc i) (suc j) x at_i at_j = ap suc (one_place o
 byte_of_word : (b : ℕ) → is_identifier_byte b ≡ true → is_wordless b ≡ false
 byte_of_word b h = grind (arith, nat_tests)
 
+byte_of_token : (b : ℕ) → is_identifier_byte b ≡ true → (is_letter b || is_digit b) ≡ true
+byte_of_token b h = grind (arith, nat_tests)
+
 bytes_of_word : (bs : List ℕ) → list_all is_identifier_byte bs ≡ true → list_any is_wordless bs ≡ false
 bytes_of_word [] h = refl
 bytes_of_word (b ∷ bs) h = let (first, more) = and_parts _ _ h in or_from _ _ (byte_of_word b first) (bytes_of_word bs more)
 
-identifier_is_word : (name : List ℕ) → is_identifier name ≡ true → is_word name ≡ true
-unfolding is_identifier
+identifier_is_word : (name : List ℕ) → is_ascii_identifier name ≡ true → is_word name ≡ true
+unfolding is_ascii_identifier
 identifier_is_word [] h = cc
 identifier_is_word (b ∷ bs) h =
     let (first, more) = and_parts (is_identifier_start b) (list_all is_identifier_byte bs) h in
     not_from_false _ (bytes_of_word (b ∷ bs) (and_from _ _ (or_left _ (is_digit b) first) more))
 
+bytes_go_on : (bs : List ℕ) → list_all is_identifier_byte bs ≡ true → goes_on 0 bs ≡ true
+bytes_go_on [] h = refl
+bytes_go_on (b ∷ bs) h =
+    let (first, more) = and_parts (is_identifier_byte b) (list_all is_identifier_byte bs) h in
+    or_left _ _ (and_from _ _ (byte_of_token b first) (bytes_go_on bs more))
+
+identifier_is_token : (name : List ℕ) → is_ascii_identifier name ≡ true → is_identifier name ≡ true
+unfolding is_ascii_identifier
+identifier_is_token [] h = cc
+identifier_is_token (b ∷ bs) h =
+    let (first, more) = and_parts (is_identifier_start b) (list_all is_identifier_byte bs) h in
+    and_from _ _ (or_left _ _ (or_left _ (nat_le 128 b) first)) (bytes_go_on (b ∷ bs) (and_from _ _ (or_left _ (is_digit b) first) more))
+
+protected_last : (name : List ℕ) → is_protected name ≡ false → list_any (same_bytes name) predefined_names ≡ false
+unfolding is_protected
+protected_last name h = (or_parts _ _ (or_parts (same_bytes name (codes "defined")) _ h).1).1
+
 sound_variable : (name : List ℕ) (value : Data) (v : Variable) → ReadsVariable name value v → IsSoundVariable v
 sound_variable name value v reads =
     let options = options_are value v.options reads.options in
     record {
-      identifier = rw reads.name_is reads.identifier;
+      ascii = rw reads.name_is reads.identifier;
+      identifier = rw reads.name_is (identifier_is_token name reads.identifier);
       word = rw reads.name_is (identifier_is_word name reads.identifier);
       unprotected = rw reads.name_is reads.unprotected;
+      not_predefined = rw reads.name_is (protected_last name reads.unprotected);
       some = options.some;
       few = options.few;
       different = record { same = one_place v.options reads.different };

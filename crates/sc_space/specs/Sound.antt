@@ -1,15 +1,18 @@
 -- What each space that was read keeps.
 use Rattle.std.specs.Prelude.{◌≡◌, ℕ, ◌<◌, ◌≤◌, ◌^◌, true, false, List, map, length, All, AllPairs}
 use Rattle.std.specs.Cmp.Lexicographic.{slice_cmp}
+use Rattle.std.specs.List.{list_any}
 use Rattle.std.specs.Ordering.{nat_cmp}
 use Rattle.std.specs.declared.cmp.Ordering.TheVariants.{Less}
 use Rattle.sc_model.specs.declared.variable_option.VariableOption.{VariableOption}
 use Rattle.sc_model.specs.declared.variable_option.VariableOption.TheVariants.{Undefined, Number}
+use Rattle.sc_model.specs.Bytes.{same_bytes}
 use Rattle.sc_model.specs.Growth.{IsOneToOne}
+use Rattle.sc_model.specs.Lex.{is_identifier}
 use Rattle.sc_model.specs.Sets.{HasOptions, config_count}
-use Rattle.sc_model.specs.Space.{Variable, Space, arities_of}
+use Rattle.sc_model.specs.Space.{Variable, Space, arities_of, predefined_names}
 use Rattle.sc_model.specs.Text.{is_word}
-use Rattle.sc_space.specs.SpaceFile.{is_identifier, is_protected}
+use Rattle.sc_space.specs.SpaceFile.{is_ascii_identifier, is_protected}
 
 -- the number is one of the machine's signed whole numbers
 abbrev pub IsInRange : VariableOption → Type 0
@@ -17,9 +20,11 @@ IsInRange Undefined = Unit {0}
 IsInRange (Number n) = n < 2 ^ 63
 
 pub record IsSoundVariable (v : Variable) : Type 0 where
+  pub ascii : is_ascii_identifier v.name ≡ true
   pub identifier : is_identifier v.name ≡ true
   pub word : is_word v.name ≡ true
   pub unprotected : is_protected v.name ≡ false
+  pub not_predefined : list_any (same_bytes v.name) predefined_names ≡ false
   pub some : 0 < length v.options
   pub few : length v.options ≤ 64
   pub different : IsOneToOne v.options

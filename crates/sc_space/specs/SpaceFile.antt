@@ -57,9 +57,9 @@ is_identifier_start b = is_between 65 90 b || is_between 97 122 b || b == 95
 abbrev pub is_identifier_byte : ℕ → Bool
 is_identifier_byte b = is_identifier_start b || is_digit b
 
-unfoldable pub is_identifier : List ℕ → Bool
-is_identifier [] = false
-is_identifier (b ∷ bs) = is_identifier_start b && list_all is_identifier_byte bs
+unfoldable pub is_ascii_identifier : List ℕ → Bool
+is_ascii_identifier [] = false
+is_ascii_identifier (b ∷ bs) = is_identifier_start b && list_all is_identifier_byte bs
 
 -- the names that no program may define (C11 6.10.8)
 abbrev pub protected_names : List (List ℕ)
@@ -99,7 +99,7 @@ are_different (o ∷ os) = not (list_any (same_option o) os) && are_different os
 
 unfoldable pub read_variable : List ℕ → Data → Result Variable Fault
 read_variable name value =
-    if is_identifier name && not (is_protected name)
+    if is_ascii_identifier name && not (is_protected name)
     then ok_or (read_options value) (bad_option name) >>= (λ options.
         if are_different options then Ok (record { name = name; options = options }) else Err (repeated_option name))
     else Err (bad_name name)

@@ -4,7 +4,7 @@ ghost use Rattle.std.specs.List.{list_all};
 ghost use Rattle.sc_model.specs.Sets.{config_count};
 ghost use Rattle.sc_space.specs.Seen.{seen_variable, Answers};
 ghost use Rattle.sc_space.specs.Sound.{IsBefore, names_of};
-ghost use Rattle.sc_space.specs.SpaceFile.{read_document, check_keys, variables_table, is_identifier_start, is_identifier_byte, is_identifier, is_protected, read_option, read_each, read_options, are_different, read_variable, read_variables, is_small};
+ghost use Rattle.sc_space.specs.SpaceFile.{read_document, check_keys, variables_table, is_identifier_start, is_identifier_byte, is_ascii_identifier, is_protected, read_option, read_each, read_options, are_different, read_variable, read_variables, is_small};
 ghost use Rattle.toml.specs.View.{view, items_view, table_view};
 
 use crate::{SpaceFault, SpaceStop, Variable, VariableOption};
@@ -107,7 +107,7 @@ fn read_variable(alloc: Global, name: &str, value: &Value) -> Result<Variable, S
     ensures { Answers seen_variable result (read_variable name.now (view value.now)) }
 {
     let name = String::from_str(alloc, name)?;
-    if !is_identifier(name.as_bytes()) || is_protected(name.as_str()) {
+    if !is_ascii_identifier(name.as_bytes()) || is_protected(name.as_str()) {
         return Err(SpaceStop::Fault(SpaceFault::BadName(name)));
     }
     let Some(options) = read_options(alloc, value)? else {
@@ -119,9 +119,9 @@ fn read_variable(alloc: Global, name: &str, value: &Value) -> Result<Variable, S
     Ok(Variable { name, options })
 }
 
-#[tactic(auto, unfolding(crate::specs::SpaceFile::is_identifier))]
-fn is_identifier(name: &[u8]) -> bool
-    ensures { result ≡ is_identifier name.now }
+#[tactic(auto, unfolding(crate::specs::SpaceFile::is_ascii_identifier))]
+fn is_ascii_identifier(name: &[u8]) -> bool
+    ensures { result ≡ is_ascii_identifier name.now }
 {
     match name {
         [] => false,
