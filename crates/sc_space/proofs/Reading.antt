@@ -1,5 +1,5 @@
 -- One step of each reading, over lists and members.
-use Rattle.std.proofs.Common.{◌≡◌, nat_le, ℕ, zero, suc, ◌+◌, ◌*◌, ◌-◌, ◌^◌, ◌<◌, ◌≤◌, min, Bool, true, false, ◌&&◌, cond, List, [], ◌∷◌, ◌++◌, length, drop, get_or, codes, map, Option, Some, None, Result, Ok, Err, refl, sym, ap, ◌∙◌, append_assoc, arith, rules, Decides, inl, inr}
+use Rattle.std.proofs.Common.{◌≡◌, nat_le, ℕ, zero, suc, ◌+◌, ◌*◌, ◌-◌, ◌^◌, ◌<◌, ◌≤◌, min, Bool, true, false, cond, List, [], ◌∷◌, ◌++◌, length, drop, get_or, codes, map, Some, None, Result, Ok, Err, refl, sym, ap, ◌∙◌, append_assoc, arith, rules, Decides, inl, inr}
 use Rattle.std.proofs.Math.Nat.{min-eq_left, mul_assoc, mul-zero}
 use Rattle.std.proofs.lemmas.Bool.{cases_lt, false_from_ne_true, le-ltb, le-leb}
 use Rattle.std.proofs.lemmas.Bool.Decides.{same_from_decides, nat_tests}
@@ -7,19 +7,18 @@ use Rattle.std.proofs.lemmas.List.{drop_more, drop_all, length-map}
 use Rattle.std.proofs.lemmas.Slice.Eq.{compares_Decides, bytes_eq-Decides}
 use Rattle.std.proofs.lemmas.Str.{IsUtf8-from_is_utf8, is_utf8-from_IsUtf8}
 use Rattle.std.specs.Bool.{then_some}
-use Rattle.std.specs.List.{list_all}
 use Rattle.std.specs.Option.{ok_or}
-use Rattle.std.specs.Str.{IsUtf8, is_utf8, bytes_eq}
+use Rattle.std.specs.Str.{IsUtf8, bytes_eq}
 use Rattle.sc_model.specs.declared.variable_option.VariableOption.TheVariants.{Undefined}
 use Rattle.sc_model.specs.Bytes.{same_bytes}
 use Rattle.sc_model.specs.Sets.{config_count}
-use Rattle.sc_model.specs.Space.{Variable, Space}
+use Rattle.sc_model.specs.Space.{Variable}
 use Rattle.sc_space.specs.declared.fault.SpaceStop.{SpaceStop}
 use Rattle.sc_space.specs.declared.fault.SpaceStop.TheVariants as stop
 use Rattle.sc_space.specs.declared.space.Variable.{Variable as ReadVariable}
 use Rattle.sc_space.specs.Seen.{seen_variable, seen_fault, Refuses}
-use Rattle.sc_space.specs.SpaceFile.{Fault, too_large, not_toml, unknown_key, no_variables, too_many, ◌>>=◌, most_bytes, read_document, known_keys, check_keys, variables_table, is_ascii_identifier, is_identifier_start, is_identifier_byte, read_option, read_variable, read_variables, is_small, with_defaults, read_space}
-use Rattle.toml.specs.Data.{Data, string, Members, no_members, member, as_table, get_member}
+use Rattle.sc_space.specs.SpaceFile.{Fault, not_toml, unknown_key, no_variables, too_many, ◌>>=◌, most_bytes, read_document, check_keys, variables_table, read_option, read_variable, read_variables, is_small, with_defaults, read_space}
+use Rattle.toml.specs.Data.{Data, string, Members, member, as_table, get_member}
 use Rattle.toml.specs.Parse.{parse_document}
 
 same_bytes-Decides : (xs ys : List ℕ) → Decides (same_bytes xs ys) (xs ≡ ys)

@@ -1,5 +1,5 @@
 -- What the definition of a space file ensures of each space that it gives.
-use Rattle.std.proofs.Common.{◌≡◌, nat_le, codes, ℕ, zero, suc, ◌+◌, ◌<◌, ◌≤◌, Bool, true, false, ◌&&◌, ◌||◌, not, cond, List, [], ◌∷◌, ◌++◌, length, get_or, map, Option, Some, None, option_map, Result, Ok, Err, String, Global, pos, refl, sym, ap, subst, ◌∙◌, arith, rules, inl, inr}
+use Rattle.std.proofs.Common.{◌≡◌, nat_le, codes, ℕ, zero, suc, ◌<◌, ◌≤◌, Bool, true, false, ◌||◌, cond, List, [], ◌∷◌, length, map, Option, Some, None, option_map, Result, Ok, Err, String, Global, pos, refl, sym, ap, subst, arith, inl, inr}
 use Rattle.std.proofs.lemmas.Bool.{and_parts, or_parts, and_from, or_from, or_left, not-true, not_from_false, both_ways, leb-true, ltb-true, eq-eqb, cases_order}
 use Rattle.std.proofs.lemmas.Bool.Decides.{nat_tests}
 use Rattle.std.proofs.lemmas.Cmp.{nat_list_cmp_total, tied_itself}
@@ -21,7 +21,7 @@ use Rattle.sc_model.specs.Lex.{goes_on, is_identifier}
 use Rattle.sc_model.specs.Space.{Variable, predefined_names}
 use Rattle.sc_model.specs.Text.{is_word, is_wordless}
 use Rattle.sc_space.specs.Sound.{IsInRange, IsBefore, IsSoundVariable, IsSound, names_of}
-use Rattle.sc_space.specs.SpaceFile.{Fault, ◌>>=◌, bad_name, bad_option, repeated_option, is_identifier_start, is_identifier_byte, is_ascii_identifier, is_protected, read_option, read_each, read_options, same_option, are_different, read_variable, read_variables, is_small, with_defaults}
+use Rattle.sc_space.specs.SpaceFile.{Fault, ◌>>=◌, is_identifier_start, is_identifier_byte, is_ascii_identifier, is_protected, read_option, read_each, read_options, same_option, are_different, read_variable, read_variables, is_small, with_defaults}
 use Rattle.toml.specs.Data.{Data, string, integer, array, Items, no_items, item, Members, no_members, member}
 use Rattle.toml.specs.View.{members_view}
 use Rattle.toml.specs.declared.value.Value.{Value}

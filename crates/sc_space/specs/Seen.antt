@@ -1,5 +1,5 @@
 -- A space and a refusal as the definitions see them.
-use Rattle.std.specs.Prelude.{◌≡◌, List, map, string_bytes, Result, Ok, Err}
+use Rattle.std.specs.Prelude.{◌≡◌, map, string_bytes, Result, Ok, Err}
 use Rattle.sc_model.specs.Space as model
 use Rattle.sc_space.specs.declared.fault.SpaceFault.{SpaceFault}
 use Rattle.sc_space.specs.declared.fault.SpaceFault.TheVariants as fault

@@ -97,11 +97,13 @@ unfoldable pub are_different : List VariableOption → Bool
 are_different [] = true
 are_different (o ∷ os) = not (list_any (same_option o) os) && are_different os
 
+abbrev pub with_options : List ℕ → List VariableOption → Result Variable Fault
+with_options name options = if are_different options then Ok (record { name = name; options = options }) else Err (repeated_option name)
+
 unfoldable pub read_variable : List ℕ → Data → Result Variable Fault
 read_variable name value =
     if is_ascii_identifier name && not (is_protected name)
-    then ok_or (read_options value) (bad_option name) >>= (λ options.
-        if are_different options then Ok (record { name = name; options = options }) else Err (repeated_option name))
+    then ok_or (read_options value) (bad_option name) >>= with_options name
     else Err (bad_name name)
 
 -- each variable is read before the next

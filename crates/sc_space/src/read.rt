@@ -125,9 +125,7 @@ fn is_ascii_identifier(name: &[u8]) -> bool
 {
     match name {
         [] => false,
-        [first, rest @ ..] => {
-            is_identifier_start(*first) && are_identifier_bytes(rest)
-        }
+        [first, rest @ ..] => is_identifier_start(*first) && are_identifier_bytes(rest),
     }
 }
 

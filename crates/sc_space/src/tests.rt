@@ -22,19 +22,29 @@ fn reads_variables_in_the_order_of_their_names(rt: HostRuntime) -> Result<(), Fa
     let space = Space::read(rt.alloc(), text)?;
     assert_eq!(rt; space.variables.len(), 2);
     assert_eq!(rt; space.variables[0].name.as_str(), "A_1");
-    assert_eq!(rt; space.variables[0].options.as_slice(), [VariableOption::Number(0)].as_slice());
+    assert_eq!(rt;
+        space.variables[0].options.as_slice(),
+        [VariableOption::Number(0)].as_slice()
+    );
     assert_eq!(rt; space.variables[1].name.as_str(), "HZ");
-    assert_eq!(rt; space.variables[1].options.as_slice(), [
-        VariableOption::Undefined,
-        VariableOption::Number(100),
-        VariableOption::Number(9223372036854775807),
-    ].as_slice());
+    assert_eq!(rt;
+        space.variables[1].options.as_slice(),
+        [
+            VariableOption::Undefined,
+            VariableOption::Number(100),
+            VariableOption::Number(9223372036854775807),
+        ]
+        .as_slice()
+    );
     assert_eq!(rt; space.include.len(), 0);
     assert_eq!(rt; space.limits.branches, 4096);
     assert_eq!(rt; space.limits.include_depth, 64);
     assert_eq!(rt; space.date.as_str(), "Jan  1 1970");
     assert_eq!(rt; space.time.as_str(), "00:00:00");
-    assert_eq!(rt; Space::read(rt.alloc(), b"variables = {}")?.variables.len(), 0);
+    assert_eq!(rt;
+        Space::read(rt.alloc(), b"variables = {}")?.variables.len(),
+        0
+    );
     Ok(())
 }
 
@@ -53,7 +63,10 @@ fn tells_the_first_fault(rt: HostRuntime) -> Result<(), Fail> {
         (b"[variables]\n__FILE__ = [1]", "BadName __FILE__"),
         (b"[variables]\nA = [-1, -1]", "BadOption A"),
         (b"[variables]\nA = [\"undef\", \"\"]", "BadOption A"),
-        (b"[variables]\nA = [\"undef\", \"undef\"]\nB = 1", "RepeatedOption A"),
+        (
+            b"[variables]\nA = [\"undef\", \"undef\"]\nB = 1",
+            "RepeatedOption A",
+        ),
         (b"[variables]\nA = [18446744073709551616]", "NotToml"),
     ];
     for (text, wanted) in table {

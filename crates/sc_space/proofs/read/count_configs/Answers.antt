@@ -4,9 +4,10 @@ use Rattle.sc_space.proofs.read.count_configs.Goals as goal
 
 pub loop-variable-preserved : goal.loop-variable-preserved
 loop-variable-preserved c =
-    (omega arith,
-      counted_more (λ v. length v.options.items) c.args.variables.now _ c.variable-item.result c.loop-variable.count _ _ _ c.loop-variable-test.true c.variable-item.is (c.len.ensures ∙ c.variable-item.result.options.ok.0) c.saturating_mul-count.ensures
-      ∙ c.loop-variable.invariant.1)
+    let options = c.variable-item.result.options in
+    let counted = c.len.ensures ∙ options.ok.0 in
+    let more = counted_more (λ v. length v.options.items) c.args.variables.now _ c.variable-item.result c.loop-variable.count _ _ _ c.loop-variable-test.true c.variable-item.is counted c.saturating_mul-count.ensures in
+    (omega arith, more ∙ c.loop-variable.invariant.1)
 
 pub returns : goal.returns
 returns c =

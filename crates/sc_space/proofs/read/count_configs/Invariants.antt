@@ -6,4 +6,4 @@ abbrev pub invariant-loop-variable : goal.invariant-loop-variable
 invariant-loop-variable l =
     (l.count ≤ 2 ^ 64 - 1)
     × (min (l.count * config_count (map (λ v. length v.options.items) (drop l.variable-index l.variables))) (2 ^ 64 - 1)
-      ≡ min (config_count (map (λ v. length v.options.items) l.variables)) (2 ^ 64 - 1))
+    ≡ min (config_count (map (λ v. length v.options.items) l.variables)) (2 ^ 64 - 1))

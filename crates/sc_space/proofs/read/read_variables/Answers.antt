@@ -1,4 +1,4 @@
-use Rattle.std.proofs.Common.{map, rules, append-nil}
+use Rattle.std.proofs.Common.{append-nil}
 use Rattle.std.proofs.lemmas.List.{map_push}
 use Rattle.sc_space.specs.Seen.{seen_variable}
 use Rattle.sc_space.specs.SpaceFile.{read_variables}
