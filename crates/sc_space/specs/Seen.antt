@@ -1,8 +1,13 @@
--- A space as the definitions see it.
-use Rattle.std.specs.Prelude.{List, map, string_bytes}
+-- A space and a refusal as the definitions see them.
+use Rattle.std.specs.Prelude.{◌≡◌, map, string_bytes, Result, Ok, Err}
 use Rattle.sc_model.specs.Space as model
+use Rattle.sc_space.specs.declared.fault.SpaceFault.{SpaceFault}
+use Rattle.sc_space.specs.declared.fault.SpaceFault.TheVariants as fault
+use Rattle.sc_space.specs.declared.fault.SpaceStop.{SpaceStop}
+use Rattle.sc_space.specs.declared.fault.SpaceStop.TheVariants as stop
 use Rattle.sc_space.specs.declared.space.Space.{Space}
 use Rattle.sc_space.specs.declared.space.Variable.{Variable}
+use Rattle.sc_space.specs.SpaceFile.{Fault, too_large, not_toml, unknown_key, no_variables, bad_name, bad_option, repeated_option, too_many}
 
 abbrev pub seen_variable : Variable → model.Variable
 seen_variable v = record { name = string_bytes v.name; options = v.options.items }
@@ -16,3 +21,23 @@ seen_space space = record {
   date = string_bytes space.date;
   time = string_bytes space.time;
 }
+
+abbrev pub seen_fault : SpaceFault → Fault
+seen_fault fault.TooLarge = too_large
+seen_fault fault.NotToml = not_toml
+seen_fault (fault.UnknownKey key) = unknown_key (string_bytes key)
+seen_fault fault.NoVariables = no_variables
+seen_fault (fault.BadName name) = bad_name (string_bytes name)
+seen_fault (fault.BadOption name) = bad_option (string_bytes name)
+seen_fault (fault.RepeatedOption name) = repeated_option (string_bytes name)
+seen_fault fault.TooMany = too_many
+
+-- The call refuses for the fault of the definition, or memory ran out.
+abbrev pub Refuses : {T : Type 0} → SpaceStop → Result T Fault → Type 0
+Refuses (stop.Fault refusal) answer = answer ≡ Err (seen_fault refusal)
+Refuses stop.OutOfMemory answer = Unit {0}
+
+-- The call gave what the definition says: this value, or this fault. Or memory ran out.
+abbrev pub Answers : {T U : Type 0} → (T → U) → Result T SpaceStop → Result U Fault → Type 0
+Answers see (Ok value) answer = answer ≡ Ok (see value)
+Answers see (Err refused) answer = Refuses refused answer

@@ -1,5 +1,7 @@
+use crate::{SpaceFault, SpaceStop, read};
 use sc_base::Limits;
 use sc_model::VariableOption;
+use std::alloc::Global;
 
 /// A configuration variable: the name of a macro, and what it may start as.
 #[derive(Debug, Drop)]
@@ -20,4 +22,35 @@ pub struct Space {
     pub date: String,
     /// What `__TIME__` stands for, 8 bytes.
     pub time: String,
+}
+
+impl Space {
+    ghost use Rattle.std.specs.Prelude.{IfOk};
+    ghost use Rattle.sc_space.specs.Seen.{seen_space, Answers};
+    ghost use Rattle.sc_space.specs.Sound.{IsSound};
+    ghost use Rattle.sc_space.specs.SpaceFile.{read_space};
+
+    /// Reads a space file, which is TOML 1.1: the table `variables` gives each variable the list of its options, each the
+    /// text `undef` or a whole number from 0.
+    pub fn read(alloc: Global, bytes: &[u8]) -> Result<Space, SpaceStop>
+        ensures answer { Answers seen_space result (read_space bytes.now) }
+        ensures sound { IfOk result (λ s. IsSound (seen_space s)) }
+    {
+        let document = read::read_document(alloc, bytes)?;
+        read::check_keys(alloc, &document)?;
+        let variables = read::read_variables(alloc, read::variables_table(&document)?)?;
+        if !read::is_small(variables.as_slice()) {
+            return Err(SpaceStop::Fault(SpaceFault::TooMany));
+        }
+        Ok(Space {
+            variables,
+            include: Vec::new(alloc),
+            limits: Limits {
+                branches: 4096,
+                include_depth: 64,
+            },
+            date: String::from_str(alloc, "Jan  1 1970")?,
+            time: String::from_str(alloc, "00:00:00")?,
+        })
+    }
 }

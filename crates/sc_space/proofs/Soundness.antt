@@ -1,0 +1,243 @@
+-- What the definition of a space file ensures of each space that it gives.
+use Rattle.std.proofs.Common.{◌≡◌, nat_le, codes, ℕ, zero, suc, ◌<◌, ◌≤◌, Bool, true, false, ◌||◌, cond, List, [], ◌∷◌, length, map, Option, Some, None, option_map, Result, Ok, Err, String, Global, pos, refl, sym, ap, subst, arith, inl, inr}
+use Rattle.std.proofs.lemmas.Bool.{and_parts, or_parts, and_from, or_from, or_left, not-true, not_from_false, both_ways, leb-true, ltb-true, eq-eqb, cases_order}
+use Rattle.std.proofs.lemmas.Bool.Decides.{nat_tests}
+use Rattle.std.proofs.lemmas.Cmp.{nat_list_cmp_total, tied_itself}
+use Rattle.std.proofs.lemmas.Option.{same_Some, cond_some, get_or_from_slice_get, slice_get_within}
+use Rattle.std.proofs.lemmas.List.Elements.{All-cons, All-nil, All-map, All-weaker}
+use Rattle.std.proofs.lemmas.Map.Keys.{Less-from_sorted, any_passes_from_place}
+use Rattle.std.specs.Cmp.Lexicographic.{slice_cmp}
+use Rattle.std.specs.List.{All, AllPairs, AllByRecursion, list_all, list_any, slice_get}
+use Rattle.std.specs.List.Sorted.{IsStrictlySortedBy}
+use Rattle.std.specs.Map.{keys_of}
+use Rattle.std.specs.Option.{ok_or, option_and_then}
+use Rattle.std.specs.Ordering.{nat_cmp}
+use Rattle.std.specs.String.{string_bytes, string_cmp}
+use Rattle.std.specs.declared.cmp.Ordering.TheVariants.{Less}
+use Rattle.sc_model.specs.declared.variable_option.VariableOption.{VariableOption}
+use Rattle.sc_model.specs.declared.variable_option.VariableOption.TheVariants.{Undefined, Number}
+use Rattle.sc_model.specs.Bytes.{same_bytes, is_digit, is_letter}
+use Rattle.sc_model.specs.Lex.{goes_on, is_identifier}
+use Rattle.sc_model.specs.Space.{Variable, predefined_names}
+use Rattle.sc_model.specs.Text.{is_word, is_wordless}
+use Rattle.sc_space.specs.Sound.{IsInRange, IsBefore, IsSoundVariable, IsSound, names_of}
+use Rattle.sc_space.specs.SpaceFile.{Fault, ◌>>=◌, is_identifier_start, is_identifier_byte, is_ascii_identifier, is_protected, read_option, read_each, read_options, same_option, are_different, read_variable, read_variables, is_small, with_defaults}
+use Rattle.toml.specs.Data.{Data, string, integer, array, Items, no_items, item, Members, no_members, member}
+use Rattle.toml.specs.View.{members_view}
+use Rattle.toml.specs.declared.value.Value.{Value}
+
+-- what an answer without a fault says of its steps
+passed : {A : Type 0} (test : Bool) (r : Result A Fault) (fault : Fault) (a : A) → cond test r (Err fault) ≡ Ok a → (test ≡ true) × (r ≡ Ok a)
+passed true r fault a read = (refl, read)
+passed false r fault a read = cc
+
+was_some : {A : Type 0} (o : Option A) (fault : Fault) (a : A) → ok_or o fault ≡ Ok a → o ≡ Some a
+was_some (Some x) fault a read = cc
+was_some None fault a read = cc
+
+same_Ok : {A : Type 0} (a b : A) → ◌≡◌ {A = Result A Fault} (Ok a) (Ok b) → a ≡ b
+same_Ok a b same = cc
+
+went_on : {A B : Type 0} (r : Result A Fault) (more : A → Result B Fault) (b : B) → (r >>= more) ≡ Ok b → (a : A) × (r ≡ Ok a) × (more a ≡ Ok b)
+went_on (Ok a) more b read = (a, refl, read)
+went_on (Err fault) more b read = cc
+
+record ReadsVariable (name : List ℕ) (value : Data) (v : Variable) : Type 0 where
+  identifier : is_ascii_identifier name ≡ true
+  unprotected : is_protected name ≡ false
+  options : read_options value ≡ Some v.options
+  different : are_different v.options ≡ true
+  name_is : v.name ≡ name
+
+variable_is : (name : List ℕ) (value : Data) (v : Variable) → read_variable name value ≡ Ok v → ReadsVariable name value v
+unfolding read_variable
+variable_is name value v read =
+    let named = passed _ _ _ v read in
+    let (identifier, unprotected) = and_parts _ _ named.0 in
+    let optioned = went_on _ _ v named.1 in
+    let parted = passed _ _ _ v optioned.2 in
+    let same : record { name = name; options = optioned.0 } ≡ v = same_Ok _ _ parted.1 in
+    let all : ReadsVariable name value (record { name = name; options = optioned.0 }) = record {
+      identifier = identifier;
+      unprotected = not-true _ unprotected;
+      options = was_some _ _ _ optioned.1;
+      different = parted.0;
+      name_is = refl;
+    } in
+    subst (ReadsVariable name value) same all
+
+-- the keys of members, in their order
+abbrev member_keys : Members → List (List ℕ)
+member_keys no_members = []
+member_keys (member key value ms) = key ∷ member_keys ms
+
+names-read : (ms : Members) (vs : List Variable) → read_variables ms ≡ Ok vs → names_of vs ≡ member_keys ms
+unfolding read_variables
+names-read no_members vs read = sym (ap names_of (same_Ok _ _ read))
+names-read (member key value ms) vs read =
+    let first = went_on _ _ vs read in
+    let more = went_on _ _ vs first.2 in
+    let same : first.0 ∷ more.0 ≡ vs = same_Ok _ _ more.2 in
+    rw (← same, (variable_is key value first.0 first.1).name_is, names-read ms more.0 more.1)
+
+all_before : (key : String Global) (keys : List (String Global)) → AllByRecursion (λ y. string_cmp key y ≡ Less) keys → AllByRecursion (IsBefore (string_bytes key)) (map string_bytes keys)
+all_before key [] below = below
+all_before key (y ∷ keys) below = (below.0, all_before key keys below.1)
+
+sorted_texts : (keys : List (String Global)) → IsStrictlySortedBy string_cmp keys → IsStrictlySortedBy (slice_cmp nat_cmp) (map string_bytes keys)
+unfolding IsStrictlySortedBy
+sorted_texts [] sorted = sorted
+sorted_texts (key ∷ keys) sorted = (all_before key keys sorted.0, sorted_texts keys sorted.1)
+
+keys-members_view : (es : List (String Global × Value)) → member_keys (members_view es) ≡ map string_bytes (keys_of es)
+keys-members_view [] = refl
+keys-members_view (e ∷ es) = ap (λ ks. string_bytes e.0 ∷ ks) (keys-members_view es)
+
+pub ascending_names : (es : List (String Global × Value)) (vs : List Variable) → IsStrictlySortedBy string_cmp (keys_of es) → read_variables (members_view es) ≡ Ok vs → AllPairs IsBefore (names_of vs)
+ascending_names es vs sorted read =
+    rw (names-read (members_view es) vs read, keys-members_view es) (λ i j d before within. Less-from_sorted (slice_cmp nat_cmp) (map string_bytes (keys_of es)) i j d (sorted_texts (keys_of es) sorted) before within)
+
+-- ---- the parts of soundness
+
+some_of : {A B : Type 0} (o : Option A) (more : A → Option B) (b : B) → option_and_then more o ≡ Some b → (a : A) × (o ≡ Some a) × (more a ≡ Some b)
+some_of (Some a) more b found = (a, refl, found)
+some_of None more b found = cc
+
+mapped_of : {A B : Type 0} (o : Option A) (f : A → B) (b : B) → option_map f o ≡ Some b → (a : A) × (o ≡ Some a) × (f a ≡ b)
+mapped_of (Some a) f b found = (a, refl, same_Some _ _ found)
+mapped_of None f b found = cc
+
+option_in_range : (value : Data) (o : VariableOption) → read_option value ≡ Some o → IsInRange o
+unfolding read_option
+option_in_range (string text) o read = subst IsInRange (cond_some _ _ _ read).1 tt
+option_in_range (integer (pos n)) o read = let (below, same) = cond_some _ _ _ read in subst IsInRange same (ltb-true _ _ below)
+option_in_range _ o read = cc
+
+options_in_range : (values : Items) (os : List VariableOption) → read_each values ≡ Some os → All IsInRange os
+unfolding read_each
+options_in_range no_items os read = rw (← same_Some _ _ read) (All-nil IsInRange)
+options_in_range (item value values) os read =
+    let first = some_of _ _ os read in
+    let more = mapped_of _ _ os first.2 in
+    rw (← more.2) (All-cons IsInRange first.0 more.0 (option_in_range value first.0 first.1) (options_in_range values more.0 more.1))
+
+record AreOptions (os : List VariableOption) : Type 0 where
+  some : 1 ≤ length os
+  few : length os ≤ 64
+  in_range : All IsInRange os
+
+options_are : (value : Data) (os : List VariableOption) → read_options value ≡ Some os → AreOptions os
+unfolding read_options
+options_are (array values) os read =
+    let each = some_of _ _ os read in
+    let (between, same) = cond_some _ _ _ each.2 in
+    let (low, high) = and_parts _ _ between in
+    let all : AreOptions each.0 = record { some = leb-true _ _ low; few = leb-true _ _ high; in_range = options_in_range values each.0 each.1 } in
+    subst AreOptions same all
+options_are _ os read = cc
+
+same_option-itself : (o : VariableOption) → same_option o o ≡ true
+same_option-itself Undefined = refl
+same_option-itself (Number n) = eq-eqb n n refl
+
+not_later : (o x : VariableOption) (os : List VariableOption) (k : ℕ) → list_any (same_option o) os ≡ false → Some o ≡ Some x → slice_get os k ≡ Some x → ⊥
+not_later o x os k none is_x at =
+    both_ways _ none (any_passes_from_place (same_option o) os k o (rw (same_Some _ _ is_x) at) (same_option-itself o))
+
+one_place : (os : List VariableOption) → are_different os ≡ true → (i j : ℕ) (x : VariableOption) → slice_get os i ≡ Some x → slice_get os j ≡ Some x → i ≡ j
+unfolding are_different
+one_place [] different i j x at_i at_j = cc
+one_place (o ∷ os) different zero zero x at_i at_j = refl
+one_place (o ∷ os) different zero (suc j) x at_i at_j = absurd (not_later o x os j (not-true _ (and_parts _ _ different).0) at_i at_j)
+one_place (o ∷ os) different (suc i) zero x at_i at_j = absurd (not_later o x os i (not-true _ (and_parts _ _ different).0) at_j at_i)
+one_place (o ∷ os) different (suc i) (suc j) x at_i at_j = ap suc (one_place os (and_parts _ _ different).1 i j x at_i at_j)
+
+byte_of_word : (b : ℕ) → is_identifier_byte b ≡ true → is_wordless b ≡ false
+byte_of_word b h = grind (arith, nat_tests)
+
+byte_of_token : (b : ℕ) → is_identifier_byte b ≡ true → (is_letter b || is_digit b) ≡ true
+byte_of_token b h = grind (arith, nat_tests)
+
+bytes_of_word : (bs : List ℕ) → list_all is_identifier_byte bs ≡ true → list_any is_wordless bs ≡ false
+bytes_of_word [] h = refl
+bytes_of_word (b ∷ bs) h = let (first, more) = and_parts _ _ h in or_from _ _ (byte_of_word b first) (bytes_of_word bs more)
+
+identifier_is_word : (name : List ℕ) → is_ascii_identifier name ≡ true → is_word name ≡ true
+unfolding is_ascii_identifier
+identifier_is_word [] h = cc
+identifier_is_word (b ∷ bs) h =
+    let (first, more) = and_parts (is_identifier_start b) (list_all is_identifier_byte bs) h in
+    not_from_false _ (bytes_of_word (b ∷ bs) (and_from _ _ (or_left _ (is_digit b) first) more))
+
+bytes_go_on : (bs : List ℕ) → list_all is_identifier_byte bs ≡ true → goes_on 0 bs ≡ true
+bytes_go_on [] h = refl
+bytes_go_on (b ∷ bs) h =
+    let (first, more) = and_parts (is_identifier_byte b) (list_all is_identifier_byte bs) h in
+    or_left _ _ (and_from _ _ (byte_of_token b first) (bytes_go_on bs more))
+
+identifier_is_token : (name : List ℕ) → is_ascii_identifier name ≡ true → is_identifier name ≡ true
+unfolding is_ascii_identifier
+identifier_is_token [] h = cc
+identifier_is_token (b ∷ bs) h =
+    let (first, more) = and_parts (is_identifier_start b) (list_all is_identifier_byte bs) h in
+    and_from _ _ (or_left _ _ (or_left _ (nat_le 128 b) first)) (bytes_go_on (b ∷ bs) (and_from _ _ (or_left _ (is_digit b) first) more))
+
+protected_last : (name : List ℕ) → is_protected name ≡ false → list_any (same_bytes name) predefined_names ≡ false
+unfolding is_protected
+protected_last name h = (or_parts _ _ (or_parts (same_bytes name (codes "defined")) _ h).1).1
+
+sound_variable : (name : List ℕ) (value : Data) (v : Variable) → ReadsVariable name value v → IsSoundVariable v
+sound_variable name value v reads =
+    let options = options_are value v.options reads.options in
+    record {
+      ascii = rw reads.name_is reads.identifier;
+      identifier = rw reads.name_is (identifier_is_token name reads.identifier);
+      word = rw reads.name_is (identifier_is_word name reads.identifier);
+      unprotected = rw reads.name_is reads.unprotected;
+      not_predefined = rw reads.name_is (protected_last name reads.unprotected);
+      some = options.some;
+      few = options.few;
+      different = record { same = one_place v.options reads.different };
+      in_range = options.in_range;
+    }
+
+sound_variables : (ms : Members) (vs : List Variable) → read_variables ms ≡ Ok vs → All IsSoundVariable vs
+unfolding read_variables
+sound_variables no_members vs read = rw (← same_Ok _ _ read) (All-nil IsSoundVariable)
+sound_variables (member key value ms) vs read =
+    let first = went_on _ _ vs read in
+    let more = went_on _ _ vs first.2 in
+    subst (All IsSoundVariable) (same_Ok _ _ more.2)
+    (All-cons IsSoundVariable first.0 more.0 (sound_variable key value first.0 (variable_is key value first.0 first.1)) (sound_variables ms more.0 more.1))
+
+never_before : (names : List (List ℕ)) → AllPairs IsBefore names → (i j : ℕ) (x : List ℕ) → slice_get names i ≡ Some x → slice_get names j ≡ Some x → i < j → ⊥
+never_before names ascending i j x at_i at_j before =
+    let less : IsBefore x x = rw (get_or_from_slice_get names i x x at_i, get_or_from_slice_get names j x x at_j) at (ascending i j x before (slice_get_within names j x at_j)) in
+    let tied = tied_itself nat_list_cmp_total x in
+    cc
+
+names_one_place : (names : List (List ℕ)) → AllPairs IsBefore names → (i j : ℕ) (x : List ℕ) → slice_get names i ≡ Some x → slice_get names j ≡ Some x → i ≡ j
+names_one_place names ascending i j x at_i at_j =
+    elim (cases_order i j) [
+      | inl same ↦ same
+      | inr (inl before) ↦ absurd (never_before names ascending i j x at_i at_j before)
+      | inr (inr after) ↦ absurd (never_before names ascending j i x at_j at_i after)
+    ]
+
+pub sound : (ms : Members) (vs : List Variable) → read_variables ms ≡ Ok vs → is_small vs ≡ true → AllPairs IsBefore (names_of vs) → IsSound (with_defaults vs)
+unfolding is_small
+sound ms vs read small ascending =
+    let each = sound_variables ms vs read in
+    let (few_variables, few_configs) = and_parts _ _ small in
+    record {
+      each = each;
+      ascending = ascending;
+      names_differ = record { same = names_one_place (names_of vs) ascending };
+      has_options = record { each = λ v within. All-map (λ n. 0 < n) (λ (v : Variable). length v.options) vs (All-weaker IsSoundVariable (λ v. 0 < length v.options) (λ v is_sound. is_sound.some) vs each) v 0 within };
+      few_variables = leb-true _ _ few_variables;
+      few_configs = leb-true _ _ few_configs;
+      branches_least = omega arith;
+      branches_most = omega arith;
+      include_depth_least = omega arith;
+      include_depth_most = omega arith;
+    }

@@ -1,0 +1,49 @@
+-- What each space that was read keeps.
+use Rattle.std.specs.Prelude.{◌≡◌, ℕ, ◌<◌, ◌≤◌, ◌^◌, true, false, List, map, length, All, AllPairs}
+use Rattle.std.specs.Cmp.Lexicographic.{slice_cmp}
+use Rattle.std.specs.List.{list_any}
+use Rattle.std.specs.Ordering.{nat_cmp}
+use Rattle.std.specs.declared.cmp.Ordering.TheVariants.{Less}
+use Rattle.sc_model.specs.declared.variable_option.VariableOption.{VariableOption}
+use Rattle.sc_model.specs.declared.variable_option.VariableOption.TheVariants.{Undefined, Number}
+use Rattle.sc_model.specs.Bytes.{same_bytes}
+use Rattle.sc_model.specs.Growth.{IsOneToOne}
+use Rattle.sc_model.specs.Lex.{is_identifier}
+use Rattle.sc_model.specs.Sets.{HasOptions, config_count}
+use Rattle.sc_model.specs.Space.{Variable, Space, arities_of, predefined_names}
+use Rattle.sc_model.specs.Text.{is_word}
+use Rattle.sc_space.specs.SpaceFile.{is_ascii_identifier, is_protected}
+
+-- the number is one of the machine's signed whole numbers
+abbrev pub IsInRange : VariableOption → Type 0
+IsInRange Undefined = Unit {0}
+IsInRange (Number n) = n < 2 ^ 63
+
+pub record IsSoundVariable (v : Variable) : Type 0 where
+  pub ascii : is_ascii_identifier v.name ≡ true
+  pub identifier : is_identifier v.name ≡ true
+  pub word : is_word v.name ≡ true
+  pub unprotected : is_protected v.name ≡ false
+  pub not_predefined : list_any (same_bytes v.name) predefined_names ≡ false
+  pub some : 0 < length v.options
+  pub few : length v.options ≤ 64
+  pub different : IsOneToOne v.options
+  pub in_range : All IsInRange v.options
+
+abbrev pub IsBefore : List ℕ → List ℕ → Type 0
+IsBefore a b = slice_cmp nat_cmp a b ≡ Less
+
+abbrev pub names_of : List Variable → List (List ℕ)
+names_of variables = map (λ v. v.name) variables
+
+pub record IsSound (space : Space) : Type 0 where
+  pub each : All IsSoundVariable space.variables
+  pub ascending : AllPairs IsBefore (names_of space.variables)
+  pub names_differ : IsOneToOne (names_of space.variables)
+  pub has_options : HasOptions (arities_of space)
+  pub few_variables : length space.variables ≤ 1024
+  pub few_configs : config_count (arities_of space) ≤ 4096
+  pub branches_least : 1 ≤ space.branches
+  pub branches_most : space.branches ≤ 1000000
+  pub include_depth_least : 15 ≤ space.include_depth
+  pub include_depth_most : space.include_depth ≤ 200
