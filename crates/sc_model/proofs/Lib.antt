@@ -1,4 +1,5 @@
 pub mod LexLaws
+pub mod NestLaws
 pub mod PlainLaws
 pub mod SetLemmas
 mod TextVectors

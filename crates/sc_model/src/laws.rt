@@ -2,8 +2,9 @@
 ghost use Rattle.std.specs.Prelude.{List, ℕ, true, ◌||◌, ◌≡◌, Result, Ok};
 ghost use Rattle.std.specs.List.{list_all};
 ghost use Rattle.sc_model.specs.Lex.{Lexed, is_newline};
+ghost use Rattle.sc_model.specs.Lines.{Group, Line, Tree};
 ghost use Rattle.sc_model.specs.Text.{is_plain};
-ghost use Rattle.sc_model.specs.Token.{Lexeme, Position};
+ghost use Rattle.sc_model.specs.Token.{Lexeme, Place, Position};
 
 /// A file has one sequence of tokens, or one first comment without an end.
 pub fn lexing_has_one_answer()
@@ -13,4 +14,9 @@ pub fn lexing_has_one_answer()
 /// Each token of a file but a newline is spelled on one line.
 pub fn tokens_are_plain()
     ensures { (bytes : List ℕ) (ts : List Lexeme) → Lexed bytes (Ok ts) → list_all (λ (t : Lexeme). is_newline t.kind || is_plain t.spelling) ts ≡ true }
+{}
+
+/// The conditional directives of a file nest in one way, or their first fault is at one place.
+pub fn nesting_has_one_answer()
+    ensures { (lines : List Line) (r s : Result Group Place) → Tree lines r → Tree lines s → r ≡ s }
 {}
