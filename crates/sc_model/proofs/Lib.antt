@@ -1,5 +1,6 @@
 pub mod LexLaws
 pub mod NestLaws
+pub mod PreLaws
 pub mod PlainLaws
 pub mod SetLemmas
 mod TextVectors

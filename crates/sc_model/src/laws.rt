@@ -3,8 +3,11 @@ ghost use Rattle.std.specs.Prelude.{List, ℕ, true, ◌||◌, ◌≡◌, Result
 ghost use Rattle.std.specs.List.{list_all};
 ghost use Rattle.sc_model.specs.Lex.{Lexed, is_newline};
 ghost use Rattle.sc_model.specs.Lines.{Group, Line, Tree};
+ghost use Rattle.sc_model.specs.Outside.{Files};
+ghost use Rattle.sc_model.specs.Pre.{Fault, Pre};
+ghost use Rattle.sc_model.specs.Space.{Space};
 ghost use Rattle.sc_model.specs.Text.{is_plain};
-ghost use Rattle.sc_model.specs.Token.{Lexeme, Place, Position};
+ghost use Rattle.sc_model.specs.Token.{Lexeme, Place, Position, Token};
 
 /// A file has one sequence of tokens, or one first comment without an end.
 pub fn lexing_has_one_answer()
@@ -19,4 +22,9 @@ pub fn tokens_are_plain()
 /// The conditional directives of a file nest in one way, or their first fault is at one place.
 pub fn nesting_has_one_answer()
     ensures { (lines : List Line) (r s : Result Group Place) → Tree lines r → Tree lines s → r ≡ s }
+{}
+
+/// A configuration has one sequence of tokens, or one fault.
+pub fn preprocessing_has_one_answer()
+    ensures { (space : Space) (files : Files) (main config : List ℕ) (r s : Result (List Token) Fault) → Pre space files main config r → Pre space files main config s → r ≡ s }
 {}
