@@ -1,7 +1,9 @@
 pub mod LexLaws
 pub mod NestLaws
+pub mod Numerals
 pub mod PreLaws
 pub mod PlainLaws
 pub mod SetLemmas
+pub mod TextLaws
 mod TextVectors
 mod Vectors

@@ -7,7 +7,7 @@ use Rattle.sc_model.specs.declared.variable_option.VariableOption.TheVariants.{U
 use Rattle.sc_model.specs.Pre.{Fault}
 use Rattle.sc_model.specs.Space.{Space}
 use Rattle.sc_model.specs.Token.{Shown}
-use Rattle.sc_model.specs.Text.{TextLine, condition_line, file_line, token_line, end_line, line_text, Printed, nothing_read, read_lines, at}
+use Rattle.sc_model.specs.Text.{TextLine, condition_line, file_line, token_line, end_line, line_text, Printed, nothing_read, read_lines, at, numeral}
 
 abbrev space : Space
 space = record { variables = record { name = codes "A"; options = Undefined ∷ Number 1 ∷ [] } ∷ []; include = []; branches = 4096; include_depth = 64; date = []; time = [] }
@@ -24,7 +24,7 @@ example =
     ∷ token_line 3 (place 4) (codes "y") ∷ end_line ∷ []
 
 example-text : flat_map line_text example ≡ codes "c 2 A undef:0 1:1\ns 0 m.c\nt 2 0:2:1 x\nc 3 A undef:1 1:0\nt 3 0:4:1 y\nend\n"
-unfolding digits
+unfolding digits numeral
 example-text = refl
 
 abbrev shown_at : ℕ → List ℕ → Shown
@@ -34,9 +34,9 @@ abbrev answer_at : List ℕ → Option (Result (List Shown) Fault)
 answer_at config = option_map (λ r. at r.answer config) (read_lines space nothing_read example)
 
 example-defined : answer_at (1 ∷ []) ≡ Some (Ok (shown_at 2 (codes "x") ∷ []))
-unfolding digits
+unfolding digits numeral
 example-defined = refl
 
 example-undefined : answer_at (0 ∷ []) ≡ Some (Ok (shown_at 4 (codes "y") ∷ []))
-unfolding digits
+unfolding digits numeral
 example-undefined = refl

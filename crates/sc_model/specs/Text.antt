@@ -1,5 +1,6 @@
 -- The text of a result, read from its first line to its last.
-use Rattle.std.specs.Prelude.{◌≡◌, ℕ, zero, suc, ◌+◌, ◌==◌, ◌&&◌, ◌||◌, not, nat_lt, Bool, true, false, List, [], ◌∷◌, ◌++◌, length, map, codes, decimal, Option, Some, None, Result, Ok, Err, slice_get, slice_index, if◌then◌else◌}
+use Rattle.std.specs.Prelude.{◌≡◌, ℕ, zero, suc, ◌+◌, ◌==◌, ◌&&◌, ◌||◌, not, nat_lt, Bool, true, false, List, [], ◌∷◌, ◌++◌, length, map, codes, Option, Some, None, Result, Ok, Err, slice_get, slice_index, if◌then◌else◌}
+use Rattle.std.specs.Fmt.{digits_onto}
 use Rattle.std.specs.List.{list_all, list_any, flat_map}
 use Rattle.std.specs.Option.{option_and_then, option_map}
 use Rattle.sc_model.specs.declared.cause.Cause.{Cause}
@@ -44,19 +45,23 @@ pub data TextLine : Type 0 where
   fault_line : (condition : ℕ) (cause : Cause) (place : Printed) → TextLine
   end_line : TextLine
 
+-- the decimal digits of a number of any size
+unfoldable pub numeral : ℕ → List ℕ
+numeral n = digits_onto (suc n) 10 false n []
+
 -- how the lines are written
 abbrev pub place_text : Printed → List ℕ
-place_text p = decimal p.file ++ codes ":" ++ decimal p.position.line ++ codes ":" ++ decimal p.position.column
+place_text p = numeral p.file ++ codes ":" ++ numeral p.position.line ++ codes ":" ++ numeral p.position.column
 
 abbrev pub choice_text : List ℕ × ℕ → List ℕ
-choice_text choice = codes " " ++ choice.0 ++ codes ":" ++ decimal choice.1
+choice_text choice = codes " " ++ choice.0 ++ codes ":" ++ numeral choice.1
 
 abbrev pub line_text : TextLine → List ℕ
-line_text (condition_line id variable options) = codes "c " ++ decimal id ++ codes " " ++ variable ++ flat_map choice_text options ++ codes "\n"
-line_text (file_line id name) = codes "s " ++ decimal id ++ codes " " ++ name ++ codes "\n"
-line_text (token_line cond place spelling) = codes "t " ++ decimal cond ++ codes " " ++ place_text place ++ codes " " ++ spelling ++ codes "\n"
+line_text (condition_line id variable options) = codes "c " ++ numeral id ++ codes " " ++ variable ++ flat_map choice_text options ++ codes "\n"
+line_text (file_line id name) = codes "s " ++ numeral id ++ codes " " ++ name ++ codes "\n"
+line_text (token_line cond place spelling) = codes "t " ++ numeral cond ++ codes " " ++ place_text place ++ codes " " ++ spelling ++ codes "\n"
 line_text (fault_line cond cause place) =
-    codes "f " ++ decimal cond ++ codes " " ++ decimal (code_of cause) ++ codes " " ++ name_of_cause cause ++ codes " " ++ place_text place ++ codes "\n"
+    codes "f " ++ numeral cond ++ codes " " ++ numeral (code_of cause) ++ codes " " ++ name_of_cause cause ++ codes " " ++ place_text place ++ codes "\n"
 line_text end_line = codes "end\n"
 
 -- What the lines so far say. Condition 0 has no configuration and 1 has all.

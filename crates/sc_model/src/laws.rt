@@ -1,12 +1,12 @@
 //! Laws about the definitions, each the contract of a function without code.
 ghost use Rattle.std.specs.Prelude.{List, ℕ, true, ◌||◌, ◌≡◌, Result, Ok};
-ghost use Rattle.std.specs.List.{list_all};
+ghost use Rattle.std.specs.List.{concat, list_all};
 ghost use Rattle.sc_model.specs.Lex.{Lexed, is_newline};
 ghost use Rattle.sc_model.specs.Lines.{Group, Line, Tree};
 ghost use Rattle.sc_model.specs.Outside.{Files};
 ghost use Rattle.sc_model.specs.Pre.{Fault, Pre};
 ghost use Rattle.sc_model.specs.Space.{Space};
-ghost use Rattle.sc_model.specs.Text.{is_plain};
+ghost use Rattle.sc_model.specs.Text.{Answer, Reads, is_plain};
 ghost use Rattle.sc_model.specs.Token.{Lexeme, Place, Position, Token};
 
 /// A file has one sequence of tokens, or one first comment without an end.
@@ -27,4 +27,9 @@ pub fn nesting_has_one_answer()
 /// A configuration has one sequence of tokens, or one fault.
 pub fn preprocessing_has_one_answer()
     ensures { (space : Space) (files : Files) (main config : List ℕ) (r s : Result (List Token) Fault) → Pre space files main config r → Pre space files main config s → r ≡ s }
+{}
+
+/// A text reads as one answer, however it is cut into pieces.
+pub fn text_has_one_answer()
+    ensures { (space : Space) (p q : List (List ℕ)) (a b : Answer) → concat p ≡ concat q → Reads space p a → Reads space q b → a ≡ b }
 {}
