@@ -11,13 +11,12 @@ use Rattle.sc_core.specs.declared.walk.Section.{Section}
 use Rattle.sc_core.specs.declared.walk.Walk.{Walk}
 use Rattle.sc_core.specs.Machine.{Machine, acts, opened, next_branch, ended, refusing, refusal, put_out, place_of}
 use Rattle.sc_core.specs.Mirrors.{section_at, Mirrors, OwnsSection, Owns, Advances}
-use Rattle.sc_guarded.specs.Items.{items_at, faults_at}
+use Rattle.sc_guarded.specs.Items.{items_at, faults_at, seen_fault}
 use Rattle.sc_lex.specs.declared.token.Token.{Token}
 use Rattle.sc_lex.specs.Seen.{seen, seen_place}
 use Rattle.sc_model.proofs.SetLemmas.{IsConfig-Keeps}
 use Rattle.sc_model.specs.Lines.{Line}
 use Rattle.sc_model.specs.Sets.{Sets, IsConfig, IsCond, Denotes, Keeps}
-use Rattle.sc_show.specs.Shows.{seen_fault}
 
 -- what holds of each item under a weaker fact
 All-as : {X : Type 0} (P Q : X → Type 0) → ((x : X) → P x → Q x) → (xs : List X) → All P xs → All Q xs

@@ -4,9 +4,11 @@
 mod defined;
 mod line_kind;
 mod moves;
-mod status;
+mod main_file;
+mod preprocessed;
 mod steps;
 mod walk;
 mod walk_file;
 
-pub use status::Status;
+pub use main_file::preprocess;
+pub use preprocessed::Preprocessed;
