@@ -10,5 +10,7 @@ mod variable_option;
 pub use cause::Cause;
 pub use conditional::Conditional;
 pub use kind::Kind;
-pub use laws::lexing_has_one_answer;
+pub use laws::{
+    lexing_has_one_answer, nesting_has_one_answer, preprocessing_has_one_answer, tokens_are_plain,
+};
 pub use variable_option::VariableOption;
