@@ -3,8 +3,6 @@
 
 mod item;
 mod reach;
-mod states;
 
 pub use item::{after, begun};
 pub use reach::reachable;
-pub use states::{States, opened, states};

@@ -1,4 +1,7 @@
 //! What can be reached along the edges of a graph.
+ghost use Rattle.std.specs.Prelude.{◌≡◌, ◌<◌, ◌↔◌, ℕ, length, IfOk, OnOk, OnErr, All, IsTrue, vec_len};
+ghost use Rattle.sc_items.specs.Reach.{Reaches, EdgesWithin, marked, IsReached, Marks};
+
 use sc_base::OutOfMemory;
 use std::alloc::Global;
 
@@ -7,7 +10,12 @@ pub fn reachable(
     alloc: Global,
     edges: &[Vec<usize>],
     starts: &[usize],
-) -> Result<Vec<bool>, OutOfMemory> {
+) -> Result<Vec<bool>, OutOfMemory>
+    requires edges { EdgesWithin edges.now }
+    requires starts { All (λ node. node < length edges.now) starts.now }
+    ensures len { IfOk result (λ reached. vec_len reached ≡ length edges.now) }
+    ensures exact { IfOk result (λ reached. IsReached edges.now starts.now reached.items) }
+{
     let mut reached = vec![in alloc; false; edges.len()]?;
     let mut pending = Vec::new(alloc);
     reach(&mut reached, &mut pending, starts)?;
@@ -22,7 +30,10 @@ fn reach(
     reached: &mut Vec<bool>,
     pending: &mut Vec<usize>,
     nodes: &[usize],
-) -> Result<(), OutOfMemory> {
+) -> Result<(), OutOfMemory> 
+    requires { All (λ node. node < vec_len reached.old) nodes.now }
+    ensures { OnOk result (Marks reached.old.items reached.new.items pending.old.items pending.new.items nodes.now) }
+{
     for node in nodes {
         if !reached[*node] {
             reached[*node] = true;
