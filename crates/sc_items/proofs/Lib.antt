@@ -1,1 +1,4 @@
 pub mod Reaching
+pub mod Listing
+pub mod Opening
+pub mod Numbering

@@ -1,6 +1,6 @@
 //! Items. An item is a production with a dot in its right side, and goes by the place of the entry before the dot.
 ghost use Rattle.std.specs.Prelude.{◌≡◌, ◌<◌, ◌≤◌, ◌+◌, length, IfSome, true};
-ghost use Rattle.sc_model.specs.Grammar.{IsGrammar, after, begun, symbol_number, is_known};
+ghost use Rattle.sc_model.specs.Grammar.{IsGrammar, after, begun, symbol_number, is_known, is_left, production_at};
 
 use sc_model::{Entry, Grammar, Symbol};
 
@@ -40,4 +40,23 @@ pub fn begun(grammar: &Grammar, item: usize) -> Option<usize>
         Some(Entry::Left(left, _)) => Some(grammar.terminals + left.0),
         _ => None,
     }
+}
+
+/// Whether a production begins with the entry.
+fn is_left(entry: &Entry) -> bool
+    ensures { result ≡ is_left entry.now }
+{
+    match entry {
+        Entry::Left(_, _) => true,
+        Entry::Right(_) => false,
+    }
+}
+
+/// The number of the item's production.
+pub fn production_at(grammar: &Grammar, item: usize) -> usize
+    requires { item < length grammar.now.entries.now }
+    ensures { result ≡ production_at grammar.now item }
+{
+    let entries = &grammar.entries[..item + 1];
+    entries.iter().filter(|entry| is_left(entry)).count()
 }

@@ -2,7 +2,9 @@
 #![tactic(auto)]
 
 mod item;
+mod kernel;
 mod reach;
 
-pub use item::{after, begun};
+pub use item::{after, begun, production_at};
+pub use kernel::opened;
 pub use reach::reachable;
