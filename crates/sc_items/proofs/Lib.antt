@@ -2,3 +2,4 @@ pub mod Reaching
 pub mod Listing
 pub mod Opening
 pub mod Numbering
+pub mod Finding
