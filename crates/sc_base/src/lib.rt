@@ -1,22 +1,22 @@
-//! What every layer speaks of.
+//! What every layer speaks of: places, ids, limits, refusals, and the tables of names and of files.
 #![tactic(auto)]
 
-use std::alloc::{AllocError, AllocFailed};
-use thiserror::Error;
+mod fault;
+mod files;
+mod id;
+mod limits;
+mod names;
+mod place;
+mod stop;
 
-/// No memory was left.
-#[derive(Clone, Copy, Debug, PartialEq, Eq, Error)]
-#[error("out of memory")]
-pub struct OutOfMemory;
+pub use fault::Fault;
+pub use files::Files;
+pub use id::{Cond, FileId, Name, TreeId};
+pub use limits::Limits;
+pub use names::Names;
+pub use place::Place;
+pub use sc_model::Cause;
+pub use stop::{OutOfMemory, Stop};
 
-impl From<AllocError> for OutOfMemory {
-    fn from(_refused: AllocError) -> OutOfMemory {
-        OutOfMemory
-    }
-}
-
-impl<T: Drop> From<AllocFailed<T>> for OutOfMemory {
-    fn from(_refused: AllocFailed<T>) -> OutOfMemory {
-        OutOfMemory
-    }
-}
+#[cfg(test)]
+mod tests;

@@ -1,0 +1,89 @@
+ghost use Rattle.std.specs.Prelude.{◌≡◌, ◌≤◌, Contains, IfOk, IfSome, IsErrOf, None, take, vec_len};
+ghost use Rattle.sc_model.specs.Outside.{Rose};
+
+use crate::fault_plan::next_count;
+use crate::{Source, SourceStop};
+use std::alloc::Global;
+use std::fs::File;
+use std::io::{ErrorKind, Read};
+use std::rt::Files;
+
+/// The most bytes that are read of one file: one more than a file may have.
+pub const MOST_READ: usize = 16 * 1024 * 1024 + 1;
+
+/// The files of the system. What they hold no contract can tell, so it tells nothing.
+///
+/// A file that is missing, or whose name has a zero byte, is `None`; every other error fails. Of a long file the first
+/// `MOST_READ` bytes are read.
+#[derive(Drop)]
+pub struct FileSource<R> {
+    rt: R,
+    faults: u64,
+}
+
+impl<R: Files> FileSource<R> {
+    ghost use Rattle.sc_source.specs.FileSource.{faults_of};
+
+    /// The files that `rt` reaches.
+    pub fn new(rt: R) -> Self
+        ensures { faults_of result ≡ 0 }
+    {
+        FileSource { rt, faults: 0 }
+    }
+}
+
+impl<R: Files> Source for FileSource<R> {
+    ghost use Rattle.sc_source.specs.FileSource.{faults_of};
+
+    ghost holds = { λ _. None };
+
+    ghost faults = { faults_of };
+
+    fn read(&mut self, alloc: Global, name: &str) -> Result<Option<Vec<u8>>, SourceStop>
+        ensures counted { faults_of self.old ≤ faults_of self.new }
+        ensures failed { IsErrOf result SourceStop.Failed → Rose (faults_of self.old) (faults_of self.new) }
+        ensures bounded { IfOk result (λ text. IfSome text (λ bytes. vec_len bytes ≤ MOST_READ)) }
+        ensures zero_byte { Contains name.now 0 → IfOk result (λ text. text ≡ None) }
+    {
+        let answer = read_file(&self.rt, alloc, name);
+        if matches!(&answer, Err(SourceStop::Failed)) {
+            self.faults = next_count(self.faults);
+        }
+        answer
+    }
+}
+
+fn read_file<R: Files>(
+    rt: &R,
+    alloc: Global,
+    name: &str,
+) -> Result<Option<Vec<u8>>, SourceStop>
+    ensures bounded { IfOk result (λ text. IfSome text (λ bytes. vec_len bytes ≤ MOST_READ)) }
+    ensures zero_byte { Contains name.now 0 → IfOk result (λ text. text ≡ None) }
+{
+    if name.as_bytes().contains(&0) {
+        return Ok(None);
+    }
+    match File::open(rt, name) {
+        Ok(file) => Ok(Some(read_front(file, alloc)?)),
+        Err(e) if e.kind() == ErrorKind::NotFound => Ok(None),
+        Err(_) => Err(SourceStop::Failed),
+    }
+}
+
+// A file's bytes, as far as they are read.
+fn read_front<F: Read + Drop>(file: F, alloc: Global) -> Result<Vec<u8>, SourceStop>
+    ensures bounded { IfOk result (λ bytes. vec_len bytes ≤ MOST_READ) }
+    ensures front { IfSome (F.remaining file) (λ all. IfOk result (λ bytes. bytes.items ≡ take MOST_READ all)) }
+{
+    let mut bytes = Vec::new(alloc);
+    match file.take(MOST_READ as u64).read_to_end(&mut bytes) {
+        Ok(_) => {
+            // No more was read. The contract of `read_to_end` doesn't say so.
+            bytes.truncate(MOST_READ);
+            Ok(bytes)
+        }
+        Err(e) if e.kind() == ErrorKind::OutOfMemory => Err(SourceStop::OutOfMemory),
+        Err(_) => Err(SourceStop::Failed),
+    }
+}
