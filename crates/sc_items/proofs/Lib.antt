@@ -3,3 +3,5 @@ pub mod Listing
 pub mod Opening
 pub mod Numbering
 pub mod Finding
+pub mod Exploring
+pub mod Searching

@@ -49,10 +49,10 @@ IsOpenedBelow-push g n rows row h one = record {
 }
 
 -- an item with something after its dot or its dot at the beginning is one of the entries
-begun_within : (g : Grammar) (j x : ℕ) → begun g j ≡ Some x → j < length g.entries.now
+pub begun_within : (g : Grammar) (j x : ℕ) → begun g j ≡ Some x → j < length g.entries.now
 begun_within g j x h = option_and_then_some (left_in g.terminals) (slice_get g.entries.now j) x h (λ entry at is. slice_get_within g.entries.now j entry at)
 
-after_within : (g : Grammar) (i x : ℕ) → after g i ≡ Some x → i + 1 < length g.entries.now
+pub after_within : (g : Grammar) (i x : ℕ) → after g i ≡ Some x → i + 1 < length g.entries.now
 after_within g i x h = option_and_then_some (right_in g.terminals) (slice_get g.entries.now (i + 1)) x h (λ entry at is. slice_get_within g.entries.now (i + 1) entry at)
 
 pub IsOpened-done : (g : Grammar) (n : ℕ) (rows : List (Vec ℕ Global)) → n ≡ length g.entries.now → IsOpenedBelow g n rows → IsOpened g rows
