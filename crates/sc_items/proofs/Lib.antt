@@ -5,3 +5,4 @@ pub mod Numbering
 pub mod Finding
 pub mod Exploring
 pub mod Searching
+pub mod Reading
