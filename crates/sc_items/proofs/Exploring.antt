@@ -8,7 +8,7 @@ use Rattle.std.proofs.lemmas.List.Elements.{Contains-get_or}
 use Rattle.std.proofs.lemmas.Option.{same_Some, slice_get_within, none-some, option_and_then_some}
 use Rattle.std.proofs.lemmas.Bool.{cases_lt, false≢true}
 use Rattle.std.proofs.lemmas.Bool.Decides.{nat_tests}
-use Rattle.sc_model.specs.Grammar.{IsGrammar, IsStart, after, begun, right_in, is_known, symbol_number}
+use Rattle.sc_model.specs.Grammar.{IsGrammar, IsStart, after, begun, right_in, left_in, is_known, symbol_number}
 use Rattle.sc_model.specs.Tables.{Closure, given, opened, Moved, IsGoto, IsLeastPair, IsStates, Before}
 use Rattle.sc_model.specs.declared.grammar.Grammar.{Grammar}
 use Rattle.sc_model.specs.declared.grammar.Entry.{Entry}
@@ -37,6 +37,13 @@ right_small t n x (Right (Nonterminal a)) known is = let e : t + a.0 ≡ x = sam
 
 pub after_small : (g : Grammar) (i x : ℕ) → IsGrammar g → after g i ≡ Some x → x < g.terminals + g.nonterminals
 after_small g i x h e = option_and_then_some (right_in g.terminals) (slice_get g.entries.now (i + 1)) x e (λ entry at is. right_small g.terminals g.nonterminals x entry (list_all_at (is_known g.terminals g.nonterminals) g.entries.now (i + 1) entry h.known at) is)
+
+left_small : (t n x : ℕ) (e : Entry) → is_known t n e ≡ true → left_in t e ≡ Some x → x < t + n
+left_small t n x (Left l mark) known is = let e : t + l.0 ≡ x = same_Some (t + l.0) x is in grind (arith, nat_tests)
+left_small t n x (Right symbol) known is = absurd (none-some x is)
+
+pub begun_small : (g : Grammar) (i x : ℕ) → IsGrammar g → begun g i ≡ Some x → x < g.terminals + g.nonterminals
+begun_small g i x h e = option_and_then_some (left_in g.terminals) (slice_get g.entries.now i) x e (λ entry at is. left_small g.terminals g.nonterminals x entry (list_all_at (is_known g.terminals g.nonterminals) g.entries.now i entry h.known at) is)
 
 -- ---- the closure is what can be reached along the edges that are opened
 pub closure_from_reached : (g : Grammar) (rows : List (Vec ℕ Global)) (kernel : List ℕ) → IsOpened g rows → (i : ℕ) → Reaches rows kernel i → Closure g kernel i

@@ -1,7 +1,6 @@
 //! The LALR(1) tables of a grammar.
 #![tactic(auto)]
 
+mod first;
 mod lookahead;
-mod tables;
-
-pub use tables::{Tables, build};
+mod propagation;

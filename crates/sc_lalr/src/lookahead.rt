@@ -1,107 +1,118 @@
-//! Lookaheads: which terminals may stand after an item of a state.
+//! Lookaheads.
+ghost use Rattle.std.specs.Prelude.{◌≡◌, ◌<◌, ◌↔◌, ◌+◌, ◌*◌, ◌^◌, ◌/◌, ◌++◌, ℕ, length, IfOk, OnOk, All, IsTrue};
+ghost use Rattle.std.specs.List.{flat_map};
+ghost use Rattle.sc_model.specs.Grammar.{IsGrammar};
+ghost use Rattle.sc_items.specs.Kernel.{IsOpened, IsListOf};
+ghost use Rattle.sc_items.specs.States.{AreStates, kernels_of};
+ghost use Rattle.sc_lalr.specs.Propagation.{IsSource, AreLookaheads, seed_part};
+
+use crate::first::{beginners, leading};
+use crate::propagation::{propagation, shifted};
 use sc_base::OutOfMemory;
-use sc_items::{States, after, begun, reachable};
+use sc_items::{States, after, opened, reachable};
 use sc_model::Grammar;
 use std::alloc::Global;
 
-/// For each symbol the terminals (and other symbols) that a text derived from it can begin with.
-pub fn firsts(alloc: Global, grammar: &Grammar) -> Result<Vec<Vec<bool>>, OutOfMemory> {
-    let edges = leading(alloc, grammar)?;
+/// For each terminal the nodes of which it is a lookahead, as marks.
+pub fn lookaheads(
+    alloc: Global,
+    grammar: &Grammar,
+    states: &States,
+) -> Result<Vec<Vec<bool>>, OutOfMemory>
+    requires grammar { IsGrammar grammar.now }
+    requires states { AreStates grammar.now states.now }
+    requires small { length (kernels_of states.now) * length grammar.now.entries.now < 2 ^ 64 }
+    ensures { IfOk result (λ rows. AreLookaheads grammar.now (kernels_of states.now) rows.items) }
+{
+    let opened = opened(alloc, grammar)?;
+    let leading = leading(alloc, grammar)?;
+    let sources = sources(alloc, grammar, states)?;
+    let edges = propagation(alloc, grammar, states, &opened)?;
     let mut rows = Vec::new(alloc);
-    for symbol in 0..edges.len() {
-        rows.push(reachable(alloc, &edges, &[symbol])?)?;
+    for terminal in 0..grammar.terminals {
+        let begin = beginners(alloc, &leading, terminal)?;
+        let starts = spontaneous(alloc, grammar, &opened, &sources, &begin)?;
+        rows.push(reachable(alloc, &edges, &starts)?)?;
     }
     Ok(rows)
 }
 
-/// For each symbol those that its productions begin with.
-fn leading(alloc: Global, grammar: &Grammar) -> Result<Vec<Vec<usize>>, OutOfMemory> {
-    let mut edges = Vec::new(alloc);
-    for symbol in 0..grammar.terminals + grammar.nonterminals {
-        edges.push(first_symbols(alloc, grammar, symbol)?)?;
-    }
-    Ok(edges)
-}
-
-fn first_symbols(alloc: Global, grammar: &Grammar, symbol: usize) -> Result<Vec<usize>, OutOfMemory> {
-    let mut symbols = Vec::new(alloc);
-    for item in 0..grammar.entries.len() {
-        if begun(grammar, item) == Some(symbol) {
-            if let Some(first) = after(grammar, item) {
-                symbols.push(first)?;
-            }
-        }
-    }
-    Ok(symbols)
-}
-
-/// For each item of each state the items to which its lookaheads go on. Item `i` of state `s` is node `s * n + i`, where `n` is
-/// the number of the items.
-pub fn propagations(
-    alloc: Global,
-    grammar: &Grammar,
-    states: &States,
-    opened: &[Vec<usize>],
-) -> Result<Vec<Vec<usize>>, OutOfMemory> {
-    let mut edges = Vec::new(alloc);
-    for state in 0..states.items.len() {
-        for item in 0..grammar.entries.len() {
-            edges.push(propagated(alloc, grammar, states, opened, state, item)?)?;
-        }
-    }
-    Ok(edges)
-}
-
-fn propagated(
-    alloc: Global,
-    grammar: &Grammar,
-    states: &States,
-    opened: &[Vec<usize>],
-    state: usize,
-    item: usize,
-) -> Result<Vec<usize>, OutOfMemory> {
-    let n = grammar.entries.len();
+/// The nodes whose item has a symbol behind the symbol after its dot.
+fn sources(alloc: Global, grammar: &Grammar, states: &States) -> Result<Vec<usize>, OutOfMemory>
+    requires grammar { IsGrammar grammar.now }
+    requires states { AreStates grammar.now states.now }
+    requires small { length (kernels_of states.now) * length grammar.now.entries.now < 2 ^ 64 }
+    ensures { IfOk result (λ nodes. IsListOf (length (kernels_of states.now) * length grammar.now.entries.now)
+        (IsSource grammar.now (kernels_of states.now)) nodes.items) }
+{
     let mut nodes = Vec::new(alloc);
-    if !states.items[state][item] {
-        return Ok(nodes);
-    }
-    let Some(symbol) = after(grammar, item) else {
-        return Ok(nodes);
-    };
-    if let Some(target) = states.gotos[state][symbol] {
-        nodes.push(target * n + item + 1)?;
-    }
-    if after(grammar, item + 1).is_none() {
-        for begun in &opened[item] {
-            nodes.push(state * n + *begun)?;
+    for node in 0..states.len() * grammar.entries.len() {
+        if is_source(grammar, states, node) {
+            nodes.push(node)?;
         }
     }
     Ok(nodes)
 }
 
-/// The items that get the terminal as a lookahead from the symbol that stands after the symbol after a dot.
-pub fn spontaneous(
+fn is_source(grammar: &Grammar, states: &States, node: usize) -> bool
+    requires grammar { IsGrammar grammar.now }
+    requires states { AreStates grammar.now states.now }
+    requires node { node < length (kernels_of states.now) * length grammar.now.entries.now }
+    ensures { IsTrue result ↔ IsSource grammar.now (kernels_of states.now) node }
+{
+    let n = grammar.entries.len();
+    let item = node % n;
+    if !states.has(node / n, item) {
+        return false;
+    }
+    if after(grammar, item).is_none() {
+        return false;
+    }
+    after(grammar, item + 1).is_some()
+}
+
+/// The nodes that get a terminal from the symbol behind the symbol after a dot. It is given by the symbols from which a text
+/// can be derived that begins with it.
+fn spontaneous(
     alloc: Global,
     grammar: &Grammar,
-    states: &States,
     opened: &[Vec<usize>],
-    firsts: &[Vec<bool>],
-    terminal: usize,
-) -> Result<Vec<usize>, OutOfMemory> {
-    let n = grammar.entries.len();
+    sources: &[usize],
+    begin: &[bool],
+) -> Result<Vec<usize>, OutOfMemory>
+    requires grammar { IsGrammar grammar.now }
+    requires opened { IsOpened grammar.now opened.now }
+    requires some { 0 < length grammar.now.entries.now }
+    requires fits { All (λ u. (u / length grammar.now.entries.now + 1) * length grammar.now.entries.now < 2 ^ 64) sources.now }
+    requires begin { length begin.now ≡ grammar.now.terminals + grammar.now.nonterminals }
+    ensures { IfOk result (λ nodes. nodes.items ≡ flat_map (seed_part grammar.now opened.now begin.now) sources.now) }
+{
     let mut nodes = Vec::new(alloc);
-    for (state, items) in states.items.iter().enumerate() {
-        for (item, is_in) in items.iter().enumerate() {
-            if *is_in {
-                if let Some(next) = after(grammar, item + 1) {
-                    if after(grammar, item).is_some() && firsts[next][terminal] {
-                        for begun in &opened[item] {
-                            nodes.push(state * n + *begun)?;
-                        }
-                    }
-                }
-            }
-        }
+    for source in sources {
+        seeded(&mut nodes, grammar, opened, begin, *source)?;
     }
     Ok(nodes)
+}
+
+/// Adds what one node opens, where a text that may follow there begins with the terminal.
+fn seeded(
+    nodes: &mut Vec<usize>,
+    grammar: &Grammar,
+    opened: &[Vec<usize>],
+    begin: &[bool],
+    source: usize,
+) -> Result<(), OutOfMemory>
+    requires grammar { IsGrammar grammar.now }
+    requires opened { IsOpened grammar.now opened.now }
+    requires some { 0 < length grammar.now.entries.now }
+    requires fits { (source / length grammar.now.entries.now + 1) * length grammar.now.entries.now < 2 ^ 64 }
+    requires begin { length begin.now ≡ grammar.now.terminals + grammar.now.nonterminals }
+    ensures { OnOk result (nodes.new.items ≡ nodes.old.items ++ seed_part grammar.now opened.now begin.now source) }
+{
+    let n = grammar.entries.len();
+    let item = source % n;
+    match after(grammar, item + 1) {
+        Some(next) if begin[next] => shifted(nodes, (source / n) * n, &opened[item]),
+        _ => Ok(()),
+    }
 }
