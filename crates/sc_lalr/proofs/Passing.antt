@@ -49,7 +49,7 @@ contains_cases : (x v : ℕ) (xs : List ℕ) → Contains (x ∷ xs) v → (x �
 contains_cases x v xs (zero, a, b) = inl b
 contains_cases x v xs (suc k, a, b) = inr (k, omega (arith, a), b)
 
-map_to : (base v : ℕ) (xs : List ℕ) → Contains (map (λ j. base + j) xs) v → (j : ℕ) × Contains xs j × (v ≡ base + j)
+pub map_to : (base v : ℕ) (xs : List ℕ) → Contains (map (λ j. base + j) xs) v → (j : ℕ) × Contains xs j × (v ≡ base + j)
 map_to base v [] h = absurd (no_member v h)
 map_to base v (x ∷ xs) h = go (map_to base v xs) (contains_cases (base + x) v (map (λ j. base + j) xs) h)
   where
@@ -57,7 +57,7 @@ map_to base v (x ∷ xs) h = go (map_to base v xs) (contains_cases (base + x) v 
     go more (inl e) = (x, contains_head x x xs refl, sym e)
     go more (inr a) = let m = more a in (m.0, contains_tail x m.0 xs m.1, m.2)
 
-map_from : (base j : ℕ) (xs : List ℕ) → Contains xs j → Contains (map (λ j. base + j) xs) (base + j)
+pub map_from : (base j : ℕ) (xs : List ℕ) → Contains xs j → Contains (map (λ j. base + j) xs) (base + j)
 map_from base j [] h = absurd (no_member j h)
 map_from base j (x ∷ xs) h = go (map_from base j xs) (contains_cases x j xs h)
   where
@@ -193,3 +193,11 @@ pub row_opens : (g : Grammar) (rows : List (Vec ℕ Global)) (i : ℕ) (row : Ve
 row_opens g rows i row view h at e j =
     (λ w. h.sound i j (record { row = row; row_at = at; in_row = subst (λ zs. Contains zs j) e w }),
     λ o. let edge = h.complete i j o in subst (λ zs. Contains zs j) (sym e) (subst (λ (r : Vec ℕ Global). Contains r.items j) (same_Some edge.row row (sym edge.row_at ∙ at)) edge.in_row))
+
+-- the last node of a loop
+pub at_end : (node len k n : ℕ) → len ≡ k → node ≤ len * n → len * n ≤ node → node ≡ k * n
+at_end node len k n e a b = let f : len * n ≡ k * n = ap (λ z. z * n) e in omega arith
+
+pub some_entries : (k n u : ℕ) → u < k * n → 0 < n
+some_entries k zero u h = omega (arith, h)
+some_entries k (suc n) u h = omega arith

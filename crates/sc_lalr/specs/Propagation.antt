@@ -1,5 +1,5 @@
 -- Lookaheads as nodes of a graph. Item i of state s is node s * n + i, where n is the number of the items.
-use Rattle.std.specs.Prelude.{◌≡◌, ◌↔◌, ◌<◌, ◌+◌, ◌*◌, ◌/◌, ◌%◌, if◌then◌else◌, ℕ, Bool, IsTrue, List, [], ◌∷◌, length, slice_get, map, Option, Some, None, Vec}
+use Rattle.std.specs.Prelude.{◌≡◌, ◌↔◌, ◌<◌, ◌+◌, ◌*◌, ◌/◌, ◌%◌, ◌^◌, if◌then◌else◌, ℕ, Bool, IsTrue, List, [], ◌∷◌, length, slice_get, map, Option, Some, None, Vec}
 use Rattle.std.specs.List.{Contains}
 use Rattle.std.specs.Option.{option_map_or}
 use Rattle.std.specs.declared.alloc.Global.{Global}
@@ -83,3 +83,8 @@ seed_part g opened begin u =
     (λ y. if marked begin y then map (λ j. u / length g.entries.now * length g.entries.now + j) (row_at opened (u % length g.entries.now)) else [])
     (after g (u % length g.entries.now + 1))
     []
+
+-- each node of the state fits into a machine word
+pub record NodeFits (n u : ℕ) : Type 0 where
+  pub positive : 0 < n
+  pub small : u / n * n + n < 2 ^ 64

@@ -4,7 +4,7 @@ ghost use Rattle.std.specs.List.{flat_map};
 ghost use Rattle.sc_model.specs.Grammar.{IsGrammar};
 ghost use Rattle.sc_items.specs.Kernel.{IsOpened, IsListOf};
 ghost use Rattle.sc_items.specs.States.{AreStates, kernels_of};
-ghost use Rattle.sc_lalr.specs.Propagation.{IsSource, AreLookaheads, seed_part};
+ghost use Rattle.sc_lalr.specs.Propagation.{IsSource, AreLookaheads, NodeFits, seed_part};
 
 use crate::first::{beginners, leading};
 use crate::propagation::{propagation, shifted};
@@ -82,8 +82,7 @@ fn spontaneous(
 ) -> Result<Vec<usize>, OutOfMemory>
     requires grammar { IsGrammar grammar.now }
     requires opened { IsOpened grammar.now opened.now }
-    requires some { 0 < length grammar.now.entries.now }
-    requires fits { All (λ u. (u / length grammar.now.entries.now + 1) * length grammar.now.entries.now < 2 ^ 64) sources.now }
+    requires fits { All (NodeFits (length grammar.now.entries.now)) sources.now }
     requires begin { length begin.now ≡ grammar.now.terminals + grammar.now.nonterminals }
     ensures { IfOk result (λ nodes. nodes.items ≡ flat_map (seed_part grammar.now opened.now begin.now) sources.now) }
 {
@@ -104,8 +103,7 @@ fn seeded(
 ) -> Result<(), OutOfMemory>
     requires grammar { IsGrammar grammar.now }
     requires opened { IsOpened grammar.now opened.now }
-    requires some { 0 < length grammar.now.entries.now }
-    requires fits { (source / length grammar.now.entries.now + 1) * length grammar.now.entries.now < 2 ^ 64 }
+    requires fits { NodeFits (length grammar.now.entries.now) source }
     requires begin { length begin.now ≡ grammar.now.terminals + grammar.now.nonterminals }
     ensures { OnOk result (nodes.new.items ≡ nodes.old.items ++ seed_part grammar.now opened.now begin.now source) }
 {
