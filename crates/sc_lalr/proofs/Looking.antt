@@ -63,7 +63,7 @@ lookahead_has g states t s i (moved q k x r l over goto) =
     record { kernel = goto.target; kernel_at = goto.target_at; within = closure_given (k + 1) ((goto.moved (k + 1)).1 (record { from = k; within = subst (λ zs. Closure g zs k) same h.within; over = over; to = refl })) }
 
 -- ---- all of them
-module _ (g : Grammar) (states : List (List ℕ)) (t : ℕ) (rows edges : List (Vec ℕ Global)) (begin marks : List Bool) (sources starts : List ℕ) (rows_are : IsOpened g rows) (edges_are : IsPropagation g states edges) (begin_is : (x : ℕ) → IsTrue (marked begin x) ↔ First g t x) (sources_are : IsListOf (length states * length g.entries.now) (IsSource g states) sources) (starts_are : starts ≡ flat_map (seed_part g rows begin) sources) (reached : IsReached edges starts marks) where
+module _ (g : Grammar) (states : List (List ℕ)) (t : ℕ) (rows edges : List (Vec ℕ Global)) (begin marks : List Bool) (sources starts : List ℕ) (rows_are : IsOpened g rows) (edges_are : IsPropagation g states edges) (begin_is : (x : ℕ) → IsTrue (marked begin x) ↔ First g t x) (sources_are : IsListOf (length states * length g.entries.now) (IsSource g states) sources) (starts_are : starts ≡ flat_map (seed_part g rows begin) sources) where
   start_to : (v : ℕ) → Contains starts v → IsSpontaneous g states t v
   start_to v w =
       let u = flat_to (seed_part g rows begin) v sources (subst (λ zs. Contains zs v) starts_are w) in
@@ -85,6 +85,11 @@ module _ (g : Grammar) (states : List (List ℕ)) (t : ℕ) (rows edges : List (
           begins = opens.begins ∙ ap (λ z. Some z) over_same
         }
       }
+
+  pub start_within : (v : ℕ) → Contains starts v → v < length states * length g.entries.now
+  start_within v w =
+      let h = (start_to v w).seeded in
+      omega (arith, mul-add-lt h.source.s (length g.entries.now) h.j (length states) (slice_get_within states h.source.s h.source.has.kernel h.source.has.kernel_at) h.to.within, h.to.is)
 
   start_from : (v : ℕ) → IsSpontaneous g states t v → Contains starts v
   start_from v p =
@@ -164,8 +169,8 @@ module _ (g : Grammar) (states : List (List ℕ)) (t : ℕ) (rows edges : List (
         passes = along x r has over goto
       }))
 
-  pub lookahead_exact : (s i : ℕ) → i < length g.entries.now → IsTrue (marked marks (s * length g.entries.now + i)) ↔ Lookahead g states t s i
-  lookahead_exact s i within =
+  pub lookahead_exact : IsReached edges starts marks → (s i : ℕ) → i < length g.entries.now → IsTrue (marked marks (s * length g.entries.now + i)) ↔ Lookahead g states t s i
+  lookahead_exact reached s i within =
       (λ m. lookahead_to (s * length g.entries.now + i) (reached.sound (s * length g.entries.now + i) m) s i (record { within = within; is = refl }),
       λ l. reached.complete (s * length g.entries.now + i) (lookahead_from s i l))
 
