@@ -18,17 +18,17 @@ use Rattle.sc_items.proofs.Listing.{no_member}
 use Rattle.sc_items.proofs.Opening.{slice_get-push_old, slice_get-push_new, slice_get-push_cases}
 
 -- ---- two rising lists with the same members are one
-cons_cases : (x v : ℕ) (xs : List ℕ) → Contains (x ∷ xs) v → (x ≡ v) ⊎ Contains xs v
+pub cons_cases : (x v : ℕ) (xs : List ℕ) → Contains (x ∷ xs) v → (x ≡ v) ⊎ Contains xs v
 cons_cases x v xs (zero, h, e) = inl e
 cons_cases x v xs (suc k, h, e) = inr (k, omega (arith, h), e)
 
-cons_head : (x : ℕ) (xs : List ℕ) → Contains (x ∷ xs) x
+pub cons_head : (x : ℕ) (xs : List ℕ) → Contains (x ∷ xs) x
 cons_head x xs = (0, omega arith, refl)
 
-cons_tail : (x v : ℕ) (xs : List ℕ) → Contains xs v → Contains (x ∷ xs) v
+pub cons_tail : (x v : ℕ) (xs : List ℕ) → Contains xs v → Contains (x ∷ xs) v
 cons_tail x v xs h = (suc h.0, omega (arith, h.1), h.2)
 
-head_below : (x v : ℕ) (xs : List ℕ) → IsStrictlySortedBy nat_cmp (x ∷ xs) → Contains xs v → x < v
+pub head_below : (x v : ℕ) (xs : List ℕ) → IsStrictlySortedBy nat_cmp (x ∷ xs) → Contains xs v → x < v
 head_below x v xs sorted h = subst (λ y. x < y) h.2 (below_from_sorted (x ∷ xs) 0 (suc h.0) v sorted (omega arith) (omega (arith, h.1)))
 
 sorted_same : (xs ys : List ℕ) → IsStrictlySortedBy nat_cmp xs → IsStrictlySortedBy nat_cmp ys → ((v : ℕ) → Contains xs v → Contains ys v) → ((v : ℕ) → Contains ys v → Contains xs v) → xs ≡ ys

@@ -1,3 +1,6 @@
+pub mod Deciding
 pub mod Leading
-pub mod Passing
 pub mod Looking
+pub mod Passing
+pub mod Reducing
+pub mod Tabling
