@@ -71,7 +71,7 @@ before_trans r y s x p z (inr a) (inl b) = inl (omega (arith, a.0))
 before_trans r y s x p z (inr a) (inr b) = inr (a.0 ∙ b.0, omega (arith, a.1, b.1))
 
 -- what is not after a pair is before each pair that this one is before
-before_from_least : (r y s x p z : ℕ) → (Before s x r y → ⊥) → Before s x p z → Before r y p z
+pub before_from_least : (r y s x p z : ℕ) → (Before s x r y → ⊥) → Before s x p z → Before r y p z
 before_from_least r y s x p z not b = go (cases_lt s r) (cases_lt r s) (cases_lt x y) b
   where
     go : (s < r) ⊎ (r ≤ s) → (r < s) ⊎ (s ≤ r) → (x < y) ⊎ (y ≤ x) → Before s x p z → Before r y p z
@@ -82,7 +82,7 @@ before_from_least r y s x p z not b = go (cases_lt s r) (cases_lt r s) (cases_lt
     go (inr a) (inr c) (inr d) (inl b) = inl (omega arith)
     go (inr a) (inr c) (inr d) (inr b) = inr (omega (arith, b.0), omega (arith, b.1))
 
-before_or_not : (s x p z : ℕ) → (Before p z s x → ⊥) → (r y : ℕ) → Before r y s x → Before r y p z
+pub before_or_not : (s x p z : ℕ) → (Before p z s x → ⊥) → (r y : ℕ) → Before r y s x → Before r y p z
 before_or_not s x p z not r y b = go (cases_lt p s) (cases_lt s p) (cases_lt z x) b
   where
     go : (p < s) ⊎ (s ≤ p) → (s < p) ⊎ (p ≤ s) → (z < x) ⊎ (x ≤ z) → Before r y s x → Before r y p z

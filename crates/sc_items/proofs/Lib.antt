@@ -6,3 +6,4 @@ pub mod Finding
 pub mod Exploring
 pub mod Searching
 pub mod Reading
+pub mod Determined
