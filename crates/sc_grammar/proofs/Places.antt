@@ -1,5 +1,5 @@
 -- Where the productions stand among the entries.
-use Rattle.std.proofs.Common.{zero, suc, ◌≡◌, ◌<◌, ◌≤◌, ◌+◌, ◌-◌, ℕ, List, [], ◌∷◌, ◌++◌, length, slice_get, slice_range, take, drop, Option, Some, None, refl, sym, ap, ◌∙◌, subst, arith, zero-add, add_assoc}
+use Rattle.std.proofs.Common.{zero, suc, ◌≡◌, ◌<◌, ◌≤◌, ◌+◌, ◌-◌, ℕ, List, [], ◌∷◌, ◌++◌, length, slice_get, slice_range, take, drop, Option, Some, refl, sym, ap, ◌∙◌, subst, arith, zero-add}
 use Rattle.std.proofs.lemmas.List.{append_assoc, length-append, drop_at, take_at, length_push}
 use Rattle.std.proofs.lemmas.Option.{same_Some, none-some}
 use Rattle.sc_model.specs.Grammar.{Production as Rule, entries_of, right_entries}
@@ -7,7 +7,7 @@ use Rattle.sc_model.specs.declared.grammar.Symbol.{Symbol}
 use Rattle.sc_model.specs.declared.grammar.Mark.{Mark}
 use Rattle.sc_model.specs.declared.grammar.Nonterminal.{Nonterminal}
 use Rattle.sc_model.specs.declared.grammar.Entry.{Entry}
-use Rattle.sc_model.specs.declared.grammar.Entry.TheVariants.{Left, Right}
+use Rattle.sc_model.specs.declared.grammar.Entry.TheVariants.{Left}
 use Rattle.sc_grammar.specs.Production.{symbols_of, places_from}
 
 length_right : (xs : List Symbol) → length (right_entries xs) ≡ length xs
@@ -43,7 +43,7 @@ stands n (q ∷ ps) zero p h =
       behind = entries_of ps;
       entries = refl;
       begin = ap (λ z. Some z) (omega arith);
-      end = head_place (n + (length q.right + 1)) ps ∙ ap (λ z. Some z) (omega arith)
+      end = head_place (n + (length q.right + 1)) ps ∙ ap (λ z. Some z) (omega arith);
     })
 stands n (q ∷ ps) (suc k) p h =
     let s = stands (n + (length q.right + 1)) ps k p h in
@@ -54,7 +54,7 @@ stands n (q ∷ ps) (suc k) p h =
       behind = s.behind;
       entries = ap (λ zs. first ++ zs) s.entries ∙ sym (append_assoc first s.before (Left (record { 0 = p.left }) p.mark ∷ (right_entries p.right ++ s.behind)));
       begin = s.begin ∙ ap (λ z. Some z) long;
-      end = s.end ∙ ap (λ z. Some (z + (length p.right + 1))) long
+      end = s.end ∙ ap (λ z. Some (z + (length p.right + 1))) long;
     }
 
 -- what is read between the two places is the production
@@ -69,9 +69,9 @@ reads ps entries right k begin end p at e f h r =
     let split : entries ≡ first ++ (right_entries p.right ++ s.behind) = whole ∙ sym (append_assoc s.before (Left (record { 0 = p.left }) p.mark ∷ []) (right_entries p.right ++ s.behind)) in
     let first_long : length first ≡ begin + 1 = length_push s.before (Left (record { 0 = p.left }) p.mark) ∙ ap (λ z. z + 1) (sym begin_is) in
     let right_is : right ≡ right_entries p.right =
-        r ∙ ap (λ zs. take (end - (begin + 1)) (drop (begin + 1) zs)) split
-        ∙ ap (take (end - (begin + 1))) (drop_at first (right_entries p.right ++ s.behind) (begin + 1) first_long)
-        ∙ take_at (right_entries p.right) s.behind (end - (begin + 1)) (omega (arith, length_right p.right, begin_is, end_is)) in
+    r ∙ ap (λ zs. take (end - (begin + 1)) (drop (begin + 1) zs)) split
+    ∙ ap (take (end - (begin + 1))) (drop_at first (right_entries p.right ++ s.behind) (begin + 1) first_long)
+    ∙ take_at (right_entries p.right) s.behind (end - (begin + 1)) (omega (arith, length_right p.right, begin_is, end_is)) in
     let long : length entries ≡ length first + (length (right_entries p.right) + length s.behind) = ap length split ∙ length-append first (right_entries p.right ++ s.behind) ∙ ap (λ z. length first + z) (length-append (right_entries p.right) s.behind) in
     (left, ap symbols_of right_is ∙ symbols-right p.right, omega (arith, begin_is, end_is), omega (arith, long, first_long, length_right p.right, begin_is, end_is))
 

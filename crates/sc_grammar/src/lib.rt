@@ -12,10 +12,9 @@ pub mod nonterminal;
 mod rule;
 pub mod terminal;
 
+use c11::C11;
 pub use lookup::production;
 pub use rule::Production;
-
-use c11::C11;
 use sc_model::Grammar;
 
 /// The grammar of C11 (annex A.2).

@@ -1,8 +1,8 @@
 -- Two lists of the LR(0) states of one grammar are equal.
-use Rattle.std.proofs.Common.{zero, suc, ◌≡◌, ◌↔◌, ◌<◌, ◌≤◌, ◌+◌, ◌⊎◌, ℕ, List, [], ◌∷◌, length, get_or, slice_get, Option, Some, None, inl, inr, refl, sym, ap, ◌∙◌, subst, arith}
+use Rattle.std.proofs.Common.{zero, suc, ◌≡◌, ◌<◌, ◌≤◌, ◌⊎◌, ℕ, List, [], ◌∷◌, length, get_or, slice_get, Some, inl, inr, refl, sym, ap, ◌∙◌, subst, arith}
 use Rattle.std.specs.List.{Contains}
-use Rattle.std.proofs.lemmas.Option.{same_Some, slice_get_within, none-some}
-use Rattle.std.proofs.lemmas.Bool.{cases_lt, cases_order}
+use Rattle.std.proofs.lemmas.Option.{same_Some, slice_get_within}
+use Rattle.std.proofs.lemmas.Bool.{cases_lt}
 use Rattle.sc_model.specs.Tables.{Moved, IsGoto, IsLeastPair, IsStates, Before}
 use Rattle.sc_model.specs.declared.grammar.Grammar.{Grammar}
 use Rattle.sc_items.proofs.Finding.{rising_same, goto_member, before_or_not}
@@ -100,7 +100,7 @@ ext (x ∷ a) (y ∷ b) h e = ap (λ z. z ∷ a) (same_Some x y (e 0 (omega arit
 
 no_longer : (g : Grammar) (a b : List (List ℕ)) → IsStates g a → IsStates g b → length a ≤ length b
 no_longer g a b p q = elim (cases_lt (length b) (length a)) [
-  inl h ↦ (let x = slice_some a (length b) h in absurd (absurd_past (slice_get_within b (length b) x.0 (sym (agrees g a b p q (length a) (omega arith) (length b) h) ∙ x.1))))
+  | inl h ↦ (let x = slice_some a (length b) h in absurd (absurd_past (slice_get_within b (length b) x.0 (sym (agrees g a b p q (length a) (omega arith) (length b) h) ∙ x.1))))
   | inr h ↦ h
 ]
   where

@@ -1,24 +1,22 @@
 -- What one turn of the search adds.
-use Rattle.std.proofs.Common.{zero, suc, ⊎_elim, ◌≡◌, ◌↔◌, ◌<◌, ◌≤◌, ◌+◌, ◌⊎◌, ℕ, Bool, true, false, ◌&&◌, nat_lt, IsTrue, All, List, [], ◌∷◌, ◌++◌, length, get_or, slice_get, map, Option, Some, None, Vec, inl, inr, refl, sym, ap, ◌∙◌, subst, arith}
+use Rattle.std.proofs.Common.{zero, suc, ◌≡◌, ◌↔◌, ◌<◌, ◌+◌, ◌⊎◌, ℕ, Bool, true, false, ◌&&◌, IsTrue, List, [], ◌∷◌, ◌++◌, length, slice_get, Option, Some, None, Vec, inl, inr, refl, sym, ap, ◌∙◌, subst, arith}
 use Rattle.std.specs.List.{Contains, list_all}
-use Rattle.std.specs.List.Sorted.{IsStrictlyIncreasing}
 use Rattle.std.specs.declared.alloc.Global.{Global}
 use Rattle.std.proofs.lemmas.List.{length_push, get_or_past}
-use Rattle.std.proofs.lemmas.List.Elements.{Contains-get_or}
-use Rattle.std.proofs.lemmas.Option.{same_Some, slice_get_within, none-some, option_and_then_some}
+use Rattle.std.proofs.lemmas.Option.{same_Some, none-some, option_and_then_some}
 use Rattle.std.proofs.lemmas.Bool.{cases_lt, false≢true}
 use Rattle.std.proofs.lemmas.Bool.Decides.{nat_tests}
-use Rattle.sc_model.specs.Grammar.{IsGrammar, IsStart, after, begun, right_in, left_in, is_known, symbol_number}
-use Rattle.sc_model.specs.Tables.{Closure, given, opened, Moved, IsGoto, IsLeastPair, IsStates, Before}
+use Rattle.sc_model.specs.Grammar.{IsGrammar, after, begun, right_in, left_in, is_known}
+use Rattle.sc_model.specs.Tables.{Closure, given, opened, Moved, IsGoto}
 use Rattle.sc_model.specs.declared.grammar.Grammar.{Grammar}
 use Rattle.sc_model.specs.declared.grammar.Entry.{Entry}
 use Rattle.sc_model.specs.declared.grammar.Entry.TheVariants.{Left, Right}
 use Rattle.sc_model.specs.declared.grammar.Symbol.TheVariants.{Terminal, Nonterminal}
-use Rattle.sc_items.specs.Reach.{marked, Edge, Reaches, start, step, IsReached}
-use Rattle.sc_items.specs.Kernel.{MovedIn, IsNumbered, IsListOf, IsOpened, Opens}
-use Rattle.sc_items.specs.Found.{Found, FoundAt, IsGotoRow, Keeps, IsStep, nothing, follows}
-use Rattle.sc_items.proofs.Finding.{Found-new, Found-old, Found-skip, goto_push, goto_member, goto_source}
-use Rattle.sc_items.proofs.Opening.{after_within, slice_get-push_old, slice_get-push_new, slice_get-push_cases}
+use Rattle.sc_items.specs.Reach.{marked, Reaches, start, step, IsReached}
+use Rattle.sc_items.specs.Kernel.{MovedIn, IsListOf, IsOpened}
+use Rattle.sc_items.specs.Found.{Found, IsGotoRow, Keeps, IsStep, nothing, follows}
+use Rattle.sc_items.proofs.Finding.{Found-new, Found-old, Found-skip}
+use Rattle.sc_items.proofs.Opening.{after_within, slice_get-push_old, slice_get-push_cases}
 
 -- ---- the symbols of a grammar are in range
 and_parts : (a b : Bool) → (a && b) ≡ true → (a ≡ true) × (b ≡ true)
@@ -68,7 +66,7 @@ pub record AreMembers (g : Grammar) (kernel items : List ℕ) : Type 0 where
 pub members_are : (g : Grammar) (kernel items : List ℕ) (marks : List Bool) → IsListOf (length marks) (λ i. IsTrue (marked marks i)) items → ((i : ℕ) → IsTrue (marked marks i) ↔ Closure g kernel i) → AreMembers g kernel items
 members_are g kernel items marks h c = record {
   sound = λ i w. (c i).0 (h.sound i w);
-  complete = λ i w. let m = (c i).1 w in h.complete i (within i m) m
+  complete = λ i w. let m = (c i).1 w in h.complete i (within i m) m;
 }
   where
     within : (i : ℕ) → IsTrue (marked marks i) → i < length marks
@@ -104,24 +102,24 @@ goto_keeps g old new s x t k h = record {
   source_at = k.kept s h.source h.source_at;
   target_at = k.kept t h.target h.target_at;
   some = h.some;
-  moved = h.moved
+  moved = h.moved;
 }
 
 row_none : (g : Grammar) (new : List (List ℕ)) (s x : ℕ) (kernel : List ℕ) (row : List (Option ℕ)) → IsGotoRow g new s kernel row x → ((m : ℕ) → Moved g kernel x m → ⊥) → IsGotoRow g new s kernel (row ++ None ∷ []) (x + 1)
 row_none g new s x kernel row h none = record {
   long = length_push row None ∙ ap (λ n. n + 1) h.long;
   some = λ y t at. elim (slice_get-push_cases row None (Some t) y at) [ inl a ↦ h.some y t a | inr e ↦ absurd (none-some t e.1) ];
-  none = λ y at m w. elim (slice_get-push_cases row None None y at) [ inl a ↦ h.none y a m w | inr e ↦ none m (subst (λ z. Moved g kernel z m) (e.0 ∙ h.long) w) ]
+  none = λ y at m w. elim (slice_get-push_cases row None None y at) [ inl a ↦ h.none y a m w | inr e ↦ none m (subst (λ z. Moved g kernel z m) (e.0 ∙ h.long) w) ];
 }
 
 row_some : (g : Grammar) (old new : List (List ℕ)) (s x u : ℕ) (kernel : List ℕ) (row : List (Option ℕ)) → Keeps old new → IsGotoRow g old s kernel row x → IsGoto g new s x u → IsGotoRow g new s kernel (row ++ Some u ∷ []) (x + 1)
 row_some g old new s x u kernel row k h goto = record {
   long = length_push row (Some u) ∙ ap (λ n. n + 1) h.long;
   some = λ y t at. elim (slice_get-push_cases row (Some u) (Some t) y at) [
-    inl a ↦ goto_keeps g old new s y t k (h.some y t a)
+    | inl a ↦ goto_keeps g old new s y t k (h.some y t a)
     | inr e ↦ subst (λ z. IsGoto g new s z t) (sym (e.0 ∙ h.long)) (subst (λ v. IsGoto g new s x v) (same_Some u t e.1) goto)
   ];
-  none = λ y at m w. elim (slice_get-push_cases row (Some u) None y at) [ inl a ↦ h.none y a m w | inr e ↦ absurd (none-some u (sym e.1)) ]
+  none = λ y at m w. elim (slice_get-push_cases row (Some u) None y at) [ inl a ↦ h.none y a m w | inr e ↦ absurd (none-some u (sym e.1)) ];
 }
 
 pub Explored-begin : (g : Grammar) (old : List (List ℕ)) (s : ℕ) (kernel : List ℕ) → Found g old s 0 → slice_get old s ≡ Some kernel → Explored g old old s 0 []
@@ -130,7 +128,7 @@ Explored-begin g old s kernel f at = record {
   keeps = Keeps-refl old;
   kernel = kernel;
   kernel_at = at;
-  row_is = record { long = refl; some = λ y t w. absurd (none-some (Some t) w); none = λ y w. absurd (none-some None w) }
+  row_is = record { long = refl; some = λ y t w. absurd (none-some (Some t) w); none = λ y w. absurd (none-some None w) };
 }
 
 pub Explored-step : (g : Grammar) (old now new : List (List ℕ)) (s x : ℕ) (row : List (Option ℕ)) (kernel items : List ℕ) (to : Option ℕ) → slice_get old s ≡ Some kernel → AreMembers g kernel items → ((i : ℕ) → Contains items i → i < length g.entries.now) → Explored g old now s x row → IsStep g items x now new to → Explored g old new s (x + 1) (row ++ to ∷ [])
@@ -142,7 +140,7 @@ Explored-step g old now new s x row kernel items to at members within h (nothing
       keeps = h.keeps;
       kernel = kernel;
       kernel_at = at;
-      row_is = row_none g now s x kernel row (subst (λ zs. IsGotoRow g now s zs row x) kernel_is h.row_is) empty
+      row_is = row_none g now s x kernel row (subst (λ zs. IsGotoRow g now s zs row x) kernel_is h.row_is) empty;
     })
 Explored-step g old now new s x row kernel items to at members within h (follows k t inc some moved n) = go n.grown
   where
@@ -170,7 +168,7 @@ Explored-step g old now new s x row kernel items to at members within h (follows
           keeps = h.keeps;
           kernel = kernel;
           kernel_at = at;
-          row_is = row_some g now now s x t kernel row (Keeps-refl now) row_now goto
+          row_is = row_some g now now s x t kernel row (Keeps-refl now) row_now goto;
         })
     go (inr e) =
         let grown : Keeps now (now ++ k ∷ []) = Keeps-push now k in
@@ -180,7 +178,7 @@ Explored-step g old now new s x row kernel items to at members within h (follows
           keeps = Keeps-trans old now (now ++ k ∷ []) h.keeps grown;
           kernel = kernel;
           kernel_at = at;
-          row_is = row_some g now (now ++ k ∷ []) s x t kernel row grown row_now (goto_in (now ++ k ∷ []) (grown.kept s kernel now_at) there)
+          row_is = row_some g now (now ++ k ∷ []) s x t kernel row grown row_now (goto_in (now ++ k ∷ []) (grown.kept s kernel now_at) there);
         })
 
 -- ---- the same facts for values that are read through references

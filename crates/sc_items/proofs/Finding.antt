@@ -1,5 +1,5 @@
 -- The states are found in the order of their least pairs.
-use Rattle.std.proofs.Common.{zero, suc, ⊎_elim, ◌≡◌, ◌↔◌, ◌<◌, ◌≤◌, ◌+◌, ◌⊎◌, ℕ, List, [], ◌∷◌, ◌++◌, length, get_or, slice_get, Option, Some, None, inl, inr, refl, sym, ap, ◌∙◌, subst, arith}
+use Rattle.std.proofs.Common.{zero, suc, ◌≡◌, ◌↔◌, ◌<◌, ◌≤◌, ◌+◌, ◌⊎◌, ℕ, List, [], ◌∷◌, ◌++◌, length, get_or, slice_get, Some, inl, inr, refl, sym, ap, ◌∙◌, subst, arith}
 use Rattle.std.specs.List.{Contains}
 use Rattle.std.specs.List.Sorted.{IsStrictlyIncreasing, IsStrictlySortedBy}
 use Rattle.std.specs.Ordering.{nat_cmp}
@@ -7,13 +7,11 @@ use Rattle.std.proofs.lemmas.List.{length_push}
 use Rattle.std.proofs.lemmas.List.Elements.{Contains-get_or}
 use Rattle.std.proofs.lemmas.Map.Keys.{below_from_sorted, sorted_from_strictly_increasing, sorted_tail}
 use Rattle.std.proofs.lemmas.Option.{same_Some, slice_get_within, none-some}
-use Rattle.std.proofs.lemmas.Bool.{cases_lt, cases_order}
-use Rattle.sc_model.specs.Growth.{IsOneToOne}
+use Rattle.std.proofs.lemmas.Bool.{cases_lt}
 use Rattle.sc_model.specs.Grammar.{IsStart, after}
-use Rattle.sc_model.specs.Tables.{Closure, Moved, IsGoto, IsLeastPair, IsStates, Before}
+use Rattle.sc_model.specs.Tables.{Moved, IsGoto, IsLeastPair, IsStates, Before}
 use Rattle.sc_model.specs.declared.grammar.Grammar.{Grammar}
-use Rattle.sc_items.specs.Kernel.{MovedIn, IsNumbered}
-use Rattle.sc_items.specs.Found.{Found, FoundAt, IsGotoRow, Keeps, IsStep}
+use Rattle.sc_items.specs.Found.{Found, FoundAt}
 use Rattle.sc_items.proofs.Listing.{no_member}
 use Rattle.sc_items.proofs.Opening.{slice_get-push_old, slice_get-push_new, slice_get-push_cases}
 
@@ -109,7 +107,7 @@ module _ (g : Grammar) (states : List (List ℕ)) (k : List ℕ) where
     source_at = slice_get-push_old states k h.source s h.source_at;
     target_at = slice_get-push_old states k h.target t h.target_at;
     some = h.some;
-    moved = h.moved
+    moved = h.moved;
   }
 
   goto_old : (s x t : ℕ) → s < length states → t < length states → IsGoto g (states ++ k ∷ []) s x t → IsGoto g states s x t
@@ -119,21 +117,21 @@ module _ (g : Grammar) (states : List (List ℕ)) (k : List ℕ) where
     source_at = old_at s h.source a h.source_at;
     target_at = old_at t h.target b h.target_at;
     some = h.some;
-    moved = h.moved
+    moved = h.moved;
   }
 
   least_old : (t s x : ℕ) → t < length states → IsLeastPair g (states ++ k ∷ []) t s x → IsLeastPair g states t s x
   least_old t s x within h = record {
     leads = goto_old s x t (omega (arith, h.earlier)) within h.leads;
     earlier = h.earlier;
-    least = λ r y goto lower before. h.least r y (goto_push r y t goto) lower before
+    least = λ r y goto lower before. h.least r y (goto_push r y t goto) lower before;
   }
 
   least_push : (t s x : ℕ) → t < length states → IsLeastPair g states t s x → IsLeastPair g (states ++ k ∷ []) t s x
   least_push t s x within h = record {
     leads = goto_push s x t h.leads;
     earlier = h.earlier;
-    least = λ r y goto lower before. h.least r y (goto_old r y t (omega arith) within goto) lower before
+    least = λ r y goto lower before. h.least r y (goto_old r y t (omega arith) within goto) lower before;
   }
 
 -- a goto has a member
@@ -166,7 +164,7 @@ Found-begin g k inc within starts = record {
   different = record { same = λ i j z a b. (only i z a).0 ∙ sym (only j z b).0 };
   closed = λ r y m kernel before. absurd (nothing_before r y before);
   found = λ t a b. absurd (omega (arith, a, b));
-  in_order = λ t u r y p z lower a b. absurd (omega (arith, slice_get_within (k ∷ []) u b.leads.target b.leads.target_at))
+  in_order = λ t u r y p z lower a b. absurd (omega (arith, slice_get_within (k ∷ []) u b.leads.target b.leads.target_at));
 }
   where
     only : (i : ℕ) (kernel : List ℕ) → slice_get (k ∷ []) i ≡ Some kernel → (i ≡ 0) × (k ≡ kernel)
@@ -186,10 +184,10 @@ Found-skip g states s x source f at none = record { first = f.first; first_at = 
   where
     closed : (r y m : ℕ) (kernel : List ℕ) → Before r y s (x + 1) → slice_get states r ≡ Some kernel → Moved g kernel y m → (t : ℕ) × IsGoto g states r y t
     closed r y m kernel before kernel_at moved = elim (before_next r y s x before) [
-      inl a ↦ f.closed r y m kernel a kernel_at moved
+      | inl a ↦ f.closed r y m kernel a kernel_at moved
       | inr e ↦ (
-        let same : kernel ≡ source = same_Some kernel source (sym kernel_at ∙ subst (λ i. slice_get states i ≡ Some source) (sym e.0) at) in
-        absurd (none m (subst (λ z. Moved g source z m) e.1 (subst (λ zs. Moved g zs y m) same moved))))
+          let same : kernel ≡ source = same_Some kernel source (sym kernel_at ∙ subst (λ i. slice_get states i ≡ Some source) (sym e.0) at) in
+          absurd (none m (subst (λ z. Moved g source z m) e.1 (subst (λ zs. Moved g zs y m) same moved))))
     ]
 
 -- the pair leads to a state that was found before
@@ -198,7 +196,7 @@ Found-old g states s x t f goto = record { first = f.first; first_at = f.first_a
   where
     closed : (r y m : ℕ) (kernel : List ℕ) → Before r y s (x + 1) → slice_get states r ≡ Some kernel → Moved g kernel y m → (u : ℕ) × IsGoto g states r y u
     closed r y m kernel before kernel_at moved = elim (before_next r y s x before) [
-      inl a ↦ f.closed r y m kernel a kernel_at moved
+      | inl a ↦ f.closed r y m kernel a kernel_at moved
       | inr e ↦ (t, subst (λ z. IsGoto g states r z t) (sym e.1) (subst (λ i. IsGoto g states i x t) (sym e.0) goto))
     ]
 
@@ -213,7 +211,7 @@ Found-new g states k s x source f at inc within some moved new = record {
   different = record { same = same };
   closed = closed;
   found = found;
-  in_order = in_order
+  in_order = in_order;
 }
   where
     s_in : s < length states
@@ -229,7 +227,7 @@ Found-new g states k s x source f at inc within some moved new = record {
       source_at = slice_get-push_old states k source s at;
       target_at = slice_get-push_new states k;
       some = some;
-      moved = moved
+      moved = moved;
     }
 
     same : (i j : ℕ) (z : List ℕ) → slice_get (states ++ k ∷ []) i ≡ Some z → slice_get (states ++ k ∷ []) j ≡ Some z → i ≡ j
@@ -243,41 +241,41 @@ Found-new g states k s x source f at inc within some moved new = record {
 
     closed : (r y m : ℕ) (kernel : List ℕ) → Before r y s (x + 1) → slice_get (states ++ k ∷ []) r ≡ Some kernel → Moved g kernel y m → (t : ℕ) × IsGoto g (states ++ k ∷ []) r y t
     closed r y m kernel before kernel_at w = elim (before_next r y s x before) [
-      inl a ↦ (
-        let old = f.closed r y m kernel a (old_at g states k r kernel (omega (arith, before_within r y s x a, s_in)) kernel_at) w in
-        (old.0, goto_push g states k r y old.0 old.1))
+      | inl a ↦ (
+          let old = f.closed r y m kernel a (old_at g states k r kernel (omega (arith, before_within r y s x a, s_in)) kernel_at) w in
+          (old.0, goto_push g states k r y old.0 old.1))
       | inr e ↦ (length states, subst (λ z. IsGoto g (states ++ k ∷ []) r z (length states)) (sym e.1) (subst (λ i. IsGoto g (states ++ k ∷ []) i x (length states)) (sym e.0) here))
     ]
 
     found : (t : ℕ) → 0 < t → t < length (states ++ k ∷ []) → FoundAt g (states ++ k ∷ []) t s (x + 1)
     found t a b = elim (cases_lt t (length states)) [
-      inl c ↦ (
-        let old = f.found t a c in
-        record { from = old.from; by = old.by; pair = least_push g states k t old.from old.by c old.pair; before = before_later old.from old.by s x old.before })
+      | inl c ↦ (
+          let old = f.found t a c in
+          record { from = old.from; by = old.by; pair = least_push g states k t old.from old.by c old.pair; before = before_later old.from old.by s x old.before })
       | inr c ↦ (
-        let e : length states ≡ t = omega (arith, long, b) in
-        subst (λ u. FoundAt g (states ++ k ∷ []) u s (x + 1)) e (record {
-          from = s;
-          by = x;
-          pair = record { leads = here; earlier = s_in; least = λ r y goto lower before. new_not_before g states k s x f inc new r y lower before goto };
-          before = before_self s x
-        }))
+          let e : length states ≡ t = omega (arith, long, b) in
+          subst (λ u. FoundAt g (states ++ k ∷ []) u s (x + 1)) e (record {
+            from = s;
+            by = x;
+            pair = record { leads = here; earlier = s_in; least = λ r y goto lower before. new_not_before g states k s x f inc new r y lower before goto };
+            before = before_self s x;
+          }))
     ]
 
     in_order : (t u r y p z : ℕ) → t < u → IsLeastPair g (states ++ k ∷ []) t r y → IsLeastPair g (states ++ k ∷ []) u p z → Before r y p z
     in_order t u r y p z lower a b =
         let u_in : u < length (states ++ k ∷ []) = slice_get_within (states ++ k ∷ []) u b.leads.target b.leads.target_at in
         elim (cases_lt u (length states)) [
-          inl c ↦ f.in_order t u r y p z lower (least_old g states k t r y (omega arith) a) (least_old g states k u p z c b)
+          | inl c ↦ f.in_order t u r y p z lower (least_old g states k t r y (omega arith) a) (least_old g states k u p z c b)
           | inr c ↦ (
-            let e : u ≡ length states = omega (arith, long, u_in) in
-            let t_in : t < length states = omega (arith, e, lower) in
-            let first = least_old g states k t r y t_in a in
-            let known = f.found t (omega (arith, first.earlier)) t_in in
-            let before_here : Before r y s x = before_from_least r y known.from known.by s x (first.least known.from known.by known.pair.leads known.pair.earlier) known.before in
-            let last : IsGoto g (states ++ k ∷ []) p z (length states) = subst (λ v. IsGoto g (states ++ k ∷ []) p z v) e b.leads in
-            let p_in : p < length states = omega (arith, e, b.earlier) in
-            before_or_not s x p z (λ early. new_not_before g states k s x f inc new p z p_in early last) r y before_here)
+              let e : u ≡ length states = omega (arith, long, u_in) in
+              let t_in : t < length states = omega (arith, e, lower) in
+              let first = least_old g states k t r y t_in a in
+              let known = f.found t (omega (arith, first.earlier)) t_in in
+              let before_here : Before r y s x = before_from_least r y known.from known.by s x (first.least known.from known.by known.pair.leads known.pair.earlier) known.before in
+              let last : IsGoto g (states ++ k ∷ []) p z (length states) = subst (λ v. IsGoto g (states ++ k ∷ []) p z v) e b.leads in
+              let p_in : p < length states = omega (arith, e, b.earlier) in
+              before_or_not s x p z (λ early. new_not_before g states k s x f inc new p z p_in early last) r y before_here)
         ]
 
 -- all symbols of the state were tried
@@ -304,5 +302,5 @@ IsStates-done g states s all f = record {
   different = f.different;
   closed = λ r y m kernel at moved. f.closed r y m kernel (inl (omega (arith, slice_get_within states r kernel at))) at moved;
   found = λ t a b. let h = f.found t a b in (h.from, (h.by, h.pair));
-  in_order = f.in_order
+  in_order = f.in_order;
 }

@@ -1,5 +1,5 @@
 -- Lists of the numbers of which a fact holds.
-use Rattle.std.proofs.Common.{◌≡◌, ◌<◌, ◌≤◌, ◌+◌, ◌⊎◌, ℕ, List, [], ◌∷◌, ◌++◌, length, get_or, take, inl, inr, refl, sym, ◌∙◌, subst, arith}
+use Rattle.std.proofs.Common.{◌≡◌, ◌<◌, ◌≤◌, ◌+◌, ◌⊎◌, ℕ, List, [], ◌∷◌, ◌++◌, length, get_or, take, inl, inr, sym, ◌∙◌, subst, arith}
 use Rattle.std.specs.List.{Contains}
 use Rattle.std.specs.List.Sorted.{IsStrictlyIncreasing}
 use Rattle.std.proofs.lemmas.List.{get_or_append_left, get_or_push, length_push, take_more, get_or-take, length-take-le, get_or_default}
@@ -16,7 +16,7 @@ pub rising-push : (xs : List ℕ) (z : ℕ) → IsStrictlyIncreasing xs → ((y 
 rising-push xs z inc above = λ k h.
     let long = length_push xs z in
     elim (cases_lt (k + 1) (length xs)) [
-      inl a ↦ rw (get_or_append_left xs (z ∷ []) 0 k (omega arith), get_or_append_left xs (z ∷ []) 0 (k + 1) a) (inc k a)
+      | inl a ↦ rw (get_or_append_left xs (z ∷ []) 0 k (omega arith), get_or_append_left xs (z ∷ []) 0 (k + 1) a) (inc k a)
       | inr b ↦ rw (get_or_append_left xs (z ∷ []) 0 k (omega (arith, long, h)), get_or_push xs z 0 (k + 1) (omega (arith, long, h))) (above (get_or xs k 0) (Contains-get_or xs k 0 (omega (arith, long, h))))
     ]
 
@@ -28,7 +28,7 @@ IsListOf-none P = record {
   rising = rising-none;
   below = λ i h. absurd (no_member i h);
   sound = λ i h. absurd (no_member i h);
-  complete = λ i h p. absurd (omega (arith, h))
+  complete = λ i h p. absurd (omega (arith, h));
 }
 
 pub IsListOf-empty : (P : ℕ → Type 0) (n : ℕ) → ((i : ℕ) → P i → ⊥) → IsListOf n P []
@@ -36,7 +36,7 @@ IsListOf-empty P n none = record {
   rising = rising-none;
   below = λ i h. absurd (no_member i h);
   sound = λ i h. absurd (no_member i h);
-  complete = λ i h p. absurd (none i p)
+  complete = λ i h p. absurd (none i p);
 }
 
 pub IsListOf-skip : (P : ℕ → Type 0) (n : ℕ) (xs : List ℕ) → IsListOf n P xs → (P n → ⊥) → IsListOf (n + 1) P xs
@@ -44,7 +44,7 @@ IsListOf-skip P n xs h not = record {
   rising = h.rising;
   below = λ i w. omega (arith, h.below i w);
   sound = h.sound;
-  complete = λ i w p. elim (cases_lt i n) [ inl a ↦ h.complete i a p | inr b ↦ absurd (not (subst P (same i w b) p)) ]
+  complete = λ i w p. elim (cases_lt i n) [ inl a ↦ h.complete i a p | inr b ↦ absurd (not (subst P (same i w b) p)) ];
 }
   where
     same : (i : ℕ) → i < n + 1 → n ≤ i → i ≡ n
@@ -55,7 +55,7 @@ IsListOf-push P n xs h one = record {
   rising = rising-push xs n h.rising h.below;
   below = λ i w. elim (Contains-push_cases xs n i w) [ inl a ↦ omega (arith, h.below i a) | inr e ↦ omega arith ];
   sound = λ i w. elim (Contains-push_cases xs n i w) [ inl a ↦ h.sound i a | inr e ↦ subst P e one ];
-  complete = λ i w p. elim (cases_lt i n) [ inl a ↦ Contains-append_left xs (n ∷ []) i (h.complete i a p) | inr b ↦ subst (Contains (xs ++ n ∷ [])) (same i w b) (Contains-push xs n) ]
+  complete = λ i w p. elim (cases_lt i n) [ inl a ↦ Contains-append_left xs (n ∷ []) i (h.complete i a p) | inr b ↦ subst (Contains (xs ++ n ∷ [])) (same i w b) (Contains-push xs n) ];
 }
   where
     same : (i : ℕ) → i < n + 1 → n ≤ i → n ≡ i

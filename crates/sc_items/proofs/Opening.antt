@@ -1,12 +1,11 @@
 -- The rows of what each item opens, what is moved over a symbol, and the numbers of kernels.
-use Rattle.std.proofs.Common.{zero, suc, ⊎_elim, ◌≡◌, ◌<◌, ◌≤◌, ◌+◌, ◌⊎◌, ℕ, Bool, true, false, List, [], ◌∷◌, ◌++◌, length, get_or, take, map, slice_get, Option, Some, None, All, Vec, inl, inr, refl, sym, ap, ◌∙◌, subst, arith}
+use Rattle.std.proofs.Common.{zero, suc, ⊎_elim, ◌≡◌, ◌<◌, ◌+◌, ◌⊎◌, ℕ, List, [], ◌∷◌, ◌++◌, length, get_or, take, slice_get, Some, Vec, inl, inr, refl, sym, ap, ◌∙◌, subst, arith}
 use Rattle.std.specs.List.{Contains}
 use Rattle.std.specs.List.Sorted.{IsStrictlyIncreasing}
 use Rattle.std.specs.declared.alloc.Global.{Global}
 use Rattle.std.proofs.lemmas.List.{length_push}
 use Rattle.std.proofs.lemmas.List.Elements.{Contains-push, Contains-append_left, Contains-push_cases, Contains-get_or}
-use Rattle.std.proofs.lemmas.Option.{same_Some, slice_get_within, slice_get-get_or, get_or_from_slice_get, option_and_then_some, none-some}
-use Rattle.std.proofs.lemmas.Bool.{cases_lt}
+use Rattle.std.proofs.lemmas.Option.{same_Some, slice_get_within, slice_get-get_or, option_and_then_some, none-some}
 use Rattle.sc_model.specs.Grammar.{after, begun, left_in, right_in}
 use Rattle.sc_model.specs.declared.grammar.Grammar.{Grammar}
 use Rattle.sc_items.specs.Reach.{Edge, EdgesWithin}
@@ -43,9 +42,9 @@ pub IsOpenedBelow-push : (g : Grammar) (n : ℕ) (rows : List (Vec ℕ Global)) 
 IsOpenedBelow-push g n rows row h one = record {
   long = length_push rows row ∙ ap (λ k. k + 1) h.long;
   each = λ i other at. elim (slice_get-push_cases rows row other i at) [
-    inl a ↦ h.each i other a
+    | inl a ↦ h.each i other a
     | inr a ↦ subst (λ (r : Vec ℕ Global). IsListOf (length g.entries.now) (Opens g i) r.items) a.1 (subst (λ k. IsListOf (length g.entries.now) (Opens g k) row.items) (sym (a.0 ∙ h.long)) one)
-  ]
+  ];
 }
 
 -- an item with something after its dot or its dot at the beginning is one of the entries
@@ -59,7 +58,7 @@ pub IsOpened-done : (g : Grammar) (n : ℕ) (rows : List (Vec ℕ Global)) → n
 IsOpened-done g n rows e h = record {
   long = h.long ∙ e;
   sound = λ i j edge. (h.each i edge.row edge.row_at).sound j edge.in_row;
-  complete = complete
+  complete = complete;
 }
   where
     complete : (i j : ℕ) → Opens g i j → Edge rows i j
@@ -71,10 +70,10 @@ IsOpened-done g n rows e h = record {
 pub EdgesWithin-done : (g : Grammar) (n : ℕ) (rows : List (Vec ℕ Global)) → n ≡ length g.entries.now → IsOpenedBelow g n rows → EdgesWithin rows
 EdgesWithin-done g n rows e h = record {
   within = λ i d i_in k y k_in.
-    let row = get_or rows i d in
-    let at : slice_get rows i ≡ Some row = slice_get-get_or rows i d i_in in
-    let below = (h.each i row at).below (get_or row.items k y) (Contains-get_or row.items k y k_in) in
-    omega (arith, below, e, h.long)
+      let row = get_or rows i d in
+      let at : slice_get rows i ≡ Some row = slice_get-get_or rows i d i_in in
+      let below = (h.each i row at).below (get_or row.items k y) (Contains-get_or row.items k y k_in) in
+      omega (arith, below, e, h.long);
 }
 
 -- ---- what is moved over a symbol
@@ -87,19 +86,19 @@ pub MovedSoFar-none : (g : Grammar) (x : ℕ) → MovedSoFar g [] x []
 MovedSoFar-none g x = record {
   rising = rising-none;
   sound = λ m h. absurd (no_member m h);
-  complete = λ m h. absurd (no_member h.from h.within)
+  complete = λ m h. absurd (no_member h.from h.within);
 }
 
 pub MovedSoFar-left : (g : Grammar) (items : List ℕ) (x k : ℕ) (kernel : List ℕ) → k < length items → MovedSoFar g (take k items) x kernel → (after g (get_or items k 0) ≡ Some x → ⊥) → MovedSoFar g (take (k + 1) items) x kernel
 MovedSoFar-left g items x k kernel k_in h not = record {
   rising = h.rising;
   sound = λ m w. let o = h.sound m w in record { from = o.from; within = take-more_old items k o.from k_in o.within; over = o.over; to = o.to };
-  complete = complete
+  complete = complete;
 }
   where
     complete : (m : ℕ) → MovedIn g (take (k + 1) items) x m → Contains kernel m
     complete m o = elim (take-more_cases items k o.from k_in o.within) [
-      inl a ↦ h.complete m (record { from = o.from; within = a; over = o.over; to = o.to })
+      | inl a ↦ h.complete m (record { from = o.from; within = a; over = o.over; to = o.to })
       | inr e ↦ absurd (not (subst (λ i. after g i ≡ Some x) (sym e) o.over))
     ]
 
@@ -107,17 +106,17 @@ pub MovedSoFar-kept : (g : Grammar) (items : List ℕ) (x k : ℕ) (kernel : Lis
 MovedSoFar-kept g items x k kernel inc k_in h over = record {
   rising = rising-push kernel (get_or items k 0 + 1) h.rising (λ m w. let o = h.sound m w in omega (arith, o.to, take-below items k o.from inc k_in o.within));
   sound = sound;
-  complete = complete
+  complete = complete;
 }
   where
     sound : (m : ℕ) → Contains (kernel ++ (get_or items k 0 + 1) ∷ []) m → MovedIn g (take (k + 1) items) x m
     sound m w = elim (Contains-push_cases kernel (get_or items k 0 + 1) m w) [
-      inl a ↦ (let o = h.sound m a in record { from = o.from; within = take-more_old items k o.from k_in o.within; over = o.over; to = o.to })
+      | inl a ↦ (let o = h.sound m a in record { from = o.from; within = take-more_old items k o.from k_in o.within; over = o.over; to = o.to })
       | inr e ↦ record { from = get_or items k 0; within = take-more_new items k k_in; over = over; to = sym e }
     ]
 
     complete : (m : ℕ) → MovedIn g (take (k + 1) items) x m → Contains (kernel ++ (get_or items k 0 + 1) ∷ []) m
     complete m o = elim (take-more_cases items k o.from k_in o.within) [
-      inl a ↦ Contains-append_left kernel ((get_or items k 0 + 1) ∷ []) m (h.complete m (record { from = o.from; within = a; over = o.over; to = o.to }))
+      | inl a ↦ Contains-append_left kernel ((get_or items k 0 + 1) ∷ []) m (h.complete m (record { from = o.from; within = a; over = o.over; to = o.to }))
       | inr e ↦ subst (Contains (kernel ++ (get_or items k 0 + 1) ∷ [])) (ap (λ i. i + 1) e ∙ sym o.to) (Contains-push kernel (get_or items k 0 + 1))
     ]

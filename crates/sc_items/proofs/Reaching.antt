@@ -1,5 +1,5 @@
 -- Marking the nodes that can be reached.
-use Rattle.std.proofs.Common.{◌≡◌, ◌<◌, ◌+◌, ◌⊎◌, ℕ, Bool, true, false, not, List, [], ◌∷◌, ◌++◌, length, get_or, set, take, count_by, IsTrue, inl, inr, refl, sym, ap, replicate, ◌∙◌, subst, arith, ⊎_elim, nat_eq, Some, Vec, slice_get, All}
+use Rattle.std.proofs.Common.{◌≡◌, ◌<◌, ◌+◌, ◌⊎◌, ℕ, Bool, true, false, not, List, [], ◌∷◌, ◌++◌, length, get_or, set, take, count_by, IsTrue, inl, inr, refl, sym, ap, replicate, ◌∙◌, subst, arith, Some, Vec, slice_get}
 use Rattle.std.specs.List.{Contains}
 use Rattle.std.specs.declared.alloc.Global.{Global}
 use Rattle.std.proofs.lemmas.List.Elements.{Contains-push, Contains-append_left, Contains-push_cases}
@@ -20,7 +20,7 @@ Marks-none marks waiting = record {
   only = λ v h. inl h;
   waits = λ v h. h;
   from = λ v h. inl h;
-  left = refl
+  left = refl;
 }
 
 pub Marks-skip : (old new : List Bool) (waiting now nodes : List ℕ) (node : ℕ) → Marks old new waiting now nodes → IsTrue (marked new node) → Marks old new waiting now (nodes ++ node ∷ [])
@@ -31,7 +31,7 @@ Marks-skip old new waiting now nodes node h marked_one = record {
   only = λ v m. elim (h.only v m) [ inl w ↦ inl w | inr w ↦ inr (Contains-append_left nodes (node ∷ []) v w.0, w.1) ];
   waits = h.waits;
   from = λ v w. elim (h.from v w) [ inl a ↦ inl a | inr a ↦ inr (Contains-append_left nodes (node ∷ []) v a) ];
-  left = h.left
+  left = h.left;
 }
 
 count-set : (marks : List Bool) (i : ℕ) → i < length marks → get_or marks i false ≡ false → count_by not (set marks i true) + 1 ≡ count_by not marks
@@ -56,7 +56,7 @@ Marks-mark old new waiting now nodes node h within unmarked = record {
   only = λ v m. elim (marked_other new node v within m) [ inl e ↦ inr (subst (λ x. Contains (nodes ++ node ∷ []) x) (sym e) (Contains-push nodes node), subst (λ x. Contains (now ++ node ∷ []) x) (sym e) (Contains-push now node)) | inr a ↦ elim (h.only v a) [ inl b ↦ inl b | inr b ↦ inr (Contains-append_left nodes (node ∷ []) v b.0, Contains-append_left now (node ∷ []) v b.1) ] ];
   waits = λ v w. Contains-append_left now (node ∷ []) v (h.waits v w);
   from = λ v w. elim (Contains-push_cases now node v w) [ inl a ↦ elim (h.from v a) [ inl b ↦ inl b | inr b ↦ inr (Contains-append_left nodes (node ∷ []) v b) ] | inr e ↦ inr (subst (λ x. Contains (nodes ++ node ∷ []) x) e (Contains-push nodes node)) ];
-  left = omega (arith, h.left, count-set new node within unmarked, length-append now (node ∷ []))
+  left = omega (arith, h.left, count-set new node within unmarked, length-append now (node ∷ []));
 }
 
 -- one node more of a list, which was marked already
@@ -83,7 +83,7 @@ Progress-none edges starts old new waiting long none h = record {
   sound = λ v m. elim (h.only v m) [ inl a ↦ absurd (none v a) | inr a ↦ start v a.0 ];
   begun = h.each;
   waits = λ v w. elim (h.from v w) [ inl a ↦ absurd (no_member v a) | inr a ↦ h.each v a ];
-  closed = λ v m. elim (h.only v m) [ inl a ↦ absurd (none v a) | inr a ↦ inl a.1 ]
+  closed = λ v m. elim (h.only v m) [ inl a ↦ absurd (none v a) | inr a ↦ inl a.1 ];
 }
 
 none_marked : (n v : ℕ) → IsTrue (marked (replicate n false) v) → ⊥
@@ -102,9 +102,9 @@ pub Progress-within : (edges : List (Vec ℕ Global)) (starts : List ℕ) (marks
 Progress-within edges starts marks waiting rest node p e =
     let in_waiting : Contains waiting node = rw e (Contains-push rest node) in
     marked_within (p.waits node in_waiting)
-    where
-      marked_within : IsTrue (marked marks node) → node < length edges
-      marked_within m = elim (cases_lt node (length edges)) [ inl h ↦ h | inr h ↦ absurd (false≢true (sym (get_or_past marks node false (omega (arith, p.long))) ∙ m)) ]
+  where
+    marked_within : IsTrue (marked marks node) → node < length edges
+    marked_within m = elim (cases_lt node (length edges)) [ inl h ↦ h | inr h ↦ absurd (false≢true (sym (get_or_past marks node false (omega (arith, p.long))) ∙ m)) ]
 
 -- one step: the edges of a node that waited are followed
 pub Progress-step : (edges : List (Vec ℕ Global)) (starts : List ℕ) (old new : List Bool) (rest now : List ℕ) (node : ℕ) (row : Vec ℕ Global) → Progress edges starts old (rest ++ node ∷ []) → slice_get edges node ≡ Some row → Marks old new rest now row.items → Progress edges starts new now
@@ -113,29 +113,29 @@ Progress-step edges starts old new rest now node row p at h =
     record {
       long = h.long ∙ p.long;
       sound = λ v m. elim (h.only v m) [
-        inl a ↦ p.sound v a
+        | inl a ↦ p.sound v a
         | inr a ↦ step node v (p.sound node node_in) (record { row = row; row_at = at; in_row = a.0 })
       ];
       begun = λ v s. h.kept v (p.begun v s);
       waits = λ v w. elim (h.from v w) [ inl a ↦ h.kept v (p.waits v (Contains-append_left rest (node ∷ []) v a)) | inr a ↦ h.each v a ];
-      closed = λ v m. elim (h.only v m) [ inl a ↦ closed_old v a | inr a ↦ inl a.1 ]
+      closed = λ v m. elim (h.only v m) [ inl a ↦ closed_old v a | inr a ↦ inl a.1 ];
     }
-    where
-      closed_old : (v : ℕ) → IsTrue (marked old v) → Contains now v ⊎ ((w : ℕ) → Edge edges v w → IsTrue (marked new w))
-      closed_old v m = elim (p.closed v m) [
-        inl a ↦ elim (Contains-push_cases rest node v a) [
-          inl b ↦ inl (h.waits v b)
-          | inr e ↦ inr (λ w edge. h.each w (subst (λ (r : Vec ℕ Global). Contains r.items w) (same_row v e edge.row edge.row_at) edge.in_row))
-        ]
-        | inr b ↦ inr (λ w edge. h.kept w (b w edge))
+  where
+    closed_old : (v : ℕ) → IsTrue (marked old v) → Contains now v ⊎ ((w : ℕ) → Edge edges v w → IsTrue (marked new w))
+    closed_old v m = elim (p.closed v m) [
+      | inl a ↦ elim (Contains-push_cases rest node v a) [
+        | inl b ↦ inl (h.waits v b)
+        | inr e ↦ inr (λ w edge. h.each w (subst (λ (r : Vec ℕ Global). Contains r.items w) (same_row v e edge.row edge.row_at) edge.in_row))
       ]
-        where
-          same_row : (v : ℕ) → node ≡ v → (other : Vec ℕ Global) → slice_get edges v ≡ Some other → other ≡ row
-          same_row v e other other_at = same_Some other row (sym (subst (λ x. slice_get edges x ≡ Some other) (sym e) other_at) ∙ at)
+      | inr b ↦ inr (λ w edge. h.kept w (b w edge))
+    ]
+      where
+        same_row : (v : ℕ) → node ≡ v → (other : Vec ℕ Global) → slice_get edges v ≡ Some other → other ≡ row
+        same_row v e other other_at = same_Some other row (sym (subst (λ x. slice_get edges x ≡ Some other) (sym e) other_at) ∙ at)
 
 pub IsReached-done : (edges : List (Vec ℕ Global)) (starts : List ℕ) (marks : List Bool) → Progress edges starts marks [] → IsReached edges starts marks
 IsReached-done edges starts marks p = record { sound = p.sound; complete = complete }
-    where
-      complete : (v : ℕ) → Reaches edges starts v → IsTrue (marked marks v)
-      complete v (start w s) = p.begun v s
-      complete v (step from to r edge) = elim (p.closed from (complete from r)) [ inl a ↦ absurd (no_member from a) | inr b ↦ b to edge ]
+  where
+    complete : (v : ℕ) → Reaches edges starts v → IsTrue (marked marks v)
+    complete v (start w s) = p.begun v s
+    complete v (step from to r edge) = elim (p.closed from (complete from r)) [ inl a ↦ absurd (no_member from a) | inr b ↦ b to edge ]

@@ -1,17 +1,16 @@
 -- What the states that are kept say of the states of the definition.
-use Rattle.std.proofs.Common.{◌≡◌, ◌↔◌, ◌<◌, ◌≤◌, ◌+◌, ℕ, Bool, true, false, IsTrue, List, length, get_or, slice_get, Option, Some, None, MatchOption, option_and_then, inl, inr, refl, sym, ap, ◌∙◌, subst, arith}
+use Rattle.std.proofs.Common.{◌≡◌, ◌↔◌, ◌<◌, ℕ, Bool, false, IsTrue, List, length, get_or, slice_get, Option, Some, None, MatchOption, option_and_then, refl, sym, ap, ◌∙◌, subst, arith}
 use Rattle.std.specs.Option.{option_map_or, option_map}
 use Rattle.std.specs.Slice.{IsItemAt}
 use Rattle.std.specs.Borrow.{Bor}
 use Rattle.std.proofs.lemmas.Option.{same_Some, slice_get_within, slice_get_past, slice_get_read, none-some}
 use Rattle.std.proofs.lemmas.Bool.{false≢true}
-use Rattle.sc_model.specs.Grammar.{IsGrammar, after}
+use Rattle.sc_model.specs.Grammar.{IsGrammar}
 use Rattle.sc_model.specs.Tables.{Closure, Moved, IsGoto}
 use Rattle.sc_model.specs.declared.grammar.Grammar.{Grammar}
 use Rattle.sc_items.specs.declared.automaton.State.{State}
 use Rattle.sc_items.specs.declared.automaton.States.{States}
 use Rattle.sc_items.specs.Reach.{marked}
-use Rattle.sc_items.specs.Found.{IsGotoRow}
 use Rattle.sc_items.specs.States.{IsState, AreStates, HasItem, NoGoto, kernels_of, has_item, goto_of}
 use Rattle.sc_items.proofs.Finding.{goto_member, goto_source}
 use Rattle.sc_items.proofs.Exploring.{after_small}
@@ -20,9 +19,10 @@ use Rattle.sc_items.proofs.Opening.{slice_some}
 has_at : (g : Grammar) (states : States) (s i : ℕ) (o : Option State) → slice_get states.rows.items s ≡ o → AreStates g states → IsTrue (option_map_or (λ (state : State). marked state.items.items i) o false) ↔ HasItem g (kernels_of states) s i
 has_at g states s i None e h = (λ m. absurd (false≢true m), λ w. absurd (none-some (slice_some states.rows.items s (omega (arith, h.long, slice_get_within (kernels_of states) s w.kernel w.kernel_at))).0 (sym e ∙ (slice_some states.rows.items s (omega (arith, h.long, slice_get_within (kernels_of states) s w.kernel w.kernel_at))).1)))
 has_at g states s i (Some state) e h =
-    let is = h.each s state e in
-    (λ m. record { kernel = is.kernel; kernel_at = is.kernel_at; within = (is.items i).0 m },
-    λ w. (is.items i).1 (subst (λ zs. Closure g zs i) (same_Some w.kernel is.kernel (sym w.kernel_at ∙ is.kernel_at)) w.within))
+    let is = h.each s state e in (
+      λ m. record { kernel = is.kernel; kernel_at = is.kernel_at; within = (is.items i).0 m },
+      λ w. (is.items i).1 (subst (λ zs. Closure g zs i) (same_Some w.kernel is.kernel (sym w.kernel_at ∙ is.kernel_at)) w.within),
+    )
 
 pub has_exact : (g : Grammar) (states : States) (s i : ℕ) (r : Bool) → r ≡ has_item states s i → AreStates g states → IsTrue r ↔ HasItem g (kernels_of states) s i
 has_exact g states s i r e h = subst (λ b. IsTrue b ↔ HasItem g (kernels_of states) s i) (sym e) (has_at g states s i (slice_get states.rows.items s) refl h)
@@ -42,10 +42,12 @@ goto_at g states s x (Some state) e grammar h = go (slice_get state.gotos.items 
     moved_here t goto = subst (λ zs. Moved g zs x (get_or goto.target 0 0)) (goto_source g (kernels_of states) s x t is.kernel goto is.kernel_at) (goto_member g (kernels_of states) s x t goto)
 
     go : (r : Option (Option ℕ)) → slice_get state.gotos.items x ≡ r → MatchOption (option_and_then (λ (to : Option ℕ). to) r) (NoGoto g (kernels_of states) s x) (IsGoto g (kernels_of states) s x)
-    go None f = record { none = λ t goto. (
-      let small = after_small g (moved_here t goto).from x grammar (moved_here t goto).over in
-      let there = slice_some state.gotos.items x (omega (arith, is.gotos.long, small)) in
-      none-some there.0 (sym f ∙ there.1)) }
+    go None f = record {
+      none = λ t goto. (
+          let small = after_small g (moved_here t goto).from x grammar (moved_here t goto).over in
+          let there = slice_some state.gotos.items x (omega (arith, is.gotos.long, small)) in
+          none-some there.0 (sym f ∙ there.1));
+    }
     go (Some None) f = record { none = λ t goto. is.gotos.none x f (get_or goto.target 0 0) (moved_here t goto) }
     go (Some (Some t)) f = is.gotos.some x t f
 

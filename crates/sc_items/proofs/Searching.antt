@@ -1,14 +1,14 @@
 -- The whole search.
-use Rattle.std.proofs.Common.{◌≡◌, ◌<◌, ◌≤◌, ◌+◌, ◌⊎◌, ℕ, List, [], ◌∷◌, ◌++◌, length, slice_get, map, Vec, Some, None, refl, sym, ap, ◌∙◌, subst, arith, inl, inr}
+use Rattle.std.proofs.Common.{◌≡◌, ◌<◌, ◌≤◌, ◌+◌, ◌⊎◌, ℕ, List, [], ◌∷◌, ◌++◌, length, slice_get, Vec, Some, sym, ap, ◌∙◌, subst, arith, inl, inr}
 use Rattle.std.specs.declared.alloc.Global.{Global}
 use Rattle.std.proofs.lemmas.List.{length_push}
-use Rattle.std.proofs.lemmas.Option.{same_Some, none-some}
+use Rattle.std.proofs.lemmas.Option.{none-some}
 use Rattle.sc_model.specs.Grammar.{IsStart}
 use Rattle.sc_model.specs.declared.grammar.Grammar.{Grammar}
 use Rattle.sc_items.specs.declared.automaton.State.{State}
 use Rattle.sc_items.specs.declared.automaton.States.{States}
 use Rattle.sc_items.specs.Kernel.{IsListOf, IsNumbered, lists}
-use Rattle.sc_items.specs.Found.{Found, IsGotoRow, Keeps}
+use Rattle.sc_items.specs.Found.{Found, Keeps}
 use Rattle.sc_items.specs.States.{IsState, AreStates, kernels_of}
 use Rattle.sc_items.proofs.Finding.{Found-begin, IsStates-done}
 use Rattle.sc_items.proofs.Exploring.{goto_keeps}
@@ -25,7 +25,7 @@ state_keeps g old new s state k h = record {
   kernel_at = k.kept s h.kernel h.kernel_at;
   long = h.long;
   items = h.items;
-  gotos = record { long = h.gotos.long; some = λ y t at. goto_keeps g old new s y t k (h.gotos.some y t at); none = h.gotos.none }
+  gotos = record { long = h.gotos.long; some = λ y t at. goto_keeps g old new s y t k (h.gotos.some y t at); none = h.gotos.none };
 }
 
 pub Searched-begin : (g : Grammar) (old new : List (Vec ℕ Global)) (first : List ℕ) (number : ℕ) (rows : List State) → old ≡ [] → rows ≡ [] → IsListOf (length g.entries.now) (IsStart g) first → IsNumbered (lists old) (lists new) first number → Searched g (lists new) rows
@@ -46,15 +46,15 @@ pub Searched-step : (g : Grammar) (old new : List (List ℕ)) (rows : List State
 Searched-step g old new rows state number e within h found keeps one = record {
   found = subst (λ n. Found g new n 0) (ap (λ n. n + 1) e ∙ sym (length_push rows state)) found;
   each = λ s other at. elim (slice_get-push_cases rows state other s at) [
-    inl a ↦ state_keeps g old new s other keeps (h.each s other a)
+    | inl a ↦ state_keeps g old new s other keeps (h.each s other a)
     | inr a ↦ subst (λ n. IsState g new n other) (e ∙ sym a.0) (subst (IsState g new number) a.1 one)
   ];
-  within = omega (arith, length_push rows state, keeps.longer)
+  within = omega (arith, length_push rows state, keeps.longer);
 }
 
 pub Searched-done : (g : Grammar) (states : States) → length (kernels_of states) ≤ length states.rows.items → Searched g (kernels_of states) states.rows.items → AreStates g states
 Searched-done g states all h = record {
   exact = IsStates-done g (kernels_of states) (length states.rows.items) all h.found;
   long = omega (arith, h.within);
-  each = h.each
+  each = h.each;
 }

@@ -1,5 +1,5 @@
 -- The states that a search has found so far.
-use Rattle.std.specs.Prelude.{◌≡◌, ◌↔◌, ◌<◌, ◌≤◌, ◌+◌, ℕ, List, length, slice_get, Option, Some, None}
+use Rattle.std.specs.Prelude.{◌≡◌, ◌↔◌, ◌<◌, ◌≤◌, ℕ, List, length, slice_get, Option, Some, None}
 use Rattle.std.specs.List.{Contains}
 use Rattle.std.specs.List.Sorted.{IsStrictlyIncreasing}
 use Rattle.sc_model.specs.Growth.{IsOneToOne}
@@ -42,4 +42,4 @@ pub record Keeps (old new : List (List ℕ)) : Type 0 where
 pub data IsStep (g : Grammar) (items : List ℕ) (x : ℕ) (old new : List (List ℕ)) : Option ℕ → Type 0 where
   nothing : new ≡ old → ((m : ℕ) → MovedIn g items x m → ⊥) → IsStep g items x old new None
   follows : (kernel : List ℕ) (t : ℕ) → IsStrictlyIncreasing kernel → 0 < length kernel → ((m : ℕ) → Contains kernel m ↔ MovedIn g items x m)
-    → IsNumbered old new kernel t → IsStep g items x old new (Some t)
+      → IsNumbered old new kernel t → IsStep g items x old new (Some t)

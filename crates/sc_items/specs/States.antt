@@ -1,5 +1,5 @@
 -- The states as the code keeps them.
-use Rattle.std.specs.Prelude.{◌≡◌, ◌↔◌, ◌<◌, ◌+◌, ℕ, Bool, false, List, length, slice_get, Option, Some, None, option_and_then, IsTrue}
+use Rattle.std.specs.Prelude.{◌≡◌, ◌↔◌, ◌+◌, ℕ, Bool, false, List, length, slice_get, Option, Some, option_and_then, IsTrue}
 use Rattle.std.specs.Option.{option_map_or}
 use Rattle.sc_model.specs.Tables.{Closure, IsGoto, IsStates}
 use Rattle.sc_model.specs.declared.grammar.Grammar.{Grammar}

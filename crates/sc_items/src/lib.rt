@@ -14,3 +14,6 @@ pub use kernel::opened;
 pub use laws::states_are_determined;
 pub use reach::reachable;
 pub use search::states;
+
+#[cfg(test)]
+mod tests;

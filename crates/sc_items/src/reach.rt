@@ -30,7 +30,7 @@ fn reach(
     reached: &mut Vec<bool>,
     pending: &mut Vec<usize>,
     nodes: &[usize],
-) -> Result<(), OutOfMemory> 
+) -> Result<(), OutOfMemory>
     requires { All (λ node. node < vec_len reached.old) nodes.now }
     ensures { OnOk result (Marks reached.old.items reached.new.items pending.old.items pending.new.items nodes.now) }
 {

@@ -11,3 +11,6 @@ mod tables;
 
 pub use construction::build;
 pub use tables::Tables;
+
+#[cfg(test)]
+mod tests;

@@ -1,5 +1,5 @@
 -- Grammars: their symbols in order, their productions, their items, and the rules that a grammar keeps.
-use Rattle.std.specs.Prelude.{◌≡◌, ℕ, ◌+◌, ◌^◌, ◌<◌, ◌==◌, nat_lt, Bool, true, false, ◌&&◌, not, List, [], ◌∷◌, ◌++◌, take, length, slice_get, count_by, Option, Some, None, option_and_then, IsTrue}
+use Rattle.std.specs.Prelude.{◌≡◌, ℕ, ◌+◌, ◌^◌, ◌<◌, nat_lt, Bool, true, false, List, [], ◌∷◌, ◌++◌, take, length, slice_get, count_by, Option, Some, None, option_and_then, IsTrue}
 use Rattle.std.specs.List.{list_all}
 use Rattle.sc_model.specs.declared.grammar.Symbol.{Symbol}
 use Rattle.sc_model.specs.declared.grammar.Symbol.TheVariants.{Terminal, Nonterminal}

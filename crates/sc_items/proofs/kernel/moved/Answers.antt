@@ -1,4 +1,4 @@
-use Rattle.std.proofs.Common.{◌≡◌, ◌≤◌, ℕ, List, length, ap, ◌∙◌, sym, arith, subst, Some, None, take, get_or}
+use Rattle.std.proofs.Common.{◌≤◌, ℕ, List, length, ap, ◌∙◌, sym, subst, Some, take}
 use Rattle.std.proofs.lemmas.List.{take_all}
 use Rattle.std.proofs.lemmas.Option.{same_Some, none-some}
 use Rattle.sc_model.specs.declared.grammar.Grammar.{Grammar}
@@ -21,7 +21,7 @@ loop-item-preserved c =
     let h = c.loop-item.invariant in
     let k_in = c.loop-item-test.true in
     elim c.match-after.branch [
-      in-Some+then-next-symbol+in_ok-push w ↦ rw (ap (λ v. v.items) w.kernel-is, w.in_ok-push.ensures.items) (MovedSoFar-kept g items x k _ c.requires.rising k_in h (sym w.in-Some.ensures.symbol ∙ ap (λ y. Some y) w.if-next-symbol.true))
+      | in-Some+then-next-symbol+in_ok-push w ↦ rw (ap (λ v. v.items) w.kernel-is, w.in_ok-push.ensures.items) (MovedSoFar-kept g items x k _ c.requires.rising k_in h (sym w.in-Some.ensures.symbol ∙ ap (λ y. Some y) w.if-next-symbol.true))
       | in-Some+else-next-symbol w ↦ rw (w.kernel-is) (MovedSoFar-left g items x k _ k_in h (λ e. w.if-next-symbol.false (same_Some w.in-Some.next x (w.in-Some.ensures.symbol ∙ e))))
       | in_default w ↦ rw (w.kernel-is) (MovedSoFar-left g items x k _ k_in h (λ e. none-some x (w.in_default.ensures.symbol ∙ e)))
     ]

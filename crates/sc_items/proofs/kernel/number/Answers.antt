@@ -1,4 +1,3 @@
-use Rattle.std.proofs.Common.{◌≡◌, ℕ, List, length, ap, ◌∙◌, sym, arith, subst}
 use Rattle.sc_items.proofs.Numbering.{numbered}
 use Rattle.sc_items.proofs.kernel.number.Goals as goal
 

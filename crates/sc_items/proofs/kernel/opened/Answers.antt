@@ -1,5 +1,5 @@
-use Rattle.std.proofs.Common.{◌≡◌, ℕ, length, ap, ◌∙◌, sym, arith, subst}
-use Rattle.sc_items.proofs.Opening.{IsOpenedBelow, IsOpenedBelow-push, IsOpened-done, EdgesWithin-done}
+use Rattle.std.proofs.Common.{arith}
+use Rattle.sc_items.proofs.Opening.{IsOpenedBelow-push, IsOpened-done, EdgesWithin-done}
 use Rattle.sc_items.proofs.kernel.opened.Goals as goal
 
 pub loop-item-preserved : goal.loop-item-preserved

@@ -28,7 +28,7 @@ loop-begin-preserved c =
     let i = c.args.item in
     let j = c.loop-begin.begin in
     elim c.match-begun.branch [
-      in-Some-begun+then-left-symbol+in_ok-push w ↦ IsListOf-kept (Opens g i) j _ _ c.loop-begin.invariant (ap (λ v. v.items) w.items-is ∙ w.in_ok-push.ensures.items) (record { symbol = c.in-Some.symbol; over = sym c.in-Some.ensures.symbol; begins = sym w.in-Some-begun.ensures.left ∙ ap (λ x. Some x) w.if-left-symbol.true })
+      | in-Some-begun+then-left-symbol+in_ok-push w ↦ IsListOf-kept (Opens g i) j _ _ c.loop-begin.invariant (ap (λ v. v.items) w.items-is ∙ w.in_ok-push.ensures.items) (record { symbol = c.in-Some.symbol; over = sym c.in-Some.ensures.symbol; begins = sym w.in-Some-begun.ensures.left ∙ ap (λ x. Some x) w.if-left-symbol.true })
       | in-Some-begun+else-left-symbol w ↦ IsListOf-left (Opens g i) j _ _ c.loop-begin.invariant (ap (λ v. v.items) w.items-is) (opens_other g i j c.in-Some.symbol w.in-Some-begun.left (sym c.in-Some.ensures.symbol) (sym w.in-Some-begun.ensures.left) w.if-left-symbol.false)
       | in_default-begun w ↦ IsListOf-left (Opens g i) j _ _ c.loop-begin.invariant (ap (λ v. v.items) w.items-is) (opens_none g i j (sym w.in_default-begun.ensures.left))
     ]

@@ -1,5 +1,4 @@
 use Rattle.std.proofs.Common.{◌≡◌, ◌<◌, ◌≤◌, ℕ, length, ap, ◌∙◌, sym, arith, Option, Some, None, is_some, true, false, refl, subst}
-use Rattle.std.proofs.lemmas.Option.{none-some}
 use Rattle.std.proofs.lemmas.Bool.{false≢true}
 use Rattle.sc_model.specs.Grammar.{IsStart, begun, production_at}
 use Rattle.sc_model.specs.declared.grammar.Grammar.{Grammar}
@@ -28,7 +27,7 @@ loop-item-preserved c =
     let i = c.loop-item.item in
     let some_is = c.is_some.ensures ∙ ap is_some c.begun.ensures.left in
     elim c.if-is_some.branch [
-      then-is_some+then-production_at-lt3+in_ok-push w ↦ IsListOf-kept (IsStart g) i _ _ c.loop-item.invariant (ap (λ v. v.items) w.items-is ∙ w.in_ok-push.ensures.items) (starts g i w.production_at.result (sym some_is ∙ w.if-is_some.true) w.production_at.ensures w.if-production_at-lt3.true)
+      | then-is_some+then-production_at-lt3+in_ok-push w ↦ IsListOf-kept (IsStart g) i _ _ c.loop-item.invariant (ap (λ v. v.items) w.items-is ∙ w.in_ok-push.ensures.items) (starts g i w.production_at.result (sym some_is ∙ w.if-is_some.true) w.production_at.ensures w.if-production_at-lt3.true)
       | then-is_some+else-production_at-lt3 w ↦ IsListOf-left (IsStart g) i _ _ c.loop-item.invariant (ap (λ v. v.items) w.items-is) (starts_late g i w.production_at.result w.production_at.ensures w.if-production_at-lt3.false)
       | else-is_some w ↦ IsListOf-left (IsStart g) i _ _ c.loop-item.invariant (ap (λ v. v.items) w.items-is) (starts_not g i (sym some_is ∙ w.if-is_some.false))
     ]

@@ -18,6 +18,6 @@ loop-node-preserved c =
     let node = get_or nodes k 0 in
     let in_marks : get_or nodes k 0 < length c.loop-node.reached.items = omega (arith, c.requires k 0 c.loop-node-test.true, c.loop-node.invariant.long, c.args.reached.now.ok.0) in
     elim c.if-not-index.branch [
-      then-not-index+in_ok-push w ↦ Marks-more_mark _ _ _ _ _ _ nodes k c.loop-node.invariant c.loop-node-test.true (ap (λ v. v.items) w.reached-is) (ap (λ v. v.items) w.pending-is ∙ w.in_ok-push.ensures.items) in_marks (read_false marks node _ c.index.ensures w.if-not-index.true)
+      | then-not-index+in_ok-push w ↦ Marks-more_mark _ _ _ _ _ _ nodes k c.loop-node.invariant c.loop-node-test.true (ap (λ v. v.items) w.reached-is) (ap (λ v. v.items) w.pending-is ∙ w.in_ok-push.ensures.items) in_marks (read_false marks node _ c.index.ensures w.if-not-index.true)
       | else-not-index w ↦ rw (w.reached-is, w.pending-is) (Marks-more_skip _ _ _ _ nodes k c.loop-node.invariant c.loop-node-test.true (read_true marks node _ in_marks c.index.ensures w.if-not-index.false))
     ]

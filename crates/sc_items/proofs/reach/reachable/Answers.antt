@@ -2,7 +2,7 @@ use Rattle.std.specs.declared.alloc.Global.{Global}
 use Rattle.std.proofs.lemmas.Option.{slice_get_read}
 use Rattle.std.proofs.lemmas.List.{nil_from_length}
 use Rattle.sc_items.specs.Reach.{EdgesWithin, Marks}
-use Rattle.std.proofs.Common.{rules, vec_len, slice_get, get_or, All, Vec, List, Option, Some, None, IsSome, refl, ◌≡◌, ◌<◌, ◌++◌, ◌∷◌, [], ℕ, length, Fits, w64, subst, sym, arith, ap, ◌∙◌}
+use Rattle.std.proofs.Common.{rules, vec_len, slice_get, get_or, All, Vec, List, Some, refl, ◌≡◌, ◌<◌, [], ℕ, length, subst, sym, ◌∙◌}
 use Rattle.sc_items.proofs.Reaching.{Progress, Progress-begin, Progress-step, Progress-within, IsReached-done}
 use Rattle.sc_items.proofs.reach.reachable.Goals as goal
 

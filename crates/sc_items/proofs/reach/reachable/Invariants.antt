@@ -1,4 +1,4 @@
-use Rattle.std.proofs.Common.{◌+◌, ◌<◌, ℕ, length, not, count_by, All}
+use Rattle.std.proofs.Common.{◌+◌, length, not, count_by}
 use Rattle.sc_items.proofs.Reaching.{Progress}
 use Rattle.sc_items.proofs.reach.reachable.Given as goal
 

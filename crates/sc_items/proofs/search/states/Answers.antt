@@ -1,8 +1,8 @@
-use Rattle.std.proofs.Common.{◌≡◌, ◌<◌, ◌≤◌, ℕ, List, length, map, Vec, ap, ◌∙◌, sym, arith, subst}
+use Rattle.std.proofs.Common.{◌≡◌, ◌<◌, ℕ, List, length, Vec, ◌∙◌, arith}
 use Rattle.std.specs.declared.alloc.Global.{Global}
 use Rattle.std.proofs.lemmas.List.{length-map}
 use Rattle.sc_items.specs.Kernel.{lists}
-use Rattle.sc_items.proofs.Searching.{Searched, Searched-begin, Searched-step, Searched-done}
+use Rattle.sc_items.proofs.Searching.{Searched-begin, Searched-step, Searched-done}
 use Rattle.sc_items.proofs.search.states.Goals as goal
 
 length_lists : (keys : List (Vec ℕ Global)) → length (lists keys) ≡ length keys
@@ -20,5 +20,5 @@ search-preserved c =
 pub returns : goal.returns
 returns c =
     Searched-done c.args.grammar.now (record { kernels = c.search.kernels; rows = c.search.rows })
-      (omega (arith, c.search.rows.ok.0, c.len.ensures, c.len-in-search.ensures.len, length_lists c.search.kernels.keys, c.search-test.false))
-      c.search.invariant
+    (omega (arith, c.search.rows.ok.0, c.len.ensures, c.len-in-search.ensures.len, length_lists c.search.kernels.keys, c.search-test.false))
+    c.search.invariant

@@ -1,5 +1,4 @@
-use Rattle.std.proofs.Common.{◌≡◌, ℕ, Bool, false, Option, Some, None, List, slice_get, option_and_then, sym, ap, ◌∙◌, refl}
-use Rattle.std.specs.Option.{option_map}
+use Rattle.std.proofs.Common.{◌≡◌, ℕ, Option, Some, None, slice_get, option_and_then, sym, ap, ◌∙◌}
 use Rattle.sc_items.specs.declared.automaton.State.{State}
 use Rattle.sc_items.specs.declared.automaton.States.{States}
 use Rattle.sc_items.specs.States.{goto_of}
