@@ -39,7 +39,7 @@ module _ (names files : List (List ℕ)) (file : FileId) (main : List ℕ) (name
   seen_one : (t : base.Token) (l : Lexeme) → lexeme_at names t ≡ Some l → t.place.file ≡ file → seen names files t ≡ in_file main l
   seen_one t l e placed =
       ap (λ f. record { kind = t.kind; spelling = text_at names t.spelling.0; space = t.space; place = record { file = f; position = position_of t.place } })
-        (ap (λ (f : FileId). text_at files f.0) placed ∙ ap (λ (o : Option (List ℕ)). unwrap_or o []) named)
+      (ap (λ (f : FileId). text_at files f.0) placed ∙ ap (λ (o : Option (List ℕ)). unwrap_or o []) named)
       ∙ seen_by main t l (slice_get names t.spelling.0) e
 
   seen_all : (ls : List Lexeme) (ts : List base.Token) → map (lexeme_at names) ts ≡ map Some ls → All (λ (t : base.Token). t.place.file ≡ file) ts
@@ -73,12 +73,12 @@ held names [] own named = All-nil (IsHeld names)
 held names (t ∷ ts) own named =
     let here = All-head (spell.IsHeld names) t ts own in
     All-cons (IsHeld names) t ts
-      (record {
-        spelling = here.spelling;
-        name = here.name;
-        stands_for = named_by (slice_get names t.spelling.0) (slice_get names t.name.0) (All-head (λ (t : base.Token). slice_get names t.name.0 ≡ option_map name_of (slice_get names t.spelling.0)) t ts named);
-      })
-      (held names ts (All-tail (spell.IsHeld names) t ts own) (All-tail (λ (t : base.Token). slice_get names t.name.0 ≡ option_map name_of (slice_get names t.spelling.0)) t ts named))
+    (record {
+      spelling = here.spelling;
+      name = here.name;
+      stands_for = named_by (slice_get names t.spelling.0) (slice_get names t.name.0) (All-head (λ (t : base.Token). slice_get names t.name.0 ≡ option_map name_of (slice_get names t.spelling.0)) t ts named);
+    })
+    (held names ts (All-tail (spell.IsHeld names) t ts own) (All-tail (λ (t : base.Token). slice_get names t.name.0 ≡ option_map name_of (slice_get names t.spelling.0)) t ts named))
 
 -- what stands at a configuration that is refused
 pub refused-ordinary : (s : Sets) (names files : List (List ℕ)) (p : Preprocessed) (space : Space) (outside : Files) (main config : List ℕ) (fault : Fault)
@@ -128,5 +128,5 @@ module _ (s : Sets) (names files : List (List ℕ)) (space : Space) (outside : F
       let f = follows (initial_macros space config) group is_tree.grouped in
       let ran = ap (run (initial_macros space config) start) (sym is_tree.whole) ∙ f.machine [] [] in
       ends_ordinary p f.tokens f.fault f.ends
-        (ap (λ items. map (seen names files) (items_at s items config)) list ∙ (mirrors.output ∙ ap (λ m. m.output) ran))
-        (ap (λ fs. map (seen_fault files) (faults_at s fs config)) faults ∙ (mirrors.fault ∙ ap (λ m. option_to_list m.fault) ran))
+      (ap (λ items. map (seen names files) (items_at s items config)) list ∙ (mirrors.output ∙ ap (λ m. m.output) ran))
+      (ap (λ fs. map (seen_fault files) (faults_at s fs config)) faults ∙ (mirrors.fault ∙ ap (λ m. option_to_list m.fault) ran))

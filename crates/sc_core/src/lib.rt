@@ -3,8 +3,8 @@
 
 mod defined;
 mod line_kind;
-mod moves;
 mod main_file;
+mod moves;
 mod preprocessed;
 mod steps;
 mod walk;

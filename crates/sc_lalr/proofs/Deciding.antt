@@ -31,18 +31,19 @@ use Rattle.sc_lalr.proofs.Looking.{lookahead_has}
 
 -- ---- what can be reduced
 pub can_reduce : (g : Grammar) (states : List (List ℕ)) (s t : ℕ) (rows : List (Vec Bool Global)) (row : Vec Bool Global) (ends : List ℕ) → AreLookaheads g states rows → slice_get rows t ≡ Some row → IsListOf (length g.entries.now) (EndsIn g states s) ends → (p : ℕ) → IsMarkedEnd g row.items (s * length g.entries.now) ends p ↔ CanReduce g states s t p
-can_reduce g states s t rows row ends ahead at list p =
-    (λ m. record {
-      item = m.item;
-      ends = record { within = list.below m.item m.within; at_end = (list.sound m.item m.within).at_end; production = m.production };
-      ahead = (ahead.exact t row at s m.item (list.below m.item m.within)).0 m.is_marked
-    },
-    λ r. record {
-      item = r.item;
-      within = list.complete r.item r.ends.within (record { has = lookahead_has g states t s r.item r.ahead; at_end = r.ends.at_end });
-      is_marked = (ahead.exact t row at s r.item r.ends.within).1 r.ahead;
-      production = r.ends.production
-    })
+can_reduce g states s t rows row ends ahead at list p = (
+  λ m. record {
+    item = m.item;
+    ends = record { within = list.below m.item m.within; at_end = (list.sound m.item m.within).at_end; production = m.production };
+    ahead = (ahead.exact t row at s m.item (list.below m.item m.within)).0 m.is_marked;
+  },
+  λ r. record {
+    item = r.item;
+    within = list.complete r.item r.ends.within (record { has = lookahead_has g states t s r.item r.ahead; at_end = r.ends.at_end });
+    is_marked = (ahead.exact t row at s r.item r.ends.within).1 r.ahead;
+    production = r.ends.production;
+  },
+)
 
 -- ---- one action
 module _ (g : Grammar) (states : List (List ℕ)) (s t : ℕ) (are : IsStates g states) where
@@ -108,7 +109,7 @@ here_in : (s t : ℕ) (shift : Option ℕ) (ps : List ℕ) (c : Conflict) → Is
 here_in s t (Some r) ps c h = subst (Contains (map (conflict_at s t (Shift r)) ps)) (conflict_same s t (Shift r) c h.state h.terminal (same_Some (Shift r) c.kept h.kept)) (map_has (conflict_at s t (Shift r)) c.lost ps h.lost)
 here_in s t None [] c h = absurd (no_member c.lost h.lost)
 here_in s t None (p ∷ ps) c h = elim (cons_cases p c.lost ps h.lost) [
-  inl e ↦ absurd (h.apart (sym (same_Some (Reduce p) c.kept h.kept) ∙ ap (λ z. Reduce z) e))
+  | inl e ↦ absurd (h.apart (sym (same_Some (Reduce p) c.kept h.kept) ∙ ap (λ z. Reduce z) e))
   | inr w ↦ subst (Contains (map (conflict_at s t (Reduce p)) ps)) (conflict_same s t (Reduce p) c h.state h.terminal (same_Some (Reduce p) c.kept h.kept)) (map_has (conflict_at s t (Reduce p)) c.lost ps w)
 ]
 
@@ -169,11 +170,11 @@ RowSoFar-step g states s t row conflicts shift ps are s_in t_in goto inc can h =
   actions = record {
     long = length_push row (kept_of shift ps) ∙ ap (λ n. n + 1) h.actions.long;
     each = λ u a at. elim (slice_get-push_cases row (kept_of shift ps) a u at) [
-      inl b ↦ h.actions.each u a b
+      | inl b ↦ h.actions.each u a b
       | inr e ↦ subst (λ z. IsAction g states s z a) (sym (e.0 ∙ h.actions.long)) (subst (IsAction g states s t) e.1 kept)
-    ]
+    ];
   };
-  conflicts_are = record { sound = sound; earlier = earlier; complete = complete; in_order = order_append conflicts (conflicts_at s t shift ps) h.conflicts_are.in_order (here_order s t shift ps inc) across }
+  conflicts_are = record { sound = sound; earlier = earlier; complete = complete; in_order = order_append conflicts (conflicts_at s t shift ps) h.conflicts_are.in_order (here_order s t shift ps inc) across };
 }
   where
     kept : IsAction g states s t (kept_of shift ps)
@@ -185,7 +186,7 @@ RowSoFar-step g states s t row conflicts shift ps are s_in t_in goto inc can h =
       terminal = omega (arith, k.terminal, t_in);
       kept = subst (λ a. IsAction g states a c.terminal.0 (Some c.kept)) (sym k.state) (subst (λ b. IsAction g states s b (Some c.kept)) (sym k.terminal) (subst (IsAction g states s t) k.kept kept));
       possible = subst (λ a. CanReduce g states a c.terminal.0 c.lost) (sym k.state) (subst (λ b. CanReduce g states s b c.lost) (sym k.terminal) ((can c.lost).0 k.lost));
-      lost = k.apart
+      lost = k.apart;
     }
 
     here_conflict : (c : Conflict) → IsConflict g states c → c.state ≡ s → c.terminal.0 ≡ t → IsHere s t shift ps c
@@ -203,7 +204,7 @@ RowSoFar-step g states s t row conflicts shift ps are s_in t_in goto inc can h =
 
     earlier : (c : Conflict) → Contains (conflicts ++ conflicts_at s t shift ps) c → Before c.state c.terminal.0 s (t + 1)
     earlier c w = elim (Contains-append_cases conflicts (conflicts_at s t shift ps) c w) [
-      inl a ↦ later c (h.conflicts_are.earlier c a)
+      | inl a ↦ later c (h.conflicts_are.earlier c a)
       | inr a ↦ (let k = here_of s t shift ps c inc a in inr (k.state, omega (arith, k.terminal)))
     ]
 

@@ -26,7 +26,7 @@ IsLedBelow-none g y = record { sound = λ x w. absurd (no_member x w); complete 
 pub IsLedBelow-skip : (g : Grammar) (y n : ℕ) (row : List ℕ) → IsLedBelow g y n row → ((x : ℕ) → begun g n ≡ Some x → after g n ≡ Some y → ⊥) → IsLedBelow g y (n + 1) row
 IsLedBelow-skip g y n row h not = record {
   sound = h.sound;
-  complete = λ x l below. elim (cases_lt l.item n) [ inl a ↦ h.complete x l a | inr b ↦ absurd (here x l (same l.item below b)) ]
+  complete = λ x l below. elim (cases_lt l.item n) [ inl a ↦ h.complete x l a | inr b ↦ absurd (here x l (same l.item below b)) ];
 }
   where
     same : (i : ℕ) → i < n + 1 → n ≤ i → i ≡ n
@@ -46,7 +46,7 @@ IsLedBelow-push g y n x row h begins first = record { sound = sound; complete = 
 
     complete : (z : ℕ) (l : Leads g z y) → l.item < n + 1 → Contains (row ++ x ∷ []) z
     complete z l below = elim (cases_lt l.item n) [
-      inl a ↦ Contains-append_left row (x ∷ []) z (h.complete z l a)
+      | inl a ↦ Contains-append_left row (x ∷ []) z (h.complete z l a)
       | inr b ↦ subst (Contains (row ++ x ∷ [])) (same_Some x z (sym begins ∙ subst (λ i. begun g i ≡ Some z) (same l.item below b) l.begins)) (Contains-push row x)
     ]
 
@@ -59,9 +59,9 @@ pub IsLeadingBelow-push : (g : Grammar) (n : ℕ) (rows : List (Vec ℕ Global))
 IsLeadingBelow-push g n rows row h one = record {
   long = length_push rows row ∙ ap (λ k. k + 1) h.long;
   each = λ y other at x. elim (slice_get-push_cases rows row other y at) [
-    inl a ↦ h.each y other a x
+    | inl a ↦ h.each y other a x
     | inr a ↦ subst (λ (r : Vec ℕ Global). Contains r.items x ↔ Leads g x y) a.1 (subst (λ k. Contains row.items x ↔ Leads g x k) (sym (a.0 ∙ h.long)) (one x))
-  ]
+  ];
 }
 
 pub IsLeading-done : (g : Grammar) (n : ℕ) (rows : List (Vec ℕ Global)) → IsGrammar g → n ≡ g.terminals + g.nonterminals → IsLeadingBelow g n rows → IsLeading g rows
@@ -69,17 +69,17 @@ IsLeading-done g n rows grammar e h = record {
   long = h.long ∙ e;
   sound = λ y x edge. (h.each y edge.row edge.row_at x).0 edge.in_row;
   complete = λ y x l. (
-    let row = slice_some rows y (omega (arith, h.long, e, after_small g l.item y grammar l.first)) in
-    record { row = row.0; row_at = row.1; in_row = (h.each y row.0 row.1 x).1 l })
+      let row = slice_some rows y (omega (arith, h.long, e, after_small g l.item y grammar l.first)) in
+      record { row = row.0; row_at = row.1; in_row = (h.each y row.0 row.1 x).1 l });
 }
 
 pub EdgesWithin-done : (g : Grammar) (n : ℕ) (rows : List (Vec ℕ Global)) → IsGrammar g → n ≡ g.terminals + g.nonterminals → IsLeadingBelow g n rows → EdgesWithin rows
 EdgesWithin-done g n rows grammar e h = record {
   within = λ y d y_in k z k_in.
-    let row = get_or rows y d in
-    let at : slice_get rows y ≡ Some row = slice_get-get_or rows y d y_in in
-    let l = (h.each y row at (get_or row.items k z)).0 (Contains-get_or row.items k z k_in) in
-    omega (arith, begun_small g l.item (get_or row.items k z) grammar l.begins, e, h.long)
+      let row = get_or rows y d in
+      let at : slice_get rows y ≡ Some row = slice_get-get_or rows y d y_in in
+      let l = (h.each y row at (get_or row.items k z)).0 (Contains-get_or row.items k z k_in) in
+      omega (arith, begun_small g l.item (get_or row.items k z) grammar l.begins, e, h.long);
 }
 
 -- what a terminal begins is what can be reached from it

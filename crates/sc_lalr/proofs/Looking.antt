@@ -82,8 +82,8 @@ module _ (g : Grammar) (states : List (List ℕ)) (t : ℕ) (rows edges : List (
           j = seeds.item;
           to = record { within = begun_within g seeds.item opens.symbol opens.begins; is = seeds.node ∙ ap (λ z. z * length g.entries.now + seeds.item) (sym same.0) };
           first = subst (λ z. First g t z) next_same ((begin_is seeds.next).0 seeds.begins);
-          begins = opens.begins ∙ ap (λ z. Some z) over_same
-        }
+          begins = opens.begins ∙ ap (λ z. Some z) over_same;
+        };
       }
 
   pub start_within : (v : ℕ) → Contains starts v → v < length states * length g.entries.now
@@ -115,7 +115,7 @@ module _ (g : Grammar) (states : List (List ℕ)) (t : ℕ) (rows edges : List (
       let h = p.seeded in
       let same = node_same (length g.entries.now) z h.source.s h.j s i h.to at in
       subst (λ a. Lookahead g states t a i) same.0 (subst (λ b. Lookahead g states t h.source.s b) same.1
-        (spontaneous h.source.s h.source.i h.j h.source.x h.source.y h.source.has.kernel h.source.has.kernel_at h.source.has.within h.source.over h.source.next h.first h.begins))
+      (spontaneous h.source.s h.source.i h.j h.source.x h.source.y h.source.has.kernel h.source.has.kernel_at h.source.has.within h.source.over h.source.next h.first h.begins))
   lookahead_to v (step u z reaches edge) s i at =
       let p = (edges_are.each u edge.row edge.row_at z).0 edge.in_row in
       let same = node_same (length g.entries.now) z p.r p.j s i p.to at in
@@ -142,8 +142,8 @@ module _ (g : Grammar) (states : List (List ℕ)) (t : ℕ) (rows edges : List (
           j = j;
           to = record { within = begun_within g j x begins; is = refl };
           first = first;
-          begins = begins
-        }
+          begins = begins;
+        };
       }))
     where
       item_in : (k x : ℕ) → after g k ≡ Some x → k < length g.entries.now
@@ -153,26 +153,33 @@ module _ (g : Grammar) (states : List (List ℕ)) (t : ℕ) (rows edges : List (
       let k_in : k < length g.entries.now = omega (arith, after_within g k x over) in
       step (r * length g.entries.now + k) (r * length g.entries.now + j) (lookahead_from r k l)
       (edge_of (r * length g.entries.now + k) (r * length g.entries.now + j) (node_in r k has k_in) (record {
-        s = r; i = k; r = r; j = j;
+        s = r;
+        i = k;
+        r = r;
+        j = j;
         from = record { within = k_in; is = refl };
         to = record { within = begun_within g j x begins; is = refl };
-        passes = into x j has over end begins
+        passes = into x j has over end begins;
       }))
   lookahead_from s i (moved q k x r l over goto) =
       let has = lookahead_has g states t q k l in
       let k_in : k < length g.entries.now = omega (arith, after_within g k x over) in
       step (q * length g.entries.now + k) (r * length g.entries.now + (k + 1)) (lookahead_from q k l)
       (edge_of (q * length g.entries.now + k) (r * length g.entries.now + (k + 1)) (node_in q k has k_in) (record {
-        s = q; i = k; r = r; j = k + 1;
+        s = q;
+        i = k;
+        r = r;
+        j = k + 1;
         from = record { within = k_in; is = refl };
         to = record { within = after_within g k x over; is = refl };
-        passes = along x r has over goto
+        passes = along x r has over goto;
       }))
 
   pub lookahead_exact : IsReached edges starts marks → (s i : ℕ) → i < length g.entries.now → IsTrue (marked marks (s * length g.entries.now + i)) ↔ Lookahead g states t s i
-  lookahead_exact reached s i within =
-      (λ m. lookahead_to (s * length g.entries.now + i) (reached.sound (s * length g.entries.now + i) m) s i (record { within = within; is = refl }),
-      λ l. reached.complete (s * length g.entries.now + i) (lookahead_from s i l))
+  lookahead_exact reached s i within = (
+    λ m. lookahead_to (s * length g.entries.now + i) (reached.sound (s * length g.entries.now + i) m) s i (record { within = within; is = refl }),
+    λ l. reached.complete (s * length g.entries.now + i) (lookahead_from s i l),
+  )
 
 -- ---- the rows of the first terminals
 pub record AreLookaheadsBelow (g : Grammar) (states : List (List ℕ)) (n : ℕ) (rows : List (Vec Bool Global)) : Type 0 where
@@ -185,9 +192,9 @@ AreLookaheadsBelow-push g states n rows row h long exact = record {
   long = length_push rows row ∙ ap (λ k. k + 1) h.long;
   each = λ t other at. elim (slice_get-push_cases rows row other t at) [ inl a ↦ h.each t other a | inr a ↦ subst (λ (r : Vec Bool Global). length r.items ≡ length states * length g.entries.now) a.1 long ];
   exact = λ t other at s i within. elim (slice_get-push_cases rows row other t at) [
-    inl a ↦ h.exact t other a s i within
+    | inl a ↦ h.exact t other a s i within
     | inr a ↦ subst (λ (r : Vec Bool Global). IsTrue (marked r.items (s * length g.entries.now + i)) ↔ Lookahead g states t s i) a.1 (subst (λ k. IsTrue (marked row.items (s * length g.entries.now + i)) ↔ Lookahead g states k s i) (sym (a.0 ∙ h.long)) (exact s i within))
-  ]
+  ];
 }
 
 -- ---- each node of the graph fits

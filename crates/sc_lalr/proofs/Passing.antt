@@ -105,10 +105,13 @@ passes_exact g states u s i x to next row nodes h at has over goto next_is row_i
     from_along : (o : Option ℕ) → MatchOption o (NoGoto g states s x) (IsGoto g states s x) → Contains (along_part (length g.entries.now) i o) v → PassesTo g states u v
     from_along None m w = absurd (no_member v w)
     from_along (Some t) m w = record {
-      s = s; i = i; r = t; j = i + 1;
+      s = s;
+      i = i;
+      r = t;
+      j = i + 1;
       from = at;
       to = record { within = after_within g i x over; is = sym (contains_only (t * length g.entries.now + (i + 1)) v w) };
-      passes = along x t has over m
+      passes = along x t has over m;
     }
 
     from_into : (o : Option ℕ) → o ≡ after g (i + 1) → Contains (into_part (s * length g.entries.now) o row) v → PassesTo g states u v
@@ -116,10 +119,13 @@ passes_exact g states u s i x to next row nodes h at has over goto next_is row_i
         let m = map_to (s * length g.entries.now) v row w in
         let opens = (row_is m.0).0 m.1 in
         record {
-          s = s; i = i; r = s; j = m.0;
+          s = s;
+          i = i;
+          r = s;
+          j = m.0;
           from = at;
           to = record { within = begun_within g m.0 opens.symbol opens.begins; is = m.2 };
-          passes = into opens.symbol m.0 has opens.over (sym f) opens.begins
+          passes = into opens.symbol m.0 has opens.over (sym f) opens.begins;
         }
     from_into (Some y) f w = absurd (no_member v w)
 
@@ -161,9 +167,9 @@ pub IsPropagationBelow-push : (g : Grammar) (states : List (List ℕ)) (n : ℕ)
 IsPropagationBelow-push g states n rows row h one = record {
   long = length_push rows row ∙ ap (λ k. k + 1) h.long;
   each = λ u other at v. elim (slice_get-push_cases rows row other u at) [
-    inl a ↦ h.each u other a v
+    | inl a ↦ h.each u other a v
     | inr a ↦ subst (λ (r : Vec ℕ Global). Contains r.items v ↔ PassesTo g states u v) a.1 (subst (λ k. Contains row.items v ↔ PassesTo g states k v) (sym (a.0 ∙ h.long)) (one v))
-  ]
+  ];
 }
 
 -- an edge leads to a node of the graph
@@ -182,17 +188,18 @@ IsPropagation-done g states n rows e h = record { long = h.long ∙ e; each = h.
 pub EdgesWithin-passed : (g : Grammar) (states : List (List ℕ)) (n : ℕ) (rows : List (Vec ℕ Global)) → n ≡ length states * length g.entries.now → IsPropagationBelow g states n rows → EdgesWithin rows
 EdgesWithin-passed g states n rows e h = record {
   within = λ u d u_in k v k_in.
-    let row = get_or rows u d in
-    let at : slice_get rows u ≡ Some row = slice_get-get_or rows u d u_in in
-    let p = (h.each u row at (get_or row.items k v)).0 (Contains-get_or row.items k v k_in) in
-    omega (arith, passes_within g states u (get_or row.items k v) p, h.long, e)
+      let row = get_or rows u d in
+      let at : slice_get rows u ≡ Some row = slice_get-get_or rows u d u_in in
+      let p = (h.each u row at (get_or row.items k v)).0 (Contains-get_or row.items k v k_in) in
+      omega (arith, passes_within g states u (get_or row.items k v) p, h.long, e);
 }
 
 -- the row of an item has what the item opens
 pub row_opens : (g : Grammar) (rows : List (Vec ℕ Global)) (i : ℕ) (row : Vec ℕ Global) (view : List ℕ) → IsOpened g rows → slice_get rows i ≡ Some row → view ≡ row.items → (j : ℕ) → Contains view j ↔ Opens g i j
-row_opens g rows i row view h at e j =
-    (λ w. h.sound i j (record { row = row; row_at = at; in_row = subst (λ zs. Contains zs j) e w }),
-    λ o. let edge = h.complete i j o in subst (λ zs. Contains zs j) (sym e) (subst (λ (r : Vec ℕ Global). Contains r.items j) (same_Some edge.row row (sym edge.row_at ∙ at)) edge.in_row))
+row_opens g rows i row view h at e j = (
+  λ w. h.sound i j (record { row = row; row_at = at; in_row = subst (λ zs. Contains zs j) e w }),
+  λ o. let edge = h.complete i j o in subst (λ zs. Contains zs j) (sym e) (subst (λ (r : Vec ℕ Global). Contains r.items j) (same_Some edge.row row (sym edge.row_at ∙ at)) edge.in_row),
+)
 
 -- the last node of a loop
 pub at_end : (node len k n : ℕ) → len ≡ k → node ≤ len * n → len * n ≤ node → node ≡ k * n

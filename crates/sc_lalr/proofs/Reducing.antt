@@ -19,7 +19,7 @@ use Rattle.sc_lalr.specs.Tables.{IsMarkedEnd, IsAtEnd}
 count_take_le : {A : Type 0} (p : A → Bool) (xs : List A) (m n : ℕ) → m ≤ n → count_by p (take m xs) ≤ count_by p (take n xs)
 count_take_le {A} p xs m n h =
     let split : count_by p (take n xs) ≡ count_by p (take m xs) + count_by p (drop m (take n xs)) =
-        ap (count_by p) (sym (take-append-drop m (take n xs))) ∙ sum_by-append (λ (x : A). cond (p x) 1 0) (take m (take n xs)) (drop m (take n xs)) ∙ ap (λ zs. count_by p zs + count_by p (drop m (take n xs))) (take-take m n xs h) in
+    ap (count_by p) (sym (take-append-drop m (take n xs))) ∙ sum_by-append (λ (x : A). cond (p x) 1 0) (take m (take n xs)) (drop m (take n xs)) ∙ ap (λ zs. count_by p zs + count_by p (drop m (take n xs))) (take-take m n xs h) in
     omega (arith, split)
 
 left_from_none : (t : ℕ) (e : Entry) → right_in t e ≡ None → is_left e ≡ true
@@ -55,19 +55,19 @@ pub MarkedSoFar-none : (g : Grammar) (marks : List Bool) (base : ℕ) → Marked
 MarkedSoFar-none g marks base = record {
   rising = rising-none;
   sound = λ p h. absurd (no_member p h);
-  complete = λ p h. absurd (no_member h.item h.within)
+  complete = λ p h. absurd (no_member h.item h.within);
 }
 
 pub MarkedSoFar-left : (g : Grammar) (marks : List Bool) (base k : ℕ) (items found : List ℕ) → k < length items → MarkedSoFar g marks base (take k items) found → (IsTrue (marked marks (base + get_or items k 0)) → ⊥) → MarkedSoFar g marks base (take (k + 1) items) found
 MarkedSoFar-left g marks base k items found k_in h not = record {
   rising = h.rising;
   sound = λ p w. let o = h.sound p w in record { item = o.item; within = take-more_old items k o.item k_in o.within; is_marked = o.is_marked; production = o.production };
-  complete = complete
+  complete = complete;
 }
   where
     complete : (p : ℕ) → IsMarkedEnd g marks base (take (k + 1) items) p → Contains found p
     complete p o = elim (take-more_cases items k o.item k_in o.within) [
-      inl a ↦ h.complete p (record { item = o.item; within = a; is_marked = o.is_marked; production = o.production })
+      | inl a ↦ h.complete p (record { item = o.item; within = a; is_marked = o.is_marked; production = o.production })
       | inr e ↦ absurd (not (subst (λ i. IsTrue (marked marks (base + i))) (sym e) o.is_marked))
     ]
 
@@ -75,7 +75,7 @@ pub MarkedSoFar-kept : (g : Grammar) (marks : List Bool) (base k : ℕ) (items f
 MarkedSoFar-kept g marks base k items found inc within ends k_in h is_marked = record {
   rising = rising-push found (production_at g (get_or items k 0)) h.rising below;
   sound = sound;
-  complete = complete
+  complete = complete;
 }
   where
     below : (p : ℕ) → Contains found p → p < production_at g (get_or items k 0)
@@ -87,12 +87,12 @@ MarkedSoFar-kept g marks base k items found inc within ends k_in h is_marked = r
 
     sound : (p : ℕ) → Contains (found ++ production_at g (get_or items k 0) ∷ []) p → IsMarkedEnd g marks base (take (k + 1) items) p
     sound p w = elim (Contains-push_cases found (production_at g (get_or items k 0)) p w) [
-      inl a ↦ (let o = h.sound p a in record { item = o.item; within = take-more_old items k o.item k_in o.within; is_marked = o.is_marked; production = o.production })
+      | inl a ↦ (let o = h.sound p a in record { item = o.item; within = take-more_old items k o.item k_in o.within; is_marked = o.is_marked; production = o.production })
       | inr e ↦ record { item = get_or items k 0; within = take-more_new items k k_in; is_marked = is_marked; production = e }
     ]
 
     complete : (p : ℕ) → IsMarkedEnd g marks base (take (k + 1) items) p → Contains (found ++ production_at g (get_or items k 0) ∷ []) p
     complete p o = elim (take-more_cases items k o.item k_in o.within) [
-      inl a ↦ Contains-append_left found (production_at g (get_or items k 0) ∷ []) p (h.complete p (record { item = o.item; within = a; is_marked = o.is_marked; production = o.production }))
+      | inl a ↦ Contains-append_left found (production_at g (get_or items k 0) ∷ []) p (h.complete p (record { item = o.item; within = a; is_marked = o.is_marked; production = o.production }))
       | inr e ↦ subst (Contains (found ++ production_at g (get_or items k 0) ∷ [])) (ap (production_at g) e ∙ o.production) (Contains-push found (production_at g (get_or items k 0)))
     ]

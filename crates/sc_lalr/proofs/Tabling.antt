@@ -33,8 +33,8 @@ TablesSoFar-none g states = record {
     sound = λ c w. absurd (omega (arith, w.1));
     earlier = λ c w. absurd (omega (arith, w.1));
     complete = λ c k before. absurd (nothing_before c before);
-    in_order = record { before = λ i j c d lower a b. absurd (none-some c a) }
-  }
+    in_order = record { before = λ i j c d lower a b. absurd (none-some c a) };
+  };
 }
   where
     nothing_before : (c : Conflict) → Before c.state c.terminal.0 0 0 → ⊥
@@ -46,14 +46,14 @@ TablesSoFar-step g states n actions gotos old new row gotos_row h a b k = record
   actions_long = length_push actions row ∙ ap (λ z. z + 1) h.actions_long;
   gotos_long = length_push gotos gotos_row ∙ ap (λ z. z + 1) h.gotos_long;
   actions_are = λ s other at. elim (slice_get-push_cases actions row other s at) [
-    inl x ↦ h.actions_are s other x
+    | inl x ↦ h.actions_are s other x
     | inr e ↦ subst (λ (r : Vec (Option Action) Global). AreActions g states s g.terminals r.items) e.1 (subst (λ z. AreActions g states z g.terminals row.items) (sym (e.0 ∙ h.actions_long)) a)
   ];
   gotos_are = λ s other at. elim (slice_get-push_cases gotos gotos_row other s at) [
-    inl x ↦ h.gotos_are s other x
+    | inl x ↦ h.gotos_are s other x
     | inr e ↦ subst (λ (r : Vec (Option ℕ) Global). AreGotos g states s g.nonterminals r.items) e.1 (subst (λ z. AreGotos g states z g.nonterminals gotos_row.items) (sym (e.0 ∙ h.gotos_long)) b)
   ];
-  conflicts_are = k
+  conflicts_are = k;
 }
 
 -- ---- an entry, by its row
@@ -74,7 +74,7 @@ AreTables-done g states tables are h = record {
   action = action;
   goto = goto;
   conflict = λ c. (h.conflicts_are.sound c, λ k. h.conflicts_are.complete c k (inl k.state));
-  in_order = h.conflicts_are.in_order
+  in_order = h.conflicts_are.in_order;
 }
   where
     goto_in : (s x r : ℕ) → IsGoto g states s x r → s < length states

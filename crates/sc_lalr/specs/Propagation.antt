@@ -70,7 +70,7 @@ pub record AreLookaheads (g : Grammar) (states : List (List ℕ)) (rows : List (
   pub long : length rows ≡ g.terminals
   pub each : (t : ℕ) (row : Vec Bool Global) → slice_get rows t ≡ Some row → length row.items ≡ length states * length g.entries.now
   pub exact : (t : ℕ) (row : Vec Bool Global) → slice_get rows t ≡ Some row → (s i : ℕ) → i < length g.entries.now
-    → IsTrue (marked row.items (s * length g.entries.now + i)) ↔ Lookahead g states t s i
+      → IsTrue (marked row.items (s * length g.entries.now + i)) ↔ Lookahead g states t s i
 
 -- the row of an item
 abbrev pub row_at : List (Vec ℕ Global) → ℕ → List ℕ

@@ -27,10 +27,22 @@ pub fn note_conflicts(
     ensures { OnOk result (conflicts.new.items ≡ conflicts.old.items ++ conflicts_at state terminal.0 shift productions.now) }
 {
     match shift {
-        Some(target) => note_lost(conflicts, state, terminal, Action::Shift(target), productions),
+        Some(target) => note_lost(
+            conflicts,
+            state,
+            terminal,
+            Action::Shift(target),
+            productions,
+        ),
         None => match productions.split_first() {
             None => Ok(()),
-            Some((first, lost)) => note_lost(conflicts, state, terminal, Action::Reduce(*first), lost),
+            Some((first, lost)) => note_lost(
+                conflicts,
+                state,
+                terminal,
+                Action::Reduce(*first),
+                lost,
+            ),
         },
     }
 }

@@ -58,7 +58,12 @@ fn passed(
         return Ok(Vec::new(alloc));
     };
     let mut nodes = along(alloc, n, item, states.goto(state, symbol))?;
-    into_opened(&mut nodes, state * n, after(grammar, item + 1), &opened[item])?;
+    into_opened(
+        &mut nodes,
+        state * n,
+        after(grammar, item + 1),
+        &opened[item],
+    )?;
     Ok(nodes)
 }
 

@@ -4,8 +4,11 @@ use sc_model::{Action, Conflict, Entry, Grammar, Nonterminal, Symbol, Terminal};
 use std::test::Fail;
 
 const NUMBER: Symbol = Symbol::Terminal(Terminal(0));
+
 const PLUS: Symbol = Symbol::Terminal(Terminal(1));
+
 const END: Symbol = Symbol::Terminal(Terminal(2));
+
 const SUM: Symbol = Symbol::Nonterminal(Nonterminal(1));
 
 /// A text is a sum and its end, or the end alone. A sum is a sum, a plus and a sum, or a number.

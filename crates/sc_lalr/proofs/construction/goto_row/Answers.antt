@@ -12,9 +12,9 @@ gotos_more : (g : Grammar) (states : List (List ℕ)) (s n : ℕ) (row : List (O
 gotos_more g states s n row to h one = record {
   long = length_push row to ∙ ap (λ k. k + 1) h.long;
   each = λ x other at. elim (slice_get-push_cases row to other x at) [
-    inl a ↦ h.each x other a
+    | inl a ↦ h.each x other a
     | inr e ↦ subst (λ z. MatchOption other (NoGoto g states s (g.terminals + z)) (IsGoto g states s (g.terminals + z))) (sym (e.0 ∙ h.long)) (subst (λ o. MatchOption o (NoGoto g states s (g.terminals + n)) (IsGoto g states s (g.terminals + n))) e.1 one)
-  ]
+  ];
 }
 
 pub loop-nonterminal-init : goal.loop-nonterminal-init

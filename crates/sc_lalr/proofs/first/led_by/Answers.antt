@@ -15,7 +15,7 @@ loop-item-preserved c =
     let n = c.loop-item.item in
     let h = c.loop-item.invariant in
     elim c.match-begun.branch [
-      in-Some+in-Some-after+then-first-symbol+in_ok-push w ↦ rw (w.row-is, w.in_ok-push.ensures.items) (IsLedBelow-push g y n w.in-Some.left _ h (sym w.in-Some.ensures.left) (sym w.in-Some-after.ensures.symbol ∙ ap (λ z. Some z) w.if-first-symbol.true))
+      | in-Some+in-Some-after+then-first-symbol+in_ok-push w ↦ rw (w.row-is, w.in_ok-push.ensures.items) (IsLedBelow-push g y n w.in-Some.left _ h (sym w.in-Some.ensures.left) (sym w.in-Some-after.ensures.symbol ∙ ap (λ z. Some z) w.if-first-symbol.true))
       | in-Some+in-Some-after+else-first-symbol w ↦ rw (w.row-is) (IsLedBelow-skip g y n _ h (λ x a b. w.if-first-symbol.false (same_Some w.in-Some-after.first y (w.in-Some-after.ensures.symbol ∙ b))))
       | in-Some+in_default-after w ↦ rw (w.row-is) (IsLedBelow-skip g y n _ h (λ x a b. none-some y (w.in_default-after.ensures.symbol ∙ b)))
       | in_default w ↦ rw (w.row-is) (IsLedBelow-skip g y n _ h (λ x a b. none-some x (w.in_default.ensures.left ∙ a)))

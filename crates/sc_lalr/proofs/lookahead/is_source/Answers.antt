@@ -29,7 +29,7 @@ module _ (g : Grammar) (states : List (List ℕ)) (u : ℕ) (within : u < length
     at = node_at (length g.entries.now) u (some_entries (length states) (length g.entries.now) u within);
     has = has;
     over = sym e;
-    next = sym f
+    next = sym f;
   }
   source_of None p has e f a b = absurd (false≢true a)
   source_of (Some x) None has e f a b = absurd (false≢true b)
@@ -48,6 +48,7 @@ returns-then-is_none c =
 pub returns : goal.returns
 returns c =
     let g = c.args.grammar.now in
-    let some : is_some c.after.result ≡ true = c.if-is_none.ensures in
-    (λ m. source_of g (kernels_of c.args.states.now) c.args.node c.requires.node c.after.result c.after-2.result ((c.has.ensures.exact g c.requires.states).0 c.if-not-has.false) c.after.ensures.symbol c.after-2.ensures.symbol some (sym c.is_some.ensures ∙ m),
-    λ h. c.is_some.ensures ∙ ap is_some (c.after-2.ensures.symbol ∙ next_of g (kernels_of c.args.states.now) c.args.node c.requires.node h))
+    let some : is_some c.after.result ≡ true = c.if-is_none.ensures in (
+      λ m. source_of g (kernels_of c.args.states.now) c.args.node c.requires.node c.after.result c.after-2.result ((c.has.ensures.exact g c.requires.states).0 c.if-not-has.false) c.after.ensures.symbol c.after-2.ensures.symbol some (sym c.is_some.ensures ∙ m),
+      λ h. c.is_some.ensures ∙ ap is_some (c.after-2.ensures.symbol ∙ next_of g (kernels_of c.args.states.now) c.args.node c.requires.node h),
+    )

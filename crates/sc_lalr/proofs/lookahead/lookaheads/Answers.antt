@@ -33,11 +33,11 @@ reachable-requires-clause-starts c = λ k d h.
     let v = get_or c.deref-in-loop-terminal-6.result.now k d in
     let there = subst (λ zs. Contains zs v) c.deref-in-loop-terminal-6.ensures.value (Contains-get_or c.deref-in-loop-terminal-6.result.now k d h) in
     let within = start_within g states c.loop-terminal.terminal c.in_ok-opened.opened.items c.in_ok-edges.edges.items c.deref-in-loop-terminal-4.result.now c.deref-in-loop-terminal-4.result.now c.in_ok-sources.sources.items c.in_ok-starts.starts.items
-      c.in_ok-opened.ensures.rows c.in_ok-edges.ensures.rows
-      (begin_of g c.in_ok-leading.leading.items c.deref-in-loop-terminal.result.now c.loop-terminal.terminal c.in_ok-begin.begin.items c.deref-in-loop-terminal-4.result.now c.deref-in-loop-terminal.ensures.value c.deref-in-loop-terminal-4.ensures.value c.in_ok-leading.ensures.leading c.in_ok-begin.ensures.exact)
-      c.in_ok-sources.ensures
-      (starts_of g c.in_ok-opened.opened.items c.deref-in-loop-terminal-2.result.now c.deref-in-loop-terminal-4.result.now c.in_ok-sources.sources.items c.deref-in-loop-terminal-3.result.now c.in_ok-starts.starts.items c.deref-in-loop-terminal-2.ensures.value c.deref-in-loop-terminal-3.ensures.value c.in_ok-starts.ensures)
-      v there in
+    c.in_ok-opened.ensures.rows c.in_ok-edges.ensures.rows
+    (begin_of g c.in_ok-leading.leading.items c.deref-in-loop-terminal.result.now c.loop-terminal.terminal c.in_ok-begin.begin.items c.deref-in-loop-terminal-4.result.now c.deref-in-loop-terminal.ensures.value c.deref-in-loop-terminal-4.ensures.value c.in_ok-leading.ensures.leading c.in_ok-begin.ensures.exact)
+    c.in_ok-sources.ensures
+    (starts_of g c.in_ok-opened.opened.items c.deref-in-loop-terminal-2.result.now c.deref-in-loop-terminal-4.result.now c.in_ok-sources.sources.items c.deref-in-loop-terminal-3.result.now c.in_ok-starts.starts.items c.deref-in-loop-terminal-2.ensures.value c.deref-in-loop-terminal-3.ensures.value c.in_ok-starts.ensures)
+    v there in
     omega (arith, within, ap length c.deref-in-loop-terminal-5.ensures.value, c.in_ok-edges.ensures.rows.long)
 
 reached_of : (edges view : List (Vec ℕ Global)) (starts starts_view : List ℕ) (marks : List Bool) → view ≡ edges → starts_view ≡ starts → IsReached view starts_view marks → IsReached edges starts marks
@@ -48,13 +48,13 @@ loop-terminal-preserved c =
     let g = c.args.grammar.now in
     let states = kernels_of c.args.states.now in
     rw c.in_ok-push.ensures.items (AreLookaheadsBelow-push g states c.loop-terminal.terminal c.loop-terminal.rows.items c.in_ok-reachable.field-0 c.loop-terminal.invariant
-      (sym c.in_ok-reachable.field-0.ok.0 ∙ c.in_ok-reachable.ensures.len ∙ ap length c.deref-in-loop-terminal-5.ensures.value ∙ c.in_ok-edges.ensures.rows.long)
-      (lookahead_exact g states c.loop-terminal.terminal c.in_ok-opened.opened.items c.in_ok-edges.edges.items c.deref-in-loop-terminal-4.result.now c.in_ok-reachable.field-0.items c.in_ok-sources.sources.items c.in_ok-starts.starts.items
-        c.in_ok-opened.ensures.rows c.in_ok-edges.ensures.rows
-        (begin_of g c.in_ok-leading.leading.items c.deref-in-loop-terminal.result.now c.loop-terminal.terminal c.in_ok-begin.begin.items c.deref-in-loop-terminal-4.result.now c.deref-in-loop-terminal.ensures.value c.deref-in-loop-terminal-4.ensures.value c.in_ok-leading.ensures.leading c.in_ok-begin.ensures.exact)
-        c.in_ok-sources.ensures
-        (starts_of g c.in_ok-opened.opened.items c.deref-in-loop-terminal-2.result.now c.deref-in-loop-terminal-4.result.now c.in_ok-sources.sources.items c.deref-in-loop-terminal-3.result.now c.in_ok-starts.starts.items c.deref-in-loop-terminal-2.ensures.value c.deref-in-loop-terminal-3.ensures.value c.in_ok-starts.ensures)
-        (reached_of c.in_ok-edges.edges.items c.deref-in-loop-terminal-5.result.now c.in_ok-starts.starts.items c.deref-in-loop-terminal-6.result.now c.in_ok-reachable.field-0.items c.deref-in-loop-terminal-5.ensures.value c.deref-in-loop-terminal-6.ensures.value c.in_ok-reachable.ensures.exact)))
+    (sym c.in_ok-reachable.field-0.ok.0 ∙ c.in_ok-reachable.ensures.len ∙ ap length c.deref-in-loop-terminal-5.ensures.value ∙ c.in_ok-edges.ensures.rows.long)
+    (lookahead_exact g states c.loop-terminal.terminal c.in_ok-opened.opened.items c.in_ok-edges.edges.items c.deref-in-loop-terminal-4.result.now c.in_ok-reachable.field-0.items c.in_ok-sources.sources.items c.in_ok-starts.starts.items
+    c.in_ok-opened.ensures.rows c.in_ok-edges.ensures.rows
+    (begin_of g c.in_ok-leading.leading.items c.deref-in-loop-terminal.result.now c.loop-terminal.terminal c.in_ok-begin.begin.items c.deref-in-loop-terminal-4.result.now c.deref-in-loop-terminal.ensures.value c.deref-in-loop-terminal-4.ensures.value c.in_ok-leading.ensures.leading c.in_ok-begin.ensures.exact)
+    c.in_ok-sources.ensures
+    (starts_of g c.in_ok-opened.opened.items c.deref-in-loop-terminal-2.result.now c.deref-in-loop-terminal-4.result.now c.in_ok-sources.sources.items c.deref-in-loop-terminal-3.result.now c.in_ok-starts.starts.items c.deref-in-loop-terminal-2.ensures.value c.deref-in-loop-terminal-3.ensures.value c.in_ok-starts.ensures)
+    (reached_of c.in_ok-edges.edges.items c.deref-in-loop-terminal-5.result.now c.in_ok-starts.starts.items c.deref-in-loop-terminal-6.result.now c.in_ok-reachable.field-0.items c.deref-in-loop-terminal-5.ensures.value c.deref-in-loop-terminal-6.ensures.value c.in_ok-reachable.ensures.exact)))
 
 pub returns : goal.returns
 returns c =

@@ -11,7 +11,7 @@ use Rattle.sc_lalr.proofs.lookahead.sources.Goals.{then-is_source+in_ok-push, el
 pub loop-node-preserved : goal.loop-node-preserved
 loop-node-preserved c =
     elim c.if-is_source.branch [
-      then-is_source+in_ok-push w ↦ IsListOf-kept (IsSource c.args.grammar.now (kernels_of c.args.states.now)) c.loop-node.node _ _ c.loop-node.invariant (ap (λ v. v.items) w.nodes-is ∙ w.in_ok-push.ensures.items) (c.is_source.ensures.0 w.if-is_source.true)
+      | then-is_source+in_ok-push w ↦ IsListOf-kept (IsSource c.args.grammar.now (kernels_of c.args.states.now)) c.loop-node.node _ _ c.loop-node.invariant (ap (λ v. v.items) w.nodes-is ∙ w.in_ok-push.ensures.items) (c.is_source.ensures.0 w.if-is_source.true)
       | else-is_source w ↦ IsListOf-left (IsSource c.args.grammar.now (kernels_of c.args.states.now)) c.loop-node.node _ _ c.loop-node.invariant (ap (λ v. v.items) w.nodes-is) (λ h. false≢true (sym w.if-is_source.false ∙ c.is_source.ensures.1 h))
     ]
 

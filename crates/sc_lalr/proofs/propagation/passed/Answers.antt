@@ -40,9 +40,11 @@ returns-then-not-has c =
     let u = c.args.node in
     let n = length g.entries.now in
     let k = length (kernels_of c.args.states.now) in
-    λ v. (λ w. absurd (no_member v (subst (λ zs. Contains zs v) c.new.ensures.items w)),
+    λ v. (
+      λ w. absurd (no_member v (subst (λ zs. Contains zs v) c.new.ensures.items w)),
       λ p. absurd (passes_none g (kernels_of c.args.states.now) u v (u / n) (u % n) (node_at n u (positive g k u c.requires.node))
-        (λ has x e. false≢true (sym c.if-not-has.true ∙ (c.has.ensures.exact g c.requires.states).1 has)) p))
+          (λ has x e. false≢true (sym c.if-not-has.true ∙ (c.has.ensures.exact g c.requires.states).1 has)) p),
+    )
 
 pub returns-in_default : goal.returns-in_default
 returns-in_default c =
@@ -50,9 +52,11 @@ returns-in_default c =
     let u = c.args.node in
     let n = length g.entries.now in
     let k = length (kernels_of c.args.states.now) in
-    λ v. (λ w. absurd (no_member v (subst (λ zs. Contains zs v) c.new-in_default.ensures.items w)),
+    λ v. (
+      λ w. absurd (no_member v (subst (λ zs. Contains zs v) c.new-in_default.ensures.items w)),
       λ p. absurd (passes_none g (kernels_of c.args.states.now) u v (u / n) (u % n) (node_at n u (positive g k u c.requires.node))
-        (λ has x e. none-some x (c.in_default.ensures.symbol ∙ e)) p))
+          (λ has x e. none-some x (c.in_default.ensures.symbol ∙ e)) p),
+    )
 
 along_fits : (g : Grammar) (states : List (List ℕ)) (u s i x : ℕ) (to : Option ℕ) → length states * length g.entries.now < 2 ^ 64 → u < length states * length g.entries.now → after g i ≡ Some x → MatchOption to (NoGoto g states s x) (IsGoto g states s x) → (k d : ℕ) → k < length (along_part (length g.entries.now) i to) → get_or (along_part (length g.entries.now) i to) k d < 2 ^ 64
 along_fits g states u s i x None small within over goto k d h = absurd (omega (arith, h))
@@ -84,11 +88,11 @@ returns c =
     let count = length (kernels_of c.args.states.now) in
     let at = slice_get_read c.args.opened.now (length c.args.opened.now) (u % n) c.index-opened-item.result refl (omega (arith, c.requires.opened.long, item_in g count u c.requires.node)) c.index-opened-item.is in
     passes_exact g (kernels_of c.args.states.now) u (u / n) (u % n) c.in-Some.symbol c.goto.result c.after-2.result c.deref.result.now c.into_opened.new.nodes.items
-      c.requires.states.exact
-      (node_at n u (positive g count u c.requires.node))
-      ((c.has.ensures.exact g c.requires.states).0 c.if-not-has.false)
-      (sym c.in-Some.ensures.symbol)
-      (c.goto.ensures.exact g c.requires.grammar c.requires.states)
-      c.after-2.ensures.symbol
-      (row_opens g c.args.opened.now (u % n) c.index-opened-item.result c.deref.result.now c.requires.opened at c.deref.ensures.value)
-      (c.in_ok-into_opened.ensures ∙ ap (λ zs. zs ++ into_part (u / n * n) c.after-2.result c.deref.result.now) c.in_ok-nodes.ensures)
+    c.requires.states.exact
+    (node_at n u (positive g count u c.requires.node))
+    ((c.has.ensures.exact g c.requires.states).0 c.if-not-has.false)
+    (sym c.in-Some.ensures.symbol)
+    (c.goto.ensures.exact g c.requires.grammar c.requires.states)
+    c.after-2.ensures.symbol
+    (row_opens g c.args.opened.now (u % n) c.index-opened-item.result c.deref.result.now c.requires.opened at c.deref.ensures.value)
+    (c.in_ok-into_opened.ensures ∙ ap (λ zs. zs ++ into_part (u / n * n) c.after-2.result c.deref.result.now) c.in_ok-nodes.ensures)

@@ -18,12 +18,12 @@ loop-item-preserved c =
     let states = kernels_of c.args.states.now in
     let i = c.loop-item.item in
     elim c.if-has.branch [
-      then-has+then-is_none+in_ok-push w ↦ IsListOf-kept (EndsIn g states c.args.state) i _ _ c.loop-item.invariant (ap (λ v. v.items) w.items-is ∙ w.in_ok-push.ensures.items)
-        (record { has = (c.has.ensures.exact g c.requires.states).0 w.if-has.true; at_end = sym w.after.ensures.symbol ∙ none_of w.after.result w.if-is_none.ensures })
+      | then-has+then-is_none+in_ok-push w ↦ IsListOf-kept (EndsIn g states c.args.state) i _ _ c.loop-item.invariant (ap (λ v. v.items) w.items-is ∙ w.in_ok-push.ensures.items)
+          (record { has = (c.has.ensures.exact g c.requires.states).0 w.if-has.true; at_end = sym w.after.ensures.symbol ∙ none_of w.after.result w.if-is_none.ensures })
       | then-has+else-is_none w ↦ IsListOf-left (EndsIn g states c.args.state) i _ _ c.loop-item.invariant (ap (λ v. v.items) w.items-is)
-        (λ e. false≢true (sym (ap is_some (w.after.ensures.symbol ∙ e.at_end)) ∙ w.if-is_none.ensures))
+          (λ e. false≢true (sym (ap is_some (w.after.ensures.symbol ∙ e.at_end)) ∙ w.if-is_none.ensures))
       | else-has w ↦ IsListOf-left (EndsIn g states c.args.state) i _ _ c.loop-item.invariant (ap (λ v. v.items) w.items-is)
-        (λ e. false≢true (sym w.if-has.false ∙ (c.has.ensures.exact g c.requires.states).1 e.has))
+          (λ e. false≢true (sym w.if-has.false ∙ (c.has.ensures.exact g c.requires.states).1 e.has))
     ]
 
 pub returns : goal.returns

@@ -19,7 +19,7 @@ loop-item-preserved c =
     let k = c.loop-item.item-index in
     let items = c.args.items.now in
     elim c.if-marks-base.branch [
-      then-marks-base+in_ok-push w ↦ rw (w.found-is, w.in_ok-push.ensures.items, w.production_at.ensures) (MarkedSoFar-kept g marks c.args.base k items _ c.requires.rising c.requires.within c.requires.at_end c.loop-item-test.true c.loop-item.invariant w.if-marks-base.true)
+      | then-marks-base+in_ok-push w ↦ rw (w.found-is, w.in_ok-push.ensures.items, w.production_at.ensures) (MarkedSoFar-kept g marks c.args.base k items _ c.requires.rising c.requires.within c.requires.at_end c.loop-item-test.true c.loop-item.invariant w.if-marks-base.true)
       | else-marks-base w ↦ rw (w.found-is) (MarkedSoFar-left g marks c.args.base k items _ c.loop-item-test.true c.loop-item.invariant (λ m. false≢true (sym w.if-marks-base.false ∙ m)))
     ]
 
