@@ -1,3 +1,4 @@
+pub mod FileWalk
 pub mod LineSteps
 pub mod Machine
 pub mod Options

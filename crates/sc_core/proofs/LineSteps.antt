@@ -27,12 +27,12 @@ step_as m l Unknown = refusing m l
 pub plain-kind : (m : Machine) (l : Line) → plain_step m l ≡ step_as m l (line_kind l)
 plain-kind m l =
     elim (is_directive l) as (λ d. (if d then (if is_null l then m else (if is_named ignored_names l then m else refusing m l)) else put_out m l)
-        ≡ step_as m l (if d then (if is_null l then Idle else (if is_named ignored_names l then Idle else Unknown)) else Text)) [
-      true ↦ elim (is_null l) as (λ n. (if n then m else (if is_named ignored_names l then m else refusing m l)) ≡ step_as m l (if n then Idle else (if is_named ignored_names l then Idle else Unknown))) [
-          true ↦ refl
+    ≡ step_as m l (if d then (if is_null l then Idle else (if is_named ignored_names l then Idle else Unknown)) else Text)) [
+      | true ↦ elim (is_null l) as (λ n. (if n then m else (if is_named ignored_names l then m else refusing m l)) ≡ step_as m l (if n then Idle else (if is_named ignored_names l then Idle else Unknown))) [
+        | true ↦ refl
         | false ↦ elim (is_named ignored_names l) as (λ i. (if i then m else refusing m l) ≡ step_as m l (if i then Idle else Unknown)) [ true ↦ refl | false ↦ refl ]
-        ]
-    | false ↦ refl
+      ]
+      | false ↦ refl
     ]
 
 -- a line that is refused has a first token
@@ -56,7 +56,7 @@ pub directive-at : (names : List (List ℕ)) (tokens : List Token) (lines : List
     → (get_or lines i d).conditional ≡ conditional_at names (tokens_of tokens (get_or lines i d))
 directive-at names tokens ls are i d h =
     same_at (λ (l : declared_line.Line). l.conditional) (λ l. conditional_at names (tokens_of tokens l)) ls ls i d d
-      (are.conditionals ∙ (ap (map (conditional_at names)) (sym are.tokens_are) ∙ map-map (conditional_at names) (tokens_of tokens) ls)) h
+    (are.conditionals ∙ (ap (map (conditional_at names)) (sym are.tokens_are) ∙ map-map (conditional_at names) (tokens_of tokens) ls)) h
 
 -- the machine takes one line more
 pub run-more : {A : Type 0} (macros : Macros) (m : Machine) (f : A → Line) (xs : List A) (i : ℕ) (d : A) → i < length xs

@@ -48,7 +48,7 @@ module _ (options : List VariableOption) (k j : ℕ) (d : VariableOption) (h : k
 module _ (vs : List Variable) (config : List ℕ) (i : ℕ) (name : List ℕ) (h : i < length vs) (long : length config ≡ length vs) where
   definition-split : variable_definition (drop i vs) (drop i config) name
       ≡ (if same_bytes (get_or vs i no_variable).name name then option_and_then definition_of (slice_get (get_or vs i no_variable).options (get_or config i 0))
-         else variable_definition (drop (suc i) vs) (drop (suc i) config) name)
+      else variable_definition (drop (suc i) vs) (drop (suc i) config) name)
   definition-split =
       ap (λ xs. variable_definition xs (drop i config) name) (drop-cons vs i no_variable h)
       ∙ ap (λ ks. variable_definition (get_or vs i no_variable ∷ drop (suc i) vs) ks name) (drop-cons config i 0 (omega arith))

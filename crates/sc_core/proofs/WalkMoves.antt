@@ -11,13 +11,12 @@ use Rattle.sc_core.specs.declared.walk.Section.{Section}
 use Rattle.sc_core.specs.declared.walk.Walk.{Walk}
 use Rattle.sc_core.specs.Machine.{Machine, acts, opened, next_branch, ended, refusing, refusal, put_out, place_of}
 use Rattle.sc_core.specs.Mirrors.{section_at, Mirrors, OwnsSection, Owns, Advances}
-use Rattle.sc_guarded.specs.Items.{items_at, faults_at}
+use Rattle.sc_guarded.specs.Items.{items_at, faults_at, seen_fault}
 use Rattle.sc_lex.specs.declared.token.Token.{Token}
 use Rattle.sc_lex.specs.Seen.{seen, seen_place}
 use Rattle.sc_model.proofs.SetLemmas.{IsConfig-Keeps}
 use Rattle.sc_model.specs.Lines.{Line}
 use Rattle.sc_model.specs.Sets.{Sets, IsConfig, IsCond, Denotes, Keeps}
-use Rattle.sc_show.specs.Shows.{seen_fault}
 
 -- what holds of each item under a weaker fact
 All-as : {X : Type 0} (P Q : X → Type 0) → ((x : X) → P x → Q x) → (xs : List X) → All P xs → All Q xs
@@ -99,20 +98,20 @@ begins names {old} {new} keeps w owns t group untaken live sections items dg du 
         faults = kept.faults;
       };
       at = λ files config m listed mirrors.
-        let now : IsConfig new.arities config = IsConfig-Keeps keeps listed in
-        record {
-          active = dg.at config now ∙ ap (λ b. b && t config) mirrors.active;
-          accepted = keeps.at w.accepted.0 config owns.accepted listed ∙ mirrors.accepted;
-          live = dl.at config now ∙ (ap (λ b. (b && t config) && old.has w.accepted.0 config) mirrors.active ∙ ap (λ b. (m.active && t config) && b) mirrors.accepted);
-          sections =
-            ap (λ xs. map (section_at new config) (reverse xs)) items
-            ∙ (sections-push new config w.sections.items (record { around = w.group; untaken = untaken })
-            ∙ (ap (λ ss. (new.has w.group.0 config, new.has untaken.0 config) ∷ ss) (sections-kept keeps config listed w.sections.items owns.sections ∙ mirrors.sections)
-            ∙ (ap (λ b. (b, new.has untaken.0 config) ∷ m.sections) (keeps.at w.group.0 config owns.group listed ∙ mirrors.active)
-            ∙ ap (λ b. (m.active, b) ∷ m.sections) (du.at config now ∙ ap (λ b. b && not (t config)) mirrors.active))));
-          output = ap (map (seen names files)) (items-kept keeps config listed w.list owns.list) ∙ mirrors.output;
-          fault = ap (map (seen_fault files)) (faults-kept keeps config listed w.faults.items owns.faults) ∙ mirrors.fault;
-        };
+          let now : IsConfig new.arities config = IsConfig-Keeps keeps listed in
+          record {
+            active = dg.at config now ∙ ap (λ b. b && t config) mirrors.active;
+            accepted = keeps.at w.accepted.0 config owns.accepted listed ∙ mirrors.accepted;
+            live = dl.at config now ∙ (ap (λ b. (b && t config) && old.has w.accepted.0 config) mirrors.active ∙ ap (λ b. (m.active && t config) && b) mirrors.accepted);
+            sections =
+                ap (λ xs. map (section_at new config) (reverse xs)) items
+                ∙ (sections-push new config w.sections.items (record { around = w.group; untaken = untaken })
+                ∙ (ap (λ ss. (new.has w.group.0 config, new.has untaken.0 config) ∷ ss) (sections-kept keeps config listed w.sections.items owns.sections ∙ mirrors.sections)
+                ∙ (ap (λ b. (b, new.has untaken.0 config) ∷ m.sections) (keeps.at w.group.0 config owns.group listed ∙ mirrors.active)
+                ∙ ap (λ b. (m.active, b) ∷ m.sections) (du.at config now ∙ ap (λ b. b && not (t config)) mirrors.active))));
+            output = ap (map (seen names files)) (items-kept keeps config listed w.list owns.list) ∙ mirrors.output;
+            fault = ap (map (seen_fault files)) (faults-kept keeps config listed w.faults.items owns.faults) ∙ mirrors.fault;
+          };
     }
 
 -- Nothing changes where no section is open.
@@ -121,8 +120,8 @@ pub stays-branch : (names : List (List ℕ)) {s : Sets} (w next : Walk) → Owns
 stays-branch names {s} w next owns none same = record {
   owns = owns;
   at = λ files config m listed mirrors.
-    let empty : [] ≡ m.sections = ap (λ xs. map (section_at s config) (reverse xs)) (sym none) ∙ mirrors.sections in
-    subst (λ ss. Mirrors s names files next config (next_branch m ss)) empty (same files config m mirrors);
+      let empty : [] ≡ m.sections = ap (λ xs. map (section_at s config) (reverse xs)) (sym none) ∙ mirrors.sections in
+      subst (λ ss. Mirrors s names files next config (next_branch m ss)) empty (same files config m mirrors);
 }
 
 pub stays-end : (names : List (List ℕ)) {s : Sets} (w next : Walk) → Owns s next → w.sections.items ≡ [] → ((files : List (List ℕ)) (config : List ℕ) (m : Machine) → Mirrors s names files w config m → Mirrors s names files next config m)
@@ -130,8 +129,8 @@ pub stays-end : (names : List (List ℕ)) {s : Sets} (w next : Walk) → Owns s 
 stays-end names {s} w next owns none same = record {
   owns = owns;
   at = λ files config m listed mirrors.
-    let empty : [] ≡ m.sections = ap (λ xs. map (section_at s config) (reverse xs)) (sym none) ∙ mirrors.sections in
-    subst (λ ss. Mirrors s names files next config (ended m ss)) empty (same files config m mirrors);
+      let empty : [] ≡ m.sections = ap (λ xs. map (section_at s config) (reverse xs)) (sym none) ∙ mirrors.sections in
+      subst (λ ss. Mirrors s names files next config (ended m ss)) empty (same files config m mirrors);
 }
 
 module _ {old new : Sets} (keeps : Keeps old new) (w : Walk) (owns : Owns old w) (rest : List Section) (section : Section) (popped : w.sections.items ≡ rest ++ section ∷ []) where
@@ -159,24 +158,24 @@ module _ {old new : Sets} (keeps : Keeps old new) (w : Walk) (owns : Owns old w)
           accepted = kept.accepted;
           live = dl.own;
           sections = subst (All (OwnsSection new)) (sym items) (All-push (OwnsSection new) rest (record { around = section.around; untaken = never })
-            (All-as (OwnsSection old) (OwnsSection new) (section-kept keeps) rest owns-rest) (record { around = inner.around; untaken = dn.own }));
+              (All-as (OwnsSection old) (OwnsSection new) (section-kept keeps) rest owns-rest) (record { around = inner.around; untaken = dn.own }));
           list = kept.list;
           faults = kept.faults;
         };
         at = λ files config m listed mirrors.
-          let now : IsConfig new.arities config = IsConfig-Keeps keeps listed in
-          subst (λ ss. Mirrors new names files (record { group = section.untaken; accepted = w.accepted; live = live; sections = sections; list = w.list; faults = w.faults }) config (next_branch m ss))
+            let now : IsConfig new.arities config = IsConfig-Keeps keeps listed in
+            subst (λ ss. Mirrors new names files (record { group = section.untaken; accepted = w.accepted; live = live; sections = sections; list = w.list; faults = w.faults }) config (next_branch m ss))
             (innermost names files config m mirrors)
             (record {
               active = keeps.at section.untaken.0 config owns-innermost.untaken listed;
               accepted = keeps.at w.accepted.0 config owns.accepted listed ∙ mirrors.accepted;
               live = dl.at config now ∙ ap (λ b. old.has section.untaken.0 config && b) mirrors.accepted;
               sections =
-                ap (λ xs. map (section_at new config) (reverse xs)) items
-                ∙ (sections-push new config rest (record { around = section.around; untaken = never })
-                ∙ (ap (λ ss. (new.has section.around.0 config, new.has never.0 config) ∷ ss) (sections-kept keeps config listed rest owns-rest)
-                ∙ (ap (λ b. (b, new.has never.0 config) ∷ map (section_at old config) (reverse rest)) (keeps.at section.around.0 config owns-innermost.around listed)
-                ∙ ap (λ b. (old.has section.around.0 config, b) ∷ map (section_at old config) (reverse rest)) (dn.at config now))));
+                  ap (λ xs. map (section_at new config) (reverse xs)) items
+                  ∙ (sections-push new config rest (record { around = section.around; untaken = never })
+                  ∙ (ap (λ ss. (new.has section.around.0 config, new.has never.0 config) ∷ ss) (sections-kept keeps config listed rest owns-rest)
+                  ∙ (ap (λ b. (b, new.has never.0 config) ∷ map (section_at old config) (reverse rest)) (keeps.at section.around.0 config owns-innermost.around listed)
+                  ∙ ap (λ b. (old.has section.around.0 config, b) ∷ map (section_at old config) (reverse rest)) (dn.at config now))));
               output = ap (map (seen names files)) (items-kept keeps config listed w.list owns.list) ∙ mirrors.output;
               fault = ap (map (seen_fault files)) (faults-kept keeps config listed w.faults.items owns.faults) ∙ mirrors.fault;
             });
@@ -199,8 +198,8 @@ module _ {old new : Sets} (keeps : Keeps old new) (w : Walk) (owns : Owns old w)
           faults = kept.faults;
         };
         at = λ files config m listed mirrors.
-          let now : IsConfig new.arities config = IsConfig-Keeps keeps listed in
-          subst (λ ss. Mirrors new names files (record { group = section.around; accepted = w.accepted; live = live; sections = sections; list = w.list; faults = w.faults }) config (ended m ss))
+            let now : IsConfig new.arities config = IsConfig-Keeps keeps listed in
+            subst (λ ss. Mirrors new names files (record { group = section.around; accepted = w.accepted; live = live; sections = sections; list = w.list; faults = w.faults }) config (ended m ss))
             (innermost names files config m mirrors)
             (record {
               active = keeps.at section.around.0 config owns-innermost.around listed;
@@ -256,24 +255,24 @@ refuses names {old} {new} keeps w owns token tokens fault accepted never faults 
         faults = subst (All (λ (f : base.Fault). IsCond new f.cond.0)) (sym items) (All-push (λ (f : base.Fault). IsCond new f.cond.0) w.faults.items fault kept.faults (subst (λ (f : base.Fault). IsCond new f.cond.0) (sym is) kept.live));
       };
       at = λ files config m listed mirrors.
-        let now : IsConfig new.arities config = IsConfig-Keeps keeps listed in
-        let x = refusal (map (seen names files) (token ∷ tokens)) in
-        let own : base.Fault = record { cond = w.live; cause = BadDirective; place = token.place } in
-        record {
-          active = keeps.at w.group.0 config owns.group listed ∙ mirrors.active;
-          accepted = da.at config now ∙ (ap (λ b. b && not (old.has w.live.0 config)) mirrors.accepted ∙ (ap (λ b. is_none m.fault && not b) mirrors.live ∙ accepted_after m.active m.fault x));
-          live = dn.at config now ∙ live_after m.active m.fault x;
-          sections = sections-kept keeps config listed w.sections.items owns.sections ∙ mirrors.sections;
-          output = ap (map (seen names files)) (items-kept keeps config listed w.list owns.list) ∙ mirrors.output;
-          fault =
-            ap (λ fs. map (seen_fault files) (faults_at new fs config)) (items ∙ ap (λ f. w.faults.items ++ f ∷ []) is)
-            ∙ (ap (map (seen_fault files)) (faults_at-append new w.faults.items (own ∷ []) config)
-            ∙ (map-append (seen_fault files) (faults_at new w.faults.items config) (faults_at new (own ∷ []) config)
-            ∙ (ap (λ fs. map (seen_fault files) fs ++ map (seen_fault files) (faults_at new (own ∷ []) config)) (faults-kept keeps config listed w.faults.items owns.faults)
-            ∙ (ap (λ fs. fs ++ map (seen_fault files) (faults_at new (own ∷ []) config)) mirrors.fault
-            ∙ (ap (λ fs. option_to_list m.fault ++ fs) (mapped_choice (seen_fault files) (new.has w.live.0 config) own ∙ ap (λ b. if b then seen_fault files own ∷ [] else []) (keeps.at w.live.0 config owns.live listed ∙ mirrors.live))
-            ∙ fault_after m.active m.fault x)))));
-        };
+          let now : IsConfig new.arities config = IsConfig-Keeps keeps listed in
+          let x = refusal (map (seen names files) (token ∷ tokens)) in
+          let own : base.Fault = record { cond = w.live; cause = BadDirective; place = token.place } in
+          record {
+            active = keeps.at w.group.0 config owns.group listed ∙ mirrors.active;
+            accepted = da.at config now ∙ (ap (λ b. b && not (old.has w.live.0 config)) mirrors.accepted ∙ (ap (λ b. is_none m.fault && not b) mirrors.live ∙ accepted_after m.active m.fault x));
+            live = dn.at config now ∙ live_after m.active m.fault x;
+            sections = sections-kept keeps config listed w.sections.items owns.sections ∙ mirrors.sections;
+            output = ap (map (seen names files)) (items-kept keeps config listed w.list owns.list) ∙ mirrors.output;
+            fault =
+                ap (λ fs. map (seen_fault files) (faults_at new fs config)) (items ∙ ap (λ f. w.faults.items ++ f ∷ []) is)
+                ∙ (ap (map (seen_fault files)) (faults_at-append new w.faults.items (own ∷ []) config)
+                ∙ (map-append (seen_fault files) (faults_at new w.faults.items config) (faults_at new (own ∷ []) config)
+                ∙ (ap (λ fs. map (seen_fault files) fs ++ map (seen_fault files) (faults_at new (own ∷ []) config)) (faults-kept keeps config listed w.faults.items owns.faults)
+                ∙ (ap (λ fs. fs ++ map (seen_fault files) (faults_at new (own ∷ []) config)) mirrors.fault
+                ∙ (ap (λ fs. option_to_list m.fault ++ fs) (mapped_choice (seen_fault files) (new.has w.live.0 config) own ∙ ap (λ b. if b then seen_fault files own ∷ [] else []) (keeps.at w.live.0 config owns.live listed ∙ mirrors.live))
+                ∙ fault_after m.active m.fault x)))));
+          };
     }
 
 -- Tokens are put out.
@@ -317,10 +316,10 @@ puts names s w owns tokens list is = record {
     live = mirrors.live;
     sections = mirrors.sections;
     output =
-      ap (λ xs. map (seen names files) (items_at s xs config)) is
-      ∙ (ap (map (seen names files)) (items_at-append s w.list (under w.live tokens) config ∙ ap (λ xs. items_at s w.list config ++ xs) (items_at-under s w.live tokens config ∙ ap (λ b. if b then tokens else []) mirrors.live))
-      ∙ (chosen_end (seen names files) (acts m) (items_at s w.list config) tokens
-      ∙ ap (λ xs. if acts m then xs ++ map (seen names files) tokens else xs) mirrors.output));
+        ap (λ xs. map (seen names files) (items_at s xs config)) is
+        ∙ (ap (map (seen names files)) (items_at-append s w.list (under w.live tokens) config ∙ ap (λ xs. items_at s w.list config ++ xs) (items_at-under s w.live tokens config ∙ ap (λ b. if b then tokens else []) mirrors.live))
+        ∙ (chosen_end (seen names files) (acts m) (items_at s w.list config) tokens
+        ∙ ap (λ xs. if acts m then xs ++ map (seen names files) tokens else xs) mirrors.output));
     fault = mirrors.fault;
   };
 }

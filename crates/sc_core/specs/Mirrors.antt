@@ -5,12 +5,11 @@ use Rattle.sc_base.specs.declared.fault.Fault as base
 use Rattle.sc_core.specs.declared.walk.Section.{Section}
 use Rattle.sc_core.specs.declared.walk.Walk.{Walk}
 use Rattle.sc_core.specs.Machine.{Machine, acts, step}
-use Rattle.sc_guarded.specs.Items.{items_at, faults_at}
+use Rattle.sc_guarded.specs.Items.{items_at, faults_at, seen_fault}
 use Rattle.sc_lex.specs.declared.token.Token.{Token}
 use Rattle.sc_lex.specs.Seen.{seen}
 use Rattle.sc_model.specs.Space.{Space, initial_macros}
 use Rattle.sc_model.specs.Sets.{Sets, IsConfig, IsCond}
-use Rattle.sc_show.specs.Shows.{seen_fault}
 
 abbrev pub section_at : Sets → List ℕ → Section → Bool × Bool
 section_at s config section = (s.has section.around.0 config, s.has section.untaken.0 config)

@@ -3,10 +3,12 @@
 
 mod defined;
 mod line_kind;
+mod main_file;
 mod moves;
-mod status;
+mod preprocessed;
 mod steps;
 mod walk;
 mod walk_file;
 
-pub use status::Status;
+pub use main_file::preprocess;
+pub use preprocessed::Preprocessed;

@@ -11,8 +11,8 @@ ghost use Rattle.sc_core.specs.Mirrors.{Owns, Advances, walks};
 ghost use Rattle.sc_core.specs.LineKind.{line_kind, is_taken};
 
 use crate::defined::defined;
-use crate::moves::{begin_branch, begin_section, end_section, put, refuse};
 use crate::line_kind::LineKind;
+use crate::moves::{begin_branch, begin_section, end_section, put, refuse};
 use crate::walk::Walk;
 use sc_base::{Cond, Name, Names, OutOfMemory, is_same};
 use sc_lex::{Kind, Token};
@@ -132,7 +132,11 @@ fn taken<C: Conditions>(
     ensures keeps { Keeps (C.sets conds.old) (C.sets conds.new) }
 {
     let found = defined(conds, space, name)?;
-    if wanted { Ok(found) } else { conds.negate(found) }
+    if wanted {
+        Ok(found)
+    } else {
+        conds.negate(found)
+    }
 }
 
 /// The identifier after the directive's name.

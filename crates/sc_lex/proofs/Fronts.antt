@@ -173,15 +173,15 @@ other_byte f bytes rule = none_where_stuck f bytes (record { fails = by bytes ru
 pub either : (f g : List ℕ → Bool) (bytes : List ℕ) (n k : ℕ) → IsLongestFront f bytes n → IsLongestFront g bytes k → IsLongestFront (λ bs. f bs || g bs) bytes (max n k)
 either f g bytes n k a b = elim (cases_lt n k) [
   | inl less ↦ (let is : max n k ≡ k = omega arith in subst (IsLongestFront (λ bs. f bs || g bs) bytes) (sym is) (record {
-      within = b.within;
-      fit = λ positive. or_right (f (take k bytes)) _ (b.fit positive);
-      longest = λ m longer within. or_from _ _ (a.longest m (omega arith) within) (b.longest m longer within);
-    }))
+    within = b.within;
+    fit = λ positive. or_right (f (take k bytes)) _ (b.fit positive);
+    longest = λ m longer within. or_from _ _ (a.longest m (omega arith) within) (b.longest m longer within);
+  }))
   | inr more ↦ (let is : max n k ≡ n = omega arith in subst (IsLongestFront (λ bs. f bs || g bs) bytes) (sym is) (record {
-      within = a.within;
-      fit = λ positive. or_left (f (take n bytes)) _ (a.fit positive);
-      longest = λ m longer within. or_from _ _ (a.longest m longer within) (b.longest m (omega arith) within);
-    }))
+    within = a.within;
+    fit = λ positive. or_left (f (take n bytes)) _ (a.fit positive);
+    longest = λ m longer within. or_from _ _ (a.longest m longer within) (b.longest m (omega arith) within);
+  }))
 ]
 
 -- what holds of a byte and what follows it holds from its place on

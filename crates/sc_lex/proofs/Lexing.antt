@@ -52,7 +52,7 @@ module _ (line : List (List ℕ)) (space : Bool) (bs : List ℕ) (some : 0 < len
       piece n kind (subst (λ xs. IsLongest line xs (token kind) n) (sym is) longest)
       (subst (λ xs. Lexes (line_after line kind (take n xs)) (is_newline kind) (drop n (m ∷ ms)) r) (sym is) rest)
       (ap (λ xs. with_first (record { kind = kind; spelling = take n xs; space = space; position = p }) r) (sym is)
-        ∙ ap (λ q. with_first (record { kind = kind; spelling = take n (bytes_of (m ∷ ms)); space = space; position = q }) r) (sym (first m ms refl)))
+      ∙ ap (λ q. with_first (record { kind = kind; spelling = take n (bytes_of (m ∷ ms)); space = space; position = q }) r) (sym (first m ms refl)))
 
   unended-lexes : (left : List Marked) (p : Position) → bytes_of left ≡ bs → ((m : Marked) (ms : List Marked) → left ≡ m ∷ ms → m.position ≡ p) → IsUnended bs → Lexes line space left (Err p)
   unended-lexes [] p is first u = let none = ap length is in absurd (omega arith)
@@ -104,7 +104,7 @@ module _ {names : List (List ℕ)} {file : FileId} {bytes text : List ℕ} {fron
     left_is = rest_is n next is;
     completes = λ r lexes. subst (Lexed bytes) (with_all-push so.lexemes l r)
         (so.completes (with_first l r) (piece-lexes so.line space (drop offset text) (some_left within) left n kind (position_of p) r so.left_is first (longest so.line so.front_is)
-          (subst (λ ms. Lexes (line_after so.line kind (take n (drop offset text))) (is_newline kind) ms r) is lexes)));
+        (subst (λ ms. Lexes (line_after so.line kind (take n (drop offset text))) (is_newline kind) ms r) is lexes)));
   }
     where
       l : Lexeme

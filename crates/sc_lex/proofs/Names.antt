@@ -178,7 +178,7 @@ number-steps exponent [] some = absurd (omega arith)
 number-steps exponent (b ∷ bs) some =
     subst (λ n. Steps (number_goes_on exponent 0) (number_goes_on (is_exponent b) 0) (b ∷ bs) n) (joined ((exponent && is_sign b) || b == 46) (is_letter b || is_digit b) (universal_length (b ∷ bs)))
     (part-steps (number_goes_on false) (λ n. refl) (λ n b bs. refl) number_is_named refl (λ b bs. refl) (number_goes_on exponent 0) (backslash exponent) (number_goes_on (is_exponent b) 0) b bs
-        (goes_on_number exponent b) goes (λ none xs. no_way (is_letter b || is_digit b) (b == 46) (exponent && is_sign b) _ _ _ none) (λ e xs. ap (λ c. number_goes_on (is_exponent c) 0 xs) e))
+    (goes_on_number exponent b) goes (λ none xs. no_way (is_letter b || is_digit b) (b == 46) (exponent && is_sign b) _ _ _ none) (λ e xs. ap (λ c. number_goes_on (is_exponent c) 0 xs) e))
   where
     joined : (x y : Bool) (n : ℕ) → cond (x || y) 1 n ≡ cond x 1 (cond y 1 n)
     joined true y n = refl
@@ -195,9 +195,9 @@ number-steps exponent (b ∷ bs) some =
     goes : goes_on_number exponent b ≡ true → (xs : List ℕ) → number_goes_on exponent 0 (b ∷ xs) ≡ number_goes_on (is_exponent b) 0 xs
     goes is xs =
         ap (λ t. (((is_letter b || is_digit b || b == 46) && number_goes_on (is_exponent b) 0 xs) || (exponent && is_sign b && number_goes_on false 0 xs)) || (t && number_is_named xs))
-            (not_backslash (goes_on_number exponent) b (not_number exponent) is)
+        (not_backslash (goes_on_number exponent) b (not_number exponent) is)
         ∙ one_way (is_letter b || is_digit b) (b == 46) (exponent && is_sign b) (number_goes_on (is_exponent b) 0 xs) (number_goes_on false 0 xs) (number_is_named xs) is
-            (λ signed. ap (λ e. number_goes_on e 0 xs) (sym (sign-is_exponent b (and_parts exponent (is_sign b) signed).1)))
+        (λ signed. ap (λ e. number_goes_on e 0 xs) (sym (sign-is_exponent b (and_parts exponent (is_sign b) signed).1)))
 
 -- an identifier begins with no digit
 pub identifier-front : (bs : List ℕ) (n : ℕ) → begins_name bs ≡ true → IsLongestFront (goes_on 0) bs n → IsLongestFront is_identifier bs n
@@ -223,7 +223,7 @@ number-front (b ∷ bs) k is rest = elim (or_cases (is_digit b) (b == 46 && is_d
   | inl d ↦ longest_after k (Becomes-one is_number (number_goes_on false 0) b bs (λ xs. ap (λ t. (t || (b == 46 && begins_with_digit xs)) && number_goes_on false 0 xs) d)) rest (λ none. refl)
   | inr p ↦ (let parts = and_parts (b == 46) _ p in
       let becomes = Becomes-one is_number (λ xs. begins_with_digit xs && number_goes_on false 0 xs) b bs
-              (λ xs. ap (λ c. (is_digit c || (c == 46 && begins_with_digit xs)) && number_goes_on false 0 xs) (eqb-true b 46 parts.0)) in
+      (λ xs. ap (λ c. (is_digit c || (c == 46 && begins_with_digit xs)) && number_goes_on false 0 xs) (eqb-true b 46 parts.0)) in
       longest_after k becomes (IsLongestFront-same _ (number_goes_on false 0) bs k (same bs parts.1) rest) (λ none. absurd (some bs k parts.1 none rest)))
 ]
   where

@@ -275,8 +275,10 @@ pub block_comment : (bs : List ℕ) (k : ℕ) → begins_with (47 ∷ 42 ∷ [])
 block_comment bs k is front some = two_first 47 42 is_comment comment_closes bs k is (λ xs. or_false (comment_closes xs)) front (λ none. absurd (omega arith))
 
 pub no_comment : (bs : List ℕ) → begins_with (47 ∷ 47 ∷ []) bs ≡ false → begins_with (47 ∷ 42 ∷ []) bs ≡ false → IsLongestFront is_comment bs 0
-no_comment bs line block = none_where_stuck is_comment bs (record { fails = λ m positive within.
-    or_from _ _ (and_left _ (comment_closes (drop 2 (take m bs))) (begins_with-take (47 ∷ 42 ∷ []) bs m block)) (and_left _ (has_no_newline (take m bs)) (begins_with-take (47 ∷ 47 ∷ []) bs m line)) })
+no_comment bs line block = none_where_stuck is_comment bs (record {
+  fails = λ m positive within.
+      or_from _ _ (and_left _ (comment_closes (drop 2 (take m bs))) (begins_with-take (47 ∷ 42 ∷ []) bs m block)) (and_left _ (has_no_newline (take m bs)) (begins_with-take (47 ∷ 47 ∷ []) bs m line));
+})
 
 -- no end of a comment that began
 pub unended : (bs : List ℕ) → begins_with (47 ∷ 42 ∷ []) bs ≡ true → ((m : ℕ) → comment_closes (take m (drop 2 bs)) ≡ false) → IsUnended bs

@@ -112,7 +112,7 @@ logical-return wanted line column [] is = cc
 logical-return wanted line column (b ∷ bs) is =
     let halves = and_parts (13 == b) (begins_with (10 ∷ []) bs) is in
     ap (λ t. cond t (logical true line (column + 1) bs) (at b line column ∷ cond (b == 10) (logical false (line + 1) 1 bs) (logical true line (column + 1) bs)))
-        (sym (ap (λ t. t && begins_with (10 ∷ []) bs) (eqb_comm b 13 ∙ halves.0) ∙ halves.1))
+    (sym (ap (λ t. t && begins_with (10 ∷ []) bs) (eqb_comm b 13 ∙ halves.0) ∙ halves.1))
 
 -- any other byte
 pub logical-byte : (wanted : Bool) (line column b : ℕ) (bs : List ℕ) → begins_with (13 ∷ 10 ∷ []) (b ∷ bs) ≡ false

@@ -79,11 +79,13 @@ held names (t ∷ ts) [] e all = cc
 held names (t ∷ ts) (l ∷ ls) e all =
     let head : lexeme_at names t ≡ Some l = cc in
     let tail : map (lexeme_at names) ts ≡ map (λ x. Some x) ls = cc in
-    let s = some_spelling names t (slice_get names t.spelling.0) l head in
-    (record {
-      name = slice_get_within names t.name.0 (name_of s.0) (all.0 ∙ ap (option_map name_of) s.1);
-      spelling = slice_get_within names t.spelling.0 s.0 s.1;
-    }, held names ts ls tail all.1)
+    let s = some_spelling names t (slice_get names t.spelling.0) l head in (
+      record {
+        name = slice_get_within names t.name.0 (name_of s.0) (all.0 ∙ ap (option_map name_of) s.1);
+        spelling = slice_get_within names t.spelling.0 s.0 s.1;
+      },
+      held names ts ls tail all.1,
+    )
 
 -- the table holds what the tokens are spelled with
 pub Spell-held : {names : List (List ℕ)} {file : FileId} {ls : List Lexeme} {ts : List Token} → Spell names file ls ts → All (IsHeld names) ts

@@ -11,7 +11,7 @@ logical wanted line column [] =
 logical wanted line column (b ∷ bs) =
     if (b == 13) && begins_with (10 ∷ []) bs then logical true line (column + 1) bs
     else record { byte = b; position = record { line = line; column = column } }
-        ∷ (if b == 10 then logical false (line + 1) 1 bs else logical true line (column + 1) bs)
+    ∷ (if b == 10 then logical false (line + 1) 1 bs else logical true line (column + 1) bs)
 
 -- what taking the next byte answers and leaves
 abbrev pub Takes : List Marked → Option ℕ → List Marked → Type 0

@@ -68,7 +68,11 @@ fn token(
     place: Place,
 ) -> Result<Token, OutOfMemory>
     ensures spelled { IfOk result (λ t. lexeme_at names.new t ≡ Some (record {
-        kind = kind; spelling = spelling.now; space = space; position = position_of place })) }
+      kind = kind;
+      spelling = spelling.now;
+      space = space;
+      position = position_of place;
+    })) }
     ensures named { IfOk result (λ t. slice_get names.new t.name.0 ≡ Some (name_of spelling.now)) }
     ensures text { IfOk result (λ t. slice_get names.new t.spelling.0 ≡ Some spelling.now) }
     ensures placed { IfOk result (λ t. t.place ≡ place) }

@@ -79,11 +79,7 @@ fn comment_end(text: &[u8]) -> Option<usize>
 pub fn identifier(text: &[u8]) -> usize
     ensures { IsLongestFront is_identifier text.now result }
 {
-    if begins_name(text) {
-        letters(text)
-    } else {
-        0
-    }
+    if begins_name(text) { letters(text) } else { 0 }
 }
 
 fn begins_name(text: &[u8]) -> bool
@@ -372,15 +368,43 @@ fn is_three(a: u8, b: u8, c: u8) -> bool
 fn is_one(a: u8) -> bool
     ensures { result ≡ is_punctuator (a ∷ []) }
 {
-    matches!(a, b'[' | b']' | b'(' | b')' | b'{' | b'}' | b'.' | b'&' | b'*' | b'+' | b'-' | b'~'
-        | b'!' | b'/' | b'%' | b'<' | b'>' | b'^' | b'|' | b'?' | b':' | b';' | b'=' | b',' | b'#')
+    matches!(
+        a,
+        b'[' | b']'
+            | b'('
+            | b')'
+            | b'{'
+            | b'}'
+            | b'.'
+            | b'&'
+            | b'*'
+            | b'+'
+            | b'-'
+            | b'~'
+            | b'!'
+            | b'/'
+            | b'%'
+            | b'<'
+            | b'>'
+            | b'^'
+            | b'|'
+            | b'?'
+            | b':'
+            | b';'
+            | b'='
+            | b','
+            | b'#'
+    )
 }
 
 fn is_two(a: u8, b: u8) -> bool
     ensures { result ≡ is_punctuator (a ∷ b ∷ []) }
 {
     match b {
-        b'=' => matches!(a, b'<' | b'>' | b'=' | b'!' | b'*' | b'/' | b'%' | b'+' | b'-' | b'&' | b'^' | b'|'),
+        b'=' => matches!(
+            a,
+            b'<' | b'>' | b'=' | b'!' | b'*' | b'/' | b'%' | b'+' | b'-' | b'&' | b'^' | b'|'
+        ),
         b'>' => matches!(a, b'-' | b'>' | b':' | b'%'),
         b'<' | b'+' | b'-' | b'&' | b'|' | b'#' => a == b,
         b':' => a == b'<' || a == b'%',

@@ -26,10 +26,10 @@ split_lines-map f ends [] = refl
 split_lines-map f ends (t ∷ ts) =
     ap (λ rest. if ends (f t) then [] ∷ rest else model.onto_first (f t) rest) (split_lines-map f ends ts)
     ∙ elim (ends (f t)) as (λ b. (if b then [] ∷ map (map f) (model.split_lines (λ u. ends (f u)) ts) else model.onto_first (f t) (map (map f) (model.split_lines (λ u. ends (f u)) ts)))
-        ≡ map (map f) (if b then [] ∷ model.split_lines (λ u. ends (f u)) ts else model.onto_first t (model.split_lines (λ u. ends (f u)) ts))) [
-        true ↦ refl
+    ≡ map (map f) (if b then [] ∷ model.split_lines (λ u. ends (f u)) ts else model.onto_first t (model.split_lines (λ u. ends (f u)) ts))) [
+      | true ↦ refl
       | false ↦ onto_first-map f t (model.split_lines (λ u. ends (f u)) ts)
-      ]
+    ]
 
 map-same : {A B : Type 0} (f g : A → B) → ((x : A) → f x ≡ g x) → (xs : List A) → map f xs ≡ map g xs
 map-same f g same [] = refl
@@ -73,14 +73,14 @@ pub first_token : (names files : List (List ℕ)) (tokens : List Token) (first e
     → (model.conditional_of (map (seen names files) (slice_range tokens first end)) ≡ None → ⊥) → FirstToken names files tokens first end (get_or tokens first d)
 first_token names files tokens first end d directive =
     elim (cases_lt first (length tokens)) [
-      inl h ↦ (let whole : drop first tokens ≡ get_or tokens first d ∷ drop (suc first) tokens = drop-cons tokens first d h in
-        record {
-          within = h;
-          place = ap (λ ts. model.hash_place (map (seen names files) (take (end - first) ts))) whole
-            ∙ first_of names files (end - first) (get_or tokens first d) (drop (suc first) tokens)
+      | inl h ↦ (let whole : drop first tokens ≡ get_or tokens first d ∷ drop (suc first) tokens = drop-cons tokens first d h in
+          record {
+            within = h;
+            place = ap (λ ts. model.hash_place (map (seen names files) (take (end - first) ts))) whole
+                ∙ first_of names files (end - first) (get_or tokens first d) (drop (suc first) tokens)
                 (λ e. directive (ap (λ ts. model.conditional_of (map (seen names files) (take (end - first) ts))) whole ∙ e));
-        })
-    | inr past ↦ absurd (directive (ap (λ ts. model.conditional_of (map (seen names files) (take (end - first) ts))) (drop_of_length-le tokens past) ∙ taken_none names files (end - first)))
+          })
+      | inr past ↦ absurd (directive (ap (λ ts. model.conditional_of (map (seen names files) (take (end - first) ts))) (drop_of_length-le tokens past) ∙ taken_none names files (end - first)))
     ]
 
 module _ (names files : List (List ℕ)) (tokens : List Token) (lines : List Line) (are : AreLines names tokens lines) where

@@ -7,10 +7,6 @@ pub struct Line {
     pub end: usize,
     /// Which conditional directive the line is.
     pub conditional: Option<Conditional>,
-    /// Of a conditional directive that begins a branch the line of the next branch, or of the end of its section. Else the line itself.
-    pub next: usize,
-    /// Of a conditional directive that begins a branch the line that ends its section. Else the line itself.
-    pub close: usize,
 }
 
 /// The lines of a file in order, whose conditional directives are nested.

@@ -10,7 +10,7 @@ use sc_lex::{Kind, Token};
 use sc_model::Conditional;
 use std::alloc::Global;
 
-/// The lines of a file's tokens. None names another line yet.
+/// The lines of a file's tokens.
 pub fn lines(alloc: Global, names: &Names, tokens: &[Token]) -> Result<Vec<Line>, OutOfMemory>
     requires { All (IsHeld names.now) tokens.now }
     ensures { IfOk result (λ lines. AreLines names.now tokens.now lines.items) }
@@ -19,13 +19,10 @@ pub fn lines(alloc: Global, names: &Names, tokens: &[Token]) -> Result<Vec<Line>
     let mut first = 0;
     while first < tokens.len() {
         let end = first + line_length(&tokens[first..]);
-        let index = lines.len();
         lines.push(Line {
             first,
             end,
             conditional: conditional(names, &tokens[first..end]),
-            next: index,
-            close: index,
         })?;
         first = end + 1;
     }

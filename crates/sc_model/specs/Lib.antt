@@ -1,5 +1,6 @@
 pub mod Bytes
 pub mod Cause
+pub mod Grammar
 pub mod Growth
 pub mod Lex
 pub mod Lines
@@ -7,5 +8,6 @@ pub mod Outside
 pub mod Pre
 pub mod Sets
 pub mod Space
+pub mod Tables
 pub mod Text
 pub mod Token

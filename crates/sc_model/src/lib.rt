@@ -3,12 +3,14 @@
 
 mod cause;
 mod conditional;
+mod grammar;
 mod kind;
 mod laws;
 mod variable_option;
 
 pub use cause::Cause;
 pub use conditional::Conditional;
+pub use grammar::{Action, Conflict, Entry, Grammar, Mark, Nonterminal, Symbol, Terminal};
 pub use kind::Kind;
 pub use laws::{
     lexing_has_one_answer, nesting_has_one_answer, preprocessing_has_one_answer,

@@ -11,8 +11,8 @@ pub loop-k-preserved : goal.loop-k-preserved
 loop-k-preserved g c = record {
   own = c.in_ok-found.ensures.own;
   meaning = Denotes-as (λ config. is_defining (take (c.loop-k.k + 1) c.args.options.now) (slice_index config c.args.variable))
-    (c.in_ok-found.ensures.meaning (λ config. is_defining (take c.loop-k.k c.args.options.now) (slice_index config c.args.variable)) c.loop-k.invariant.meaning)
-    (λ config listed. sym (defining-more c.args.options.now c.loop-k.k (slice_index config c.args.variable) _ c.loop-k-test.true _ refl));
+      (c.in_ok-found.ensures.meaning (λ config. is_defining (take c.loop-k.k c.args.options.now) (slice_index config c.args.variable)) c.loop-k.invariant.meaning)
+      (λ config listed. sym (defining-more c.args.options.now c.loop-k.k (slice_index config c.args.variable) _ c.loop-k-test.true _ refl));
   keeps = Keeps-trans c.loop-k.invariant.keeps c.in_ok-found.ensures.keeps;
 }
 
@@ -20,4 +20,4 @@ pub returns-clause-meaning : goal.returns-clause-meaning
 returns-clause-meaning g c =
     let whole : c.loop-k.k ≡ length c.args.options.now = omega arith in
     Denotes-as (λ config. is_defining c.args.options.now (slice_index config c.args.variable)) c.loop-k.invariant.meaning
-      (λ config listed. ap (λ os. is_defining os (slice_index config c.args.variable)) (ap (λ n. take n c.args.options.now) whole ∙ take-length c.args.options.now))
+    (λ config listed. ap (λ os. is_defining os (slice_index config c.args.variable)) (ap (λ n. take n c.args.options.now) whole ∙ take-length c.args.options.now))

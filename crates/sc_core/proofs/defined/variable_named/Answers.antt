@@ -13,8 +13,8 @@ loop-i-preserved c = λ config long.
     let h : c.loop-i.i < length vs = omega (arith, c.loop-i-test.true, length-map c.args.variables.now seen_variable) in
     let v = c.index-variables-i.result in
     let here : get_or vs c.loop-i.i no_variable ≡ seen_variable v =
-        get_or-map seen_variable c.args.variables.now c.loop-i.i v no_variable c.loop-i-test.true ∙ ap seen_variable (sym c.index-variables-i.is) in
+    get_or-map seen_variable c.args.variables.now c.loop-i.i v no_variable c.loop-i-test.true ∙ ap seen_variable (sym c.index-variables-i.is) in
     let differs : same_bytes (get_or vs c.loop-i.i no_variable).name c.args.name.now ≡ false =
-        ap (λ (u : Variable). same_bytes u.name c.args.name.now) here
-        ∙ (ap (λ text. same_bytes text c.args.name.now) (sym c.as_bytes.ensures.value) ∙ (sym c.is_same.ensures ∙ c.if-is_same.false)) in
+    ap (λ (u : Variable). same_bytes u.name c.args.name.now) here
+    ∙ (ap (λ text. same_bytes text c.args.name.now) (sym c.as_bytes.ensures.value) ∙ (sym c.is_same.ensures ∙ c.if-is_same.false)) in
     definition-next vs config c.loop-i.i c.args.name.now h long differs ∙ c.loop-i.invariant config long

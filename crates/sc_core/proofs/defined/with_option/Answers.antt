@@ -8,5 +8,5 @@ use Rattle.sc_core.proofs.defined.with_option.Goals as goal
 pub returns-in_ok-apply_or-in-Number-clause-meaning : goal.returns-in_ok-apply_or-in-Number-clause-meaning
 returns-in_ok-apply_or-in-Number-clause-meaning g c = λ f was.
     rw c.in-Number.is
-      (c.in_ok-apply_or-in-Number.ensures.meaning f (λ config. slice_index config c.args.variable == c.args.index)
-        (Denotes-Keeps c.in_ok-chosen-in-Number.ensures.keeps was) c.in_ok-chosen-in-Number.ensures.meaning)
+    (c.in_ok-apply_or-in-Number.ensures.meaning f (λ config. slice_index config c.args.variable == c.args.index)
+    (Denotes-Keeps c.in_ok-chosen-in-Number.ensures.keeps was) c.in_ok-chosen-in-Number.ensures.meaning)

@@ -16,5 +16,5 @@ returns-clause-opened g c = λ names t told.
     let taken = c.in_ok-group.ensures.meaning (old.has w.group.0) t (Denotes-Keeps k2 group) (Denotes-Keeps k2 told) in
     let live = c.in_ok-live.ensures.meaning (λ config. old.has w.group.0 config && t config) (old.has w.accepted.0) taken (Denotes-Keeps k3 (Denotes-self old w.accepted.0 c.requires.owns.accepted)) in
     begins names k4 w c.requires.owns t c.in_ok-group.group c.in_ok-untaken.untaken c.in_ok-live.live c.push.new.self
-      c.in_ok-push.ensures.items (Denotes-Keeps c.in_ok-live.ensures.keeps taken)
-      (Denotes-Keeps (Keeps-trans c.in_ok-group.ensures.keeps c.in_ok-live.ensures.keeps) untaken) live
+    c.in_ok-push.ensures.items (Denotes-Keeps c.in_ok-live.ensures.keeps taken)
+    (Denotes-Keeps (Keeps-trans c.in_ok-group.ensures.keeps c.in_ok-live.ensures.keeps) untaken) live

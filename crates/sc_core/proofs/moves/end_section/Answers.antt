@@ -10,4 +10,4 @@ returns-clause-moved g c = λ names.
     let keeps = c.in_ok-live.ensures.keeps in
     let inner = owns-innermost keeps w c.requires c.pop.new.self.items c.in-Some.section c.in-Some.ensures.items in
     ends keeps w c.requires c.pop.new.self.items c.in-Some.section c.in-Some.ensures.items names c.in_ok-live.live c.pop.new.self refl
-      (c.in_ok-live.ensures.meaning (old.has c.in-Some.section.around.0) (old.has w.accepted.0) (Denotes-self old c.in-Some.section.around.0 inner.around) (Denotes-self old w.accepted.0 c.requires.accepted))
+    (c.in_ok-live.ensures.meaning (old.has c.in-Some.section.around.0) (old.has w.accepted.0) (Denotes-self old c.in-Some.section.around.0 inner.around) (Denotes-self old w.accepted.0 c.requires.accepted))

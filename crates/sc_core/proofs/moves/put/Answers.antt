@@ -13,4 +13,4 @@ returns c = λ names s owns.
     let whole : c.loop-token.token-index ≡ length c.args.line.now = omega arith in
     let all = ap (λ n. w.list ++ under w.live (take n c.args.line.now)) whole ∙ ap (λ ts. w.list ++ under w.live ts) (take-length c.args.line.now) in
     subst (λ next. Advances names s w s next (λ files config m. put_out m (map (seen names files) c.args.line.now))) (sym c.loop-token.invariant)
-      (puts names s w owns c.args.line.now (w.list ++ under w.live (take c.loop-token.token-index c.args.line.now)) all)
+    (puts names s w owns c.args.line.now (w.list ++ under w.live (take c.loop-token.token-index c.args.line.now)) all)

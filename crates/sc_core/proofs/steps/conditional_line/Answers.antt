@@ -17,37 +17,37 @@ refuse-requires-clause-owns g c = (c.in_ok-begin_branch-in-Elif.ensures.moved []
 pub returns-in-If-clause-steps : goal.returns-in-If-clause-steps
 returns-in-If-clause-steps g c = on_ok_weaker c.refused_section.result (λ moved.
     advances-as (λ files config m. opened (refusing m (map (seen c.args.names.now files) c.args.line.now)) false) (walks (seen_space c.args.space.now) c.args.names.now c.args.line.now)
-      (λ files config m. walks-is (seen_space c.args.space.now) c.args.names.now c.args.line.now files config m (Some c.args.conditional) (Some If) c.requires.directive (ap Some c.in-If.is)) (moved c.args.names.now))
+    (λ files config m. walks-is (seen_space c.args.space.now) c.args.names.now c.args.line.now files config m (Some c.args.conditional) (Some If) c.requires.directive (ap Some c.in-If.is)) (moved c.args.names.now))
     c.refused_section.ensures.moved
 
 pub returns-in-Ifdef-clause-steps : goal.returns-in-Ifdef-clause-steps
 returns-in-Ifdef-clause-steps g c = on_ok_weaker c.named_section.result
     (advances-as (λ files config m. opened_by_name m (map (seen c.args.names.now files) c.args.line.now) (is_taken (seen_space c.args.space.now) config true) (operand_of (map (seen c.args.names.now files) c.args.line.now))) (walks (seen_space c.args.space.now) c.args.names.now c.args.line.now)
-      (λ files config m. walks-is (seen_space c.args.space.now) c.args.names.now c.args.line.now files config m (Some c.args.conditional) (Some Ifdef) c.requires.directive (ap Some c.in-Ifdef.is)))
+    (λ files config m. walks-is (seen_space c.args.space.now) c.args.names.now c.args.line.now files config m (Some c.args.conditional) (Some Ifdef) c.requires.directive (ap Some c.in-Ifdef.is)))
     c.named_section.ensures.moved
 
 pub returns-in-Ifndef-clause-steps : goal.returns-in-Ifndef-clause-steps
 returns-in-Ifndef-clause-steps g c = on_ok_weaker c.named_section-in-Ifndef.result
     (advances-as (λ files config m. opened_by_name m (map (seen c.args.names.now files) c.args.line.now) (is_taken (seen_space c.args.space.now) config false) (operand_of (map (seen c.args.names.now files) c.args.line.now))) (walks (seen_space c.args.space.now) c.args.names.now c.args.line.now)
-      (λ files config m. walks-is (seen_space c.args.space.now) c.args.names.now c.args.line.now files config m (Some c.args.conditional) (Some Ifndef) c.requires.directive (ap Some c.in-Ifndef.is)))
+    (λ files config m. walks-is (seen_space c.args.space.now) c.args.names.now c.args.line.now files config m (Some c.args.conditional) (Some Ifndef) c.requires.directive (ap Some c.in-Ifndef.is)))
     c.named_section-in-Ifndef.ensures.moved
 
 pub returns-in_ok-begin_branch-in-Elif-clause-steps : goal.returns-in_ok-begin_branch-in-Elif-clause-steps
 returns-in_ok-begin_branch-in-Elif-clause-steps g c = on_ok_weaker c.refuse.result (λ refuses.
     advances-as (λ files config m. refusing (next_branch m m.sections) (map (seen c.args.names.now files) c.args.line.now)) (walks (seen_space c.args.space.now) c.args.names.now c.args.line.now)
-      (λ files config m. walks-is (seen_space c.args.space.now) c.args.names.now c.args.line.now files config m (Some c.args.conditional) (Some Elif) c.requires.directive (ap Some c.in-Elif.is))
-      (advances-then (λ files config m. next_branch m m.sections) (λ files config m. refusing m (map (seen c.args.names.now files) c.args.line.now))
-        c.in_ok-begin_branch-in-Elif.ensures.keeps (c.in_ok-begin_branch-in-Elif.ensures.moved c.args.names.now) (refuses c.args.names.now)))
+    (λ files config m. walks-is (seen_space c.args.space.now) c.args.names.now c.args.line.now files config m (Some c.args.conditional) (Some Elif) c.requires.directive (ap Some c.in-Elif.is))
+    (advances-then (λ files config m. next_branch m m.sections) (λ files config m. refusing m (map (seen c.args.names.now files) c.args.line.now))
+    c.in_ok-begin_branch-in-Elif.ensures.keeps (c.in_ok-begin_branch-in-Elif.ensures.moved c.args.names.now) (refuses c.args.names.now)))
     c.refuse.ensures.moved
 
 pub returns-in-Else-clause-steps : goal.returns-in-Else-clause-steps
 returns-in-Else-clause-steps g c = on_ok_weaker c.begin_branch-in-Else.result (λ moved.
     advances-as (λ files config m. next_branch m m.sections) (walks (seen_space c.args.space.now) c.args.names.now c.args.line.now)
-      (λ files config m. walks-is (seen_space c.args.space.now) c.args.names.now c.args.line.now files config m (Some c.args.conditional) (Some Else) c.requires.directive (ap Some c.in-Else.is)) (moved c.args.names.now))
+    (λ files config m. walks-is (seen_space c.args.space.now) c.args.names.now c.args.line.now files config m (Some c.args.conditional) (Some Else) c.requires.directive (ap Some c.in-Else.is)) (moved c.args.names.now))
     c.begin_branch-in-Else.ensures.moved
 
 pub returns-in-Endif-clause-steps : goal.returns-in-Endif-clause-steps
 returns-in-Endif-clause-steps g c = on_ok_weaker c.end_section.result (λ moved.
     advances-as (λ files config m. ended m m.sections) (walks (seen_space c.args.space.now) c.args.names.now c.args.line.now)
-      (λ files config m. walks-is (seen_space c.args.space.now) c.args.names.now c.args.line.now files config m (Some c.args.conditional) (Some Endif) c.requires.directive (ap Some c.in-Endif.is)) (moved c.args.names.now))
+    (λ files config m. walks-is (seen_space c.args.space.now) c.args.names.now c.args.line.now files config m (Some c.args.conditional) (Some Endif) c.requires.directive (ap Some c.in-Endif.is)) (moved c.args.names.now))
     c.end_section.ensures.moved

@@ -16,9 +16,9 @@ begin_section-requires-clause-owns g c = owns-kept c.in_ok-test-in-Some.ensures.
 pub returns-in-None-clause-moved : goal.returns-in-None-clause-moved
 returns-in-None-clause-moved g c = on_ok_weaker c.refused_section.result (λ moved.
     advances-as (λ files config m. opened (refusing m (map (seen c.args.names.now files) c.args.line.now)) false)
-      (λ files config m. opened_by_name m (map (seen c.args.names.now files) c.args.line.now) (is_taken (seen_space c.args.space.now) config c.args.wanted) (operand_of (map (seen c.args.names.now files) c.args.line.now)))
-      (λ files config m. ap (opened_by_name m (map (seen c.args.names.now files) c.args.line.now) (is_taken (seen_space c.args.space.now) config c.args.wanted)) (c.in-None.ensures.text files))
-      (moved c.args.names.now)) c.refused_section.ensures.moved
+    (λ files config m. opened_by_name m (map (seen c.args.names.now files) c.args.line.now) (is_taken (seen_space c.args.space.now) config c.args.wanted) (operand_of (map (seen c.args.names.now files) c.args.line.now)))
+    (λ files config m. ap (opened_by_name m (map (seen c.args.names.now files) c.args.line.now) (is_taken (seen_space c.args.space.now) config c.args.wanted)) (c.in-None.ensures.text files))
+    (moved c.args.names.now)) c.refused_section.ensures.moved
 
 pub returns-in_ok-test-in-Some-clause-keeps : goal.returns-in_ok-test-in-Some-clause-keeps
 returns-in_ok-test-in-Some-clause-keeps g c = Keeps-trans c.in_ok-test-in-Some.ensures.keeps c.begin_section.ensures.keeps
@@ -28,8 +28,8 @@ returns-in_ok-test-in-Some-clause-moved g c = on_ok_weaker c.begin_section.resul
     let names = c.args.names.now in
     let text = c.text.result.now in
     advances-as (λ files config m. opened m (is_taken (seen_space c.args.space.now) config c.args.wanted text))
-      (λ files config m. opened_by_name m (map (seen names files) c.args.line.now) (is_taken (seen_space c.args.space.now) config c.args.wanted) (operand_of (map (seen names files) c.args.line.now)))
-      (λ files config m. ap (opened_by_name m (map (seen names files) c.args.line.now) (is_taken (seen_space c.args.space.now) config c.args.wanted))
-        (ap (λ (o : Option (List ℕ)). Some (unwrap_or o [])) (sym c.text.ensures) ∙ c.in-Some.ensures.text files))
-      (advances-kept c.in_ok-test-in-Some.ensures.keeps c.requires.owns (opens names (λ config. is_taken (seen_space c.args.space.now) config c.args.wanted text) c.in_ok-test-in-Some.ensures.meaning)))
+    (λ files config m. opened_by_name m (map (seen names files) c.args.line.now) (is_taken (seen_space c.args.space.now) config c.args.wanted) (operand_of (map (seen names files) c.args.line.now)))
+    (λ files config m. ap (opened_by_name m (map (seen names files) c.args.line.now) (is_taken (seen_space c.args.space.now) config c.args.wanted))
+    (ap (λ (o : Option (List ℕ)). Some (unwrap_or o [])) (sym c.text.ensures) ∙ c.in-Some.ensures.text files))
+    (advances-kept c.in_ok-test-in-Some.ensures.keeps c.requires.owns (opens names (λ config. is_taken (seen_space c.args.space.now) config c.args.wanted text) c.in_ok-test-in-Some.ensures.meaning)))
     c.begin_section.ensures.opened

@@ -11,4 +11,4 @@ begin_section-requires-clause-owns g c = (c.in_ok-refuse.ensures.moved []).owns
 pub returns-clause-moved : goal.returns-clause-moved
 returns-clause-moved g c = on_ok_weaker c.begin_section.result (λ opens names.
     advances-then (λ files config m. refusing m (map (seen names files) c.args.line.now)) (λ files config m. opened m false)
-      c.in_ok-refuse.ensures.keeps (c.in_ok-refuse.ensures.moved names) (opens names (λ _. false) c.never-never.ensures.meaning)) c.begin_section.ensures.opened
+    c.in_ok-refuse.ensures.keeps (c.in_ok-refuse.ensures.moved names) (opens names (λ _. false) c.never-never.ensures.meaning)) c.begin_section.ensures.opened

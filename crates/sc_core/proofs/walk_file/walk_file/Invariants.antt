@@ -15,5 +15,5 @@ invariant-loop-line g l = record {
   keeps : Keeps (g.C.Conditions.sets l.fn.conds) (g.C.Conditions.sets l.conds);
   at : (files : List (List ℕ)) (config : List ℕ) → IsConfig (g.C.Conditions.sets l.fn.conds).arities config
       → Mirrors (g.C.Conditions.sets l.conds) l.names files l.walk config
-        (run (initial_macros (seen_space l.space) config) start (map (λ line. map (seen l.names files) (tokens_of l.tokens line)) (take l.line-index l.lines)));
+      (run (initial_macros (seen_space l.space) config) start (map (λ line. map (seen l.names files) (tokens_of l.tokens line)) (take l.line-index l.lines)));
 }

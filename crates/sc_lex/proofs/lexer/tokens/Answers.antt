@@ -55,14 +55,14 @@ loop-offset-preserved c =
       }
       | in-Token+in_ok-token-in-Token+in_ok-push-in-Token w ↦ record {
         so_far =
-          let t = w.in_ok-token-in-Token.field-0 in
-          let n = c.in-Some.piece.length in
-          let kind = w.in-Token.kind in
-          let made = w.in_ok-token-in-Token.ensures in
-          let items : c.match-piece.tokens.items ≡ c.loop-offset.tokens.items ++ t ∷ [] = ap (λ v. v.items) w.tokens-is ∙ w.in_ok-push-in-Token.ensures.items in
-          let space : c.match-piece.space ≡ is_newline kind = w.space-is ∙ w.is_newline-space.ensures in
-          rw (w.names-is, items, w.front-is, space)
-          (after_token so w.token.new.names t kind n c.place-place.result _ w.after-front.result (some_left d)
+            let t = w.in_ok-token-in-Token.field-0 in
+            let n = c.in-Some.piece.length in
+            let kind = w.in-Token.kind in
+            let made = w.in_ok-token-in-Token.ensures in
+            let items : c.match-piece.tokens.items ≡ c.loop-offset.tokens.items ++ t ∷ [] = ap (λ v. v.items) w.tokens-is ∙ w.in_ok-push-in-Token.ensures.items in
+            let space : c.match-piece.space ≡ is_newline kind = w.space-is ∙ w.is_newline-space.ensures in
+            rw (w.names-is, items, w.front-is, space)
+            (after_token so w.token.new.names t kind n c.place-place.result _ w.after-front.result (some_left d)
             (λ line f. subst (λ row. IsLongest line (drop c.loop-offset.offset c.in_ok-text.text.items) (row_of row) n) w.in-Token.is (longest line f))
             (λ line f. subst (λ bs. front_of (line_after line kind (take n bs)) ≡ w.after-front.result) (rest_is d) (w.after-front.ensures line f))
             c.place-place.ensures.first next w.token.ensures.grows

@@ -11,7 +11,7 @@ pub returns-then-text-length : goal.returns-then-text-length
 returns-then-text-length c =
     Unmet-met 1 c.loop-length.invariant
     (closing-found c.args.quote (drop c.loop-length.length c.args.text.now) (omega (arith, length-drop c.loop-length.length c.args.text.now))
-      (eq-eqb _ c.args.quote (at_first c.args.text.now c.loop-length.length ∙ c.if-text-length.true)))
+    (eq-eqb _ c.args.quote (at_first c.args.text.now c.loop-length.length ∙ c.if-text-length.true)))
     (omega arith)
 
 steps : (c : After-quoted_part-part) → Goes (closes c.args.quote) (drop c.loop-length.length c.args.text.now) (quoted_length (drop c.loop-length.length c.args.text.now))

@@ -19,7 +19,7 @@ returns-in-Some-clause-some c =
 pub returns-in-Some-clause-ended : goal.returns-in-Some-clause-ended
 returns-in-Some-clause-ended c =
     let front = block_comment _ _ (starts_with-is (47 ∷ 42 ∷ []) c.args.text.now ∙ sym c.starts_with-2.ensures.value ∙ c.if-starts_with-2.true)
-            (subst (λ bs. IsLongestFront comment_closes bs c.in-Some.end) (take_rest c.args.text.now 2) c.in-Some.ensures.front) c.in-Some.ensures.some in
+    (subst (λ bs. IsLongestFront comment_closes bs c.in-Some.end) (take_rest c.args.text.now 2) c.in-Some.ensures.front) c.in-Some.ensures.some in
     λ u. true≢false (sym (front.fit (omega arith)) ∙ u.no_end _)
 
 pub returns-in-None-clause-none : goal.returns-in-None-clause-none

@@ -15,4 +15,4 @@ pub returns-then-b-eq10 : goal.returns-then-b-eq10
 returns-then-b-eq10 c =
     never_longest (header_closes c.args.end) c.args.text.now
     (Unmet-never c.loop-i.invariant
-      (at_place (IsStuck (header_closes c.args.end)) c.args.text.now c.loop-i.i c.loop-i-test.true (header-stops c.args.end _ _ (ne_eqb _ c.args.end c.if-b-end.false) (eq-eqb _ 10 c.if-b-eq10.true))))
+    (at_place (IsStuck (header_closes c.args.end)) c.args.text.now c.loop-i.i c.loop-i-test.true (header-stops c.args.end _ _ (ne_eqb _ c.args.end c.if-b-end.false) (eq-eqb _ 10 c.if-b-eq10.true))))

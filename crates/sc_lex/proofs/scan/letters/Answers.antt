@@ -19,7 +19,7 @@ loop-length-preserved c =
     more_parts _ _ c.loop-length.invariant (letter-steps _ (some_left (goal.at.loop-length-preserved c).After-letter-part)) (c.letter-part.ensures ∙ ap letter_length (take_rest c.args.text.now c.loop-length.length)) c.if-part-eq0.false
 
 pub overflow_add-length : goal.overflow_add-length
-overflow_add-length c = 
+overflow_add-length c =
     let more = more_parts _ _ c.loop-length.invariant (letter-steps _ (some_left (goal.at.overflow_add-length c).After-letter-part)) (c.letter-part.ensures ∙ ap letter_length (take_rest c.args.text.now c.loop-length.length)) c.if-part-eq0.false in
     let within : c.loop-length.length + c.letter-part.result ≤ length c.args.text.now = more.within in
     omega arith

@@ -28,11 +28,11 @@ pub returns-in-None-clause-ok : goal.returns-in-None-clause-ok
 returns-in-None-clause-ok c = record {
   lines = c.in_ok-lines.ensures;
   nested = λ files.
-    subst (Judges (seen_lines c.args.names.now files c.args.tokens.now)) c.in-None.is
+      subst (Judges (seen_lines c.args.names.now files c.args.tokens.now)) c.in-None.is
       (judged (goal.at.returns-in-None-clause-ok c).In_ok-fault_line (seen_lines c.args.names.now files c.args.tokens.now) (conditionals-seen c.args.names.now files c.args.tokens.now c.in_ok-lines.lines.items c.in_ok-lines.ensures));
 }
 
 pub returns-in-Some-clause-err : goal.returns-in-Some-clause-err
 returns-in-Some-clause-err c = λ files.
     rw c.place_of.ensures
-      (fault-tree c.args.names.now c.args.tokens.now c.in_ok-lines.lines.items c.in_ok-lines.ensures c.in-Some.at (failed (goal.at.returns-in-Some-clause-err c).In-Some) files c.index.result.now no_token c.index.ensures)
+    (fault-tree c.args.names.now c.args.tokens.now c.in_ok-lines.lines.items c.in_ok-lines.ensures c.in-Some.at (failed (goal.at.returns-in-Some-clause-err c).In-Some) files c.index.result.now no_token c.index.ensures)

@@ -1,0 +1,903 @@
+-- The grammar of C11 (annex A.2): its terminals and nonterminals in order, and its productions with what each reduction
+-- does to the scopes. An empty right side is never used: each optional part is written out.
+use Rattle.std.specs.Prelude.{ℕ, List, [], ◌∷◌, Some, None}
+use Rattle.sc_model.specs.Grammar.{Production}
+use Rattle.sc_model.specs.declared.grammar.Symbol.{Symbol}
+use Rattle.sc_model.specs.declared.grammar.Symbol.TheVariants.{Terminal, Nonterminal}
+use Rattle.sc_model.specs.declared.grammar.Mark.{Mark}
+use Rattle.sc_model.specs.declared.grammar.Mark.TheVariants.{Push, PushParameters, Pop, Join, BindVariable, BindTypedef}
+
+abbrev t : ℕ → Symbol
+t number = Terminal (record { 0 = number })
+
+abbrev n : ℕ → Symbol
+n number = Nonterminal (record { 0 = number })
+
+abbrev plain : ℕ → List Symbol → Production
+plain left right = record { left = left; right = right; mark = None }
+
+abbrev marked : ℕ → List Symbol → Mark → Production
+marked left right mark = record { left = left; right = right; mark = Some mark }
+
+-- the terminals
+abbrev T_NAME : ℕ
+T_NAME = 0
+
+abbrev T_TYPE : ℕ
+T_TYPE = 1
+
+abbrev T_VARIABLE : ℕ
+T_VARIABLE = 2
+
+abbrev T_CONSTANT : ℕ
+T_CONSTANT = 3
+
+abbrev T_STRING : ℕ
+T_STRING = 4
+
+abbrev T_AUTO : ℕ
+T_AUTO = 5
+
+abbrev T_BREAK : ℕ
+T_BREAK = 6
+
+abbrev T_CASE : ℕ
+T_CASE = 7
+
+abbrev T_CHAR : ℕ
+T_CHAR = 8
+
+abbrev T_CONST : ℕ
+T_CONST = 9
+
+abbrev T_CONTINUE : ℕ
+T_CONTINUE = 10
+
+abbrev T_DEFAULT : ℕ
+T_DEFAULT = 11
+
+abbrev T_DO : ℕ
+T_DO = 12
+
+abbrev T_DOUBLE : ℕ
+T_DOUBLE = 13
+
+abbrev T_ELSE : ℕ
+T_ELSE = 14
+
+abbrev T_ENUM : ℕ
+T_ENUM = 15
+
+abbrev T_EXTERN : ℕ
+T_EXTERN = 16
+
+abbrev T_FLOAT : ℕ
+T_FLOAT = 17
+
+abbrev T_FOR : ℕ
+T_FOR = 18
+
+abbrev T_GOTO : ℕ
+T_GOTO = 19
+
+abbrev T_IF : ℕ
+T_IF = 20
+
+abbrev T_INLINE : ℕ
+T_INLINE = 21
+
+abbrev T_INT : ℕ
+T_INT = 22
+
+abbrev T_LONG : ℕ
+T_LONG = 23
+
+abbrev T_REGISTER : ℕ
+T_REGISTER = 24
+
+abbrev T_RESTRICT : ℕ
+T_RESTRICT = 25
+
+abbrev T_RETURN : ℕ
+T_RETURN = 26
+
+abbrev T_SHORT : ℕ
+T_SHORT = 27
+
+abbrev T_SIGNED : ℕ
+T_SIGNED = 28
+
+abbrev T_SIZEOF : ℕ
+T_SIZEOF = 29
+
+abbrev T_STATIC : ℕ
+T_STATIC = 30
+
+abbrev T_STRUCT : ℕ
+T_STRUCT = 31
+
+abbrev T_SWITCH : ℕ
+T_SWITCH = 32
+
+abbrev T_TYPEDEF : ℕ
+T_TYPEDEF = 33
+
+abbrev T_UNION : ℕ
+T_UNION = 34
+
+abbrev T_UNSIGNED : ℕ
+T_UNSIGNED = 35
+
+abbrev T_VOID : ℕ
+T_VOID = 36
+
+abbrev T_VOLATILE : ℕ
+T_VOLATILE = 37
+
+abbrev T_WHILE : ℕ
+T_WHILE = 38
+
+abbrev T_ALIGNAS : ℕ
+T_ALIGNAS = 39
+
+abbrev T_ALIGNOF : ℕ
+T_ALIGNOF = 40
+
+abbrev T_ATOMIC : ℕ
+T_ATOMIC = 41
+
+abbrev T_BOOL : ℕ
+T_BOOL = 42
+
+abbrev T_COMPLEX : ℕ
+T_COMPLEX = 43
+
+abbrev T_GENERIC : ℕ
+T_GENERIC = 44
+
+abbrev T_IMAGINARY : ℕ
+T_IMAGINARY = 45
+
+abbrev T_NORETURN : ℕ
+T_NORETURN = 46
+
+abbrev T_STATIC_ASSERT : ℕ
+T_STATIC_ASSERT = 47
+
+abbrev T_THREAD_LOCAL : ℕ
+T_THREAD_LOCAL = 48
+
+abbrev T_LEFT_BRACKET : ℕ
+T_LEFT_BRACKET = 49
+
+abbrev T_RIGHT_BRACKET : ℕ
+T_RIGHT_BRACKET = 50
+
+abbrev T_LEFT_PARENTHESIS : ℕ
+T_LEFT_PARENTHESIS = 51
+
+abbrev T_RIGHT_PARENTHESIS : ℕ
+T_RIGHT_PARENTHESIS = 52
+
+abbrev T_LEFT_BRACE : ℕ
+T_LEFT_BRACE = 53
+
+abbrev T_RIGHT_BRACE : ℕ
+T_RIGHT_BRACE = 54
+
+abbrev T_DOT : ℕ
+T_DOT = 55
+
+abbrev T_ARROW : ℕ
+T_ARROW = 56
+
+abbrev T_INCREMENT : ℕ
+T_INCREMENT = 57
+
+abbrev T_DECREMENT : ℕ
+T_DECREMENT = 58
+
+abbrev T_AMPERSAND : ℕ
+T_AMPERSAND = 59
+
+abbrev T_STAR : ℕ
+T_STAR = 60
+
+abbrev T_PLUS : ℕ
+T_PLUS = 61
+
+abbrev T_MINUS : ℕ
+T_MINUS = 62
+
+abbrev T_TILDE : ℕ
+T_TILDE = 63
+
+abbrev T_EXCLAMATION : ℕ
+T_EXCLAMATION = 64
+
+abbrev T_SLASH : ℕ
+T_SLASH = 65
+
+abbrev T_PERCENT : ℕ
+T_PERCENT = 66
+
+abbrev T_SHIFT_LEFT : ℕ
+T_SHIFT_LEFT = 67
+
+abbrev T_SHIFT_RIGHT : ℕ
+T_SHIFT_RIGHT = 68
+
+abbrev T_LESS : ℕ
+T_LESS = 69
+
+abbrev T_GREATER : ℕ
+T_GREATER = 70
+
+abbrev T_LESS_EQUAL : ℕ
+T_LESS_EQUAL = 71
+
+abbrev T_GREATER_EQUAL : ℕ
+T_GREATER_EQUAL = 72
+
+abbrev T_EQUAL_EQUAL : ℕ
+T_EQUAL_EQUAL = 73
+
+abbrev T_NOT_EQUAL : ℕ
+T_NOT_EQUAL = 74
+
+abbrev T_CARET : ℕ
+T_CARET = 75
+
+abbrev T_BAR : ℕ
+T_BAR = 76
+
+abbrev T_AND_AND : ℕ
+T_AND_AND = 77
+
+abbrev T_OR_OR : ℕ
+T_OR_OR = 78
+
+abbrev T_QUESTION : ℕ
+T_QUESTION = 79
+
+abbrev T_COLON : ℕ
+T_COLON = 80
+
+abbrev T_SEMICOLON : ℕ
+T_SEMICOLON = 81
+
+abbrev T_ELLIPSIS : ℕ
+T_ELLIPSIS = 82
+
+abbrev T_ASSIGN : ℕ
+T_ASSIGN = 83
+
+abbrev T_STAR_ASSIGN : ℕ
+T_STAR_ASSIGN = 84
+
+abbrev T_SLASH_ASSIGN : ℕ
+T_SLASH_ASSIGN = 85
+
+abbrev T_PERCENT_ASSIGN : ℕ
+T_PERCENT_ASSIGN = 86
+
+abbrev T_PLUS_ASSIGN : ℕ
+T_PLUS_ASSIGN = 87
+
+abbrev T_MINUS_ASSIGN : ℕ
+T_MINUS_ASSIGN = 88
+
+abbrev T_SHIFT_LEFT_ASSIGN : ℕ
+T_SHIFT_LEFT_ASSIGN = 89
+
+abbrev T_SHIFT_RIGHT_ASSIGN : ℕ
+T_SHIFT_RIGHT_ASSIGN = 90
+
+abbrev T_AMPERSAND_ASSIGN : ℕ
+T_AMPERSAND_ASSIGN = 91
+
+abbrev T_CARET_ASSIGN : ℕ
+T_CARET_ASSIGN = 92
+
+abbrev T_BAR_ASSIGN : ℕ
+T_BAR_ASSIGN = 93
+
+abbrev T_COMMA : ℕ
+T_COMMA = 94
+
+abbrev T_END : ℕ
+T_END = 95
+
+-- the nonterminals
+abbrev N_UNIT : ℕ
+N_UNIT = 0
+
+abbrev N_TRANSLATION_UNIT : ℕ
+N_TRANSLATION_UNIT = 1
+
+abbrev N_EXTERNAL_DECLARATION : ℕ
+N_EXTERNAL_DECLARATION = 2
+
+abbrev N_FUNCTION_DEFINITION : ℕ
+N_FUNCTION_DEFINITION = 3
+
+abbrev N_FUNCTION_HEADER : ℕ
+N_FUNCTION_HEADER = 4
+
+abbrev N_KR_DECLARATIONS : ℕ
+N_KR_DECLARATIONS = 5
+
+abbrev N_FUNCTION_BODY : ℕ
+N_FUNCTION_BODY = 6
+
+abbrev N_BLOCK_ITEMS : ℕ
+N_BLOCK_ITEMS = 7
+
+abbrev N_BLOCK_ITEM : ℕ
+N_BLOCK_ITEM = 8
+
+abbrev N_DECLARATION : ℕ
+N_DECLARATION = 9
+
+abbrev N_INIT_DECLARATORS : ℕ
+N_INIT_DECLARATORS = 10
+
+abbrev N_INIT_DECLARATOR : ℕ
+N_INIT_DECLARATOR = 11
+
+abbrev N_TYPEDEF_DECLARATORS : ℕ
+N_TYPEDEF_DECLARATORS = 12
+
+abbrev N_TYPEDEF_DECLARATOR : ℕ
+N_TYPEDEF_DECLARATOR = 13
+
+abbrev N_STATEMENT : ℕ
+N_STATEMENT = 14
+
+abbrev N_LABELED : ℕ
+N_LABELED = 15
+
+abbrev N_COMPOUND : ℕ
+N_COMPOUND = 16
+
+abbrev N_BLOCK_OPEN : ℕ
+N_BLOCK_OPEN = 17
+
+abbrev N_EXPRESSION_STATEMENT : ℕ
+N_EXPRESSION_STATEMENT = 18
+
+abbrev N_SELECTION : ℕ
+N_SELECTION = 19
+
+abbrev N_IF_OPEN : ℕ
+N_IF_OPEN = 20
+
+abbrev N_SWITCH_OPEN : ℕ
+N_SWITCH_OPEN = 21
+
+abbrev N_ITERATION : ℕ
+N_ITERATION = 22
+
+abbrev N_WHILE_OPEN : ℕ
+N_WHILE_OPEN = 23
+
+abbrev N_DO_OPEN : ℕ
+N_DO_OPEN = 24
+
+abbrev N_FOR_OPEN : ℕ
+N_FOR_OPEN = 25
+
+abbrev N_JUMP : ℕ
+N_JUMP = 26
+
+abbrev N_PARAMETER_TYPES : ℕ
+N_PARAMETER_TYPES = 27
+
+abbrev N_PARAMETERS : ℕ
+N_PARAMETERS = 28
+
+abbrev N_PARAMETER : ℕ
+N_PARAMETER = 29
+
+abbrev N_IDENTIFIERS : ℕ
+N_IDENTIFIERS = 30
+
+abbrev N_DECL_SPECS : ℕ
+N_DECL_SPECS = 31
+
+abbrev N_TYPEDEF_SPECS : ℕ
+N_TYPEDEF_SPECS = 32
+
+abbrev N_SPEC_PREFIX : ℕ
+N_SPEC_PREFIX = 33
+
+abbrev N_TYPEDEF_PREFIX : ℕ
+N_TYPEDEF_PREFIX = 34
+
+abbrev N_SPEC_OTHER : ℕ
+N_SPEC_OTHER = 35
+
+abbrev N_STORAGE_CLASS : ℕ
+N_STORAGE_CLASS = 36
+
+abbrev N_FUNCTION_SPECIFIER : ℕ
+N_FUNCTION_SPECIFIER = 37
+
+abbrev N_TYPE_NAME : ℕ
+N_TYPE_NAME = 38
+
+abbrev N_SPEC_QUALS : ℕ
+N_SPEC_QUALS = 39
+
+abbrev N_QUAL_PREFIX : ℕ
+N_QUAL_PREFIX = 40
+
+abbrev N_QUAL_ITEM : ℕ
+N_QUAL_ITEM = 41
+
+abbrev N_ALIGNMENT_SPECIFIER : ℕ
+N_ALIGNMENT_SPECIFIER = 42
+
+abbrev N_TYPE_QUALIFIERS : ℕ
+N_TYPE_QUALIFIERS = 43
+
+abbrev N_TYPE_QUALIFIER : ℕ
+N_TYPE_QUALIFIER = 44
+
+abbrev N_TYPE_SPEC : ℕ
+N_TYPE_SPEC = 45
+
+abbrev N_TYPEDEF_SPEC : ℕ
+N_TYPEDEF_SPEC = 46
+
+abbrev N_KEYWORD_TYPE : ℕ
+N_KEYWORD_TYPE = 47
+
+abbrev N_STRUCT_SPEC : ℕ
+N_STRUCT_SPEC = 48
+
+abbrev N_STRUCT_WORD : ℕ
+N_STRUCT_WORD = 49
+
+abbrev N_STRUCT_DECLARATIONS : ℕ
+N_STRUCT_DECLARATIONS = 50
+
+abbrev N_STRUCT_DECLARATION : ℕ
+N_STRUCT_DECLARATION = 51
+
+abbrev N_STRUCT_DECLARATORS : ℕ
+N_STRUCT_DECLARATORS = 52
+
+abbrev N_STRUCT_DECLARATOR : ℕ
+N_STRUCT_DECLARATOR = 53
+
+abbrev N_STATIC_ASSERT : ℕ
+N_STATIC_ASSERT = 54
+
+abbrev N_ENUM_SPEC : ℕ
+N_ENUM_SPEC = 55
+
+abbrev N_ENUMERATORS : ℕ
+N_ENUMERATORS = 56
+
+abbrev N_ENUMERATOR : ℕ
+N_ENUMERATOR = 57
+
+abbrev N_VAR_DECLARATOR : ℕ
+N_VAR_DECLARATOR = 58
+
+abbrev N_DECLARATOR : ℕ
+N_DECLARATOR = 59
+
+abbrev N_DIRECT_DECLARATOR : ℕ
+N_DIRECT_DECLARATOR = 60
+
+abbrev N_ABSTRACT_DECLARATOR : ℕ
+N_ABSTRACT_DECLARATOR = 61
+
+abbrev N_DIRECT_ABSTRACT : ℕ
+N_DIRECT_ABSTRACT = 62
+
+abbrev N_POINTER : ℕ
+N_POINTER = 63
+
+abbrev N_ARRAY_SUFFIX : ℕ
+N_ARRAY_SUFFIX = 64
+
+abbrev N_PARAM_SUFFIX : ℕ
+N_PARAM_SUFFIX = 65
+
+abbrev N_POPEN : ℕ
+N_POPEN = 66
+
+abbrev N_INITIALIZERS : ℕ
+N_INITIALIZERS = 67
+
+abbrev N_INITIALIZER : ℕ
+N_INITIALIZER = 68
+
+abbrev N_DESIGNATION : ℕ
+N_DESIGNATION = 69
+
+abbrev N_DESIGNATORS : ℕ
+N_DESIGNATORS = 70
+
+abbrev N_DESIGNATOR : ℕ
+N_DESIGNATOR = 71
+
+abbrev N_ARGUMENTS : ℕ
+N_ARGUMENTS = 72
+
+abbrev N_CONSTANT_EXPRESSION : ℕ
+N_CONSTANT_EXPRESSION = 73
+
+abbrev N_EXPRESSION : ℕ
+N_EXPRESSION = 74
+
+abbrev N_ASSIGNMENT_EXPRESSION : ℕ
+N_ASSIGNMENT_EXPRESSION = 75
+
+abbrev N_ASSIGNMENT_OPERATOR : ℕ
+N_ASSIGNMENT_OPERATOR = 76
+
+abbrev N_CONDITIONAL : ℕ
+N_CONDITIONAL = 77
+
+abbrev N_LOGICAL_OR : ℕ
+N_LOGICAL_OR = 78
+
+abbrev N_LOGICAL_AND : ℕ
+N_LOGICAL_AND = 79
+
+abbrev N_INCLUSIVE_OR : ℕ
+N_INCLUSIVE_OR = 80
+
+abbrev N_EXCLUSIVE_OR : ℕ
+N_EXCLUSIVE_OR = 81
+
+abbrev N_AND_EXPRESSION : ℕ
+N_AND_EXPRESSION = 82
+
+abbrev N_EQUALITY : ℕ
+N_EQUALITY = 83
+
+abbrev N_RELATIONAL : ℕ
+N_RELATIONAL = 84
+
+abbrev N_SHIFT_EXPRESSION : ℕ
+N_SHIFT_EXPRESSION = 85
+
+abbrev N_ADDITIVE : ℕ
+N_ADDITIVE = 86
+
+abbrev N_MULTIPLICATIVE : ℕ
+N_MULTIPLICATIVE = 87
+
+abbrev N_CAST : ℕ
+N_CAST = 88
+
+abbrev N_UNARY : ℕ
+N_UNARY = 89
+
+abbrev N_UNARY_OPERATOR : ℕ
+N_UNARY_OPERATOR = 90
+
+abbrev N_POSTFIX : ℕ
+N_POSTFIX = 91
+
+abbrev N_PRIMARY : ℕ
+N_PRIMARY = 92
+
+abbrev N_GENERIC : ℕ
+N_GENERIC = 93
+
+abbrev N_ASSOCIATIONS : ℕ
+N_ASSOCIATIONS = 94
+
+abbrev N_ASSOCIATION : ℕ
+N_ASSOCIATION = 95
+
+abbrev N_STRING_LIST : ℕ
+N_STRING_LIST = 96
+
+abbrev N_GENERAL_IDENTIFIER : ℕ
+N_GENERAL_IDENTIFIER = 97
+
+abbrev N_TYPEDEF_NAME : ℕ
+N_TYPEDEF_NAME = 98
+
+abbrev N_VAR_NAME : ℕ
+N_VAR_NAME = 99
+
+-- the productions, from number 1 on
+abbrev pub productions : List Production
+productions =
+    plain N_UNIT (n N_TRANSLATION_UNIT ∷ t T_END ∷ []) ∷
+    plain N_UNIT (t T_END ∷ []) ∷
+    plain N_TRANSLATION_UNIT (n N_EXTERNAL_DECLARATION ∷ []) ∷
+    plain N_TRANSLATION_UNIT (n N_TRANSLATION_UNIT ∷ n N_EXTERNAL_DECLARATION ∷ []) ∷
+    plain N_EXTERNAL_DECLARATION (n N_FUNCTION_DEFINITION ∷ []) ∷
+    plain N_EXTERNAL_DECLARATION (n N_DECLARATION ∷ []) ∷
+    marked N_FUNCTION_DEFINITION (n N_FUNCTION_HEADER ∷ n N_FUNCTION_BODY ∷ []) Pop ∷
+    marked N_FUNCTION_DEFINITION (n N_FUNCTION_HEADER ∷ n N_KR_DECLARATIONS ∷ n N_FUNCTION_BODY ∷ []) Pop ∷
+    marked N_FUNCTION_HEADER (n N_DECL_SPECS ∷ n N_VAR_DECLARATOR ∷ []) PushParameters ∷
+    plain N_KR_DECLARATIONS (n N_DECLARATION ∷ []) ∷
+    plain N_KR_DECLARATIONS (n N_KR_DECLARATIONS ∷ n N_DECLARATION ∷ []) ∷
+    plain N_FUNCTION_BODY (t T_LEFT_BRACE ∷ t T_RIGHT_BRACE ∷ []) ∷
+    plain N_FUNCTION_BODY (t T_LEFT_BRACE ∷ n N_BLOCK_ITEMS ∷ t T_RIGHT_BRACE ∷ []) ∷
+    plain N_BLOCK_ITEMS (n N_BLOCK_ITEM ∷ []) ∷
+    plain N_BLOCK_ITEMS (n N_BLOCK_ITEMS ∷ n N_BLOCK_ITEM ∷ []) ∷
+    plain N_BLOCK_ITEM (n N_DECLARATION ∷ []) ∷
+    plain N_BLOCK_ITEM (n N_STATEMENT ∷ []) ∷
+    plain N_DECLARATION (n N_DECL_SPECS ∷ t T_SEMICOLON ∷ []) ∷
+    plain N_DECLARATION (n N_DECL_SPECS ∷ n N_INIT_DECLARATORS ∷ t T_SEMICOLON ∷ []) ∷
+    plain N_DECLARATION (n N_TYPEDEF_SPECS ∷ t T_SEMICOLON ∷ []) ∷
+    plain N_DECLARATION (n N_TYPEDEF_SPECS ∷ n N_TYPEDEF_DECLARATORS ∷ t T_SEMICOLON ∷ []) ∷
+    plain N_DECLARATION (n N_STATIC_ASSERT ∷ []) ∷
+    plain N_INIT_DECLARATORS (n N_INIT_DECLARATOR ∷ []) ∷
+    plain N_INIT_DECLARATORS (n N_INIT_DECLARATORS ∷ t T_COMMA ∷ n N_INIT_DECLARATOR ∷ []) ∷
+    plain N_INIT_DECLARATOR (n N_VAR_DECLARATOR ∷ []) ∷
+    plain N_INIT_DECLARATOR (n N_VAR_DECLARATOR ∷ t T_ASSIGN ∷ n N_INITIALIZER ∷ []) ∷
+    plain N_TYPEDEF_DECLARATORS (n N_TYPEDEF_DECLARATOR ∷ []) ∷
+    plain N_TYPEDEF_DECLARATORS (n N_TYPEDEF_DECLARATORS ∷ t T_COMMA ∷ n N_TYPEDEF_DECLARATOR ∷ []) ∷
+    marked N_TYPEDEF_DECLARATOR (n N_DECLARATOR ∷ []) BindTypedef ∷
+    plain N_STATEMENT (n N_LABELED ∷ []) ∷
+    plain N_STATEMENT (n N_COMPOUND ∷ []) ∷
+    plain N_STATEMENT (n N_EXPRESSION_STATEMENT ∷ []) ∷
+    plain N_STATEMENT (n N_SELECTION ∷ []) ∷
+    plain N_STATEMENT (n N_ITERATION ∷ []) ∷
+    plain N_STATEMENT (n N_JUMP ∷ []) ∷
+    plain N_LABELED (n N_GENERAL_IDENTIFIER ∷ t T_COLON ∷ n N_STATEMENT ∷ []) ∷
+    plain N_LABELED (t T_CASE ∷ n N_CONSTANT_EXPRESSION ∷ t T_COLON ∷ n N_STATEMENT ∷ []) ∷
+    plain N_LABELED (t T_DEFAULT ∷ t T_COLON ∷ n N_STATEMENT ∷ []) ∷
+    marked N_COMPOUND (n N_BLOCK_OPEN ∷ t T_RIGHT_BRACE ∷ []) Pop ∷
+    marked N_COMPOUND (n N_BLOCK_OPEN ∷ n N_BLOCK_ITEMS ∷ t T_RIGHT_BRACE ∷ []) Pop ∷
+    marked N_BLOCK_OPEN (t T_LEFT_BRACE ∷ []) Push ∷
+    plain N_EXPRESSION_STATEMENT (t T_SEMICOLON ∷ []) ∷
+    plain N_EXPRESSION_STATEMENT (n N_EXPRESSION ∷ t T_SEMICOLON ∷ []) ∷
+    marked N_SELECTION (n N_IF_OPEN ∷ t T_LEFT_PARENTHESIS ∷ n N_EXPRESSION ∷ t T_RIGHT_PARENTHESIS ∷ n N_STATEMENT ∷ []) Pop ∷
+    marked N_SELECTION (n N_IF_OPEN ∷ t T_LEFT_PARENTHESIS ∷ n N_EXPRESSION ∷ t T_RIGHT_PARENTHESIS ∷ n N_STATEMENT ∷ t T_ELSE ∷ n N_STATEMENT ∷ []) Pop ∷
+    marked N_SELECTION (n N_SWITCH_OPEN ∷ t T_LEFT_PARENTHESIS ∷ n N_EXPRESSION ∷ t T_RIGHT_PARENTHESIS ∷ n N_STATEMENT ∷ []) Pop ∷
+    marked N_IF_OPEN (t T_IF ∷ []) Push ∷
+    marked N_SWITCH_OPEN (t T_SWITCH ∷ []) Push ∷
+    marked N_ITERATION (n N_WHILE_OPEN ∷ t T_LEFT_PARENTHESIS ∷ n N_EXPRESSION ∷ t T_RIGHT_PARENTHESIS ∷ n N_STATEMENT ∷ []) Pop ∷
+    marked N_ITERATION (n N_DO_OPEN ∷ n N_STATEMENT ∷ t T_WHILE ∷ t T_LEFT_PARENTHESIS ∷ n N_EXPRESSION ∷ t T_RIGHT_PARENTHESIS ∷ t T_SEMICOLON ∷ []) Pop ∷
+    marked N_ITERATION (n N_FOR_OPEN ∷ t T_LEFT_PARENTHESIS ∷ n N_EXPRESSION_STATEMENT ∷ n N_EXPRESSION_STATEMENT ∷ t T_RIGHT_PARENTHESIS ∷ n N_STATEMENT ∷ []) Pop ∷
+    marked N_ITERATION (n N_FOR_OPEN ∷ t T_LEFT_PARENTHESIS ∷ n N_EXPRESSION_STATEMENT ∷ n N_EXPRESSION_STATEMENT ∷ n N_EXPRESSION ∷ t T_RIGHT_PARENTHESIS ∷ n N_STATEMENT ∷ []) Pop ∷
+    marked N_ITERATION (n N_FOR_OPEN ∷ t T_LEFT_PARENTHESIS ∷ n N_DECLARATION ∷ n N_EXPRESSION_STATEMENT ∷ t T_RIGHT_PARENTHESIS ∷ n N_STATEMENT ∷ []) Pop ∷
+    marked N_ITERATION (n N_FOR_OPEN ∷ t T_LEFT_PARENTHESIS ∷ n N_DECLARATION ∷ n N_EXPRESSION_STATEMENT ∷ n N_EXPRESSION ∷ t T_RIGHT_PARENTHESIS ∷ n N_STATEMENT ∷ []) Pop ∷
+    marked N_WHILE_OPEN (t T_WHILE ∷ []) Push ∷
+    marked N_DO_OPEN (t T_DO ∷ []) Push ∷
+    marked N_FOR_OPEN (t T_FOR ∷ []) Push ∷
+    plain N_JUMP (t T_GOTO ∷ n N_GENERAL_IDENTIFIER ∷ t T_SEMICOLON ∷ []) ∷
+    plain N_JUMP (t T_CONTINUE ∷ t T_SEMICOLON ∷ []) ∷
+    plain N_JUMP (t T_BREAK ∷ t T_SEMICOLON ∷ []) ∷
+    plain N_JUMP (t T_RETURN ∷ t T_SEMICOLON ∷ []) ∷
+    plain N_JUMP (t T_RETURN ∷ n N_EXPRESSION ∷ t T_SEMICOLON ∷ []) ∷
+    plain N_PARAMETER_TYPES (n N_PARAMETERS ∷ []) ∷
+    plain N_PARAMETER_TYPES (n N_PARAMETERS ∷ t T_COMMA ∷ t T_ELLIPSIS ∷ []) ∷
+    plain N_PARAMETERS (n N_PARAMETER ∷ []) ∷
+    plain N_PARAMETERS (n N_PARAMETERS ∷ t T_COMMA ∷ n N_PARAMETER ∷ []) ∷
+    plain N_PARAMETER (n N_DECL_SPECS ∷ n N_VAR_DECLARATOR ∷ []) ∷
+    plain N_PARAMETER (n N_DECL_SPECS ∷ n N_ABSTRACT_DECLARATOR ∷ []) ∷
+    plain N_PARAMETER (n N_DECL_SPECS ∷ []) ∷
+    plain N_IDENTIFIERS (n N_VAR_NAME ∷ []) ∷
+    plain N_IDENTIFIERS (n N_IDENTIFIERS ∷ t T_COMMA ∷ n N_VAR_NAME ∷ []) ∷
+    plain N_DECL_SPECS (n N_TYPE_SPEC ∷ []) ∷
+    plain N_DECL_SPECS (n N_SPEC_PREFIX ∷ n N_TYPE_SPEC ∷ []) ∷
+    plain N_DECL_SPECS (n N_DECL_SPECS ∷ n N_SPEC_OTHER ∷ []) ∷
+    plain N_DECL_SPECS (n N_DECL_SPECS ∷ n N_KEYWORD_TYPE ∷ []) ∷
+    plain N_TYPEDEF_SPECS (n N_TYPEDEF_PREFIX ∷ n N_TYPE_SPEC ∷ []) ∷
+    plain N_TYPEDEF_SPECS (n N_DECL_SPECS ∷ t T_TYPEDEF ∷ []) ∷
+    plain N_TYPEDEF_SPECS (n N_TYPEDEF_SPECS ∷ n N_SPEC_OTHER ∷ []) ∷
+    plain N_TYPEDEF_SPECS (n N_TYPEDEF_SPECS ∷ n N_KEYWORD_TYPE ∷ []) ∷
+    plain N_SPEC_PREFIX (n N_SPEC_OTHER ∷ []) ∷
+    plain N_SPEC_PREFIX (n N_SPEC_PREFIX ∷ n N_SPEC_OTHER ∷ []) ∷
+    plain N_TYPEDEF_PREFIX (t T_TYPEDEF ∷ []) ∷
+    plain N_TYPEDEF_PREFIX (n N_SPEC_PREFIX ∷ t T_TYPEDEF ∷ []) ∷
+    plain N_TYPEDEF_PREFIX (n N_TYPEDEF_PREFIX ∷ n N_SPEC_OTHER ∷ []) ∷
+    plain N_SPEC_OTHER (n N_STORAGE_CLASS ∷ []) ∷
+    plain N_SPEC_OTHER (n N_TYPE_QUALIFIER ∷ []) ∷
+    plain N_SPEC_OTHER (n N_FUNCTION_SPECIFIER ∷ []) ∷
+    plain N_SPEC_OTHER (n N_ALIGNMENT_SPECIFIER ∷ []) ∷
+    plain N_STORAGE_CLASS (t T_EXTERN ∷ []) ∷
+    plain N_STORAGE_CLASS (t T_STATIC ∷ []) ∷
+    plain N_STORAGE_CLASS (t T_THREAD_LOCAL ∷ []) ∷
+    plain N_STORAGE_CLASS (t T_AUTO ∷ []) ∷
+    plain N_STORAGE_CLASS (t T_REGISTER ∷ []) ∷
+    plain N_FUNCTION_SPECIFIER (t T_INLINE ∷ []) ∷
+    plain N_FUNCTION_SPECIFIER (t T_NORETURN ∷ []) ∷
+    plain N_TYPE_NAME (n N_SPEC_QUALS ∷ []) ∷
+    plain N_TYPE_NAME (n N_SPEC_QUALS ∷ n N_ABSTRACT_DECLARATOR ∷ []) ∷
+    plain N_SPEC_QUALS (n N_TYPE_SPEC ∷ []) ∷
+    plain N_SPEC_QUALS (n N_QUAL_PREFIX ∷ n N_TYPE_SPEC ∷ []) ∷
+    plain N_SPEC_QUALS (n N_SPEC_QUALS ∷ n N_QUAL_ITEM ∷ []) ∷
+    plain N_SPEC_QUALS (n N_SPEC_QUALS ∷ n N_KEYWORD_TYPE ∷ []) ∷
+    plain N_QUAL_PREFIX (n N_QUAL_ITEM ∷ []) ∷
+    plain N_QUAL_PREFIX (n N_QUAL_PREFIX ∷ n N_QUAL_ITEM ∷ []) ∷
+    plain N_QUAL_ITEM (n N_TYPE_QUALIFIER ∷ []) ∷
+    plain N_QUAL_ITEM (n N_ALIGNMENT_SPECIFIER ∷ []) ∷
+    plain N_ALIGNMENT_SPECIFIER (t T_ALIGNAS ∷ t T_LEFT_PARENTHESIS ∷ n N_TYPE_NAME ∷ t T_RIGHT_PARENTHESIS ∷ []) ∷
+    plain N_ALIGNMENT_SPECIFIER (t T_ALIGNAS ∷ t T_LEFT_PARENTHESIS ∷ n N_CONSTANT_EXPRESSION ∷ t T_RIGHT_PARENTHESIS ∷ []) ∷
+    plain N_TYPE_QUALIFIERS (n N_TYPE_QUALIFIER ∷ []) ∷
+    plain N_TYPE_QUALIFIERS (n N_TYPE_QUALIFIERS ∷ n N_TYPE_QUALIFIER ∷ []) ∷
+    plain N_TYPE_QUALIFIER (t T_CONST ∷ []) ∷
+    plain N_TYPE_QUALIFIER (t T_RESTRICT ∷ []) ∷
+    plain N_TYPE_QUALIFIER (t T_VOLATILE ∷ []) ∷
+    plain N_TYPE_QUALIFIER (t T_ATOMIC ∷ []) ∷
+    plain N_TYPE_SPEC (n N_KEYWORD_TYPE ∷ []) ∷
+    plain N_TYPE_SPEC (n N_TYPEDEF_SPEC ∷ []) ∷
+    plain N_TYPEDEF_SPEC (n N_TYPEDEF_NAME ∷ []) ∷
+    plain N_KEYWORD_TYPE (t T_VOID ∷ []) ∷
+    plain N_KEYWORD_TYPE (t T_CHAR ∷ []) ∷
+    plain N_KEYWORD_TYPE (t T_SHORT ∷ []) ∷
+    plain N_KEYWORD_TYPE (t T_INT ∷ []) ∷
+    plain N_KEYWORD_TYPE (t T_LONG ∷ []) ∷
+    plain N_KEYWORD_TYPE (t T_FLOAT ∷ []) ∷
+    plain N_KEYWORD_TYPE (t T_DOUBLE ∷ []) ∷
+    plain N_KEYWORD_TYPE (t T_SIGNED ∷ []) ∷
+    plain N_KEYWORD_TYPE (t T_UNSIGNED ∷ []) ∷
+    plain N_KEYWORD_TYPE (t T_BOOL ∷ []) ∷
+    plain N_KEYWORD_TYPE (t T_COMPLEX ∷ []) ∷
+    plain N_KEYWORD_TYPE (t T_ATOMIC ∷ t T_LEFT_PARENTHESIS ∷ n N_TYPE_NAME ∷ t T_RIGHT_PARENTHESIS ∷ []) ∷
+    plain N_KEYWORD_TYPE (n N_STRUCT_SPEC ∷ []) ∷
+    plain N_KEYWORD_TYPE (n N_ENUM_SPEC ∷ []) ∷
+    plain N_STRUCT_SPEC (n N_STRUCT_WORD ∷ t T_LEFT_BRACE ∷ n N_STRUCT_DECLARATIONS ∷ t T_RIGHT_BRACE ∷ []) ∷
+    plain N_STRUCT_SPEC (n N_STRUCT_WORD ∷ n N_GENERAL_IDENTIFIER ∷ t T_LEFT_BRACE ∷ n N_STRUCT_DECLARATIONS ∷ t T_RIGHT_BRACE ∷ []) ∷
+    plain N_STRUCT_SPEC (n N_STRUCT_WORD ∷ n N_GENERAL_IDENTIFIER ∷ []) ∷
+    plain N_STRUCT_WORD (t T_STRUCT ∷ []) ∷
+    plain N_STRUCT_WORD (t T_UNION ∷ []) ∷
+    plain N_STRUCT_DECLARATIONS (n N_STRUCT_DECLARATION ∷ []) ∷
+    plain N_STRUCT_DECLARATIONS (n N_STRUCT_DECLARATIONS ∷ n N_STRUCT_DECLARATION ∷ []) ∷
+    plain N_STRUCT_DECLARATION (n N_SPEC_QUALS ∷ t T_SEMICOLON ∷ []) ∷
+    plain N_STRUCT_DECLARATION (n N_SPEC_QUALS ∷ n N_STRUCT_DECLARATORS ∷ t T_SEMICOLON ∷ []) ∷
+    plain N_STRUCT_DECLARATION (n N_STATIC_ASSERT ∷ []) ∷
+    plain N_STRUCT_DECLARATORS (n N_STRUCT_DECLARATOR ∷ []) ∷
+    plain N_STRUCT_DECLARATORS (n N_STRUCT_DECLARATORS ∷ t T_COMMA ∷ n N_STRUCT_DECLARATOR ∷ []) ∷
+    plain N_STRUCT_DECLARATOR (n N_DECLARATOR ∷ []) ∷
+    plain N_STRUCT_DECLARATOR (t T_COLON ∷ n N_CONSTANT_EXPRESSION ∷ []) ∷
+    plain N_STRUCT_DECLARATOR (n N_DECLARATOR ∷ t T_COLON ∷ n N_CONSTANT_EXPRESSION ∷ []) ∷
+    plain N_STATIC_ASSERT (t T_STATIC_ASSERT ∷ t T_LEFT_PARENTHESIS ∷ n N_CONSTANT_EXPRESSION ∷ t T_COMMA ∷ n N_STRING_LIST ∷ t T_RIGHT_PARENTHESIS ∷ t T_SEMICOLON ∷ []) ∷
+    plain N_ENUM_SPEC (t T_ENUM ∷ t T_LEFT_BRACE ∷ n N_ENUMERATORS ∷ t T_RIGHT_BRACE ∷ []) ∷
+    plain N_ENUM_SPEC (t T_ENUM ∷ t T_LEFT_BRACE ∷ n N_ENUMERATORS ∷ t T_COMMA ∷ t T_RIGHT_BRACE ∷ []) ∷
+    plain N_ENUM_SPEC (t T_ENUM ∷ n N_GENERAL_IDENTIFIER ∷ t T_LEFT_BRACE ∷ n N_ENUMERATORS ∷ t T_RIGHT_BRACE ∷ []) ∷
+    plain N_ENUM_SPEC (t T_ENUM ∷ n N_GENERAL_IDENTIFIER ∷ t T_LEFT_BRACE ∷ n N_ENUMERATORS ∷ t T_COMMA ∷ t T_RIGHT_BRACE ∷ []) ∷
+    plain N_ENUM_SPEC (t T_ENUM ∷ n N_GENERAL_IDENTIFIER ∷ []) ∷
+    plain N_ENUMERATORS (n N_ENUMERATOR ∷ []) ∷
+    plain N_ENUMERATORS (n N_ENUMERATORS ∷ t T_COMMA ∷ n N_ENUMERATOR ∷ []) ∷
+    marked N_ENUMERATOR (n N_GENERAL_IDENTIFIER ∷ []) BindVariable ∷
+    marked N_ENUMERATOR (n N_GENERAL_IDENTIFIER ∷ t T_ASSIGN ∷ n N_CONSTANT_EXPRESSION ∷ []) BindVariable ∷
+    marked N_VAR_DECLARATOR (n N_DECLARATOR ∷ []) BindVariable ∷
+    plain N_DECLARATOR (n N_DIRECT_DECLARATOR ∷ []) ∷
+    plain N_DECLARATOR (n N_POINTER ∷ n N_DIRECT_DECLARATOR ∷ []) ∷
+    plain N_DIRECT_DECLARATOR (n N_GENERAL_IDENTIFIER ∷ []) ∷
+    marked N_DIRECT_DECLARATOR (n N_POPEN ∷ n N_DECLARATOR ∷ t T_RIGHT_PARENTHESIS ∷ []) Join ∷
+    plain N_DIRECT_DECLARATOR (n N_DIRECT_DECLARATOR ∷ n N_ARRAY_SUFFIX ∷ []) ∷
+    plain N_DIRECT_DECLARATOR (n N_DIRECT_DECLARATOR ∷ n N_PARAM_SUFFIX ∷ []) ∷
+    marked N_DIRECT_DECLARATOR (n N_DIRECT_DECLARATOR ∷ n N_POPEN ∷ n N_IDENTIFIERS ∷ t T_RIGHT_PARENTHESIS ∷ []) Pop ∷
+    plain N_ABSTRACT_DECLARATOR (n N_POINTER ∷ []) ∷
+    plain N_ABSTRACT_DECLARATOR (n N_DIRECT_ABSTRACT ∷ []) ∷
+    plain N_ABSTRACT_DECLARATOR (n N_POINTER ∷ n N_DIRECT_ABSTRACT ∷ []) ∷
+    marked N_DIRECT_ABSTRACT (n N_POPEN ∷ n N_ABSTRACT_DECLARATOR ∷ t T_RIGHT_PARENTHESIS ∷ []) Join ∷
+    plain N_DIRECT_ABSTRACT (n N_ARRAY_SUFFIX ∷ []) ∷
+    plain N_DIRECT_ABSTRACT (n N_PARAM_SUFFIX ∷ []) ∷
+    plain N_DIRECT_ABSTRACT (n N_DIRECT_ABSTRACT ∷ n N_ARRAY_SUFFIX ∷ []) ∷
+    plain N_DIRECT_ABSTRACT (n N_DIRECT_ABSTRACT ∷ n N_PARAM_SUFFIX ∷ []) ∷
+    plain N_POINTER (t T_STAR ∷ []) ∷
+    plain N_POINTER (t T_STAR ∷ n N_TYPE_QUALIFIERS ∷ []) ∷
+    plain N_POINTER (t T_STAR ∷ n N_POINTER ∷ []) ∷
+    plain N_POINTER (t T_STAR ∷ n N_TYPE_QUALIFIERS ∷ n N_POINTER ∷ []) ∷
+    plain N_ARRAY_SUFFIX (t T_LEFT_BRACKET ∷ t T_RIGHT_BRACKET ∷ []) ∷
+    plain N_ARRAY_SUFFIX (t T_LEFT_BRACKET ∷ n N_TYPE_QUALIFIERS ∷ t T_RIGHT_BRACKET ∷ []) ∷
+    plain N_ARRAY_SUFFIX (t T_LEFT_BRACKET ∷ n N_ASSIGNMENT_EXPRESSION ∷ t T_RIGHT_BRACKET ∷ []) ∷
+    plain N_ARRAY_SUFFIX (t T_LEFT_BRACKET ∷ n N_TYPE_QUALIFIERS ∷ n N_ASSIGNMENT_EXPRESSION ∷ t T_RIGHT_BRACKET ∷ []) ∷
+    plain N_ARRAY_SUFFIX (t T_LEFT_BRACKET ∷ t T_STATIC ∷ n N_ASSIGNMENT_EXPRESSION ∷ t T_RIGHT_BRACKET ∷ []) ∷
+    plain N_ARRAY_SUFFIX (t T_LEFT_BRACKET ∷ t T_STATIC ∷ n N_TYPE_QUALIFIERS ∷ n N_ASSIGNMENT_EXPRESSION ∷ t T_RIGHT_BRACKET ∷ []) ∷
+    plain N_ARRAY_SUFFIX (t T_LEFT_BRACKET ∷ n N_TYPE_QUALIFIERS ∷ t T_STATIC ∷ n N_ASSIGNMENT_EXPRESSION ∷ t T_RIGHT_BRACKET ∷ []) ∷
+    plain N_ARRAY_SUFFIX (t T_LEFT_BRACKET ∷ t T_STAR ∷ t T_RIGHT_BRACKET ∷ []) ∷
+    plain N_ARRAY_SUFFIX (t T_LEFT_BRACKET ∷ n N_TYPE_QUALIFIERS ∷ t T_STAR ∷ t T_RIGHT_BRACKET ∷ []) ∷
+    marked N_PARAM_SUFFIX (n N_POPEN ∷ t T_RIGHT_PARENTHESIS ∷ []) Pop ∷
+    marked N_PARAM_SUFFIX (n N_POPEN ∷ n N_PARAMETER_TYPES ∷ t T_RIGHT_PARENTHESIS ∷ []) Pop ∷
+    marked N_POPEN (t T_LEFT_PARENTHESIS ∷ []) Push ∷
+    plain N_INITIALIZERS (n N_INITIALIZER ∷ []) ∷
+    plain N_INITIALIZERS (n N_DESIGNATION ∷ n N_INITIALIZER ∷ []) ∷
+    plain N_INITIALIZERS (n N_INITIALIZERS ∷ t T_COMMA ∷ n N_INITIALIZER ∷ []) ∷
+    plain N_INITIALIZERS (n N_INITIALIZERS ∷ t T_COMMA ∷ n N_DESIGNATION ∷ n N_INITIALIZER ∷ []) ∷
+    plain N_INITIALIZER (n N_ASSIGNMENT_EXPRESSION ∷ []) ∷
+    plain N_INITIALIZER (t T_LEFT_BRACE ∷ n N_INITIALIZERS ∷ t T_RIGHT_BRACE ∷ []) ∷
+    plain N_INITIALIZER (t T_LEFT_BRACE ∷ n N_INITIALIZERS ∷ t T_COMMA ∷ t T_RIGHT_BRACE ∷ []) ∷
+    plain N_DESIGNATION (n N_DESIGNATORS ∷ t T_ASSIGN ∷ []) ∷
+    plain N_DESIGNATORS (n N_DESIGNATOR ∷ []) ∷
+    plain N_DESIGNATORS (n N_DESIGNATORS ∷ n N_DESIGNATOR ∷ []) ∷
+    plain N_DESIGNATOR (t T_LEFT_BRACKET ∷ n N_CONSTANT_EXPRESSION ∷ t T_RIGHT_BRACKET ∷ []) ∷
+    plain N_DESIGNATOR (t T_DOT ∷ n N_GENERAL_IDENTIFIER ∷ []) ∷
+    plain N_ARGUMENTS (n N_ASSIGNMENT_EXPRESSION ∷ []) ∷
+    plain N_ARGUMENTS (n N_ARGUMENTS ∷ t T_COMMA ∷ n N_ASSIGNMENT_EXPRESSION ∷ []) ∷
+    plain N_CONSTANT_EXPRESSION (n N_CONDITIONAL ∷ []) ∷
+    plain N_EXPRESSION (n N_ASSIGNMENT_EXPRESSION ∷ []) ∷
+    plain N_EXPRESSION (n N_EXPRESSION ∷ t T_COMMA ∷ n N_ASSIGNMENT_EXPRESSION ∷ []) ∷
+    plain N_ASSIGNMENT_EXPRESSION (n N_CONDITIONAL ∷ []) ∷
+    plain N_ASSIGNMENT_EXPRESSION (n N_UNARY ∷ n N_ASSIGNMENT_OPERATOR ∷ n N_ASSIGNMENT_EXPRESSION ∷ []) ∷
+    plain N_ASSIGNMENT_OPERATOR (t T_ASSIGN ∷ []) ∷
+    plain N_ASSIGNMENT_OPERATOR (t T_STAR_ASSIGN ∷ []) ∷
+    plain N_ASSIGNMENT_OPERATOR (t T_SLASH_ASSIGN ∷ []) ∷
+    plain N_ASSIGNMENT_OPERATOR (t T_PERCENT_ASSIGN ∷ []) ∷
+    plain N_ASSIGNMENT_OPERATOR (t T_PLUS_ASSIGN ∷ []) ∷
+    plain N_ASSIGNMENT_OPERATOR (t T_MINUS_ASSIGN ∷ []) ∷
+    plain N_ASSIGNMENT_OPERATOR (t T_SHIFT_LEFT_ASSIGN ∷ []) ∷
+    plain N_ASSIGNMENT_OPERATOR (t T_SHIFT_RIGHT_ASSIGN ∷ []) ∷
+    plain N_ASSIGNMENT_OPERATOR (t T_AMPERSAND_ASSIGN ∷ []) ∷
+    plain N_ASSIGNMENT_OPERATOR (t T_CARET_ASSIGN ∷ []) ∷
+    plain N_ASSIGNMENT_OPERATOR (t T_BAR_ASSIGN ∷ []) ∷
+    plain N_CONDITIONAL (n N_LOGICAL_OR ∷ []) ∷
+    plain N_CONDITIONAL (n N_LOGICAL_OR ∷ t T_QUESTION ∷ n N_EXPRESSION ∷ t T_COLON ∷ n N_CONDITIONAL ∷ []) ∷
+    plain N_LOGICAL_OR (n N_LOGICAL_AND ∷ []) ∷
+    plain N_LOGICAL_OR (n N_LOGICAL_OR ∷ t T_OR_OR ∷ n N_LOGICAL_AND ∷ []) ∷
+    plain N_LOGICAL_AND (n N_INCLUSIVE_OR ∷ []) ∷
+    plain N_LOGICAL_AND (n N_LOGICAL_AND ∷ t T_AND_AND ∷ n N_INCLUSIVE_OR ∷ []) ∷
+    plain N_INCLUSIVE_OR (n N_EXCLUSIVE_OR ∷ []) ∷
+    plain N_INCLUSIVE_OR (n N_INCLUSIVE_OR ∷ t T_BAR ∷ n N_EXCLUSIVE_OR ∷ []) ∷
+    plain N_EXCLUSIVE_OR (n N_AND_EXPRESSION ∷ []) ∷
+    plain N_EXCLUSIVE_OR (n N_EXCLUSIVE_OR ∷ t T_CARET ∷ n N_AND_EXPRESSION ∷ []) ∷
+    plain N_AND_EXPRESSION (n N_EQUALITY ∷ []) ∷
+    plain N_AND_EXPRESSION (n N_AND_EXPRESSION ∷ t T_AMPERSAND ∷ n N_EQUALITY ∷ []) ∷
+    plain N_EQUALITY (n N_RELATIONAL ∷ []) ∷
+    plain N_EQUALITY (n N_EQUALITY ∷ t T_EQUAL_EQUAL ∷ n N_RELATIONAL ∷ []) ∷
+    plain N_EQUALITY (n N_EQUALITY ∷ t T_NOT_EQUAL ∷ n N_RELATIONAL ∷ []) ∷
+    plain N_RELATIONAL (n N_SHIFT_EXPRESSION ∷ []) ∷
+    plain N_RELATIONAL (n N_RELATIONAL ∷ t T_LESS ∷ n N_SHIFT_EXPRESSION ∷ []) ∷
+    plain N_RELATIONAL (n N_RELATIONAL ∷ t T_GREATER ∷ n N_SHIFT_EXPRESSION ∷ []) ∷
+    plain N_RELATIONAL (n N_RELATIONAL ∷ t T_LESS_EQUAL ∷ n N_SHIFT_EXPRESSION ∷ []) ∷
+    plain N_RELATIONAL (n N_RELATIONAL ∷ t T_GREATER_EQUAL ∷ n N_SHIFT_EXPRESSION ∷ []) ∷
+    plain N_SHIFT_EXPRESSION (n N_ADDITIVE ∷ []) ∷
+    plain N_SHIFT_EXPRESSION (n N_SHIFT_EXPRESSION ∷ t T_SHIFT_LEFT ∷ n N_ADDITIVE ∷ []) ∷
+    plain N_SHIFT_EXPRESSION (n N_SHIFT_EXPRESSION ∷ t T_SHIFT_RIGHT ∷ n N_ADDITIVE ∷ []) ∷
+    plain N_ADDITIVE (n N_MULTIPLICATIVE ∷ []) ∷
+    plain N_ADDITIVE (n N_ADDITIVE ∷ t T_PLUS ∷ n N_MULTIPLICATIVE ∷ []) ∷
+    plain N_ADDITIVE (n N_ADDITIVE ∷ t T_MINUS ∷ n N_MULTIPLICATIVE ∷ []) ∷
+    plain N_MULTIPLICATIVE (n N_CAST ∷ []) ∷
+    plain N_MULTIPLICATIVE (n N_MULTIPLICATIVE ∷ t T_STAR ∷ n N_CAST ∷ []) ∷
+    plain N_MULTIPLICATIVE (n N_MULTIPLICATIVE ∷ t T_SLASH ∷ n N_CAST ∷ []) ∷
+    plain N_MULTIPLICATIVE (n N_MULTIPLICATIVE ∷ t T_PERCENT ∷ n N_CAST ∷ []) ∷
+    plain N_CAST (n N_UNARY ∷ []) ∷
+    plain N_CAST (t T_LEFT_PARENTHESIS ∷ n N_TYPE_NAME ∷ t T_RIGHT_PARENTHESIS ∷ n N_CAST ∷ []) ∷
+    plain N_UNARY (n N_POSTFIX ∷ []) ∷
+    plain N_UNARY (t T_INCREMENT ∷ n N_UNARY ∷ []) ∷
+    plain N_UNARY (t T_DECREMENT ∷ n N_UNARY ∷ []) ∷
+    plain N_UNARY (n N_UNARY_OPERATOR ∷ n N_CAST ∷ []) ∷
+    plain N_UNARY (t T_SIZEOF ∷ n N_UNARY ∷ []) ∷
+    plain N_UNARY (t T_SIZEOF ∷ t T_LEFT_PARENTHESIS ∷ n N_TYPE_NAME ∷ t T_RIGHT_PARENTHESIS ∷ []) ∷
+    plain N_UNARY (t T_ALIGNOF ∷ t T_LEFT_PARENTHESIS ∷ n N_TYPE_NAME ∷ t T_RIGHT_PARENTHESIS ∷ []) ∷
+    plain N_UNARY_OPERATOR (t T_AMPERSAND ∷ []) ∷
+    plain N_UNARY_OPERATOR (t T_STAR ∷ []) ∷
+    plain N_UNARY_OPERATOR (t T_PLUS ∷ []) ∷
+    plain N_UNARY_OPERATOR (t T_MINUS ∷ []) ∷
+    plain N_UNARY_OPERATOR (t T_TILDE ∷ []) ∷
+    plain N_UNARY_OPERATOR (t T_EXCLAMATION ∷ []) ∷
+    plain N_POSTFIX (n N_PRIMARY ∷ []) ∷
+    plain N_POSTFIX (n N_POSTFIX ∷ t T_LEFT_BRACKET ∷ n N_EXPRESSION ∷ t T_RIGHT_BRACKET ∷ []) ∷
+    plain N_POSTFIX (n N_POSTFIX ∷ t T_LEFT_PARENTHESIS ∷ t T_RIGHT_PARENTHESIS ∷ []) ∷
+    plain N_POSTFIX (n N_POSTFIX ∷ t T_LEFT_PARENTHESIS ∷ n N_ARGUMENTS ∷ t T_RIGHT_PARENTHESIS ∷ []) ∷
+    plain N_POSTFIX (n N_POSTFIX ∷ t T_DOT ∷ n N_GENERAL_IDENTIFIER ∷ []) ∷
+    plain N_POSTFIX (n N_POSTFIX ∷ t T_ARROW ∷ n N_GENERAL_IDENTIFIER ∷ []) ∷
+    plain N_POSTFIX (n N_POSTFIX ∷ t T_INCREMENT ∷ []) ∷
+    plain N_POSTFIX (n N_POSTFIX ∷ t T_DECREMENT ∷ []) ∷
+    plain N_POSTFIX (t T_LEFT_PARENTHESIS ∷ n N_TYPE_NAME ∷ t T_RIGHT_PARENTHESIS ∷ t T_LEFT_BRACE ∷ n N_INITIALIZERS ∷ t T_RIGHT_BRACE ∷ []) ∷
+    plain N_POSTFIX (t T_LEFT_PARENTHESIS ∷ n N_TYPE_NAME ∷ t T_RIGHT_PARENTHESIS ∷ t T_LEFT_BRACE ∷ n N_INITIALIZERS ∷ t T_COMMA ∷ t T_RIGHT_BRACE ∷ []) ∷
+    plain N_PRIMARY (n N_VAR_NAME ∷ []) ∷
+    plain N_PRIMARY (t T_CONSTANT ∷ []) ∷
+    plain N_PRIMARY (n N_STRING_LIST ∷ []) ∷
+    plain N_PRIMARY (t T_LEFT_PARENTHESIS ∷ n N_EXPRESSION ∷ t T_RIGHT_PARENTHESIS ∷ []) ∷
+    plain N_PRIMARY (n N_GENERIC ∷ []) ∷
+    plain N_GENERIC (t T_GENERIC ∷ t T_LEFT_PARENTHESIS ∷ n N_ASSIGNMENT_EXPRESSION ∷ t T_COMMA ∷ n N_ASSOCIATIONS ∷ t T_RIGHT_PARENTHESIS ∷ []) ∷
+    plain N_ASSOCIATIONS (n N_ASSOCIATION ∷ []) ∷
+    plain N_ASSOCIATIONS (n N_ASSOCIATIONS ∷ t T_COMMA ∷ n N_ASSOCIATION ∷ []) ∷
+    plain N_ASSOCIATION (n N_TYPE_NAME ∷ t T_COLON ∷ n N_ASSIGNMENT_EXPRESSION ∷ []) ∷
+    plain N_ASSOCIATION (t T_DEFAULT ∷ t T_COLON ∷ n N_ASSIGNMENT_EXPRESSION ∷ []) ∷
+    plain N_STRING_LIST (t T_STRING ∷ []) ∷
+    plain N_STRING_LIST (n N_STRING_LIST ∷ t T_STRING ∷ []) ∷
+    plain N_GENERAL_IDENTIFIER (n N_TYPEDEF_NAME ∷ []) ∷
+    plain N_GENERAL_IDENTIFIER (n N_VAR_NAME ∷ []) ∷
+    plain N_TYPEDEF_NAME (t T_NAME ∷ t T_TYPE ∷ []) ∷
+    plain N_VAR_NAME (t T_NAME ∷ t T_VARIABLE ∷ []) ∷
+    []

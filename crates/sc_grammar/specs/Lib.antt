@@ -1,0 +1,3 @@
+pub mod C11
+pub mod Production
+pub mod Rules

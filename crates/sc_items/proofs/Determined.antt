@@ -1,0 +1,111 @@
+-- Two lists of the LR(0) states of one grammar are equal.
+use Rattle.std.proofs.Common.{zero, suc, ◌≡◌, ◌<◌, ◌≤◌, ◌⊎◌, ℕ, List, [], ◌∷◌, length, get_or, slice_get, Some, inl, inr, refl, sym, ap, ◌∙◌, subst, arith}
+use Rattle.std.specs.List.{Contains}
+use Rattle.std.proofs.lemmas.Option.{same_Some, slice_get_within}
+use Rattle.std.proofs.lemmas.Bool.{cases_lt}
+use Rattle.sc_model.specs.Tables.{Moved, IsGoto, IsLeastPair, IsStates, Before}
+use Rattle.sc_model.specs.declared.grammar.Grammar.{Grammar}
+use Rattle.sc_items.proofs.Finding.{rising_same, goto_member, before_or_not}
+use Rattle.sc_items.proofs.Opening.{slice_some}
+
+-- the first n states are the same
+abbrev Agree : List (List ℕ) → List (List ℕ) → ℕ → Type 0
+Agree a b n = (i : ℕ) → i < n → slice_get a i ≡ slice_get b i
+
+record Follows (g : Grammar) (a b : List (List ℕ)) (s x n : ℕ) : Type 0 where
+  state : ℕ
+  goto : IsGoto g b s x state
+  same : slice_get b state ≡ slice_get a n
+
+-- a goto in the one list is one in the other, to the same state
+follows : (g : Grammar) (a b : List (List ℕ)) (n s x t : ℕ) → IsStates g a → IsStates g b → Agree a b n → s < n → IsGoto g a s x t → Follows g a b s x t
+follows g a b n s x t p q agree below h =
+    let source_at : slice_get b s ≡ Some h.source = sym (agree s below) ∙ h.source_at in
+    let other = q.closed s x (get_or h.target 0 0) h.source source_at (goto_member g a s x t h) in
+    let k = other.1 in
+    let source_is : k.source ≡ h.source = same_Some k.source h.source (sym k.source_at ∙ source_at) in
+    let to : (v : ℕ) → Contains k.target v → Contains h.target v = λ v w. (h.moved v).1 (subst (λ zs. Moved g zs x v) source_is ((k.moved v).0 w)) in
+    let back : (v : ℕ) → Contains h.target v → Contains k.target v = λ v w. (k.moved v).1 (subst (λ zs. Moved g zs x v) (sym source_is) ((h.moved v).0 w)) in
+    let same : k.target ≡ h.target = rising_same k.target h.target (q.rising other.0 k.target k.target_at) (p.rising t h.target h.target_at) to back in
+    record { state = other.0; goto = k; same = k.target_at ∙ ap (λ zs. Some zs) same ∙ sym h.target_at }
+
+before_cycle : (s x r y : ℕ) → Before s x r y → Before r y s x → ⊥
+before_cycle s x r y (inl u) (inl v) = omega arith
+before_cycle s x r y (inl u) (inr v) = omega (arith, v.0)
+before_cycle s x r y (inr u) (inl v) = omega (arith, u.0)
+before_cycle s x r y (inr u) (inr v) = omega (arith, u.1, v.1)
+
+-- a state that agrees with a state of the first n and stands in the same list is that one
+not_earlier : (g : Grammar) (a b : List (List ℕ)) (n t : ℕ) (kernel : List ℕ) → IsStates g a → Agree a b n → t < n → slice_get a n ≡ Some kernel → slice_get b t ≡ Some kernel → ⊥
+not_earlier g a b n t kernel p agree below at same =
+    let e : t ≡ n = p.different.same t n kernel (agree t below ∙ same) at in
+    omega arith
+
+-- the least pair of a later state of which a pair of an earlier state leads is not after that pair
+later_than : (g : Grammar) (b : List (List ℕ)) (n t s x r y : ℕ) → IsStates g b → IsLeastPair g b n r y → n < t → s < n → IsGoto g b s x t → Before r y s x
+later_than g b n t s x r y q least above below goto =
+    let found = q.found t (omega arith) (slice_get_within b t goto.target goto.target_at) in
+    let first = found.1.1 in
+    let before : Before r y found.0 found.1.0 = q.in_order n t r y found.0 found.1.0 above least first in
+    before_or_not found.0 found.1.0 s x (λ early. first.least s x goto (omega arith) early) r y before
+
+next_same : (g : Grammar) (a b : List (List ℕ)) (n : ℕ) → IsStates g a → IsStates g b → Agree a b n → Agree b a n → 0 < n → n < length a → slice_get b n ≡ slice_get a n
+next_same g a b n p q agree back pos within =
+    let found = p.found n pos within in
+    let s = found.0 in
+    let x = found.1.0 in
+    let least = found.1.1 in
+    let f = follows g a b n s x n p q agree least.earlier least.leads in
+    let kernel = least.leads.target in
+    let kernel_at = least.leads.target_at in
+    go s x least f (cases_lt f.state n) (cases_lt n f.state)
+  where
+    go : (s x : ℕ) → IsLeastPair g a n s x → (f : Follows g a b s x n) → (f.state < n) ⊎ (n ≤ f.state) → (n < f.state) ⊎ (f.state ≤ n) → slice_get b n ≡ slice_get a n
+    go s x least f (inl earlier) other = absurd (not_earlier g a b n f.state least.leads.target p agree earlier least.leads.target_at (f.same ∙ least.leads.target_at))
+    go s x least f (inr u) (inr v) = let e : f.state ≡ n = omega arith in subst (λ z. slice_get b z ≡ slice_get a n) e f.same
+    go s x least f (inr u) (inl later) =
+        let n_in : n < length b = omega (arith, slice_get_within b f.state f.goto.target f.goto.target_at) in
+        let found = q.found n pos n_in in
+        let first = found.1.1 in
+        let earlier : Before found.0 found.1.0 s x = later_than g b n f.state s x found.0 found.1.0 q first later least.earlier f.goto in
+        let h = follows g b a n found.0 found.1.0 n q p back first.earlier first.leads in
+        absurd (wrong found.0 found.1.0 first earlier h (cases_lt h.state n) (cases_lt n h.state))
+      where
+        wrong : (r y : ℕ) → IsLeastPair g b n r y → Before r y s x → (h : Follows g b a r y n) → (h.state < n) ⊎ (n ≤ h.state) → (n < h.state) ⊎ (h.state ≤ n) → ⊥
+        wrong r y first earlier h (inl below) other = not_earlier g b a n h.state first.leads.target q back below first.leads.target_at (h.same ∙ first.leads.target_at)
+        wrong r y first earlier h (inr c) (inr d) = let e : h.state ≡ n = omega arith in least.least r y (subst (λ z. IsGoto g a r y z) e h.goto) first.earlier earlier
+        wrong r y first earlier h (inr c) (inl above) = before_cycle r y s x earlier (later_than g a n h.state r y s x p least above first.earlier h.goto)
+
+first_same : (g : Grammar) (a b : List (List ℕ)) → IsStates g a → IsStates g b → slice_get b 0 ≡ slice_get a 0
+first_same g a b p q =
+    let same : q.first ≡ p.first = rising_same q.first p.first (q.rising 0 q.first q.first_at) (p.rising 0 p.first p.first_at) (λ v w. (p.starts v).1 ((q.starts v).0 w)) (λ v w. (q.starts v).1 ((p.starts v).0 w)) in
+    q.first_at ∙ ap (λ zs. Some zs) same ∙ sym p.first_at
+
+some_within : (a b : List (List ℕ)) (n : ℕ) → n < length a → slice_get b n ≡ slice_get a n → n < length b
+some_within a b n h e = let x = slice_some a n h in slice_get_within b n x.0 (e ∙ x.1)
+
+agrees : (g : Grammar) (a b : List (List ℕ)) → IsStates g a → IsStates g b → (n : ℕ) → n ≤ length a → Agree a b n
+agrees g a b p q zero h = λ i below. absurd (omega (arith, below))
+agrees g a b p q (suc n) h = go (agrees g a b p q n (omega (arith, h))) (cases_lt 0 n)
+  where
+    go : Agree a b n → (0 < n) ⊎ (n ≤ 0) → Agree a b (suc n)
+    go agree (inl pos) = λ i below. elim (cases_lt i n) [ inl u ↦ agree i u | inr u ↦ (let e : n ≡ i = omega arith in subst (λ z. slice_get a z ≡ slice_get b z) e (sym (next_same g a b n p q agree (λ j w. sym (agree j w)) pos (omega (arith, h))))) ]
+    go agree (inr z) = λ i below. (let e : 0 ≡ i = omega arith in subst (λ z. slice_get a z ≡ slice_get b z) e (sym (first_same g a b p q)))
+
+ext : (a b : List (List ℕ)) → length a ≡ length b → Agree a b (length a) → a ≡ b
+ext [] [] h e = refl
+ext [] (y ∷ b) h e = absurd (omega (arith, h))
+ext (x ∷ a) [] h e = absurd (omega (arith, h))
+ext (x ∷ a) (y ∷ b) h e = ap (λ z. z ∷ a) (same_Some x y (e 0 (omega arith))) ∙ ap (λ zs. y ∷ zs) (ext a b (omega (arith, h)) (λ i below. e (suc i) (omega (arith, below))))
+
+no_longer : (g : Grammar) (a b : List (List ℕ)) → IsStates g a → IsStates g b → length a ≤ length b
+no_longer g a b p q = elim (cases_lt (length b) (length a)) [
+  | inl h ↦ (let x = slice_some a (length b) h in absurd (absurd_past (slice_get_within b (length b) x.0 (sym (agrees g a b p q (length a) (omega arith) (length b) h) ∙ x.1))))
+  | inr h ↦ h
+]
+  where
+    absurd_past : length b < length b → ⊥
+    absurd_past h = omega (arith, h)
+
+pub states_same : (g : Grammar) (a b : List (List ℕ)) → IsStates g a → IsStates g b → a ≡ b
+states_same g a b p q = let u = no_longer g a b p q in let v = no_longer g b a q p in ext a b (omega arith) (agrees g a b p q (length a) (omega arith))

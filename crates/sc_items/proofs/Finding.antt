@@ -1,0 +1,306 @@
+-- The states are found in the order of their least pairs.
+use Rattle.std.proofs.Common.{zero, suc, ◌≡◌, ◌↔◌, ◌<◌, ◌≤◌, ◌+◌, ◌⊎◌, ℕ, List, [], ◌∷◌, ◌++◌, length, get_or, slice_get, Some, inl, inr, refl, sym, ap, ◌∙◌, subst, arith}
+use Rattle.std.specs.List.{Contains}
+use Rattle.std.specs.List.Sorted.{IsStrictlyIncreasing, IsStrictlySortedBy}
+use Rattle.std.specs.Ordering.{nat_cmp}
+use Rattle.std.proofs.lemmas.List.{length_push}
+use Rattle.std.proofs.lemmas.List.Elements.{Contains-get_or}
+use Rattle.std.proofs.lemmas.Map.Keys.{below_from_sorted, sorted_from_strictly_increasing, sorted_tail}
+use Rattle.std.proofs.lemmas.Option.{same_Some, slice_get_within, none-some}
+use Rattle.std.proofs.lemmas.Bool.{cases_lt}
+use Rattle.sc_model.specs.Grammar.{IsStart, after}
+use Rattle.sc_model.specs.Tables.{Moved, IsGoto, IsLeastPair, IsStates, Before}
+use Rattle.sc_model.specs.declared.grammar.Grammar.{Grammar}
+use Rattle.sc_items.specs.Found.{Found, FoundAt}
+use Rattle.sc_items.proofs.Listing.{no_member}
+use Rattle.sc_items.proofs.Opening.{slice_get-push_old, slice_get-push_new, slice_get-push_cases}
+
+-- ---- two rising lists with the same members are one
+pub cons_cases : (x v : ℕ) (xs : List ℕ) → Contains (x ∷ xs) v → (x ≡ v) ⊎ Contains xs v
+cons_cases x v xs (zero, h, e) = inl e
+cons_cases x v xs (suc k, h, e) = inr (k, omega (arith, h), e)
+
+pub cons_head : (x : ℕ) (xs : List ℕ) → Contains (x ∷ xs) x
+cons_head x xs = (0, omega arith, refl)
+
+pub cons_tail : (x v : ℕ) (xs : List ℕ) → Contains xs v → Contains (x ∷ xs) v
+cons_tail x v xs h = (suc h.0, omega (arith, h.1), h.2)
+
+pub head_below : (x v : ℕ) (xs : List ℕ) → IsStrictlySortedBy nat_cmp (x ∷ xs) → Contains xs v → x < v
+head_below x v xs sorted h = subst (λ y. x < y) h.2 (below_from_sorted (x ∷ xs) 0 (suc h.0) v sorted (omega arith) (omega (arith, h.1)))
+
+sorted_same : (xs ys : List ℕ) → IsStrictlySortedBy nat_cmp xs → IsStrictlySortedBy nat_cmp ys → ((v : ℕ) → Contains xs v → Contains ys v) → ((v : ℕ) → Contains ys v → Contains xs v) → xs ≡ ys
+sorted_same [] [] p q f h = refl
+sorted_same [] (y ∷ ys) p q f h = absurd (no_member y (h y (cons_head y ys)))
+sorted_same (x ∷ xs) [] p q f h = absurd (no_member x (f x (cons_head x xs)))
+sorted_same (x ∷ xs) (y ∷ ys) p q f h =
+    let heads : x ≡ y = same_heads (cons_cases y x ys (f x (cons_head x xs))) (cons_cases x y xs (h y (cons_head y ys))) in
+    let there : (v : ℕ) → Contains xs v → Contains ys v = λ v w. only_tail y v ys (omega (arith, heads, head_below x v xs p w)) (f v (cons_tail x v xs w)) in
+    let back : (v : ℕ) → Contains ys v → Contains xs v = λ v w. only_tail x v xs (omega (arith, heads, head_below y v ys q w)) (h v (cons_tail y v ys w)) in
+    ap (λ z. z ∷ xs) heads ∙ ap (λ zs. y ∷ zs) (sorted_same xs ys (sorted_tail nat_cmp x xs p) (sorted_tail nat_cmp y ys q) there back)
+  where
+    same_heads : (y ≡ x) ⊎ Contains ys x → (x ≡ y) ⊎ Contains xs y → x ≡ y
+    same_heads (inl e) other = sym e
+    same_heads (inr a) (inl e) = e
+    same_heads (inr a) (inr b) = absurd (omega (arith, head_below y x ys q a, head_below x y xs p b))
+
+    only_tail : (z v : ℕ) (zs : List ℕ) → z < v → Contains (z ∷ zs) v → Contains zs v
+    only_tail z v zs below w = elim (cons_cases z v zs w) [ inl e ↦ absurd (omega arith) | inr a ↦ a ]
+
+pub rising_same : (xs ys : List ℕ) → IsStrictlyIncreasing xs → IsStrictlyIncreasing ys → ((v : ℕ) → Contains xs v → Contains ys v) → ((v : ℕ) → Contains ys v → Contains xs v) → xs ≡ ys
+rising_same xs ys p q f h = sorted_same xs ys (sorted_from_strictly_increasing xs p) (sorted_from_strictly_increasing ys q) f h
+
+-- ---- the order of pairs
+before_next : (r y s x : ℕ) → Before r y s (x + 1) → Before r y s x ⊎ ((r ≡ s) × (y ≡ x))
+before_next r y s x (inl a) = inl (inl a)
+before_next r y s x (inr a) = elim (cases_lt y x) [ inl b ↦ inl (inr (a.0, b)) | inr b ↦ inr (a.0, omega (arith, a.1)) ]
+
+before_later : (r y s x : ℕ) → Before r y s x → Before r y s (x + 1)
+before_later r y s x (inl a) = inl a
+before_later r y s x (inr a) = inr (a.0, omega (arith, a.1))
+
+before_self : (s x : ℕ) → Before s x s (x + 1)
+before_self s x = inr (refl, omega arith)
+
+before_trans : (r y s x p z : ℕ) → Before r y s x → Before s x p z → Before r y p z
+before_trans r y s x p z (inl a) (inl b) = inl (omega arith)
+before_trans r y s x p z (inl a) (inr b) = inl (omega (arith, b.0))
+before_trans r y s x p z (inr a) (inl b) = inl (omega (arith, a.0))
+before_trans r y s x p z (inr a) (inr b) = inr (a.0 ∙ b.0, omega (arith, a.1, b.1))
+
+-- what is not after a pair is before each pair that this one is before
+pub before_from_least : (r y s x p z : ℕ) → (Before s x r y → ⊥) → Before s x p z → Before r y p z
+before_from_least r y s x p z not b = go (cases_lt s r) (cases_lt r s) (cases_lt x y) b
+  where
+    go : (s < r) ⊎ (r ≤ s) → (r < s) ⊎ (s ≤ r) → (x < y) ⊎ (y ≤ x) → Before s x p z → Before r y p z
+    go (inl a) other third b = absurd (not (inl a))
+    go (inr a) (inl c) third (inl b) = inl (omega arith)
+    go (inr a) (inl c) third (inr b) = inl (omega (arith, b.0))
+    go (inr a) (inr c) (inl d) b = absurd (not (inr (omega arith, d)))
+    go (inr a) (inr c) (inr d) (inl b) = inl (omega arith)
+    go (inr a) (inr c) (inr d) (inr b) = inr (omega (arith, b.0), omega (arith, b.1))
+
+pub before_or_not : (s x p z : ℕ) → (Before p z s x → ⊥) → (r y : ℕ) → Before r y s x → Before r y p z
+before_or_not s x p z not r y b = go (cases_lt p s) (cases_lt s p) (cases_lt z x) b
+  where
+    go : (p < s) ⊎ (s ≤ p) → (s < p) ⊎ (p ≤ s) → (z < x) ⊎ (x ≤ z) → Before r y s x → Before r y p z
+    go (inl a) other third b = absurd (not (inl a))
+    go (inr a) (inl c) third (inl b) = inl (omega arith)
+    go (inr a) (inl c) third (inr b) = inl (omega (arith, b.0))
+    go (inr a) (inr c) (inl d) b = absurd (not (inr (omega arith, d)))
+    go (inr a) (inr c) (inr d) (inl b) = inl (omega arith)
+    go (inr a) (inr c) (inr d) (inr b) = inr (omega (arith, b.0), omega (arith, b.1))
+
+before_within : (r y s x : ℕ) → Before r y s x → r ≤ s
+before_within r y s x (inl a) = omega arith
+before_within r y s x (inr a) = omega (arith, a.0)
+
+-- ---- gotos and least pairs when a state is added
+module _ (g : Grammar) (states : List (List ℕ)) (k : List ℕ) where
+  old_at : (i : ℕ) (kernel : List ℕ) → i < length states → slice_get (states ++ k ∷ []) i ≡ Some kernel → slice_get states i ≡ Some kernel
+  old_at i kernel within at = elim (slice_get-push_cases states k kernel i at) [ inl a ↦ a | inr b ↦ absurd (omega (arith, b.0)) ]
+
+  pub goto_push : (s x t : ℕ) → IsGoto g states s x t → IsGoto g (states ++ k ∷ []) s x t
+  goto_push s x t h = record {
+    source = h.source;
+    target = h.target;
+    source_at = slice_get-push_old states k h.source s h.source_at;
+    target_at = slice_get-push_old states k h.target t h.target_at;
+    some = h.some;
+    moved = h.moved;
+  }
+
+  goto_old : (s x t : ℕ) → s < length states → t < length states → IsGoto g (states ++ k ∷ []) s x t → IsGoto g states s x t
+  goto_old s x t a b h = record {
+    source = h.source;
+    target = h.target;
+    source_at = old_at s h.source a h.source_at;
+    target_at = old_at t h.target b h.target_at;
+    some = h.some;
+    moved = h.moved;
+  }
+
+  least_old : (t s x : ℕ) → t < length states → IsLeastPair g (states ++ k ∷ []) t s x → IsLeastPair g states t s x
+  least_old t s x within h = record {
+    leads = goto_old s x t (omega (arith, h.earlier)) within h.leads;
+    earlier = h.earlier;
+    least = λ r y goto lower before. h.least r y (goto_push r y t goto) lower before;
+  }
+
+  least_push : (t s x : ℕ) → t < length states → IsLeastPair g states t s x → IsLeastPair g (states ++ k ∷ []) t s x
+  least_push t s x within h = record {
+    leads = goto_push s x t h.leads;
+    earlier = h.earlier;
+    least = λ r y goto lower before. h.least r y (goto_old r y t (omega arith) within goto) lower before;
+  }
+
+-- a goto has a member
+pub goto_member : (g : Grammar) (states : List (List ℕ)) (s x t : ℕ) (h : IsGoto g states s x t) → Moved g h.source x (get_or h.target 0 0)
+goto_member g states s x t h = (h.moved (get_or h.target 0 0)).0 (Contains-get_or h.target 0 0 h.some)
+
+pub goto_source : (g : Grammar) (states : List (List ℕ)) (s x t : ℕ) (kernel : List ℕ) (h : IsGoto g states s x t) → slice_get states s ≡ Some kernel → h.source ≡ kernel
+goto_source g states s x t kernel h at = same_Some h.source kernel (sym h.source_at ∙ at)
+
+-- a pair before those that are done does not lead to a new state
+new_not_before : (g : Grammar) (states : List (List ℕ)) (k : List ℕ) (s x : ℕ) → Found g states s x → IsStrictlyIncreasing k → ((t : ℕ) → slice_get states t ≡ Some k → ⊥) → (r y : ℕ) → r < length states → Before r y s x → IsGoto g (states ++ k ∷ []) r y (length states) → ⊥
+new_not_before g states k s x f inc new r y r_in before h =
+    let source_at = old_at g states k r h.source r_in h.source_at in
+    let other = f.closed r y (get_or h.target 0 0) h.source before source_at (goto_member g (states ++ k ∷ []) r y (length states) h) in
+    let target_is : h.target ≡ k = same_Some h.target k (sym h.target_at ∙ slice_get-push_new states k) in
+    let source_is : other.1.source ≡ h.source = goto_source g states r y other.0 h.source other.1 source_at in
+    let to : (v : ℕ) → Contains other.1.target v → Contains k v = λ v w. subst (λ zs. Contains zs v) target_is ((h.moved v).1 (subst (λ zs. Moved g zs y v) source_is ((other.1.moved v).0 w))) in
+    let back : (v : ℕ) → Contains k v → Contains other.1.target v = λ v w. (other.1.moved v).1 (subst (λ zs. Moved g zs y v) (sym source_is) ((h.moved v).0 (subst (λ zs. Contains zs v) (sym target_is) w))) in
+    let same : other.1.target ≡ k = rising_same other.1.target k (f.rising other.0 other.1.target other.1.target_at) inc to back in
+    new other.0 (other.1.target_at ∙ ap (λ zs. Some zs) same)
+
+-- ---- the steps of the search
+pub Found-begin : (g : Grammar) (k : List ℕ) → IsStrictlyIncreasing k → ((i : ℕ) → Contains k i → i < length g.entries.now) → ((i : ℕ) → Contains k i ↔ IsStart g i) → Found g (k ∷ []) 0 0
+Found-begin g k inc within starts = record {
+  first = k;
+  first_at = refl;
+  starts = starts;
+  rising = λ r kernel at. subst IsStrictlyIncreasing (only r kernel at).1 inc;
+  within = λ r i kernel at w. within i (subst (λ zs. Contains zs i) (sym (only r kernel at).1) w);
+  different = record { same = λ i j z a b. (only i z a).0 ∙ sym (only j z b).0 };
+  closed = λ r y m kernel before. absurd (nothing_before r y before);
+  found = λ t a b. absurd (omega (arith, a, b));
+  in_order = λ t u r y p z lower a b. absurd (omega (arith, slice_get_within (k ∷ []) u b.leads.target b.leads.target_at));
+}
+  where
+    only : (i : ℕ) (kernel : List ℕ) → slice_get (k ∷ []) i ≡ Some kernel → (i ≡ 0) × (k ≡ kernel)
+    only zero kernel at = (refl, same_Some k kernel at)
+    only (suc i) kernel at = absurd (none-some kernel at)
+
+    nothing_before : (r y : ℕ) → Before r y 0 0 → ⊥
+    nothing_before r y (inl a) = omega arith
+    nothing_before r y (inr a) = omega (arith, a.1)
+
+later_found : (g : Grammar) (states : List (List ℕ)) (t s x : ℕ) → FoundAt g states t s x → FoundAt g states t s (x + 1)
+later_found g states t s x h = record { from = h.from; by = h.by; pair = h.pair; before = before_later h.from h.by s x h.before }
+
+-- the pair leads nowhere
+pub Found-skip : (g : Grammar) (states : List (List ℕ)) (s x : ℕ) (source : List ℕ) → Found g states s x → slice_get states s ≡ Some source → ((m : ℕ) → Moved g source x m → ⊥) → Found g states s (x + 1)
+Found-skip g states s x source f at none = record { first = f.first; first_at = f.first_at; starts = f.starts; rising = f.rising; within = f.within; different = f.different; closed = closed; found = λ t a b. later_found g states t s x (f.found t a b); in_order = f.in_order }
+  where
+    closed : (r y m : ℕ) (kernel : List ℕ) → Before r y s (x + 1) → slice_get states r ≡ Some kernel → Moved g kernel y m → (t : ℕ) × IsGoto g states r y t
+    closed r y m kernel before kernel_at moved = elim (before_next r y s x before) [
+      | inl a ↦ f.closed r y m kernel a kernel_at moved
+      | inr e ↦ (
+          let same : kernel ≡ source = same_Some kernel source (sym kernel_at ∙ subst (λ i. slice_get states i ≡ Some source) (sym e.0) at) in
+          absurd (none m (subst (λ z. Moved g source z m) e.1 (subst (λ zs. Moved g zs y m) same moved))))
+    ]
+
+-- the pair leads to a state that was found before
+pub Found-old : (g : Grammar) (states : List (List ℕ)) (s x t : ℕ) → Found g states s x → IsGoto g states s x t → Found g states s (x + 1)
+Found-old g states s x t f goto = record { first = f.first; first_at = f.first_at; starts = f.starts; rising = f.rising; within = f.within; different = f.different; closed = closed; found = λ u a b. later_found g states u s x (f.found u a b); in_order = f.in_order }
+  where
+    closed : (r y m : ℕ) (kernel : List ℕ) → Before r y s (x + 1) → slice_get states r ≡ Some kernel → Moved g kernel y m → (u : ℕ) × IsGoto g states r y u
+    closed r y m kernel before kernel_at moved = elim (before_next r y s x before) [
+      | inl a ↦ f.closed r y m kernel a kernel_at moved
+      | inr e ↦ (t, subst (λ z. IsGoto g states r z t) (sym e.1) (subst (λ i. IsGoto g states i x t) (sym e.0) goto))
+    ]
+
+-- the pair leads to a new state
+pub Found-new : (g : Grammar) (states : List (List ℕ)) (k : List ℕ) (s x : ℕ) (source : List ℕ) → Found g states s x → slice_get states s ≡ Some source → IsStrictlyIncreasing k → ((i : ℕ) → Contains k i → i < length g.entries.now) → 0 < length k → ((m : ℕ) → Contains k m ↔ Moved g source x m) → ((t : ℕ) → slice_get states t ≡ Some k → ⊥) → Found g (states ++ k ∷ []) s (x + 1)
+Found-new g states k s x source f at inc within some moved new = record {
+  first = f.first;
+  first_at = slice_get-push_old states k f.first 0 f.first_at;
+  starts = f.starts;
+  rising = λ r kernel kernel_at. elim (slice_get-push_cases states k kernel r kernel_at) [ inl a ↦ f.rising r kernel a | inr e ↦ subst IsStrictlyIncreasing e.1 inc ];
+  within = λ r i kernel kernel_at w. elim (slice_get-push_cases states k kernel r kernel_at) [ inl a ↦ f.within r i kernel a w | inr e ↦ within i (subst (λ zs. Contains zs i) (sym e.1) w) ];
+  different = record { same = same };
+  closed = closed;
+  found = found;
+  in_order = in_order;
+}
+  where
+    s_in : s < length states
+    s_in = slice_get_within states s source at
+
+    long : length (states ++ k ∷ []) ≡ length states + 1
+    long = length_push states k
+
+    here : IsGoto g (states ++ k ∷ []) s x (length states)
+    here = record {
+      source = source;
+      target = k;
+      source_at = slice_get-push_old states k source s at;
+      target_at = slice_get-push_new states k;
+      some = some;
+      moved = moved;
+    }
+
+    same : (i j : ℕ) (z : List ℕ) → slice_get (states ++ k ∷ []) i ≡ Some z → slice_get (states ++ k ∷ []) j ≡ Some z → i ≡ j
+    same i j z a b = go (slice_get-push_cases states k z i a) (slice_get-push_cases states k z j b)
+      where
+        go : (slice_get states i ≡ Some z) ⊎ ((i ≡ length states) × (k ≡ z)) → (slice_get states j ≡ Some z) ⊎ ((j ≡ length states) × (k ≡ z)) → i ≡ j
+        go (inl p) (inl q) = f.different.same i j z p q
+        go (inl p) (inr q) = absurd (new i (p ∙ ap (λ zs. Some zs) (sym q.1)))
+        go (inr p) (inl q) = absurd (new j (q ∙ ap (λ zs. Some zs) (sym p.1)))
+        go (inr p) (inr q) = p.0 ∙ sym q.0
+
+    closed : (r y m : ℕ) (kernel : List ℕ) → Before r y s (x + 1) → slice_get (states ++ k ∷ []) r ≡ Some kernel → Moved g kernel y m → (t : ℕ) × IsGoto g (states ++ k ∷ []) r y t
+    closed r y m kernel before kernel_at w = elim (before_next r y s x before) [
+      | inl a ↦ (
+          let old = f.closed r y m kernel a (old_at g states k r kernel (omega (arith, before_within r y s x a, s_in)) kernel_at) w in
+          (old.0, goto_push g states k r y old.0 old.1))
+      | inr e ↦ (length states, subst (λ z. IsGoto g (states ++ k ∷ []) r z (length states)) (sym e.1) (subst (λ i. IsGoto g (states ++ k ∷ []) i x (length states)) (sym e.0) here))
+    ]
+
+    found : (t : ℕ) → 0 < t → t < length (states ++ k ∷ []) → FoundAt g (states ++ k ∷ []) t s (x + 1)
+    found t a b = elim (cases_lt t (length states)) [
+      | inl c ↦ (
+          let old = f.found t a c in
+          record { from = old.from; by = old.by; pair = least_push g states k t old.from old.by c old.pair; before = before_later old.from old.by s x old.before })
+      | inr c ↦ (
+          let e : length states ≡ t = omega (arith, long, b) in
+          subst (λ u. FoundAt g (states ++ k ∷ []) u s (x + 1)) e (record {
+            from = s;
+            by = x;
+            pair = record { leads = here; earlier = s_in; least = λ r y goto lower before. new_not_before g states k s x f inc new r y lower before goto };
+            before = before_self s x;
+          }))
+    ]
+
+    in_order : (t u r y p z : ℕ) → t < u → IsLeastPair g (states ++ k ∷ []) t r y → IsLeastPair g (states ++ k ∷ []) u p z → Before r y p z
+    in_order t u r y p z lower a b =
+        let u_in : u < length (states ++ k ∷ []) = slice_get_within (states ++ k ∷ []) u b.leads.target b.leads.target_at in
+        elim (cases_lt u (length states)) [
+          | inl c ↦ f.in_order t u r y p z lower (least_old g states k t r y (omega arith) a) (least_old g states k u p z c b)
+          | inr c ↦ (
+              let e : u ≡ length states = omega (arith, long, u_in) in
+              let t_in : t < length states = omega (arith, e, lower) in
+              let first = least_old g states k t r y t_in a in
+              let known = f.found t (omega (arith, first.earlier)) t_in in
+              let before_here : Before r y s x = before_from_least r y known.from known.by s x (first.least known.from known.by known.pair.leads known.pair.earlier) known.before in
+              let last : IsGoto g (states ++ k ∷ []) p z (length states) = subst (λ v. IsGoto g (states ++ k ∷ []) p z v) e b.leads in
+              let p_in : p < length states = omega (arith, e, b.earlier) in
+              before_or_not s x p z (λ early. new_not_before g states k s x f inc new p z p_in early last) r y before_here)
+        ]
+
+-- all symbols of the state were tried
+pub Found-next : (g : Grammar) (states : List (List ℕ)) (s n : ℕ) → Found g states s n → ((i x : ℕ) → after g i ≡ Some x → x < n) → Found g states (s + 1) 0
+Found-next g states s n f small = record { first = f.first; first_at = f.first_at; starts = f.starts; rising = f.rising; within = f.within; different = f.different; closed = closed; found = found; in_order = f.in_order }
+  where
+    closed : (r y m : ℕ) (kernel : List ℕ) → Before r y (s + 1) 0 → slice_get states r ≡ Some kernel → Moved g kernel y m → (t : ℕ) × IsGoto g states r y t
+    closed r y m kernel before at moved = f.closed r y m kernel (earlier before) at moved
+      where
+        earlier : Before r y (s + 1) 0 → Before r y s n
+        earlier (inl a) = elim (cases_lt r s) [ inl b ↦ inl b | inr b ↦ inr (omega arith, small moved.from y moved.over) ]
+        earlier (inr a) = absurd (omega (arith, a.1))
+
+    found : (t : ℕ) → 0 < t → t < length states → FoundAt g states t (s + 1) 0
+    found t a b = let old = f.found t a b in record { from = old.from; by = old.by; pair = old.pair; before = inl (omega (arith, before_within old.from old.by s n old.before)) }
+
+-- all states were tried
+pub IsStates-done : (g : Grammar) (states : List (List ℕ)) (s : ℕ) → length states ≤ s → Found g states s 0 → IsStates g states
+IsStates-done g states s all f = record {
+  first = f.first;
+  first_at = f.first_at;
+  starts = f.starts;
+  rising = f.rising;
+  different = f.different;
+  closed = λ r y m kernel at moved. f.closed r y m kernel (inl (omega (arith, slice_get_within states r kernel at))) at moved;
+  found = λ t a b. let h = f.found t a b in (h.from, (h.by, h.pair));
+  in_order = f.in_order;
+}

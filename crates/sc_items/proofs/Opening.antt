@@ -1,0 +1,122 @@
+-- The rows of what each item opens, what is moved over a symbol, and the numbers of kernels.
+use Rattle.std.proofs.Common.{zero, suc, ⊎_elim, ◌≡◌, ◌<◌, ◌+◌, ◌⊎◌, ℕ, List, [], ◌∷◌, ◌++◌, length, get_or, take, slice_get, Some, Vec, inl, inr, refl, sym, ap, ◌∙◌, subst, arith}
+use Rattle.std.specs.List.{Contains}
+use Rattle.std.specs.List.Sorted.{IsStrictlyIncreasing}
+use Rattle.std.specs.declared.alloc.Global.{Global}
+use Rattle.std.proofs.lemmas.List.{length_push}
+use Rattle.std.proofs.lemmas.List.Elements.{Contains-push, Contains-append_left, Contains-push_cases, Contains-get_or}
+use Rattle.std.proofs.lemmas.Option.{same_Some, slice_get_within, slice_get-get_or, option_and_then_some, none-some}
+use Rattle.sc_model.specs.Grammar.{after, begun, left_in, right_in}
+use Rattle.sc_model.specs.declared.grammar.Grammar.{Grammar}
+use Rattle.sc_items.specs.Reach.{Edge, EdgesWithin}
+use Rattle.sc_items.specs.Kernel.{IsListOf, Opens, IsOpened, MovedIn}
+use Rattle.sc_items.proofs.Listing.{no_member, rising-push, rising-none, take-more_cases, take-more_old, take-more_new, take-below}
+
+-- ---- an entry of a list that has grown
+pub slice_get-push_old : {A : Type 0} (xs : List A) (y x : A) (i : ℕ) → slice_get xs i ≡ Some x → slice_get (xs ++ y ∷ []) i ≡ Some x
+slice_get-push_old [] y x i h = absurd (none-some x h)
+slice_get-push_old (z ∷ zs) y x zero h = h
+slice_get-push_old (z ∷ zs) y x (suc i) h = slice_get-push_old zs y x i h
+
+pub slice_get-push_new : {A : Type 0} (xs : List A) (y : A) → slice_get (xs ++ y ∷ []) (length xs) ≡ Some y
+slice_get-push_new [] y = refl
+slice_get-push_new (z ∷ zs) y = slice_get-push_new zs y
+
+pub slice_get-push_cases : {A : Type 0} (xs : List A) (y x : A) (i : ℕ) → slice_get (xs ++ y ∷ []) i ≡ Some x → (slice_get xs i ≡ Some x) ⊎ ((i ≡ length xs) × (y ≡ x))
+slice_get-push_cases [] y x zero h = inr (refl, same_Some y x h)
+slice_get-push_cases [] y x (suc i) h = absurd (none-some x h)
+slice_get-push_cases (z ∷ zs) y x zero h = inl h
+slice_get-push_cases (z ∷ zs) y x (suc i) h = ⊎_elim (λ a. inl a) (λ a. inr (ap suc a.0, a.1)) (slice_get-push_cases zs y x i h)
+
+pub slice_some : {A : Type 0} (xs : List A) (i : ℕ) → i < length xs → (x : A) × (slice_get xs i ≡ Some x)
+slice_some [] i h = absurd (omega (arith, h))
+slice_some (x ∷ xs) zero h = (x, refl)
+slice_some (x ∷ xs) (suc i) h = slice_some xs i (omega (arith, h))
+
+-- ---- what each item opens
+pub record IsOpenedBelow (g : Grammar) (n : ℕ) (rows : List (Vec ℕ Global)) : Type 0 where
+  pub long : length rows ≡ n
+  pub each : (i : ℕ) (row : Vec ℕ Global) → slice_get rows i ≡ Some row → IsListOf (length g.entries.now) (Opens g i) row.items
+
+pub IsOpenedBelow-push : (g : Grammar) (n : ℕ) (rows : List (Vec ℕ Global)) (row : Vec ℕ Global) → IsOpenedBelow g n rows → IsListOf (length g.entries.now) (Opens g n) row.items → IsOpenedBelow g (n + 1) (rows ++ row ∷ [])
+IsOpenedBelow-push g n rows row h one = record {
+  long = length_push rows row ∙ ap (λ k. k + 1) h.long;
+  each = λ i other at. elim (slice_get-push_cases rows row other i at) [
+    | inl a ↦ h.each i other a
+    | inr a ↦ subst (λ (r : Vec ℕ Global). IsListOf (length g.entries.now) (Opens g i) r.items) a.1 (subst (λ k. IsListOf (length g.entries.now) (Opens g k) row.items) (sym (a.0 ∙ h.long)) one)
+  ];
+}
+
+-- an item with something after its dot or its dot at the beginning is one of the entries
+pub begun_within : (g : Grammar) (j x : ℕ) → begun g j ≡ Some x → j < length g.entries.now
+begun_within g j x h = option_and_then_some (left_in g.terminals) (slice_get g.entries.now j) x h (λ entry at is. slice_get_within g.entries.now j entry at)
+
+pub after_within : (g : Grammar) (i x : ℕ) → after g i ≡ Some x → i + 1 < length g.entries.now
+after_within g i x h = option_and_then_some (right_in g.terminals) (slice_get g.entries.now (i + 1)) x h (λ entry at is. slice_get_within g.entries.now (i + 1) entry at)
+
+pub IsOpened-done : (g : Grammar) (n : ℕ) (rows : List (Vec ℕ Global)) → n ≡ length g.entries.now → IsOpenedBelow g n rows → IsOpened g rows
+IsOpened-done g n rows e h = record {
+  long = h.long ∙ e;
+  sound = λ i j edge. (h.each i edge.row edge.row_at).sound j edge.in_row;
+  complete = complete;
+}
+  where
+    complete : (i j : ℕ) → Opens g i j → Edge rows i j
+    complete i j o =
+        let here : i < length rows = omega (arith, h.long, e, after_within g i o.symbol o.over) in
+        let row = slice_some rows i here in
+        record { row = row.0; row_at = row.1; in_row = (h.each i row.0 row.1).complete j (begun_within g j o.symbol o.begins) o }
+
+pub EdgesWithin-done : (g : Grammar) (n : ℕ) (rows : List (Vec ℕ Global)) → n ≡ length g.entries.now → IsOpenedBelow g n rows → EdgesWithin rows
+EdgesWithin-done g n rows e h = record {
+  within = λ i d i_in k y k_in.
+      let row = get_or rows i d in
+      let at : slice_get rows i ≡ Some row = slice_get-get_or rows i d i_in in
+      let below = (h.each i row at).below (get_or row.items k y) (Contains-get_or row.items k y k_in) in
+      omega (arith, below, e, h.long);
+}
+
+-- ---- what is moved over a symbol
+pub record MovedSoFar (g : Grammar) (items : List ℕ) (x : ℕ) (kernel : List ℕ) : Type 0 where
+  pub rising : IsStrictlyIncreasing kernel
+  pub sound : (m : ℕ) → Contains kernel m → MovedIn g items x m
+  pub complete : (m : ℕ) → MovedIn g items x m → Contains kernel m
+
+pub MovedSoFar-none : (g : Grammar) (x : ℕ) → MovedSoFar g [] x []
+MovedSoFar-none g x = record {
+  rising = rising-none;
+  sound = λ m h. absurd (no_member m h);
+  complete = λ m h. absurd (no_member h.from h.within);
+}
+
+pub MovedSoFar-left : (g : Grammar) (items : List ℕ) (x k : ℕ) (kernel : List ℕ) → k < length items → MovedSoFar g (take k items) x kernel → (after g (get_or items k 0) ≡ Some x → ⊥) → MovedSoFar g (take (k + 1) items) x kernel
+MovedSoFar-left g items x k kernel k_in h not = record {
+  rising = h.rising;
+  sound = λ m w. let o = h.sound m w in record { from = o.from; within = take-more_old items k o.from k_in o.within; over = o.over; to = o.to };
+  complete = complete;
+}
+  where
+    complete : (m : ℕ) → MovedIn g (take (k + 1) items) x m → Contains kernel m
+    complete m o = elim (take-more_cases items k o.from k_in o.within) [
+      | inl a ↦ h.complete m (record { from = o.from; within = a; over = o.over; to = o.to })
+      | inr e ↦ absurd (not (subst (λ i. after g i ≡ Some x) (sym e) o.over))
+    ]
+
+pub MovedSoFar-kept : (g : Grammar) (items : List ℕ) (x k : ℕ) (kernel : List ℕ) → IsStrictlyIncreasing items → k < length items → MovedSoFar g (take k items) x kernel → after g (get_or items k 0) ≡ Some x → MovedSoFar g (take (k + 1) items) x (kernel ++ (get_or items k 0 + 1) ∷ [])
+MovedSoFar-kept g items x k kernel inc k_in h over = record {
+  rising = rising-push kernel (get_or items k 0 + 1) h.rising (λ m w. let o = h.sound m w in omega (arith, o.to, take-below items k o.from inc k_in o.within));
+  sound = sound;
+  complete = complete;
+}
+  where
+    sound : (m : ℕ) → Contains (kernel ++ (get_or items k 0 + 1) ∷ []) m → MovedIn g (take (k + 1) items) x m
+    sound m w = elim (Contains-push_cases kernel (get_or items k 0 + 1) m w) [
+      | inl a ↦ (let o = h.sound m a in record { from = o.from; within = take-more_old items k o.from k_in o.within; over = o.over; to = o.to })
+      | inr e ↦ record { from = get_or items k 0; within = take-more_new items k k_in; over = over; to = sym e }
+    ]
+
+    complete : (m : ℕ) → MovedIn g (take (k + 1) items) x m → Contains (kernel ++ (get_or items k 0 + 1) ∷ []) m
+    complete m o = elim (take-more_cases items k o.from k_in o.within) [
+      | inl a ↦ Contains-append_left kernel ((get_or items k 0 + 1) ∷ []) m (h.complete m (record { from = o.from; within = a; over = o.over; to = o.to }))
+      | inr e ↦ subst (Contains (kernel ++ (get_or items k 0 + 1) ∷ [])) (ap (λ i. i + 1) e ∙ sym o.to) (Contains-push kernel (get_or items k 0 + 1))
+    ]

@@ -1,0 +1,19 @@
+//! The LR(0) states of a grammar.
+#![tactic(auto)]
+
+mod automaton;
+mod item;
+mod kernel;
+mod laws;
+mod reach;
+mod search;
+
+pub use automaton::{State, States};
+pub use item::{after, begun, production_at};
+pub use kernel::opened;
+pub use laws::states_are_determined;
+pub use reach::reachable;
+pub use search::states;
+
+#[cfg(test)]
+mod tests;

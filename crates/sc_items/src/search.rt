@@ -1,0 +1,77 @@
+//! The search for the states: from each one found, in order, over each symbol, in order.
+ghost use Rattle.std.specs.Prelude.{◌≡◌, ◌<◌, ◌+◌, ◌↔◌, ℕ, length, IfOk, OnOk, All};
+ghost use Rattle.std.specs.List.Sorted.{IsStrictlyIncreasing};
+ghost use Rattle.sc_model.specs.Grammar.{IsGrammar};
+ghost use Rattle.sc_items.specs.Reach.{EdgesWithin};
+ghost use Rattle.sc_items.specs.Kernel.{IsOpened, lists};
+ghost use Rattle.sc_items.specs.Found.{Found, Keeps, IsStep};
+ghost use Rattle.sc_items.specs.States.{IsState, AreStates};
+
+use crate::kernel::{members, moved, number, opened, start};
+use crate::{State, States, reachable};
+use indexmap::IndexSet;
+use sc_base::OutOfMemory;
+use sc_model::Grammar;
+use std::alloc::Global;
+
+/// The LR(0) states of a grammar.
+pub fn states(alloc: Global, grammar: &Grammar) -> Result<States, OutOfMemory>
+    requires { IsGrammar grammar.now }
+    ensures { IfOk result (AreStates grammar.now) }
+{
+    let opened = opened(alloc, grammar)?;
+    let mut kernels = IndexSet::new(alloc);
+    number(&mut kernels, start(alloc, grammar)?)?;
+    let mut rows = Vec::new(alloc);
+    'search: while rows.len() < kernels.len() {
+        let number = rows.len();
+        rows.push(explored(alloc, grammar, &opened, &mut kernels, number)?)?;
+    }
+    Ok(States { kernels, rows })
+}
+
+/// A state that was found, with all that follows from it.
+fn explored(
+    alloc: Global,
+    grammar: &Grammar,
+    opened: &[Vec<usize>],
+    kernels: &mut IndexSet<Vec<usize>>,
+    state: usize,
+) -> Result<State, OutOfMemory>
+    requires grammar { IsGrammar grammar.now }
+    requires opened { IsOpened grammar.now opened.now }
+    requires edges { EdgesWithin opened.now }
+    requires found { Found grammar.now (lists kernels.old.keys) state 0 }
+    requires state { state < length kernels.old.keys }
+    ensures found { OnOk result (Found grammar.now (lists kernels.new.keys) (state + 1) 0) }
+    ensures keeps { OnOk result (Keeps (lists kernels.old.keys) (lists kernels.new.keys)) }
+    ensures state { IfOk result (IsState grammar.now (lists kernels.new.keys) state) }
+{
+    let items = reachable(alloc, opened, &kernels[state])?;
+    let members = members(alloc, &items)?;
+    let mut gotos = Vec::new(alloc);
+    for symbol in 0..grammar.terminals + grammar.nonterminals {
+        gotos.push(goto(alloc, grammar, &members, symbol, kernels)?)?;
+    }
+    Ok(State { items, gotos })
+}
+
+/// Where the symbol leads from the state with these items.
+fn goto(
+    alloc: Global,
+    grammar: &Grammar,
+    items: &[usize],
+    symbol: usize,
+    kernels: &mut IndexSet<Vec<usize>>,
+) -> Result<Option<usize>, OutOfMemory>
+    requires grammar { IsGrammar grammar.now }
+    requires within { All (λ item. item < length grammar.now.entries.now) items.now }
+    requires rising { IsStrictlyIncreasing items.now }
+    ensures { IfOk result (IsStep grammar.now items.now symbol (lists kernels.old.keys) (lists kernels.new.keys)) }
+{
+    let kernel = moved(alloc, grammar, items, symbol)?;
+    if kernel.is_empty() {
+        return Ok(None);
+    }
+    Ok(Some(number(kernels, kernel)?))
+}

@@ -1,0 +1,99 @@
+-- The rows of what each symbol leads.
+use Rattle.std.proofs.Common.{zero, suc, ◌≡◌, ◌↔◌, ◌<◌, ◌≤◌, ◌+◌, ◌⊎◌, ℕ, Bool, IsTrue, List, [], ◌∷◌, ◌++◌, length, get_or, slice_get, Some, None, All, Vec, inl, inr, refl, sym, ap, ◌∙◌, subst, arith}
+use Rattle.std.specs.List.{Contains}
+use Rattle.std.specs.declared.alloc.Global.{Global}
+use Rattle.std.proofs.lemmas.List.{length_push}
+use Rattle.std.proofs.lemmas.List.Elements.{Contains-push, Contains-append_left, Contains-push_cases, Contains-get_or}
+use Rattle.std.proofs.lemmas.Option.{same_Some, slice_get_within, slice_get-get_or, none-some}
+use Rattle.std.proofs.lemmas.Bool.{cases_lt}
+use Rattle.sc_model.specs.Grammar.{IsGrammar, after, begun}
+use Rattle.sc_model.specs.Tables.{First, itself, derived}
+use Rattle.sc_model.specs.declared.grammar.Grammar.{Grammar}
+use Rattle.sc_items.specs.Reach.{Edge, EdgesWithin, Reaches, start, step, IsReached, marked}
+use Rattle.sc_items.proofs.Listing.{no_member}
+use Rattle.sc_items.proofs.Opening.{slice_get-push_cases, slice_some, begun_within}
+use Rattle.sc_items.proofs.Exploring.{after_small, begun_small}
+use Rattle.sc_lalr.specs.First.{Leads, IsLeading}
+
+-- the symbols that a symbol leads by the first items
+pub record IsLedBelow (g : Grammar) (y n : ℕ) (row : List ℕ) : Type 0 where
+  pub sound : (x : ℕ) → Contains row x → Leads g x y
+  pub complete : (x : ℕ) (l : Leads g x y) → l.item < n → Contains row x
+
+pub IsLedBelow-none : (g : Grammar) (y : ℕ) → IsLedBelow g y 0 []
+IsLedBelow-none g y = record { sound = λ x w. absurd (no_member x w); complete = λ x l h. absurd (omega (arith, h)) }
+
+pub IsLedBelow-skip : (g : Grammar) (y n : ℕ) (row : List ℕ) → IsLedBelow g y n row → ((x : ℕ) → begun g n ≡ Some x → after g n ≡ Some y → ⊥) → IsLedBelow g y (n + 1) row
+IsLedBelow-skip g y n row h not = record {
+  sound = h.sound;
+  complete = λ x l below. elim (cases_lt l.item n) [ inl a ↦ h.complete x l a | inr b ↦ absurd (here x l (same l.item below b)) ];
+}
+  where
+    same : (i : ℕ) → i < n + 1 → n ≤ i → i ≡ n
+    same i a b = omega arith
+
+    here : (x : ℕ) (l : Leads g x y) → l.item ≡ n → ⊥
+    here x l e = not x (subst (λ i. begun g i ≡ Some x) e l.begins) (subst (λ i. after g i ≡ Some y) e l.first)
+
+pub IsLedBelow-push : (g : Grammar) (y n x : ℕ) (row : List ℕ) → IsLedBelow g y n row → begun g n ≡ Some x → after g n ≡ Some y → IsLedBelow g y (n + 1) (row ++ x ∷ [])
+IsLedBelow-push g y n x row h begins first = record { sound = sound; complete = complete }
+  where
+    same : (i : ℕ) → i < n + 1 → n ≤ i → i ≡ n
+    same i a b = omega arith
+
+    sound : (z : ℕ) → Contains (row ++ x ∷ []) z → Leads g z y
+    sound z w = elim (Contains-push_cases row x z w) [ inl a ↦ h.sound z a | inr e ↦ subst (λ v. Leads g v y) e (record { item = n; begins = begins; first = first }) ]
+
+    complete : (z : ℕ) (l : Leads g z y) → l.item < n + 1 → Contains (row ++ x ∷ []) z
+    complete z l below = elim (cases_lt l.item n) [
+      | inl a ↦ Contains-append_left row (x ∷ []) z (h.complete z l a)
+      | inr b ↦ subst (Contains (row ++ x ∷ [])) (same_Some x z (sym begins ∙ subst (λ i. begun g i ≡ Some z) (same l.item below b) l.begins)) (Contains-push row x)
+    ]
+
+-- the rows of the first symbols
+pub record IsLeadingBelow (g : Grammar) (n : ℕ) (rows : List (Vec ℕ Global)) : Type 0 where
+  pub long : length rows ≡ n
+  pub each : (y : ℕ) (row : Vec ℕ Global) → slice_get rows y ≡ Some row → (x : ℕ) → Contains row.items x ↔ Leads g x y
+
+pub IsLeadingBelow-push : (g : Grammar) (n : ℕ) (rows : List (Vec ℕ Global)) (row : Vec ℕ Global) → IsLeadingBelow g n rows → ((x : ℕ) → Contains row.items x ↔ Leads g x n) → IsLeadingBelow g (n + 1) (rows ++ row ∷ [])
+IsLeadingBelow-push g n rows row h one = record {
+  long = length_push rows row ∙ ap (λ k. k + 1) h.long;
+  each = λ y other at x. elim (slice_get-push_cases rows row other y at) [
+    | inl a ↦ h.each y other a x
+    | inr a ↦ subst (λ (r : Vec ℕ Global). Contains r.items x ↔ Leads g x y) a.1 (subst (λ k. Contains row.items x ↔ Leads g x k) (sym (a.0 ∙ h.long)) (one x))
+  ];
+}
+
+pub IsLeading-done : (g : Grammar) (n : ℕ) (rows : List (Vec ℕ Global)) → IsGrammar g → n ≡ g.terminals + g.nonterminals → IsLeadingBelow g n rows → IsLeading g rows
+IsLeading-done g n rows grammar e h = record {
+  long = h.long ∙ e;
+  sound = λ y x edge. (h.each y edge.row edge.row_at x).0 edge.in_row;
+  complete = λ y x l. (
+      let row = slice_some rows y (omega (arith, h.long, e, after_small g l.item y grammar l.first)) in
+      record { row = row.0; row_at = row.1; in_row = (h.each y row.0 row.1 x).1 l });
+}
+
+pub EdgesWithin-done : (g : Grammar) (n : ℕ) (rows : List (Vec ℕ Global)) → IsGrammar g → n ≡ g.terminals + g.nonterminals → IsLeadingBelow g n rows → EdgesWithin rows
+EdgesWithin-done g n rows grammar e h = record {
+  within = λ y d y_in k z k_in.
+      let row = get_or rows y d in
+      let at : slice_get rows y ≡ Some row = slice_get-get_or rows y d y_in in
+      let l = (h.each y row at (get_or row.items k z)).0 (Contains-get_or row.items k z k_in) in
+      omega (arith, begun_small g l.item (get_or row.items k z) grammar l.begins, e, h.long);
+}
+
+-- what a terminal begins is what can be reached from it
+pub first_is : (g : Grammar) (rows : List (Vec ℕ Global)) (t : ℕ) (starts : List ℕ) (marks : List Bool) → IsLeading g rows → starts ≡ t ∷ [] → IsReached rows starts marks → (x : ℕ) → IsTrue (marked marks x) ↔ First g t x
+first_is g rows t starts marks h e r x = (λ m. to x (subst (λ zs. Reaches rows zs x) e (r.sound x m)), λ f. r.complete x (subst (λ zs. Reaches rows zs x) (sym e) (from x f)))
+  where
+    only : (z : ℕ) → Contains (t ∷ []) z → t ≡ z
+    only z (zero, a, b) = b
+    only z (suc k, a, b) = absurd (omega (arith, a))
+
+    to : (z : ℕ) → Reaches rows (t ∷ []) z → First g t z
+    to z (start v w) = subst (First g t) (only v w) itself
+    to z (step u v reaches edge) = let l = h.sound u v edge in derived v l.item u l.begins l.first (to u reaches)
+
+    from : (z : ℕ) → First g t z → Reaches rows (t ∷ []) z
+    from z itself = start t (0, omega arith, refl)
+    from z (derived v i y begins first f) = step y v (from y f) (h.complete y v (record { item = i; begins = begins; first = first }))

@@ -1,0 +1,6 @@
+pub mod Deciding
+pub mod Leading
+pub mod Looking
+pub mod Passing
+pub mod Reducing
+pub mod Tabling

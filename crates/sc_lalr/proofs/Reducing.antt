@@ -1,0 +1,98 @@
+-- The productions that can be reduced, in rising order.
+use Rattle.std.proofs.Common.{zero, suc, ◌≡◌, ◌↔◌, ◌<◌, ◌≤◌, ◌+◌, ◌⊎◌, ℕ, Bool, true, false, cond, IsTrue, List, [], ◌∷◌, ◌++◌, length, get_or, slice_get, take, drop, count_by, option_and_then, Option, Some, None, All, inl, inr, refl, sym, ap, ◌∙◌, subst, arith}
+use Rattle.std.specs.List.{Contains}
+use Rattle.std.specs.List.Sorted.{IsStrictlyIncreasing}
+use Rattle.std.proofs.lemmas.List.{take-append-drop, take-take}
+use Rattle.std.proofs.lemmas.List.Elements.{Contains-push, Contains-append_left, Contains-push_cases, All-contains}
+use Rattle.std.proofs.lemmas.List.Sums.{count_by_more_yes, sum_by-append}
+use Rattle.std.proofs.lemmas.Option.{same_Some, slice_get-get_or, none-some}
+use Rattle.sc_model.specs.Grammar.{after, right_in, is_left, production_at, symbol_number}
+use Rattle.sc_model.specs.declared.grammar.Grammar.{Grammar}
+use Rattle.sc_model.specs.declared.grammar.Entry.{Entry}
+use Rattle.sc_model.specs.declared.grammar.Entry.TheVariants.{Left, Right}
+use Rattle.sc_items.specs.Reach.{marked}
+use Rattle.sc_items.proofs.Opening.{slice_some}
+use Rattle.sc_items.proofs.Listing.{no_member, rising-push, rising-none, take-more_cases, take-more_old, take-more_new, take-below}
+use Rattle.sc_lalr.specs.Tables.{IsMarkedEnd, IsAtEnd}
+
+-- ---- a later item has a later production
+count_take_le : {A : Type 0} (p : A → Bool) (xs : List A) (m n : ℕ) → m ≤ n → count_by p (take m xs) ≤ count_by p (take n xs)
+count_take_le {A} p xs m n h =
+    let split : count_by p (take n xs) ≡ count_by p (take m xs) + count_by p (drop m (take n xs)) =
+    ap (count_by p) (sym (take-append-drop m (take n xs))) ∙ sum_by-append (λ (x : A). cond (p x) 1 0) (take m (take n xs)) (drop m (take n xs)) ∙ ap (λ zs. count_by p zs + count_by p (drop m (take n xs))) (take-take m n xs h) in
+    omega (arith, split)
+
+left_from_none : (t : ℕ) (e : Entry) → right_in t e ≡ None → is_left e ≡ true
+left_from_none t (Left n mark) h = refl
+left_from_none t (Right x) h = absurd (none-some (symbol_number t x) (sym h))
+
+left_next : (g : Grammar) (i : ℕ) (d : Entry) → i + 1 < length g.entries.now → after g i ≡ None → is_left (get_or g.entries.now (i + 1) d) ≡ true
+left_next g i d within h =
+    let at = slice_get-get_or g.entries.now (i + 1) d within in
+    left_from_none g.terminals (get_or g.entries.now (i + 1) d) (sym (ap (λ o. option_and_then (right_in g.terminals) o) at) ∙ h)
+
+production_less : (g : Grammar) (i j : ℕ) → after g i ≡ None → i < j → j < length g.entries.now → production_at g i < production_at g j
+production_less g i j h lower within =
+    let d = get_or g.entries.now j (first_of_list g j within) in
+    let next : i + 1 < length g.entries.now = omega arith in
+    let one = count_by_more_yes is_left g.entries.now (i + 1) d next (left_next g i d next h) in
+    let rest = count_take_le is_left g.entries.now (i + 1 + 1) (j + 1) (omega arith) in
+    omega (arith, one, rest)
+  where
+    first_of_list : (g : Grammar) (j : ℕ) → j < length g.entries.now → Entry
+    first_of_list g j within = (slice_some g.entries.now j within).0
+
+take_member : (xs : List ℕ) (k v : ℕ) → Contains (take k xs) v → Contains xs v
+take_member xs k v h = subst (λ zs. Contains zs v) (take-append-drop k xs) (Contains-append_left (take k xs) (drop k xs) v h)
+
+-- ---- the productions of the first items
+pub record MarkedSoFar (g : Grammar) (marks : List Bool) (base : ℕ) (items found : List ℕ) : Type 0 where
+  pub rising : IsStrictlyIncreasing found
+  pub sound : (p : ℕ) → Contains found p → IsMarkedEnd g marks base items p
+  pub complete : (p : ℕ) → IsMarkedEnd g marks base items p → Contains found p
+
+pub MarkedSoFar-none : (g : Grammar) (marks : List Bool) (base : ℕ) → MarkedSoFar g marks base [] []
+MarkedSoFar-none g marks base = record {
+  rising = rising-none;
+  sound = λ p h. absurd (no_member p h);
+  complete = λ p h. absurd (no_member h.item h.within);
+}
+
+pub MarkedSoFar-left : (g : Grammar) (marks : List Bool) (base k : ℕ) (items found : List ℕ) → k < length items → MarkedSoFar g marks base (take k items) found → (IsTrue (marked marks (base + get_or items k 0)) → ⊥) → MarkedSoFar g marks base (take (k + 1) items) found
+MarkedSoFar-left g marks base k items found k_in h not = record {
+  rising = h.rising;
+  sound = λ p w. let o = h.sound p w in record { item = o.item; within = take-more_old items k o.item k_in o.within; is_marked = o.is_marked; production = o.production };
+  complete = complete;
+}
+  where
+    complete : (p : ℕ) → IsMarkedEnd g marks base (take (k + 1) items) p → Contains found p
+    complete p o = elim (take-more_cases items k o.item k_in o.within) [
+      | inl a ↦ h.complete p (record { item = o.item; within = a; is_marked = o.is_marked; production = o.production })
+      | inr e ↦ absurd (not (subst (λ i. IsTrue (marked marks (base + i))) (sym e) o.is_marked))
+    ]
+
+pub MarkedSoFar-kept : (g : Grammar) (marks : List Bool) (base k : ℕ) (items found : List ℕ) → IsStrictlyIncreasing items → All (λ i. i < length g.entries.now) items → All (IsAtEnd g) items → k < length items → MarkedSoFar g marks base (take k items) found → IsTrue (marked marks (base + get_or items k 0)) → MarkedSoFar g marks base (take (k + 1) items) (found ++ production_at g (get_or items k 0) ∷ [])
+MarkedSoFar-kept g marks base k items found inc within ends k_in h is_marked = record {
+  rising = rising-push found (production_at g (get_or items k 0)) h.rising below;
+  sound = sound;
+  complete = complete;
+}
+  where
+    below : (p : ℕ) → Contains found p → p < production_at g (get_or items k 0)
+    below p w =
+        let o = h.sound p w in
+        let end = All-contains (IsAtEnd g) items o.item ends (take_member items k o.item o.within) in
+        let less = production_less g o.item (get_or items k 0) end.none (take-below items k o.item inc k_in o.within) (within k 0 k_in) in
+        omega (arith, less, o.production)
+
+    sound : (p : ℕ) → Contains (found ++ production_at g (get_or items k 0) ∷ []) p → IsMarkedEnd g marks base (take (k + 1) items) p
+    sound p w = elim (Contains-push_cases found (production_at g (get_or items k 0)) p w) [
+      | inl a ↦ (let o = h.sound p a in record { item = o.item; within = take-more_old items k o.item k_in o.within; is_marked = o.is_marked; production = o.production })
+      | inr e ↦ record { item = get_or items k 0; within = take-more_new items k k_in; is_marked = is_marked; production = e }
+    ]
+
+    complete : (p : ℕ) → IsMarkedEnd g marks base (take (k + 1) items) p → Contains (found ++ production_at g (get_or items k 0) ∷ []) p
+    complete p o = elim (take-more_cases items k o.item k_in o.within) [
+      | inl a ↦ Contains-append_left found (production_at g (get_or items k 0) ∷ []) p (h.complete p (record { item = o.item; within = a; is_marked = o.is_marked; production = o.production }))
+      | inr e ↦ subst (Contains (found ++ production_at g (get_or items k 0) ∷ [])) (ap (production_at g) e ∙ o.production) (Contains-push found (production_at g (get_or items k 0)))
+    ]

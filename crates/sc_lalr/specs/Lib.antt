@@ -1,0 +1,4 @@
+pub mod Building
+pub mod First
+pub mod Propagation
+pub mod Tables

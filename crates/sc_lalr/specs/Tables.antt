@@ -1,0 +1,78 @@
+-- The tables as the code keeps them.
+use Rattle.std.specs.Prelude.{◌≡◌, ◌↔◌, ◌<◌, ◌+◌, ◌*◌, ℕ, Bool, IsTrue, List, [], ◌∷◌, length, slice_get, map, Option, Some, None, MatchOption, option_and_then, Vec}
+use Rattle.std.specs.List.{Contains}
+use Rattle.std.specs.List.Sorted.{IsStrictlyIncreasing}
+use Rattle.std.specs.declared.alloc.Global.{Global}
+use Rattle.sc_model.specs.Grammar.{after, production_at}
+use Rattle.sc_model.specs.Tables.{IsStates, IsGoto, IsAction, IsConflict, ConflictBefore}
+use Rattle.sc_model.specs.declared.grammar.Grammar.{Grammar}
+use Rattle.sc_model.specs.declared.grammar.Action.{Action}
+use Rattle.sc_model.specs.declared.grammar.Action.TheVariants.{Shift, Reduce}
+use Rattle.sc_model.specs.declared.grammar.Conflict.{Conflict}
+use Rattle.sc_items.specs.Reach.{marked}
+use Rattle.sc_items.specs.States.{HasItem, NoGoto}
+use Rattle.sc_lalr.specs.declared.tables.Tables.{Tables}
+
+-- the entry of a row, where there is one
+abbrev pub entry : {A : Type 0} → List (Vec (Option A) Global) → ℕ → ℕ → Option A
+entry {A} rows s x = option_and_then (λ (row : Vec (Option A) Global). option_and_then (λ (e : Option A). e) (slice_get row.items x)) (slice_get rows s)
+
+abbrev pub action_of : Tables → ℕ → ℕ → Option Action
+action_of tables s t = entry tables.actions.items s t
+
+abbrev pub goto_of : Tables → ℕ → ℕ → Option ℕ
+goto_of tables s n = entry tables.gotos.items s n
+
+abbrev pub conflicts_of : Tables → List Conflict
+conflicts_of tables = tables.conflicts.items
+
+-- each conflict is before all later ones
+pub record InOrder (conflicts : List Conflict) : Type 0 where
+  pub before : (i j : ℕ) (c d : Conflict) → i < j → slice_get conflicts i ≡ Some c → slice_get conflicts j ≡ Some d → ConflictBefore c d
+
+-- These are the LALR(1) tables of the grammar: with its states, numbered as they are found, each action, goto and
+-- conflict of theirs and no other, the conflicts in order.
+pub record AreTables (g : Grammar) (tables : Tables) : Type 0 where
+  pub states : List (List ℕ)
+  pub are_states : IsStates g states
+  pub action : (s t : ℕ) → t < g.terminals → IsAction g states s t (action_of tables s t)
+  pub goto : (s n : ℕ) → n < g.nonterminals → MatchOption (goto_of tables s n) (NoGoto g states s (g.terminals + n)) (IsGoto g states s (g.terminals + n))
+  pub conflict : (c : Conflict) → Contains (conflicts_of tables) c ↔ IsConflict g states c
+  pub in_order : InOrder (conflicts_of tables)
+
+-- the item stands in the state, its dot at the end
+pub record EndsIn (g : Grammar) (states : List (List ℕ)) (s i : ℕ) : Type 0 where
+  pub has : HasItem g states s i
+  pub at_end : after g i ≡ None
+
+-- one of the items is marked, and ends this production
+pub record IsMarkedEnd (g : Grammar) (marks : List Bool) (base : ℕ) (items : List ℕ) (p : ℕ) : Type 0 where
+  pub item : ℕ
+  pub within : Contains items item
+  pub is_marked : IsTrue (marked marks (base + item))
+  pub production : production_at g item ≡ p
+
+-- the action that is kept, of a shift and of reductions by rising productions
+abbrev pub kept_of : Option ℕ → List ℕ → Option Action
+kept_of (Some r) productions = Some (Shift r)
+kept_of None [] = None
+kept_of None (p ∷ ps) = Some (Reduce p)
+
+-- the reductions that are lost
+abbrev pub lost_of : Option ℕ → List ℕ → List ℕ
+lost_of (Some r) productions = productions
+lost_of None [] = []
+lost_of None (p ∷ ps) = ps
+
+abbrev pub conflict_at : ℕ → ℕ → Action → ℕ → Conflict
+conflict_at s t kept p = record { state = s; terminal = record { 0 = t }; kept = kept; lost = p }
+
+-- the conflicts of one state at one terminal
+abbrev pub conflicts_at : ℕ → ℕ → Option ℕ → List ℕ → List Conflict
+conflicts_at s t (Some r) productions = map (conflict_at s t (Shift r)) productions
+conflicts_at s t None [] = []
+conflicts_at s t None (p ∷ ps) = map (conflict_at s t (Reduce p)) ps
+
+-- the dot of the item stands at the end
+pub record IsAtEnd (g : Grammar) (i : ℕ) : Type 0 where
+  pub none : after g i ≡ None

@@ -1,0 +1,16 @@
+//! The LALR(1) tables of a grammar.
+#![tactic(auto)]
+
+mod conflict;
+mod construction;
+mod first;
+mod lookahead;
+mod propagation;
+mod reduction;
+mod tables;
+
+pub use construction::build;
+pub use tables::Tables;
+
+#[cfg(test)]
+mod tests;
