@@ -1,5 +1,5 @@
 -- Which action is kept, and which are lost.
-use Rattle.std.proofs.Common.{zero, suc, ◌≡◌, ◌↔◌, ◌<◌, ◌≤◌, ◌+◌, ◌*◌, ◌⊎◌, ℕ, Bool, IsTrue, List, [], ◌∷◌, ◌++◌, length, get_or, slice_get, map, zero-add, Option, Some, None, MatchOption, Vec, inl, inr, refl, sym, ap, ◌∙◌, subst, arith}
+use Rattle.std.proofs.Common.{zero, suc, ◌≡◌, ◌↔◌, ◌<◌, ◌≤◌, ◌+◌, ◌*◌, ◌⊎◌, ℕ, Bool, List, [], ◌∷◌, ◌++◌, length, slice_get, map, zero-add, Option, Some, None, MatchOption, Vec, inl, inr, refl, sym, ap, ◌∙◌, subst, arith}
 use Rattle.std.specs.List.{Contains}
 use Rattle.std.specs.Option.{option_map}
 use Rattle.std.specs.List.Sorted.{IsStrictlyIncreasing, IsStrictlySortedBy}
@@ -10,22 +10,19 @@ use Rattle.std.proofs.lemmas.List.Elements.{Contains-append_left, Contains-appen
 use Rattle.std.proofs.lemmas.Map.Keys.{below_from_sorted, sorted_from_strictly_increasing, sorted_tail}
 use Rattle.std.proofs.lemmas.Option.{same_Some, slice_get_within, slice_get-map, get_or_from_slice_get, none-some}
 use Rattle.std.proofs.lemmas.Bool.{cases_lt}
-use Rattle.sc_model.specs.Grammar.{after, Ends, production_at}
-use Rattle.sc_model.specs.Tables.{IsStates, IsGoto, Lookahead, CanReduce, IsAction, shifts, reduces, none, IsConflict, Before, ConflictBefore}
+use Rattle.sc_model.specs.Tables.{IsStates, IsGoto, CanReduce, IsAction, shifts, reduces, none, IsConflict, Before, ConflictBefore}
 use Rattle.sc_model.specs.declared.grammar.Grammar.{Grammar}
-use Rattle.sc_model.specs.declared.grammar.Terminal.{Terminal}
 use Rattle.sc_model.specs.declared.grammar.Action.{Action}
 use Rattle.sc_model.specs.declared.grammar.Action.TheVariants.{Shift, Reduce}
 use Rattle.sc_model.specs.declared.grammar.Conflict.{Conflict}
-use Rattle.sc_items.specs.Reach.{marked}
 use Rattle.sc_items.specs.Kernel.{IsListOf}
-use Rattle.sc_items.specs.States.{HasItem, NoGoto}
+use Rattle.sc_items.specs.States.{NoGoto}
 use Rattle.sc_items.proofs.Listing.{no_member}
 use Rattle.sc_items.proofs.Finding.{cons_cases, cons_head, cons_tail, head_below}
 use Rattle.sc_items.proofs.Opening.{slice_get-push_cases}
 use Rattle.sc_lalr.specs.Propagation.{AreLookaheads}
 use Rattle.sc_lalr.specs.Tables.{EndsIn, IsMarkedEnd, InOrder, kept_of, conflict_at, conflicts_at}
-use Rattle.sc_lalr.specs.Building.{AreActions, AreGotos, AreConflicts}
+use Rattle.sc_lalr.specs.Building.{AreActions, AreConflicts}
 use Rattle.sc_lalr.proofs.Passing.{goto_unique}
 use Rattle.sc_lalr.proofs.Looking.{lookahead_has}
 

@@ -1,17 +1,17 @@
 -- The rows of what each symbol leads.
-use Rattle.std.proofs.Common.{zero, suc, ◌≡◌, ◌↔◌, ◌<◌, ◌≤◌, ◌+◌, ◌⊎◌, ℕ, Bool, IsTrue, List, [], ◌∷◌, ◌++◌, length, get_or, slice_get, Some, None, All, Vec, inl, inr, refl, sym, ap, ◌∙◌, subst, arith}
+use Rattle.std.proofs.Common.{zero, suc, ◌≡◌, ◌↔◌, ◌<◌, ◌≤◌, ◌+◌, ℕ, Bool, IsTrue, List, [], ◌∷◌, ◌++◌, length, get_or, slice_get, Some, Vec, inl, inr, refl, sym, ap, ◌∙◌, subst, arith}
 use Rattle.std.specs.List.{Contains}
 use Rattle.std.specs.declared.alloc.Global.{Global}
 use Rattle.std.proofs.lemmas.List.{length_push}
 use Rattle.std.proofs.lemmas.List.Elements.{Contains-push, Contains-append_left, Contains-push_cases, Contains-get_or}
-use Rattle.std.proofs.lemmas.Option.{same_Some, slice_get_within, slice_get-get_or, none-some}
+use Rattle.std.proofs.lemmas.Option.{same_Some, slice_get-get_or}
 use Rattle.std.proofs.lemmas.Bool.{cases_lt}
 use Rattle.sc_model.specs.Grammar.{IsGrammar, after, begun}
 use Rattle.sc_model.specs.Tables.{First, itself, derived}
 use Rattle.sc_model.specs.declared.grammar.Grammar.{Grammar}
-use Rattle.sc_items.specs.Reach.{Edge, EdgesWithin, Reaches, start, step, IsReached, marked}
+use Rattle.sc_items.specs.Reach.{EdgesWithin, Reaches, start, step, IsReached, marked}
 use Rattle.sc_items.proofs.Listing.{no_member}
-use Rattle.sc_items.proofs.Opening.{slice_get-push_cases, slice_some, begun_within}
+use Rattle.sc_items.proofs.Opening.{slice_get-push_cases, slice_some}
 use Rattle.sc_items.proofs.Exploring.{after_small, begun_small}
 use Rattle.sc_lalr.specs.First.{Leads, IsLeading}
 

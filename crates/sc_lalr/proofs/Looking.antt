@@ -1,21 +1,20 @@
 -- Lookaheads are what can be reached from the spontaneous ones.
-use Rattle.std.proofs.Common.{zero, suc, ◌≡◌, ◌↔◌, ◌<◌, ◌≤◌, ◌+◌, ◌*◌, ◌/◌, ◌%◌, ◌^◌, ◌⊎◌, ℕ, Bool, true, false, cond, IsTrue, List, [], ◌∷◌, ◌++◌, length, get_or, slice_get, map, Option, Some, None, All, Vec, inl, inr, refl, sym, ap, ◌∙◌, subst, arith, mul-le-mul_left}
+use Rattle.std.proofs.Common.{◌≡◌, ◌↔◌, ◌<◌, ◌+◌, ◌*◌, ◌/◌, ◌%◌, ◌^◌, ℕ, Bool, true, false, cond, IsTrue, List, [], ◌∷◌, ◌++◌, length, slice_get, map, Option, Some, None, Vec, inl, inr, refl, sym, ap, ◌∙◌, subst, arith, mul-le-mul_left}
 use Rattle.std.specs.List.{Contains, flat_map}
 use Rattle.std.specs.Option.{option_map_or}
 use Rattle.std.specs.declared.alloc.Global.{Global}
 use Rattle.std.proofs.lemmas.List.{length_push}
-use Rattle.std.proofs.lemmas.Option.{same_Some, slice_get_within, none-some}
-use Rattle.std.proofs.lemmas.Nat.{mul-add-lt, div-add-mod', mod_below, div_below}
-use Rattle.std.proofs.lemmas.Bool.{false≢true}
-use Rattle.sc_model.specs.Grammar.{IsGrammar, after, begun}
-use Rattle.sc_model.specs.Tables.{Closure, opened as closure_opened, given as closure_given, IsGoto, First, Lookahead, spontaneous, opened, moved}
+use Rattle.std.proofs.lemmas.Option.{same_Some, slice_get_within}
+use Rattle.std.proofs.lemmas.Nat.{mul-add-lt, div_below}
+use Rattle.sc_model.specs.Grammar.{after}
+use Rattle.sc_model.specs.Tables.{Closure, opened as closure_opened, given as closure_given, First, Lookahead, spontaneous, opened, moved}
 use Rattle.sc_model.specs.declared.grammar.Grammar.{Grammar}
 use Rattle.sc_items.specs.Reach.{Edge, Reaches, start, step, IsReached, marked}
 use Rattle.sc_items.specs.Kernel.{IsListOf, IsOpened, Opens}
 use Rattle.sc_items.specs.States.{HasItem}
 use Rattle.sc_items.proofs.Listing.{no_member}
 use Rattle.sc_items.proofs.Opening.{slice_get-push_cases, slice_some, begun_within, after_within}
-use Rattle.sc_lalr.specs.Propagation.{IsNode, Passes, along, into, PassesTo, IsPropagation, IsSource, SeededBy, IsSpontaneous, AreLookaheads, NodeFits, row_at, seed_part}
+use Rattle.sc_lalr.specs.Propagation.{IsNode, Passes, along, into, PassesTo, IsPropagation, IsSource, IsSpontaneous, NodeFits, row_at, seed_part}
 use Rattle.sc_lalr.proofs.Passing.{node_same, node_at, some_entries, map_to, map_from, flat_to, flat_from, row_opens}
 
 -- ---- what one node seeds

@@ -1,22 +1,21 @@
 -- How lookaheads are passed on.
-use Rattle.std.proofs.Common.{zero, suc, ◌≡◌, ◌↔◌, ◌<◌, ◌≤◌, ◌+◌, ◌*◌, ◌/◌, ◌%◌, ◌⊎◌, ℕ, Bool, true, false, cond, IsTrue, List, [], ◌∷◌, ◌++◌, length, get_or, slice_get, map, Option, Some, None, MatchOption, All, Vec, inl, inr, refl, sym, ap, ◌∙◌, subst, arith}
+use Rattle.std.proofs.Common.{zero, suc, ◌≡◌, ◌↔◌, ◌<◌, ◌≤◌, ◌+◌, ◌*◌, ◌/◌, ◌%◌, ◌⊎◌, ℕ, List, [], ◌∷◌, ◌++◌, length, get_or, slice_get, map, Option, Some, None, MatchOption, Vec, inl, inr, refl, sym, ap, ◌∙◌, subst, arith}
 use Rattle.std.specs.List.{Contains, flat_map}
 use Rattle.std.specs.declared.alloc.Global.{Global}
 use Rattle.std.proofs.lemmas.List.{length_push}
-use Rattle.std.proofs.lemmas.List.Elements.{Contains-append_left, Contains-append_right, Contains-append_cases, Contains-push_cases, Contains-get_or}
+use Rattle.std.proofs.lemmas.List.Elements.{Contains-append_left, Contains-append_right, Contains-append_cases, Contains-get_or}
 use Rattle.std.proofs.lemmas.Option.{same_Some, slice_get_within, slice_get-get_or, none-some}
-use Rattle.std.proofs.lemmas.Nat.{same_from_place, mul-add-lt, div-add-mod', mod_below, div_below}
-use Rattle.std.proofs.lemmas.Bool.{false≢true}
-use Rattle.sc_model.specs.Grammar.{IsGrammar, after, begun}
-use Rattle.sc_model.specs.Tables.{Closure, opened as closure_opened, given as closure_given, Moved, IsGoto, IsStates, First, Lookahead, spontaneous, opened, moved}
+use Rattle.std.proofs.lemmas.Nat.{same_from_place, mul-add-lt, div-add-mod', mod_below}
+use Rattle.sc_model.specs.Grammar.{after, begun}
+use Rattle.sc_model.specs.Tables.{Moved, IsGoto, IsStates}
 use Rattle.sc_model.specs.declared.grammar.Grammar.{Grammar}
-use Rattle.sc_items.specs.Reach.{Edge, EdgesWithin, Reaches, start, step, IsReached, marked}
-use Rattle.sc_items.specs.Kernel.{IsListOf, IsOpened, Opens}
+use Rattle.sc_items.specs.Reach.{EdgesWithin}
+use Rattle.sc_items.specs.Kernel.{IsOpened, Opens}
 use Rattle.sc_items.specs.States.{HasItem, NoGoto}
 use Rattle.sc_items.proofs.Listing.{no_member}
 use Rattle.sc_items.proofs.Finding.{rising_same}
-use Rattle.sc_items.proofs.Opening.{slice_get-push_cases, slice_some, begun_within, after_within}
-use Rattle.sc_lalr.specs.Propagation.{IsNode, Passes, along, into, PassesTo, IsPropagation, IsSource, SeededBy, IsSpontaneous, AreLookaheads, along_part, into_part, row_at, seed_part}
+use Rattle.sc_items.proofs.Opening.{slice_get-push_cases, begun_within, after_within}
+use Rattle.sc_lalr.specs.Propagation.{IsNode, Passes, along, into, PassesTo, IsPropagation, along_part, into_part}
 
 -- ---- nodes
 pub node_same : (n u s i r j : ℕ) → IsNode n u s i → IsNode n u r j → (s ≡ r) × (i ≡ j)

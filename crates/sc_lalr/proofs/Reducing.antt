@@ -1,11 +1,11 @@
 -- The productions that can be reduced, in rising order.
-use Rattle.std.proofs.Common.{zero, suc, ◌≡◌, ◌↔◌, ◌<◌, ◌≤◌, ◌+◌, ◌⊎◌, ℕ, Bool, true, false, cond, IsTrue, List, [], ◌∷◌, ◌++◌, length, get_or, slice_get, take, drop, count_by, option_and_then, Option, Some, None, All, inl, inr, refl, sym, ap, ◌∙◌, subst, arith}
+use Rattle.std.proofs.Common.{◌≡◌, ◌<◌, ◌≤◌, ◌+◌, ℕ, Bool, true, cond, IsTrue, List, [], ◌∷◌, ◌++◌, length, get_or, take, drop, count_by, option_and_then, None, All, inl, inr, refl, sym, ap, ◌∙◌, subst, arith}
 use Rattle.std.specs.List.{Contains}
 use Rattle.std.specs.List.Sorted.{IsStrictlyIncreasing}
 use Rattle.std.proofs.lemmas.List.{take-append-drop, take-take}
 use Rattle.std.proofs.lemmas.List.Elements.{Contains-push, Contains-append_left, Contains-push_cases, All-contains}
 use Rattle.std.proofs.lemmas.List.Sums.{count_by_more_yes, sum_by-append}
-use Rattle.std.proofs.lemmas.Option.{same_Some, slice_get-get_or, none-some}
+use Rattle.std.proofs.lemmas.Option.{slice_get-get_or, none-some}
 use Rattle.sc_model.specs.Grammar.{after, right_in, is_left, production_at, symbol_number}
 use Rattle.sc_model.specs.declared.grammar.Grammar.{Grammar}
 use Rattle.sc_model.specs.declared.grammar.Entry.{Entry}

@@ -1,17 +1,15 @@
 -- The tables from their rows.
-use Rattle.std.proofs.Common.{◌≡◌, ◌↔◌, ◌<◌, ◌≤◌, ◌+◌, ◌⊎◌, ℕ, List, [], ◌∷◌, ◌++◌, length, slice_get, Option, Some, None, MatchOption, option_and_then, Vec, inl, inr, refl, sym, ap, ◌∙◌, subst, arith}
-use Rattle.std.specs.List.{Contains}
+use Rattle.std.proofs.Common.{◌≡◌, ◌<◌, ◌+◌, ℕ, List, [], ◌∷◌, ◌++◌, length, slice_get, Option, Some, None, MatchOption, option_and_then, Vec, inl, inr, refl, sym, ap, ◌∙◌, subst, arith}
 use Rattle.std.specs.declared.alloc.Global.{Global}
 use Rattle.std.proofs.lemmas.List.{length_push}
 use Rattle.std.proofs.lemmas.Option.{slice_get_within, none-some}
-use Rattle.sc_model.specs.Tables.{IsStates, IsGoto, IsAction, none, CanReduce, IsConflict, Before}
+use Rattle.sc_model.specs.Tables.{IsStates, IsGoto, IsAction, none, CanReduce, Before}
 use Rattle.sc_model.specs.declared.grammar.Grammar.{Grammar}
 use Rattle.sc_model.specs.declared.grammar.Action.{Action}
 use Rattle.sc_model.specs.declared.grammar.Conflict.{Conflict}
 use Rattle.sc_items.specs.States.{NoGoto}
-use Rattle.sc_items.proofs.Listing.{no_member}
 use Rattle.sc_items.proofs.Opening.{slice_get-push_cases, slice_some}
-use Rattle.sc_lalr.specs.Tables.{AreTables, InOrder, entry, action_of, goto_of}
+use Rattle.sc_lalr.specs.Tables.{AreTables, entry, action_of, goto_of}
 use Rattle.sc_lalr.specs.Building.{AreActions, AreGotos, AreConflicts}
 use Rattle.sc_lalr.specs.declared.tables.Tables.{Tables}
 use Rattle.sc_lalr.proofs.Looking.{lookahead_has}

@@ -1,5 +1,5 @@
 -- The tables so far.
-use Rattle.std.specs.Prelude.{◌≡◌, ◌<◌, ◌+◌, ℕ, List, length, slice_get, Option, Some, MatchOption}
+use Rattle.std.specs.Prelude.{◌≡◌, ◌+◌, ℕ, List, length, slice_get, Option, Some, MatchOption}
 use Rattle.std.specs.List.{Contains}
 use Rattle.sc_model.specs.Tables.{IsGoto, IsAction, IsConflict, Before}
 use Rattle.sc_model.specs.declared.grammar.Grammar.{Grammar}

@@ -1,7 +1,6 @@
 -- The tables as the code keeps them.
-use Rattle.std.specs.Prelude.{◌≡◌, ◌↔◌, ◌<◌, ◌+◌, ◌*◌, ℕ, Bool, IsTrue, List, [], ◌∷◌, length, slice_get, map, Option, Some, None, MatchOption, option_and_then, Vec}
+use Rattle.std.specs.Prelude.{◌≡◌, ◌↔◌, ◌<◌, ◌+◌, ℕ, Bool, IsTrue, List, [], ◌∷◌, slice_get, map, Option, Some, None, MatchOption, option_and_then, Vec}
 use Rattle.std.specs.List.{Contains}
-use Rattle.std.specs.List.Sorted.{IsStrictlyIncreasing}
 use Rattle.std.specs.declared.alloc.Global.{Global}
 use Rattle.sc_model.specs.Grammar.{after, production_at}
 use Rattle.sc_model.specs.Tables.{IsStates, IsGoto, IsAction, IsConflict, ConflictBefore}

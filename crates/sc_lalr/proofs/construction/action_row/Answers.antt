@@ -1,4 +1,4 @@
-use Rattle.std.proofs.Common.{◌≡◌, ◌<◌, ◌≤◌, ◌+◌, ◌*◌, ◌↔◌, ◌++◌, ◌∷◌, [], ℕ, Bool, List, Vec, Some, slice_get, length, get_or, ap, ◌∙◌, sym, refl, arith, subst}
+use Rattle.std.proofs.Common.{◌≡◌, ◌<◌, ◌*◌, ◌↔◌, ◌++◌, ◌∷◌, [], ℕ, Bool, List, Vec, Some, slice_get, length, get_or, ap, ◌∙◌, refl, arith, subst}
 use Rattle.std.specs.List.{Contains}
 use Rattle.std.specs.declared.alloc.Global.{Global}
 use Rattle.std.proofs.lemmas.List.Elements.{Contains-get_or}
@@ -10,7 +10,7 @@ use Rattle.sc_items.specs.Kernel.{IsListOf}
 use Rattle.sc_items.specs.States.{kernels_of}
 use Rattle.sc_lalr.specs.Propagation.{AreLookaheads}
 use Rattle.sc_lalr.specs.Tables.{EndsIn, IsMarkedEnd, conflicts_at, kept_of}
-use Rattle.sc_lalr.proofs.Deciding.{RowSoFar, RowSoFar-begin, RowSoFar-step, AreConflicts-next, can_reduce}
+use Rattle.sc_lalr.proofs.Deciding.{RowSoFar-begin, RowSoFar-step, AreConflicts-next, can_reduce}
 use Rattle.sc_lalr.proofs.construction.action_row.Goals as goal
 
 -- an element of a list of ends

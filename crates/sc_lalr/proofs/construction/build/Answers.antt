@@ -1,4 +1,4 @@
-use Rattle.std.proofs.Common.{◌≡◌, ℕ, length, arith, subst}
+use Rattle.std.proofs.Common.{◌≡◌, length, arith, subst}
 use Rattle.sc_items.specs.States.{kernels_of}
 use Rattle.sc_lalr.proofs.Tabling.{TablesSoFar, TablesSoFar-none, TablesSoFar-step, AreTables-done}
 use Rattle.sc_lalr.proofs.construction.build.Goals as goal

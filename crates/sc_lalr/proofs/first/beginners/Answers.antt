@@ -1,4 +1,4 @@
-use Rattle.std.proofs.Common.{◌≡◌, ◌∷◌, [], ℕ, refl}
+use Rattle.std.proofs.Common.{◌∷◌, [], refl}
 use Rattle.sc_lalr.proofs.Leading.{first_is}
 use Rattle.sc_lalr.proofs.first.beginners.Goals as goal
 

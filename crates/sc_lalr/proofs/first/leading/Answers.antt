@@ -1,4 +1,4 @@
-use Rattle.std.proofs.Common.{◌≡◌, ℕ, arith}
+use Rattle.std.proofs.Common.{arith}
 use Rattle.sc_lalr.proofs.Leading.{IsLeadingBelow-push, IsLeading-done, EdgesWithin-done}
 use Rattle.sc_lalr.proofs.first.leading.Goals as goal
 

@@ -1,4 +1,4 @@
-use Rattle.std.proofs.Common.{◌≡◌, ℕ, Some, None, ap, ◌∙◌, sym, arith}
+use Rattle.std.proofs.Common.{Some, ap, ◌∙◌, sym, arith}
 use Rattle.std.proofs.lemmas.Option.{same_Some, none-some}
 use Rattle.sc_lalr.proofs.Leading.{IsLedBelow-none, IsLedBelow-skip, IsLedBelow-push}
 use Rattle.sc_items.proofs.Opening.{begun_within}

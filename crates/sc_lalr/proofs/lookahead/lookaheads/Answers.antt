@@ -1,14 +1,13 @@
-use Rattle.std.proofs.Common.{◌≡◌, ◌<◌, ◌+◌, ◌*◌, ◌↔◌, ℕ, Bool, IsTrue, List, Vec, length, get_or, ap, ◌∙◌, sym, refl, arith, subst}
+use Rattle.std.proofs.Common.{◌≡◌, ◌↔◌, ℕ, Bool, IsTrue, List, Vec, length, get_or, ap, ◌∙◌, sym, arith, subst}
 use Rattle.std.specs.List.{Contains, flat_map}
 use Rattle.std.specs.declared.alloc.Global.{Global}
 use Rattle.std.proofs.lemmas.List.Elements.{Contains-get_or}
 use Rattle.sc_model.specs.Tables.{First}
 use Rattle.sc_model.specs.declared.grammar.Grammar.{Grammar}
-use Rattle.sc_items.specs.Kernel.{IsListOf}
 use Rattle.sc_items.specs.Reach.{marked, IsReached}
 use Rattle.sc_items.specs.States.{kernels_of}
 use Rattle.sc_lalr.specs.First.{IsLeading}
-use Rattle.sc_lalr.specs.Propagation.{IsSource, NodeFits, seed_part}
+use Rattle.sc_lalr.specs.Propagation.{seed_part}
 use Rattle.sc_lalr.proofs.Looking.{AreLookaheadsBelow-push, lookahead_exact, start_within, node_fits}
 use Rattle.sc_lalr.proofs.lookahead.lookaheads.Goals as goal
 

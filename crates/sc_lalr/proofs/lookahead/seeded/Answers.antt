@@ -1,11 +1,10 @@
-use Rattle.std.proofs.Common.{◌≡◌, ◌<◌, ◌+◌, ◌*◌, ◌/◌, ◌%◌, ◌++◌, ℕ, Bool, true, List, Vec, Option, Some, None, length, get_or, slice_get, map, ap, ◌∙◌, sym, refl, arith, subst}
+use Rattle.std.proofs.Common.{◌<◌, ◌%◌, length, get_or, sym, refl, arith}
 use Rattle.std.proofs.lemmas.Option.{slice_get_read}
 use Rattle.std.proofs.lemmas.List.Elements.{Contains-get_or}
 use Rattle.std.proofs.lemmas.Nat.{mod_below}
 use Rattle.sc_items.proofs.Opening.{begun_within}
-use Rattle.sc_lalr.specs.Propagation.{seed_part, row_at}
 use Rattle.sc_lalr.proofs.Passing.{row_opens}
-use Rattle.sc_lalr.proofs.Looking.{seed_is, row_at_is}
+use Rattle.sc_lalr.proofs.Looking.{seed_is}
 use Rattle.sc_lalr.proofs.lookahead.seeded.Goals as goal
 
 pub shifted-requires : goal.shifted-requires

@@ -1,4 +1,4 @@
-use Rattle.std.proofs.Common.{◌≡◌, ◌*◌, ℕ, length, ap, ◌∙◌, sym, arith, subst}
+use Rattle.std.proofs.Common.{length, ap, ◌∙◌, sym, subst}
 use Rattle.std.proofs.lemmas.Bool.{false≢true}
 use Rattle.sc_items.specs.Kernel.{IsListOf}
 use Rattle.sc_items.specs.States.{kernels_of}

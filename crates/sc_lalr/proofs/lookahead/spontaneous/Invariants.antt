@@ -1,4 +1,4 @@
-use Rattle.std.proofs.Common.{◌≡◌, ◌++◌, take}
+use Rattle.std.proofs.Common.{◌≡◌, take}
 use Rattle.std.specs.List.{flat_map}
 use Rattle.sc_lalr.specs.Propagation.{seed_part}
 use Rattle.sc_lalr.proofs.lookahead.spontaneous.Given as goal

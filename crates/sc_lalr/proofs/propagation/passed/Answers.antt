@@ -1,15 +1,13 @@
-use Rattle.std.proofs.Common.{zero, suc, ◌^◌, Option, MatchOption, ◌≡◌, ◌<◌, ◌≤◌, ◌+◌, ◌*◌, ◌/◌, ◌%◌, ◌++◌, ◌↔◌, ℕ, List, [], Some, None, true, false, Vec, length, get_or, slice_get, ap, ◌∙◌, sym, refl, arith, subst, IsTrue}
+use Rattle.std.proofs.Common.{zero, suc, ◌^◌, Option, MatchOption, ◌≡◌, ◌<◌, ◌+◌, ◌*◌, ◌/◌, ◌%◌, ◌++◌, ℕ, List, Some, None, length, get_or, ap, ◌∙◌, sym, refl, arith, subst}
 use Rattle.std.specs.List.{Contains}
-use Rattle.std.specs.declared.alloc.Global.{Global}
 use Rattle.std.proofs.lemmas.Bool.{false≢true}
 use Rattle.std.proofs.lemmas.Option.{none-some, slice_get_read, slice_get_within}
 use Rattle.std.proofs.lemmas.Nat.{mod_below, div_below, mul-add-lt}
 use Rattle.sc_model.specs.Grammar.{after}
 use Rattle.sc_model.specs.declared.grammar.Grammar.{Grammar}
-use Rattle.sc_items.specs.Kernel.{IsOpened, Opens}
-use Rattle.sc_items.specs.States.{kernels_of, HasItem, NoGoto}
+use Rattle.sc_items.specs.States.{kernels_of, NoGoto}
 use Rattle.sc_items.proofs.Listing.{no_member}
-use Rattle.sc_lalr.specs.Propagation.{PassesTo, along_part, into_part}
+use Rattle.sc_lalr.specs.Propagation.{along_part, into_part}
 use Rattle.sc_model.specs.Tables.{IsGoto}
 use Rattle.sc_items.proofs.Opening.{begun_within, after_within}
 use Rattle.std.proofs.lemmas.List.Elements.{Contains-get_or}

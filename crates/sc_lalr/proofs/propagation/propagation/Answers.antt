@@ -1,4 +1,4 @@
-use Rattle.std.proofs.Common.{◌≡◌, ◌*◌, ℕ, length, arith}
+use Rattle.std.proofs.Common.{length}
 use Rattle.sc_items.specs.States.{kernels_of}
 use Rattle.sc_lalr.proofs.Passing.{IsPropagationBelow-push, IsPropagation-done, EdgesWithin-passed, at_end}
 use Rattle.sc_lalr.proofs.propagation.propagation.Goals as goal

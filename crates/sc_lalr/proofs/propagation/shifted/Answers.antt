@@ -1,5 +1,5 @@
 use Rattle.std.proofs.Common.{◌≡◌, ◌+◌, ◌<◌, ◌++◌, ◌∷◌, [], ℕ, List, map, take, get_or, length, ap, ◌∙◌, sym}
-use Rattle.std.proofs.lemmas.List.{map_more, append_assoc, take_all}
+use Rattle.std.proofs.lemmas.List.{map_more, append_assoc}
 use Rattle.sc_lalr.proofs.propagation.shifted.Goals as goal
 
 more : (old now new items : List ℕ) (base k : ℕ) → k < length items → now ≡ old ++ map (λ j. base + j) (take k items) → new ≡ now ++ (base + get_or items k 0) ∷ [] → new ≡ old ++ map (λ j. base + j) (take (k + 1) items)

@@ -1,7 +1,5 @@
-use Rattle.std.proofs.Common.{◌≡◌, ℕ, length, Bool, true, false, not, Option, Some, None, is_some, ap, ◌∙◌, sym, arith, refl}
+use Rattle.std.proofs.Common.{◌≡◌, ℕ, length, false, Option, Some, None, is_some, ap, ◌∙◌, sym, arith, refl}
 use Rattle.std.proofs.lemmas.Bool.{false≢true}
-use Rattle.std.proofs.lemmas.Option.{none-some}
-use Rattle.sc_model.specs.Grammar.{after}
 use Rattle.sc_items.specs.States.{kernels_of}
 use Rattle.sc_items.proofs.Listing.{IsListOf-kept, IsListOf-left, IsListOf-done}
 use Rattle.sc_lalr.specs.Tables.{EndsIn}

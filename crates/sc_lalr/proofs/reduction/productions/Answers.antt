@@ -1,4 +1,4 @@
-use Rattle.std.proofs.Common.{◌≡◌, ◌+◌, ◌<◌, ◌≤◌, ℕ, Bool, true, false, IsTrue, List, length, get_or, take, ap, ◌∙◌, sym, subst, arith}
+use Rattle.std.proofs.Common.{◌≤◌, ℕ, Bool, List, length, take, ◌∙◌, sym, subst}
 use Rattle.std.proofs.lemmas.List.{take_all}
 use Rattle.std.proofs.lemmas.Bool.{false≢true}
 use Rattle.sc_model.specs.declared.grammar.Grammar.{Grammar}

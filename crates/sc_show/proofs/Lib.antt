@@ -1,0 +1,6 @@
+pub mod Choices
+pub mod Reading
+pub mod Numbers
+pub mod Steps
+pub mod Shows
+pub mod Faults

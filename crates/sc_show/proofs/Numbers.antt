@@ -1,0 +1,116 @@
+-- What numbers of conditions stand for, as more conditions get numbers.
+use Rattle.std.proofs.Common.{◌≡◌, ℕ, zero, suc, ◌+◌, ◌<◌, ◌==◌, ◌||◌, not, cond, Bool, true, false, List, [], ◌∷◌, ◌++◌, length, map, slice_get, slice_index, slice_index_or, position, get_or, Option, Some, None, All, refl, sym, ap, subst, ◌∙◌, arith, length-append, if◌then◌else◌}
+use Rattle.std.specs.List.{list_any, position_or_len}
+use Rattle.std.proofs.lemmas.Bool.{true≢false, eqb-true, ltb-true}
+use Rattle.std.proofs.lemmas.List.Sums.{passes_at_first}
+use Rattle.std.proofs.lemmas.List.Elements.{All-append}
+use Rattle.std.proofs.lemmas.Option.{cond_some, slice_get_within, same_Some, slice_get-get_or}
+use Rattle.indexmap.specs.IndexSet.{insert_key}
+use Rattle.sc_base.specs.declared.id.Cond.{Cond}
+use Rattle.sc_base.specs.declared.id.FileId.{FileId}
+use Rattle.sc_base.proofs.Growth.{Extends-trans, Extends-push, Extends-refl, Extends-keeps, slice_get-append_seam}
+use Rattle.sc_model.specs.Growth.{Extends}
+use Rattle.sc_model.specs.Sets.{Sets, IsConfig, IsCond, Denotes, Keeps}
+use Rattle.sc_model.specs.Text.{Condition, condition_at}
+use Rattle.sc_model.proofs.SetLemmas.{Denotes-self, Denotes-Keeps, IsConfig-kept}
+use Rattle.sc_show.specs.Prints.{IsNumberOf, IsTable, IsChild, Agrees}
+
+module _ {old new : Sets} where
+  pub IsNumberOf-grows : {ks ls : List Cond} {test : List ℕ → Bool} {n : ℕ} → Keeps old new → Extends ks ls → IsNumberOf old ks test n → IsNumberOf new ls test n
+  IsNumberOf-grows keeps grows number = record {
+    cond = number.cond;
+    found = Extends-keeps _ _ number.found grows;
+    means = Denotes-Keeps keeps number.means;
+  }
+
+  pub IsTable-Keeps : {ks : List Cond} → Keeps old new → IsTable old ks → IsTable new ks
+  IsTable-Keeps {ks} keeps table = record {
+    own = λ k d h. keeps.own _ (table.own k d h);
+    never = IsNumberOf-grows keeps (Extends-refl ks) table.never;
+    always = IsNumberOf-grows keeps (Extends-refl ks) table.always;
+  }
+
+  pub IsChild-grows : {ks ls : List Cond} {test : List ℕ → Bool} {v k n : ℕ} → Keeps old new → Extends ks ls → IsChild old ks test v k n → IsChild new ls test v k n
+  IsChild-grows keeps grows child = record {
+    part = child.part;
+    names = IsNumberOf-grows keeps grows child.names;
+    agrees = λ c listed chosen. child.agrees c (IsConfig-kept keeps listed) chosen;
+  }
+
+-- a condition more is owned as the others are
+pub IsTable-push : {s : Sets} {ks : List Cond} (cond : Cond) → IsCond s cond.0 → IsTable s ks → IsTable s (ks ++ cond ∷ [])
+IsTable-push {s} {ks} cond own table = record {
+  own = All-append (λ (k : Cond). IsCond s k.0) ks (cond ∷ []) table.own one;
+  never = grown table.never;
+  always = grown table.always;
+}
+  where
+    one : (k : ℕ) (d : Cond) → k < length (cond ∷ []) → IsCond s (get_or (cond ∷ []) k d).0
+    one zero d h = own
+    one (suc k) d h = absurd (omega arith)
+
+    grown : {test : List ℕ → Bool} {n : ℕ} → IsNumberOf s ks test n → IsNumberOf s (ks ++ cond ∷ []) test n
+    grown number = record { cond = number.cond; found = Extends-keeps _ _ number.found (Extends-push ks cond); means = number.means }
+
+pub within_IsNumberOf : {s : Sets} {ks : List Cond} {test : List ℕ → Bool} {n : ℕ} → IsNumberOf s ks test n → n < length ks
+within_IsNumberOf {s} {ks} {test} {n} number = slice_get_within ks n number.cond number.found
+
+-- what was read under a number is what the number stands for
+pub condition_at-IsNumberOf : {s : Sets} {ks : List Cond} {tests : List Condition} {test : List ℕ → Bool} {n : ℕ} → Agrees s ks tests → IsNumberOf s ks test n
+    → (c : List ℕ) → IsConfig s.arities c → condition_at tests n c ≡ test c
+condition_at-IsNumberOf agrees number c listed = agrees.each _ _ number.found c listed ∙ number.means.at c listed
+
+pub same_cond : (a b : Cond) → (a.0 == b.0) ≡ true → a ≡ b
+same_cond a b same = ap (λ (n : ℕ). let x : Cond = record { 0 = n } in x) (eqb-true a.0 b.0 same)
+
+pub same_file : (a b : FileId) → (a.0 == b.0) ≡ true → a ≡ b
+same_file a b same = ap (λ (n : ℕ). let x : FileId = record { 0 = n } in x) (eqb-true a.0 b.0 same)
+
+-- the item where `position` says passes the test
+position_passes : {X : Type 0} (p : X → Bool) (xs : List X) (i : ℕ) → position p xs ≡ Some i → (x : X) × (slice_get xs i ≡ Some x) × (p x ≡ true)
+position_passes p [] i h = absurd (cc)
+position_passes p (x ∷ xs) i h =
+    let found = cond_some _ (position_or_len p (x ∷ xs)) i h in
+    let within = ltb-true _ _ found.0 in
+    (slice_index_or (x ∷ xs) (position_or_len p (x ∷ xs)) x, ap (slice_get (x ∷ xs)) (sym found.1) ∙ slice_get-get_or (x ∷ xs) _ x within, passes_at_first p (x ∷ xs) x within)
+
+-- a condition that was found has its index as its number
+pub IsNumberOf-position : (s : Sets) (ks : List Cond) (a : Cond) (n : ℕ) → IsCond s a.0 → Some n ≡ position (λ (k : Cond). a.0 == k.0) ks → IsNumberOf s ks (s.has a.0) n
+IsNumberOf-position s ks a n own found =
+    let at = position_passes (λ (k : Cond). a.0 == k.0) ks n (sym found) in
+    record { cond = a; found = at.1 ∙ ap Some (sym (same_cond a at.0 at.2)); means = Denotes-self s a.0 own }
+
+-- nothing passes, so the first place that does is the end
+position_or_len-none : {T : Type 0} (p : T → Bool) (xs : List T) → list_any p xs ≡ false → position_or_len p xs ≡ length xs
+position_or_len-none p [] h = refl
+position_or_len-none p (x ∷ xs) h = by (p x) (list_any p xs) h (position_or_len-none p xs)
+  where
+    by : (a b : Bool) → (a || b) ≡ false → (b ≡ false → position_or_len p xs ≡ length xs) → cond (not a) (1 + position_or_len p xs) 0 ≡ length (x ∷ xs)
+    by true b h ih = absurd (true≢false h)
+    by false b h ih = let e = ih h in omega arith
+
+-- What an insertion into a set answers.
+module _ {T : Type 0} (eq : T → T → Bool) (key : T) (keys new : List T) (number : ℕ) where
+  absent : true ≡ not (list_any (eq key) keys) → list_any (eq key) keys ≡ false
+  absent fresh = by (list_any (eq key) keys) fresh
+    where
+      by : (b : Bool) → true ≡ not b → b ≡ false
+      by true h = absurd (true≢false h)
+      by false h = refl
+
+  present : false ≡ not (list_any (eq key) keys) → list_any (eq key) keys ≡ true
+  present known = by (list_any (eq key) keys) known
+    where
+      by : (b : Bool) → false ≡ not b → b ≡ true
+      by true h = refl
+      by false h = absurd (true≢false (sym h))
+
+  -- the key goes last
+  pub pushed : true ≡ not (list_any (eq key) keys) → new ≡ insert_key eq keys key → new ≡ keys ++ key ∷ []
+  pushed fresh inserted = inserted ∙ ap (λ b. if b then keys else keys ++ key ∷ []) (absent fresh)
+
+  pub pushed_at : true ≡ not (list_any (eq key) keys) → number ≡ position_or_len (eq key) keys → number ≡ length keys
+  pushed_at fresh at = at ∙ position_or_len-none (eq key) keys (absent fresh)
+
+  pub stays : false ≡ not (list_any (eq key) keys) → new ≡ insert_key eq keys key → new ≡ keys
+  stays known inserted = inserted ∙ ap (λ b. if b then keys else keys ++ key ∷ []) (present known)

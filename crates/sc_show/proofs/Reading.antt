@@ -1,0 +1,110 @@
+-- Reading a text with one line more.
+use Rattle.std.proofs.Common.{◌≡◌, ℕ, zero, suc, ◌+◌, ◌<◌, ◌==◌, ◌&&◌, nat_lt, Bool, true, false, List, [], ◌∷◌, ◌++◌, length, map, slice_get, slice_index, get_or, Option, Some, None, option_map, All, refl, sym, ap, subst, ◌∙◌, arith, add-one, append_assoc, append-nil, length-append, if◌then◌else◌}
+use Rattle.std.specs.List.{concat, list_all}
+use Rattle.std.specs.Option.{option_and_then}
+use Rattle.std.proofs.lemmas.Bool.{eq-eqb, eqb-true, lt-ltb, true≢false}
+use Rattle.std.proofs.lemmas.List.{map-append}
+use Rattle.std.proofs.lemmas.List.Folds.{concat-append, list_all-append}
+use Rattle.std.proofs.lemmas.Option.{slice_get-map, slice_get_within, same_Some}
+use Rattle.sc_model.specs.declared.variable_option.VariableOption.{VariableOption}
+use Rattle.sc_model.specs.Bytes.{same_bytes}
+use Rattle.sc_model.specs.Growth.{Extends, IsOneToOne}
+use Rattle.sc_model.specs.Space.{Variable, Space, option_text}
+use Rattle.sc_model.specs.Text.{Condition, Reading, TextLine, line_text, read_lines, read_line, is_clear, condition_at, project, variable_from, are_options}
+use Rattle.sc_show.specs.Prints.{choices_of}
+use Rattle.sc_show.proofs.Choices.{both}
+
+-- the last line is read at what was read before it
+pub read_lines-push : (space : Space) (lines : List TextLine) (r t u : Reading) (line : TextLine) → read_lines space r lines ≡ Some t → t.ended ≡ false
+    → read_line space t line ≡ Some u → read_lines space r (lines ++ line ∷ []) ≡ Some u
+read_lines-push space [] r t u line before unended now =
+    subst (λ x. read_lines space x (line ∷ []) ≡ Some u) (sym (same_Some r t before)) (by t.ended (read_line space t line) unended now)
+  where
+    by : (b : Bool) (o : Option Reading) → b ≡ false → o ≡ Some u → (if b then None else option_and_then (λ s. Some s) o) ≡ Some u
+    by b o p q = rw (p, q) refl
+read_lines-push space (l ∷ ls) r t u line before unended now =
+    by r.ended (read_line space r l) (λ s h. read_lines-push space ls s t u line h unended now) before
+  where
+    by : (b : Bool) (o : Option Reading) → ((s : Reading) → read_lines space s ls ≡ Some t → read_lines space s (ls ++ line ∷ []) ≡ Some u)
+        → (if b then None else option_and_then (λ s. read_lines space s ls) o) ≡ Some t
+        → (if b then None else option_and_then (λ s. read_lines space s (ls ++ line ∷ [])) o) ≡ Some u
+    by true o ih h = absurd (cc)
+    by false None ih h = absurd (cc)
+    by false (Some s) ih h = ih s h
+
+pub written-push : (lines : List TextLine) (line : TextLine) → concat (map line_text (lines ++ line ∷ [])) ≡ concat (map line_text lines) ++ line_text line
+written-push lines line = ap concat (map-append line_text lines (line ∷ [])) ∙ concat-append (map line_text lines) (line_text line ∷ []) ∙ ap (λ t. concat (map line_text lines) ++ t) (append-nil (line_text line))
+
+pub clear-push : (lines : List TextLine) (line : TextLine) → list_all is_clear lines ≡ true → is_clear line ≡ true → list_all is_clear (lines ++ line ∷ []) ≡ true
+clear-push lines line h k = list_all-append is_clear lines (line ∷ []) ∙ both h (both k refl)
+
+pub project-push : {T : Type 0} (pairs : List (Condition × T)) (test : Condition) (item : T) (c : List ℕ)
+    → project (pairs ++ (test, item) ∷ []) c ≡ project pairs c ++ (if test c then item ∷ [] else [])
+project-push [] test item c = refl
+project-push (pair ∷ pairs) test item c = by (pair.0 c) (project-push pairs test item c)
+  where
+    by : (b : Bool) → project (pairs ++ (test, item) ∷ []) c ≡ project pairs c ++ (if test c then item ∷ [] else [])
+        → (if b then pair.1 ∷ project (pairs ++ (test, item) ∷ []) c else project (pairs ++ (test, item) ∷ []) c)
+        ≡ (if b then pair.1 ∷ project pairs c else project pairs c) ++ (if test c then item ∷ [] else [])
+    by true ih = ap (λ r. pair.1 ∷ r) ih
+    by false ih = ih
+
+-- the same bytes are the same list
+pub same_bytes-refl : (xs : List ℕ) → same_bytes xs xs ≡ true
+same_bytes-refl [] = refl
+same_bytes-refl (x ∷ xs) = both (eq-eqb x x refl) (same_bytes-refl xs)
+
+pub same_bytes-true : (xs ys : List ℕ) → same_bytes xs ys ≡ true → xs ≡ ys
+same_bytes-true [] [] h = refl
+same_bytes-true [] (y ∷ ys) h = absurd (true≢false (sym h))
+same_bytes-true (x ∷ xs) [] h = absurd (true≢false (sym h))
+same_bytes-true (x ∷ xs) (y ∷ ys) h = let parts = halves (x == y) (same_bytes xs ys) h in cons (eqb-true x y parts.0) (same_bytes-true xs ys parts.1)
+  where
+    halves : (a b : Bool) → (a && b) ≡ true → (a ≡ true) × (b ≡ true)
+    halves true b h = (refl, h)
+    halves false b h = absurd (true≢false (sym h))
+
+    cons : x ≡ y → xs ≡ ys → x ∷ xs ≡ y ∷ ys
+    cons p q = cc
+
+-- a variable is found by its name
+pub variable_from-found : (n : ℕ) (vs : List Variable) (v : ℕ) (found : Variable) → IsOneToOne (map (λ v. v.name) vs) → slice_get vs v ≡ Some found
+    → variable_from n vs found.name ≡ Some (n + v, found)
+variable_from-found n [] v found apart at = absurd (cc)
+variable_from-found n (x ∷ vs) zero found apart at =
+    let same : x ≡ found = same_Some x found at in
+    let e : n ≡ n + 0 = omega arith in
+    by (same_bytes x.name found.name) (ap (λ y. same_bytes y found.name) (ap (λ y. y.name) same) ∙ same_bytes-refl found.name)
+    ∙ ap (λ y. Some (n, y)) same ∙ ap (λ k. Some (k, found)) e
+  where
+    by : (b : Bool) → b ≡ true → (if b then Some (n, x) else variable_from (n + 1) vs found.name) ≡ Some (n, x)
+    by b p = rw p refl
+variable_from-found n (x ∷ vs) (suc v) found apart at =
+    let later = variable_from-found (n + 1) vs v found (record { same = λ i j y a b. let e = apart.same (suc i) (suc j) y a b in omega arith }) at in
+    let e : n + 1 + v ≡ n + suc v = omega arith in
+    by (same_bytes x.name found.name) refl (later ∙ ap (λ k. Some (k, found)) e)
+  where
+    by : (b : Bool) → same_bytes x.name found.name ≡ b → variable_from (n + 1) vs found.name ≡ Some (n + suc v, found)
+        → (if b then Some (n, x) else variable_from (n + 1) vs found.name) ≡ Some (n + suc v, found)
+    by true same later =
+        let e = apart.same 0 (suc v) x.name refl (slice_get-map (λ y. y.name) vs v ∙ ap (option_map (λ y. y.name)) at ∙ ap Some (sym (same_bytes-true _ _ same))) in
+        absurd (omega arith)
+    by false other later = later
+
+-- the condition of a number stays as conditions are read
+pub condition_at-push : (tests : List Condition) (test : Condition) (n : ℕ) → n < length tests → condition_at (tests ++ test ∷ []) n ≡ condition_at tests n
+condition_at-push [] test n h = absurd (omega arith)
+condition_at-push (t ∷ tests) test zero h = refl
+condition_at-push (t ∷ tests) test (suc n) h = condition_at-push tests test n (omega arith)
+
+pub condition_at-last : (tests : List Condition) (test : Condition) (c : List ℕ) → condition_at (tests ++ test ∷ []) (length tests) c ≡ test c
+condition_at-last [] test c = refl
+condition_at-last (t ∷ tests) test c = condition_at-last tests test c
+
+pub are_options-choices_of : (id : ℕ) (os : List VariableOption) (ns : List ℕ) → length ns ≡ length os → ((k : ℕ) → k < length ns → slice_index ns k < id)
+    → are_options id (map option_text os) (choices_of os ns) ≡ true
+are_options-choices_of id [] [] e below = refl
+are_options-choices_of id [] (n ∷ ns) e below = absurd (omega arith)
+are_options-choices_of id (o ∷ os) [] e below = absurd (omega arith)
+are_options-choices_of id (o ∷ os) (n ∷ ns) e below =
+    both (both (same_bytes-refl (option_text o)) (lt-ltb n id (below 0 (omega arith)))) (are_options-choices_of id os ns (omega arith) (λ k h. below (suc k) (omega arith)))

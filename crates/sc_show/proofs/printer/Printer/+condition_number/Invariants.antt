@@ -1,0 +1,21 @@
+use Rattle.std.proofs.Common.{◌≡◌, ◌-◌, length, vec_len}
+use Rattle.sc_model.specs.Sets.{IsCond, Keeps, DependsFrom}
+use Rattle.sc_space.specs.Seen.{seen_space}
+use Rattle.sc_show.specs.Prints.{Continues}
+use Rattle.sc_show.proofs.Steps.{HasChildren}
+use Rattle.sc_show.proofs.printer.Printer.+condition_number.Given as goal
+
+abbrev pub decreases-condition_number : goal.decreases-condition_number
+decreases-condition_number g l = length l.space.now.variables.items - l.from
+
+abbrev pub invariant-loop-option : goal.invariant-loop-option
+invariant-loop-option g l =
+    let sets = g.C.Conditions.sets in
+    record {
+      own : IsCond (sets l.conds) l.cond.0;
+      later : DependsFrom (sets l.conds) l.cond.0 l.variable;
+      keeps : Keeps (sets l.fn.conds) (sets l.conds);
+      continues : Continues (seen_space l.space) (sets l.fn.conds) (sets l.conds) l.fn.self l.self;
+      children : HasChildren (sets l.conds) l.self.conditions.keys ((sets l.fn.conds).has l.cond.0) l.variable l.children.items;
+      count : length l.children.items ≡ l.option;
+    }

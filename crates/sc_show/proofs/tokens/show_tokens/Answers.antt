@@ -1,0 +1,64 @@
+use Rattle.std.proofs.Common.{ℕ, List, ◌≡◌, ◌∙◌, ap, sym, refl, subst, map, All}
+use Rattle.sc_base.specs.declared.fault.Fault.{Fault}
+use Rattle.sc_guarded.specs.Items.{items_at, faults_at, seen_fault}
+use Rattle.sc_lex.specs.Seen.{seen}
+use Rattle.sc_model.specs.Token.{shown}
+use Rattle.sc_model.proofs.SetLemmas.{Keeps-trans, IsConfig-kept}
+use Rattle.sc_space.specs.Seen.{seen_space}
+use Rattle.sc_show.specs.Shows.{IsShowableFault}
+use Rattle.sc_show.proofs.Shows.{IsShowable-Keeps, IsShowableFault-Keeps, Shows-end, items_at-Keeps, faults_at-Keeps}
+use Rattle.sc_show.proofs.tokens.show_tokens.Goals as goal
+
+pub print_list-requires : goal.print_list-requires
+print_list-requires g c = record {
+  arities = c.merged.ensures.keeps.arities ∙ c.requires.space;
+  names = c.requires.sound;
+  plain = c.requires.files;
+  list = λ k d h. IsShowable-Keeps c.merged.ensures.keeps (c.requires.list k d h);
+  table = c.in_ok-printer.ensures.table;
+}
+
+pub print_faults-requires : goal.print_faults-requires
+print_faults-requires g c =
+    let can = IsShowableFault (g.C.Conditions.sets c.merged.new.conds) c.args.files.now in
+    let all = subst (All can) (sym c.deref.ensures.value) c.in_ok-merged.ensures.faults in
+    record {
+      arities = c.print_list.ensures.keeps.arities ∙ c.merged.ensures.keeps.arities ∙ c.requires.space;
+      names = c.requires.sound;
+      plain = c.requires.files;
+      faults = λ k d h. IsShowableFault-Keeps c.print_list.ensures.keeps (all k d h);
+      table = c.in_ok-print_list.ensures.table;
+    }
+
+pub returns : goal.returns
+returns g c =
+    let first = c.merged.ensures.keeps in
+    let later = Keeps-trans c.print_list.ensures.keeps c.print_faults.ensures.keeps in
+    let files = c.args.files.now in
+    let merged = c.in_ok-merged.merged.items in
+    let sets = g.C.Conditions.sets c.print_list.new.conds in
+    let started = c.in_ok-printer.ensures.prints (seen_space c.args.space.now) files in
+    let told = c.in_ok-print_faults.ensures.prints _ _ (c.in_ok-print_list.ensures.prints _ _ started) in
+    record {
+      text = Shows-end c.args.list.now c.args.faults.now c.print_end.new.self.text.items c.in_ok-print_end.ensures
+          (λ x listed. ap (map (λ t. shown (seen c.args.names.now files t)))
+          (sym (items_at-Keeps c.args.list.now x later (λ k d h. first.own _ (c.requires.list k d h).own) (IsConfig-kept later listed))))
+          (λ x listed.
+          let here = IsConfig-kept later listed in
+          let before = IsConfig-kept first here in
+          ap (map (seen_fault files))
+          (ap (λ fs. faults_at sets fs x) c.deref.ensures.value ∙ faults_at-Keeps merged x c.print_list.ensures.keeps (λ k d h. (c.in_ok-merged.ensures.faults k d h).own) here)
+          ∙ c.in_ok-merged.ensures.same x before
+          ∙ ap (map (seen_fault files)) (sym (faults_at-Keeps c.args.faults.now x (Keeps-trans first later) (λ k d h. (c.requires.faults k d h).own) before)))
+          told;
+      keeps = Keeps-trans first later;
+    }
+
+pub returns-in_err-print_faults-clause-keeps : goal.returns-in_err-print_faults-clause-keeps
+returns-in_err-print_faults-clause-keeps g c = Keeps-trans c.merged.ensures.keeps (Keeps-trans c.print_list.ensures.keeps c.print_faults.ensures.keeps)
+
+pub returns-in_err-print_list-clause-keeps : goal.returns-in_err-print_list-clause-keeps
+returns-in_err-print_list-clause-keeps g c = Keeps-trans c.merged.ensures.keeps c.print_list.ensures.keeps
+
+pub returns-in_err-print_end-clause-keeps : goal.returns-in_err-print_end-clause-keeps
+returns-in_err-print_end-clause-keeps g c = Keeps-trans c.merged.ensures.keeps (Keeps-trans c.print_list.ensures.keeps c.print_faults.ensures.keeps)

@@ -1,0 +1,40 @@
+-- What the text of a list shows.
+use Rattle.std.specs.Prelude.{◌≡◌, ℕ, ◌<◌, ◌≤◌, List, length, map, true, All}
+use Rattle.std.specs.List.{concat}
+use Rattle.sc_base.specs.declared.fault.Fault as base
+use Rattle.sc_base.specs.declared.id.Cond.{Cond}
+use Rattle.sc_guarded.specs.Items.{items_at, faults_at, seen_fault}
+use Rattle.sc_lex.specs.declared.token.Token.{Token}
+use Rattle.sc_lex.specs.Seen.{IsHeld, seen, text_at}
+use Rattle.sc_model.specs.Sets.{Sets, IsConfig, IsCond}
+use Rattle.sc_model.specs.Space.{Space, arities_of}
+use Rattle.sc_model.specs.Text.{Answer, Reads, project, is_plain, is_word}
+use Rattle.sc_model.specs.Token.{shown}
+
+-- an item that can be shown: its condition was made, its token is held, and its spelling and file are of one line
+pub record IsShowable (s : Sets) (names files : List (List ℕ)) (item : Cond × Token) : Type 0 where
+  pub own : IsCond s item.0.0
+  pub held : IsHeld names item.1
+  pub file : item.1.place.file.0 < length files
+  pub plain : is_plain (text_at names item.1.spelling.0) ≡ true
+
+pub record IsShowableFault (s : Sets) (files : List (List ℕ)) (f : base.Fault) : Type 0 where
+  pub own : IsCond s f.cond.0
+  pub file : f.place.file.0 < length files
+
+pub record IsSamePair (f g : base.Fault) : Type 0 where
+  pub cause : f.cause ≡ g.cause
+  pub place : f.place ≡ g.place
+
+-- no configuration has two faults
+pub record AreApart (s : Sets) (faults : List base.Fault) : Type 0 where
+  pub few : (c : List ℕ) → IsConfig s.arities c → length (faults_at s faults c) ≤ 1
+
+-- The text reads as an answer that has at each configuration the tokens of the list and its fault.
+pub record Shows (space : Space) (s : Sets) (names files : List (List ℕ)) (list : List (Cond × Token)) (faults : List base.Fault) (text : List ℕ) : Type 0 where
+  pub pieces : List (List ℕ)
+  pub answer : Answer
+  pub whole : text ≡ concat pieces
+  pub reads : Reads space pieces answer
+  pub tokens : (c : List ℕ) → IsConfig s.arities c → project answer.tokens c ≡ map (λ t. shown (seen names files t)) (items_at s list c)
+  pub faults_are : (c : List ℕ) → IsConfig s.arities c → project answer.faults c ≡ map (seen_fault files) (faults_at s faults c)

@@ -1,0 +1,128 @@
+//! The lines of a text, each written at its end.
+ghost use Rattle.std.specs.Prelude.{◌≡◌, ◌++◌, length, codes, string_bytes, OnOk};
+ghost use Rattle.sc_model.specs.Space.{option_text};
+ghost use Rattle.sc_model.specs.Text.{numeral, place_text, choice_text, line_text, condition_line, file_line, token_line, fault_line, end_line};
+ghost use Rattle.sc_show.specs.Prints.{choices_of, printed_place};
+
+use itoa::Buffer;
+use sc_base::{Cause, OutOfMemory, Place};
+use sc_model::VariableOption;
+use sc_space::Variable;
+
+#[tactic(auto, using(sc_model::proofs::Numerals::numeral_is))]
+fn write_number(text: &mut Vec<u8>, number: usize) -> Result<(), OutOfMemory>
+    ensures { OnOk result (text.new.items ≡ text.old.items ++ numeral number) }
+{
+    text.extend_from_slice(Buffer::new().format(number).as_bytes())?;
+    Ok(())
+}
+
+fn write_option(text: &mut Vec<u8>, option: VariableOption) -> Result<(), OutOfMemory>
+    ensures { OnOk result (text.new.items ≡ text.old.items ++ option_text option) }
+{
+    match option {
+        VariableOption::Undefined => text.extend_from_slice(b"undef")?,
+        VariableOption::Number(number) => {
+            text.extend_from_slice(Buffer::new().format(number).as_bytes())?
+        }
+    }
+    Ok(())
+}
+
+fn write_place(text: &mut Vec<u8>, file: usize, place: Place) -> Result<(), OutOfMemory>
+    ensures { OnOk result (text.new.items ≡ text.old.items ++ place_text (printed_place file place)) }
+{
+    write_number(text, file)?;
+    text.extend_from_slice(b":")?;
+    write_number(text, place.line)?;
+    text.extend_from_slice(b":")?;
+    write_number(text, place.column)
+}
+
+fn write_choice(text: &mut Vec<u8>, option: VariableOption, child: usize) -> Result<(), OutOfMemory>
+    ensures { OnOk result (text.new.items ≡ text.old.items ++ choice_text (option_text option, child)) }
+{
+    text.extend_from_slice(b" ")?;
+    write_option(text, option)?;
+    text.extend_from_slice(b":")?;
+    write_number(text, child)
+}
+
+/// A node of a decision diagram, with what remains for each option of its variable.
+pub fn write_condition(
+    text: &mut Vec<u8>,
+    number: usize,
+    variable: &Variable,
+    children: &[usize],
+) -> Result<(), OutOfMemory>
+    requires { length children.now ≡ length variable.now.options.items }
+    ensures { OnOk result (text.new.items ≡ text.old.items ++ line_text (condition_line number (string_bytes variable.now.name) (choices_of variable.now.options.items children.now))) }
+{
+    text.extend_from_slice(b"c ")?;
+    write_number(text, number)?;
+    text.extend_from_slice(b" ")?;
+    text.extend_from_slice(variable.name.as_bytes())?;
+    for (index, child) in children.iter().enumerate() {
+        write_choice(text, variable.options[index], *child)?;
+    }
+    text.extend_from_slice(b"\n")?;
+    Ok(())
+}
+
+pub fn write_file(text: &mut Vec<u8>, number: usize, name: &str) -> Result<(), OutOfMemory>
+    ensures { OnOk result (text.new.items ≡ text.old.items ++ line_text (file_line number name.now)) }
+{
+    text.extend_from_slice(b"s ")?;
+    write_number(text, number)?;
+    text.extend_from_slice(b" ")?;
+    text.extend_from_slice(name.as_bytes())?;
+    text.extend_from_slice(b"\n")?;
+    Ok(())
+}
+
+pub fn write_token(
+    text: &mut Vec<u8>,
+    condition: usize,
+    file: usize,
+    place: Place,
+    spelling: &[u8],
+) -> Result<(), OutOfMemory>
+    ensures { OnOk result (text.new.items ≡ text.old.items ++ line_text (token_line condition (printed_place file place) spelling.now)) }
+{
+    text.extend_from_slice(b"t ")?;
+    write_number(text, condition)?;
+    text.extend_from_slice(b" ")?;
+    write_place(text, file, place)?;
+    text.extend_from_slice(b" ")?;
+    text.extend_from_slice(spelling)?;
+    text.extend_from_slice(b"\n")?;
+    Ok(())
+}
+
+pub fn write_fault(
+    text: &mut Vec<u8>,
+    condition: usize,
+    cause: Cause,
+    file: usize,
+    place: Place,
+) -> Result<(), OutOfMemory>
+    ensures { OnOk result (text.new.items ≡ text.old.items ++ line_text (fault_line condition cause (printed_place file place))) }
+{
+    text.extend_from_slice(b"f ")?;
+    write_number(text, condition)?;
+    text.extend_from_slice(b" ")?;
+    write_number(text, cause.code() as usize)?;
+    text.extend_from_slice(b" ")?;
+    text.extend_from_slice(cause.name().as_bytes())?;
+    text.extend_from_slice(b" ")?;
+    write_place(text, file, place)?;
+    text.extend_from_slice(b"\n")?;
+    Ok(())
+}
+
+pub fn write_end(text: &mut Vec<u8>) -> Result<(), OutOfMemory>
+    ensures { OnOk result (text.new.items ≡ text.old.items ++ line_text end_line) }
+{
+    text.extend_from_slice(b"end\n")?;
+    Ok(())
+}

@@ -1,0 +1,103 @@
+ghost use Rattle.std.specs.Prelude.{◌≡◌, ◌<◌, ◌++◌, ℕ, List, true, All, length, map, IfOk, OnOk};
+ghost use Rattle.sc_guarded.specs.Items.{items_at, faults_at, seen_fault};
+ghost use Rattle.sc_lex.specs.Seen.{seen};
+ghost use Rattle.sc_model.specs.Pre.{Fault as model_fault};
+ghost use Rattle.sc_model.specs.Sets.{Keeps};
+ghost use Rattle.sc_model.specs.Space.{arities_of};
+ghost use Rattle.sc_model.specs.Text.{is_plain};
+ghost use Rattle.sc_model.specs.Token.{Shown, shown};
+ghost use Rattle.sc_space.specs.Seen.{seen_space};
+ghost use Rattle.sc_show.specs.Prints.{HasPlainNames, IsTable, Prints};
+ghost use Rattle.sc_show.specs.Shows.{IsShowable, IsShowableFault, AreApart, Shows};
+
+use crate::merge::merged;
+use crate::printer::Printer;
+use sc_base::{Fault, Files, Names, OutOfMemory};
+use sc_guarded::Guarded;
+use sc_lex::Token;
+use sc_presence::Conditions;
+use sc_space::Space;
+use std::alloc::Global;
+
+fn print_list<C: Conditions>(
+    printer: &mut Printer,
+    conds: &mut C,
+    space: &Space,
+    names: &Names,
+    files: &Files,
+    list: &Guarded<Token>,
+) -> Result<(), OutOfMemory>
+    requires arities { (C.sets conds.old).arities ≡ arities_of (seen_space space.now) }
+    requires names { HasPlainNames (seen_space space.now) }
+    requires plain { All (λ name. is_plain name ≡ true) files.now }
+    requires list { All (IsShowable (C.sets conds.old) names.now files.now) list.now }
+    requires table { IsTable (C.sets conds.old) printer.old.conditions.keys }
+    ensures table { OnOk result (IsTable (C.sets conds.new) printer.new.conditions.keys) }
+    ensures prints { OnOk result ((tokens : List ℕ → List Shown) (faults : List ℕ → List model_fault)
+        → Prints (seen_space space.now) (C.sets conds.old) files.now printer.old tokens faults
+        → Prints (seen_space space.now) (C.sets conds.new) files.now printer.new
+        (λ c. tokens c ++ map (λ t. shown (seen names.now files.now t)) (items_at (C.sets conds.old) list.now c)) faults) }
+
+    // at every outcome
+    ensures keeps { Keeps (C.sets conds.old) (C.sets conds.new) }
+{
+    for index in 0..list.len() {
+        let (cond, token) = list.item(index);
+        let spelling = names.text(token.spelling);
+        printer.print_token(conds, space, files, cond, token.place, spelling)?;
+    }
+    Ok(())
+}
+
+fn print_faults<C: Conditions>(
+    printer: &mut Printer,
+    conds: &mut C,
+    space: &Space,
+    files: &Files,
+    faults: &[Fault],
+) -> Result<(), OutOfMemory>
+    requires arities { (C.sets conds.old).arities ≡ arities_of (seen_space space.now) }
+    requires names { HasPlainNames (seen_space space.now) }
+    requires plain { All (λ name. is_plain name ≡ true) files.now }
+    requires faults { All (IsShowableFault (C.sets conds.old) files.now) faults.now }
+    requires table { IsTable (C.sets conds.old) printer.old.conditions.keys }
+    ensures prints { OnOk result ((tokens : List ℕ → List Shown) (before : List ℕ → List model_fault)
+        → Prints (seen_space space.now) (C.sets conds.old) files.now printer.old tokens before
+        → Prints (seen_space space.now) (C.sets conds.new) files.now printer.new tokens
+        (λ c. before c ++ map (seen_fault files.now) (faults_at (C.sets conds.old) faults.now c))) }
+
+    // at every outcome
+    ensures keeps { Keeps (C.sets conds.old) (C.sets conds.new) }
+{
+    for fault in faults {
+        printer.print_fault(conds, space, files, *fault)?;
+    }
+    Ok(())
+}
+
+/// The text of a list of tokens and its faults.
+pub fn show_tokens<C: Conditions>(
+    alloc: Global,
+    conds: &mut C,
+    space: &Space,
+    names: &Names,
+    files: &Files,
+    list: &Guarded<Token>,
+    faults: &[Fault],
+) -> Result<Vec<u8>, OutOfMemory>
+    requires space { (C.sets conds.old).arities ≡ arities_of (seen_space space.now) }
+    requires sound { HasPlainNames (seen_space space.now) }
+    requires files { All (λ name. is_plain name ≡ true) files.now }
+    requires list { All (IsShowable (C.sets conds.old) names.now files.now) list.now }
+    requires faults { All (IsShowableFault (C.sets conds.old) files.now) faults.now }
+    requires apart { AreApart (C.sets conds.old) faults.now }
+    ensures text { IfOk result (λ text. Shows (seen_space space.now) (C.sets conds.new) names.now files.now list.now faults.now text.items) }
+    ensures keeps { Keeps (C.sets conds.old) (C.sets conds.new) }
+{
+    let merged = merged(alloc, conds, files, faults)?;
+    let mut printer = Printer::new(alloc, conds)?;
+    print_list(&mut printer, conds, space, names, files, list)?;
+    print_faults(&mut printer, conds, space, files, &merged)?;
+    printer.print_end()?;
+    Ok(printer.text)
+}
