@@ -1,5 +1,7 @@
+pub mod Complaint
 pub mod LineKind
 pub mod Machine
 pub mod Mirrors
 pub mod Preprocesses
+pub mod Status
 pub mod Variables

@@ -1,5 +1,7 @@
 -- What the groups of a file are.
-use Rattle.std.specs.Prelude.{◌≡◌, ℕ, List, map, Err}
+use Rattle.std.specs.Prelude.{◌≡◌, ℕ, List, map, Err, All}
+use Rattle.sc_base.specs.declared.id.FileId.{FileId}
+use Rattle.sc_base.specs.declared.place.Place.{Place}
 use Rattle.sc_lex.specs.declared.token.Token.{Token}
 use Rattle.sc_lex.specs.Seen.{seen, seen_place}
 use Rattle.sc_lines.specs.declared.line.FileTree.{FileTree}
@@ -17,7 +19,12 @@ pub record IsTreeOf (names : List (List ℕ)) (tokens : List Token) (tree : File
   pub lines : AreLines names tokens tree.lines.items
   pub nested : (files : List (List ℕ)) → (group : model.Group) × model.IsTree (seen_lines names files tokens) group
 
+-- the nesting is at fault at this place, which is in the file of the tokens
+pub record IsFaultAt (names : List (List ℕ)) (tokens : List Token) (place : Place) : Type 0 where
+  pub tree : (files : List (List ℕ)) → model.Tree (seen_lines names files tokens) (Err (seen_place files place))
+  pub placed : (file : FileId) → All (λ (t : Token). t.place.file ≡ file) tokens → place.file ≡ file
+
 -- what a refusal says
 abbrev pub Refuses : List (List ℕ) → List Token → NestStop → Type 0
-Refuses names tokens (Nesting place) = (files : List (List ℕ)) → model.Tree (seen_lines names files tokens) (Err (seen_place files place))
+Refuses names tokens (Nesting place) = IsFaultAt names tokens place
 Refuses names tokens OutOfMemory = Unit {0}

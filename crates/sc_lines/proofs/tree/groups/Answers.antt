@@ -1,4 +1,6 @@
 use Rattle.std.proofs.Common.{◌≡◌, ◌∙◌, sym, ap, subst, ℕ, List, map, None, Some, arith}
+use Rattle.std.proofs.lemmas.List.Elements.{All-get_or}
+use Rattle.sc_lex.specs.declared.token.Token.{Token}
 use Rattle.sc_lines.specs.declared.line.Line.{Line}
 use Rattle.sc_lines.specs.Judges.{Judges, FailsAt, no_token}
 use Rattle.sc_lines.specs.Nests.{seen_lines}
@@ -33,6 +35,12 @@ returns-in-None-clause-ok c = record {
 }
 
 pub returns-in-Some-clause-err : goal.returns-in-Some-clause-err
-returns-in-Some-clause-err c = λ files.
-    rw c.place_of.ensures
-    (fault-tree c.args.names.now c.args.tokens.now c.in_ok-lines.lines.items c.in_ok-lines.ensures c.in-Some.at (failed (goal.at.returns-in-Some-clause-err c).In-Some) files c.index.result.now no_token c.index.ensures)
+returns-in-Some-clause-err c = record {
+  tree = λ files.
+      rw c.place_of.ensures
+      (fault-tree c.args.names.now c.args.tokens.now c.in_ok-lines.lines.items c.in_ok-lines.ensures c.in-Some.at (failed (goal.at.returns-in-Some-clause-err c).In-Some) files c.index.result.now no_token c.index.ensures);
+  placed = λ file all.
+      rw c.place_of.ensures
+      (All-get_or (λ (t : Token). t.place.file ≡ file) c.args.tokens.now c.index.result.now.first no_token
+      (fault-first c.args.names.now c.args.tokens.now c.in_ok-lines.lines.items c.in_ok-lines.ensures c.in-Some.at (failed (goal.at.returns-in-Some-clause-err c).In-Some) c.index.result.now c.index.ensures) all);
+}

@@ -1,0 +1,41 @@
+-- What is told where there is no text.
+use Rattle.std.specs.Prelude.{ℕ, ◌++◌, List, codes, string_bytes}
+use Rattle.sc_args.specs.declared.command.ArgsStop.{ArgsStop}
+use Rattle.sc_args.specs.declared.command.ArgsStop.TheVariants as args
+use Rattle.sc_core.specs.declared.complaint.Complaint.{Complaint}
+use Rattle.sc_core.specs.declared.complaint.Complaint.TheVariants.{Usage, BadFile, NoSpace, BadSpace, ReadFault, OutOfMemory}
+use Rattle.sc_core.specs.declared.status.Status.{Status}
+use Rattle.sc_core.specs.declared.status.Status.TheVariants as status
+use Rattle.sc_source.specs.declared.source.SourceStop.{SourceStop}
+use Rattle.sc_source.specs.declared.source.SourceStop.TheVariants as source
+use Rattle.sc_space.specs.SpaceFile.{Fault, fault_text}
+
+-- the line of a complaint
+abbrev pub line_of : Complaint → List ℕ
+line_of (Usage text) = string_bytes text
+line_of BadFile = codes "superc: bad file name\n"
+line_of NoSpace = codes "superc: space: Absent\n"
+line_of (BadSpace line) = line.items
+line_of ReadFault = codes "superc: read fault\n"
+line_of OutOfMemory = codes "superc: out of memory\n"
+
+abbrev pub status_of : Complaint → Status
+status_of (Usage text) = status.BadWords
+status_of BadFile = status.BadWords
+status_of NoSpace = status.BadSpace
+status_of (BadSpace line) = status.BadSpace
+status_of ReadFault = status.ReadFault
+status_of OutOfMemory = status.OutOfMemory
+
+abbrev pub of_args : ArgsStop → Complaint
+of_args (args.Usage text) = Usage text
+of_args args.BadFile = BadFile
+of_args args.OutOfMemory = OutOfMemory
+
+abbrev pub of_source : SourceStop → Complaint
+of_source source.Failed = ReadFault
+of_source source.OutOfMemory = OutOfMemory
+
+-- the line of a space file's fault: its name, and its item where it has one
+abbrev pub space_line : Fault → List ℕ
+space_line fault = codes "superc: space: " ++ fault_text fault ++ codes "\n"
