@@ -1,5 +1,6 @@
 ghost use Rattle.std.specs.Prelude.{◌≡◌, ℕ, ◌≤◌, List, Some, slice_get, IfOk, IfErr};
 ghost use Rattle.sc_base.specs.declared.place.Place.{Place};
+ghost use Rattle.sc_base.specs.Interns.{Interns};
 ghost use Rattle.sc_lex.specs.Seen.{seen_place};
 ghost use Rattle.sc_model.specs.Growth.{Extends};
 ghost use Rattle.sc_model.specs.Outside.{Files as Outside};
@@ -7,7 +8,9 @@ ghost use Rattle.sc_model.specs.Pre.{Pre, fault_at, first_place};
 ghost use Rattle.sc_model.specs.Sets.{IsConfig, Keeps};
 ghost use Rattle.sc_model.specs.Space.{arities_of};
 ghost use Rattle.sc_space.specs.Seen.{seen_space};
+ghost use Rattle.sc_show.specs.Shows.{AreApart};
 ghost use Rattle.sc_core.specs.Preprocesses.{IsOrdinary, OwnsList, IsRefused, Stops};
+ghost use Rattle.sc_core.specs.Printable.{ArePrintable, CanBeShown};
 
 use crate::preprocessed::Preprocessed;
 use crate::walk_file::walk_file;
@@ -39,6 +42,8 @@ pub fn preprocess<C: Conditions, S: Source>(
         → IsConfig (C.sets conds.old).arities config
         → IsOrdinary (C.sets conds.new) names.new files.new p (Pre (seen_space space.now) outside main.now config) config) }
     ensures owns { IfOk result (OwnsList (C.sets conds.new)) }
+    ensures shown { IfOk result (CanBeShown (C.sets conds.new) names.new files.new) }
+    ensures adds { IfOk result (λ _. Interns files.old files.new main.now) }
     ensures stops { IfErr result (Stops (S.faults src.old) (S.faults src.new)) }
 
     // at every outcome
@@ -70,6 +75,8 @@ fn preprocess_bytes<C: Conditions>(
         → slice_get files file.0 ≡ Some main → outside main ≡ Some bytes.now → IsConfig (C.sets conds.old).arities config
         → IsOrdinary (C.sets conds.new) names.new files p (Pre (seen_space space.now) outside main config) config) }
     ensures owns { IfOk result (OwnsList (C.sets conds.new)) }
+    ensures printable { IfOk result (λ p. ArePrintable names.new file p.list p.faults.items) }
+    ensures apart { IfOk result (λ p. AreApart (C.sets conds.new) p.faults.items) }
 
     // at every outcome
     ensures names { Extends names.old names.new }
@@ -108,6 +115,8 @@ fn refused<C: Conditions>(
     ensures refused { IfOk result (λ p. (names files : List (List ℕ)) (config : List ℕ) → IsConfig (C.sets conds.now).arities config
         → IsRefused (C.sets conds.now) names files p (fault_at cause (seen_place files place)) config) }
     ensures owns { IfOk result (OwnsList (C.sets conds.now)) }
+    ensures printable { IfOk result (λ p. (names : List (List ℕ)) → ArePrintable names place.file p.list p.faults.items) }
+    ensures apart { IfOk result (λ p. AreApart (C.sets conds.now) p.faults.items) }
 {
     let mut faults = Vec::new(alloc);
     faults.push(Fault {
@@ -123,7 +132,8 @@ fn refused<C: Conditions>(
 
 /// Where a file begins.
 fn first(file: FileId) -> Place
-    ensures { (files : List (List ℕ)) (main : List ℕ) → slice_get files file.0 ≡ Some main → seen_place files result ≡ first_place main }
+    ensures in_file { result.file ≡ file }
+    ensures place { (files : List (List ℕ)) (main : List ℕ) → slice_get files file.0 ≡ Some main → seen_place files result ≡ first_place main }
 {
     Place {
         file,

@@ -1,8 +1,10 @@
 ghost use Rattle.std.specs.Prelude.{◌≡◌, ℕ, ◌&&◌, ◌<◌, Bool, List, map, length, OnOk};
+ghost use Rattle.sc_lex.specs.declared.token.Token as base;
 ghost use Rattle.sc_lex.specs.Seen.{seen};
 ghost use Rattle.sc_model.specs.Sets.{Sets, IsCond, Denotes, Keeps};
 ghost use Rattle.sc_core.specs.Machine.{opened, next_branch, ended, refusing, put_out};
 ghost use Rattle.sc_core.specs.Mirrors.{Owns, Advances};
+ghost use Rattle.sc_core.specs.Printable.{StaysPrintable};
 
 use crate::walk::{Section, Walk};
 use sc_base::{Cause, Cond, Fault, OutOfMemory};
@@ -18,6 +20,7 @@ pub fn begin_section<C: Conditions>(
 ) -> Result<(), OutOfMemory>
     requires owns { Owns (C.sets conds.old) walk.old }
     requires own { IsCond (C.sets conds.old) test.0 }
+    ensures printable { OnOk result ((names : List (List ℕ)) (line : List base.Token) → StaysPrintable names line walk.old walk.new) }
     ensures opened { OnOk result ((names : List (List ℕ)) (t : List ℕ → Bool) → Denotes (C.sets conds.old) test.0 t
         → Advances names (C.sets conds.old) walk.old (C.sets conds.new) walk.new (λ files config m. opened m (t config))) }
     ensures keeps { Keeps (C.sets conds.old) (C.sets conds.new) }
@@ -39,6 +42,7 @@ pub fn begin_section<C: Conditions>(
 #[tactic(auto, using(sc_model::proofs::SetLemmas::conditions))]
 pub fn begin_branch<C: Conditions>(conds: &mut C, walk: &mut Walk) -> Result<(), OutOfMemory>
     requires { Owns (C.sets conds.old) walk.old }
+    ensures printable { OnOk result ((names : List (List ℕ)) (line : List base.Token) → StaysPrintable names line walk.old walk.new) }
     ensures moved { OnOk result ((names : List (List ℕ)) → Advances names (C.sets conds.old) walk.old (C.sets conds.new) walk.new (λ files config m. next_branch m m.sections)) }
     ensures keeps { Keeps (C.sets conds.old) (C.sets conds.new) }
 {
@@ -59,6 +63,7 @@ pub fn begin_branch<C: Conditions>(conds: &mut C, walk: &mut Walk) -> Result<(),
 #[tactic(auto, using(sc_model::proofs::SetLemmas::conditions))]
 pub fn end_section<C: Conditions>(conds: &mut C, walk: &mut Walk) -> Result<(), OutOfMemory>
     requires { Owns (C.sets conds.old) walk.old }
+    ensures printable { OnOk result ((names : List (List ℕ)) (line : List base.Token) → StaysPrintable names line walk.old walk.new) }
     ensures moved { OnOk result ((names : List (List ℕ)) → Advances names (C.sets conds.old) walk.old (C.sets conds.new) walk.new (λ files config m. ended m m.sections)) }
     ensures keeps { Keeps (C.sets conds.old) (C.sets conds.new) }
 {
@@ -80,6 +85,7 @@ pub fn refuse<C: Conditions>(
 ) -> Result<(), OutOfMemory>
     requires owns { Owns (C.sets conds.old) walk.old }
     requires line { 0 < length line.now }
+    ensures printable { OnOk result ((names : List (List ℕ)) → StaysPrintable names line.now walk.old walk.new) }
     ensures moved { OnOk result ((names : List (List ℕ)) → Advances names (C.sets conds.old) walk.old (C.sets conds.new) walk.new (λ files config m. refusing m (map (seen names files) line.now))) }
     ensures keeps { Keeps (C.sets conds.old) (C.sets conds.new) }
 {
@@ -97,7 +103,8 @@ pub fn refuse<C: Conditions>(
 
 /// The tokens of a line are put out.
 pub fn put(walk: &mut Walk, line: &[Token]) -> Result<(), OutOfMemory>
-    ensures { OnOk result ((names : List (List ℕ)) (s : Sets) → Owns s walk.old → Advances names s walk.old s walk.new (λ files config m. put_out m (map (seen names files) line.now))) }
+    ensures printable { OnOk result ((names : List (List ℕ)) → StaysPrintable names line.now walk.old walk.new) }
+    ensures moved { OnOk result ((names : List (List ℕ)) (s : Sets) → Owns s walk.old → Advances names s walk.old s walk.new (λ files config m. put_out m (map (seen names files) line.now))) }
 {
     for token in line {
         walk.list.push(walk.live, *token)?;

@@ -9,6 +9,7 @@ ghost use Rattle.sc_space.specs.Seen.{seen_space};
 ghost use Rattle.sc_core.specs.Machine.{plain_step, opened_by_name, refusing, opened};
 ghost use Rattle.sc_core.specs.Mirrors.{Owns, Advances, walks};
 ghost use Rattle.sc_core.specs.LineKind.{line_kind, is_taken};
+ghost use Rattle.sc_core.specs.Printable.{StaysPrintable};
 
 use crate::defined::defined;
 use crate::line_kind::LineKind;
@@ -34,6 +35,7 @@ pub fn walk_line<C: Conditions>(
     requires held { All (IsHeld names.now) line.now }
     requires directive { conditional ≡ conditional_at names.now line.now }
     requires owns { Owns (C.sets conds.old) walk.old }
+    ensures printable { OnOk result (StaysPrintable names.now line.now walk.old walk.new) }
     ensures steps { OnOk result (Advances names.now (C.sets conds.old) walk.old (C.sets conds.new) walk.new (walks (seen_space space.now) names.now line.now)) }
     ensures keeps { Keeps (C.sets conds.old) (C.sets conds.new) }
 {
@@ -57,6 +59,7 @@ fn conditional_line<C: Conditions>(
     requires held { All (IsHeld names.now) line.now }
     requires directive { Some conditional ≡ conditional_at names.now line.now }
     requires owns { Owns (C.sets conds.old) walk.old }
+    ensures printable { OnOk result (StaysPrintable names.now line.now walk.old walk.new) }
     ensures steps { OnOk result (Advances names.now (C.sets conds.old) walk.old (C.sets conds.new) walk.new (walks (seen_space space.now) names.now line.now)) }
     ensures keeps { Keeps (C.sets conds.old) (C.sets conds.new) }
 {
@@ -82,6 +85,7 @@ fn refused_section<C: Conditions>(
 ) -> Result<(), OutOfMemory>
     requires owns { Owns (C.sets conds.old) walk.old }
     requires line { 0 < length line.now }
+    ensures printable { OnOk result ((names : List (List ℕ)) → StaysPrintable names line.now walk.old walk.new) }
     ensures moved { OnOk result ((names : List (List ℕ)) → Advances names (C.sets conds.old) walk.old (C.sets conds.new) walk.new
         (λ files config m. opened (refusing m (map (seen names files) line.now)) false)) }
     ensures keeps { Keeps (C.sets conds.old) (C.sets conds.new) }
@@ -105,6 +109,7 @@ fn named_section<C: Conditions>(
     requires held { All (IsHeld names.now) line.now }
     requires owns { Owns (C.sets conds.old) walk.old }
     requires line { 0 < length line.now }
+    ensures printable { OnOk result (StaysPrintable names.now line.now walk.old walk.new) }
     ensures moved { OnOk result (Advances names.now (C.sets conds.old) walk.old (C.sets conds.new) walk.new
         (λ files config m. opened_by_name m (map (seen names.now files) line.now) (is_taken (seen_space space.now) config wanted) (operand_of (map (seen names.now files) line.now)))) }
     ensures keeps { Keeps (C.sets conds.old) (C.sets conds.new) }
@@ -162,6 +167,7 @@ fn plain_line<C: Conditions>(
 ) -> Result<(), OutOfMemory>
     requires held { All (IsHeld names.now) line.now }
     requires owns { Owns (C.sets conds.old) walk.old }
+    ensures printable { OnOk result (StaysPrintable names.now line.now walk.old walk.new) }
     ensures moved { OnOk result (Advances names.now (C.sets conds.old) walk.old (C.sets conds.new) walk.new (λ files config m. plain_step m (map (seen names.now files) line.now))) }
     ensures keeps { Keeps (C.sets conds.old) (C.sets conds.new) }
 {

@@ -1,4 +1,5 @@
 ghost use Rattle.std.specs.Prelude.{◌≡◌, ℕ, [], List, All, None, true, IfOk};
+ghost use Rattle.sc_base.specs.declared.id.FileId.{FileId};
 ghost use Rattle.sc_lex.specs.Seen.{IsHeld};
 ghost use Rattle.sc_lines.specs.Nests.{seen_lines};
 ghost use Rattle.sc_lines.specs.Split.{AreLines};
@@ -7,6 +8,7 @@ ghost use Rattle.sc_model.specs.Space.{arities_of, initial_macros};
 ghost use Rattle.sc_space.specs.Seen.{seen_space};
 ghost use Rattle.sc_core.specs.Machine.{run, start};
 ghost use Rattle.sc_core.specs.Mirrors.{Owns, Mirrors};
+ghost use Rattle.sc_core.specs.Printable.{IsOfFile, ArePrintable};
 
 use crate::steps::walk_line;
 use crate::walk::Walk;
@@ -32,6 +34,7 @@ pub fn walk_file<C: Conditions>(
     requires held { All (IsHeld names.now) tokens.now }
     requires lines { AreLines names.now tokens.now lines.now }
     ensures owns { IfOk result (λ walk. Owns (C.sets conds.new) walk) }
+    ensures printable { IfOk result (λ walk. (file : FileId) → All (IsOfFile names.now file) tokens.now → ArePrintable names.now file walk.list walk.faults.items) }
     ensures walked { IfOk result (λ walk. (files : List (List ℕ)) (config : List ℕ) → IsConfig (C.sets conds.old).arities config
         → Mirrors (C.sets conds.new) names.now files walk config (run (initial_macros (seen_space space.now) config) start (seen_lines names.now files tokens.now))) }
     ensures keeps { Keeps (C.sets conds.old) (C.sets conds.new) }
@@ -47,6 +50,7 @@ pub fn walk_file<C: Conditions>(
 /// The walk before the first line.
 fn first_walk<C: Conditions>(alloc: Global, conds: &C) -> Result<Walk, OutOfMemory>
     ensures owns { IfOk result (λ walk. Owns (C.sets conds.now) walk) }
+    ensures empty { IfOk result (λ walk. (walk.list ≡ []) × (walk.faults.items ≡ [])) }
     ensures starts { IfOk result (λ walk. (names files : List (List ℕ)) (config : List ℕ) → IsConfig (C.sets conds.now).arities config
         → Mirrors (C.sets conds.now) names files walk config start) }
 {

@@ -15,5 +15,5 @@ returns-in_ok-refused-in-None-clause-ordinary g c = λ outside holds config list
     let main = c.args.main.now in
     refused-ordinary s names files c.in_ok-refused-in-None.field-0 (seen_space c.args.space.now) outside main config (fault_at NotFound (first_place main))
     (λ state. absent (sym (c.in_ok-read.ensures.answer outside holds) ∙ ap (option_map (λ bytes. bytes.items)) c.in-None.is))
-    (subst (λ place. IsRefused s names files c.in_ok-refused-in-None.field-0 (fault_at NotFound place) config) (c.first.ensures files main c.in_ok-file.ensures.named)
+    (subst (λ place. IsRefused s names files c.in_ok-refused-in-None.field-0 (fault_at NotFound place) config) (c.first.ensures.place files main c.in_ok-file.ensures.named)
     (c.in_ok-refused-in-None.ensures.refused names files config listed))

@@ -20,7 +20,7 @@ returns-then-bytes-gt-LARGEST_FILE-clause-ordinary g c =
     IfOk-weaker c.refused.result _ _ (λ p refused. λ files outside main config named there listed.
     refused-ordinary (g.C.Conditions.sets c.args.conds.now) c.args.names.now files p (seen_space c.args.space.now) outside main config (fault_at FileTooLarge (first_place main))
     (λ s. too_large c.args.bytes.now there c.if-bytes-gt-LARGEST_FILE.true)
-    (subst (λ place. IsRefused (g.C.Conditions.sets c.args.conds.now) c.args.names.now files p (fault_at FileTooLarge place) config) (c.first.ensures files main named)
+    (subst (λ place. IsRefused (g.C.Conditions.sets c.args.conds.now) c.args.names.now files p (fault_at FileTooLarge place) config) (c.first.ensures.place files main named)
     (refused c.args.names.now files config listed)))
     c.refused.ensures.refused
 
@@ -50,7 +50,7 @@ returns-in-Err-Nesting-clause-ordinary g c =
     refused-ordinary (g.C.Conditions.sets c.args.conds.now) names files p (seen_space c.args.space.now) outside main config
     (fault_at BadNesting place)
     (λ s. badly_nested c.args.bytes.now are.lexemes place there (λ big. omega (arith, big)) are.lexed
-    (subst (λ ls. Tree ls (Err place)) lines_are (refuses files)))
+    (subst (λ ls. Tree ls (Err place)) lines_are (refuses.tree files)))
     (refused names files config listed))
     c.refused-in-Err-Nesting.ensures.refused
 

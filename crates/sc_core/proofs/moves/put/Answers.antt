@@ -7,8 +7,8 @@ use Rattle.sc_core.proofs.WalkMoves.{under, puts}
 use Rattle.sc_lex.specs.Seen.{seen}
 use Rattle.sc_core.proofs.moves.put.Goals as goal
 
-pub returns : goal.returns
-returns c = λ names s owns.
+pub returns-clause-moved : goal.returns-clause-moved
+returns-clause-moved c = λ names s owns.
     let w = c.args.walk.now in
     let whole : c.loop-token.token-index ≡ length c.args.line.now = omega arith in
     let all = ap (λ n. w.list ++ under w.live (take n c.args.line.now)) whole ∙ ap (λ ts. w.list ++ under w.live ts) (take-length c.args.line.now) in

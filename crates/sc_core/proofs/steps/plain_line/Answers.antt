@@ -13,7 +13,7 @@ pub returns-in-Text-clause-moved : goal.returns-in-Text-clause-moved
 returns-in-Text-clause-moved g c = on_ok_weaker c.put.result (λ puts.
     advances-as (λ files config m. put_out m (map (seen c.args.names.now files) c.args.line.now)) (λ files config m. plain_step m (map (seen c.args.names.now files) c.args.line.now))
     (λ files config m. let l = map (seen c.args.names.now files) c.args.line.now in sym (plain-kind m l ∙ ap (step_as m l) (sym (c.in-Text.ensures files))))
-    (puts c.args.names.now (g.C.Conditions.sets c.args.conds.now) c.requires.owns)) c.put.ensures
+    (puts c.args.names.now (g.C.Conditions.sets c.args.conds.now) c.requires.owns)) c.put.ensures.moved
 
 pub returns-in-Unknown-clause-moved : goal.returns-in-Unknown-clause-moved
 returns-in-Unknown-clause-moved g c = on_ok_weaker c.refuse.result (λ refuses.

@@ -1,6 +1,0 @@
-//! The command line.
-#![tactic(auto)]
-
-mod command;
-
-pub use command::{ArgsStop, Command};
