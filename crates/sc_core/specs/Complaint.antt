@@ -1,7 +1,7 @@
 -- What is told where there is no text.
 use Rattle.std.specs.Prelude.{ℕ, ◌++◌, List, codes, string_bytes}
-use Rattle.sc_args.specs.declared.command.ArgsStop.{ArgsStop}
-use Rattle.sc_args.specs.declared.command.ArgsStop.TheVariants as args
+use Rattle.sc_args.specs.declared.stop.ArgsStop.{ArgsStop}
+use Rattle.sc_args.specs.declared.stop.ArgsStop.TheVariants as args
 use Rattle.sc_core.specs.declared.complaint.Complaint.{Complaint}
 use Rattle.sc_core.specs.declared.complaint.Complaint.TheVariants.{Usage, BadFile, NoSpace, BadSpace, ReadFault, OutOfMemory}
 use Rattle.sc_core.specs.declared.status.Status.{Status}
