@@ -1,6 +1,6 @@
 ghost use Rattle.std.specs.Prelude.{◌≡◌, nat_le};
 ghost use Rattle.std.specs.List.{list_all};
-ghost use Rattle.clap.specs.Words.{found_of, rows_of};
+ghost use Rattle.clap.specs.Words.{found_of, rows_of, subcommand_rows_of};
 ghost use Rattle.sc_args.specs.Words.{is_file_name, text_of};
 
 use crate::{ArgsStop, command_line};
@@ -18,7 +18,7 @@ pub enum Command {
 
 impl Command {
     ghost use Rattle.std.specs.Prelude.{map, string_bytes};
-    ghost use Rattle.sc_args.specs.Words.{asked_of, asked_tokens};
+    ghost use Rattle.sc_args.specs.Words.{asked_by, asked_of, asked_tokens};
     ghost use Rattle.sc_args.specs.Seen.{Answers};
 
     /// Reads the words of a call, of which the first is the program's name.
@@ -29,10 +29,16 @@ impl Command {
             Ok(matches) => matches,
             Err(refused) => return Err(command_line::refusal(alloc, &refused)),
         };
-        match matches.subcommand() {
-            Some(("tokens", found)) => Command::tokens(alloc, found),
-            // There is no other subcommand, and one is required.
-            _ => Ok(Command::Conflicts),
+        Command::named(alloc, &matches)
+    }
+
+    fn named(alloc: Global, matches: &ArgMatches<'_>) -> Result<Command, ArgsStop>
+        ensures { Answers result (asked_by (subcommand_rows_of matches.now)) }
+    {
+        match matches.subcommand_matches("tokens") {
+            Some(found) => Command::tokens(alloc, found),
+            // A subcommand is required, and there is one other.
+            None => Ok(Command::Conflicts),
         }
     }
 
