@@ -13,11 +13,19 @@ use std::alloc::{AllocError, Global};
 pub(crate) fn superc<'a>(alloc: Global) -> Result<Command<'a>, AllocError>
     ensures { IfOk result (λ c. app_of c ≡ superc_app) }
 {
-    let space = Arg::new(alloc, "space").required(true);
-    let file = Arg::new(alloc, "file").required(true);
-    let tokens = Command::new(alloc, "tokens").arg(space)?.arg(file)?;
-    let conflicts = Command::new(alloc, "conflicts");
+    let space = Arg::new(alloc, "space")
+        .required(true)
+        .help("The space file: the variables and their options");
+    let file = Arg::new(alloc, "file").required(true).help("The main file");
+    let tokens = Command::new(alloc, "tokens")
+        .about("Show the preprocessed tokens of a file under all configurations")
+        .arg(space)?
+        .arg(file)?;
+    let conflicts = Command::new(alloc, "conflicts").about(
+        "Show the resolved conflicts of the tables of C11",
+    );
     Command::new(alloc, "superc")
+        .about("Preprocess C11 under all configurations")
         .subcommand_required(true)
         .subcommand(tokens)?
         .subcommand(conflicts)

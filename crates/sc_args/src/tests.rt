@@ -20,8 +20,14 @@ fn answer(rt: &HostRuntime, arguments: &[&str]) -> Result<String, Fail> {
 #[test]
 fn reads_the_words(rt: HostRuntime) -> Result<(), Fail> {
     assert_eq!(rt; answer(&rt, &["tokens", "a", "b"])?.as_str(), "tokens a b");
-    assert_eq!(rt; answer(&rt, &["tokens", "a", ""])?.as_str(), "bad file name");
-    assert_eq!(rt; answer(&rt, &["tokens", "a", "b\u{1f}"])?.as_str(), "bad file name");
+    assert_eq!(rt;
+        answer(&rt, &["tokens", "a", ""])?.as_str(),
+        "bad file name"
+    );
+    assert_eq!(rt;
+        answer(&rt, &["tokens", "a", "b\u{1f}"])?.as_str(),
+        "bad file name"
+    );
     assert_eq!(rt; answer(&rt, &["conflicts"])?.as_str(), "conflicts");
     Ok(())
 }
