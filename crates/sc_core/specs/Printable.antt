@@ -25,9 +25,9 @@ pub record IsOfFile (names : List (List ℕ)) (file : FileId) (t : Token) : Type
   pub plain : (is_newline t.kind || is_plain (text_at names t.spelling.0)) ≡ true
 
 -- what was put out is printable, and the faults are in the file
-pub record ArePrintable (names : List (List ℕ)) (file : FileId) (list : List (Cond × Token)) (faults : List base.Fault) : Type 0 where
+pub record ArePrintable (names : List (List ℕ)) (file : FileId) (list : List (Cond × Token)) (refused : List base.Fault) : Type 0 where
   pub tokens : All (λ (item : Cond × Token). IsPrintable names file item.1) list
-  pub faults : All (λ (f : base.Fault). f.place.file ≡ file) faults
+  pub faults : All (λ (f : base.Fault). f.place.file ≡ file) refused
 
 -- from one walk to the next only tokens of the line are put out, and faults of its file
 abbrev pub StaysPrintable : List (List ℕ) → List Token → Walk → Walk → Type 0
