@@ -16,6 +16,7 @@ use c11::C11;
 pub use lookup::production;
 pub use rule::Production;
 use sc_model::Grammar;
+pub use terminal::terminal_name;
 
 /// The grammar of C11 (annex A.2).
 pub fn grammar() -> Grammar

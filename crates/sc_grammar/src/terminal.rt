@@ -1,6 +1,9 @@
 //! The terminals of C11, in the order of their numbers: names and constants, the keywords (6.4.1), the punctuators
 //! (6.4.6) without `#` and `##`, and the end of the text. An identifier is NAME, followed by TYPE where it is a typedef
 //! name and by VARIABLE where it isn't.
+ghost use Rattle.std.specs.Prelude.{◌≡◌, ◌<◌, map, slice_get, Some};
+ghost use Rattle.sc_grammar.specs.Terminals.{terminal_names};
+
 use sc_model::Terminal;
 
 pub const NAME: Terminal = Terminal(0);
@@ -195,8 +198,7 @@ pub const COMMA: Terminal = Terminal(94);
 
 pub const END: Terminal = Terminal(95);
 
-/// How a terminal is written. A terminal that has no spelling of its own goes by its name.
-pub static NAMES: [&str; 96] = [
+static NAMES: [&str; 96] = [
     "NAME",
     "TYPE",
     "VARIABLE",
@@ -294,3 +296,18 @@ pub static NAMES: [&str; 96] = [
     ",",
     "END",
 ];
+
+/// How the terminals are written, in the order of their numbers.
+fn names() -> &'static [&'static str]
+    ensures { map (λ name. name.now) result.now ≡ terminal_names }
+{
+    &NAMES
+}
+
+/// How a terminal is written. A terminal that has no spelling of its own goes by its name.
+pub fn terminal_name(terminal: Terminal) -> &'static str
+    requires { terminal.0 < 96 }
+    ensures { slice_get terminal_names terminal.0 ≡ Some result.now }
+{
+    names()[terminal.0]
+}

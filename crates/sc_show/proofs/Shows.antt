@@ -1,6 +1,6 @@
 -- What is shown of a list.
 use Rattle.std.proofs.Common.{◌≡◌, ℕ, zero, suc, ◌+◌, ◌<◌, ◌≤◌, ◌⊎◌, inl, inr, ◌||◌, Bool, true, false, List, [], ◌∷◌, ◌++◌, length, map, take, slice_get, get_or, Option, Some, None, unwrap_or, All, refl, sym, ap, subst, ◌∙◌, arith, add-one, append-nil, append_assoc, length-append, if◌then◌else◌}
-use Rattle.std.specs.List.{concat}
+use Rattle.std.specs.List.{concat, list_all}
 use Rattle.std.proofs.lemmas.List.{map-append}
 use Rattle.std.proofs.lemmas.Option.{same_Some, slice_get_within, get_or_from_slice_get}
 use Rattle.sc_base.specs.declared.fault.Fault as base
@@ -12,11 +12,13 @@ use Rattle.sc_model.specs.declared.cause.Cause.TheVariants.{NotFound}
 use Rattle.sc_model.specs.Pre.{Fault}
 use Rattle.sc_model.specs.Sets.{Sets, IsConfig, IsCond, Keeps}
 use Rattle.sc_model.specs.Space.{Space}
-use Rattle.sc_model.specs.Text.{end_line, line_text, with_end}
+use Rattle.sc_model.specs.Text.{end_line, line_text, is_clear, with_end}
 use Rattle.sc_model.specs.Token.{Shown, shown}
 use Rattle.sc_show.specs.declared.printer.Printer.{Printer}
+use Rattle.sc_show.specs.Pieces.{split_lines_after}
 use Rattle.sc_show.specs.Prints.{Prints, when}
 use Rattle.sc_show.specs.Shows.{IsShowable, IsShowableFault, AreApart, Shows}
+use Rattle.sc_show.proofs.Pieces.{split_lines, text_lines}
 use Rattle.sc_show.proofs.Reading.{read_lines-push, written-push, clear-push}
 
 -- what an index past the end reads
@@ -112,10 +114,11 @@ pub Shows-end : {space : Space} {s : Sets} {names files : List (List ℕ)} {p : 
 Shows-end {space} list faults text written same_tokens same_faults was = record {
   pieces = map line_text (was.lines ++ end_line ∷ []);
   answer = was.reading.answer;
-  whole = written ∙ ap (λ t. t ++ line_text end_line) was.written ∙ sym (written-push was.lines end_line);
+  whole = whole;
+  cut = ap split_lines_after whole ∙ split_lines (map line_text (was.lines ++ end_line ∷ [])) (text_lines (was.lines ++ end_line ∷ []) clear);
   reads = record {
     lines = was.lines ++ end_line ∷ [];
-    clear = clear-push was.lines end_line was.clear refl;
+    clear = clear;
     written = refl;
     reading = with_end was.reading;
     read = read_lines-push space was.lines _ was.reading (with_end was.reading) end_line was.read was.unended refl;
@@ -125,3 +128,9 @@ Shows-end {space} list faults text written same_tokens same_faults was = record 
   tokens = λ c listed. was.tokens_are c listed ∙ same_tokens c listed;
   faults_are = λ c listed. was.faults_are c listed ∙ same_faults c listed;
 }
+  where
+    whole : text ≡ concat (map line_text (was.lines ++ end_line ∷ []))
+    whole = written ∙ ap (λ t. t ++ line_text end_line) was.written ∙ sym (written-push was.lines end_line)
+
+    clear : list_all is_clear (was.lines ++ end_line ∷ []) ≡ true
+    clear = clear-push was.lines end_line was.clear refl

@@ -1,2 +1,4 @@
+pub mod Conflicts
+pub mod Pieces
 pub mod Prints
 pub mod Shows

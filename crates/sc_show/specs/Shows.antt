@@ -10,6 +10,7 @@ use Rattle.sc_model.specs.Sets.{Sets, IsConfig, IsCond}
 use Rattle.sc_model.specs.Space.{Space, arities_of}
 use Rattle.sc_model.specs.Text.{Answer, Reads, project, is_plain, is_word}
 use Rattle.sc_model.specs.Token.{shown}
+use Rattle.sc_show.specs.Pieces.{split_lines_after}
 
 -- an item that can be shown: its condition was made, its token is held, and its spelling and file are of one line
 pub record IsShowable (s : Sets) (names files : List (List ℕ)) (item : Cond × Token) : Type 0 where
@@ -36,5 +37,6 @@ pub record Shows (space : Space) (s : Sets) (names files : List (List ℕ)) (lis
   pub answer : Answer
   pub whole : text ≡ concat pieces
   pub reads : Reads space pieces answer
+  pub cut : split_lines_after text ≡ pieces
   pub tokens : (c : List ℕ) → IsConfig s.arities c → project answer.tokens c ≡ map (λ t. shown (seen names files t)) (items_at s list c)
   pub faults_are : (c : List ℕ) → IsConfig s.arities c → project answer.faults c ≡ map (seen_fault files) (faults_at s faults c)

@@ -10,7 +10,7 @@ use sc_model::VariableOption;
 use sc_space::Variable;
 
 #[tactic(auto, using(sc_model::proofs::Numerals::numeral_is))]
-fn write_number(text: &mut Vec<u8>, number: usize) -> Result<(), OutOfMemory>
+pub fn write_number(text: &mut Vec<u8>, number: usize) -> Result<(), OutOfMemory>
     ensures { OnOk result (text.new.items ≡ text.old.items ++ numeral number) }
 {
     text.extend_from_slice(Buffer::new().format(number).as_bytes())?;

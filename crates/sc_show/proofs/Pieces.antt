@@ -1,0 +1,89 @@
+-- The pieces of a text are its lines.
+use Rattle.std.proofs.Common.{◌≡◌, ℕ, suc, ◌==◌, ◌&&◌, ◌||◌, not, Bool, true, false, List, [], ◌∷◌, ◌++◌, map, codes, All, refl, sym, ap, ◌∙◌, arith, append_assoc, if◌then◌else◌}
+use Rattle.std.specs.List.{concat, flat_map, list_all, list_any}
+use Rattle.std.proofs.lemmas.List.Folds.{list_any-append}
+use Rattle.std.proofs.lemmas.List.Elements.{All-cons}
+use Rattle.std.proofs.lemmas.Bool.{true≢false, and_parts, or_parts, or_from, not-true, not_from_false, eqb-true}
+use Rattle.sc_model.specs.declared.cause.Cause.{Cause}
+use Rattle.sc_model.specs.declared.cause.Cause.TheVariants.{NotFound}
+use Rattle.sc_model.specs.Cause.{code_of, name_of}
+use Rattle.sc_model.specs.Text.{Printed, TextLine, condition_line, file_line, token_line, fault_line, end_line, numeral, place_text, choice_text, line_text, is_plain, is_word, is_wordless, is_clear}
+use Rattle.sc_model.proofs.Numerals.{numeral-digits, is_no_digit}
+use Rattle.sc_show.specs.Pieces.{IsLine, byte_before, split_lines_after}
+
+-- no newline stands in these bytes
+abbrev pub has_newline : List ℕ → Bool
+has_newline text = list_any (λ b. b == 10) text
+
+split_front : (front rest : List ℕ) → has_newline front ≡ false → split_lines_after (front ++ 10 ∷ rest) ≡ (front ++ 10 ∷ []) ∷ split_lines_after rest
+split_front [] rest p = refl
+split_front (b ∷ bs) rest p = let parts = or_parts (b == 10) (has_newline bs) p in by (b == 10) parts.0 (split_front bs rest parts.1)
+  where
+    by : (v : Bool) → v ≡ false → split_lines_after (bs ++ 10 ∷ rest) ≡ (bs ++ 10 ∷ []) ∷ split_lines_after rest
+        → (if v then (b ∷ []) ∷ split_lines_after (bs ++ 10 ∷ rest) else byte_before b (split_lines_after (bs ++ 10 ∷ rest))) ≡ (b ∷ bs ++ 10 ∷ []) ∷ split_lines_after rest
+    by true h ih = absurd (true≢false h)
+    by false h ih = ap (byte_before b) ih
+
+-- lines are cut apart again
+pub split_lines : (pieces : List (List ℕ)) → All IsLine pieces → split_lines_after (concat pieces) ≡ pieces
+split_lines [] all = refl
+split_lines (piece ∷ pieces) all =
+    let first = all 0 piece (omega arith) in
+    ap (λ t. split_lines_after (t ++ concat pieces)) first.whole ∙ ap split_lines_after (append_assoc first.front (10 ∷ []) (concat pieces))
+    ∙ split_front first.front (concat pieces) (not-true _ first.plain) ∙ ap (λ p. p ∷ split_lines_after (concat pieces)) (sym first.whole)
+    ∙ ap (λ ps. piece ∷ ps) (split_lines pieces (λ k d h. all (suc k) d (omega arith)))
+
+-- texts without a newline
+pub newline-append : (xs ys : List ℕ) → has_newline (xs ++ ys) ≡ (has_newline xs || has_newline ys)
+newline-append xs ys = list_any-append (λ b. b == 10) xs ys
+
+without : (stops : ℕ → Bool) → (stops 10 ≡ true) → (xs : List ℕ) → list_any stops xs ≡ false → has_newline xs ≡ false
+without stops stop [] h = refl
+without stops stop (x ∷ xs) h = let parts = or_parts (stops x) (list_any stops xs) h in or_from (x == 10) (has_newline xs) (by (x == 10) refl parts.0) (without stops stop xs parts.1)
+  where
+    by : (b : Bool) → (x == 10) ≡ b → stops x ≡ false → b ≡ false
+    by true e h = absurd (true≢false (sym stop ∙ (ap stops (sym (eqb-true x 10 e)) ∙ h)))
+    by false e h = refl
+
+pub numeral_plain : (n : ℕ) → has_newline (numeral n) ≡ false
+numeral_plain n = without is_no_digit refl (numeral n) (numeral-digits n)
+
+word_plain : (xs : List ℕ) → is_word xs ≡ true → has_newline xs ≡ false
+word_plain xs h = without is_wordless refl xs (not-true _ h)
+
+name_plain : (cause : Cause) → has_newline (name_of cause) ≡ false
+name_plain NotFound = refl
+name_plain _ = refl
+
+place_plain : (p : Printed) → has_newline (place_text p) ≡ false
+place_plain p = simp (newline-append, numeral_plain)
+
+choices_plain : (os : List (List ℕ × ℕ)) → list_all (λ choice. is_word choice.0 && not (list_any (λ b. b == 58) choice.0)) os ≡ true → has_newline (flat_map choice_text os) ≡ false
+choices_plain [] h = refl
+choices_plain (o ∷ os) h =
+    let parts = and_parts (is_word o.0 && not (list_any (λ b. b == 58) o.0)) (list_all (λ choice. is_word choice.0 && not (list_any (λ b. b == 58) choice.0)) os) h in
+    let word = word_plain o.0 (and_parts (is_word o.0) _ parts.0).0 in
+    simp (newline-append, numeral_plain, word, choices_plain os parts.1)
+
+-- a text without a newline, and one behind it
+pub is_line : (front : List ℕ) → has_newline front ≡ false → IsLine (front ++ codes "\n")
+is_line front h = record { front = front; plain = not_from_false (has_newline front) h; whole = refl }
+
+pub line_text_is_line : (line : TextLine) → is_clear line ≡ true → IsLine (line_text line)
+line_text_is_line (condition_line id variable options) h =
+    let parts = and_parts (is_word variable) _ h in
+    is_line (codes "c " ++ numeral id ++ codes " " ++ variable ++ flat_map choice_text options)
+    (simp (newline-append, numeral_plain, word_plain variable parts.0, choices_plain options parts.1))
+line_text_is_line (file_line id name) h = is_line (codes "s " ++ numeral id ++ codes " " ++ name) (simp (newline-append, numeral_plain, not-true (has_newline name) h))
+line_text_is_line (token_line cond place spelling) h =
+    is_line (codes "t " ++ numeral cond ++ codes " " ++ place_text place ++ codes " " ++ spelling)
+    (simp (newline-append, numeral_plain, place_plain place, not-true (has_newline spelling) h))
+line_text_is_line (fault_line cond cause place) h =
+    is_line (codes "f " ++ numeral cond ++ codes " " ++ numeral (code_of cause) ++ codes " " ++ name_of cause ++ codes " " ++ place_text place)
+    (simp (newline-append, numeral_plain, name_plain cause, place_plain place))
+line_text_is_line end_line h = is_line (codes "end") refl
+
+-- the lines of a text
+pub text_lines : (lines : List TextLine) → list_all is_clear lines ≡ true → All IsLine (map line_text lines)
+text_lines [] h = λ k d h. absurd (omega arith)
+text_lines (line ∷ lines) h = let parts = and_parts (is_clear line) (list_all is_clear lines) h in All-cons IsLine (line_text line) (map line_text lines) (line_text_is_line line parts.0) (text_lines lines parts.1)
