@@ -2,4 +2,5 @@ pub mod FileWalk
 pub mod LineSteps
 pub mod Machine
 pub mod Options
+pub mod Printing
 pub mod WalkMoves

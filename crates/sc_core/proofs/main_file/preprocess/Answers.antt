@@ -1,6 +1,8 @@
 use Rattle.std.proofs.Common.{◌≡◌, ◌∙◌, sym, ap, subst}
 use Rattle.std.specs.Option.{option_map}
 use Rattle.sc_core.specs.Preprocesses.{IsRefused}
+use Rattle.sc_core.specs.Printable.{ArePrintable}
+use Rattle.sc_core.proofs.Printing.{all-shown}
 use Rattle.sc_core.proofs.FileWalk.{refused-ordinary}
 use Rattle.sc_core.proofs.main_file.preprocess.Goals as goal
 use Rattle.sc_model.specs.declared.cause.Cause.TheVariants.{NotFound}
@@ -17,3 +19,12 @@ returns-in_ok-refused-in-None-clause-ordinary g c = λ outside holds config list
     (λ state. absent (sym (c.in_ok-read.ensures.answer outside holds) ∙ ap (option_map (λ bytes. bytes.items)) c.in-None.is))
     (subst (λ place. IsRefused s names files c.in_ok-refused-in-None.field-0 (fault_at NotFound place) config) (c.first.ensures.place files main c.in_ok-file.ensures.named)
     (c.in_ok-refused-in-None.ensures.refused names files config listed))
+
+pub returns-in_ok-refused-in-None-clause-shown : goal.returns-in_ok-refused-in-None-clause-shown
+returns-in_ok-refused-in-None-clause-shown g c =
+    let s = g.C.Conditions.sets c.args.conds.now in
+    let p = c.in_ok-refused-in-None.field-0 in
+    let file = c.in_ok-file.file in
+    all-shown s c.args.names.now c.intern.new.self file c.in_ok-file.ensures.own p c.in_ok-refused-in-None.ensures.owns
+    (subst (λ file. ArePrintable c.args.names.now file p.list p.faults.items) c.first.ensures.in_file (c.in_ok-refused-in-None.ensures.printable c.args.names.now))
+    c.in_ok-refused-in-None.ensures.apart

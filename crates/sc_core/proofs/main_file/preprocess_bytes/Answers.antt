@@ -1,7 +1,11 @@
-use Rattle.std.proofs.Common.{◌≡◌, ◌∙◌, sym, ap, subst, ℕ, List, map, refl, arith, Err}
+use Rattle.std.proofs.Common.{◌≡◌, ◌∙◌, sym, ap, subst, ℕ, List, [], map, refl, arith, Err}
 use Rattle.std.proofs.lemmas.Result.{IfOk-weaker}
 use Rattle.sc_core.specs.Preprocesses.{IsRefused}
-use Rattle.sc_core.proofs.FileWalk.{tokens-seen, place-seen, refused-ordinary, walk-ordinary}
+use Rattle.std.specs.Prelude.{All}
+use Rattle.sc_core.specs.Printable.{IsOfFile, ArePrintable}
+use Rattle.sc_core.proofs.Printing.{tokens-of_file, mirrors-few}
+use Rattle.sc_model.proofs.SetLemmas.{IsConfig-kept}
+use Rattle.sc_core.proofs.FileWalk.{held, tokens-seen, place-seen, refused-ordinary, walk-ordinary}
 use Rattle.sc_core.proofs.main_file.preprocess_bytes.Goals as goal
 use Rattle.sc_lex.specs.declared.token.Token.{Token}
 use Rattle.sc_lex.specs.Seen.{seen, seen_place}
@@ -67,3 +71,36 @@ returns-clause-ordinary g c = λ files outside main config named there listed.
     (record { list = c.in_ok-walk.walk.list; faults = c.in_ok-walk.walk.faults }) c.in_ok-walk.walk (seen_lines names files c.deref-2.result.now)
     (subst (λ (ts : List Token). IsTree (seen_lines names files ts) group.0) (c.deref.ensures.value ∙ sym c.deref-2.ensures.value) group.1)
     (c.in_ok-walk.ensures.walked files config listed) refl refl
+
+pub returns-in-Err-Comment-clause-printable : goal.returns-in-Err-Comment-clause-printable
+returns-in-Err-Comment-clause-printable g c =
+    let unended_at : IsUnendedAt c.args.file c.args.bytes.now c.in-Err-Comment.place = subst (lex.Refuses c.args.file c.args.bytes.now) c.in-Err-Comment.field-0-is c.in-Err-Comment.ensures.err in
+    IfOk-weaker c.refused-in-Err-Comment.result _ _ (λ p printable. subst (λ file. ArePrintable c.tokens.new.names file p.list p.faults.items) unended_at.in_file (printable c.tokens.new.names))
+    c.refused-in-Err-Comment.ensures.printable
+
+pub returns-in-Err-Nesting-clause-printable : goal.returns-in-Err-Nesting-clause-printable
+returns-in-Err-Nesting-clause-printable g c =
+    let names = c.tokens.new.names in
+    let refuses = subst (nests.Refuses names c.deref.result.now) c.in-Err-Nesting.field-0-is c.in-Err-Nesting.ensures.err in
+    let placed = refuses.placed c.args.file (subst (All (λ (t : Token). t.place.file ≡ c.args.file)) (sym c.deref.ensures.value) c.in-Ok.ensures.ok.spell.placed) in
+    IfOk-weaker c.refused-in-Err-Nesting.result _ _ (λ p printable. subst (λ file. ArePrintable names file p.list p.faults.items) placed (printable names))
+    c.refused-in-Err-Nesting.ensures.printable
+
+pub returns-then-bytes-gt-LARGEST_FILE-clause-printable : goal.returns-then-bytes-gt-LARGEST_FILE-clause-printable
+returns-then-bytes-gt-LARGEST_FILE-clause-printable g c =
+    IfOk-weaker c.refused.result _ _ (λ p printable. subst (λ file. ArePrintable c.args.names.now file p.list p.faults.items) c.first.ensures.in_file (printable c.args.names.now))
+    c.refused.ensures.printable
+
+pub returns-clause-printable : goal.returns-clause-printable
+returns-clause-printable g c =
+    let names = c.tokens.new.names in
+    c.in_ok-walk.ensures.printable c.args.file
+    (subst (All (IsOfFile names c.args.file)) (sym c.deref-2.ensures.value)
+    (tokens-of_file names c.args.file c.args.bytes.now c.in-Ok.tokens.items c.in-Ok.ensures.ok (held names c.in-Ok.tokens.items c.in-Ok.ensures.own c.in-Ok.ensures.ok.spell.named)))
+
+pub returns-clause-apart : goal.returns-clause-apart
+returns-clause-apart g c = record {
+  few = λ config listed.
+      let mirrors = c.in_ok-walk.ensures.walked [] config (IsConfig-kept c.walk_file.ensures.keeps listed) in
+      mirrors-few (g.C.Conditions.sets c.walk_file.new.conds) [] c.in_ok-walk.walk.faults.items config _ mirrors.fault;
+}

@@ -3,6 +3,8 @@ use Rattle.std.proofs.Math.Seq.{take-length}
 use Rattle.sc_core.specs.declared.walk.Walk.{Walk}
 use Rattle.sc_core.specs.Machine.{put_out}
 use Rattle.sc_core.specs.Mirrors.{Advances}
+use Rattle.sc_core.specs.Printable.{ArePrintable}
+use Rattle.sc_core.proofs.Printing.{puts-printable}
 use Rattle.sc_core.proofs.WalkMoves.{under, puts}
 use Rattle.sc_lex.specs.Seen.{seen}
 use Rattle.sc_core.proofs.moves.put.Goals as goal
@@ -14,3 +16,11 @@ returns-clause-moved c = λ names s owns.
     let all = ap (λ n. w.list ++ under w.live (take n c.args.line.now)) whole ∙ ap (λ ts. w.list ++ under w.live ts) (take-length c.args.line.now) in
     subst (λ next. Advances names s w s next (λ files config m. put_out m (map (seen names files) c.args.line.now))) (sym c.loop-token.invariant)
     (puts names s w owns c.args.line.now (w.list ++ under w.live (take c.loop-token.token-index c.args.line.now)) all)
+
+pub returns-clause-printable : goal.returns-clause-printable
+returns-clause-printable c = λ names file all old.
+    let w = c.args.walk.now in
+    let whole : c.loop-token.token-index ≡ length c.args.line.now = omega arith in
+    let taken = ap (λ n. take n c.args.line.now) whole ∙ take-length c.args.line.now in
+    subst (λ (next : Walk). ArePrintable names file next.list next.faults.items) (sym c.loop-token.invariant)
+    (subst (λ ts. ArePrintable names file (w.list ++ under w.live ts) w.faults.items) (sym taken) (puts-printable names file w.list w.faults.items w.live c.args.line.now all old))

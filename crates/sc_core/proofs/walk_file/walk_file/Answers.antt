@@ -9,6 +9,7 @@ use Rattle.sc_model.specs.Space.{initial_macros}
 use Rattle.sc_space.specs.Seen.{seen_space}
 use Rattle.sc_core.specs.Machine.{run, start}
 use Rattle.sc_core.specs.Mirrors.{Mirrors}
+use Rattle.sc_core.proofs.Printing.{line-printable, none-printable}
 use Rattle.sc_core.proofs.LineSteps.{directive-at, run-more}
 use Rattle.sc_core.proofs.walk_file.walk_file.Goals as goal
 
@@ -16,6 +17,7 @@ pub loop-line-init : goal.loop-line-init
 loop-line-init g c = record {
   owns = c.in_ok-walk.ensures.owns;
   keeps = Keeps-refl (g.C.Conditions.sets c.args.conds.now);
+  printable = λ file all. none-printable c.args.names.now file _ _ c.in_ok-walk.ensures.empty.0 c.in_ok-walk.ensures.empty.1;
   at = λ files config listed. c.in_ok-walk.ensures.starts c.args.names.now files config listed;
 }
 
@@ -30,6 +32,10 @@ pub loop-line-preserved : goal.loop-line-preserved
 loop-line-preserved g c = record {
   owns = c.in_ok-walk_line.ensures.steps.owns;
   keeps = Keeps-trans c.loop-line.invariant.keeps c.in_ok-walk_line.ensures.keeps;
+  printable = λ file all.
+      c.in_ok-walk_line.ensures.printable file
+      (line-printable c.args.names.now file c.args.tokens.now c.args.lines.now c.requires.lines all c.loop-line.line-index (record { first = 0; end = 0; conditional = None }) c.loop-line-test.true)
+      (c.loop-line.invariant.printable file all);
   at = λ files config listed.
       let f = λ (line : Line). map (seen c.args.names.now files) (tokens_of c.args.tokens.now line) in
       let macros = initial_macros (seen_space c.args.space.now) config in
