@@ -3,4 +3,6 @@ pub mod LineSteps
 pub mod Machine
 pub mod Options
 pub mod Printing
+pub mod Telling
 pub mod WalkMoves
+pub mod Writing

@@ -76,7 +76,6 @@ module _ (names : List (List ℕ)) (file : FileId) where
     faults = subst (All (λ (f : base.Fault). f.place.file ≡ file)) (sym no_faults) (All-nil (λ (f : base.Fault). f.place.file ≡ file));
   }
 
-
 -- what the token's spelling is like, seen through the table
 plain_by : (t : Token) (l : Lexeme) (o : Option (List ℕ)) → option_map (λ s. record { kind = t.kind; spelling = s; space = t.space; position = position_of t.place }) o ≡ Some l
     → (is_newline t.kind || is_plain (unwrap_or o [])) ≡ (is_newline l.kind || is_plain l.spelling)

@@ -48,7 +48,7 @@ module _ {old new : Sets} (keeps : Keeps old new) where
         let rest : map (section_at new config) xs ≡ map (section_at old config) xs = sections-by xs (All-tail (OwnsSection old) x xs all) in
         cc
 
-    items-kept : (xs : List (Cond × Token)) → All (λ item. IsCond old item.0.0) xs → items_at new xs config ≡ items_at old xs config
+    pub items-kept : (xs : List (Cond × Token)) → All (λ item. IsCond old item.0.0) xs → items_at new xs config ≡ items_at old xs config
     items-kept [] all = refl
     items-kept (x ∷ xs) all =
         let own = All-head (λ (item : Cond × Token). IsCond old item.0.0) x xs all in
@@ -56,7 +56,7 @@ module _ {old new : Sets} (keeps : Keeps old new) where
         ap (λ b. if b then x.1 ∷ items_at new xs config else items_at new xs config) (keeps.at x.0.0 config own listed)
         ∙ ap (λ ys. if old.has x.0.0 config then x.1 ∷ ys else ys) rest
 
-    faults-kept : (xs : List base.Fault) → All (λ f. IsCond old f.cond.0) xs → faults_at new xs config ≡ faults_at old xs config
+    pub faults-kept : (xs : List base.Fault) → All (λ f. IsCond old f.cond.0) xs → faults_at new xs config ≡ faults_at old xs config
     faults-kept [] all = refl
     faults-kept (x ∷ xs) all =
         let own = All-head (λ (f : base.Fault). IsCond old f.cond.0) x xs all in

@@ -1,3 +1,11 @@
+ghost use Rattle.std.specs.Prelude.{◌≡◌, ◌≤◌, Some, IfOk, IfErr};
+ghost use Rattle.sc_core.specs.Complaint.{space_line};
+ghost use Rattle.sc_core.specs.Outcome.{HasSpace};
+ghost use Rattle.sc_core.specs.Texts.{ComplainsInSpace};
+ghost use Rattle.sc_model.specs.Outside.{Files};
+ghost use Rattle.sc_space.specs.Seen.{seen_space, seen_fault};
+ghost use Rattle.sc_space.specs.Sound.{IsSound};
+
 use crate::complaint::Complaint;
 use sc_base::OutOfMemory;
 use sc_source::Source;
@@ -5,11 +13,15 @@ use sc_space::{Space, SpaceFault, SpaceStop};
 use std::alloc::Global;
 
 /// The space of the file with this name.
-pub fn read_space<S: Source>(
-    alloc: Global,
-    src: &mut S,
-    name: &str,
-) -> Result<Space, Complaint> {
+pub fn read_space<S: Source>(alloc: Global, src: &mut S, name: &str) -> Result<Space, Complaint>
+    ensures space { IfOk result (λ space. (files : Files) → S.holds src.old ≡ Some files → HasSpace files name.now (seen_space space)) }
+    ensures sound { IfOk result (λ space. IsSound (seen_space space)) }
+    ensures complains { IfErr result (ComplainsInSpace (S.holds src.old) (S.faults src.old) (S.faults src.new) name.now) }
+
+    // at every outcome
+    ensures kept { S.holds src.new ≡ S.holds src.old }
+    ensures counted { S.faults src.old ≤ S.faults src.new }
+{
     let Some(bytes) = src.read(alloc, name)? else {
         return Err(Complaint::NoSpace);
     };
@@ -21,7 +33,9 @@ pub fn read_space<S: Source>(
 }
 
 /// What the error output gets for a fault of a space file.
-fn fault_line(alloc: Global, fault: &SpaceFault) -> Result<Vec<u8>, OutOfMemory> {
+fn fault_line(alloc: Global, fault: &SpaceFault) -> Result<Vec<u8>, OutOfMemory>
+    ensures { IfOk result (λ line. line.items ≡ space_line (seen_fault fault.now)) }
+{
     let mut line = Vec::from_slice(alloc, b"superc: space: ")?;
     line.extend_from_slice(fault.name().as_bytes())?;
     if let Some(item) = fault.item() {

@@ -1,3 +1,17 @@
+ghost use Rattle.std.specs.Prelude.{◌≡◌, ◌≤◌, true, false, map, length, string_bytes, All, Some, IfOk, IfErr};
+ghost use Rattle.sc_args.specs.Words.{is_file_name};
+ghost use Rattle.sc_core.specs.Outcome.{IsConflictsText, Complains};
+ghost use Rattle.sc_core.specs.Preprocesses.{Stops};
+ghost use Rattle.sc_core.specs.Texts.{TellsTokens, IsTokensAnswer, IsAnswer, ComplainsInSpace, lines_of};
+ghost use Rattle.sc_model.specs.Outside.{Files as Outside};
+ghost use Rattle.sc_model.specs.Sets.{IsCond, IsNever};
+ghost use Rattle.sc_model.specs.Space.{arities_of};
+ghost use Rattle.sc_model.specs.Text.{is_plain};
+ghost use Rattle.sc_presence.specs.Plain.{sets_of};
+ghost use Rattle.sc_show.specs.Pieces.{IsLine, split_lines_after};
+ghost use Rattle.sc_space.specs.Seen.{seen_space, seen_variable};
+ghost use Rattle.sc_space.specs.Sound.{IsSound};
+
 use crate::complaint::Complaint;
 use crate::main_file::preprocess;
 use crate::space_file::read_space;
@@ -5,49 +19,115 @@ use crate::text::Text;
 use sc_args::Command;
 use sc_base::{Fault, Files, Names, OutOfMemory, Stop};
 use sc_presence::{Conditions, PlainSets};
-use sc_show::show_tokens;
+use sc_show::{show_conflicts, show_tokens};
 use sc_source::Source;
-use sc_space::Space;
+use sc_space::{Space, Variable};
 use std::alloc::Global;
 
 /// The text that the words ask for.
-pub fn text_for<S: Source>(
-    alloc: Global,
-    words: &[String],
-    src: &mut S,
-) -> Result<Text, Complaint> {
+pub fn text_for<S: Source>(alloc: Global, words: &[String], src: &mut S) -> Result<Text, Complaint>
+    ensures text { IfOk result (IsAnswer (S.holds src.old) (map string_bytes words.now)) }
+    ensures complains { IfErr result (Complains (record { holds = S.holds src.old; before = S.faults src.old; after = S.faults src.new }) (map string_bytes words.now)) }
+
+    // at every outcome
+    ensures kept { S.holds src.new ≡ S.holds src.old }
+    ensures counted { S.faults src.old ≤ S.faults src.new }
+{
     match Command::read(alloc, words)? {
         Command::Tokens { space, file } => {
             tokens_text(alloc, src, space.as_str(), file.as_str())
         }
         Command::Conflicts => Ok(Text {
-            lines: Vec::new(alloc),
+            lines: conflicts_text(alloc)?,
             is_refused: false,
         }),
     }
 }
 
-/// The tokens and the faults of a file under all configurations of a space.
+/// The conflicts of the tables of C11.
+fn conflicts_text(alloc: Global) -> Result<Vec<u8>, OutOfMemory>
+    ensures text { IfOk result (λ text. IsConflictsText (split_lines_after text.items)) }
+    ensures lines { IfOk result (λ text. All IsLine (split_lines_after text.items)) }
+{
+    let grammar = sc_grammar::grammar();
+    let states = sc_items::states(alloc, &grammar)?;
+    let tables = sc_lalr::build(alloc, &grammar, &states)?;
+    show_conflicts(alloc, &tables)
+}
+
+/// The tokens and the faults of a file under all configurations of the space of another.
 fn tokens_text<S: Source>(
     alloc: Global,
     src: &mut S,
     space: &str,
     file: &str,
-) -> Result<Text, Complaint> {
+) -> Result<Text, Complaint>
+    requires { is_file_name file.now ≡ true }
+    ensures text { IfOk result (IsTokensAnswer (S.holds src.old) space.now file.now) }
+    ensures complains { IfErr result (ComplainsInSpace (S.holds src.old) (S.faults src.old) (S.faults src.new) space.now) }
+
+    // at every outcome
+    ensures kept { S.holds src.new ≡ S.holds src.old }
+    ensures counted { S.faults src.old ≤ S.faults src.new }
+{
     let space = read_space(alloc, src, space)?;
     let mut conds = conditions(alloc, &space)?;
+    match text_under(alloc, src, &mut conds, &space, file) {
+        Ok(text) => Ok(text),
+        Err(Stop::ReadFault) => Err(Complaint::ReadFault),
+        Err(Stop::OutOfMemory) => Err(Complaint::OutOfMemory),
+        Err(Stop::BranchesFull { .. }) => unreachable!(),
+    }
+}
+
+/// The conditions over the configurations of a space.
+fn conditions(alloc: Global, space: &Space) -> Result<PlainSets, OutOfMemory>
+    requires { IsSound (seen_space space.now) }
+    ensures { IfOk result (λ sets. (sets_of sets).arities ≡ arities_of (seen_space space.now)) }
+{
+    let arities = arities(alloc, &space.variables)?;
+    PlainSets::new(alloc, &arities)
+}
+
+/// How many options each variable has.
+fn arities(alloc: Global, variables: &[Variable]) -> Result<Vec<usize>, OutOfMemory>
+    ensures { IfOk result (λ arities. arities.items ≡ map (λ variable. length variable.options) (map seen_variable variables.now)) }
+{
+    let mut arities = Vec::new(alloc);
+    for variable in variables {
+        arities.push(variable.options.len())?;
+    }
+    Ok(arities)
+}
+
+/// The tokens and the faults of a file under all configurations of a space.
+#[tactic(auto, using(sc_model::proofs::SetLemmas::conditions))]
+fn text_under<C: Conditions, S: Source>(
+    alloc: Global,
+    src: &mut S,
+    conds: &mut C,
+    space: &Space,
+    file: &str,
+) -> Result<Text, Stop>
+    requires arities { (C.sets conds.old).arities ≡ arities_of (seen_space space.now) }
+    requires sound { IsSound (seen_space space.now) }
+    requires plain { is_plain file.now ≡ true }
+    ensures lines { IfOk result (λ text. All IsLine (lines_of text)) }
+    ensures tokens { IfOk result (λ text. (outside : Outside) → S.holds src.old ≡ Some outside → TellsTokens (seen_space space.now) outside file.now text) }
+    ensures stops { IfErr result (Stops (S.faults src.old) (S.faults src.new)) }
+
+    // at every outcome
+    ensures kept { S.holds src.new ≡ S.holds src.old }
+    ensures counted { S.faults src.old ≤ S.faults src.new }
+{
     let mut names = Names::new(alloc)?;
     let mut files = Files::new(alloc)?;
-    let answer = match preprocess(alloc, src, &mut conds, &space, &mut names, &mut files, file) {
-        Ok(answer) => answer,
-        Err(Stop::ReadFault) => return Err(Complaint::ReadFault),
-        Err(_) => return Err(Complaint::OutOfMemory),
-    };
-    let is_refused = has_fault(&conds, &answer.faults);
+    let answer = preprocess(alloc, src, conds, space, &mut names, &mut files, file)?;
+    let is_refused = has_fault(conds, &answer.faults);
     let lines = show_tokens(
         alloc,
-        &mut conds,
-        &space,
+        conds,
+        space,
         &names,
         &files,
         &answer.list,
@@ -56,17 +136,12 @@ fn tokens_text<S: Source>(
     Ok(Text { lines, is_refused })
 }
 
-/// The conditions over the configurations of a space.
-fn conditions(alloc: Global, space: &Space) -> Result<PlainSets, OutOfMemory> {
-    let mut arities = Vec::new(alloc);
-    for variable in &space.variables {
-        arities.push(variable.options.len())?;
-    }
-    PlainSets::new(alloc, &arities)
-}
-
 /// Whether some configuration has a fault.
-fn has_fault<C: Conditions>(conds: &C, faults: &[Fault]) -> bool {
+fn has_fault<C: Conditions>(conds: &C, faults: &[Fault]) -> bool
+    requires { All (λ fault. IsCond (C.sets conds.now) fault.cond.0) faults.now }
+    ensures none { result ≡ false → All (λ fault. IsNever (C.sets conds.now) fault.cond.0) faults.now }
+    ensures some { result ≡ true → All (λ fault. IsNever (C.sets conds.now) fault.cond.0) faults.now → ⊥ }
+{
     for fault in faults {
         if !conds.is_never(fault.cond) {
             return true;

@@ -1,0 +1,13 @@
+use Rattle.std.proofs.Common.{◌≡◌, sym, subst, arith}
+use Rattle.std.proofs.lemmas.Result.{IfOk-weaker}
+use Rattle.std.specs.Prelude.{All}
+use Rattle.sc_core.proofs.texts.conflicts_text.Goals as goal
+use Rattle.sc_lalr.specs.Tables.{conflicts_of}
+use Rattle.sc_show.proofs.ConflictLines.{are_named, conflict_lines}
+use Rattle.sc_show.specs.Pieces.{IsLine}
+
+pub show_conflicts-requires : goal.show_conflicts-requires
+show_conflicts-requires c = are_named c.in_ok-tables.ensures (omega (arith, c.grammar-grammar.ensures.terminals))
+
+pub returns-clause-lines : goal.returns-clause-lines
+returns-clause-lines c = IfOk-weaker c.show_conflicts.result _ _ (λ text lines. subst (All IsLine) (sym lines) (conflict_lines (conflicts_of c.in_ok-tables.tables))) c.show_conflicts.ensures.lines
