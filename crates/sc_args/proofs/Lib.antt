@@ -1,5 +1,7 @@
 pub mod Examples
+pub mod Faultless
 pub mod Named
+pub mod Passes
 pub mod Steps
 pub mod Taken
 pub mod Values

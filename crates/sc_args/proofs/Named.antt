@@ -1,5 +1,5 @@
--- Words in which `clap` finds no fault name `tokens` or `conflicts`.
-use Rattle.std.proofs.Common.{◌≡◌, ◌∙◌, ap, sym, subst, refl, [], ◌∷◌, ◌++◌, codes, ℕ, List, length, true, false, arith, ◌==◌, ◌&&◌, ◌||◌, inl, inr}
+-- Words that are taken name `tokens` with both its words, or `conflicts`.
+use Rattle.std.proofs.Common.{◌≡◌, ◌∙◌, ap, sym, subst, refl, [], ◌∷◌, ◌++◌, codes, ℕ, List, length, true, false, arith, ◌&&◌, ◌||◌, inl, inr}
 use Rattle.std.specs.Prelude.{◌⊎◌, Option, Some, None, if◌then◌else◌, Bool, is_some, not, fold, option_map, find, cond, unwrap_or}
 use Rattle.std.specs.Option.{option_map_or}
 use Rattle.std.specs.Str.{bytes_eq}
@@ -7,18 +7,16 @@ use Rattle.std.proofs.lemmas.Slice.Eq.{bytes_eq-Decides}
 use Rattle.clap.specs.Kinds.{Kinds, or_else, range_kinds}
 use Rattle.clap.specs.Faults.{entered_fault, fault_of, check_fault, level_fault, other_fault, step_fault, turn_fault, walk_fault, word_fault}
 use Rattle.clap.specs.Simple.{App, Shape, argument_words, built, built_leaf, entered, filled, help_rule, help_shape, inherited, label_of, names_of, rows_at, subcommand_of, with_index}
-use Rattle.clap.specs.Walk.{action_of, Held, Names, Outcome, Row, Rule, Step, Text, Waiting, Walk, after_flag, after_step, arg_by_index, arg_by_long, answers_to, bundle, finished, first_of, rows_after, done, idle, long_met, long_or_other, next, nothing_held, option, plain, plain_word, positional, reading_by, refused, short_or_plain, subcommand, subcommand_met, subcommand_or_other, to_positional, trailing, value, waits, walk, walk_from, walked, walked_from, word_met}
+use Rattle.clap.specs.Walk.{Held, Names, Outcome, Row, Rule, Step, Text, Waiting, Walk, after_flag, after_step, arg_by_index, arg_by_long, answers_to, bundle, finished, rows_after, done, idle, long_met, long_or_other, next, nothing_held, option, plain, plain_word, positional, reading_by, refused, short_or_plain, subcommand, subcommand_met, subcommand_or_other, to_positional, trailing, value, waits, walk, walk_from, walked, walked_from, word_met}
 use Rattle.clap.specs.Lexer.{long_of, short_of}
-use Rattle.clap.specs.declared.error.ErrorKind.{ErrorKind}
 use Rattle.clap.specs.declared.error.ErrorKind.TheVariants as kind
+use Rattle.sc_args.proofs.Faultless.{taken_is_fault_free}
 use Rattle.sc_args.proofs.Steps.{IsFaultless, both, level_steps, not_empty}
-use Rattle.clap.specs.Facts.{unwrap_or_range}
-use Rattle.clap.specs.Takes.{is_given}
-use Rattle.clap.specs.declared.builder.action.ArgAction.TheVariants.{Set}
+use Rattle.clap.specs.Takes.{is_given, takes}
 use Rattle.clap.specs.declared.parser.matches.ValueSource.TheVariants.{CommandLine}
 use Rattle.sc_args.proofs.Values.{AllUsable, IsUsable, finished_is_full, is_full, text_of_given, used_is_full, walk_is_full}
 use Rattle.sc_args.specs.Laws.{NamesCommand, has_text}
-use Rattle.sc_args.specs.Words.{conflicts_app, is_misuse, required_rule, superc_app, tokens_app}
+use Rattle.sc_args.specs.Words.{conflicts_app, required_rule, superc_app, tokens_app}
 
 none_some : {X : Type 0} (x : X) → None ≡ Some x → ⊥
 none_some x e = let h : false ≡ true = ap is_some e in grind arith
@@ -134,7 +132,6 @@ required : (rows : List Row) (has : Bool) → check_fault whole.top rows has ≡
 required rows true e = refl
 required rows false e = absurd (not_empty kind.MissingSubcommand [] e)
 
-
 -- the subcommands as they are built
 abbrev tokens_built : Shape
 tokens_built = built_leaf (inherited whole.top tokens_app.top)
@@ -235,11 +232,14 @@ tokens_have words e = (text_of_given (codes "space") (finished tokens_built.rule
   where
     steps : IsFaultless tokens_built [] nothing_held words false []
     steps = level_steps tokens_built [] nothing_held words false [] e
+
     end : Held
     end = (walk tokens_built.rules [] nothing_held words).held
+
     given : (is_given (codes "space") (finished tokens_built.rules (walk tokens_built.rules [] nothing_held words).held) ≡ true)
         × (is_given (codes "file") (finished tokens_built.rules (walk tokens_built.rules [] nothing_held words).held) ≡ true)
     given = both_given (finished tokens_built.rules (walk tokens_built.rules [] nothing_held words).held) steps.checks
+
     full : is_full (finished tokens_built.rules (walk tokens_built.rules [] nothing_held words).held) ≡ true
     full = finished_is_full tokens_built.rules tokens_usable tokens_built.args_override_self (walk tokens_built.rules [] nothing_held words).held refl steps.settles
         (walk_is_full tokens_built tokens_usable [] words (walk_from nothing_held) steps.walks refl)
@@ -254,20 +254,17 @@ entered_command p e (inr t) = subst NamesCommand (sym t.rows) (inr refl)
 faultless_words_name_a_command : (words : List Text) → fault_of superc_app words ≡ [] → NamesCommand (subcommand_of superc_app words)
 faultless_words_name_a_command words e = go (stop_in (argument_words superc_app words)) refl steps.enters
     (required (finished whole.top.rules (walk whole.top.rules (names_of whole) nothing_held (argument_words superc_app words)).held)
-        (is_some (entered whole (stop_in (argument_words superc_app words)))) steps.checks)
+    (is_some (entered whole (stop_in (argument_words superc_app words)))) steps.checks)
   where
     steps : IsFaultless whole.top (names_of whole) nothing_held (argument_words superc_app words) (is_some (entered whole (stop_in (argument_words superc_app words))))
         (entered_fault whole (stop_in (argument_words superc_app words)))
     steps = level_steps whole.top (names_of whole) nothing_held (argument_words superc_app words) (is_some (entered whole (stop_in (argument_words superc_app words))))
         (entered_fault whole (stop_in (argument_words superc_app words))) e
+
     go : (o : Option (Text × List Text)) → stop_in (argument_words superc_app words) ≡ o → entered_fault whole o ≡ [] → is_some (entered whole o) ≡ true → NamesCommand (entered whole o)
     go None stops below is_entered = absurd (no_both false refl is_entered)
     go (Some p) stops below is_entered = entered_command p below
         (one_of_two p (walk_names_no_help whole.top (names_of whole) (argument_words superc_app words) (walk_from nothing_held) p refl refl steps.walks stops) is_entered)
 
-no_misuse : (kinds : Kinds) → not (length kinds == 0) ≡ false → kinds ≡ []
-no_misuse [] e = refl
-no_misuse (k ∷ kinds) e = grind arith
-
-pub taken_words_name_a_command : (words : List Text) → is_misuse words ≡ false → NamesCommand (subcommand_of superc_app words)
-taken_words_name_a_command words e = faultless_words_name_a_command words (no_misuse (fault_of superc_app words) e)
+pub taken_words_name_a_command : (words : List Text) → takes superc_app words ≡ true → NamesCommand (subcommand_of superc_app words)
+taken_words_name_a_command words e = faultless_words_name_a_command words (taken_is_fault_free superc_app words refl refl e)

@@ -1,11 +1,11 @@
 -- Which words `clap` takes for this command.
-use Rattle.std.proofs.Common.{◌≡◌, ◌∙◌, ap, sym, subst, refl, [], ◌∷◌, codes, ℕ, List, true, false, arith, ◌==◌, ◌&&◌}
-use Rattle.std.specs.Prelude.{◌≢◌, Ok, Err, Option, Some, None, if◌then◌else◌, Bool, option_and_then}
+use Rattle.std.proofs.Common.{◌≡◌, ap, refl, [], ◌∷◌, codes, ℕ, List, true, false, arith, ◌==◌, ◌&&◌}
+use Rattle.std.specs.Prelude.{Ok, Err, Some, None, if◌then◌else◌, Bool, option_and_then}
 use Rattle.std.specs.Str.{bytes_eq}
 use Rattle.clap.proofs.OnLiterals.{clap_on_literals}
 use Rattle.clap.specs.Lexer.{strip_byte, long_of, long_of_rest, short_of, short_of_rest}
 use Rattle.sc_args.specs.Laws.{IsPlainWord}
-use Rattle.sc_args.specs.Words.{asked_of, is_file_name, tokens, conflicts, usage, bad_file}
+use Rattle.sc_args.specs.Words.{asked_of, is_file_name, tokens, conflicts, bad_file}
 
 pub conflicts_alone : (program : List ℕ) → asked_of (program ∷ codes "conflicts" ∷ []) ≡ Ok conflicts
 unfolding asked_of clap_on_literals

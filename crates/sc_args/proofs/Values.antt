@@ -1,6 +1,6 @@
 -- In a walk without a fault, each use of an argument that takes one value has a value.
-use Rattle.std.proofs.Common.{◌≡◌, ◌∙◌, ap, sym, subst, refl, [], ◌∷◌, ◌++◌, codes, ℕ, zero, suc, List, length, true, false, arith, ◌&&◌, ◌||◌}
-use Rattle.std.specs.Prelude.{Option, Some, None, if◌then◌else◌, Bool, is_some, not, fold, find, cond, slice_get, encode_utf8, drop, option_map, option_and_then}
+use Rattle.std.proofs.Common.{◌≡◌, ◌∙◌, ap, sym, refl, [], ◌∷◌, ◌++◌, ℕ, zero, suc, List, length, true, false, arith, ◌&&◌}
+use Rattle.std.specs.Prelude.{Option, Some, None, if◌then◌else◌, Bool, is_some, fold, find, cond, slice_get, encode_utf8, drop, option_and_then}
 use Rattle.std.specs.List.{list_all}
 use Rattle.std.specs.Option.{option_map_or}
 use Rattle.std.specs.Str.{bytes_eq, chars}
@@ -14,7 +14,7 @@ use Rattle.clap.specs.Walk.{Held, Names, Outcome, Row, Rule, Step, Text, Waiting
 use Rattle.clap.specs.declared.parser.matches.ValueSource.{ValueSource}
 use Rattle.clap.specs.declared.builder.value_parser.Reading.{Reading}
 use Rattle.clap.specs.declared.error.ErrorKind.TheVariants as kind
-use Rattle.sc_args.proofs.Steps.{both, not_empty}
+use Rattle.sc_args.proofs.Steps.{both, split_and}
 
 -- each row has a value
 abbrev pub is_full_row : Row → Bool
@@ -22,10 +22,6 @@ is_full_row r = is_some (slice_get r.values 0)
 
 abbrev pub is_full : List Row → Bool
 is_full = list_all is_full_row
-
-split_and : (a b : Bool) → (a && b) ≡ true → (a ≡ true) × (b ≡ true)
-split_and true b e = (refl, e)
-split_and false b e = (e, let h : false ≡ true = e in grind arith)
 
 full_append : (xs ys : List Row) → is_full xs ≡ true → is_full ys ≡ true → is_full (xs ++ ys) ≡ true
 full_append [] ys e f = f
@@ -39,6 +35,7 @@ full_at_row id change missing (r ∷ rs) keeps m e = go (bytes_eq r.id id) (full
   where
     parts : (is_full_row r ≡ true) × (is_full rs ≡ true)
     parts = split_and (is_full_row r) (is_full rs) e
+
     go : (b : Bool) → is_full (at_row id change missing rs) ≡ true → is_full (if b then change r ++ rs else r ∷ at_row id change missing rs) ≡ true
     go true later = full_append (change r) rs (keeps r parts.0) parts.1
     go false later = ap (λ b. b && is_full (at_row id change missing rs)) parts.0 ∙ later
@@ -70,6 +67,7 @@ settled_is_full c usable again h e f = go h.pending e
         → is_full (used_by_id o values h.rows) ≡ true
     by_id None values ok e = f
     by_id (Some a) values ok e = ok a refl again values h.rows e f
+
     go : (o : Option (Text × List Text)) → option_map_or (λ p. option_map_or (λ a. use_fault again a p.1 h.rows) (arg_by_id c p.0) []) o [] ≡ [] → is_full (settled_rows c o h.rows) ≡ true
     go None e = f
     go (Some p) e = by_id (arg_by_id c p.0) p.1 (λ a is. usable _ a is) e
@@ -169,6 +167,7 @@ word_is_full s usable names false waiting position word h e f = go (subcommand_m
         → is_full (if b then (h, trailing position) else long_or_other s.rules waiting word (long_of word) h).0.rows ≡ true
     dashes true e = f
     dashes false e = flag_is_full s.rules usable s.args_override_self waiting word (long_of word) h e f
+
     go : (o : Option Text) → other_fault s o word h ≡ [] → is_full (subcommand_or_other s.rules o waiting position word h).0.rows ≡ true
     go (Some name) e = f
     go None e = dashes (bytes_eq word (45 ∷ 45 ∷ [])) e

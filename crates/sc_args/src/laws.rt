@@ -1,8 +1,8 @@
 //! Laws about what words ask for, each the contract of a function without code.
-ghost use Rattle.std.specs.Prelude.{◌≡◌, ℕ, List, [], ◌∷◌, Ok, Err, codes, false, if◌then◌else◌};
-ghost use Rattle.clap.specs.Words.{subcommand_of};
+ghost use Rattle.std.specs.Prelude.{◌≡◌, ℕ, List, [], ◌∷◌, Ok, Err, codes, true, if◌then◌else◌};
+ghost use Rattle.clap.specs.Words.{subcommand_of, takes};
 ghost use Rattle.sc_args.specs.Laws.{IsPlainWord, NamesCommand};
-ghost use Rattle.sc_args.specs.Words.{asked_of, bad_file, conflicts, is_file_name, is_misuse, superc_app, tokens, usage};
+ghost use Rattle.sc_args.specs.Words.{asked_of, bad_file, conflicts, is_file_name, superc_app, tokens, usage};
 
 /// Both commands are taken, whatever the program's name is. A word that begins with a hyphen may be a flag.
 pub fn commands_are_taken()
@@ -12,9 +12,9 @@ pub fn commands_are_taken()
     ensures conflicts { (program : List ℕ) → asked_of (program ∷ codes "conflicts" ∷ []) ≡ Ok conflicts }
 {}
 
-/// Words in which `clap` finds no fault name one of the two commands, with all that it requires.
+/// Words that are taken name one of the two commands, with all that it requires.
 pub fn taken_words_name_a_command()
-    ensures { (words : List (List ℕ)) → is_misuse words ≡ false → NamesCommand (subcommand_of superc_app words) }
+    ensures { (words : List (List ℕ)) → takes superc_app words ≡ true → NamesCommand (subcommand_of superc_app words) }
 {}
 
 /// No word, an unknown word, a word too few, a word too many and a request for help are misuse.
