@@ -2,51 +2,44 @@
 use Rattle.std.proofs.Common.{◌≡◌, refl, [], ◌∷◌, codes, ℕ, List}
 use Rattle.std.specs.Prelude.{Ok, Err}
 use Rattle.clap.proofs.OnLiterals.{clap_on_literals}
-use Rattle.sc_args.specs.Words.{asked_of, tokens, conflicts, usage, bad_file}
+use Rattle.sc_args.specs.Words.{asked_of, tokens, usage, bad_file}
 
-abbrev program : List ℕ
-program = codes "superc"
-
-pub tokens_of_a_file : asked_of (program ∷ codes "tokens" ∷ codes "a" ∷ codes "b" ∷ []) ≡ Ok (tokens (codes "a") (codes "b"))
+pub no_word : (program : List ℕ) → asked_of (program ∷ []) ≡ Err usage
 unfolding asked_of clap_on_literals
-tokens_of_a_file = refl
+no_word program = refl
 
-pub tokens_after_dashes : asked_of (program ∷ codes "tokens" ∷ codes "--" ∷ codes "-a" ∷ codes "b" ∷ []) ≡ Ok (tokens (codes "-a") (codes "b"))
+pub unknown_word : (program : List ℕ) → asked_of (program ∷ codes "frob" ∷ []) ≡ Err usage
 unfolding asked_of clap_on_literals
-tokens_after_dashes = refl
+unknown_word program = refl
 
-pub conflicts_alone : asked_of (program ∷ codes "conflicts" ∷ []) ≡ Ok conflicts
+pub word_too_few : (program : List ℕ) → asked_of (program ∷ codes "tokens" ∷ codes "a" ∷ []) ≡ Err usage
 unfolding asked_of clap_on_literals
-conflicts_alone = refl
+word_too_few program = refl
 
-pub unknown_subcommand : asked_of (program ∷ codes "frob" ∷ []) ≡ Err usage
+pub word_too_many : (program : List ℕ) → asked_of (program ∷ codes "conflicts" ∷ codes "x" ∷ []) ≡ Err usage
 unfolding asked_of clap_on_literals
-unknown_subcommand = refl
+word_too_many program = refl
 
-pub no_subcommand : asked_of (program ∷ []) ≡ Err usage
+pub help_flag : (program : List ℕ) → asked_of (program ∷ codes "tokens" ∷ codes "--help" ∷ []) ≡ Err usage
 unfolding asked_of clap_on_literals
-no_subcommand = refl
+help_flag program = refl
 
-pub no_file : asked_of (program ∷ codes "tokens" ∷ codes "a" ∷ []) ≡ Err usage
+help_word : (program : List ℕ) → asked_of (program ∷ codes "help" ∷ []) ≡ Err usage
 unfolding asked_of clap_on_literals
-no_file = refl
+help_word program = refl
 
-pub help_flag : asked_of (program ∷ codes "tokens" ∷ codes "--help" ∷ []) ≡ Err usage
+plain_names : (program : List ℕ) → asked_of (program ∷ codes "tokens" ∷ codes "a" ∷ codes "b" ∷ []) ≡ Ok (tokens (codes "a") (codes "b"))
 unfolding asked_of clap_on_literals
-help_flag = refl
+plain_names program = refl
 
-pub help_subcommand : asked_of (program ∷ codes "help" ∷ []) ≡ Err usage
+name_after_dashes : (program : List ℕ) → asked_of (program ∷ codes "tokens" ∷ codes "--" ∷ codes "-a" ∷ codes "b" ∷ []) ≡ Ok (tokens (codes "-a") (codes "b"))
 unfolding asked_of clap_on_literals
-help_subcommand = refl
+name_after_dashes program = refl
 
-pub word_too_many : asked_of (program ∷ codes "conflicts" ∷ codes "x" ∷ []) ≡ Err usage
+empty_name : (program : List ℕ) → asked_of (program ∷ codes "tokens" ∷ codes "a" ∷ [] ∷ []) ≡ Err bad_file
 unfolding asked_of clap_on_literals
-word_too_many = refl
+empty_name program = refl
 
-pub empty_file_name : asked_of (program ∷ codes "tokens" ∷ codes "a" ∷ [] ∷ []) ≡ Err bad_file
+name_with_a_control : (program : List ℕ) → asked_of (program ∷ codes "tokens" ∷ codes "a" ∷ (98 ∷ 31 ∷ []) ∷ []) ≡ Err bad_file
 unfolding asked_of clap_on_literals
-empty_file_name = refl
-
-pub control_in_a_file_name : asked_of (program ∷ codes "tokens" ∷ codes "a" ∷ (98 ∷ 31 ∷ []) ∷ []) ≡ Err bad_file
-unfolding asked_of clap_on_literals
-control_in_a_file_name = refl
+name_with_a_control program = refl

@@ -1,35 +1,270 @@
--- What the words ask for has a main file's name.
-use Rattle.std.proofs.Common.{◌≡◌, ℕ, Bool, true, false, List, [], Option, Some, None, Result, Ok, Err, refl, sym, ap, ◌∙◌}
-use Rattle.std.specs.Prelude.{codes, if◌then◌else◌}
+-- Words that are taken name `tokens` with both its words, or `conflicts`.
+use Rattle.std.proofs.Common.{◌≡◌, ◌∙◌, ap, sym, subst, refl, [], ◌∷◌, ◌++◌, codes, ℕ, List, length, true, false, arith, ◌&&◌, ◌||◌, inl, inr}
+use Rattle.std.specs.Prelude.{◌⊎◌, Option, Some, None, if◌then◌else◌, Bool, is_some, not, fold, option_map, find, cond, unwrap_or}
+use Rattle.std.specs.Option.{option_map_or}
 use Rattle.std.specs.Str.{bytes_eq}
-use Rattle.clap.specs.Words.{Row, subcommand_of}
-use Rattle.sc_args.specs.Words.{Asked, tokens, conflicts, Misuse, bad_file, usage, is_file_name, is_misuse, asked_of, asked_by, asked_tokens, text_of, superc_app}
+use Rattle.std.proofs.lemmas.Slice.Eq.{bytes_eq-Decides}
+use Rattle.clap.specs.Kinds.{Kinds, or_else, range_kinds}
+use Rattle.clap.specs.Faults.{entered_fault, fault_of, check_fault, level_fault, other_fault, step_fault, turn_fault, walk_fault, word_fault}
+use Rattle.clap.specs.Simple.{App, Shape, argument_words, built, built_leaf, entered, filled, help_rule, help_shape, inherited, label_of, names_of, rows_at, subcommand_of, with_index}
+use Rattle.clap.specs.Walk.{Held, Names, Outcome, Row, Rule, Step, Text, Waiting, Walk, after_flag, after_step, arg_by_index, arg_by_long, answers_to, bundle, finished, rows_after, done, idle, long_met, long_or_other, next, nothing_held, option, plain, plain_word, positional, reading_by, refused, short_or_plain, subcommand, subcommand_met, subcommand_or_other, to_positional, trailing, value, waits, walk, walk_from, walked, walked_from, word_met}
+use Rattle.clap.specs.Lexer.{long_of, short_of}
+use Rattle.clap.specs.declared.error.ErrorKind.TheVariants as kind
+use Rattle.sc_args.proofs.Faultless.{taken_is_fault_free}
+use Rattle.sc_args.proofs.Steps.{IsFaultless, both, level_steps, not_empty}
+use Rattle.clap.specs.Takes.{is_given, takes}
+use Rattle.clap.specs.declared.parser.matches.ValueSource.TheVariants.{CommandLine}
+use Rattle.sc_args.proofs.Values.{AllUsable, IsUsable, finished_is_full, is_full, text_of_given, used_is_full, walk_is_full}
+use Rattle.sc_args.specs.Laws.{NamesCommand, has_text}
+use Rattle.sc_args.specs.Words.{conflicts_app, required_rule, superc_app, tokens_app}
 
-abbrev file_in : Asked → List ℕ
-file_in (tokens space file) = file
-file_in conflicts = []
+none_some : {X : Type 0} (x : X) → None ≡ Some x → ⊥
+none_some x e = let h : false ≡ true = ap is_some e in grind arith
 
-abbrev file_of : Result Asked Misuse → List ℕ
-file_of (Ok asked) = file_in asked
-file_of (Err misuse) = []
+-- ---- the subcommand that a step names
 
-named-by : (b : Bool) (s f space file : List ℕ) → b ≡ is_file_name f → (if b then Ok (tokens s f) else Err bad_file) ≡ Ok (tokens space file) → is_file_name file ≡ true
-named-by true s f space file b e = ap is_file_name (sym (ap file_of e)) ∙ sym b
-named-by false s f space file b e = cc
+abbrev named_by : Step → Option Text
+named_by (subcommand name) = Some name
+named_by _ = None
 
-asked-named : (found : Option (List ℕ × List Row)) (space file : List ℕ) → asked_by found ≡ Ok (tokens space file) → is_file_name file ≡ true
-asked-named None space file e = cc
-asked-named (Some p) space file e = by (bytes_eq p.0 (codes "tokens")) e
+plain_names_none : (c : List Rule) (waiting : Waiting) (word : Text) (h : Held) → named_by (plain_word c waiting word h).1 ≡ None
+plain_names_none c idle word h = refl
+plain_names_none c (option id) word h = refl
+plain_names_none c positional word h = refl
+
+flag_names_none : (c : List Rule) (waiting : Waiting) (word : Text) (h : Held) (o : Outcome) → named_by (after_flag c waiting word h o).1 ≡ None
+flag_names_none c waiting word h done = refl
+flag_names_none c waiting word h (waits id) = refl
+flag_names_none c waiting word h plain = plain_names_none c waiting word h
+flag_names_none c waiting word h refused = plain_names_none c waiting word h
+
+short_names_none : (c : List Rule) (waiting : Waiting) (word : Text) (flags : Option Text) (h : Held) → named_by (short_or_plain c waiting word flags h).1 ≡ None
+short_names_none c waiting word (Some flags) h = flag_names_none c waiting word (bundle c flags h).0 (bundle c flags h).1
+short_names_none c waiting word None h = plain_names_none c waiting word h
+
+long_names_none : (c : List Rule) (waiting : Waiting) (word : Text) (long : Option (Text × Option Text)) (h : Held) → named_by (long_or_other c waiting word long h).1 ≡ None
+long_names_none c waiting word (Some p) h = flag_names_none c waiting word (long_met c (arg_by_long c p.0) p.1 h).0 (long_met c (arg_by_long c p.0) p.1 h).1
+long_names_none c waiting word None h = short_names_none c waiting word (short_of word) h
+
+other_names : (c : List Rule) (met : Option Text) (waiting : Waiting) (position : ℕ) (word : Text) (h : Held) → named_by (subcommand_or_other c met waiting position word h).1 ≡ met
+other_names c (Some name) waiting position word h = refl
+other_names c None waiting position word h = dashes (bytes_eq word (45 ∷ 45 ∷ []))
   where
-    by : (b : Bool) → (if b then asked_tokens p.1 else Ok conflicts) ≡ Ok (tokens space file) → is_file_name file ≡ true
-    by true e = named-by (is_file_name (text_of (codes "file") p.1)) (text_of (codes "space") p.1) (text_of (codes "file") p.1) space file refl e
-    by false e = cc
+    dashes : (b : Bool) → named_by (if b then (h, trailing position) else long_or_other c waiting word (long_of word) h).1 ≡ None
+    dashes true = refl
+    dashes false = long_names_none c waiting word (long_of word) h
 
--- what is asked for has a main file's name
-pub file-named : (words : List (List ℕ)) (space file : List ℕ) → asked_of words ≡ Ok (tokens space file) → is_file_name file ≡ true
-unfolding asked_of
-file-named words space file e = by (is_misuse words) e
+-- where a step ends the walk at a subcommand, it names that
+positional_goes_on : (c : List Rule) (a : Option Rule) (word : Text) (w : Walk) (h : Held) → w.stopped ≡ None → (to_positional c a word w h).stopped ≡ None
+positional_goes_on c None word w h e = e
+positional_goes_on c (Some a) word w h e = refl
+
+stop_is_named : (c : List Rule) (word : Text) (w : Walk) (h : Held) (step : Step) (q : Text × List Text)
+    → w.stopped ≡ None → (after_step c word w h step).stopped ≡ Some q → named_by step ≡ Some q.0
+stop_is_named c word w h (next waiting) q none e = absurd (none_some q (sym none ∙ e))
+stop_is_named c word w h (trailing position) q none e = absurd (none_some q (sym none ∙ e))
+stop_is_named c word w h (subcommand name) q none e = ap (option_map (λ p. p.0)) e
+stop_is_named c word w h value q none e = absurd (none_some q (sym (positional_goes_on c (arg_by_index c w.position) word w h none) ∙ e))
+
+-- ---- no subcommand of a walk without a fault is `help`
+
+help_fails : (s : Shape) (name word : Text) (h : Held) → s.disable_help_subcommand ≡ false → other_fault s (Some name) word h ≡ [] → bytes_eq name (codes "help") ≡ false
+help_fails s name word h enabled e = go (bytes_eq name (codes "help")) s.disable_help_subcommand enabled e
   where
-    by : (b : Bool) → (if b then Err usage else asked_by (subcommand_of superc_app words)) ≡ Ok (tokens space file) → is_file_name file ≡ true
-    by true e = cc
-    by false e = asked-named (subcommand_of superc_app words) space file e
+    go : (b disabled : Bool) → disabled ≡ false → (if b && not disabled then kind.DisplayHelp ∷ kind.InvalidSubcommand ∷ [] else []) ≡ [] → b ≡ false
+    go false disabled off e = refl
+    go true false off e = absurd (not_empty kind.DisplayHelp (kind.InvalidSubcommand ∷ []) e)
+    go true true off e = off
+
+word_names_no_help : (s : Shape) (names : Names) (is_trailing : Bool) (waiting : Waiting) (position : ℕ) (word : Text) (h : Held) (name : Text) → s.disable_help_subcommand ≡ false
+    → word_fault s names is_trailing waiting word h ≡ [] → named_by (word_met s.rules names is_trailing waiting position word h).1 ≡ Some name → bytes_eq name (codes "help") ≡ false
+word_names_no_help s names true waiting position word h name enabled e named = absurd (none_some name named)
+word_names_no_help s names false waiting position word h name enabled e named =
+    let met : subcommand_met names waiting word ≡ Some name = sym (other_names s.rules (subcommand_met names waiting word) waiting position word h) ∙ named in
+    help_fails s name word h enabled (subst (λ o. other_fault s o word h ≡ []) met e)
+
+abbrev turn_kinds : Shape → Names → Walk → Text → Kinds
+turn_kinds s names w word =
+    let met = word_met s.rules names w.is_trailing w.waiting w.position word w.held in
+    or_else (word_fault s names w.is_trailing w.waiting word w.held) (step_fault s w.position met.0 met.1)
+
+turn_names_no_help : (s : Shape) (names : Names) (w : Walk) (word : Text) (q : Text × List Text) → s.disable_help_subcommand ≡ false → w.stopped ≡ None
+    → turn_fault s names w word ≡ [] → (walked s.rules names w word).stopped ≡ Some q → bytes_eq q.0 (codes "help") ≡ false
+unfolding walked
+turn_names_no_help s names w word q enabled going e stops =
+    let met = word_met s.rules names w.is_trailing w.waiting w.position word w.held in
+    let kinds : turn_kinds s names w word ≡ [] = subst (λ (o : Option (Text × List Text)). (if is_some o then [] else turn_kinds s names w word) ≡ []) going e in
+    let here : (after_step s.rules word w met.0 met.1).stopped ≡ Some q = sym (ap (λ o. (walked_from s.rules names o w word).stopped) going) ∙ stops in
+    word_names_no_help s names w.is_trailing w.waiting w.position word w.held q.0 enabled (both _ _ kinds).0 (stop_is_named s.rules word w met.0 met.1 q going here)
+
+-- the subcommand stays
+still_stopped : (c : List Rule) (names : Names) (w : Walk) (word : Text) (q : Text × List Text) → w.stopped ≡ Some q → (walked c names w word).stopped ≡ Some (q.0, q.1 ++ word ∷ [])
+unfolding walked
+still_stopped c names w word q stopped = ap (λ o. (walked_from c names o w word).stopped) stopped
+
+same_stop : (c : List Rule) (names : Names) (words : List Text) (w : Walk) (q p : Text × List Text) → w.stopped ≡ Some q
+    → (fold (walked c names) w words).stopped ≡ Some p → q.0 ≡ p.0
+same_stop c names [] w q p stopped ends = ap (λ o. option_map_or (λ r. r.0) o []) (sym stopped ∙ ends)
+same_stop c names (word ∷ words) w q p stopped ends = same_stop c names words (walked c names w word) (q.0, q.1 ++ word ∷ []) p (still_stopped c names w word q stopped) ends
+
+walk_names_no_help : (s : Shape) (names : Names) (words : List Text) (w : Walk) (p : Text × List Text) → s.disable_help_subcommand ≡ false → w.stopped ≡ None
+    → walk_fault s names w words ≡ [] → (fold (walked s.rules names) w words).stopped ≡ Some p → bytes_eq p.0 (codes "help") ≡ false
+unfolding walk_fault
+walk_names_no_help s names [] w p enabled going e ends = absurd (none_some p (sym going ∙ ends))
+walk_names_no_help s names (word ∷ words) w p enabled going e ends =
+    go (walked s.rules names w word).stopped refl (λ next_going. walk_names_no_help s names words (walked s.rules names w word) p enabled next_going (both _ _ e).1 ends)
+  where
+    go : (o : Option (Text × List Text)) → (walked s.rules names w word).stopped ≡ o → ((walked s.rules names w word).stopped ≡ None → bytes_eq p.0 (codes "help") ≡ false)
+        → bytes_eq p.0 (codes "help") ≡ false
+    go None next_going later = later next_going
+    go (Some q) stopped later = subst (λ t. bytes_eq t (codes "help") ≡ false) (same_stop s.rules names words (walked s.rules names w word) q p stopped ends)
+        (turn_names_no_help s names w word q enabled going (both _ _ e).0 stopped)
+
+-- ---- this command
+
+abbrev whole : App
+whole = built superc_app
+
+abbrev stop_in : List Text → Option (Text × List Text)
+stop_in words = (walk whole.top.rules (names_of whole) nothing_held words).stopped
+
+required : (rows : List Row) (has : Bool) → check_fault whole.top rows has ≡ [] → has ≡ true
+required rows true e = refl
+required rows false e = absurd (not_empty kind.MissingSubcommand [] e)
+
+-- the subcommands as they are built
+abbrev tokens_built : Shape
+tokens_built = built_leaf (inherited whole.top tokens_app.top)
+
+abbrev conflicts_built : Shape
+conflicts_built = built_leaf (inherited whole.top conflicts_app.top)
+
+no_both : (b : Bool) → b ≡ false → b ≡ true → ⊥
+no_both b is_false is_true = let h : false ≡ true = sym is_false ∙ is_true in grind arith
+
+-- a subcommand that was entered and isn't `help`
+record IsEntered (name : Text) (s : Shape) (p : Text × List Text) : Type 0 where
+  named : name ≡ p.0
+  rows : entered whole (Some p) ≡ Some (rows_at s p.1)
+  kinds : entered_fault whole (Some p) ≡ level_fault s [] nothing_held p.1 false []
+
+abbrev help_built : Shape
+help_built = built_leaf help_shape
+
+built_subs : whole.subs ≡ tokens_built ∷ conflicts_built ∷ help_built ∷ []
+built_subs = refl
+
+abbrev answers : Text × List Text → Shape → Bool
+answers p s = answers_to p.0 (label_of s)
+
+found_first : (test : Shape → Bool) (s : Shape) (rest : List Shape) → test s ≡ true → find test (s ∷ rest) ≡ Some s
+found_first test s rest e = ap (λ b. cond b (Some s) (find test rest)) e
+
+found_later : (test : Shape → Bool) (s : Shape) (rest : List Shape) → test s ≡ false → find test (s ∷ rest) ≡ find test rest
+found_later test s rest e = ap (λ b. cond b (Some s) (find test rest)) e
+
+or_false : (b : Bool) → (b || false) ≡ true → b ≡ true
+or_false true e = refl
+or_false false e = e
+
+entered_as : (name : Text) (s : Shape) (p : Text × List Text) → bytes_eq name p.0 ≡ true → find (answers p) whole.subs ≡ Some s → IsEntered name s p
+entered_as name s p e found = record {
+  named = (bytes_eq-Decides name p.0).0 e;
+  rows = ap (option_map (λ s. rows_at s p.1)) found;
+  kinds = ap (λ o. option_map_or (λ s. level_fault s [] nothing_held p.1 false []) o []) found;
+}
+
+one_of_two : (p : Text × List Text) → bytes_eq p.0 (codes "help") ≡ false → is_some (entered whole (Some p)) ≡ true
+    → IsEntered (codes "tokens") tokens_built p ⊎ IsEntered (codes "conflicts") conflicts_built p
+one_of_two p no_help is_entered = cases (answers p tokens_built) (answers p conflicts_built) (answers p help_built) refl refl refl
+  where
+    cases : (a b c : Bool) → answers p tokens_built ≡ a → answers p conflicts_built ≡ b → answers p help_built ≡ c
+        → IsEntered (codes "tokens") tokens_built p ⊎ IsEntered (codes "conflicts") conflicts_built p
+    cases true b c ea eb ec =
+        inl (entered_as (codes "tokens") tokens_built p (or_false (bytes_eq (codes "tokens") p.0) ea) (found_first (answers p) tokens_built (conflicts_built ∷ help_built ∷ []) ea))
+    cases false true c ea eb ec = inr (entered_as (codes "conflicts") conflicts_built p (or_false (bytes_eq (codes "conflicts") p.0) eb)
+        (found_later (answers p) tokens_built (conflicts_built ∷ help_built ∷ []) ea ∙ found_first (answers p) conflicts_built (help_built ∷ []) eb))
+    cases false false true ea eb ec =
+        let is_help : bytes_eq p.0 (codes "help") ≡ true =
+        (bytes_eq-Decides p.0 (codes "help")).1 (sym ((bytes_eq-Decides (codes "help") p.0).0 (or_false (bytes_eq (codes "help") p.0) ec))) in
+        absurd (no_both (bytes_eq p.0 (codes "help")) no_help is_help)
+    cases false false false ea eb ec =
+        let nothing : find (answers p) whole.subs ≡ None = found_later (answers p) tokens_built (conflicts_built ∷ help_built ∷ []) ea
+        ∙ (found_later (answers p) conflicts_built (help_built ∷ []) eb ∙ found_later (answers p) help_built [] ec) in
+        absurd (no_both (is_some (entered whole (Some p))) (ap (λ o. is_some (option_map (λ s. rows_at s p.1) o)) nothing) is_entered)
+
+-- ---- what the words name
+
+-- `space` and `file` take one value each, and `--help` always fails
+abbrev one_value_rule : ℕ → Text → Rule
+one_value_rule index id = with_index index (filled (required_rule id))
+
+abbrev help_flag : Rule
+help_flag = with_index 3 (filled help_rule)
+
+takes_one : (index : ℕ) (id : Text) → IsUsable (one_value_rule index id)
+takes_one index id again [] rows e full = absurd (not_empty kind.InvalidValue [] e)
+takes_one index id again (v ∷ vs) rows e full = used_is_full id (reading_by (one_value_rule index id)) CommandLine v vs rows full
+
+help_fails_always : IsUsable help_flag
+help_fails_always again values rows e full = absurd (not_empty kind.DisplayHelp [] (both (range_kinds 0 0 (length values)) (kind.DisplayHelp ∷ []) e).1)
+
+tokens_usable : AllUsable tokens_built.rules
+tokens_usable test a found = go (test (one_value_rule 1 (codes "space"))) (test (one_value_rule 2 (codes "file"))) (test help_flag) found
+  where
+    go : (x y z : Bool) → cond x (Some (one_value_rule 1 (codes "space"))) (cond y (Some (one_value_rule 2 (codes "file"))) (cond z (Some help_flag) None)) ≡ Some a → IsUsable a
+    go true y z e = subst IsUsable (ap (λ o. unwrap_or o help_flag) e) (takes_one 1 (codes "space"))
+    go false true z e = subst IsUsable (ap (λ o. unwrap_or o help_flag) e) (takes_one 2 (codes "file"))
+    go false false true e = subst IsUsable (ap (λ o. unwrap_or o help_flag) e) help_fails_always
+    go false false false e = absurd (none_some a e)
+
+both_given : (rows : List Row) → check_fault tokens_built rows false ≡ [] → (is_given (codes "space") rows ≡ true) × (is_given (codes "file") rows ≡ true)
+both_given rows e = go (is_given (codes "space") rows) (is_given (codes "file") rows) e
+  where
+    go : (a b : Bool) → (if not a || (not b || false) then kind.MissingRequiredArgument ∷ [] else []) ≡ [] → (a ≡ true) × (b ≡ true)
+    go true true e = (refl, refl)
+    go false b e = absurd (not_empty kind.MissingRequiredArgument [] e)
+    go true false e = absurd (not_empty kind.MissingRequiredArgument [] e)
+
+tokens_have : (words : List Text) → level_fault tokens_built [] nothing_held words false [] ≡ []
+    → (has_text (codes "space") (rows_after tokens_built.rules [] words) ≡ true) × (has_text (codes "file") (rows_after tokens_built.rules [] words) ≡ true)
+tokens_have words e = (text_of_given (codes "space") (finished tokens_built.rules end) full given.0, text_of_given (codes "file") (finished tokens_built.rules end) full given.1)
+  where
+    steps : IsFaultless tokens_built [] nothing_held words false []
+    steps = level_steps tokens_built [] nothing_held words false [] e
+
+    end : Held
+    end = (walk tokens_built.rules [] nothing_held words).held
+
+    given : (is_given (codes "space") (finished tokens_built.rules (walk tokens_built.rules [] nothing_held words).held) ≡ true)
+        × (is_given (codes "file") (finished tokens_built.rules (walk tokens_built.rules [] nothing_held words).held) ≡ true)
+    given = both_given (finished tokens_built.rules (walk tokens_built.rules [] nothing_held words).held) steps.checks
+
+    full : is_full (finished tokens_built.rules (walk tokens_built.rules [] nothing_held words).held) ≡ true
+    full = finished_is_full tokens_built.rules tokens_usable tokens_built.args_override_self (walk tokens_built.rules [] nothing_held words).held refl steps.settles
+        (walk_is_full tokens_built tokens_usable [] words (walk_from nothing_held) steps.walks refl)
+
+entered_command : (p : Text × List Text) → entered_fault whole (Some p) ≡ [] → IsEntered (codes "tokens") tokens_built p ⊎ IsEntered (codes "conflicts") conflicts_built p
+    → NamesCommand (entered whole (Some p))
+entered_command p e (inl t) =
+    let have = tokens_have p.1 (sym t.kinds ∙ e) in
+    subst NamesCommand (sym t.rows) (inl (refl, have.0, have.1))
+entered_command p e (inr t) = subst NamesCommand (sym t.rows) (inr refl)
+
+faultless_words_name_a_command : (words : List Text) → fault_of superc_app words ≡ [] → NamesCommand (subcommand_of superc_app words)
+faultless_words_name_a_command words e = go (stop_in (argument_words superc_app words)) refl steps.enters
+    (required (finished whole.top.rules (walk whole.top.rules (names_of whole) nothing_held (argument_words superc_app words)).held)
+    (is_some (entered whole (stop_in (argument_words superc_app words)))) steps.checks)
+  where
+    steps : IsFaultless whole.top (names_of whole) nothing_held (argument_words superc_app words) (is_some (entered whole (stop_in (argument_words superc_app words))))
+        (entered_fault whole (stop_in (argument_words superc_app words)))
+    steps = level_steps whole.top (names_of whole) nothing_held (argument_words superc_app words) (is_some (entered whole (stop_in (argument_words superc_app words))))
+        (entered_fault whole (stop_in (argument_words superc_app words))) e
+
+    go : (o : Option (Text × List Text)) → stop_in (argument_words superc_app words) ≡ o → entered_fault whole o ≡ [] → is_some (entered whole o) ≡ true → NamesCommand (entered whole o)
+    go None stops below is_entered = absurd (no_both false refl is_entered)
+    go (Some p) stops below is_entered = entered_command p below
+        (one_of_two p (walk_names_no_help whole.top (names_of whole) (argument_words superc_app words) (walk_from nothing_held) p refl refl steps.walks stops) is_entered)
+
+pub taken_words_name_a_command : (words : List Text) → takes superc_app words ≡ true → NamesCommand (subcommand_of superc_app words)
+taken_words_name_a_command words e = faultless_words_name_a_command words (taken_is_fault_free superc_app words refl refl e)

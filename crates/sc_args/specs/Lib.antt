@@ -1,3 +1,4 @@
+pub mod Laws
 pub mod Refusal
 pub mod Seen
 pub mod Words

@@ -2,7 +2,7 @@
 use Rattle.std.specs.Prelude.{◌&&◌, ◌==◌, ℕ, Bool, true, not, List, [], length, Option, Some, None, Result, Ok, Err, if◌then◌else◌, codes, nat_le, unwrap_or}
 use Rattle.std.specs.List.{list_all}
 use Rattle.std.specs.Str.{bytes_eq}
-use Rattle.clap.specs.Words.{App, Row, Rule, Text, fault_of, first_of, new_app, new_rule, subcommand_of, with_rule, with_subcommand}
+use Rattle.clap.specs.Words.{App, Row, Rule, Text, first_of, new_app, new_rule, subcommand_of, takes, with_rule, with_subcommand}
 
 pub data Asked : Type 0 where
   tokens : (space file : List ℕ) → Asked
@@ -36,11 +36,7 @@ superc_app = with_subcommand (with_subcommand bare_app tokens_app.top) conflicts
 
 -- ---- what is found in the words
 
--- `clap` finds a fault in the words, or they ask for help.
-abbrev pub is_misuse : List Text → Bool
-is_misuse words = not (length (fault_of superc_app words) == 0)
-
--- The text of an argument. One that is required has a text in all words that are taken.
+-- The text of an argument. In words that are taken each that is required has one.
 abbrev pub text_of : Text → List Row → Text
 text_of id rows = unwrap_or (first_of id rows) []
 
@@ -48,11 +44,12 @@ abbrev pub asked_tokens : List Row → Result Asked Misuse
 asked_tokens rows =
     if is_file_name (text_of (codes "file") rows) then Ok (tokens (text_of (codes "space") rows) (text_of (codes "file") rows)) else Err bad_file
 
--- The subcommand that was named, with its matches: `tokens`, or else `conflicts`.
+-- What the subcommand that was named asks for, by its matches. Words that are taken name `tokens` or else `conflicts`.
 abbrev pub asked_by : Option (Text × List Row) → Result Asked Misuse
 asked_by None = Ok conflicts
 asked_by (Some p) = if bytes_eq p.0 (codes "tokens") then asked_tokens p.1 else Ok conflicts
 
--- What the words ask for. The first of them is the program's name.
+-- What the words ask for, of which the first is the program's name. Words that the command doesn't take, as those that ask for
+-- help, are no use of it.
 unfoldable pub asked_of : List Text → Result Asked Misuse
-asked_of words = if is_misuse words then Err usage else asked_by (subcommand_of superc_app words)
+asked_of words = if takes superc_app words then asked_by (subcommand_of superc_app words) else Err usage

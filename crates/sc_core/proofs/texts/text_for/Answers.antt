@@ -1,7 +1,7 @@
 use Rattle.std.proofs.Common.{◌≡◌, ◌∙◌, ap, sym, Ok, List, ℕ, Result}
 use Rattle.std.proofs.lemmas.Result.{IfOk-weaker}
 use Rattle.std.specs.Prelude.{string_bytes}
-use Rattle.sc_args.proofs.Named.{file-named}
+use Rattle.sc_args.proofs.FileNames.{file-named}
 use Rattle.sc_args.specs.declared.command.Command.{Command}
 use Rattle.sc_args.specs.Seen.{seen_command}
 use Rattle.sc_args.specs.Words.{Asked, Misuse, tokens, conflicts}

@@ -1,0 +1,27 @@
+//! Laws about what words ask for, each the contract of a function without code.
+ghost use Rattle.std.specs.Prelude.{◌≡◌, ℕ, List, [], ◌∷◌, Ok, Err, codes, true, if◌then◌else◌};
+ghost use Rattle.clap.specs.Words.{subcommand_of, takes};
+ghost use Rattle.sc_args.specs.Laws.{IsPlainWord, NamesCommand};
+ghost use Rattle.sc_args.specs.Words.{asked_of, bad_file, conflicts, is_file_name, superc_app, tokens, usage};
+
+/// Both commands are taken, whatever the program's name is. A word that begins with a hyphen may be a flag.
+pub fn commands_are_taken()
+    ensures tokens { (program space file : List ℕ) → IsPlainWord space → IsPlainWord file
+        → asked_of (program ∷ codes "tokens" ∷ space ∷ file ∷ [])
+        ≡ (if is_file_name file then Ok (tokens space file) else Err bad_file) }
+    ensures conflicts { (program : List ℕ) → asked_of (program ∷ codes "conflicts" ∷ []) ≡ Ok conflicts }
+{}
+
+/// Words that are taken name one of the two commands, with all that it requires.
+pub fn taken_words_name_a_command()
+    ensures { (words : List (List ℕ)) → takes superc_app words ≡ true → NamesCommand (subcommand_of superc_app words) }
+{}
+
+/// No word, an unknown word, a word too few, a word too many and a request for help are misuse.
+pub fn misuse_is_refused()
+    ensures none { (program : List ℕ) → asked_of (program ∷ []) ≡ Err usage }
+    ensures unknown { (program : List ℕ) → asked_of (program ∷ codes "frob" ∷ []) ≡ Err usage }
+    ensures few { (program : List ℕ) → asked_of (program ∷ codes "tokens" ∷ codes "a" ∷ []) ≡ Err usage }
+    ensures many { (program : List ℕ) → asked_of (program ∷ codes "conflicts" ∷ codes "x" ∷ []) ≡ Err usage }
+    ensures help { (program : List ℕ) → asked_of (program ∷ codes "tokens" ∷ codes "--help" ∷ []) ≡ Err usage }
+{}
