@@ -40,7 +40,7 @@ module _ {T : Type 0} where
       let rest = items_at-met old new b c xs ys same_rest met_rest in
       ap (λ t. if t then x.1 ∷ items_at new xs c else items_at new xs c) test
       ∙ (ap (λ r. if old.has y.0.0 c && b then x.1 ∷ r else r) rest
-        ∙ (ap (λ i. if old.has y.0.0 c && b then i ∷ (if b then items_at old ys c else []) else (if b then items_at old ys c else [])) item ∙ by (old.has y.0.0 c) b))
+      ∙ (ap (λ i. if old.has y.0.0 c && b then i ∷ (if b then items_at old ys c else []) else (if b then items_at old ys c else [])) item ∙ by (old.has y.0.0 c) b))
     where
       by : (h b : Bool) → (if h && b then y.1 ∷ (if b then items_at old ys c else []) else (if b then items_at old ys c else []))
           ≡ (if b then (if h then y.1 ∷ items_at old ys c else items_at old ys c) else [])
@@ -61,8 +61,8 @@ module _ {T : Type 0} where
   map-items_at-take {X} f s xs i x c b made within is test was =
       ap (λ ys. ys ++ (if b then f x.1 ∷ [] else [])) was
       ∙ (ap (λ ys. map f (items_at s (take i xs) c) ++ ys) (sym (by b))
-        ∙ (sym (map-append f (items_at s (take i xs) c) (if b then x.1 ∷ [] else []))
-          ∙ (ap (λ t. map f (items_at s (take i xs) c ++ (if t then x.1 ∷ [] else []))) (sym test) ∙ ap (map f) (sym (items_at-take s xs i x c within is)))))
+      ∙ (sym (map-append f (items_at s (take i xs) c) (if b then x.1 ∷ [] else []))
+      ∙ (ap (λ t. map f (items_at s (take i xs) c ++ (if t then x.1 ∷ [] else []))) (sym test) ∙ ap (map f) (sym (items_at-take s xs i x c within is)))))
     where
       by : (b : Bool) → map f (if b then x.1 ∷ [] else []) ≡ (if b then f x.1 ∷ [] else [])
       by true = refl

@@ -47,7 +47,7 @@ module _ {T : Type 0} where
       told.at c (IsConfig-Keeps after here) ∙ (ap (λ b. b && old.has by.0 c) (before.at item.0.0 c item_own listed) ∙ ap (λ b. first.has item.0.0 c && b) (before.at by.0 c by_own listed)) in
       map-append G met (made ∷ [])
       ∙ (ap (λ bs. bs ++ new.has made.0 c ∷ []) (map-has-Keeps met c after own here ∙ was)
-        ∙ (ap (λ b. map F (drop from (take i items)) ++ b ∷ []) test ∙ (sym (map-append F (drop from (take i items)) (item ∷ [])) ∙ ap (map F) (sym (drop-take_more items from i item le within is)))))
+      ∙ (ap (λ b. map F (drop from (take i items)) ++ b ∷ []) test ∙ (sym (map-append F (drop from (take i items)) (item ∷ [])) ∙ ap (map F) (sym (drop-take_more items from i item le within is)))))
 
   -- one more item has its condition
   pub conditions_more : (xs : List (Cond × T)) (i from : ℕ) (front conds : List Cond) (item : T) (d : Cond) → from ≤ i → i < length xs → i - from < length conds
@@ -59,8 +59,8 @@ module _ {T : Type 0} where
       let step : i - from + 1 ≡ i + 1 - from = omega arith in
       ap (map f) (take_more_set xs i (cond, item) within)
       ∙ (map-append f (take i xs) ((cond, item) ∷ [])
-        ∙ (ap (λ cs. cs ++ cond ∷ []) was
-          ∙ (append_assoc front (take (i - from) conds) (cond ∷ []) ∙ (ap (λ cs. front ++ cs) (sym (take_more conds (i - from) d some)) ∙ ap (λ n. front ++ take n conds) step))))
+      ∙ (ap (λ cs. cs ++ cond ∷ []) was
+      ∙ (append_assoc front (take (i - from) conds) (cond ∷ []) ∙ (ap (λ cs. front ++ cs) (sym (take_more conds (i - from) d some)) ∙ ap (λ n. front ++ take n conds) step))))
 
   -- the item stays as its condition is set
   pub items_stay : (xs : List (Cond × T)) (i : ℕ) (cond : Cond) (x : Cond × T) → x ≡ get_or xs i x → map (λ (item : Cond × T). item.1) (set xs i (cond, x.1)) ≡ map (λ (item : Cond × T). item.1) xs

@@ -24,10 +24,7 @@ fn token(name: usize) -> Token {
 }
 
 /// Token 0 everywhere, token 1 where the first variable has its second option, and token 2 where the second variable has.
-fn three_tokens<C: Conditions>(
-    alloc: Global,
-    conds: &mut C,
-) -> Result<Guarded<Token>, OutOfMemory>
+fn three_tokens<C: Conditions>(alloc: Global, conds: &mut C) -> Result<Guarded<Token>, OutOfMemory>
     requires { (C.sets conds.old).arities ≡ 2 ∷ 2 ∷ [] }
     ensures own { IfOk result (λ list. All (λ item. IsCond (C.sets conds.new) item.0.0) list) }
     ensures long { IfOk result (λ list. length list ≡ 3) }
@@ -42,11 +39,7 @@ fn three_tokens<C: Conditions>(
     Ok(list)
 }
 
-fn checks_parts<C: Conditions>(
-    rt: &impl Abort,
-    alloc: Global,
-    conds: &mut C,
-) -> Result<(), Fail>
+fn checks_parts<C: Conditions>(rt: &impl Abort, alloc: Global, conds: &mut C) -> Result<(), Fail>
     requires { (C.sets conds.old).arities ≡ 2 ∷ 2 ∷ [] }
 {
     let list = three_tokens(alloc, conds)?;
@@ -69,7 +62,10 @@ fn checks_restricted<C: Conditions>(
     list.restrict(conds, 1, second)?;
     assert_eq!(rt; list.len(), 3);
     let tokens = list.project(alloc, conds, &[1, 1])?;
-    assert_eq!(rt; tokens.as_slice(), [token(0), token(1), token(2)].as_slice());
+    assert_eq!(rt;
+        tokens.as_slice(),
+        [token(0), token(1), token(2)].as_slice()
+    );
     let tokens = list.project(alloc, conds, &[1, 0])?;
     assert_eq!(rt; tokens.as_slice(), [token(0)].as_slice());
     Ok(())

@@ -82,4 +82,4 @@ returns-clause-next g c = λ x listed.
     let end : c.loop-index.index + next_at first (drop c.loop-index.index c.args.items.now) x ≡ n = next_end first c.args.items.now c.loop-index.index x (omega arith) in
     ap (λ (ps : List (Cond × ℕ)). items_at now ps x) c.in_ok-push.ensures.items
     ∙ (items_at-part parts left n (now.has left.0 x) x (Keeps-refl now) was.parts.own here refl
-      ∙ (ap (λ (k : ℕ). items_at now parts x ++ (if now.has left.0 x then k ∷ [] else [])) (sym end) ∙ was.next x listed))
+    ∙ (ap (λ (k : ℕ). items_at now parts x ++ (if now.has left.0 x then k ∷ [] else [])) (sym end) ∙ was.next x listed))

@@ -31,7 +31,7 @@ returns-clause-parts g c =
     let now = g.C.Conditions.sets c.apply_and-2.new.self in
     let pushed = ArePartsBelow-push c.args.parts.now.items c.in_ok-part.part (ArePartsBelow-Keeps c.apply_and.ensures.keeps c.requires.parts) c.in_ok-part.ensures.own
     (λ never. true≢false (sym (c.is_never.ensures.1 never) ∙ c.if-is_never.false)) in
-    subst (ArePartsBelow now (c.args.index + 1)) (sym c.in_ok-push.ensures.items) (ArePartsBelow-Keeps (Keeps-trans c.negate.ensures.keeps c.apply_and-2.ensures.keeps) pushed)
+    subst (ArePartsBelow now (c.args.index + 1)) (sym {A = List (Cond × ℕ)} c.in_ok-push.ensures.items) (ArePartsBelow-Keeps (Keeps-trans c.negate.ensures.keeps c.apply_and-2.ensures.keeps) pushed)
 
 pub returns-clause-taken : goal.returns-clause-taken
 returns-clause-taken g c = λ x listed.

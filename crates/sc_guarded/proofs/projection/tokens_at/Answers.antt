@@ -12,7 +12,7 @@ loop-item-preserved g c =
     let x = c.item-item.result in
     elim c.if-holds.branch [
       | then-holds+in_ok-push w ↦ ap (λ v. v.items) w.tokens-is
-      ∙ (w.in_ok-push.ensures.items ∙ (ap (λ t. c.loop-item.tokens.items ++ t ∷ []) w.token.ensures ∙ map-items_at-take f s xs i x c.args.config.now true c.loop-item.tokens.items c.loop-item-test.true c.item-item.is (sym c.holds.ensures ∙ w.if-holds.true) c.loop-item.invariant))
+          ∙ (w.in_ok-push.ensures.items ∙ (ap (λ t. c.loop-item.tokens.items ++ t ∷ []) w.token.ensures ∙ map-items_at-take f s xs i x c.args.config.now true c.loop-item.tokens.items c.loop-item-test.true c.item-item.is (sym c.holds.ensures ∙ w.if-holds.true) c.loop-item.invariant))
       | else-holds w ↦ ap (λ v. v.items) w.tokens-is
-      ∙ (sym (append-nil c.loop-item.tokens.items) ∙ map-items_at-take f s xs i x c.args.config.now false c.loop-item.tokens.items c.loop-item-test.true c.item-item.is (sym c.holds.ensures ∙ w.if-holds.false) c.loop-item.invariant)
+          ∙ (sym (append-nil c.loop-item.tokens.items) ∙ map-items_at-take f s xs i x c.args.config.now false c.loop-item.tokens.items c.loop-item-test.true c.item-item.is (sym c.holds.ensures ∙ w.if-holds.false) c.loop-item.invariant)
     ]
