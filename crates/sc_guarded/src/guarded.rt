@@ -1,6 +1,14 @@
-ghost use Rattle.std.specs.Prelude.{◌≡◌, ℕ, ◌<◌, [], ◌∷◌, ◌++◌, Some, length, slice_get, IfOk, OnOk, OnErr};
+ghost use Rattle.std.specs.Prelude.{◌≡◌, ℕ, ◌+◌, ◌<◌, ◌≤◌, List, [], ◌∷◌, ◌++◌, Some, All, AllPairs, map, take, drop, length, slice_get, if◌then◌else◌, IfOk, IfErr, OnOk, OnErr};
+ghost use Rattle.sc_model.specs.Sets.{IsConfig, IsCond, Keeps, IsNever};
+ghost use Rattle.sc_guarded.specs.Items.{items_at};
+ghost use Rattle.sc_guarded.specs.Next.{next_at};
 
-use sc_base::{Cond, OutOfMemory};
+use crate::parts::next_parts;
+use crate::projection::tokens_at;
+use crate::restriction::{meets, set_conditions};
+use sc_base::{Cond, OutOfMemory, Stop};
+use sc_lex::{HasToken, Token};
+use sc_presence::Conditions;
 use std::alloc::Global;
 use std::marker::Model;
 
@@ -53,5 +61,75 @@ impl<T> Guarded<T> {
     {
         let pair = &self.items[index];
         (pair.0, &pair.1)
+    }
+
+    /// Takes the items of index `from` on away from the configurations that `by` has not.
+    pub fn restrict<C: Conditions>(
+        &mut self,
+        conds: &mut C,
+        from: usize,
+        by: Cond,
+    ) -> Result<(), OutOfMemory>
+        requires from { from ≤ length self.old }
+        requires own { All (λ item. IsCond (C.sets conds.old) item.0.0) self.old }
+        requires by_own { IsCond (C.sets conds.old) by.0 }
+        ensures front { OnOk result (take from self.new ≡ take from self.old) }
+        ensures rest { OnOk result ((c : List ℕ) → IsConfig (C.sets conds.old).arities c
+            → items_at (C.sets conds.new) (drop from self.new) c
+            ≡ (if (C.sets conds.old).has by.0 c then items_at (C.sets conds.old) (drop from self.old) c else [])) }
+        ensures err { OnErr result (self.new ≡ self.old) }
+
+        // at every outcome
+        ensures items { map (λ item. item.1) self.new ≡ map (λ item. item.1) self.old }
+        ensures own { All (λ item. IsCond (C.sets conds.new) item.0.0) self.new }
+        ensures keeps { Keeps (C.sets conds.old) (C.sets conds.new) }
+    {
+        let met = meets(*self.items.allocator(), conds, &self.items, from, by)?;
+        set_conditions(&mut self.items, from, &met);
+        Ok(())
+    }
+
+    /// Parts the configurations of `cond` by which item of index `from` on comes next for them: disjoint conditions, each with the index of
+    /// such an item, or with `len()` for the configurations that have none.
+    pub fn follow<C: Conditions>(
+        &self,
+        alloc: Global,
+        conds: &mut C,
+        from: usize,
+        cond: Cond,
+    ) -> Result<Vec<(Cond, usize)>, Stop>
+        requires from { from ≤ length self.now }
+        requires own { All (λ item. IsCond (C.sets conds.old) item.0.0) self.now }
+        requires cond_own { IsCond (C.sets conds.old) cond.0 }
+
+        // At each configuration of `cond` the parts have one index, and elsewhere none.
+        ensures next { IfOk result (λ parts. (c : List ℕ) → IsConfig (C.sets conds.old).arities c
+            → items_at (C.sets conds.new) parts.items c
+            ≡ (if (C.sets conds.old).has cond.0 c then (from + next_at (C.sets conds.old) (drop from self.now) c) ∷ [] else [])) }
+        ensures some { IfOk result (λ parts. All (λ part. IsNever (C.sets conds.new) part.0.0 → ⊥) parts.items) }
+        ensures rising { IfOk result (λ parts. AllPairs (λ a b. a.1 < b.1) parts.items) }
+        ensures own { IfOk result (λ parts. All (λ part. IsCond (C.sets conds.new) part.0.0) parts.items) }
+        ensures memory { IfErr result (λ stop. stop ≡ Stop.OutOfMemory) }
+
+        // at every outcome
+        ensures keeps { Keeps (C.sets conds.old) (C.sets conds.new) }
+    {
+        Ok(next_parts(alloc, conds, &self.items, from, cond)?)
+    }
+}
+
+impl<T: HasToken> Guarded<T> {
+    /// The tokens of one configuration, in order.
+    pub fn project<C: Conditions>(
+        &self,
+        alloc: Global,
+        conds: &C,
+        config: &[usize],
+    ) -> Result<Vec<Token>, OutOfMemory>
+        requires own { All (λ item. IsCond (C.sets conds.now) item.0.0) self.now }
+        requires config { IsConfig (C.sets conds.now).arities config.now }
+        ensures { IfOk result (λ tokens. tokens.items ≡ map T.token_of (items_at (C.sets conds.now) self.now config.now)) }
+    {
+        tokens_at(alloc, conds, &self.items, config)
     }
 }

@@ -7,3 +7,4 @@ pub mod Punctuators
 pub mod Quotes
 pub mod Sources
 pub mod Spells
+pub mod UnclosedLemmas

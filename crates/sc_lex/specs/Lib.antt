@@ -5,3 +5,4 @@ pub mod Scan
 pub mod Seen
 pub mod Source
 pub mod Spell
+pub mod Unclosed

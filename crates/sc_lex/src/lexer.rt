@@ -7,6 +7,7 @@ ghost use Rattle.sc_lex.specs.Spell.{position_of, lexeme_at, IsHeld, AreTokensOf
 use crate::line::{LineFront, digraph};
 use crate::piece::{Row, longest};
 use crate::source::Source;
+use crate::unclosed::UnclosedQuotes;
 use crate::{Kind, LexStop, Token};
 use sc_base::{FileId, Names, OutOfMemory, Place};
 use std::alloc::Global;
@@ -30,12 +31,13 @@ pub fn tokens(
     let mut source = Source::new(bytes);
     let mut tokens = Vec::new(alloc);
     let mut front = LineFront::Start;
+    let mut unclosed = UnclosedQuotes::NONE;
     let mut space = false;
     let mut offset = 0;
     while offset < text.len() {
         let place = source.place(file);
         let rest = &text[offset..];
-        let Some(piece) = longest(rest, front.expects_header()) else {
+        let Some(piece) = longest(rest, front.expects_header(), unclosed) else {
             return Err(LexStop::Comment(place));
         };
         match piece.row {
@@ -47,6 +49,7 @@ pub fn tokens(
                 space = is_newline(kind);
             }
         }
+        unclosed = unclosed.after(rest, piece.length);
         source.advance(piece.length);
         offset += piece.length;
     }

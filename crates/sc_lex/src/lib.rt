@@ -8,6 +8,7 @@ mod scan;
 mod source;
 mod stop;
 mod token;
+mod unclosed;
 
 pub use lexer::tokens;
 pub use sc_model::Kind;

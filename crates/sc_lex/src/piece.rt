@@ -3,8 +3,10 @@ ghost use Rattle.sc_model.specs.Lex.{token, rank, fits_here, expects_header, IsL
 ghost use Rattle.sc_model.specs.declared.kind.Kind.TheVariants as kind;
 ghost use Rattle.sc_lex.specs.Scan.{IsLongestFront};
 ghost use Rattle.sc_lex.specs.Piece.{row_of, IsBestBefore};
+ghost use Rattle.sc_lex.specs.Unclosed.{AreUnclosed};
 
 use crate::scan;
+use crate::unclosed::UnclosedQuotes;
 use sc_model::Kind;
 
 /// What a piece of a text can be: white space, or a token.
@@ -39,8 +41,9 @@ impl Piece {
 }
 
 /// The longest piece at the front of a text. None comes where a comment without an end begins.
-pub fn longest(text: &[u8], expects: bool) -> Option<Piece>
-    requires { 0 < length text.now }
+pub fn longest(text: &[u8], expects: bool, unclosed: UnclosedQuotes) -> Option<Piece>
+    requires some { 0 < length text.now }
+    requires unclosed { AreUnclosed text.now unclosed }
     ensures some { IfSome result (λ piece. (line : List (List ℕ)) → expects_header line ≡ expects
         → IsLongest line text.now (row_of piece.row) piece.length) }
     ensures none { IfNone result (IsUnended text.now) }
@@ -56,8 +59,11 @@ pub fn longest(text: &[u8], expects: bool) -> Option<Piece>
             .or_longer(Row::Token(Kind::Newline), scan::newline(text))
             .or_longer(Row::Token(Kind::Identifier), scan::identifier(text))
             .or_longer(Row::Token(Kind::Number), scan::number(text))
-            .or_longer(Row::Token(Kind::Character), scan::character(text))
-            .or_longer(Row::Token(Kind::Text), scan::string(text))
+            .or_longer(
+                Row::Token(Kind::Character),
+                scan::character(text, unclosed.single),
+            )
+            .or_longer(Row::Token(Kind::Text), scan::string(text, unclosed.double))
             .or_longer(Row::Token(Kind::Punctuator), scan::punctuator(text))
             .or_longer(Row::Token(Kind::Other), 1),
     )

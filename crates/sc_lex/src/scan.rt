@@ -9,6 +9,7 @@ ghost use Rattle.sc_model.specs.Lex.{is_character, is_text, is_quoted, closes};
 ghost use Rattle.sc_model.specs.Lex.{is_header, is_delimited, header_closes, is_punctuator};
 ghost use Rattle.sc_model.specs.declared.kind.Kind.TheVariants as kind;
 ghost use Rattle.sc_lex.specs.Scan.{IsLongestFront, hex_front, universal_length, letter_length, number_letter_length, begins_name, begins_number, quoted_length, opens, has_punctuator};
+ghost use Rattle.sc_lex.specs.Unclosed.{IsUnclosed};
 
 pub fn blank(text: &[u8]) -> usize
     ensures { IsLongestFront is_white_byte text.now result }
@@ -190,31 +191,37 @@ fn number_letter(text: &[u8], exponent: bool) -> usize
     }
 }
 
-pub fn character(text: &[u8]) -> usize
+pub fn character(text: &[u8], unclosed: usize) -> usize
+    requires { IsUnclosed 39 text.now unclosed }
     ensures { IsLongestFront is_character text.now result }
 {
-    prefixed(text, b"", b'\'', true)
-        .max(prefixed(text, b"L", b'\'', true))
-        .max(prefixed(text, b"u", b'\'', true))
-        .max(prefixed(text, b"U", b'\'', true))
+    prefixed(text, b"", b'\'', true, unclosed)
+        .max(prefixed(text, b"L", b'\'', true, unclosed))
+        .max(prefixed(text, b"u", b'\'', true, unclosed))
+        .max(prefixed(text, b"U", b'\'', true, unclosed))
 }
 
-pub fn string(text: &[u8]) -> usize
+pub fn string(text: &[u8], unclosed: usize) -> usize
+    requires { IsUnclosed 34 text.now unclosed }
     ensures { IsLongestFront is_text text.now result }
 {
-    prefixed(text, b"", b'"', false)
-        .max(prefixed(text, b"u8", b'"', false))
-        .max(prefixed(text, b"u", b'"', false))
-        .max(prefixed(text, b"U", b'"', false))
-        .max(prefixed(text, b"L", b'"', false))
+    prefixed(text, b"", b'"', false, unclosed)
+        .max(prefixed(text, b"u8", b'"', false, unclosed))
+        .max(prefixed(text, b"u", b'"', false, unclosed))
+        .max(prefixed(text, b"U", b'"', false, unclosed))
+        .max(prefixed(text, b"L", b'"', false, unclosed))
 }
 
 /// What is quoted behind this prefix.
-fn prefixed(text: &[u8], prefix: &[u8], quote: u8, filled: bool) -> usize
+fn prefixed(text: &[u8], prefix: &[u8], quote: u8, filled: bool, unclosed: usize) -> usize
+    requires { IsUnclosed quote text.now unclosed }
     ensures { IsLongestFront (λ bs. begins_with prefix.now bs
         && is_quoted quote filled (drop (length prefix.now) bs)) text.now result }
 {
     if !text.starts_with(prefix) {
+        return 0;
+    }
+    if prefix.len() < unclosed {
         return 0;
     }
     let length = quoted(&text[prefix.len()..], quote, filled);
@@ -264,7 +271,7 @@ fn closing(text: &[u8], quote: u8) -> usize
 }
 
 /// One byte, and after a backslash the next one too, but no newline.
-fn quoted_part(text: &[u8]) -> usize
+pub fn quoted_part(text: &[u8]) -> usize
     requires { 0 < length text.now }
     ensures { result ≡ quoted_length text.now }
 {

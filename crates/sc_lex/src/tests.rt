@@ -7,7 +7,7 @@ use std::test::Fail;
 
 /// What a file holds, and its tokens: kind, a tilde where space stands before, place, spelling, and a name that differs. Or
 /// the place of a comment without an end. The expected texts come from another implementation.
-const ROWS: [(&[u8], &[u8]); 32] = [
+const ROWS: [(&[u8], &[u8]); 34] = [
     (b"", b""),
     (b"a", b"Identifier 1:1 a|Newline 1:2 \n|"),
     (b"a\n", b"Identifier 1:1 a|Newline 1:2 \n|"),
@@ -48,6 +48,14 @@ const ROWS: [(&[u8], &[u8]); 32] = [
     (
         b"'a' L'b' u'c' U'\\'' '' ''' 'x\n'y \\z\n'\\x41\\'",
         b"Character 1:1 'a'|Character~ 1:5 L'b'|Character~ 1:10 u'c'|Character~ 1:15 U'\\''|Other~ 1:21 '|Character 1:22 ' '|Other 1:25 '|Character 1:26 ' '|Identifier 1:29 x|Newline 1:30 \n|Other~ 2:1 '|Identifier 2:2 y|Other~ 2:4 \\|Identifier 2:5 z|Newline 2:6 \n|Other~ 3:1 '|Other 3:2 \\|Identifier 3:3 x41|Other 3:6 \\|Other 3:7 '|Newline 3:8 \n|",
+    ),
+    (
+        b"\\u0041 1 1e+5 0x1p-3",
+        b"Identifier 1:1 \\u0041|Number~ 1:8 1|Number~ 1:10 1e+5|Number~ 1:15 0x1p-3|Newline 1:21 \n|",
+    ),
+    (
+        b"'\\'\\'\"a\"\n'a'",
+        b"Other 1:1 '|Other 1:2 \\|Other 1:3 '|Other 1:4 \\|Other 1:5 '|Text 1:6 \"a\"|Newline 1:9 \n|Character~ 2:1 'a'|Newline 2:4 \n|",
     ),
     (
         b"u8'a' L 'a'",

@@ -1,5 +1,5 @@
-use Rattle.std.proofs.Common.{◌≡◌, ℕ, ◌-◌, ◌<◌, List, [], ◌∷◌, ◌++◌, Some, length, take, drop, ◌⊎◌, inl, inr, true, false, refl, sym, ap, ◌∙◌, subst, arith}
-use Rattle.std.proofs.lemmas.List.{take_rest}
+use Rattle.std.proofs.Common.{◌≡◌, ℕ, ◌-◌, ◌+◌, ◌<◌, List, [], ◌∷◌, ◌++◌, Some, length, take, drop, ◌⊎◌, inl, inr, true, false, refl, sym, ap, ◌∙◌, subst, arith}
+use Rattle.std.proofs.lemmas.List.{take_rest, drop-drop}
 use Rattle.sc_model.specs.Lex.{bytes_of, is_newline, line_after, IsLongest, IsUnended, is_white}
 use Rattle.sc_lex.specs.declared.piece.Row.{Row}
 use Rattle.sc_lex.specs.declared.piece.Row.TheVariants.{Blank, Comment}
@@ -11,6 +11,8 @@ use Rattle.std.specs.Option.{option_map}
 use Rattle.sc_model.specs.Token.{name_of}
 use Rattle.sc_lex.specs.Spell.{position_of}
 use Rattle.sc_lex.specs.Piece.{row_of}
+use Rattle.sc_lex.specs.Unclosed.{AreUnclosed}
+use Rattle.sc_lex.proofs.UnclosedLemmas.{IsUnclosed-none}
 use Rattle.sc_lex.proofs.Lexing.{LexedSoFar, nothing_yet, after_white, after_token, unended_here, all_lexed}
 use Rattle.sc_lex.proofs.Spells.{Spell-held}
 use Rattle.sc_lex.proofs.lexer.tokens.Goals as goal
@@ -32,9 +34,14 @@ pub loop-offset-init : goal.loop-offset-init
 loop-offset-init c = record {
   so_far = subst (λ ts. LexedSoFar c.args.names.now c.args.file c.args.bytes.now c.in_ok-text.text.items Start false (logical_of c.new-source.result) 0 ts) (sym c.new-tokens.ensures.items)
       (nothing_yet c.args.names.now c.args.file c.args.bytes.now c.in_ok-text.text.items Start (logical_of c.new-source.result) refl c.new-source.ensures (c.in_ok-text.ensures ∙ ap bytes_of c.new.ensures));
+  unclosed = record { single = IsUnclosed-none 39 c.in_ok-text.text.items; double = IsUnclosed-none 34 c.in_ok-text.text.items };
   grows = Extends-refl c.args.names.now;
   one_to_one = λ one. one;
 }
+
+-- what is known of the rest
+known_here : (c : After-longest) → AreUnclosed (take (length c.deref.result.now - c.loop-offset.offset) (drop c.loop-offset.offset c.deref.result.now)) c.loop-offset.unclosed
+known_here c = subst (λ bs. AreUnclosed bs c.loop-offset.unclosed) (sym (rest_is c)) c.loop-offset.invariant.unclosed
 
 pub returns-in_default-clause-err : goal.returns-in_default-clause-err
 returns-in_default-clause-err c =
@@ -46,10 +53,14 @@ loop-offset-preserved c =
     let d = (goal.at.loop-offset-preserved c).After-longest in
     let so = c.loop-offset.invariant.so_far in
     let next = c.advance.ensures ∙ ap (drop c.in-Some.piece.length) c.place-place.ensures.same in
+    let text = c.in_ok-text.text.items in
+    let known : AreUnclosed (drop (c.loop-offset.offset + c.in-Some.piece.length) text) c.after-unclosed.result =
+    subst (λ bs. AreUnclosed bs c.after-unclosed.result) (ap (drop c.in-Some.piece.length) (rest_is d) ∙ drop-drop c.in-Some.piece.length c.loop-offset.offset text) c.after-unclosed.ensures in
     let longest = λ (line : List (List ℕ)) (f : front_of line ≡ c.loop-offset.front). subst (λ bs. IsLongest line bs (row_of c.in-Some.piece.row) c.in-Some.piece.length) (rest_is d) (c.in-Some.ensures.some line (c.expects_header.ensures line f)) in
     elim c.match-piece.branch [
       | in-Blank w ↦ record {
         so_far = rw (w.names-is, w.tokens-is, w.front-is, w.space-is) (after_white so (row_of c.in-Some.piece.row) c.in-Some.piece.length _ (some_left d) (is_white_piece c.in-Some.piece.row w.in-Blank.is) longest next);
+        unclosed = known;
         grows = rw w.names-is c.loop-offset.invariant.grows;
         one_to_one = rw w.names-is c.loop-offset.invariant.one_to_one;
       }
@@ -69,6 +80,7 @@ loop-offset-preserved c =
             (made.spelled ∙ ap (λ bs. Some (record { kind = kind; spelling = take n bs; space = c.loop-offset.space; position = position_of c.place-place.result })) (rest_is d))
             (made.named ∙ sym (ap (option_map name_of) made.text))
             (ap (λ p. p.file) made.placed ∙ c.place-place.ensures.in_file));
+        unclosed = known;
         grows = rw w.names-is (Extends-trans c.loop-offset.invariant.grows w.token.ensures.grows);
         one_to_one = rw w.names-is (λ one. w.token.ensures.one_to_one);
       }

@@ -18,6 +18,6 @@ returns-clause-some c = λ line is.
     let b7 = c.or_longer-6.ensures line bs 6 b6 refl (here (token Character) _ refl c.character.ensures) in
     let b8 = c.or_longer-7.ensures line bs 7 b7 refl (here (token Text) _ refl c.string.ensures) in
     let b9 = c.or_longer-8.ensures line bs 8 b8 refl (here (token Punctuator) _ refl c.punctuator.ensures) in
-    let other = one_byte_fits bs c.requires in
+    let other = one_byte_fits bs c.requires.some in
     let b10 = c.or_longer-9.ensures line bs 9 b9 refl (here (token Other) _ refl other) in
-    longest_of_best b10 (some_byte b10 c.requires) c.in_ok-comment.ensures.ended
+    longest_of_best b10 (some_byte b10 c.requires.some) c.in_ok-comment.ensures.ended

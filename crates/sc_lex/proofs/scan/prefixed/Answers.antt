@@ -3,6 +3,7 @@ use Rattle.std.proofs.lemmas.List.{take_rest}
 use Rattle.sc_model.specs.Lex.{is_quoted}
 use Rattle.sc_lex.specs.Scan.{IsLongestFront}
 use Rattle.sc_lex.proofs.Quotes.{behind-some, behind-none, behind-off, starts_with-is}
+use Rattle.sc_lex.proofs.UnclosedLemmas.{IsUnclosed-drop, quoted-unclosed}
 use Rattle.sc_lex.proofs.scan.prefixed.Goals as goal
 use Rattle.sc_lex.proofs.scan.prefixed.Goals.{After-quoted-length}
 
@@ -13,6 +14,12 @@ pub returns-then-not-starts_with : goal.returns-then-not-starts_with
 returns-then-not-starts_with c =
     behind-off (is_quoted c.args.quote c.args.filled) refl c.args.prefix.now c.args.text.now
     (starts_with-is c.args.prefix.now c.args.text.now ∙ sym c.starts_with.ensures.value ∙ c.if-not-starts_with.true)
+
+pub returns-then-prefix-unclosed : goal.returns-then-prefix-unclosed
+returns-then-prefix-unclosed c =
+    behind-none (is_quoted c.args.quote c.args.filled) refl c.args.prefix.now c.args.text.now
+    (starts_with-is c.args.prefix.now c.args.text.now ∙ sym c.starts_with.ensures.value ∙ c.if-not-starts_with.false)
+    (quoted-unclosed c.args.quote c.args.filled (drop (length c.args.prefix.now) c.args.text.now) (IsUnclosed-drop (length c.args.prefix.now) 1 (omega arith) c.requires))
 
 pub returns-then-length-eq0 : goal.returns-then-length-eq0
 returns-then-length-eq0 c =

@@ -1,0 +1,3 @@
+pub mod ItemLemmas
+mod NextLemmas
+mod RestrictionLemmas

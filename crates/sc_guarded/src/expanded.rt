@@ -1,0 +1,10 @@
+use crate::Guarded;
+use sc_base::Fault;
+use sc_lex::Token;
+
+/// What a list of tokens becomes under all configurations. A configuration with a fault is refused, and its tokens then don't count.
+#[derive(Drop)]
+pub struct Expanded {
+    pub list: Guarded<Token>,
+    pub faults: Vec<Fault>,
+}
