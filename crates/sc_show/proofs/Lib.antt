@@ -1,5 +1,6 @@
 pub mod Choices
 pub mod Reading
+pub mod Ordering
 pub mod Placing
 pub mod Numbers
 pub mod Pieces

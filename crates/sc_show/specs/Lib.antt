@@ -1,4 +1,5 @@
 pub mod Conflicts
+pub mod Order
 pub mod Pieces
 pub mod Prints
 pub mod Rules

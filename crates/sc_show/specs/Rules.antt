@@ -15,6 +15,7 @@ use Rattle.sc_model.specs.Sets.{Sets, IsConfig, IsCond, Denotes, IsCanonical, Is
 use Rattle.sc_model.specs.Space.{Space, Variable}
 use Rattle.sc_model.specs.Text.{TextLine, condition_line, file_line, token_line, fault_line, end_line, line_text, is_clear}
 use Rattle.sc_show.specs.declared.printer.Printer.{Printer}
+use Rattle.sc_show.specs.Order.{IsAscending}
 use Rattle.sc_show.specs.Prints.{choices_of, printed_place}
 
 -- the child is what remains of the condition for an option of the variable, and depends on later variables only
@@ -122,8 +123,10 @@ pub record IsBegun (s : Sets) (p : Printer) : Type 0 where
   pub files : p.files.keys ≡ []
   pub text : p.text.items ≡ []
 
--- the faults as they are printed
+-- The faults as they are printed: ordered by the bytes of the name of the file, line, column and code, one for each pair of
+-- cause and place, so that its condition is the whole set.
 pub record AreMerged (s : Sets) (files : List (List ℕ)) (faults merged : List base.Fault) : Type 0 where
+  pub ascending : IsAscending (map (seen_fault files) merged)
   pub same : (c : List ℕ) → IsConfig s.arities c → map (seen_fault files) (faults_at s merged c) ≡ map (seen_fault files) (faults_at s faults c)
 
 -- The text has the lines of the list's items and then those of its faults, each directly after the lines that it needs, and

@@ -56,6 +56,7 @@ returns g c =
           told;
       rules = KeepsRules-end c.args.list.now c.args.faults.now merged c.print_end.new.self.text.items c.requires.sound c.requires.files
           (λ k d h. IsShowable-Keeps first (c.requires.list k d h)) c.canonical.ensures later c.in_ok-printer.ensures.first (record {
+            ascending = c.in_ok-merged.ensures.ascending;
             same = λ x listed.
                 let here = IsConfig-kept later listed in
                 let before = IsConfig-kept first here in
