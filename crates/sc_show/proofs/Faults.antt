@@ -16,7 +16,7 @@ use Rattle.sc_model.specs.Pre as model
 use Rattle.sc_model.specs.Sets.{Sets, IsConfig, IsCond, Denotes, Keeps}
 use Rattle.sc_model.proofs.SetLemmas.{IsConfig-kept, IsConfig-Keeps}
 use Rattle.sc_show.specs.Prints.{when}
-use Rattle.sc_show.specs.Shows.{AreApart, IsSamePair}
+use Rattle.sc_show.specs.Shows.{AreApart}
 use Rattle.sc_show.proofs.Shows.{faults_at-more, faults_at-Keeps, faults_more, map-when}
 
 pub All-front : {X : Type 0} (P : X → Type 0) (xs ys : List X) → All P (xs ++ ys) → All P xs
@@ -166,7 +166,7 @@ once rest false true x few = ap (λ r. r ++ x ∷ []) (sym (append-nil rest))
 once rest false false x few = sym (append-nil (rest ++ []))
 
 -- a fault of the last one's pair makes that one's condition larger
-pub same_merged : {old now : Sets} (files : List (List ℕ)) (rest : List Fault) (last fault : Fault) (cond : Cond) → IsSamePair last fault → All (λ (f : Fault). IsCond old f.cond.0) rest
+pub same_merged : {old now : Sets} (files : List (List ℕ)) (rest : List Fault) (last fault : Fault) (cond : Cond) → seen_fault files last ≡ seen_fault files fault → All (λ (f : Fault). IsCond old f.cond.0) rest
     → AreApart old ((rest ++ last ∷ []) ++ fault ∷ []) → Keeps old now → Denotes now cond.0 (λ c. old.has last.cond.0 c || old.has fault.cond.0 c) → (c : List ℕ) → IsConfig old.arities c
     → map (seen_fault files) (faults_at now (rest ++ record { cond = cond; cause = last.cause; place = last.place } ∷ []) c) ≡ map (seen_fault files) (faults_at old ((rest ++ last ∷ []) ++ fault ∷ []) c)
 same_merged {old} {now} files rest last fault cond pair own apart keeps means c listed =
@@ -175,8 +175,7 @@ same_merged {old} {now} files rest last fault cond pair own apart keeps means c 
     let a = old.has last.cond.0 c in
     let b = old.has fault.cond.0 c in
     let shown : model.Fault = f last in
-    let other : f fault ≡ shown = sym (ap (λ x. let y : model.Fault = record { cause = x; place = seen_place files last.place } in y) pair.cause
-    ∙ ap (λ p. let y : model.Fault = record { cause = fault.cause; place = seen_place files p } in y) pair.place) in
+    let other : f fault ≡ shown = sym pair in
     let now_is : map f (faults_at now (rest ++ it ∷ []) c) ≡ map f (faults_at old rest c) ++ when (a || b) shown =
     ap (map f) (faults_at-append now rest (it ∷ []) c) ∙ map-append f (faults_at now rest c) (when (now.has cond.0 c) it)
     ∙ ap (λ r. map f (faults_at now rest c) ++ r) (map-when f (now.has cond.0 c) it)

@@ -74,6 +74,9 @@ position_passes p (x ∷ xs) i h =
     let within = ltb-true _ _ found.0 in
     (slice_index_or (x ∷ xs) (position_or_len p (x ∷ xs)) x, ap (slice_get (x ∷ xs)) (sym found.1) ∙ slice_get-get_or (x ∷ xs) _ x within, passes_at_first p (x ∷ xs) x within)
 
+pub slice_get-position : (ks : List Cond) (a : Cond) (n : ℕ) → Some n ≡ position (λ (k : Cond). a.0 == k.0) ks → slice_get ks n ≡ Some a
+slice_get-position ks a n found = let at = position_passes (λ (k : Cond). a.0 == k.0) ks n (sym found) in at.1 ∙ ap Some (sym (same_cond a at.0 at.2))
+
 -- a condition that was found has its index as its number
 pub IsNumberOf-position : (s : Sets) (ks : List Cond) (a : Cond) (n : ℕ) → IsCond s a.0 → Some n ≡ position (λ (k : Cond). a.0 == k.0) ks → IsNumberOf s ks (s.has a.0) n
 IsNumberOf-position s ks a n own found =
@@ -91,14 +94,14 @@ position_or_len-none p (x ∷ xs) h = by (p x) (list_any p xs) h (position_or_le
 
 -- What an insertion into a set answers.
 module _ {T : Type 0} (eq : T → T → Bool) (key : T) (keys new : List T) (number : ℕ) where
-  absent : true ≡ not (list_any (eq key) keys) → list_any (eq key) keys ≡ false
+  pub absent : true ≡ not (list_any (eq key) keys) → list_any (eq key) keys ≡ false
   absent fresh = by (list_any (eq key) keys) fresh
     where
       by : (b : Bool) → true ≡ not b → b ≡ false
       by true h = absurd (true≢false h)
       by false h = refl
 
-  present : false ≡ not (list_any (eq key) keys) → list_any (eq key) keys ≡ true
+  pub present : false ≡ not (list_any (eq key) keys) → list_any (eq key) keys ≡ true
   present known = by (list_any (eq key) keys) known
     where
       by : (b : Bool) → false ≡ not b → b ≡ true

@@ -7,7 +7,7 @@ use Rattle.std.proofs.lemmas.Bool.{true≢false, and_parts, or_parts, or_from, n
 use Rattle.sc_model.specs.declared.cause.Cause.{Cause}
 use Rattle.sc_model.specs.declared.cause.Cause.TheVariants.{NotFound}
 use Rattle.sc_model.specs.Cause.{code_of, name_of}
-use Rattle.sc_model.specs.Text.{Printed, TextLine, condition_line, file_line, token_line, fault_line, end_line, numeral, place_text, choice_text, line_text, is_plain, is_word, is_wordless, is_clear}
+use Rattle.sc_model.specs.Text.{TextLine, condition_line, file_line, token_line, fault_line, end_line, numeral, place_text, choice_text, line_text, is_plain, is_word, is_wordless, is_clear}
 use Rattle.sc_model.proofs.Numerals.{numeral-digits, is_no_digit}
 use Rattle.sc_show.specs.Pieces.{IsLine, byte_before, split_lines_after}
 
@@ -55,9 +55,6 @@ name_plain : (cause : Cause) → has_newline (name_of cause) ≡ false
 name_plain NotFound = refl
 name_plain _ = refl
 
-place_plain : (p : Printed) → has_newline (place_text p) ≡ false
-place_plain p = simp (newline-append, numeral_plain)
-
 choices_plain : (os : List (List ℕ × ℕ)) → list_all (λ choice. is_word choice.0 && not (list_any (λ b. b == 58) choice.0)) os ≡ true → has_newline (flat_map choice_text os) ≡ false
 choices_plain [] h = refl
 choices_plain (o ∷ os) h =
@@ -77,10 +74,10 @@ line_text_is_line (condition_line id variable options) h =
 line_text_is_line (file_line id name) h = is_line (codes "s " ++ numeral id ++ codes " " ++ name) (simp (newline-append, numeral_plain, not-true (has_newline name) h))
 line_text_is_line (token_line cond place spelling) h =
     is_line (codes "t " ++ numeral cond ++ codes " " ++ place_text place ++ codes " " ++ spelling)
-    (simp (newline-append, numeral_plain, place_plain place, not-true (has_newline spelling) h))
+    (simp (newline-append, numeral_plain, not-true (has_newline spelling) h))
 line_text_is_line (fault_line cond cause place) h =
     is_line (codes "f " ++ numeral cond ++ codes " " ++ numeral (code_of cause) ++ codes " " ++ name_of cause ++ codes " " ++ place_text place)
-    (simp (newline-append, numeral_plain, name_plain cause, place_plain place))
+    (simp (newline-append, numeral_plain, name_plain cause))
 line_text_is_line end_line h = is_line (codes "end") refl
 
 -- the lines of a text

@@ -23,10 +23,6 @@ pub record IsShowableFault (s : Sets) (files : List (List ℕ)) (f : base.Fault)
   pub own : IsCond s f.cond.0
   pub file : f.place.file.0 < length files
 
-pub record IsSamePair (f g : base.Fault) : Type 0 where
-  pub cause : f.cause ≡ g.cause
-  pub place : f.place ≡ g.place
-
 -- no configuration has two faults
 pub record AreApart (s : Sets) (faults : List base.Fault) : Type 0 where
   pub few : (c : List ℕ) → IsConfig s.arities c → length (faults_at s faults c) ≤ 1

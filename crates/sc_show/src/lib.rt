@@ -9,3 +9,6 @@ mod tokens;
 
 pub use conflicts::show_conflicts;
 pub use tokens::show_tokens;
+
+#[cfg(test)]
+mod tests;

@@ -1,4 +1,4 @@
-ghost use Rattle.std.specs.Prelude.{◌≡◌, ◌++◌, ◌<◌, List, ℕ, [], true, All, Some, length, slice_get, IfOk, OnOk};
+ghost use Rattle.std.specs.Prelude.{◌≡◌, ◌++◌, ◌∷◌, ◌<◌, List, ℕ, [], true, All, Some, length, slice_get, IfOk, OnOk};
 ghost use Rattle.sc_guarded.specs.Items.{seen_fault};
 ghost use Rattle.sc_lex.specs.Seen.{seen_place};
 ghost use Rattle.sc_model.specs.Pre.{Fault as model_fault};
@@ -8,6 +8,7 @@ ghost use Rattle.sc_model.specs.Space.{arities_of};
 ghost use Rattle.sc_model.specs.Text.{is_plain, line_text, end_line};
 ghost use Rattle.sc_model.specs.Token.{Shown};
 ghost use Rattle.sc_space.specs.Seen.{seen_space};
+ghost use Rattle.sc_show.specs.Rules.{token_item, fault_item, IsBegun, Introduced, IntroducedFile, LaidOut};
 ghost use Rattle.sc_show.specs.Prints.{HasPlainNames, IsNumberOf, IsTable, Prints, Continues, when};
 
 use crate::lines;
@@ -36,6 +37,7 @@ impl Printer {
     pub fn new<C: Conditions>(alloc: Global, conds: &C) -> Result<Printer, OutOfMemory>
         ensures table { IfOk result (λ printer. IsTable (C.sets conds.now) printer.conditions.keys) }
         ensures prints { IfOk result (λ printer. (space : model.Space) (files : List (List ℕ)) → Prints space (C.sets conds.now) files printer (λ _. []) (λ _. [])) }
+        ensures first { IfOk result (IsBegun (C.sets conds.now)) }
     {
         conds.has_options();
         let mut conditions = IndexSet::new(alloc);
@@ -62,12 +64,15 @@ impl Printer {
         requires names { HasPlainNames (seen_space space.now) }
         requires table { IsTable (C.sets conds.old) self.old.conditions.keys }
         ensures number { IfOk result (λ n. IsNumberOf (C.sets conds.new) self.new.conditions.keys ((C.sets conds.old).has cond.0) n) }
+        ensures place { IfOk result (λ n. slice_get self.new.conditions.keys n ≡ Some cond) }
         ensures continues { OnOk result (Continues (seen_space space.now) (C.sets conds.old) (C.sets conds.new) self.old self.new) }
+        ensures lines { OnOk result (Introduced (seen_space space.now) (C.sets conds.new) self.old self.new cond) }
 
         // at every outcome
         ensures keeps { Keeps (C.sets conds.old) (C.sets conds.new) }
     {
         let Some(variable) = conds.top(cond) else {
+            conds.canonical();
             return Ok(if conds.is_never(cond) { NEVER } else { ALWAYS });
         };
         if let Some(known) = self.conditions.get_index_of(&cond) {
@@ -94,6 +99,7 @@ impl Printer {
         requires plain { All (λ name. is_plain name ≡ true) files.now }
         ensures number { IfOk result (λ n. slice_get self.new.files.keys n ≡ Some file) }
         ensures conditions { OnOk result (self.new.conditions.keys ≡ self.old.conditions.keys) }
+        ensures lines { OnOk result (IntroducedFile files.now self.old self.new file) }
         ensures prints { OnOk result ((space : model.Space) (s : Sets) (tokens : List ℕ → List Shown) (faults : List ℕ → List model_fault)
             → Prints space s files.now self.old tokens faults → Prints space s files.now self.new tokens faults) }
     {
@@ -126,6 +132,7 @@ impl Printer {
             → Prints (seen_space space.now) (C.sets conds.old) files.now self.old tokens faults
             → Prints (seen_space space.now) (C.sets conds.new) files.now self.new
             (λ c. tokens c ++ when ((C.sets conds.old).has cond.0 c) (record { place = seen_place files.now place; spelling = spelling.now })) faults) }
+        ensures lines { OnOk result (LaidOut (seen_space space.now) (C.sets conds.new) files.now self.old self.new (token_item cond place spelling.now ∷ [])) }
 
         // at every outcome
         ensures keeps { Keeps (C.sets conds.old) (C.sets conds.new) }
@@ -157,6 +164,7 @@ impl Printer {
             → Prints (seen_space space.now) (C.sets conds.old) files.now self.old tokens faults
             → Prints (seen_space space.now) (C.sets conds.new) files.now self.new tokens
             (λ c. faults c ++ when ((C.sets conds.old).has fault.cond.0 c) (seen_fault files.now fault))) }
+        ensures lines { OnOk result (LaidOut (seen_space space.now) (C.sets conds.new) files.now self.old self.new (fault_item fault ∷ [])) }
 
         // at every outcome
         ensures keeps { Keeps (C.sets conds.old) (C.sets conds.new) }

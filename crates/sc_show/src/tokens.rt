@@ -8,6 +8,7 @@ ghost use Rattle.sc_model.specs.Text.{is_plain};
 ghost use Rattle.sc_model.specs.Token.{Shown, shown};
 ghost use Rattle.sc_space.specs.Seen.{seen_space};
 ghost use Rattle.sc_show.specs.Prints.{HasPlainNames, IsTable, Prints};
+ghost use Rattle.sc_show.specs.Rules.{list_item, fault_item, LaidOut, KeepsRules};
 ghost use Rattle.sc_show.specs.Shows.{IsShowable, IsShowableFault, AreApart, Shows};
 
 use crate::merge::merged;
@@ -37,6 +38,7 @@ fn print_list<C: Conditions>(
         → Prints (seen_space space.now) (C.sets conds.old) files.now printer.old tokens faults
         → Prints (seen_space space.now) (C.sets conds.new) files.now printer.new
         (λ c. tokens c ++ map (λ t. shown (seen names.now files.now t)) (items_at (C.sets conds.old) list.now c)) faults) }
+    ensures lines { OnOk result (LaidOut (seen_space space.now) (C.sets conds.new) files.now printer.old printer.new (map (list_item names.now) list.now)) }
 
     // at every outcome
     ensures keeps { Keeps (C.sets conds.old) (C.sets conds.new) }
@@ -65,6 +67,7 @@ fn print_faults<C: Conditions>(
         → Prints (seen_space space.now) (C.sets conds.old) files.now printer.old tokens before
         → Prints (seen_space space.now) (C.sets conds.new) files.now printer.new tokens
         (λ c. before c ++ map (seen_fault files.now) (faults_at (C.sets conds.old) faults.now c))) }
+    ensures lines { OnOk result (LaidOut (seen_space space.now) (C.sets conds.new) files.now printer.old printer.new (map fault_item faults.now)) }
 
     // at every outcome
     ensures keeps { Keeps (C.sets conds.old) (C.sets conds.new) }
@@ -92,6 +95,7 @@ pub fn show_tokens<C: Conditions>(
     requires faults { All (IsShowableFault (C.sets conds.old) files.now) faults.now }
     requires apart { AreApart (C.sets conds.old) faults.now }
     ensures text { IfOk result (λ text. Shows (seen_space space.now) (C.sets conds.new) names.now files.now list.now faults.now text.items) }
+    ensures rules { IfOk result (λ text. KeepsRules (seen_space space.now) (C.sets conds.new) names.now files.now list.now faults.now text.items) }
     ensures keeps { Keeps (C.sets conds.old) (C.sets conds.new) }
 {
     let merged = merged(alloc, conds, files, faults)?;
@@ -99,5 +103,6 @@ pub fn show_tokens<C: Conditions>(
     print_list(&mut printer, conds, space, names, files, list)?;
     print_faults(&mut printer, conds, space, files, &merged)?;
     printer.print_end()?;
+    conds.canonical();
     Ok(printer.text)
 }

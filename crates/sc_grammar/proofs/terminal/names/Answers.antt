@@ -4,4 +4,4 @@ use Rattle.sc_grammar.proofs.terminal.names.Goals as goal
 
 pub returns : goal.returns
 unfolding terminal_names
-returns c = refl
+returns c = record { names = refl; in_order = refl }

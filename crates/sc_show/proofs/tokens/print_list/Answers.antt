@@ -4,6 +4,9 @@ use Rattle.sc_lex.specs.Seen.{seen, seen_place}
 use Rattle.sc_model.specs.Text.{is_plain}
 use Rattle.sc_model.specs.Token.{Shown, shown}
 use Rattle.sc_model.proofs.SetLemmas.{Keeps-refl, Keeps-trans, IsConfig-kept}
+use Rattle.sc_space.specs.Seen.{seen_space}
+use Rattle.sc_show.specs.Rules.{list_item, token_item, LaidOut}
+use Rattle.sc_show.proofs.Placing.{LaidOut-nothing, LaidOut-more}
 use Rattle.sc_show.proofs.Shows.{Shows-end, shown_more, showable_at, text_at-slice_get}
 use Rattle.sc_show.proofs.Steps.{Prints-same}
 use Rattle.sc_show.proofs.tokens.print_list.Goals as goal
@@ -13,6 +16,7 @@ loop-index-init g c = record {
   keeps = Keeps-refl _;
   table = c.requires.table;
   prints = λ tokens faults was. Prints-same (λ x listed. sym (append-nil (tokens x))) (λ x listed. refl) was;
+  lines = LaidOut-nothing;
 }
 
 pub loop-index-preserved : goal.loop-index-preserved
@@ -32,6 +36,9 @@ loop-index-preserved g c =
           (λ x listed. shown_more (λ t. shown (seen c.args.names.now c.args.files.now t)) _ _ c.args.list.now c.loop-index.index c.item.result.0 c.item.result.1.now (tokens x) x was.keeps can.own
           (IsConfig-kept kept listed) c.item.ensures it same)
           (λ x listed. refl) (c.in_ok-print_token.ensures.prints _ faults (was.prints tokens faults begun));
+      lines = LaidOut-more (list_item c.args.names.now) c.args.list.now c.loop-index.index (c.item.result.0, c.item.result.1.now) (token_item c.item.result.0 c.item.result.1.now.place c.text-spelling.result.now) c.item.ensures
+          (ap (token_item c.item.result.0 c.item.result.1.now.place) (text_at-slice_get c.args.names.now _ c.text-spelling.result.now c.text-spelling.ensures)) c.print_token.ensures.keeps was.lines
+          c.in_ok-print_token.ensures.lines;
     }
 
 pub text-spelling-requires : goal.text-spelling-requires
@@ -63,5 +70,6 @@ returns g c =
       prints = λ tokens faults begun.
           Prints-same (λ x listed. ap (λ l. tokens x ++ map (λ t. shown (seen c.args.names.now c.args.files.now t)) (items_at (g.C.Conditions.sets c.args.conds.now) l x)) all) (λ x listed. refl)
           (was.prints tokens faults begun);
+      lines = subst (λ list. LaidOut (seen_space c.args.space.now) (g.C.Conditions.sets c.loop-index.conds) c.args.files.now c.args.printer.now c.loop-index.printer (map (list_item c.args.names.now) list)) all was.lines;
       keeps = was.keeps;
     }

@@ -1,4 +1,4 @@
-use Rattle.std.proofs.Common.{ℕ, List, ◌≡◌, ◌∙◌, ap, sym, refl, subst, map, All}
+use Rattle.std.proofs.Common.{ℕ, List, ◌≡◌, ◌∙◌, ◌++◌, ap, sym, refl, subst, map, All}
 use Rattle.sc_base.specs.declared.fault.Fault.{Fault}
 use Rattle.sc_guarded.specs.Items.{items_at, faults_at, seen_fault}
 use Rattle.sc_lex.specs.Seen.{seen}
@@ -6,6 +6,9 @@ use Rattle.sc_model.specs.Token.{shown}
 use Rattle.sc_model.proofs.SetLemmas.{Keeps-trans, IsConfig-kept}
 use Rattle.sc_space.specs.Seen.{seen_space}
 use Rattle.sc_show.specs.Shows.{IsShowableFault}
+use Rattle.sc_show.specs.Rules.{list_item, fault_item, LaidOut}
+use Rattle.sc_show.proofs.Placing.{LaidOut-trans}
+use Rattle.sc_show.proofs.Ruling.{KeepsRules-end}
 use Rattle.sc_show.proofs.Shows.{IsShowable-Keeps, IsShowableFault-Keeps, Shows-end, items_at-Keeps, faults_at-Keeps}
 use Rattle.sc_show.proofs.tokens.show_tokens.Goals as goal
 
@@ -51,6 +54,19 @@ returns g c =
           ∙ c.in_ok-merged.ensures.same x before
           ∙ ap (map (seen_fault files)) (sym (faults_at-Keeps c.args.faults.now x (Keeps-trans first later) (λ k d h. (c.requires.faults k d h).own) before)))
           told;
+      rules = KeepsRules-end c.args.list.now c.args.faults.now merged c.print_end.new.self.text.items c.requires.sound c.requires.files
+          (λ k d h. IsShowable-Keeps first (c.requires.list k d h)) c.canonical.ensures later c.in_ok-printer.ensures.first (record {
+            ascending = c.in_ok-merged.ensures.ascending;
+            same = λ x listed.
+                let here = IsConfig-kept later listed in
+                let before = IsConfig-kept first here in
+                ap (map (seen_fault files)) (faults_at-Keeps merged x later (λ k d h. (c.in_ok-merged.ensures.faults k d h).own) here)
+                ∙ c.in_ok-merged.ensures.same x before
+                ∙ ap (map (seen_fault files)) (sym (faults_at-Keeps c.args.faults.now x (Keeps-trans first later) (λ k d h. (c.requires.faults k d h).own) before));
+          })
+          (subst (λ faults. LaidOut (seen_space c.args.space.now) (g.C.Conditions.sets c.print_faults.new.conds) files c.in_ok-printer.printer c.print_faults.new.printer (map (list_item c.args.names.now) c.args.list.now ++ map fault_item faults))
+          c.deref.ensures.value (LaidOut-trans c.print_faults.ensures.keeps c.in_ok-print_list.ensures.lines c.in_ok-print_faults.ensures.lines))
+          c.in_ok-print_end.ensures;
       keeps = Keeps-trans first later;
     }
 

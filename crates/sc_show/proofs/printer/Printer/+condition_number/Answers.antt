@@ -1,9 +1,13 @@
-use Rattle.std.proofs.Common.{◌≡◌, ◌+◌, ◌<◌, ◌≤◌, ◌==◌, ◌∙◌, ◌++◌, ◌∷◌, [], ap, sym, refl, subst, length, length-append, rules, arith}
+use Rattle.std.proofs.Common.{◌≡◌, ◌⊎◌, ◌+◌, ◌<◌, ◌≤◌, ◌==◌, ◌∙◌, ◌++◌, ◌∷◌, [], ap, sym, refl, subst, length, length-append, rules, arith}
+use Rattle.std.proofs.lemmas.Bool.{true≢false}
+use Rattle.indexmap.proofs.CallerLemmas.{Contains-list_any}
 use Rattle.sc_base.specs.declared.id.Cond.{Cond}
-use Rattle.sc_model.proofs.SetLemmas.{Keeps-trans, DependsFrom-Keeps, IsConfig-kept, le-IsTop}
+use Rattle.sc_model.specs.Sets.{IsNever, IsAlways}
+use Rattle.sc_model.proofs.SetLemmas.{Keeps-refl, Keeps-trans, DependsFrom-Keeps, IsConfig-kept, le-IsTop, IsTop-Keeps}
 use Rattle.sc_space.specs.Seen.{seen_space, seen_variable}
-use Rattle.sc_show.proofs.Numbers.{IsNumberOf-position, IsTable-Keeps, pushed, pushed_at, stays}
-use Rattle.sc_show.proofs.Steps.{HasChildren, HasChildren-grows, HasChildren-push, HasChildren-now, Continues-Keeps, Continues-trans, Continues-same, Continues-condition, variables_count, variable_at, arity_at}
+use Rattle.sc_show.proofs.Numbers.{same_cond, present, IsNumberOf-position, slice_get-position, IsTable-Keeps, pushed, pushed_at, stays}
+use Rattle.sc_show.proofs.Placing.{HasParts-push, HasParts-none, HasParts-absent, Introduced-node, Introduced-known, numbered_never, numbered_always, absent_cond}
+use Rattle.sc_show.proofs.Steps.{HasChildren, HasChildren-none, HasChildren-grows, HasChildren-push, HasChildren-now, Continues-Keeps, Continues-trans, Continues-same, Continues-condition, variables_count, variable_at, arity_at}
 use Rattle.sc_show.proofs.printer.Printer.+condition_number.Goals as goal
 
 pub returns-in-Some-get_index_of-clause-number : goal.returns-in-Some-get_index_of-clause-number
@@ -54,6 +58,11 @@ loop-option-preserved g t c =
             c.in_ok-part.ensures.chosen x (IsConfig-kept kept listed) (chosen ∙ was.count)
             ∙ was.keeps.at _ x c.requires.own (IsConfig-kept (Keeps-trans was.keeps kept) listed);
       }) (HasChildren-grows kept more.grows was.children));
+      parts = HasParts-push c.in_ok-part.part c.in_ok-child.child c.push.new.self.items c.part.ensures.keeps c.condition_number.ensures.keeps was.own was.parts (record {
+        own = c.in_ok-part.ensures.own;
+        later = c.in_ok-part.ensures.later was.later;
+        agrees = λ x listed chosen. c.in_ok-part.ensures.chosen x (IsConfig-kept c.part.ensures.keeps listed) (chosen ∙ was.count) ∙ sym (c.part.ensures.keeps.at _ x was.own (IsConfig-kept c.part.ensures.keeps listed));
+      }) c.in_ok-child.ensures.lines c.in_ok-child.ensures.place more.grows c.in_ok-push.ensures.items;
       count = longer ∙ ap (λ n. n + 1) was.count;
     }
 
@@ -75,3 +84,56 @@ returns-clause-continues g t c =
     (HasChildren-now _ was.keeps c.requires.own was.children) (omega arith)
     (pushed_at (λ (a b : Cond). a.0 == b.0) _ _ c.insert_full.new.self.keys _ fresh c.in_ok-number.ensures.index) (pushed (λ (a b : Cond). a.0 == b.0) _ _ _ c.in_ok-number.number fresh c.in_ok-number.ensures.keys)
     refl c.deref.result.now c.deref.ensures.value c.in_ok-write_condition.ensures)
+
+pub returns-then-is_never-clause-place : goal.returns-then-is_never-clause-place
+returns-then-is_never-clause-place g t c =
+    let never : IsNever (g.C.Conditions.sets c.args.conds.now) c.args.cond.0 = c.is_never.ensures.0 (search rules) in
+    numbered_never c.args.cond c.canonical.ensures c.requires.table c.requires.own never
+
+pub returns-else-is_never-clause-place : goal.returns-else-is_never-clause-place
+returns-else-is_never-clause-place g t c =
+    let sets = g.C.Conditions.sets c.args.conds.now in
+    let some : IsNever sets c.args.cond.0 → ⊥ = λ never. absurd (true≢false (sym (c.is_never.ensures.1 never) ∙ c.if-is_never.false)) in
+    let either : IsNever sets c.args.cond.0 ⊎ IsAlways sets c.args.cond.0 = c.in_default.ensures.none.0 (search rules) in
+    numbered_always c.args.cond c.canonical.ensures c.requires.table c.requires.own some either
+
+pub returns-then-is_never-clause-lines : goal.returns-then-is_never-clause-lines
+returns-then-is_never-clause-lines g t c = Introduced-known c.args.cond 0 (returns-then-is_never-clause-place g t c)
+
+pub returns-else-is_never-clause-lines : goal.returns-else-is_never-clause-lines
+returns-else-is_never-clause-lines g t c = Introduced-known c.args.cond 1 (returns-else-is_never-clause-place g t c)
+
+pub returns-in-Some-get_index_of-clause-place : goal.returns-in-Some-get_index_of-clause-place
+returns-in-Some-get_index_of-clause-place g t c = slice_get-position _ _ _ c.in-Some-get_index_of.ensures.index
+
+pub returns-in-Some-get_index_of-clause-lines : goal.returns-in-Some-get_index_of-clause-lines
+returns-in-Some-get_index_of-clause-lines g t c = Introduced-known c.args.cond _ (slice_get-position _ _ _ c.in-Some-get_index_of.ensures.index)
+
+pub loop-option-init : goal.loop-option-init
+loop-option-init g t c = record {
+  own = c.requires.own;
+  later = c.in-Some.ensures.some.first;
+  keeps = Keeps-refl _;
+  continues = Continues-Keeps (Keeps-refl _) c.requires.table;
+  children = subst (HasChildren _ _ _ _) (sym c.new-children.ensures.items) HasChildren-none;
+  parts = HasParts-none c.new-children.ensures.items;
+  count = ap length c.new-children.ensures.items;
+}
+
+pub returns-then-not-is_new-clause-lines : goal.returns-then-not-is_new-clause-lines
+returns-then-not-is_new-clause-lines g t c =
+    let was = c.loop-option.invariant in
+    let has = Contains-list_any (λ (a b : Cond). a.0 == b.0) same_cond c.loop-option.self.conditions.keys c.args.cond
+    (present (λ (a b : Cond). a.0 == b.0) c.args.cond c.loop-option.self.conditions.keys c.insert_full.new.self.keys c.in_ok-number.number (sym c.if-not-is_new.true ∙ c.in_ok-number.ensures.added)) in
+    absurd (HasParts-absent was.parts (IsTop-Keeps was.keeps c.requires.own c.in-Some.ensures.some) (absent_cond c.args.self.now.conditions.keys c.args.cond c.in_default-get_index_of.ensures.found) has)
+
+pub returns-clause-lines : goal.returns-clause-lines
+returns-clause-lines g t c =
+    let was = c.loop-option.invariant in
+    let count = variables_count c.args.space.now _ c.requires.arities in
+    let below : c.in-Some.variable < length c.args.space.now.variables.items = omega (arith, count, c.in-Some.ensures.some.depends.within) in
+    let fresh = sym c.if-not-is_new.false ∙ c.in_ok-number.ensures.added in
+    Introduced-node (seen_variable c.index-named.result.now) c.in_ok-number.number c.deref.result.now was.own (IsTop-Keeps was.keeps c.requires.own c.in-Some.ensures.some)
+    (variable_at c.args.space.now _ _ c.index-named.ensures below) (omega arith) (absent_cond c.args.self.now.conditions.keys c.args.cond c.in_default-get_index_of.ensures.found) was.parts
+    (pushed_at (λ (a b : Cond). a.0 == b.0) _ _ c.insert_full.new.self.keys _ fresh c.in_ok-number.ensures.index) (pushed (λ (a b : Cond). a.0 == b.0) _ _ _ c.in_ok-number.number fresh c.in_ok-number.ensures.keys)
+    c.deref.ensures.value c.in_ok-write_condition.ensures

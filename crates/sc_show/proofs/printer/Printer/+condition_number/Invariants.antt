@@ -2,6 +2,7 @@ use Rattle.std.proofs.Common.{◌≡◌, ◌-◌, length, vec_len}
 use Rattle.sc_model.specs.Sets.{IsCond, Keeps, DependsFrom}
 use Rattle.sc_space.specs.Seen.{seen_space}
 use Rattle.sc_show.specs.Prints.{Continues}
+use Rattle.sc_show.proofs.Placing.{HasParts}
 use Rattle.sc_show.proofs.Steps.{HasChildren}
 use Rattle.sc_show.proofs.printer.Printer.+condition_number.Given as goal
 
@@ -17,5 +18,6 @@ invariant-loop-option g l =
       keeps : Keeps (sets l.fn.conds) (sets l.conds);
       continues : Continues (seen_space l.space) (sets l.fn.conds) (sets l.conds) l.fn.self l.self;
       children : HasChildren (sets l.conds) l.self.conditions.keys ((sets l.fn.conds).has l.cond.0) l.variable l.children.items;
+      parts : HasParts (seen_space l.space) (sets l.conds) l.fn.self l.self l.cond l.variable l.children.items;
       count : length l.children.items ≡ l.option;
     }
