@@ -1,5 +1,5 @@
 //! The search for the states: from each one found, in order, over each symbol, in order.
-ghost use Rattle.std.specs.Prelude.{◌≡◌, ◌<◌, ◌+◌, ◌↔◌, ℕ, length, IfOk, OnOk, All};
+ghost use Rattle.std.specs.Prelude.{◌<◌, ◌+◌, length, IfOk, OnOk, All};
 ghost use Rattle.std.specs.List.Sorted.{IsStrictlyIncreasing};
 ghost use Rattle.sc_model.specs.Grammar.{IsGrammar};
 ghost use Rattle.sc_items.specs.Reach.{EdgesWithin};

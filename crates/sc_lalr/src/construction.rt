@@ -1,5 +1,5 @@
 //! The tables of a grammar from its states.
-ghost use Rattle.std.specs.Prelude.{◌≡◌, ◌<◌, ◌+◌, ◌*◌, ◌^◌, ℕ, length, IfOk, OnOk};
+ghost use Rattle.std.specs.Prelude.{◌<◌, ◌+◌, length, IfOk, OnOk};
 ghost use Rattle.sc_model.specs.Grammar.{IsGrammar};
 ghost use Rattle.sc_items.specs.States.{AreStates, kernels_of};
 ghost use Rattle.sc_lalr.specs.Propagation.{AreNodes, AreLookaheads};

@@ -1,5 +1,5 @@
 //! Lookaheads.
-ghost use Rattle.std.specs.Prelude.{◌≡◌, ◌<◌, ◌↔◌, ◌+◌, ◌/◌, ◌++◌, ℕ, List, length, IfOk, OnOk, All, IsTrue};
+ghost use Rattle.std.specs.Prelude.{◌≡◌, ◌<◌, ◌↔◌, ◌+◌, ◌++◌, ℕ, List, length, IfOk, OnOk, All, IsTrue};
 ghost use Rattle.std.specs.List.{flat_map};
 ghost use Rattle.sc_model.specs.Grammar.{IsGrammar};
 ghost use Rattle.sc_items.specs.Kernel.{IsOpened};

@@ -2,7 +2,6 @@
 //!
 //! Item `i` of state `s` has the place `s * n + i`, where `n` is the number of the items.
 ghost use Rattle.std.specs.Prelude.{◌<◌, ◌*◌, ◌^◌, length, IfOk};
-ghost use Rattle.sc_model.specs.Grammar.{IsGrammar};
 ghost use Rattle.sc_items.specs.States.{AreStates, kernels_of};
 ghost use Rattle.sc_lalr.specs.Propagation.{AreNodes};
 
