@@ -37,14 +37,14 @@ Marks-skip old new waiting now nodes node h marked_one = record {
 count-set : (marks : List Bool) (i : ℕ) → i < length marks → get_or marks i false ≡ false → count_by not (set marks i true) + 1 ≡ count_by not marks
 count-set marks i within is = grind (arith, common_steps)
 
-marked_other : (marks : List Bool) (i v : ℕ) → i < length marks → IsTrue (marked (set marks i true) v) → (v ≡ i) ⊎ IsTrue (marked marks v)
+pub marked_other : (marks : List Bool) (i v : ℕ) → i < length marks → IsTrue (marked (set marks i true) v) → (v ≡ i) ⊎ IsTrue (marked marks v)
 marked_other marks i v within m =
     elim (cases_eq v i) [ inl e ↦ inl e | inr ne ↦ inr (subst IsTrue (get_or-set_other marks i v true false ne) m) ]
 
-marked_same : (marks : List Bool) (i : ℕ) → i < length marks → IsTrue (marked (set marks i true) i)
+pub marked_same : (marks : List Bool) (i : ℕ) → i < length marks → IsTrue (marked (set marks i true) i)
 marked_same marks i within = subst IsTrue (sym (get_or-set_same marks i true false within)) refl
 
-marked_kept : (marks : List Bool) (i v : ℕ) → i < length marks → IsTrue (marked marks v) → IsTrue (marked (set marks i true) v)
+pub marked_kept : (marks : List Bool) (i v : ℕ) → i < length marks → IsTrue (marked marks v) → IsTrue (marked (set marks i true) v)
 marked_kept marks i v within m =
     elim (cases_eq v i) [ inl e ↦ subst (λ x. IsTrue (marked (set marks i true) x)) (sym e) (marked_same marks i within) | inr ne ↦ subst IsTrue (sym (get_or-set_other marks i v true false ne)) m ]
 
@@ -86,7 +86,7 @@ Progress-none edges starts old new waiting long none h = record {
   closed = λ v m. elim (h.only v m) [ inl a ↦ absurd (none v a) | inr a ↦ inl a.1 ];
 }
 
-none_marked : (n v : ℕ) → IsTrue (marked (replicate n false) v) → ⊥
+pub none_marked : (n v : ℕ) → IsTrue (marked (replicate n false) v) → ⊥
 none_marked n v m = elim (cases_lt v n) [ inl h ↦ false≢true (sym (get_or-replicate n v false false h) ∙ m) | inr h ↦ false≢true (sym (get_or_past (replicate n false) v false (omega (arith, length-replicate {A = Bool} n false))) ∙ m) ]
 
 -- before the first step: nothing but the starts is marked

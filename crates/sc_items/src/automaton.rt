@@ -19,7 +19,7 @@ pub struct States {
 }
 
 impl States {
-    ghost use Rattle.std.specs.Prelude.{◌≡◌, ◌↔◌, ◌<◌, ℕ, length, IsTrue, MatchOption};
+    ghost use Rattle.std.specs.Prelude.{◌≡◌, ◌↔◌, length, IsTrue, MatchOption};
     ghost use Rattle.sc_model.specs.Tables.{IsGoto};
     ghost use Rattle.sc_model.specs.Grammar.{IsGrammar};
     ghost use Rattle.sc_model.specs.declared.grammar.Grammar.{Grammar};

@@ -1,9 +1,9 @@
 //! The kernels of states, and what follows from them.
-ghost use Rattle.std.specs.Prelude.{◌≡◌, ◌<◌, ◌≤◌, ◌↔◌, ◌+◌, ℕ, length, IfOk, OnOk, All, IsTrue, vec_len};
+ghost use Rattle.std.specs.Prelude.{◌<◌, ◌↔◌, ℕ, length, IfOk, All, IsTrue};
 ghost use Rattle.std.specs.List.{Contains};
 ghost use Rattle.std.specs.List.Sorted.{IsStrictlyIncreasing};
 ghost use Rattle.sc_model.specs.Grammar.{IsGrammar, IsStart};
-ghost use Rattle.sc_items.specs.Kernel.{IsListOf, IsNumbered, IsOpened, Opens, MovedIn, lists};
+ghost use Rattle.sc_items.specs.Kernel.{AreNext, IsListOf, IsNumbered, IsOpened, Opens, MovedIn, lists};
 ghost use Rattle.sc_items.specs.Reach.{marked, EdgesWithin};
 
 use crate::{after, begun, production_at};
@@ -72,6 +72,25 @@ pub fn members(alloc: Global, marks: &[bool]) -> Result<Vec<usize>, OutOfMemory>
         }
     }
     Ok(items)
+}
+
+/// The symbols that stand after the dots of these items, as marks.
+pub fn next_symbols(
+    alloc: Global,
+    grammar: &Grammar,
+    items: &[usize],
+) -> Result<Vec<bool>, OutOfMemory>
+    requires grammar { IsGrammar grammar.now }
+    requires within { All (λ item. item < length grammar.now.entries.now) items.now }
+    ensures { IfOk result (λ marks. AreNext grammar.now items.now marks.items) }
+{
+    let mut marks = vec![in alloc; false; grammar.terminals + grammar.nonterminals]?;
+    for item in items {
+        if let Some(symbol) = after(grammar, *item) {
+            marks[symbol] = true;
+        }
+    }
+    Ok(marks)
 }
 
 /// The items whose dot stands before the symbol, with the dot moved over it.

@@ -1,6 +1,6 @@
 //! What can be reached along the edges of a graph.
-ghost use Rattle.std.specs.Prelude.{◌≡◌, ◌<◌, ◌↔◌, ℕ, length, IfOk, OnOk, OnErr, All, IsTrue, vec_len};
-ghost use Rattle.sc_items.specs.Reach.{Reaches, EdgesWithin, marked, IsReached, Marks};
+ghost use Rattle.std.specs.Prelude.{◌≡◌, ◌<◌, length, IfOk, OnOk, All, vec_len};
+ghost use Rattle.sc_items.specs.Reach.{EdgesWithin, IsReached, Marks};
 
 use sc_base::OutOfMemory;
 use std::alloc::Global;

@@ -1,13 +1,13 @@
 //! The search for the states: from each one found, in order, over each symbol, in order.
-ghost use Rattle.std.specs.Prelude.{◌≡◌, ◌<◌, ◌+◌, ◌↔◌, ℕ, length, IfOk, OnOk, All};
+ghost use Rattle.std.specs.Prelude.{◌<◌, ◌+◌, length, IfOk, OnOk, All};
 ghost use Rattle.std.specs.List.Sorted.{IsStrictlyIncreasing};
 ghost use Rattle.sc_model.specs.Grammar.{IsGrammar};
 ghost use Rattle.sc_items.specs.Reach.{EdgesWithin};
-ghost use Rattle.sc_items.specs.Kernel.{IsOpened, lists};
+ghost use Rattle.sc_items.specs.Kernel.{AreNext, IsOpened, lists};
 ghost use Rattle.sc_items.specs.Found.{Found, Keeps, IsStep};
 ghost use Rattle.sc_items.specs.States.{IsState, AreStates};
 
-use crate::kernel::{members, moved, number, opened, start};
+use crate::kernel::{members, moved, next_symbols, number, opened, start};
 use crate::{State, States, reachable};
 use indexmap::IndexSet;
 use sc_base::OutOfMemory;
@@ -49,29 +49,33 @@ fn explored(
 {
     let items = reachable(alloc, opened, &kernels[state])?;
     let members = members(alloc, &items)?;
+    let next = next_symbols(alloc, grammar, &members)?;
     let mut gotos = Vec::new(alloc);
     for symbol in 0..grammar.terminals + grammar.nonterminals {
-        gotos.push(goto(alloc, grammar, &members, symbol, kernels)?)?;
+        gotos.push(goto(alloc, grammar, &members, &next, symbol, kernels)?)?;
     }
     Ok(State { items, gotos })
 }
 
-/// Where the symbol leads from the state with these items.
+/// Where the symbol leads from the state with these items, given the symbols after their dots.
 fn goto(
     alloc: Global,
     grammar: &Grammar,
     items: &[usize],
+    next: &[bool],
     symbol: usize,
     kernels: &mut IndexSet<Vec<usize>>,
 ) -> Result<Option<usize>, OutOfMemory>
     requires grammar { IsGrammar grammar.now }
     requires within { All (λ item. item < length grammar.now.entries.now) items.now }
     requires rising { IsStrictlyIncreasing items.now }
+    requires next { AreNext grammar.now items.now next.now }
+    requires symbol { symbol < grammar.now.terminals + grammar.now.nonterminals }
     ensures { IfOk result (IsStep grammar.now items.now symbol (lists kernels.old.keys) (lists kernels.new.keys)) }
 {
-    let kernel = moved(alloc, grammar, items, symbol)?;
-    if kernel.is_empty() {
+    if !next[symbol] {
         return Ok(None);
     }
+    let kernel = moved(alloc, grammar, items, symbol)?;
     Ok(Some(number(kernels, kernel)?))
 }

@@ -1,5 +1,5 @@
 -- Which action is kept, and which are lost.
-use Rattle.std.proofs.Common.{zero, suc, ◌≡◌, ◌↔◌, ◌<◌, ◌≤◌, ◌+◌, ◌*◌, ◌⊎◌, ℕ, Bool, List, [], ◌∷◌, ◌++◌, length, slice_get, map, zero-add, Option, Some, None, MatchOption, Vec, inl, inr, refl, sym, ap, ◌∙◌, subst, arith}
+use Rattle.std.proofs.Common.{zero, suc, ◌≡◌, ◌↔◌, ◌<◌, ◌≤◌, ◌+◌, ◌*◌, ◌⊎◌, ℕ, Bool, IsTrue, List, [], ◌∷◌, ◌++◌, length, slice_get, slice_index, map, zero-add, Option, Some, None, MatchOption, Vec, inl, inr, refl, sym, ap, ◌∙◌, subst, arith}
 use Rattle.std.specs.List.{Contains}
 use Rattle.std.specs.Option.{option_map}
 use Rattle.std.specs.List.Sorted.{IsStrictlyIncreasing, IsStrictlySortedBy}
@@ -10,37 +10,43 @@ use Rattle.std.proofs.lemmas.List.Elements.{Contains-append_left, Contains-appen
 use Rattle.std.proofs.lemmas.Map.Keys.{below_from_sorted, sorted_from_strictly_increasing, sorted_tail}
 use Rattle.std.proofs.lemmas.Option.{same_Some, slice_get_within, slice_get-map, get_or_from_slice_get, none-some}
 use Rattle.std.proofs.lemmas.Bool.{cases_lt}
-use Rattle.sc_model.specs.Tables.{IsStates, IsGoto, CanReduce, IsAction, shifts, reduces, none, IsConflict, Before, ConflictBefore}
+use Rattle.sc_model.specs.Tables.{IsStates, IsGoto, Lookahead, CanReduce, IsAction, shifts, reduces, none, IsConflict, Before, ConflictBefore}
 use Rattle.sc_model.specs.declared.grammar.Grammar.{Grammar}
 use Rattle.sc_model.specs.declared.grammar.Action.{Action}
 use Rattle.sc_model.specs.declared.grammar.Action.TheVariants.{Shift, Reduce}
 use Rattle.sc_model.specs.declared.grammar.Conflict.{Conflict}
 use Rattle.sc_items.specs.Kernel.{IsListOf}
-use Rattle.sc_items.specs.States.{NoGoto}
+use Rattle.sc_items.specs.Reach.{marked}
+use Rattle.sc_items.specs.States.{HasItem, NoGoto}
 use Rattle.sc_items.proofs.Listing.{no_member}
 use Rattle.sc_items.proofs.Finding.{cons_cases, cons_head, cons_tail, head_below}
 use Rattle.sc_items.proofs.Opening.{slice_get-push_cases}
-use Rattle.sc_lalr.specs.Propagation.{AreLookaheads}
+use Rattle.sc_lalr.specs.Propagation.{AreNodes, AreLookaheads}
+use Rattle.sc_lalr.specs.declared.nodes.Nodes.{Nodes}
+use Rattle.sc_lalr.proofs.Placing.{node_of}
 use Rattle.sc_lalr.specs.Tables.{EndsIn, IsMarkedEnd, InOrder, kept_of, conflict_at, conflicts_at}
 use Rattle.sc_lalr.specs.Building.{AreActions, AreConflicts}
 use Rattle.sc_lalr.proofs.Passing.{goto_unique}
 use Rattle.sc_lalr.proofs.Looking.{lookahead_has}
 
 -- ---- what can be reduced
-pub can_reduce : (g : Grammar) (states : List (List ℕ)) (s t : ℕ) (rows : List (Vec Bool Global)) (row : Vec Bool Global) (ends : List ℕ) → AreLookaheads g states rows → slice_get rows t ≡ Some row → IsListOf (length g.entries.now) (EndsIn g states s) ends → (p : ℕ) → IsMarkedEnd g row.items (s * length g.entries.now) ends p ↔ CanReduce g states s t p
-can_reduce g states s t rows row ends ahead at list p = (
+pub can_reduce : (g : Grammar) (states : List (List ℕ)) (nodes : Nodes) (s t : ℕ) (rows : List (Vec Bool Global)) (row : Vec Bool Global) (ends : List ℕ) → AreNodes g states nodes → AreLookaheads g states nodes rows → slice_get rows t ≡ Some row → IsListOf (length g.entries.now) (EndsIn g states s) ends → (p : ℕ) → IsMarkedEnd g row.items nodes.numbers.items (s * length g.entries.now) ends p ↔ CanReduce g states s t p
+can_reduce g states nodes s t rows row ends are ahead at list p = (
   λ m. record {
     item = m.item;
     ends = record { within = list.below m.item m.within; at_end = (list.sound m.item m.within).at_end; production = m.production };
-    ahead = (ahead.exact t row at s m.item (list.below m.item m.within)).0 m.is_marked;
+    ahead = (exact m.item (list.sound m.item m.within).has (list.below m.item m.within)).0 m.is_marked;
   },
   λ r. record {
     item = r.item;
     within = list.complete r.item r.ends.within (record { has = lookahead_has g states t s r.item r.ahead; at_end = r.ends.at_end });
-    is_marked = (ahead.exact t row at s r.item r.ends.within).1 r.ahead;
+    is_marked = (exact r.item (lookahead_has g states t s r.item r.ahead) r.ends.within).1 r.ahead;
     production = r.ends.production;
   },
 )
+  where
+    exact : (i : ℕ) → HasItem g states s i → i < length g.entries.now → IsTrue (marked row.items (slice_index nodes.numbers.items (s * length g.entries.now + i))) ↔ Lookahead g states t s i
+    exact i has within = ahead.exact t row at (slice_index nodes.numbers.items (s * length g.entries.now + i)) s i (node_of g states nodes are s i has within)
 
 -- ---- one action
 module _ (g : Grammar) (states : List (List ℕ)) (s t : ℕ) (are : IsStates g states) where

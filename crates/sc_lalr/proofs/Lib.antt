@@ -2,5 +2,6 @@ pub mod Deciding
 pub mod Leading
 pub mod Looking
 pub mod Passing
+pub mod Placing
 pub mod Reducing
 pub mod Tabling

@@ -1,13 +1,12 @@
 -- How lookaheads are passed on.
-use Rattle.std.proofs.Common.{zero, suc, ◌≡◌, ◌↔◌, ◌<◌, ◌≤◌, ◌+◌, ◌*◌, ◌/◌, ◌%◌, ◌⊎◌, ℕ, List, [], ◌∷◌, ◌++◌, length, get_or, slice_get, map, Option, Some, None, MatchOption, Vec, inl, inr, refl, sym, ap, ◌∙◌, subst, arith}
+use Rattle.std.proofs.Common.{zero, suc, ◌≡◌, ◌↔◌, ◌<◌, ◌+◌, ◌*◌, ◌⊎◌, ℕ, List, [], ◌∷◌, ◌++◌, length, get_or, slice_get, slice_index, map, Option, Some, None, MatchOption, Vec, inl, inr, refl, sym, ap, ◌∙◌, subst, arith}
 use Rattle.std.specs.List.{Contains, flat_map}
 use Rattle.std.specs.declared.alloc.Global.{Global}
 use Rattle.std.proofs.lemmas.List.{length_push}
 use Rattle.std.proofs.lemmas.List.Elements.{Contains-append_left, Contains-append_right, Contains-append_cases, Contains-get_or}
-use Rattle.std.proofs.lemmas.Option.{same_Some, slice_get_within, slice_get-get_or, none-some}
-use Rattle.std.proofs.lemmas.Nat.{same_from_place, mul-add-lt, div-add-mod', mod_below}
+use Rattle.std.proofs.lemmas.Option.{same_Some, slice_get-get_or, none-some}
 use Rattle.sc_model.specs.Grammar.{after, begun}
-use Rattle.sc_model.specs.Tables.{Moved, IsGoto, IsStates}
+use Rattle.sc_model.specs.Tables.{Closure, opened as closure_opened, given as closure_given, Moved, IsGoto, IsStates}
 use Rattle.sc_model.specs.declared.grammar.Grammar.{Grammar}
 use Rattle.sc_items.specs.Reach.{EdgesWithin}
 use Rattle.sc_items.specs.Kernel.{IsOpened, Opens}
@@ -15,14 +14,9 @@ use Rattle.sc_items.specs.States.{HasItem, NoGoto}
 use Rattle.sc_items.proofs.Listing.{no_member}
 use Rattle.sc_items.proofs.Finding.{rising_same}
 use Rattle.sc_items.proofs.Opening.{slice_get-push_cases, begun_within, after_within}
-use Rattle.sc_lalr.specs.Propagation.{IsNode, Passes, along, into, PassesTo, IsPropagation, along_part, into_part}
-
--- ---- nodes
-pub node_same : (n u s i r j : ℕ) → IsNode n u s i → IsNode n u r j → (s ≡ r) × (i ≡ j)
-node_same n u s i r j a b = same_from_place s i r j n a.within b.within (sym a.is ∙ b.is)
-
-pub node_at : (n u : ℕ) → 0 < n → IsNode n u (u / n) (u % n)
-node_at n u h = record { within = mod_below u n h; is = sym (div-add-mod' u n) }
+use Rattle.sc_lalr.specs.Propagation.{AreNodes, IsNode, Passes, along, into, PassesTo, IsPropagation, along_part, numbers_at, into_part}
+use Rattle.sc_lalr.specs.declared.nodes.Nodes.{Nodes}
+use Rattle.sc_lalr.proofs.Placing.{node_same, node_in, node_number, node_has, node_of}
 
 -- ---- a state has one goto by a symbol
 pub goto_unique : (g : Grammar) (states : List (List ℕ)) (s x r t : ℕ) → IsStates g states → IsGoto g states s x r → IsGoto g states s x t → r ≡ t
@@ -48,21 +42,21 @@ contains_cases : (x v : ℕ) (xs : List ℕ) → Contains (x ∷ xs) v → (x �
 contains_cases x v xs (zero, a, b) = inl b
 contains_cases x v xs (suc k, a, b) = inr (k, omega (arith, a), b)
 
-pub map_to : (base v : ℕ) (xs : List ℕ) → Contains (map (λ j. base + j) xs) v → (j : ℕ) × Contains xs j × (v ≡ base + j)
-map_to base v [] h = absurd (no_member v h)
-map_to base v (x ∷ xs) h = go (map_to base v xs) (contains_cases (base + x) v (map (λ j. base + j) xs) h)
+pub map_to : (f : ℕ → ℕ) (v : ℕ) (xs : List ℕ) → Contains (map f xs) v → (j : ℕ) × Contains xs j × (v ≡ f j)
+map_to f v [] h = absurd (no_member v h)
+map_to f v (x ∷ xs) h = go (map_to f v xs) (contains_cases (f x) v (map f xs) h)
   where
-    go : (Contains (map (λ j. base + j) xs) v → (j : ℕ) × Contains xs j × (v ≡ base + j)) → (base + x ≡ v) ⊎ Contains (map (λ j. base + j) xs) v → (j : ℕ) × Contains (x ∷ xs) j × (v ≡ base + j)
+    go : (Contains (map f xs) v → (j : ℕ) × Contains xs j × (v ≡ f j)) → (f x ≡ v) ⊎ Contains (map f xs) v → (j : ℕ) × Contains (x ∷ xs) j × (v ≡ f j)
     go more (inl e) = (x, contains_head x x xs refl, sym e)
     go more (inr a) = let m = more a in (m.0, contains_tail x m.0 xs m.1, m.2)
 
-pub map_from : (base j : ℕ) (xs : List ℕ) → Contains xs j → Contains (map (λ j. base + j) xs) (base + j)
-map_from base j [] h = absurd (no_member j h)
-map_from base j (x ∷ xs) h = go (map_from base j xs) (contains_cases x j xs h)
+pub map_from : (f : ℕ → ℕ) (j : ℕ) (xs : List ℕ) → Contains xs j → Contains (map f xs) (f j)
+map_from f j [] h = absurd (no_member j h)
+map_from f j (x ∷ xs) h = go (map_from f j xs) (contains_cases x j xs h)
   where
-    go : (Contains xs j → Contains (map (λ j. base + j) xs) (base + j)) → (x ≡ j) ⊎ Contains xs j → Contains ((base + x) ∷ map (λ j. base + j) xs) (base + j)
-    go more (inl e) = contains_head (base + x) (base + j) (map (λ j. base + j) xs) (ap (λ k. base + k) e)
-    go more (inr a) = contains_tail (base + x) (base + j) (map (λ j. base + j) xs) (more a)
+    go : (Contains xs j → Contains (map f xs) (f j)) → (x ≡ j) ⊎ Contains xs j → Contains (f x ∷ map f xs) (f j)
+    go more (inl e) = contains_head (f x) (f j) (map f xs) (ap f e)
+    go more (inr a) = contains_tail (f x) (f j) (map f xs) (more a)
 
 pub flat_to : (f : ℕ → List ℕ) (v : ℕ) (us : List ℕ) → Contains (flat_map f us) v → (u : ℕ) × Contains us u × Contains (f u) v
 flat_to f v [] h = absurd (no_member v h)
@@ -80,117 +74,112 @@ flat_from f v w (u ∷ us) h k = go (λ a. flat_from f v w us a k) (contains_cas
     go more (inl e) = Contains-append_left (f u) (flat_map f us) v (subst (λ z. Contains (f z) v) (sym e) k)
     go more (inr a) = Contains-append_right (f u) (flat_map f us) v (more a)
 
+-- ---- an item to which lookaheads are passed stands in its state
+pub passes_has : (g : Grammar) (states : List (List ℕ)) (s i r j : ℕ) → Passes g states s i r j → HasItem g states r j
+passes_has g states s i r j (along x q h over goto) =
+    let same = same_Some h.kernel goto.source (sym h.kernel_at ∙ goto.source_at) in
+    record { kernel = goto.target; kernel_at = goto.target_at; within = closure_given (i + 1) ((goto.moved (i + 1)).1 (record { from = i; within = subst (λ zs. Closure g zs i) same h.within; over = over; to = refl })) }
+passes_has g states s i r j (into x k h over end begins) = record { kernel = h.kernel; kernel_at = h.kernel_at; within = closure_opened i k x h.within over begins }
+
 -- ---- the nodes to which one node passes
-pub passes_none : (g : Grammar) (states : List (List ℕ)) (u v s i : ℕ) → IsNode (length g.entries.now) u s i → (HasItem g states s i → (x : ℕ) → after g i ≡ Some x → ⊥) → PassesTo g states u v → ⊥
-passes_none g states u v s i at none p = go p.r p.j p.passes
+pub passes_none : (g : Grammar) (states : List (List ℕ)) (nodes : Nodes) (u v s i : ℕ) → IsNode (length g.entries.now) nodes u s i → ((x : ℕ) → after g i ≡ Some x → ⊥) → PassesTo g states nodes u v → ⊥
+passes_none g states nodes u v s i at none p = go p.r p.j p.passes
   where
     same : (p.s ≡ s) × (p.i ≡ i)
-    same = node_same (length g.entries.now) u p.s p.i s i p.from at
-
-    has : HasItem g states p.s p.i → HasItem g states s i
-    has h = subst (λ z. HasItem g states z i) same.0 (subst (λ z. HasItem g states p.s z) same.1 h)
+    same = node_same (length g.entries.now) nodes u p.s p.i s i p.from at
 
     go : (r j : ℕ) → Passes g states p.s p.i r j → ⊥
-    go r j (along x q h over goto) = none (has h) x (subst (λ z. after g z ≡ Some x) same.1 over)
-    go r j (into x k h over end begins) = none (has h) x (subst (λ z. after g z ≡ Some x) same.1 over)
+    go r j (along x q h over goto) = none x (subst (λ z. after g z ≡ Some x) same.1 over)
+    go r j (into x k h over end begins) = none x (subst (λ z. after g z ≡ Some x) same.1 over)
 
-pub passes_exact : (g : Grammar) (states : List (List ℕ)) (u s i x : ℕ) (to next : Option ℕ) (row nodes : List ℕ) → IsStates g states → IsNode (length g.entries.now) u s i → HasItem g states s i → after g i ≡ Some x → MatchOption to (NoGoto g states s x) (IsGoto g states s x) → next ≡ after g (i + 1) → ((j : ℕ) → Contains row j ↔ Opens g i j) → nodes ≡ along_part (length g.entries.now) i to ++ into_part (s * length g.entries.now) next row → (v : ℕ) → Contains nodes v ↔ PassesTo g states u v
-passes_exact g states u s i x to next row nodes h at has over goto next_is row_is e v =
-    (λ w. forward (Contains-append_cases (along_part n i to) (into_part (s * n) next row) v (subst (λ zs. Contains zs v) e w)), λ p. subst (λ zs. Contains zs v) (sym e) (backward p))
-  where
-    n : ℕ
-    n = length g.entries.now
+module _ (g : Grammar) (states : List (List ℕ)) (nodes : Nodes) (u s i x : ℕ) (to next : Option ℕ) (row : List ℕ) (h : IsStates g states) (are : AreNodes g states nodes) (at : IsNode (length g.entries.now) nodes u s i) (over : after g i ≡ Some x) (goto : MatchOption to (NoGoto g states s x) (IsGoto g states s x)) (next_is : next ≡ after g (i + 1)) (row_is : (j : ℕ) → Contains row j ↔ Opens g i j) where
+  has : HasItem g states s i
+  has = node_has g states nodes are u s i at
 
-    from_along : (o : Option ℕ) → MatchOption o (NoGoto g states s x) (IsGoto g states s x) → Contains (along_part (length g.entries.now) i o) v → PassesTo g states u v
-    from_along None m w = absurd (no_member v w)
-    from_along (Some t) m w = record {
-      s = s;
-      i = i;
-      r = t;
-      j = i + 1;
-      from = at;
-      to = record { within = after_within g i x over; is = sym (contains_only (t * length g.entries.now + (i + 1)) v w) };
-      passes = along x t has over m;
-    }
+  -- an item to which lookaheads are passed, by its number
+  passed_to : (v r j : ℕ) → Passes g states s i r j → j < length g.entries.now → v ≡ slice_index nodes.numbers.items (r * length g.entries.now + j) → PassesTo g states nodes u v
+  passed_to v r j p within e = record {
+    s = s;
+    i = i;
+    r = r;
+    j = j;
+    from = at;
+    to = subst (λ z. IsNode (length g.entries.now) nodes z r j) (sym e) (node_of g states nodes are r j (passes_has g states s i r j p) within);
+    passes = p;
+  }
 
-    from_into : (o : Option ℕ) → o ≡ after g (i + 1) → Contains (into_part (s * length g.entries.now) o row) v → PassesTo g states u v
-    from_into None f w =
-        let m = map_to (s * length g.entries.now) v row w in
-        let opens = (row_is m.0).0 m.1 in
-        record {
-          s = s;
-          i = i;
-          r = s;
-          j = m.0;
-          from = at;
-          to = record { within = begun_within g m.0 opens.symbol opens.begins; is = m.2 };
-          passes = into opens.symbol m.0 has opens.over (sym f) opens.begins;
-        }
-    from_into (Some y) f w = absurd (no_member v w)
+  from_along : (v : ℕ) (o : Option ℕ) → MatchOption o (NoGoto g states s x) (IsGoto g states s x) → Contains (along_part nodes.numbers.items (length g.entries.now) i o) v → PassesTo g states nodes u v
+  from_along v None m w = absurd (no_member v w)
+  from_along v (Some t) m w = passed_to v t (i + 1) (along x t has over m) (after_within g i x over) (sym (contains_only (slice_index nodes.numbers.items (t * length g.entries.now + (i + 1))) v w))
 
-    forward : Contains (along_part (length g.entries.now) i to) v ⊎ Contains (into_part (s * length g.entries.now) next row) v → PassesTo g states u v
-    forward (inl w) = from_along to goto w
-    forward (inr w) = from_into next next_is w
+  from_into : (v : ℕ) (o : Option ℕ) → o ≡ after g (i + 1) → Contains (into_part nodes.numbers.items (s * length g.entries.now) o row) v → PassesTo g states nodes u v
+  from_into v None f w =
+      let m = map_to (λ j. slice_index nodes.numbers.items (s * length g.entries.now + j)) v row w in
+      let opens = (row_is m.0).0 m.1 in
+      passed_to v s m.0 (into opens.symbol m.0 has opens.over (sym f) opens.begins) (begun_within g m.0 opens.symbol opens.begins) m.2
+  from_into v (Some y) f w = absurd (no_member v w)
 
-    to_along : (o : Option ℕ) → MatchOption o (NoGoto g states s x) (IsGoto g states s x) → (r : ℕ) → IsGoto g states s x r → v ≡ r * length g.entries.now + (i + 1) → Contains (along_part (length g.entries.now) i o) v
-    to_along None m r w f = absurd (m.none r w)
-    to_along (Some t) m r w f = contains_head (t * length g.entries.now + (i + 1)) v [] (ap (λ z. z * length g.entries.now + (i + 1)) (goto_unique g states s x t r h m w) ∙ sym f)
+  forward : (v : ℕ) → Contains (along_part nodes.numbers.items (length g.entries.now) i to) v ⊎ Contains (into_part nodes.numbers.items (s * length g.entries.now) next row) v → PassesTo g states nodes u v
+  forward v (inl w) = from_along v to goto w
+  forward v (inr w) = from_into v next next_is w
 
-    to_into : (o : Option ℕ) → o ≡ after g (i + 1) → (j : ℕ) → after g (i + 1) ≡ None → begun g j ≡ Some x → v ≡ s * length g.entries.now + j → Contains (into_part (s * length g.entries.now) o row) v
-    to_into None f j end begins k = subst (λ z. Contains (map (λ j. s * length g.entries.now + j) row) z) (sym k) (map_from (s * length g.entries.now) j row ((row_is j).1 (record { symbol = x; over = over; begins = begins })))
-    to_into (Some y) f j end begins k = absurd (none-some y (sym (f ∙ end)))
+  to_along : (v : ℕ) (o : Option ℕ) → MatchOption o (NoGoto g states s x) (IsGoto g states s x) → (r : ℕ) → IsGoto g states s x r → v ≡ slice_index nodes.numbers.items (r * length g.entries.now + (i + 1)) → Contains (along_part nodes.numbers.items (length g.entries.now) i o) v
+  to_along v None m r w f = absurd (m.none r w)
+  to_along v (Some t) m r w f = contains_head (slice_index nodes.numbers.items (t * length g.entries.now + (i + 1))) v [] (ap (λ z. slice_index nodes.numbers.items (z * length g.entries.now + (i + 1))) (goto_unique g states s x t r h m w) ∙ sym f)
 
-    backward : PassesTo g states u v → Contains (along_part (length g.entries.now) i to ++ into_part (s * length g.entries.now) next row) v
-    backward p = go p.r p.j p.to p.passes
-      where
-        same : (p.s ≡ s) × (p.i ≡ i)
-        same = node_same (length g.entries.now) u p.s p.i s i p.from at
+  to_into : (v : ℕ) (o : Option ℕ) → o ≡ after g (i + 1) → (j : ℕ) → after g (i + 1) ≡ None → begun g j ≡ Some x → v ≡ slice_index nodes.numbers.items (s * length g.entries.now + j) → Contains (into_part nodes.numbers.items (s * length g.entries.now) o row) v
+  to_into v None f j end begins k = subst (λ z. Contains (numbers_at nodes.numbers.items (s * length g.entries.now) row) z) (sym k) (map_from (λ i. slice_index nodes.numbers.items (s * length g.entries.now + i)) j row ((row_is j).1 (record { symbol = x; over = over; begins = begins })))
+  to_into v (Some y) f j end begins k = absurd (none-some y (sym (f ∙ end)))
 
-        symbol : (z : ℕ) → after g p.i ≡ Some z → z ≡ x
-        symbol z f = same_Some z x (sym f ∙ subst (λ k. after g k ≡ Some x) (sym same.1) over)
+  backward : (v : ℕ) → PassesTo g states nodes u v → Contains (along_part nodes.numbers.items (length g.entries.now) i to ++ into_part nodes.numbers.items (s * length g.entries.now) next row) v
+  backward v p = go p.r p.j p.to p.passes
+    where
+      same : (p.s ≡ s) × (p.i ≡ i)
+      same = node_same (length g.entries.now) nodes u p.s p.i s i p.from at
 
-        go : (r j : ℕ) → IsNode (length g.entries.now) v r j → Passes g states p.s p.i r j → Contains (along_part (length g.entries.now) i to ++ into_part (s * length g.entries.now) next row) v
-        go r j node (along z q has' over' goto') =
-            let goto'' : IsGoto g states s x q = subst (λ k. IsGoto g states k x q) same.0 (subst (λ k. IsGoto g states p.s k q) (symbol z over') goto') in
-            Contains-append_left (along_part (length g.entries.now) i to) (into_part (s * length g.entries.now) next row) v (to_along to goto q goto'' (node.is ∙ ap (λ k. q * length g.entries.now + (k + 1)) same.1))
-        go r j node (into z k has' over' end begins) =
-            Contains-append_right (along_part (length g.entries.now) i to) (into_part (s * length g.entries.now) next row) v
-            (to_into next next_is k (subst (λ z. after g (z + 1) ≡ None) same.1 end) (begins ∙ ap (λ z. Some z) (symbol z over')) (node.is ∙ ap (λ z. z * length g.entries.now + k) same.0))
+      symbol : (z : ℕ) → after g p.i ≡ Some z → z ≡ x
+      symbol z f = same_Some z x (sym f ∙ subst (λ k. after g k ≡ Some x) (sym same.1) over)
+
+      go : (r j : ℕ) → IsNode (length g.entries.now) nodes v r j → Passes g states p.s p.i r j → Contains (along_part nodes.numbers.items (length g.entries.now) i to ++ into_part nodes.numbers.items (s * length g.entries.now) next row) v
+      go r j node (along z q has' over' goto') =
+          let goto'' : IsGoto g states s x q = subst (λ k. IsGoto g states k x q) same.0 (subst (λ k. IsGoto g states p.s k q) (symbol z over') goto') in
+          Contains-append_left (along_part nodes.numbers.items (length g.entries.now) i to) (into_part nodes.numbers.items (s * length g.entries.now) next row) v
+          (to_along v to goto q goto'' (node_number g states nodes are v q (p.i + 1) node ∙ ap (λ k. slice_index nodes.numbers.items (q * length g.entries.now + (k + 1))) same.1))
+      go r j node (into z k has' over' end begins) =
+          Contains-append_right (along_part nodes.numbers.items (length g.entries.now) i to) (into_part nodes.numbers.items (s * length g.entries.now) next row) v
+          (to_into v next next_is k (subst (λ z. after g (z + 1) ≡ None) same.1 end) (begins ∙ ap (λ z. Some z) (symbol z over')) (node_number g states nodes are v p.s k node ∙ ap (λ z. slice_index nodes.numbers.items (z * length g.entries.now + k)) same.0))
+
+  pub passes_exact : (targets : List ℕ) → targets ≡ along_part nodes.numbers.items (length g.entries.now) i to ++ into_part nodes.numbers.items (s * length g.entries.now) next row → (v : ℕ) → Contains targets v ↔ PassesTo g states nodes u v
+  passes_exact targets e v = (
+    λ w. forward v (Contains-append_cases (along_part nodes.numbers.items (length g.entries.now) i to) (into_part nodes.numbers.items (s * length g.entries.now) next row) v (subst (λ zs. Contains zs v) e w)),
+    λ p. subst (λ zs. Contains zs v) (sym e) (backward v p),
+  )
 
 -- ---- the rows of the first nodes
-pub record IsPropagationBelow (g : Grammar) (states : List (List ℕ)) (n : ℕ) (rows : List (Vec ℕ Global)) : Type 0 where
+pub record IsPropagationBelow (g : Grammar) (states : List (List ℕ)) (nodes : Nodes) (n : ℕ) (rows : List (Vec ℕ Global)) : Type 0 where
   pub long : length rows ≡ n
-  pub each : (u : ℕ) (row : Vec ℕ Global) → slice_get rows u ≡ Some row → (v : ℕ) → Contains row.items v ↔ PassesTo g states u v
+  pub each : (u : ℕ) (row : Vec ℕ Global) → slice_get rows u ≡ Some row → (v : ℕ) → Contains row.items v ↔ PassesTo g states nodes u v
 
-pub IsPropagationBelow-push : (g : Grammar) (states : List (List ℕ)) (n : ℕ) (rows : List (Vec ℕ Global)) (row : Vec ℕ Global) → IsPropagationBelow g states n rows → ((v : ℕ) → Contains row.items v ↔ PassesTo g states n v) → IsPropagationBelow g states (n + 1) (rows ++ row ∷ [])
-IsPropagationBelow-push g states n rows row h one = record {
+pub IsPropagationBelow-push : (g : Grammar) (states : List (List ℕ)) (nodes : Nodes) (n : ℕ) (rows : List (Vec ℕ Global)) (row : Vec ℕ Global) → IsPropagationBelow g states nodes n rows → ((v : ℕ) → Contains row.items v ↔ PassesTo g states nodes n v) → IsPropagationBelow g states nodes (n + 1) (rows ++ row ∷ [])
+IsPropagationBelow-push g states nodes n rows row h one = record {
   long = length_push rows row ∙ ap (λ k. k + 1) h.long;
   each = λ u other at v. elim (slice_get-push_cases rows row other u at) [
     | inl a ↦ h.each u other a v
-    | inr a ↦ subst (λ (r : Vec ℕ Global). Contains r.items v ↔ PassesTo g states u v) a.1 (subst (λ k. Contains row.items v ↔ PassesTo g states k v) (sym (a.0 ∙ h.long)) (one v))
+    | inr a ↦ subst (λ (r : Vec ℕ Global). Contains r.items v ↔ PassesTo g states nodes u v) a.1 (subst (λ k. Contains row.items v ↔ PassesTo g states nodes k v) (sym (a.0 ∙ h.long)) (one v))
   ];
 }
 
+pub IsPropagation-done : (g : Grammar) (states : List (List ℕ)) (nodes : Nodes) (n : ℕ) (rows : List (Vec ℕ Global)) → n ≡ length nodes.places.items → IsPropagationBelow g states nodes n rows → IsPropagation g states nodes rows
+IsPropagation-done g states nodes n rows e h = record { long = h.long ∙ e; each = h.each }
+
 -- an edge leads to a node of the graph
-pub passes_within : (g : Grammar) (states : List (List ℕ)) (u v : ℕ) → PassesTo g states u v → v < length states * length g.entries.now
-passes_within g states u v p =
-    let r_in : p.r < length states = target_in p.r p.j p.passes in
-    omega (arith, mul-add-lt p.r (length g.entries.now) p.j (length states) r_in p.to.within, p.to.is)
-  where
-    target_in : (r j : ℕ) → Passes g states p.s p.i r j → r < length states
-    target_in r j (along x q h over goto) = slice_get_within states q goto.target goto.target_at
-    target_in r j (into x k h over end begins) = slice_get_within states p.s h.kernel h.kernel_at
-
-pub IsPropagation-done : (g : Grammar) (states : List (List ℕ)) (n : ℕ) (rows : List (Vec ℕ Global)) → n ≡ length states * length g.entries.now → IsPropagationBelow g states n rows → IsPropagation g states rows
-IsPropagation-done g states n rows e h = record { long = h.long ∙ e; each = h.each }
-
-pub EdgesWithin-passed : (g : Grammar) (states : List (List ℕ)) (n : ℕ) (rows : List (Vec ℕ Global)) → n ≡ length states * length g.entries.now → IsPropagationBelow g states n rows → EdgesWithin rows
-EdgesWithin-passed g states n rows e h = record {
+pub EdgesWithin-passed : (g : Grammar) (states : List (List ℕ)) (nodes : Nodes) (n : ℕ) (rows : List (Vec ℕ Global)) → n ≡ length nodes.places.items → IsPropagationBelow g states nodes n rows → EdgesWithin rows
+EdgesWithin-passed g states nodes n rows e h = record {
   within = λ u d u_in k v k_in.
       let row = get_or rows u d in
       let at : slice_get rows u ≡ Some row = slice_get-get_or rows u d u_in in
       let p = (h.each u row at (get_or row.items k v)).0 (Contains-get_or row.items k v k_in) in
-      omega (arith, passes_within g states u (get_or row.items k v) p, h.long, e);
+      omega (arith, node_in (length g.entries.now) nodes (get_or row.items k v) p.r p.j p.to, h.long, e);
 }
 
 -- the row of an item has what the item opens
@@ -199,11 +188,3 @@ row_opens g rows i row view h at e j = (
   λ w. h.sound i j (record { row = row; row_at = at; in_row = subst (λ zs. Contains zs j) e w }),
   λ o. let edge = h.complete i j o in subst (λ zs. Contains zs j) (sym e) (subst (λ (r : Vec ℕ Global). Contains r.items j) (same_Some edge.row row (sym edge.row_at ∙ at)) edge.in_row),
 )
-
--- the last node of a loop
-pub at_end : (node len k n : ℕ) → len ≡ k → node ≤ len * n → len * n ≤ node → node ≡ k * n
-at_end node len k n e a b = let f : len * n ≡ k * n = ap (λ z. z * n) e in omega arith
-
-pub some_entries : (k n u : ℕ) → u < k * n → 0 < n
-some_entries k zero u h = omega (arith, h)
-some_entries k (suc n) u h = omega arith

@@ -1,5 +1,5 @@
 -- The productions that can be reduced, in rising order.
-use Rattle.std.proofs.Common.{◌≡◌, ◌<◌, ◌≤◌, ◌+◌, ℕ, Bool, true, cond, IsTrue, List, [], ◌∷◌, ◌++◌, length, get_or, take, drop, count_by, option_and_then, None, All, inl, inr, refl, sym, ap, ◌∙◌, subst, arith}
+use Rattle.std.proofs.Common.{◌≡◌, ◌<◌, ◌≤◌, ◌+◌, ℕ, Bool, true, cond, IsTrue, List, [], ◌∷◌, ◌++◌, length, get_or, slice_index, take, drop, count_by, option_and_then, None, All, inl, inr, refl, sym, ap, ◌∙◌, subst, arith}
 use Rattle.std.specs.List.{Contains}
 use Rattle.std.specs.List.Sorted.{IsStrictlyIncreasing}
 use Rattle.std.proofs.lemmas.List.{take-append-drop, take-take}
@@ -46,33 +46,33 @@ take_member : (xs : List ℕ) (k v : ℕ) → Contains (take k xs) v → Contain
 take_member xs k v h = subst (λ zs. Contains zs v) (take-append-drop k xs) (Contains-append_left (take k xs) (drop k xs) v h)
 
 -- ---- the productions of the first items
-pub record MarkedSoFar (g : Grammar) (marks : List Bool) (base : ℕ) (items found : List ℕ) : Type 0 where
+pub record MarkedSoFar (g : Grammar) (marks : List Bool) (numbers : List ℕ) (base : ℕ) (items found : List ℕ) : Type 0 where
   pub rising : IsStrictlyIncreasing found
-  pub sound : (p : ℕ) → Contains found p → IsMarkedEnd g marks base items p
-  pub complete : (p : ℕ) → IsMarkedEnd g marks base items p → Contains found p
+  pub sound : (p : ℕ) → Contains found p → IsMarkedEnd g marks numbers base items p
+  pub complete : (p : ℕ) → IsMarkedEnd g marks numbers base items p → Contains found p
 
-pub MarkedSoFar-none : (g : Grammar) (marks : List Bool) (base : ℕ) → MarkedSoFar g marks base [] []
-MarkedSoFar-none g marks base = record {
+pub MarkedSoFar-none : (g : Grammar) (marks : List Bool) (numbers : List ℕ) (base : ℕ) → MarkedSoFar g marks numbers base [] []
+MarkedSoFar-none g marks numbers base = record {
   rising = rising-none;
   sound = λ p h. absurd (no_member p h);
   complete = λ p h. absurd (no_member h.item h.within);
 }
 
-pub MarkedSoFar-left : (g : Grammar) (marks : List Bool) (base k : ℕ) (items found : List ℕ) → k < length items → MarkedSoFar g marks base (take k items) found → (IsTrue (marked marks (base + get_or items k 0)) → ⊥) → MarkedSoFar g marks base (take (k + 1) items) found
-MarkedSoFar-left g marks base k items found k_in h not = record {
+pub MarkedSoFar-left : (g : Grammar) (marks : List Bool) (numbers : List ℕ) (base k : ℕ) (items found : List ℕ) → k < length items → MarkedSoFar g marks numbers base (take k items) found → (IsTrue (marked marks (slice_index numbers (base + get_or items k 0))) → ⊥) → MarkedSoFar g marks numbers base (take (k + 1) items) found
+MarkedSoFar-left g marks numbers base k items found k_in h not = record {
   rising = h.rising;
   sound = λ p w. let o = h.sound p w in record { item = o.item; within = take-more_old items k o.item k_in o.within; is_marked = o.is_marked; production = o.production };
   complete = complete;
 }
   where
-    complete : (p : ℕ) → IsMarkedEnd g marks base (take (k + 1) items) p → Contains found p
+    complete : (p : ℕ) → IsMarkedEnd g marks numbers base (take (k + 1) items) p → Contains found p
     complete p o = elim (take-more_cases items k o.item k_in o.within) [
       | inl a ↦ h.complete p (record { item = o.item; within = a; is_marked = o.is_marked; production = o.production })
-      | inr e ↦ absurd (not (subst (λ i. IsTrue (marked marks (base + i))) (sym e) o.is_marked))
+      | inr e ↦ absurd (not (subst (λ i. IsTrue (marked marks (slice_index numbers (base + i)))) (sym e) o.is_marked))
     ]
 
-pub MarkedSoFar-kept : (g : Grammar) (marks : List Bool) (base k : ℕ) (items found : List ℕ) → IsStrictlyIncreasing items → All (λ i. i < length g.entries.now) items → All (IsAtEnd g) items → k < length items → MarkedSoFar g marks base (take k items) found → IsTrue (marked marks (base + get_or items k 0)) → MarkedSoFar g marks base (take (k + 1) items) (found ++ production_at g (get_or items k 0) ∷ [])
-MarkedSoFar-kept g marks base k items found inc within ends k_in h is_marked = record {
+pub MarkedSoFar-kept : (g : Grammar) (marks : List Bool) (numbers : List ℕ) (base k : ℕ) (items found : List ℕ) → IsStrictlyIncreasing items → All (λ i. i < length g.entries.now) items → All (IsAtEnd g) items → k < length items → MarkedSoFar g marks numbers base (take k items) found → IsTrue (marked marks (slice_index numbers (base + get_or items k 0))) → MarkedSoFar g marks numbers base (take (k + 1) items) (found ++ production_at g (get_or items k 0) ∷ [])
+MarkedSoFar-kept g marks numbers base k items found inc within ends k_in h is_marked = record {
   rising = rising-push found (production_at g (get_or items k 0)) h.rising below;
   sound = sound;
   complete = complete;
@@ -85,13 +85,13 @@ MarkedSoFar-kept g marks base k items found inc within ends k_in h is_marked = r
         let less = production_less g o.item (get_or items k 0) end.none (take-below items k o.item inc k_in o.within) (within k 0 k_in) in
         omega (arith, less, o.production)
 
-    sound : (p : ℕ) → Contains (found ++ production_at g (get_or items k 0) ∷ []) p → IsMarkedEnd g marks base (take (k + 1) items) p
+    sound : (p : ℕ) → Contains (found ++ production_at g (get_or items k 0) ∷ []) p → IsMarkedEnd g marks numbers base (take (k + 1) items) p
     sound p w = elim (Contains-push_cases found (production_at g (get_or items k 0)) p w) [
       | inl a ↦ (let o = h.sound p a in record { item = o.item; within = take-more_old items k o.item k_in o.within; is_marked = o.is_marked; production = o.production })
       | inr e ↦ record { item = get_or items k 0; within = take-more_new items k k_in; is_marked = is_marked; production = e }
     ]
 
-    complete : (p : ℕ) → IsMarkedEnd g marks base (take (k + 1) items) p → Contains (found ++ production_at g (get_or items k 0) ∷ []) p
+    complete : (p : ℕ) → IsMarkedEnd g marks numbers base (take (k + 1) items) p → Contains (found ++ production_at g (get_or items k 0) ∷ []) p
     complete p o = elim (take-more_cases items k o.item k_in o.within) [
       | inl a ↦ Contains-append_left found (production_at g (get_or items k 0) ∷ []) p (h.complete p (record { item = o.item; within = a; is_marked = o.is_marked; production = o.production }))
       | inr e ↦ subst (Contains (found ++ production_at g (get_or items k 0) ∷ [])) (ap (production_at g) e ∙ o.production) (Contains-push found (production_at g (get_or items k 0)))

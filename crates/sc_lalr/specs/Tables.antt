@@ -1,5 +1,5 @@
 -- The tables as the code keeps them.
-use Rattle.std.specs.Prelude.{◌≡◌, ◌↔◌, ◌<◌, ◌+◌, ℕ, Bool, IsTrue, List, [], ◌∷◌, slice_get, map, Option, Some, None, MatchOption, option_and_then, Vec}
+use Rattle.std.specs.Prelude.{◌≡◌, ◌↔◌, ◌<◌, ◌+◌, ℕ, Bool, IsTrue, List, [], ◌∷◌, slice_get, slice_index, map, Option, Some, None, MatchOption, option_and_then, Vec}
 use Rattle.std.specs.List.{Contains}
 use Rattle.std.specs.declared.alloc.Global.{Global}
 use Rattle.sc_model.specs.Grammar.{after, production_at}
@@ -44,11 +44,11 @@ pub record EndsIn (g : Grammar) (states : List (List ℕ)) (s i : ℕ) : Type 0 
   pub has : HasItem g states s i
   pub at_end : after g i ≡ None
 
--- one of the items is marked, and ends this production
-pub record IsMarkedEnd (g : Grammar) (marks : List Bool) (base : ℕ) (items : List ℕ) (p : ℕ) : Type 0 where
+-- the node of one of the items is marked, and the item ends this production
+pub record IsMarkedEnd (g : Grammar) (marks : List Bool) (numbers : List ℕ) (base : ℕ) (items : List ℕ) (p : ℕ) : Type 0 where
   pub item : ℕ
   pub within : Contains items item
-  pub is_marked : IsTrue (marked marks (base + item))
+  pub is_marked : IsTrue (marked marks (slice_index numbers (base + item)))
   pub production : production_at g item ≡ p
 
 -- the action that is kept, of a shift and of reductions by rising productions

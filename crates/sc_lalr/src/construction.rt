@@ -1,14 +1,15 @@
 //! The tables of a grammar from its states.
-ghost use Rattle.std.specs.Prelude.{◌≡◌, ◌<◌, ◌+◌, ◌*◌, ◌^◌, ℕ, length, IfOk, OnOk};
+ghost use Rattle.std.specs.Prelude.{◌<◌, ◌+◌, length, IfOk, OnOk};
 ghost use Rattle.sc_model.specs.Grammar.{IsGrammar};
 ghost use Rattle.sc_items.specs.States.{AreStates, kernels_of};
-ghost use Rattle.sc_lalr.specs.Propagation.{AreLookaheads};
+ghost use Rattle.sc_lalr.specs.Propagation.{AreNodes, AreLookaheads};
 ghost use Rattle.sc_lalr.specs.Tables.{AreTables};
 ghost use Rattle.sc_lalr.specs.Building.{AreActions, AreGotos, AreConflicts};
 
 use crate::Tables;
 use crate::conflict::{kept, note_conflicts};
 use crate::lookahead::lookaheads;
+use crate::nodes::{Nodes, nodes_of};
 use crate::reduction::{ends, productions};
 use sc_base::OutOfMemory;
 use sc_items::States;
@@ -24,12 +25,21 @@ pub fn build(alloc: Global, grammar: &Grammar, states: &States) -> Result<Tables
     let Some(_nodes) = states.len().checked_mul(grammar.entries.len()) else {
         return Err(OutOfMemory);
     };
-    let ahead = lookaheads(alloc, grammar, states)?;
+    let nodes = nodes_of(alloc, grammar, states)?;
+    let ahead = lookaheads(alloc, grammar, states, &nodes)?;
     let mut actions = Vec::new(alloc);
     let mut gotos = Vec::new(alloc);
     let mut conflicts = Vec::new(alloc);
     for state in 0..states.len() {
-        actions.push(action_row(alloc, grammar, states, &ahead, state, &mut conflicts)?)?;
+        actions.push(action_row(
+            alloc,
+            grammar,
+            states,
+            &nodes,
+            &ahead,
+            state,
+            &mut conflicts,
+        )?)?;
         gotos.push(goto_row(alloc, grammar, states, state)?)?;
     }
     Ok(Tables {
@@ -44,15 +54,16 @@ fn action_row(
     alloc: Global,
     grammar: &Grammar,
     states: &States,
+    nodes: &Nodes,
     ahead: &[Vec<bool>],
     state: usize,
     conflicts: &mut Vec<Conflict>,
 ) -> Result<Vec<Option<Action>>, OutOfMemory>
     requires grammar { IsGrammar grammar.now }
     requires states { AreStates grammar.now states.now }
-    requires ahead { AreLookaheads grammar.now (kernels_of states.now) ahead.now }
+    requires nodes { AreNodes grammar.now (kernels_of states.now) nodes.now }
+    requires ahead { AreLookaheads grammar.now (kernels_of states.now) nodes.now ahead.now }
     requires state { state < length (kernels_of states.now) }
-    requires small { length (kernels_of states.now) * length grammar.now.entries.now < 2 ^ 64 }
     requires conflicts { AreConflicts grammar.now (kernels_of states.now) state 0 conflicts.old.items }
     ensures actions { IfOk result (λ row. AreActions grammar.now (kernels_of states.now) state grammar.now.terminals row.items) }
     ensures conflicts { OnOk result (AreConflicts grammar.now (kernels_of states.now) (state + 1) 0 conflicts.new.items) }
@@ -60,8 +71,14 @@ fn action_row(
     let ends = ends(alloc, grammar, states, state)?;
     let mut row = Vec::new(alloc);
     for terminal in 0..grammar.terminals {
-        let base = state * grammar.entries.len();
-        let found = productions(alloc, grammar, &ends, &ahead[terminal], base)?;
+        let found = productions(
+            alloc,
+            grammar,
+            &ends,
+            &ahead[terminal],
+            &nodes.numbers,
+            state * grammar.entries.len(),
+        )?;
         let shift = states.goto(state, terminal);
         row.push(kept(shift, &found))?;
         note_conflicts(conflicts, state, Terminal(terminal), shift, &found)?;

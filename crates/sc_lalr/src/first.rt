@@ -1,5 +1,5 @@
 //! Which texts a terminal can begin.
-ghost use Rattle.std.specs.Prelude.{◌≡◌, ◌<◌, ◌↔◌, ◌+◌, ℕ, length, IfOk, IsTrue};
+ghost use Rattle.std.specs.Prelude.{◌≡◌, ◌<◌, ◌↔◌, ℕ, length, IfOk, IsTrue};
 ghost use Rattle.std.specs.List.{Contains};
 ghost use Rattle.sc_model.specs.Grammar.{IsGrammar};
 ghost use Rattle.sc_model.specs.Tables.{First};

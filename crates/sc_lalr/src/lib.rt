@@ -5,6 +5,7 @@ mod conflict;
 mod construction;
 mod first;
 mod lookahead;
+mod nodes;
 mod propagation;
 mod reduction;
 mod tables;

@@ -1,5 +1,5 @@
 //! The reductions of a state.
-ghost use Rattle.std.specs.Prelude.{◌≡◌, ◌<◌, ◌+◌, ◌↔◌, ◌^◌, ℕ, length, IfOk, All};
+ghost use Rattle.std.specs.Prelude.{◌<◌, ◌+◌, ◌↔◌, ℕ, length, slice_index, IfOk, All};
 ghost use Rattle.std.specs.List.{Contains};
 ghost use Rattle.std.specs.List.Sorted.{IsStrictlyIncreasing};
 ghost use Rattle.sc_model.specs.Grammar.{IsGrammar};
@@ -40,19 +40,21 @@ pub fn productions(
     grammar: &Grammar,
     items: &[usize],
     marks: &[bool],
+    numbers: &[usize],
     base: usize,
 ) -> Result<Vec<usize>, OutOfMemory>
     requires grammar { IsGrammar grammar.now }
     requires rising { IsStrictlyIncreasing items.now }
     requires within { All (λ item. item < length grammar.now.entries.now) items.now }
     requires at_end { All (IsAtEnd grammar.now) items.now }
-    requires marks { All (λ item. base + item < length marks.now) items.now }
+    requires numbers { All (λ item. base + item < length numbers.now) items.now }
+    requires marks { All (λ item. slice_index numbers.now (base + item) < length marks.now) items.now }
     ensures rising { IfOk result (λ found. IsStrictlyIncreasing found.items) }
-    ensures exact { IfOk result (λ found. (p : ℕ) → Contains found.items p ↔ IsMarkedEnd grammar.now marks.now base items.now p) }
+    ensures exact { IfOk result (λ found. (p : ℕ) → Contains found.items p ↔ IsMarkedEnd grammar.now marks.now numbers.now base items.now p) }
 {
     let mut found = Vec::new(alloc);
     for item in items {
-        if marks[base + *item] {
+        if marks[numbers[base + *item]] {
             found.push(production_at(grammar, *item))?;
         }
     }

@@ -1,10 +1,11 @@
-use Rattle.std.proofs.Common.{◌≡◌, ◌+◌, ℕ, Vec, List, Some, slice_get, get_or, length, ap, ◌∙◌, sym, arith, subst}
+use Rattle.std.proofs.Common.{◌≡◌, ◌+◌, ℕ, Bool, Vec, List, Some, slice_get, get_or, length, ap, ◌∙◌, sym, arith, subst}
 use Rattle.std.specs.List.{Contains}
 use Rattle.std.specs.Option.{option_map}
 use Rattle.std.specs.declared.alloc.Global.{Global}
 use Rattle.std.proofs.lemmas.Option.{slice_get-map, same_Some}
 use Rattle.std.proofs.lemmas.List.Elements.{Contains-get_or}
-use Rattle.sc_items.specs.Kernel.{lists}
+use Rattle.sc_model.specs.declared.grammar.Grammar.{Grammar}
+use Rattle.sc_items.specs.Kernel.{AreNext, lists}
 use Rattle.sc_items.specs.Found.{IsStep, IsGotoRow}
 use Rattle.sc_items.proofs.Finding.{Found-next}
 use Rattle.sc_items.proofs.Exploring.{Explored-begin, Explored-step, closure_of, members_of, members_within, after_small}
@@ -23,6 +24,18 @@ pub loop-symbol-init : goal.loop-symbol-init
 loop-symbol-init c =
     let at = kernel_at c.args.kernels.now.keys c.args.state c.index.result.now c.index.ensures in
     rw c.new-gotos.ensures.items (Explored-begin c.args.grammar.now (lists c.args.kernels.now.keys) c.args.state c.index.result.now.items c.requires.found at)
+
+pub next_symbols-requires-clause-within : goal.next_symbols-requires-clause-within
+next_symbols-requires-clause-within c = λ k d h.
+    let there = Contains-get_or c.deref-3.result.now k d h in
+    let long : length c.in_ok-items.items.items ≡ length c.args.grammar.now.entries.now = sym c.in_ok-items.items.ok.0 ∙ c.in_ok-items.ensures.len ∙ c.requires.opened.long in
+    members_within (length c.args.grammar.now.entries.now) c.in_ok-members.members.items c.in_ok-items.items.items c.deref-2.result.now c.deref-2.ensures.value long c.in_ok-members.ensures (get_or c.deref-3.result.now k d) (subst (λ zs. Contains zs (get_or c.deref-3.result.now k d)) c.deref-3.ensures.value there)
+
+next_of : (g : Grammar) (members view view2 : List ℕ) (next next_view : List Bool) → view ≡ members → view2 ≡ members → next_view ≡ next → AreNext g view next → AreNext g view2 next_view
+next_of g members view view2 next next_view d e f h = subst (λ ys. AreNext g ys next_view) (sym e) (subst (λ zs. AreNext g members zs) (sym f) (subst (λ ys. AreNext g ys next) d h))
+
+pub goto-requires-clause-next : goal.goto-requires-clause-next
+goto-requires-clause-next c = next_of c.args.grammar.now c.in_ok-members.members.items c.deref-3.result.now c.deref-in-loop-symbol.result.now c.in_ok-next.next.items c.deref-in-loop-symbol-2.result.now c.deref-3.ensures.value c.deref-in-loop-symbol.ensures.value c.deref-in-loop-symbol-2.ensures.value c.in_ok-next.ensures
 
 pub goto-requires-clause-within : goal.goto-requires-clause-within
 goto-requires-clause-within c = λ k d h.

@@ -1,14 +1,15 @@
-use Rattle.std.proofs.Common.{◌≡◌, ◌<◌, ◌*◌, ◌↔◌, ◌++◌, ◌∷◌, [], ℕ, Bool, List, Vec, Some, slice_get, length, get_or, ap, ◌∙◌, refl, arith, subst}
+use Rattle.std.proofs.Common.{◌≡◌, ◌<◌, ◌+◌, ◌*◌, ◌↔◌, ◌++◌, ◌∷◌, [], ℕ, Bool, List, Vec, Some, slice_get, slice_index, length, get_or, ap, ◌∙◌, refl, arith, subst}
 use Rattle.std.specs.List.{Contains}
 use Rattle.std.specs.declared.alloc.Global.{Global}
 use Rattle.std.proofs.lemmas.List.Elements.{Contains-get_or}
 use Rattle.std.proofs.lemmas.Option.{slice_get_read}
-use Rattle.std.proofs.lemmas.Nat.{mul-add-lt}
 use Rattle.sc_model.specs.Tables.{CanReduce}
 use Rattle.sc_model.specs.declared.grammar.Grammar.{Grammar}
 use Rattle.sc_items.specs.Kernel.{IsListOf}
 use Rattle.sc_items.specs.States.{kernels_of}
-use Rattle.sc_lalr.specs.Propagation.{AreLookaheads}
+use Rattle.sc_lalr.specs.Propagation.{AreNodes, AreLookaheads}
+use Rattle.sc_lalr.specs.declared.nodes.Nodes.{Nodes}
+use Rattle.sc_lalr.proofs.Placing.{node_of, node_in, number_in}
 use Rattle.sc_lalr.specs.Tables.{EndsIn, IsMarkedEnd, conflicts_at, kept_of}
 use Rattle.sc_lalr.proofs.Deciding.{RowSoFar-begin, RowSoFar-step, AreConflicts-next, can_reduce}
 use Rattle.sc_lalr.proofs.construction.action_row.Goals as goal
@@ -21,10 +22,10 @@ end_below g states s ends view k d e h list = subst (λ zs. Contains zs (get_or 
 row_of : (rows : List (Vec Bool Global)) (t n : ℕ) (row : Vec Bool Global) → length rows ≡ n → t < n → row ≡ get_or rows t row → slice_get rows t ≡ Some row
 row_of rows t n row long h e = slice_get_read rows (length rows) t row refl (omega arith) e
 
-reduce_is : (g : Grammar) (states : List (List ℕ)) (s t : ℕ) (rows : List (Vec Bool Global)) (row : Vec Bool Global) (ends ends_view found : List ℕ) (marks_view : List Bool) → AreLookaheads g states rows → slice_get rows t ≡ Some row → ends_view ≡ ends → marks_view ≡ row.items → IsListOf (length g.entries.now) (EndsIn g states s) ends → ((p : ℕ) → Contains found p ↔ IsMarkedEnd g marks_view (s * length g.entries.now) ends_view p) → (p : ℕ) → Contains found p ↔ CanReduce g states s t p
-reduce_is g states s t rows row ends ends_view found marks_view ahead at e f list exact p =
-    let can = can_reduce g states s t rows row ends ahead at list p in
-    let here : Contains found p ↔ IsMarkedEnd g row.items (s * length g.entries.now) ends p = subst (λ zs. Contains found p ↔ IsMarkedEnd g zs (s * length g.entries.now) ends p) f (subst (λ zs. Contains found p ↔ IsMarkedEnd g marks_view (s * length g.entries.now) zs p) e (exact p)) in
+reduce_is : (g : Grammar) (states : List (List ℕ)) (nodes : Nodes) (numbers_view : List ℕ) (s t : ℕ) (rows : List (Vec Bool Global)) (row : Vec Bool Global) (ends ends_view found : List ℕ) (marks_view : List Bool) → AreNodes g states nodes → numbers_view ≡ nodes.numbers.items → AreLookaheads g states nodes rows → slice_get rows t ≡ Some row → ends_view ≡ ends → marks_view ≡ row.items → IsListOf (length g.entries.now) (EndsIn g states s) ends → ((p : ℕ) → Contains found p ↔ IsMarkedEnd g marks_view numbers_view (s * length g.entries.now) ends_view p) → (p : ℕ) → Contains found p ↔ CanReduce g states s t p
+reduce_is g states nodes numbers_view s t rows row ends ends_view found marks_view are d ahead at e f list exact p =
+    let can = can_reduce g states nodes s t rows row ends are ahead at list p in
+    let here : Contains found p ↔ IsMarkedEnd g row.items nodes.numbers.items (s * length g.entries.now) ends p = subst (λ ns. Contains found p ↔ IsMarkedEnd g row.items ns (s * length g.entries.now) ends p) d (subst (λ zs. Contains found p ↔ IsMarkedEnd g zs numbers_view (s * length g.entries.now) ends p) f (subst (λ zs. Contains found p ↔ IsMarkedEnd g marks_view numbers_view (s * length g.entries.now) zs p) e (exact p))) in
     (λ w. can.0 (here.0 w), λ r. here.1 (can.1 r))
 
 pub loop-terminal-init : goal.loop-terminal-init
@@ -36,14 +37,26 @@ productions-requires-clause-within c = λ k d h. c.in_ok-ends.ensures.below (get
 pub productions-requires-clause-at_end : goal.productions-requires-clause-at_end
 productions-requires-clause-at_end c = λ k d h. record { none = (c.in_ok-ends.ensures.sound (get_or c.deref.result.now k d) (end_below c.args.grammar.now (kernels_of c.args.states.now) c.args.state c.in_ok-ends.ends.items c.deref.result.now k d c.deref.ensures.value h c.in_ok-ends.ensures)).at_end }
 
+numbers_fit : (g : Grammar) (states : List (List ℕ)) (nodes : Nodes) (s : ℕ) (ends view numbers : List ℕ) → AreNodes g states nodes → s < length states → IsListOf (length g.entries.now) (EndsIn g states s) ends → view ≡ ends → numbers ≡ nodes.numbers.items → (k d : ℕ) → k < length view → s * length g.entries.now + get_or view k d < length numbers
+numbers_fit g states nodes s ends view numbers are s_in list e f k d h =
+    omega (arith, ap length f, number_in g states nodes are s (get_or view k d) s_in (list.below (get_or view k d) (end_below g states s ends view k d e h list)))
+
+pub productions-requires-clause-numbers : goal.productions-requires-clause-numbers
+productions-requires-clause-numbers c = numbers_fit c.args.grammar.now (kernels_of c.args.states.now) c.args.nodes.now c.args.state c.in_ok-ends.ends.items c.deref.result.now c.deref-in-loop-terminal-2.result.now c.requires.nodes c.requires.state c.in_ok-ends.ensures c.deref.ensures.value c.deref-in-loop-terminal-2.ensures.value
+
+marks_fit : (g : Grammar) (states : List (List ℕ)) (nodes : Nodes) (s t : ℕ) (rows : List (Vec Bool Global)) (row : Vec Bool Global) (ends view numbers : List ℕ) (marks : List Bool) → AreNodes g states nodes → AreLookaheads g states nodes rows → slice_get rows t ≡ Some row → IsListOf (length g.entries.now) (EndsIn g states s) ends → view ≡ ends → numbers ≡ nodes.numbers.items → marks ≡ row.items → (k d : ℕ) → k < length view → slice_index numbers (s * length g.entries.now + get_or view k d) < length marks
+marks_fit g states nodes s t rows row ends view numbers marks are ahead at list e f m k d h =
+    let i = get_or view k d in
+    let there = end_below g states s ends view k d e h list in
+    let node = node_of g states nodes are s i (list.sound i there).has (list.below i there) in
+    let within : slice_index nodes.numbers.items (s * length g.entries.now + i) < length marks = omega (arith, node_in (length g.entries.now) nodes (slice_index nodes.numbers.items (s * length g.entries.now + i)) s i node, ahead.each t row at, ap length m) in
+    rw f within
+
 pub productions-requires-clause-marks : goal.productions-requires-clause-marks
-productions-requires-clause-marks c = λ k d h.
+productions-requires-clause-marks c =
     let g = c.args.grammar.now in
-    let states = kernels_of c.args.states.now in
-    let i = get_or c.deref.result.now k d in
-    let below = c.in_ok-ends.ensures.below i (end_below g states c.args.state c.in_ok-ends.ends.items c.deref.result.now k d c.deref.ensures.value h c.in_ok-ends.ensures) in
     let at = row_of c.args.ahead.now c.loop-terminal.terminal g.terminals c.index-ahead-terminal.result c.requires.ahead.long c.loop-terminal-test.true c.index-ahead-terminal.is in
-    omega (arith, mul-add-lt c.args.state (length g.entries.now) i (length states) c.requires.state below, c.requires.ahead.each c.loop-terminal.terminal c.index-ahead-terminal.result at, ap length c.deref-in-loop-terminal.ensures.value)
+    marks_fit g (kernels_of c.args.states.now) c.args.nodes.now c.args.state c.loop-terminal.terminal c.args.ahead.now c.index-ahead-terminal.result c.in_ok-ends.ends.items c.deref.result.now c.deref-in-loop-terminal-2.result.now c.deref-in-loop-terminal.result.now c.requires.nodes c.requires.ahead at c.in_ok-ends.ensures c.deref.ensures.value c.deref-in-loop-terminal-2.ensures.value c.deref-in-loop-terminal.ensures.value
 
 pub loop-terminal-preserved : goal.loop-terminal-preserved
 loop-terminal-preserved c =
@@ -54,10 +67,10 @@ loop-terminal-preserved c =
     let shift = c.goto-shift.result in
     let found = c.in_ok-found.found.items in
     let at = row_of c.args.ahead.now t g.terminals c.index-ahead-terminal.result c.requires.ahead.long c.loop-terminal-test.true c.index-ahead-terminal.is in
-    let can = reduce_is g states s t c.args.ahead.now c.index-ahead-terminal.result c.in_ok-ends.ends.items c.deref.result.now found c.deref-in-loop-terminal.result.now c.requires.ahead at c.deref.ensures.value c.deref-in-loop-terminal.ensures.value c.in_ok-ends.ensures c.in_ok-found.ensures.exact in
+    let can = reduce_is g states c.args.nodes.now c.deref-in-loop-terminal-2.result.now s t c.args.ahead.now c.index-ahead-terminal.result c.in_ok-ends.ends.items c.deref.result.now found c.deref-in-loop-terminal.result.now c.requires.nodes c.deref-in-loop-terminal-2.ensures.value c.requires.ahead at c.deref.ensures.value c.deref-in-loop-terminal.ensures.value c.in_ok-ends.ensures c.in_ok-found.ensures.exact in
     let next = RowSoFar-step g states s t c.loop-terminal.row.items c.loop-terminal.conflicts.items shift found c.requires.states.exact c.requires.state c.loop-terminal-test.true (c.goto-shift.ensures.exact g c.requires.grammar c.requires.states) c.in_ok-found.ensures.rising can c.loop-terminal.invariant in
-    let row_is : c.push.new.self.items ≡ c.loop-terminal.row.items ++ kept_of shift found ∷ [] = c.in_ok-push.ensures.items ∙ ap (λ a. c.loop-terminal.row.items ++ a ∷ []) (c.kept.ensures ∙ ap (kept_of shift) c.deref-in-loop-terminal-2.ensures.value) in
-    let conflicts_is : c.note_conflicts.new.conflicts.items ≡ c.loop-terminal.conflicts.items ++ conflicts_at s t shift found = c.in_ok-note_conflicts.ensures ∙ ap (λ zs. c.loop-terminal.conflicts.items ++ conflicts_at s t shift zs) c.deref-in-loop-terminal-3.ensures.value in
+    let row_is : c.push.new.self.items ≡ c.loop-terminal.row.items ++ kept_of shift found ∷ [] = c.in_ok-push.ensures.items ∙ ap (λ a. c.loop-terminal.row.items ++ a ∷ []) (c.kept.ensures ∙ ap (kept_of shift) c.deref-in-loop-terminal-3.ensures.value) in
+    let conflicts_is : c.note_conflicts.new.conflicts.items ≡ c.loop-terminal.conflicts.items ++ conflicts_at s t shift found = c.in_ok-note_conflicts.ensures ∙ ap (λ zs. c.loop-terminal.conflicts.items ++ conflicts_at s t shift zs) c.deref-in-loop-terminal-4.ensures.value in
     rw (row_is, conflicts_is) next
 
 pub returns-clause-actions : goal.returns-clause-actions

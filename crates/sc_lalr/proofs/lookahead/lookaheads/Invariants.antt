@@ -3,4 +3,4 @@ use Rattle.sc_lalr.proofs.Looking.{AreLookaheadsBelow}
 use Rattle.sc_lalr.proofs.lookahead.lookaheads.Given as goal
 
 abbrev pub invariant-loop-terminal : goal.invariant-loop-terminal
-invariant-loop-terminal l = AreLookaheadsBelow l.grammar (kernels_of l.states) l.terminal l.rows.items
+invariant-loop-terminal l = AreLookaheadsBelow l.grammar (kernels_of l.states) l.nodes l.terminal l.rows.items

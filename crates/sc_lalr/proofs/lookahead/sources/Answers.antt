@@ -1,19 +1,55 @@
-use Rattle.std.proofs.Common.{length, ap, ◌∙◌, sym, subst}
+use Rattle.std.proofs.Common.{◌≡◌, ◌<◌, ◌≤◌, ℕ, List, length, get_or, take, ap, ◌∙◌, sym, arith, subst}
+use Rattle.std.specs.List.{Contains}
 use Rattle.std.proofs.lemmas.Bool.{false≢true}
-use Rattle.sc_items.specs.Kernel.{IsListOf}
-use Rattle.sc_items.specs.States.{kernels_of}
-use Rattle.sc_items.proofs.Listing.{IsListOf-kept, IsListOf-left}
-use Rattle.sc_lalr.specs.Propagation.{IsSource}
-use Rattle.sc_lalr.proofs.Passing.{at_end}
+use Rattle.std.proofs.lemmas.List.{take_all}
+use Rattle.std.proofs.lemmas.List.Elements.{Contains-get_or}
+use Rattle.sc_model.specs.declared.grammar.Grammar.{Grammar}
+use Rattle.sc_lalr.specs.Propagation.{HasPlace, AreNodes}
+use Rattle.sc_lalr.specs.declared.nodes.Nodes.{Nodes}
+use Rattle.sc_lalr.proofs.Placing.{place_at}
+use Rattle.sc_lalr.proofs.Looking.{SourcesSoFar, SourcesSoFar-none, SourcesSoFar-left, SourcesSoFar-kept, AreSources-done, source_of, followed_of_source}
 use Rattle.sc_lalr.proofs.lookahead.sources.Goals as goal
-use Rattle.sc_lalr.proofs.lookahead.sources.Goals.{then-is_source+in_ok-push, else-is_source}
+use Rattle.sc_lalr.proofs.lookahead.sources.Goals.{then-is_followed+in_ok-push, else-is_followed}
 
-pub loop-node-preserved : goal.loop-node-preserved
-loop-node-preserved c =
-    elim c.if-is_source.branch [
-      | then-is_source+in_ok-push w ↦ IsListOf-kept (IsSource c.args.grammar.now (kernels_of c.args.states.now)) c.loop-node.node _ _ c.loop-node.invariant (ap (λ v. v.items) w.nodes-is ∙ w.in_ok-push.ensures.items) (c.is_source.ensures.0 w.if-is_source.true)
-      | else-is_source w ↦ IsListOf-left (IsSource c.args.grammar.now (kernels_of c.args.states.now)) c.loop-node.node _ _ c.loop-node.invariant (ap (λ v. v.items) w.nodes-is) (λ h. false≢true (sym w.if-is_source.false ∙ c.is_source.ensures.1 h))
+-- the place of this iteration
+place_of : (g : Grammar) (states : List (List ℕ)) (nodes : Nodes) (view : List ℕ) (k : ℕ) → AreNodes g states nodes → view ≡ nodes.places.items → k < length view → HasPlace g states (get_or view k 0)
+place_of g states nodes view k are e h = are.places.sound (get_or view k 0) (subst (λ zs. Contains zs (get_or view k 0)) e (Contains-get_or view k 0 h))
+
+some_entries : (g : Grammar) (states : List (List ℕ)) (p : ℕ) → HasPlace g states p → 0 < length g.entries.now
+some_entries g states p h = omega (arith, h.at.within)
+
+pub nonzero_rem-place : goal.nonzero_rem-place
+nonzero_rem-place c = some_entries c.args.grammar.now c.requires.nodes.states _ (place_of c.args.grammar.now c.requires.nodes.states c.args.nodes.now c.deref-place-items.result.now c.loop-place.place-index c.requires.nodes.are c.deref-place-items.ensures.value c.loop-place-test.true)
+
+pub is_followed-requires-clause-item : goal.is_followed-requires-clause-item
+is_followed-requires-clause-item c =
+    let g = c.args.grammar.now in
+    let states = c.requires.nodes.states in
+    let p = get_or c.deref-place-items.result.now c.loop-place.place-index 0 in
+    (place_at (length g.entries.now) p (some_entries g states p (place_of g states c.args.nodes.now c.deref-place-items.result.now c.loop-place.place-index c.requires.nodes.are c.deref-place-items.ensures.value c.loop-place-test.true))).within
+
+pub loop-place-init : goal.loop-place-init
+loop-place-init c = λ states are. rw c.new-sources.ensures.items (SourcesSoFar-none c.args.grammar.now states)
+
+pub loop-place-preserved : goal.loop-place-preserved
+loop-place-preserved c = λ states are.
+    let g = c.args.grammar.now in
+    let k = c.loop-place.place-index in
+    let places = c.args.nodes.now.places.items in
+    let view = c.deref-place-items.result.now in
+    let same : get_or view k 0 ≡ get_or places k 0 = ap (λ zs. get_or zs k 0) c.deref-place-items.ensures.value in
+    let k_in : k < length places = omega (arith, ap length c.deref-place-items.ensures.value, c.loop-place-test.true) in
+    let there = place_of g states c.args.nodes.now view k are c.deref-place-items.ensures.value c.loop-place-test.true in
+    elim c.if-is_followed.branch [
+      | then-is_followed+in_ok-push w ↦ rw (ap (λ v. v.items) w.sources-is ∙ w.in_ok-push.ensures.items, same) (SourcesSoFar-kept g states k places c.loop-place.sources.items k_in (c.loop-place.invariant states are) (rw same at (source_of g states (get_or view k 0) there (c.is_followed.ensures.0 w.if-is_followed.true))))
+      | else-is_followed w ↦ rw (ap (λ v. v.items) w.sources-is) (SourcesSoFar-left g states k places c.loop-place.sources.items k_in (c.loop-place.invariant states are) (λ s. false≢true (sym w.if-is_followed.false ∙ c.is_followed.ensures.1 (followed_of_source g states (get_or view k 0) (rw same s)))))
     ]
 
+all_sources : (g : Grammar) (states : List (List ℕ)) (k : ℕ) (places sources : List ℕ) → length places ≤ k → SourcesSoFar g states (take k places) sources → SourcesSoFar g states places sources
+all_sources g states k places sources h s = subst (λ zs. SourcesSoFar g states zs sources) (take_all k places h) s
+
 pub returns : goal.returns
-returns c = subst (λ k. IsListOf k (IsSource c.args.grammar.now (kernels_of c.args.states.now)) c.loop-node.nodes.items) (at_end c.loop-node.node c.len.result (length (kernels_of c.args.states.now)) (length c.args.grammar.now.entries.now) c.len.ensures c.loop-node.auto.node-end c.loop-node-test.false) c.loop-node.invariant
+returns c = λ states are.
+    let g = c.args.grammar.now in
+    let all : length c.args.nodes.now.places.items ≤ c.loop-place.place-index = omega (arith, ap length c.deref-place-items.ensures.value, c.loop-place-test.false) in
+    AreSources-done g states c.args.nodes.now c.loop-place.sources.items are (all_sources g states c.loop-place.place-index c.args.nodes.now.places.items c.loop-place.sources.items all (c.loop-place.invariant states are))

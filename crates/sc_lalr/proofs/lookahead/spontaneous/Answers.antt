@@ -8,4 +8,4 @@ more : (f : ℕ → List ℕ) (now new us : List ℕ) (k : ℕ) → k < length u
 more f now new us k h e g = g ∙ ap (λ zs. zs ++ f (get_or us k 0)) e ∙ flat_map_more f [] (take k us) (get_or us k 0) ∙ ap (flat_map f) (sym (take_more us k 0 h))
 
 pub loop-source-preserved : goal.loop-source-preserved
-loop-source-preserved c = more (seed_part c.args.grammar.now c.args.opened.now c.args.begin.now) c.loop-source.nodes.items c.seeded.new.nodes.items c.args.sources.now c.loop-source.source-index c.loop-source-test.true c.loop-source.invariant c.in_ok-seeded.ensures
+loop-source-preserved c = more (seed_part c.args.grammar.now c.args.numbers.now c.args.opened.now c.args.begin.now) c.loop-source.nodes.items c.seeded.new.nodes.items c.args.sources.now c.loop-source.source-index c.loop-source-test.true c.loop-source.invariant c.in_ok-seeded.ensures

@@ -1,96 +1,103 @@
-use Rattle.std.proofs.Common.{zero, suc, ◌^◌, Option, MatchOption, ◌≡◌, ◌<◌, ◌+◌, ◌*◌, ◌/◌, ◌%◌, ◌++◌, ℕ, List, Some, None, length, get_or, ap, ◌∙◌, sym, refl, arith, subst}
+use Rattle.std.proofs.Common.{◌≡◌, ◌<◌, ◌+◌, ◌*◌, ◌/◌, ◌%◌, ◌++◌, ℕ, List, Vec, Option, Some, None, MatchOption, IfSome, length, get_or, ap, ◌∙◌, sym, refl, arith, rules, subst}
 use Rattle.std.specs.List.{Contains}
-use Rattle.std.proofs.lemmas.Bool.{false≢true}
+use Rattle.std.specs.declared.alloc.Global.{Global}
 use Rattle.std.proofs.lemmas.Option.{none-some, slice_get_read, slice_get_within}
-use Rattle.std.proofs.lemmas.Nat.{mod_below, div_below, mul-add-lt}
+use Rattle.std.proofs.lemmas.Nat.{div_below}
+use Rattle.std.proofs.lemmas.List.Elements.{Contains-get_or}
 use Rattle.sc_model.specs.Grammar.{after}
+use Rattle.sc_model.specs.Tables.{IsGoto}
 use Rattle.sc_model.specs.declared.grammar.Grammar.{Grammar}
+use Rattle.sc_items.specs.Kernel.{IsOpened}
 use Rattle.sc_items.specs.States.{kernels_of, NoGoto}
 use Rattle.sc_items.proofs.Listing.{no_member}
-use Rattle.sc_lalr.specs.Propagation.{along_part, into_part}
-use Rattle.sc_model.specs.Tables.{IsGoto}
 use Rattle.sc_items.proofs.Opening.{begun_within, after_within}
-use Rattle.std.proofs.lemmas.List.Elements.{Contains-get_or}
-use Rattle.sc_lalr.proofs.Passing.{node_at, passes_none, passes_exact, row_opens}
+use Rattle.sc_lalr.specs.Propagation.{AreNodes, along_part, into_part}
+use Rattle.sc_lalr.specs.declared.nodes.Nodes.{Nodes}
+use Rattle.sc_lalr.proofs.Placing.{node_place, number_in, some_entries}
+use Rattle.sc_lalr.proofs.Passing.{passes_none, passes_exact, row_opens}
 use Rattle.sc_lalr.proofs.propagation.passed.Goals as goal
 
-some_entries : (k n u : ℕ) → u < k * n → 0 < n
-some_entries k zero u h = omega (arith, h)
-some_entries k (suc n) u h = omega arith
-
 -- the facts that the function has of its node
-module _ (g : Grammar) (k u : ℕ) (within : u < k * length g.entries.now) where
+module _ (g : Grammar) (states : List (List ℕ)) (nodes : Nodes) (u p : ℕ) (are : AreNodes g states nodes) (u_in : u < length nodes.places.items) (e : p ≡ get_or nodes.places.items u p) where
+  below : p < length states * length g.entries.now
+  below = (node_place g states nodes are u p u_in e).0
+
   positive : 0 < length g.entries.now
-  positive = some_entries k (length g.entries.now) u within
+  positive = some_entries (length states) (length g.entries.now) p below
 
-  state_in : u / length g.entries.now < k
-  state_in = div_below u (length g.entries.now) k positive within
+  state_in : p / length g.entries.now < length states
+  state_in = div_below p (length g.entries.now) (length states) positive below
 
-  item_in : u % length g.entries.now < length g.entries.now
-  item_in = mod_below u (length g.entries.now) positive
+  item_in : p % length g.entries.now < length g.entries.now
+  item_in = (node_place g states nodes are u p u_in e).1.within
 
-  fits : (s j : ℕ) → k * length g.entries.now < 2 ^ 64 → s < k → j < length g.entries.now → s * length g.entries.now + j < 2 ^ 64
-  fits s j small a b = omega (arith, mul-add-lt s (length g.entries.now) j k a b, small)
+pub nonzero_div-state : goal.nonzero_div-state
+nonzero_div-state c = omega (arith, positive c.args.grammar.now (kernels_of c.args.states.now) c.args.nodes.now c.args.node c.index-place.result.now c.requires.nodes c.requires.node c.index-place.ensures)
 
-pub returns-then-not-has : goal.returns-then-not-has
-returns-then-not-has c =
-    let g = c.args.grammar.now in
-    let u = c.args.node in
-    let n = length g.entries.now in
-    let k = length (kernels_of c.args.states.now) in
-    λ v. (
-      λ w. absurd (no_member v (subst (λ zs. Contains zs v) c.new.ensures.items w)),
-      λ p. absurd (passes_none g (kernels_of c.args.states.now) u v (u / n) (u % n) (node_at n u (positive g k u c.requires.node))
-          (λ has x e. false≢true (sym c.if-not-has.true ∙ (c.has.ensures.exact g c.requires.states).1 has)) p),
-    )
+pub nonzero_rem-item : goal.nonzero_rem-item
+nonzero_rem-item c = omega (arith, positive c.args.grammar.now (kernels_of c.args.states.now) c.args.nodes.now c.args.node c.index-place.result.now c.requires.nodes c.requires.node c.index-place.ensures)
+
+pub after-requires-clause-within : goal.after-requires-clause-within
+after-requires-clause-within c = omega (arith, item_in c.args.grammar.now (kernels_of c.args.states.now) c.args.nodes.now c.args.node c.index-place.result.now c.requires.nodes c.requires.node c.index-place.ensures)
 
 pub returns-in_default : goal.returns-in_default
 returns-in_default c =
     let g = c.args.grammar.now in
-    let u = c.args.node in
+    let states = kernels_of c.args.states.now in
+    let p = c.index-place.result.now in
     let n = length g.entries.now in
-    let k = length (kernels_of c.args.states.now) in
     λ v. (
-      λ w. absurd (no_member v (subst (λ zs. Contains zs v) c.new-in_default.ensures.items w)),
-      λ p. absurd (passes_none g (kernels_of c.args.states.now) u v (u / n) (u % n) (node_at n u (positive g k u c.requires.node))
-          (λ has x e. none-some x (c.in_default.ensures.symbol ∙ e)) p),
+      λ w. absurd (no_member v (subst (λ zs. Contains zs v) c.new.ensures.items w)),
+      λ q. absurd (passes_none g states c.args.nodes.now c.args.node v (p / n) (p % n) (node_place g states c.args.nodes.now c.requires.nodes c.args.node p c.requires.node c.index-place.ensures).1
+          (λ x e. none-some x (c.in_default.ensures.symbol ∙ e)) q),
     )
 
-along_fits : (g : Grammar) (states : List (List ℕ)) (u s i x : ℕ) (to : Option ℕ) → length states * length g.entries.now < 2 ^ 64 → u < length states * length g.entries.now → after g i ≡ Some x → MatchOption to (NoGoto g states s x) (IsGoto g states s x) → (k d : ℕ) → k < length (along_part (length g.entries.now) i to) → get_or (along_part (length g.entries.now) i to) k d < 2 ^ 64
-along_fits g states u s i x None small within over goto k d h = absurd (omega (arith, h))
-along_fits g states u s i x (Some t) small within over goto zero d h = fits g (length states) u within t (i + 1) small (slice_get_within states t goto.target goto.target_at) (after_within g i x over)
-along_fits g states u s i x (Some t) small within over goto (suc k) d h = absurd (omega (arith, h))
+along_fits : (g : Grammar) (states : List (List ℕ)) (nodes : Nodes) (s i x : ℕ) (to : Option ℕ) (view : List ℕ) → AreNodes g states nodes → view ≡ nodes.numbers.items → after g i ≡ Some x → MatchOption to (NoGoto g states s x) (IsGoto g states s x) → IfSome to (λ state. state * length g.entries.now + (i + 1) < length view)
+along_fits g states nodes s i x None view are f over goto = search rules
+along_fits g states nodes s i x (Some t) view are f over goto = omega (arith, ap length f, number_in g states nodes are t (i + 1) (slice_get_within states t goto.target goto.target_at) (after_within g i x over))
 
 pub along-requires : goal.along-requires
 along-requires c =
     let g = c.args.grammar.now in
-    let u = c.args.node in
+    let p = c.index-place.result.now in
     let n = length g.entries.now in
-    along_fits g (kernels_of c.args.states.now) u (u / n) (u % n) c.in-Some.symbol c.goto.result c.requires.small c.requires.node (sym c.in-Some.ensures.symbol) (c.goto.ensures.exact g c.requires.grammar c.requires.states)
+    along_fits g (kernels_of c.args.states.now) c.args.nodes.now (p / n) (p % n) c.in-Some.symbol c.goto.result c.deref.result.now c.requires.nodes c.deref.ensures.value (sym c.in-Some.ensures.symbol) (c.goto.ensures.exact g c.requires.grammar c.requires.states)
+
+into_fits : (g : Grammar) (states : List (List ℕ)) (nodes : Nodes) (opened : List (Vec ℕ Global)) (row : Vec ℕ Global) (s i : ℕ) (numbers view : List ℕ) → AreNodes g states nodes → IsOpened g opened → numbers ≡ nodes.numbers.items → s < length states → i < length g.entries.now → row ≡ get_or opened i row → view ≡ row.items → (k d : ℕ) → k < length view → s * length g.entries.now + get_or view k d < length numbers
+into_fits g states nodes opened row s i numbers view are rows f s_in i_in row_is view_is k d h =
+    let at = slice_get_read opened (length opened) i row refl (omega (arith, rows.long, i_in)) row_is in
+    let opens = (row_opens g opened i row view rows at view_is (get_or view k d)).0 (Contains-get_or view k d h) in
+    omega (arith, ap length f, number_in g states nodes are s (get_or view k d) s_in (begun_within g (get_or view k d) opens.symbol opens.begins))
 
 pub into_opened-requires : goal.into_opened-requires
-into_opened-requires c = λ k d h.
+into_opened-requires c =
     let g = c.args.grammar.now in
-    let u = c.args.node in
+    let states = kernels_of c.args.states.now in
+    let p = c.index-place.result.now in
     let n = length g.entries.now in
-    let count = length (kernels_of c.args.states.now) in
-    let at = slice_get_read c.args.opened.now (length c.args.opened.now) (u % n) c.index-opened-item.result refl (omega (arith, c.requires.opened.long, item_in g count u c.requires.node)) c.index-opened-item.is in
-    let opens = (row_opens g c.args.opened.now (u % n) c.index-opened-item.result c.deref.result.now c.requires.opened at c.deref.ensures.value (get_or c.deref.result.now k d)).0 (Contains-get_or c.deref.result.now k d h) in
-    fits g count u c.requires.node (u / n) (get_or c.deref.result.now k d) c.requires.small (state_in g count u c.requires.node) (begun_within g (get_or c.deref.result.now k d) opens.symbol opens.begins)
+    into_fits g states c.args.nodes.now c.args.opened.now c.index-opened-item.result (p / n) (p % n) c.deref-2.result.now c.deref-3.result.now c.requires.nodes c.requires.opened c.deref-2.ensures.value
+    (state_in g states c.args.nodes.now c.args.node p c.requires.nodes c.requires.node c.index-place.ensures)
+    (item_in g states c.args.nodes.now c.args.node p c.requires.nodes c.requires.node c.index-place.ensures)
+    c.index-opened-item.is c.deref-3.ensures.value
+
+joined : (numbers view view2 targets nodes row : List ℕ) (n i base : ℕ) (to next : Option ℕ) → view ≡ numbers → view2 ≡ numbers → targets ≡ along_part view n i to → nodes ≡ targets ++ into_part view2 base next row → nodes ≡ along_part numbers n i to ++ into_part numbers base next row
+joined numbers view view2 targets nodes row n i base to next e f h k = k ∙ ap (λ zs. targets ++ into_part zs base next row) f ∙ ap (λ zs. zs ++ into_part numbers base next row) (h ∙ ap (λ zs. along_part zs n i to) e)
 
 pub returns : goal.returns
 returns c =
     let g = c.args.grammar.now in
-    let u = c.args.node in
+    let states = kernels_of c.args.states.now in
+    let nodes = c.args.nodes.now in
+    let p = c.index-place.result.now in
     let n = length g.entries.now in
-    let count = length (kernels_of c.args.states.now) in
-    let at = slice_get_read c.args.opened.now (length c.args.opened.now) (u % n) c.index-opened-item.result refl (omega (arith, c.requires.opened.long, item_in g count u c.requires.node)) c.index-opened-item.is in
-    passes_exact g (kernels_of c.args.states.now) u (u / n) (u % n) c.in-Some.symbol c.goto.result c.after-2.result c.deref.result.now c.into_opened.new.nodes.items
+    let at = slice_get_read c.args.opened.now (length c.args.opened.now) (p % n) c.index-opened-item.result refl (omega (arith, c.requires.opened.long, item_in g states nodes c.args.node p c.requires.nodes c.requires.node c.index-place.ensures)) c.index-opened-item.is in
+    passes_exact g states nodes c.args.node (p / n) (p % n) c.in-Some.symbol c.goto.result c.after-2.result c.deref-3.result.now
     c.requires.states.exact
-    (node_at n u (positive g count u c.requires.node))
-    ((c.has.ensures.exact g c.requires.states).0 c.if-not-has.false)
+    c.requires.nodes
+    (node_place g states nodes c.requires.nodes c.args.node p c.requires.node c.index-place.ensures).1
     (sym c.in-Some.ensures.symbol)
     (c.goto.ensures.exact g c.requires.grammar c.requires.states)
     c.after-2.ensures.symbol
-    (row_opens g c.args.opened.now (u % n) c.index-opened-item.result c.deref.result.now c.requires.opened at c.deref.ensures.value)
-    (c.in_ok-into_opened.ensures ∙ ap (λ zs. zs ++ into_part (u / n * n) c.after-2.result c.deref.result.now) c.in_ok-nodes.ensures)
+    (row_opens g c.args.opened.now (p % n) c.index-opened-item.result c.deref-3.result.now c.requires.opened at c.deref-3.ensures.value)
+    c.into_opened.new.nodes.items
+    (joined nodes.numbers.items c.deref.result.now c.deref-2.result.now c.in_ok-targets.targets.items c.into_opened.new.nodes.items c.deref-3.result.now n (p % n) (p / n * n) c.goto.result c.after-2.result c.deref.ensures.value c.deref-2.ensures.value c.in_ok-targets.ensures c.in_ok-into_opened.ensures)
