@@ -1,7 +1,10 @@
 -- What a run of the program does, by its status.
 use Rattle.std.specs.Prelude.{◌≡◌, ℕ, ◌⊎◌, Bool, true, false, List, [], ◌∷◌, codes, map, All, Option, Some, None, Result, Ok, Err}
-use Rattle.std.specs.List.{Contains}
-use Rattle.std.specs.Prelude.{◌↔◌, slice_get, ◌<◌}
+use Rattle.std.specs.List.{Contains, concat}
+use Rattle.std.specs.Prelude.{◌↔◌}
+use Rattle.sc_base.specs.declared.fault.Fault as base
+use Rattle.sc_base.specs.declared.id.Cond.{Cond}
+use Rattle.sc_lex.specs.declared.token.Token as lexed
 use Rattle.sc_args.specs.Words.{Asked, tokens, conflicts, usage, bad_file, asked_of}
 use Rattle.sc_core.specs.declared.complaint.Complaint.{Complaint}
 use Rattle.sc_core.specs.declared.complaint.Complaint.TheVariants as complaint
@@ -15,12 +18,14 @@ use Rattle.sc_model.specs.declared.grammar.Grammar.{Grammar}
 use Rattle.sc_model.specs.Grammar.{entries_of}
 use Rattle.sc_model.specs.Outside.{Files, Rose, Write, Writes, WritesPart, whole_write}
 use Rattle.sc_model.specs.Pre.{Fault, Pre}
+use Rattle.sc_model.specs.Sets.{Sets}
 use Rattle.sc_model.specs.Space.{Space, IsListed}
 use Rattle.sc_model.specs.Tables.{IsStates, IsConflict}
 use Rattle.sc_model.specs.Text.{Answer, Reads, at}
 use Rattle.sc_model.specs.Token.{Shown, Token, shown}
 use Rattle.sc_show.specs.Conflicts.{conflict_pieces}
 use Rattle.sc_show.specs.Pieces.{IsLine}
+use Rattle.sc_show.specs.Rules.{KeepsRules}
 use Rattle.sc_source.specs.Sink.{WritesCut}
 use Rattle.sc_space.specs.SpaceFile as file
 use Rattle.sc_space.specs.SpaceFile.{read_space}
@@ -67,12 +72,22 @@ pub record RefusesSpace (files : Files) (name line : List ℕ) : Type 0 where
   pub read : read_space bytes ≡ Err fault
   pub told : line ≡ space_line fault
 
--- The pieces are the lines of a text that is right at every configuration.
+-- The pieces are the lines that the rules of the format give for a list of tokens and faults under conditions.
+pub record KeepsFormat (space : Space) (pieces : List (List ℕ)) : Type 0 where
+  pub sets : Sets
+  pub names : List (List ℕ)
+  pub files : List (List ℕ)
+  pub list : List (Cond × lexed.Token)
+  pub faults : List base.Fault
+  pub kept : KeepsRules space sets names files list faults (concat pieces)
+
+-- The pieces are the lines of a text that keeps the rules of the format and is right at every configuration.
 pub record IsTokensText (files : Files) (name main : List ℕ) (pieces : List (List ℕ)) : Type 0 where
   pub space : Space
   pub has_space : HasSpace files name space
   pub answer : Answer
   pub reads : Reads space pieces answer
+  pub format : KeepsFormat space pieces
   pub ordinary : (config : List ℕ) → IsListed space config → IsOrdinaryAt space files main answer config
 
 -- ordinary preprocessing refuses no configuration

@@ -20,3 +20,6 @@ pub use main_file::preprocess;
 pub use preprocessed::Preprocessed;
 pub use program::run;
 pub use status::Status;
+
+#[cfg(test)]
+mod tests;

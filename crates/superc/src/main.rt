@@ -28,7 +28,10 @@ fn main(rt: HostRuntime) -> ExitCode {
             &mut err,
         ),
         Err(status) => {
-            let _ = err.write(b"superc: the words are no text\n");
+            let _ = err.write(match status {
+                Status::OutOfMemory => b"superc: out of memory\n".as_slice(),
+                _ => b"superc: the words are no text\n".as_slice(),
+            });
             status
         }
     };

@@ -16,6 +16,7 @@ returns-in-Ok-clause-text g c = record {
         has_space = c.in_ok-space.ensures.space files holds;
         answer = tells.answer;
         reads = tells.reads;
+        format = tells.format;
         ordinary = tells.ordinary;
       };
   verdict = λ files holds.
