@@ -1,5 +1,5 @@
 -- Parts of a condition by the next item.
-use Rattle.std.proofs.Common.{◌≡◌, ℕ, suc, zero, ◌+◌, ◌<◌, ◌≤◌, ◌&&◌, not, Bool, true, false, List, [], ◌∷◌, ◌++◌, All, drop, length, get_or, refl, ap, subst, sym, ◌∙◌, arith, if◌then◌else◌, append-nil}
+use Rattle.std.proofs.Common.{◌≡◌, ℕ, ◌+◌, ◌<◌, ◌≤◌, ◌&&◌, not, Bool, true, false, List, [], ◌∷◌, ◌++◌, All, drop, length, get_or, refl, ap, sym, ◌∙◌, arith, if◌then◌else◌, append-nil}
 use Rattle.std.proofs.lemmas.List.{drop_more, drop_all}
 use Rattle.std.proofs.lemmas.List.Elements.{All-nil, All-push}
 use Rattle.std.proofs.lemmas.List.Quantifiers.{all_pairs_push}

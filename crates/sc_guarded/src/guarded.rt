@@ -63,7 +63,7 @@ impl<T> Guarded<T> {
         (pair.0, &pair.1)
     }
 
-    /// Takes the items of index `from` on away from the configurations that `by` has not.
+    /// Restricts the items of index `from` on to the configurations that `by` has.
     pub fn restrict<C: Conditions>(
         &mut self,
         conds: &mut C,

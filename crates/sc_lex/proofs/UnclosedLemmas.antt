@@ -6,7 +6,6 @@ use Rattle.sc_model.specs.Lex.{closes, is_quoted}
 use Rattle.sc_lex.specs.Scan.{IsLongestFront, quoted_length}
 use Rattle.sc_lex.specs.Unclosed.{IsUnclosed}
 use Rattle.sc_lex.proofs.Fronts.{Unmet, Unmet-none, Unmet-never, IsStuck, none_where_stuck}
-use Rattle.sc_lex.proofs.Quotes.{Goes}
 
 pub IsUnclosed-none : (quote : ℕ) (bs : List ℕ) → IsUnclosed quote bs 0
 IsUnclosed-none quote bs = record { never = λ k m below is. absurd (omega arith) }

@@ -1,10 +1,9 @@
-use Rattle.std.proofs.Common.{◌≡◌, ◌+◌, ◌&&◌, ◌∷◌, [], ◌∙◌, sym, ap, subst, true, false, ℕ, List, not}
+use Rattle.std.proofs.Common.{◌+◌, ◌&&◌, ◌∙◌, sym, ap, subst, ℕ, List}
 use Rattle.std.proofs.lemmas.Bool.{true≢false}
 use Rattle.sc_base.specs.declared.id.Cond.{Cond}
 use Rattle.sc_guarded.specs.Items.{items_at}
 use Rattle.sc_guarded.specs.Next.{ArePartsBelow}
 use Rattle.sc_guarded.proofs.NextLemmas.{ArePartsBelow-Keeps, ArePartsBelow-push, items_at-part, items_at-no_part, and-not_and, and-not_none}
-use Rattle.sc_model.specs.Sets.{IsConfig, IsNever, Denotes}
 use Rattle.sc_model.proofs.SetLemmas.{Keeps-trans, IsConfig-Keeps, Denotes-self, Denotes-Keeps}
 use Rattle.sc_guarded.proofs.parts.take_part.Goals as goal
 

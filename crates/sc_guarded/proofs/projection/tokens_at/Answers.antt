@@ -1,4 +1,4 @@
-use Rattle.std.proofs.Common.{◌≡◌, ◌++◌, ◌∷◌, [], ◌∙◌, true, false, sym, ap, append-nil}
+use Rattle.std.proofs.Common.{◌++◌, ◌∷◌, [], ◌∙◌, true, false, sym, ap, append-nil}
 use Rattle.sc_guarded.proofs.ItemLemmas.{map-items_at-take}
 use Rattle.sc_guarded.proofs.projection.tokens_at.Goals as goal
 use Rattle.sc_guarded.proofs.projection.tokens_at.Goals.{then-holds+in_ok-push, else-holds}

@@ -1,4 +1,4 @@
-use Rattle.std.proofs.Common.{◌≡◌, ◌+◌, ◌&&◌, ◌∷◌, [], ◌∙◌, sym, ap, subst, ℕ, List, All, Bool, map, take, drop, length, take_all, arith}
+use Rattle.std.proofs.Common.{◌&&◌, ◌∙◌, sym, ap, subst, All, Bool, map, drop, length, take_all, arith}
 use Rattle.std.proofs.lemmas.List.{length_push}
 use Rattle.std.proofs.lemmas.List.Elements.{All-push}
 use Rattle.sc_base.specs.declared.id.Cond.{Cond}

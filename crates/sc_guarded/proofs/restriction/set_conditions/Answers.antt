@@ -1,5 +1,5 @@
-use Rattle.std.proofs.Common.{◌≡◌, ◌<◌, ◌+◌, ◌-◌, ◌++◌, ◌∙◌, [], ap, sym, refl, map, take, length, get_or, append-nil, arith}
-use Rattle.std.proofs.lemmas.List.{take-map, take_all, length-set, length-map, length-take-le}
+use Rattle.std.proofs.Common.{◌≡◌, ◌-◌, ◌++◌, ◌∙◌, ap, sym, refl, map, take, get_or, append-nil, arith}
+use Rattle.std.proofs.lemmas.List.{take-map, length-set}
 use Rattle.sc_base.specs.declared.id.Cond.{Cond}
 use Rattle.sc_guarded.proofs.RestrictionLemmas.{conditions_more, items_stay}
 use Rattle.sc_guarded.proofs.restriction.set_conditions.Goals as goal

@@ -1,4 +1,4 @@
-use Rattle.std.proofs.Common.{◌≡◌, ◌+◌, ◌-◌, ◌++◌, map, take, drop, length}
+use Rattle.std.proofs.Common.{◌≡◌, ◌-◌, ◌++◌, map, take, length}
 use Rattle.sc_base.specs.declared.id.Cond.{Cond}
 use Rattle.sc_guarded.proofs.restriction.set_conditions.Given as goal
 

@@ -1,4 +1,4 @@
-use Rattle.std.proofs.Common.{◌≡◌, ◌≤◌, drop, length, arith, sym, ap, ◌∙◌, subst, ne_eqb, length-drop}
+use Rattle.std.proofs.Common.{◌≡◌, drop, arith, sym, ap, ◌∙◌, subst, ne_eqb, length-drop}
 use Rattle.std.proofs.lemmas.List.{take_rest}
 use Rattle.sc_model.specs.Lex.{closes}
 use Rattle.sc_lex.specs.Scan.{quoted_length}

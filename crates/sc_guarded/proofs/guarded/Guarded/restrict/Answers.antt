@@ -1,4 +1,4 @@
-use Rattle.std.proofs.Common.{◌≡◌, ◌≤◌, ◌++◌, ◌&&◌, ◌∙◌, ap, subst, Bool, List, length, map, take, drop}
+use Rattle.std.proofs.Common.{◌≡◌, ◌++◌, ◌&&◌, ◌∙◌, ap, Bool, map, take, drop}
 use Rattle.sc_base.specs.declared.id.Cond.{Cond}
 use Rattle.sc_guarded.proofs.RestrictionLemmas.{front_same, rest_met, all_own}
 use Rattle.sc_guarded.proofs.guarded.Guarded.restrict.Given.{Over}
