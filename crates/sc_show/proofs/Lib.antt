@@ -6,6 +6,7 @@ pub mod Numbers
 pub mod Pieces
 pub mod Steps
 pub mod Shows
+pub mod Reducing
 pub mod Ruling
 pub mod Faults
 pub mod ConflictLines

@@ -17,6 +17,7 @@ use Rattle.sc_show.specs.Prints.{HasPlainNames, choices_of}
 use Rattle.sc_show.specs.Rules.{IsNodeLine, Introduces, nothing, known, node, IntroducesFile, known_file, new_file, Item, list_item, fault_item, ShowsItem, LaysOut, done, left_out, shown, LaidOut, AreFirst, IsBegun, AreMerged, KeepsRules}
 use Rattle.sc_show.specs.Shows.{IsShowable}
 use Rattle.sc_show.proofs.Choices.{both, clear_choices}
+use Rattle.sc_show.proofs.Reducing.{LaysOut-reduced, LaysOut-once, distinct_none}
 use Rattle.sc_show.proofs.Reading.{written-push, clear-push}
 
 both_clear : (lines more : List TextLine) → list_all is_clear lines ≡ true → list_all is_clear more ≡ true → list_all is_clear (lines ++ more) ≡ true
@@ -63,7 +64,7 @@ all_mapped P f [] each = λ k d h. absurd (omega arith)
 all_mapped P f (x ∷ xs) each = All-cons P (f x) (map f xs) (each 0 x (omega arith)) (all_mapped P f xs (λ k d below. each (suc k) d (omega arith)))
 
 AreFirst-Keeps : {old new : Sets} {ks : List Cond} → Keeps old new → AreFirst old ks → AreFirst new ks
-AreFirst-Keeps keeps first = record { never = first.never; always = first.always; none = Denotes-Keeps keeps first.none; all = Denotes-Keeps keeps first.all; are = first.are }
+AreFirst-Keeps keeps first = record { never = first.never; always = first.always; differ = first.differ; none = Denotes-Keeps keeps first.none; all = Denotes-Keeps keeps first.all; are = first.are }
 
 pub KeepsRules-end : {space : Space} {old s : Sets} {names files : List (List ℕ)} {p q : Printer} (list : List (Cond × Token)) (faults merged : List base.Fault) (text : List ℕ) → HasPlainNames space
     → All (λ (name : List ℕ). is_plain name ≡ true) files → All (IsShowable old names files) list → IsCanonical s → Keeps old s → IsBegun old p → AreMerged s files faults merged
@@ -78,6 +79,8 @@ KeepsRules-end {space} {old} {s} {names} {files} {p} {q} list faults merged text
   are_first = AreFirst-Keeps keeps begun.conditions;
   are_merged = are;
   lays = lays;
+  reduced = LaysOut-reduced canonical (AreFirst-Keeps keeps begun.conditions) lays;
+  named_once = LaysOut-once distinct_none lays;
   clear = LaysOut-clear plain plain_files (All-append IsClearItem (map (list_item names) list) (map fault_item merged) tokens others) lays;
   whole = written ∙ ap (λ t. t ++ line_text end_line) (laid.written ∙ ap (λ t. t ++ concat (map line_text laid.lines)) begun.text) ∙ sym (written-push laid.lines end_line);
 }

@@ -11,7 +11,8 @@ use Rattle.sc_base.specs.declared.place.Place as declared_place
 use Rattle.sc_guarded.specs.Items.{faults_at, seen_fault}
 use Rattle.sc_lex.specs.declared.token.Token.{Token}
 use Rattle.sc_lex.specs.Seen.{text_at}
-use Rattle.sc_model.specs.Sets.{Sets, IsConfig, IsCond, Denotes, IsCanonical, IsNever, DependsFrom, IsTop}
+use Rattle.sc_model.specs.Growth.{IsOneToOne}
+use Rattle.sc_model.specs.Sets.{Sets, IsConfig, IsCond, Denotes, IsCanonical, IsNever, IsSame, DependsFrom, IsTop}
 use Rattle.sc_model.specs.Space.{Space, Variable}
 use Rattle.sc_model.specs.Text.{TextLine, condition_line, file_line, token_line, fault_line, end_line, line_text, is_clear}
 use Rattle.sc_show.specs.declared.printer.Printer.{Printer}
@@ -114,6 +115,7 @@ pub record LaidOut (space : Space) (s : Sets) (files : List (List ℕ)) (p q : P
 pub record AreFirst (s : Sets) (conditions : List Cond) : Type 0 where
   pub never : Cond
   pub always : Cond
+  pub differ : never ≡ always → ⊥
   pub none : Denotes s never.0 (λ _. false)
   pub all : Denotes s always.0 (λ _. true)
   pub are : conditions ≡ never ∷ always ∷ []
@@ -129,6 +131,10 @@ pub record AreMerged (s : Sets) (files : List (List ℕ)) (faults merged : List 
   pub ascending : IsAscending (map (seen_fault files) merged)
   pub same : (c : List ℕ) → IsConfig s.arities c → map (seen_fault files) (faults_at s merged c) ≡ map (seen_fault files) (faults_at s faults c)
 
+-- no two numbers stand for conditions with the same configurations
+pub record IsReduced (s : Sets) (conditions : List Cond) : Type 0 where
+  pub one : (i j : ℕ) (a b : Cond) → slice_get conditions i ≡ Some a → slice_get conditions j ≡ Some b → IsSame s a.0 b.0 → i ≡ j
+
 -- The text has the lines of the list's items and then those of its faults, each directly after the lines that it needs, and
 -- the last line. Nothing in a line can be taken for the end of a field, so the text determines its lines.
 pub record KeepsRules (space : Space) (s : Sets) (names files : List (List ℕ)) (list : List (Cond × Token)) (faults : List base.Fault) (text : List ℕ) : Type 0 where
@@ -141,5 +147,7 @@ pub record KeepsRules (space : Space) (s : Sets) (names files : List (List ℕ))
   pub are_first : AreFirst s first
   pub are_merged : AreMerged s files faults merged
   pub lays : LaysOut space s files first [] (map (list_item names) list ++ map fault_item merged) lines conditions files_named
+  pub reduced : IsReduced s conditions
+  pub named_once : IsOneToOne files_named
   pub clear : list_all is_clear lines ≡ true
   pub whole : text ≡ concat (map line_text (lines ++ end_line ∷ []))

@@ -1,4 +1,5 @@
 use Rattle.std.proofs.Common.{◌≡◌, ◌==◌, ◌∷◌, [], ap, sym, ◌∙◌}
+use Rattle.std.proofs.lemmas.Bool.{eq-eqb, true≢false}
 use Rattle.indexmap.specs.IndexSet.{insert_key}
 use Rattle.sc_base.specs.declared.id.Cond.{Cond}
 use Rattle.sc_show.proofs.Steps.{IsTable-first, Prints-nothing, never_always, two_keys}
@@ -24,7 +25,7 @@ returns-clause-first g c =
     let first = c.in_ok-insert.ensures.keys ∙ ap (λ ks. insert_key (λ (a b : Cond). a.0 == b.0) ks c.never.result) c.new-conditions.ensures.empty in
     let keys = two_keys c.never.result c.always.result _ _ other first c.in_ok-insert-2.ensures.keys in
     record {
-      conditions = record { never = c.never.result; always = c.always.result; none = c.never.ensures.meaning; all = c.always.ensures.meaning; are = keys };
+      conditions = record { never = c.never.result; always = c.always.result; differ = λ same. absurd (true≢false (sym (eq-eqb c.always.result.0 c.never.result.0 (ap (λ (k : Cond). k.0) (sym same))) ∙ other)); none = c.never.ensures.meaning; all = c.always.ensures.meaning; are = keys };
       files = c.new-2.ensures.empty;
       text = c.new.ensures.items;
     }
