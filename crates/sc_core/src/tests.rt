@@ -78,7 +78,12 @@ fn tokens_of_files(rt: HostRuntime) -> Result<(), Fail> {
             1,
             "s 0 m.c\nt 1 0:6:1 (\nc 2 A undef:1 1:0\nf 2 5 BadDirective 0:2:1\nend\n",
         ),
-        (NONE, "a /* b", 1, "s 0 m.c\nf 1 3 UnterminatedComment 0:1:3\nend\n"),
+        (
+            NONE,
+            "a /* b",
+            1,
+            "s 0 m.c\nf 1 3 UnterminatedComment 0:1:3\nend\n",
+        ),
     ];
     for (space, main, status, out) in rows {
         assert_ran(&rt, &tokens(&rt, space, main)?, status, out, "");
@@ -89,7 +94,10 @@ fn tokens_of_files(rt: HostRuntime) -> Result<(), Fail> {
 #[test]
 fn refusals(rt: HostRuntime) -> Result<(), Fail> {
     let spaces = [
-        ("[variables]\nA = [1, 1]\n", "superc: space: RepeatedOption A\n"),
+        (
+            "[variables]\nA = [1, 1]\n",
+            "superc: space: RepeatedOption A\n",
+        ),
         ("", "superc: space: NoVariables\n"),
         ("A", "superc: space: NotToml\n"),
     ];
@@ -116,7 +124,13 @@ fn failing_surroundings(rt: HostRuntime) -> Result<(), Fail> {
     let unread = run_failing(&rt, &words, &files, 1, 9)?;
     assert_ran(&rt, &unread, 6, "", "superc: read fault\n");
     let unwritten = run_failing(&rt, &words, &files, 9, 1)?;
-    assert_ran(&rt, &unwritten, 7, "s 0 m.c\nt 1 0:", "superc: write fault\n");
+    assert_ran(
+        &rt,
+        &unwritten,
+        7,
+        "s 0 m.c\nt 1 0:",
+        "superc: write fault\n",
+    );
     Ok(())
 }
 
