@@ -133,10 +133,11 @@ abbrev pub Tells : Bool → Type 0 → Type 0
 Tells true A = A
 Tells false A = A → ⊥
 
--- a text, and whether each configuration is accepted
+-- a text, and whether each configuration is accepted, as where no file is asked for
 pub record HasVerdict (holds : Option Files) (words : List (List ℕ)) (pieces : List (List ℕ)) (accepted : Bool) : Type 0 where
   pub text : HasText holds words pieces
   pub verdict : (files : Files) → holds ≡ Some files → Tells accepted (Accepts files text.asked)
+  pub no_file : text.asked ≡ conflicts → accepted ≡ true
 
 -- the words ask for the tokens of a file in the space of another, and this is so of the space file
 pub record AsksInSpace (words : List (List ℕ)) (holds : Option Files) (P : Files → List ℕ → Type 0) : Type 0 where
@@ -145,13 +146,20 @@ pub record AsksInSpace (words : List (List ℕ)) (holds : Option Files) (P : Fil
   pub asked_is : asked_of words ≡ Ok (tokens space main)
   pub so : (files : Files) → holds ≡ Some files → P files space
 
+-- the words ask for the tokens of a file, and a read failed
+pub record FailsToRead (reading : Reading) (words : List (List ℕ)) : Type 0 where
+  pub space : List ℕ
+  pub main : List ℕ
+  pub asked_is : asked_of words ≡ Ok (tokens space main)
+  pub rose : Rose reading.before reading.after
+
 -- why there is no text
 abbrev pub Complains : Reading → List (List ℕ) → Complaint → Type 0
 Complains reading words (complaint.Usage text) = asked_of words ≡ Err usage
 Complains reading words complaint.BadFile = asked_of words ≡ Err bad_file
 Complains reading words complaint.NoSpace = AsksInSpace words reading.holds (λ files space. files space ≡ None)
 Complains reading words (complaint.BadSpace line) = AsksInSpace words reading.holds (λ files space. RefusesSpace files space line.items)
-Complains reading words complaint.ReadFault = Rose reading.before reading.after
+Complains reading words complaint.ReadFault = FailsToRead reading words
 Complains reading words complaint.OutOfMemory = Unit {0}
 
 -- ---- the outcome

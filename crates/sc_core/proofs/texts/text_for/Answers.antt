@@ -1,4 +1,4 @@
-use Rattle.std.proofs.Common.{◌≡◌, ◌∙◌, ap, sym, Ok, List, ℕ, Result}
+use Rattle.std.proofs.Common.{◌≡◌, ◌∙◌, ap, refl, sym, Ok, List, ℕ}
 use Rattle.std.proofs.lemmas.Result.{IfOk-weaker}
 use Rattle.std.specs.Prelude.{string_bytes}
 use Rattle.sc_args.proofs.FileNames.{file-named}
@@ -22,6 +22,7 @@ returns-in-Tokens-clause-text g c =
     (λ text tells. record {
       text = record { asked = tokens c.as_str.result.now c.as_str-in-Tokens.result.now; asked_is = asked; lines = tells.lines; right = tells.right };
       verdict = tells.verdict;
+      no_file = λ e. cc;
     })
     c.tokens_text.ensures.text
 
@@ -36,4 +37,5 @@ returns-in_ok-conflicts_text-in-Conflicts-clause-text g c =
         right = λ files holds. made.text;
       };
       verdict = λ files holds. tt;
+      no_file = λ e. refl;
     }
