@@ -4,6 +4,7 @@ use std::process::Abort;
 use std::test::Fail;
 
 /// What a run on these words and files wrote and how it ended.
+#[derive(Drop)]
 struct Ran {
     status: u8,
     out: Vec<u8>,
@@ -76,7 +77,7 @@ fn tokens_of_files(rt: HostRuntime) -> Result<(), Fail> {
             ONE,
             "#ifndef A\n#error\n#endif\n/**/ %:\n#pragma x\n(\n",
             1,
-            "s 0 m.c\nt 1 0:6:1 (\nc 2 A undef:1 1:0\nf 2 5 BadDirective 0:2:1\nend\n",
+            "c 2 A undef:0 1:1\ns 0 m.c\nt 2 0:6:1 (\nc 3 A undef:1 1:0\nf 3 5 BadDirective 0:2:1\nend\n",
         ),
         (
             NONE,
