@@ -1,5 +1,5 @@
 -- The choices of a condition's line.
-use Rattle.std.proofs.Common.{◌≡◌, ℕ, zero, suc, ◌+◌, ◌-◌, ◌<◌, ◌==◌, ◌&&◌, ◌||◌, ◌/◌, ◌%◌, not, Bool, true, false, List, [], ◌∷◌, ◌++◌, length, map, take, get_or, slice_index, codes, decimal, refl, sym, ap, ◌∙◌, arith, append-nil, append_assoc, All, add-one, if◌then◌else◌}
+use Rattle.std.proofs.Common.{◌≡◌, ℕ, zero, suc, ◌+◌, ◌<◌, ◌==◌, ◌&&◌, ◌||◌, ◌/◌, ◌%◌, not, Bool, true, false, List, [], ◌∷◌, ◌++◌, length, map, take, get_or, refl, sym, ap, ◌∙◌, arith, append-nil, append_assoc, add-one, if◌then◌else◌}
 use Rattle.std.specs.List.{list_all, list_any, flat_map}
 use Rattle.std.specs.Fmt.{digits, digits_onto, digit_glyph}
 use Rattle.std.proofs.lemmas.List.Concat.{flat_map-append}
@@ -8,7 +8,7 @@ use Rattle.std.proofs.lemmas.Bool.Decides.{nat_tests}
 use Rattle.sc_model.specs.declared.variable_option.VariableOption.{VariableOption}
 use Rattle.sc_model.specs.declared.variable_option.VariableOption.TheVariants.{Undefined, Number}
 use Rattle.sc_model.specs.Space.{option_text}
-use Rattle.sc_model.specs.Text.{choice_text, is_word, is_wordless, is_clear, are_options}
+use Rattle.sc_model.specs.Text.{choice_text, is_word, is_wordless}
 use Rattle.sc_show.specs.Prints.{choices_of}
 
 pub choices_of-nil : (os : List VariableOption) → choices_of os [] ≡ []

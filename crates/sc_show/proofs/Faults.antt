@@ -1,23 +1,21 @@
 -- Faults in another order, and faults of one pair as one.
-use Rattle.std.proofs.Common.{◌≡◌, ℕ, zero, suc, ◌+◌, ◌<◌, ◌≤◌, ◌⊎◌, inl, inr, ◌||◌, Bool, true, false, List, [], ◌∷◌, ◌++◌, length, map, take, slice_get, get_or, Some, All, Contains, refl, sym, ap, subst, ◌∙◌, arith, append_assoc, append-nil, length-append, add-one, if◌then◌else◌}
+use Rattle.std.proofs.Common.{◌≡◌, ℕ, zero, suc, ◌+◌, ◌<◌, ◌≤◌, ◌⊎◌, inl, inr, ◌||◌, Bool, true, false, List, [], ◌∷◌, ◌++◌, length, map, take, slice_get, get_or, Some, All, Contains, refl, sym, ap, subst, ◌∙◌, arith, append-nil, length-append, if◌then◌else◌}
 use Rattle.std.specs.List.Sorted.{IsPermutation}
 use Rattle.std.specs.List.{sum_by}
 use Rattle.std.proofs.Math.ListN.{get_or-append}
 use Rattle.std.proofs.Math.Seq.{get_or-append_seam}
 use Rattle.std.proofs.lemmas.List.{map-append, length-map}
-use Rattle.std.proofs.lemmas.List.Elements.{All-append}
 use Rattle.std.proofs.lemmas.List.Sorted.{Contains-permutation, IsPermutation-sym, sum_by-IsPermutation}
 use Rattle.std.proofs.lemmas.List.Sums.{sum_by-cons}
 use Rattle.sc_base.specs.declared.fault.Fault.{Fault}
 use Rattle.sc_base.specs.declared.id.Cond.{Cond}
 use Rattle.sc_guarded.specs.Items.{faults_at, seen_fault}
-use Rattle.sc_lex.specs.Seen.{seen_place}
 use Rattle.sc_model.specs.Pre as model
 use Rattle.sc_model.specs.Sets.{Sets, IsConfig, IsCond, Denotes, Keeps}
 use Rattle.sc_model.proofs.SetLemmas.{IsConfig-kept, IsConfig-Keeps}
 use Rattle.sc_show.specs.Prints.{when}
 use Rattle.sc_show.specs.Shows.{AreApart}
-use Rattle.sc_show.proofs.Shows.{faults_at-more, faults_at-Keeps, faults_more, map-when}
+use Rattle.sc_show.proofs.Shows.{faults_at-Keeps, faults_more, map-when}
 
 pub All-front : {X : Type 0} (P : X → Type 0) (xs ys : List X) → All P (xs ++ ys) → All P xs
 All-front P xs ys all = λ k d h. subst P (get_or-append xs ys d k h) (all k d (omega (arith, length-append xs ys)))

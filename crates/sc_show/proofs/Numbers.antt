@@ -1,16 +1,16 @@
 -- What numbers of conditions stand for, as more conditions get numbers.
-use Rattle.std.proofs.Common.{◌≡◌, ℕ, zero, suc, ◌+◌, ◌<◌, ◌==◌, ◌||◌, not, cond, Bool, true, false, List, [], ◌∷◌, ◌++◌, length, map, slice_get, slice_index, slice_index_or, position, get_or, Option, Some, None, All, refl, sym, ap, subst, ◌∙◌, arith, length-append, if◌then◌else◌}
+use Rattle.std.proofs.Common.{◌≡◌, ℕ, zero, suc, ◌+◌, ◌<◌, ◌==◌, ◌||◌, not, cond, Bool, true, false, List, [], ◌∷◌, ◌++◌, length, slice_get, slice_index_or, position, get_or, Some, refl, sym, ap, ◌∙◌, arith, if◌then◌else◌}
 use Rattle.std.specs.List.{list_any, position_or_len}
 use Rattle.std.proofs.lemmas.Bool.{true≢false, eqb-true, ltb-true}
 use Rattle.std.proofs.lemmas.List.Sums.{passes_at_first}
 use Rattle.std.proofs.lemmas.List.Elements.{All-append}
-use Rattle.std.proofs.lemmas.Option.{cond_some, slice_get_within, same_Some, slice_get-get_or}
+use Rattle.std.proofs.lemmas.Option.{cond_some, slice_get_within, slice_get-get_or}
 use Rattle.indexmap.specs.IndexSet.{insert_key}
 use Rattle.sc_base.specs.declared.id.Cond.{Cond}
 use Rattle.sc_base.specs.declared.id.FileId.{FileId}
-use Rattle.sc_base.proofs.Growth.{Extends-trans, Extends-push, Extends-refl, Extends-keeps, slice_get-append_seam}
+use Rattle.sc_base.proofs.Growth.{Extends-push, Extends-refl, Extends-keeps}
 use Rattle.sc_model.specs.Growth.{Extends}
-use Rattle.sc_model.specs.Sets.{Sets, IsConfig, IsCond, Denotes, Keeps}
+use Rattle.sc_model.specs.Sets.{Sets, IsConfig, IsCond, Keeps}
 use Rattle.sc_model.specs.Text.{Condition, condition_at}
 use Rattle.sc_model.proofs.SetLemmas.{Denotes-self, Denotes-Keeps, IsConfig-kept}
 use Rattle.sc_show.specs.Prints.{IsNumberOf, IsTable, IsChild, Agrees}

@@ -12,7 +12,7 @@ use Rattle.sc_base.specs.declared.id.Cond.{Cond}
 use Rattle.sc_base.specs.declared.id.FileId.{FileId}
 use Rattle.sc_base.proofs.Growth.{Extends-keeps, slice_get-append_seam, slice_get-append_left}
 use Rattle.sc_model.specs.Growth.{Extends}
-use Rattle.sc_model.specs.Sets.{Sets, IsConfig, IsCond, Denotes, Keeps, IsCanonical, IsNever, IsAlways, DependsOn, DependsFrom, IsTop}
+use Rattle.sc_model.specs.Sets.{Sets, IsConfig, IsCond, Denotes, Keeps, IsCanonical, IsNever, IsAlways, DependsFrom, IsTop}
 use Rattle.sc_model.specs.Space.{Space, Variable}
 use Rattle.sc_model.specs.Text.{TextLine, condition_line, file_line, line_text}
 use Rattle.sc_model.proofs.SetLemmas.{Keeps-trans, IsConfig-kept, DependsFrom-Keeps, IsTop-Keeps, IsConfig-Keeps, IsNever-Keeps, le-IsTop}

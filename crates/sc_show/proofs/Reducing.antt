@@ -1,13 +1,13 @@
 -- Each condition and each file has one number.
-use Rattle.std.proofs.Common.{◌≡◌, ℕ, zero, suc, ◌+◌, ◌<◌, ◌⊎◌, inl, inr, List, [], ◌∷◌, ◌++◌, length, slice_get, get_or, Some, All, refl, sym, ap, subst, ◌∙◌, arith}
+use Rattle.std.proofs.Common.{◌≡◌, ℕ, zero, suc, ◌+◌, ◌<◌, ◌⊎◌, inl, inr, List, [], ◌∷◌, length, slice_get, get_or, Some, All, sym, ap, subst, ◌∙◌, arith}
 use Rattle.std.specs.List.{Contains}
 use Rattle.std.proofs.lemmas.List.Elements.{All-append, All-cons}
-use Rattle.std.proofs.lemmas.Option.{same_Some, slice_get_within, get_or_from_slice_get}
+use Rattle.std.proofs.lemmas.Option.{slice_get_within, get_or_from_slice_get}
 use Rattle.sc_base.specs.declared.id.Cond.{Cond}
 use Rattle.sc_base.specs.declared.id.FileId.{FileId}
 use Rattle.sc_base.proofs.Growth.{IsOneToOne-push}
 use Rattle.sc_model.specs.Growth.{IsOneToOne}
-use Rattle.sc_model.specs.Sets.{Sets, IsCond, IsCanonical, IsSame, DependsFrom}
+use Rattle.sc_model.specs.Sets.{Sets, IsCond, IsCanonical, DependsFrom}
 use Rattle.sc_model.specs.Space.{Space}
 use Rattle.sc_model.specs.Text.{TextLine}
 use Rattle.sc_show.specs.Rules.{IsNodeLine, Introduces, nothing, known, node, IntroducesFile, known_file, new_file, Item, LaysOut, done, left_out, shown, AreFirst, IsReduced}

@@ -1,5 +1,5 @@
 -- The whole text keeps the rules.
-use Rattle.std.proofs.Common.{◌≡◌, ℕ, zero, suc, ◌+◌, ◌<◌, ◌&&◌, Bool, true, false, List, [], ◌∷◌, ◌++◌, length, map, slice_get, get_or, Some, All, refl, sym, ap, subst, ◌∙◌, arith, append-nil, append_assoc}
+use Rattle.std.proofs.Common.{◌≡◌, ℕ, suc, ◌<◌, true, List, [], ◌∷◌, ◌++◌, length, map, get_or, All, refl, sym, ap, subst, ◌∙◌, arith}
 use Rattle.std.specs.List.{concat, list_all}
 use Rattle.std.proofs.lemmas.List.Elements.{All-cons, All-append}
 use Rattle.std.proofs.lemmas.List.Folds.{list_all-append}
@@ -10,15 +10,15 @@ use Rattle.sc_base.specs.declared.id.FileId.{FileId}
 use Rattle.sc_lex.specs.declared.token.Token.{Token}
 use Rattle.sc_model.specs.Sets.{Sets, IsCanonical, Keeps}
 use Rattle.sc_model.specs.Space.{Space, Variable}
-use Rattle.sc_model.specs.Text.{TextLine, condition_line, end_line, line_text, is_clear, is_plain, is_word}
+use Rattle.sc_model.specs.Text.{TextLine, end_line, line_text, is_clear, is_plain, is_word}
 use Rattle.sc_model.proofs.SetLemmas.{Denotes-Keeps}
 use Rattle.sc_show.specs.declared.printer.Printer.{Printer}
-use Rattle.sc_show.specs.Prints.{HasPlainNames, choices_of}
+use Rattle.sc_show.specs.Prints.{HasPlainNames}
 use Rattle.sc_show.specs.Rules.{IsNodeLine, Introduces, nothing, known, node, IntroducesFile, known_file, new_file, Item, list_item, fault_item, ShowsItem, LaysOut, done, left_out, shown, LaidOut, AreFirst, IsBegun, AreMerged, KeepsRules}
 use Rattle.sc_show.specs.Shows.{IsShowable}
 use Rattle.sc_show.proofs.Choices.{both, clear_choices}
 use Rattle.sc_show.proofs.Reducing.{LaysOut-reduced, LaysOut-once, distinct_none}
-use Rattle.sc_show.proofs.Reading.{written-push, clear-push}
+use Rattle.sc_show.proofs.Reading.{written-push}
 
 both_clear : (lines more : List TextLine) → list_all is_clear lines ≡ true → list_all is_clear more ≡ true → list_all is_clear (lines ++ more) ≡ true
 both_clear lines more h k = list_all-append is_clear lines more ∙ both h k

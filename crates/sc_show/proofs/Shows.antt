@@ -1,5 +1,5 @@
 -- What is shown of a list.
-use Rattle.std.proofs.Common.{◌≡◌, ℕ, zero, suc, ◌+◌, ◌<◌, ◌≤◌, ◌⊎◌, inl, inr, ◌||◌, Bool, true, false, List, [], ◌∷◌, ◌++◌, length, map, take, slice_get, get_or, Option, Some, None, unwrap_or, All, refl, sym, ap, subst, ◌∙◌, arith, add-one, append-nil, append_assoc, length-append, if◌then◌else◌}
+use Rattle.std.proofs.Common.{◌≡◌, ℕ, zero, suc, ◌+◌, Bool, true, false, List, [], ◌∷◌, ◌++◌, map, take, slice_get, Some, unwrap_or, All, refl, sym, ap, subst, ◌∙◌, arith, add-one, append_assoc, if◌then◌else◌}
 use Rattle.std.specs.List.{concat, list_all}
 use Rattle.std.proofs.lemmas.List.{map-append}
 use Rattle.std.proofs.lemmas.Option.{same_Some, slice_get_within, get_or_from_slice_get}
@@ -17,7 +17,7 @@ use Rattle.sc_model.specs.Token.{Shown, shown}
 use Rattle.sc_show.specs.declared.printer.Printer.{Printer}
 use Rattle.sc_show.specs.Pieces.{split_lines_after}
 use Rattle.sc_show.specs.Prints.{Prints, when}
-use Rattle.sc_show.specs.Shows.{IsShowable, IsShowableFault, AreApart, Shows}
+use Rattle.sc_show.specs.Shows.{IsShowable, IsShowableFault, Shows}
 use Rattle.sc_show.proofs.Pieces.{split_lines, text_lines}
 use Rattle.sc_show.proofs.Reading.{read_lines-push, written-push, clear-push}
 

@@ -1,6 +1,5 @@
 -- What was printed, with one line more.
-use Rattle.std.proofs.Common.{◌≡◌, ℕ, zero, suc, ◌+◌, ◌<◌, ◌≤◌, ◌⊎◌, inl, inr, ◌==◌, ◌&&◌, ◌||◌, nat_lt, unwrap_or, not, Bool, true, false, List, [], ◌∷◌, ◌++◌, length, map, slice_get, slice_index, get_or, Option, Some, None, option_map, All, refl, sym, ap, subst, ◌∙◌, arith, length-append, append-nil, if◌then◌else◌}
-use Rattle.std.specs.List.{list_all, list_any}
+use Rattle.std.proofs.Common.{◌≡◌, ℕ, zero, suc, ◌+◌, ◌<◌, ◌≤◌, ◌⊎◌, inl, inr, ◌==◌, ◌||◌, nat_lt, unwrap_or, Bool, true, false, List, [], ◌∷◌, ◌++◌, length, map, slice_get, slice_index, get_or, Some, None, option_map, All, refl, sym, ap, subst, ◌∙◌, arith, length-append, if◌then◌else◌}
 use Rattle.std.proofs.lemmas.Bool.{true≢false, eq-eqb, eqb-true, lt-ltb, cases_lt}
 use Rattle.std.proofs.lemmas.List.{map-append, length-map, get_or-map}
 use Rattle.std.proofs.Math.ListN.{get_or-append}
@@ -9,19 +8,18 @@ use Rattle.std.proofs.lemmas.Option.{slice_get-map, slice_get_within, same_Some,
 use Rattle.sc_base.specs.declared.id.Cond.{Cond}
 use Rattle.sc_base.specs.declared.id.FileId.{FileId}
 use Rattle.sc_base.specs.declared.place.Place as declared_place
-use Rattle.sc_base.proofs.Growth.{Extends-trans, Extends-push, Extends-refl, Extends-keeps, slice_get-append_seam, slice_get-append_left}
+use Rattle.sc_base.proofs.Growth.{Extends-trans, Extends-push, Extends-refl, slice_get-append_seam, slice_get-append_left}
 use Rattle.sc_lex.specs.Seen.{text_at, seen_place}
 use Rattle.sc_lex.specs.Spell.{position_of}
 use Rattle.indexmap.specs.IndexSet.{insert_key}
 use Rattle.sc_model.specs.declared.cause.Cause.{Cause}
-use Rattle.sc_model.specs.declared.variable_option.VariableOption.{VariableOption}
 use Rattle.sc_model.specs.Growth.{Extends}
 use Rattle.sc_model.specs.Pre.{Fault}
 use Rattle.sc_model.specs.Sets.{Sets, IsConfig, IsCond, HasOptions, Denotes, Keeps}
-use Rattle.sc_model.specs.Space.{Space, Variable, arities_of, option_text}
-use Rattle.sc_model.specs.Text.{Condition, Reading, TextLine, condition_line, file_line, token_line, fault_line, end_line, line_text, is_clear, is_plain, is_word, read_line, condition_at, chosen, read_condition, variable_from, project, with_condition, with_file, with_token, with_fault, place_of, nothing_read}
+use Rattle.sc_model.specs.Space.{Space, Variable, arities_of}
+use Rattle.sc_model.specs.Text.{Condition, Reading, TextLine, condition_line, file_line, token_line, fault_line, line_text, is_clear, is_plain, is_word, read_line, condition_at, chosen, read_condition, variable_from, project, with_condition, with_file, with_token, with_fault, place_of, nothing_read}
 use Rattle.sc_model.specs.Token.{Place, Shown}
-use Rattle.sc_model.proofs.SetLemmas.{Keeps-trans, IsConfig-kept}
+use Rattle.sc_model.proofs.SetLemmas.{IsConfig-kept}
 use Rattle.sc_space.specs.Seen.{seen_space, seen_variable}
 use Rattle.sc_space.specs.declared.space.Space as declared_space
 use Rattle.sc_space.specs.declared.space.Variable as declared_variable
@@ -29,7 +27,7 @@ use Rattle.sc_show.specs.declared.printer.Printer.{Printer}
 use Rattle.sc_show.specs.Prints.{HasPlainNames, Prints, Continues, Agrees, IsTable, IsNumberOf, IsChild, choices_of, printed_place, when}
 use Rattle.sc_show.proofs.Choices.{both, clear_choices, numbers-choices_of}
 use Rattle.sc_show.proofs.Reading.{read_lines-push, written-push, clear-push, project-push, variable_from-found, condition_at-push, condition_at-last, are_options-choices_of}
-use Rattle.sc_show.proofs.Numbers.{IsNumberOf-grows, IsTable-Keeps, IsTable-push, IsChild-grows, within_IsNumberOf, condition_at-IsNumberOf}
+use Rattle.sc_show.proofs.Numbers.{IsTable-Keeps, IsTable-push, IsChild-grows, within_IsNumberOf, condition_at-IsNumberOf}
 
 -- one line more
 Prints-push : {space : Space} {s : Sets} {files : List (List ℕ)} {p q : Printer} {tokens more_tokens : List ℕ → List Shown} {faults more_faults : List ℕ → List Fault}

@@ -1,7 +1,6 @@
 -- What a printer printed, read so far, and what its numbers stand for.
-use Rattle.std.specs.Prelude.{◌≡◌, ℕ, ◌<◌, Bool, true, false, List, [], ◌∷◌, ◌++◌, length, map, All, Some, slice_get, slice_index, if◌then◌else◌}
+use Rattle.std.specs.Prelude.{◌≡◌, ℕ, Bool, true, false, List, [], ◌∷◌, length, map, All, Some, slice_get, slice_index, if◌then◌else◌}
 use Rattle.std.specs.List.{concat, list_all}
-use Rattle.indexmap.specs.IndexSet.{IndexSet}
 use Rattle.sc_base.specs.declared.id.Cond.{Cond}
 use Rattle.sc_base.specs.declared.id.FileId.{FileId}
 use Rattle.sc_base.specs.declared.place.Place as declared_place

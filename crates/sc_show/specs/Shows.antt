@@ -1,5 +1,5 @@
 -- What the text of a list shows.
-use Rattle.std.specs.Prelude.{◌≡◌, ℕ, ◌<◌, ◌≤◌, List, length, map, true, All}
+use Rattle.std.specs.Prelude.{◌≡◌, ℕ, ◌<◌, ◌≤◌, List, length, map, true}
 use Rattle.std.specs.List.{concat}
 use Rattle.sc_base.specs.declared.fault.Fault as base
 use Rattle.sc_base.specs.declared.id.Cond.{Cond}
@@ -7,8 +7,8 @@ use Rattle.sc_guarded.specs.Items.{items_at, faults_at, seen_fault}
 use Rattle.sc_lex.specs.declared.token.Token.{Token}
 use Rattle.sc_lex.specs.Seen.{IsHeld, seen, text_at}
 use Rattle.sc_model.specs.Sets.{Sets, IsConfig, IsCond}
-use Rattle.sc_model.specs.Space.{Space, arities_of}
-use Rattle.sc_model.specs.Text.{Answer, Reads, project, is_plain, is_word}
+use Rattle.sc_model.specs.Space.{Space}
+use Rattle.sc_model.specs.Text.{Answer, Reads, project, is_plain}
 use Rattle.sc_model.specs.Token.{shown}
 use Rattle.sc_show.specs.Pieces.{split_lines_after}
 

@@ -1,11 +1,5 @@
-use Rattle.std.proofs.Common.{ℕ, ◌++◌, ap, ◌∙◌, sym, arith, take, append_assoc, length, take_all, ◌≡◌}
-use Rattle.std.specs.List.{flat_map}
-use Rattle.sc_model.specs.Text.{choice_text}
-use Rattle.sc_show.specs.Prints.{choices_of}
-use Rattle.sc_show.proofs.Choices.{choices_text-nil, choices_text-take, wide_option, joined}
-use Rattle.sc_show.proofs.Reading.{read_lines-push}
-use Rattle.sc_show.proofs.Numbers.{IsTable-push}
-use Rattle.sc_show.proofs.Steps.{Prints-Keeps}
+use Rattle.std.proofs.Common.{◌++◌, ap, ◌∙◌, arith, take, take_all, ◌≡◌}
+use Rattle.sc_show.proofs.Choices.{choices_text-nil, choices_text-take, joined}
 use Rattle.sc_show.proofs.lines.write_condition.Goals as goal
 
 pub loop-index-init : goal.loop-index-init

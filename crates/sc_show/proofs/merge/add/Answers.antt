@@ -1,4 +1,4 @@
-use Rattle.std.proofs.Common.{◌≡◌, ◌<◌, length, refl, rules, ◌++◌, ◌∷◌, [], ℕ, All, ap, sym, subst, ◌∙◌, map}
+use Rattle.std.proofs.Common.{◌<◌, length, refl, rules, ◌++◌, ◌∷◌, [], All, ap, sym, subst, ◌∙◌, map}
 use Rattle.std.proofs.lemmas.Bool.{true≢false}
 use Rattle.std.proofs.lemmas.List.Elements.{All-append}
 use Rattle.sc_base.specs.declared.fault.Fault.{Fault}

@@ -1,4 +1,4 @@
-use Rattle.std.proofs.Common.{◌≡◌, ◌<◌, ◌≤◌, ◌∙◌, ◌++◌, ◌∷◌, [], ap, sym, refl, subst, map, take, take_all, get_or, length, option_map, All, arith}
+use Rattle.std.proofs.Common.{◌≡◌, ◌<◌, ◌∙◌, ◌∷◌, [], ap, sym, subst, map, take, take_all, get_or, length, option_map, All, arith}
 use Rattle.std.specs.List.Sorted.{IsPermutation}
 use Rattle.std.proofs.lemmas.List.Elements.{All-append}
 use Rattle.std.proofs.lemmas.List.Sorted.{All-permutation}
@@ -6,10 +6,10 @@ use Rattle.std.proofs.lemmas.Option.{slice_get-get_or, slice_get-map}
 use Rattle.sc_base.specs.declared.fault.Fault.{Fault}
 use Rattle.sc_guarded.specs.Items.{faults_at, seen_fault}
 use Rattle.sc_model.specs.Sets.{IsCond}
-use Rattle.sc_model.proofs.SetLemmas.{Keeps-refl, Keeps-trans, IsConfig-kept, IsConfig-Keeps}
+use Rattle.sc_model.proofs.SetLemmas.{Keeps-refl, Keeps-trans, IsConfig-Keeps}
 use Rattle.sc_show.specs.Order.{IsInOrder, IsAscending, MayFollow}
 use Rattle.sc_show.proofs.Ordering.{MayFollow-none, MayFollow-next}
-use Rattle.sc_show.specs.Shows.{IsShowableFault, AreApart}
+use Rattle.sc_show.specs.Shows.{IsShowableFault}
 use Rattle.sc_show.proofs.Shows.{no_fault}
 use Rattle.sc_show.proofs.Faults.{All-one, AreApart-permutation, faults_at-permutation, same_more, apart_more}
 use Rattle.sc_show.proofs.merge.merged.Goals as goal

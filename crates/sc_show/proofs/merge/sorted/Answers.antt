@@ -1,4 +1,4 @@
-use Rattle.std.proofs.Common.{◌≡◌, ◌∙◌, ap, sym, subst, All, map, take, take_all, arith, rules}
+use Rattle.std.proofs.Common.{◌∙◌, ap, sym, subst, map, take_all, arith, rules}
 use Rattle.std.specs.List.Sorted.{IsPermutation}
 use Rattle.std.proofs.lemmas.List.Sorted.{IsPermutation-map, All-permutation, answers_always}
 use Rattle.sc_base.specs.declared.fault.Fault.{Fault}

@@ -1,4 +1,4 @@
-use Rattle.std.proofs.Common.{◌≡◌, ◌<◌, ◌≤◌, ◌++◌, ◌∙◌, ap, sym, refl, subst, map, take, take_all, append-nil, get_or, length, List, ℕ, true, arith}
+use Rattle.std.proofs.Common.{◌≡◌, ◌++◌, ◌∙◌, ap, sym, refl, subst, map, take, take_all, append-nil, get_or, arith}
 use Rattle.sc_guarded.specs.Items.{faults_at, seen_fault}
 use Rattle.sc_model.proofs.SetLemmas.{Keeps-refl, Keeps-trans, IsConfig-kept}
 use Rattle.sc_space.specs.Seen.{seen_space}
@@ -7,8 +7,6 @@ use Rattle.sc_show.proofs.Placing.{LaidOut-nothing, LaidOut-more}
 use Rattle.sc_show.proofs.Shows.{no_fault, faults_more}
 use Rattle.sc_show.proofs.Steps.{Prints-same}
 use Rattle.std.proofs.lemmas.Option.{slice_get-get_or}
-use Rattle.sc_base.specs.declared.fault.Fault.{Fault}
-use Rattle.sc_model.specs.declared.cause.Cause.TheVariants.{NotFound}
 use Rattle.sc_show.proofs.tokens.print_faults.Goals as goal
 
 pub loop-fault-init : goal.loop-fault-init

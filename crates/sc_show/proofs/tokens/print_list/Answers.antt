@@ -1,4 +1,4 @@
-use Rattle.std.proofs.Common.{◌≡◌, ◌<◌, ◌≤◌, ◌++◌, ◌∙◌, ap, sym, refl, subst, map, take, take_all, append-nil, length, List, ℕ, true, arith}
+use Rattle.std.proofs.Common.{◌≡◌, ◌++◌, ◌∙◌, ap, sym, refl, subst, map, take, take_all, append-nil, List, ℕ, true, arith}
 use Rattle.sc_guarded.specs.Items.{items_at}
 use Rattle.sc_lex.specs.Seen.{seen, seen_place}
 use Rattle.sc_model.specs.Text.{is_plain}
@@ -7,7 +7,7 @@ use Rattle.sc_model.proofs.SetLemmas.{Keeps-refl, Keeps-trans, IsConfig-kept}
 use Rattle.sc_space.specs.Seen.{seen_space}
 use Rattle.sc_show.specs.Rules.{list_item, token_item, LaidOut}
 use Rattle.sc_show.proofs.Placing.{LaidOut-nothing, LaidOut-more}
-use Rattle.sc_show.proofs.Shows.{Shows-end, shown_more, showable_at, text_at-slice_get}
+use Rattle.sc_show.proofs.Shows.{shown_more, showable_at, text_at-slice_get}
 use Rattle.sc_show.proofs.Steps.{Prints-same}
 use Rattle.sc_show.proofs.tokens.print_list.Goals as goal
 

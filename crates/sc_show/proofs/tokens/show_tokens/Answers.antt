@@ -1,6 +1,5 @@
-use Rattle.std.proofs.Common.{ℕ, List, ◌≡◌, ◌∙◌, ◌++◌, ap, sym, refl, subst, map, All}
-use Rattle.sc_base.specs.declared.fault.Fault.{Fault}
-use Rattle.sc_guarded.specs.Items.{items_at, faults_at, seen_fault}
+use Rattle.std.proofs.Common.{◌∙◌, ◌++◌, ap, sym, subst, map, All}
+use Rattle.sc_guarded.specs.Items.{faults_at, seen_fault}
 use Rattle.sc_lex.specs.Seen.{seen}
 use Rattle.sc_model.specs.Token.{shown}
 use Rattle.sc_model.proofs.SetLemmas.{Keeps-trans, IsConfig-kept}

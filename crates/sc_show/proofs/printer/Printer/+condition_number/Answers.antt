@@ -1,4 +1,4 @@
-use Rattle.std.proofs.Common.{◌≡◌, ◌⊎◌, ◌+◌, ◌<◌, ◌≤◌, ◌==◌, ◌∙◌, ◌++◌, ◌∷◌, [], ap, sym, refl, subst, length, length-append, rules, arith}
+use Rattle.std.proofs.Common.{◌≡◌, ◌⊎◌, ◌+◌, ◌<◌, ◌≤◌, ◌==◌, ◌∙◌, ap, sym, refl, subst, length, length-append, rules, arith}
 use Rattle.std.proofs.lemmas.Bool.{true≢false}
 use Rattle.indexmap.proofs.CallerLemmas.{Contains-list_any}
 use Rattle.sc_base.specs.declared.id.Cond.{Cond}

@@ -1,4 +1,4 @@
-use Rattle.std.proofs.Common.{◌≡◌, ◌-◌, length, vec_len}
+use Rattle.std.proofs.Common.{◌≡◌, ◌-◌, length}
 use Rattle.sc_model.specs.Sets.{IsCond, Keeps, DependsFrom}
 use Rattle.sc_space.specs.Seen.{seen_space}
 use Rattle.sc_show.specs.Prints.{Continues}

@@ -1,4 +1,4 @@
-use Rattle.std.proofs.Common.{◌≡◌, ◌==◌, ◌∷◌, [], ap, sym, ◌∙◌, refl}
+use Rattle.std.proofs.Common.{◌==◌, sym, ◌∙◌, refl}
 use Rattle.indexmap.proofs.CallerLemmas.{Contains-list_any}
 use Rattle.sc_base.specs.declared.id.FileId.{FileId}
 use Rattle.sc_show.proofs.Numbers.{absent, present, pushed, pushed_at, stays, same_file}

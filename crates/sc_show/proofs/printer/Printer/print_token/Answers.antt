@@ -1,4 +1,4 @@
-use Rattle.std.proofs.Common.{◌≡◌, ◌∙◌, sym, refl, rules}
+use Rattle.std.proofs.Common.{◌∙◌, sym, refl, rules}
 use Rattle.std.proofs.lemmas.Bool.{true≢false}
 use Rattle.sc_model.specs.Sets.{IsNever}
 use Rattle.sc_show.specs.Rules.{token_item}
