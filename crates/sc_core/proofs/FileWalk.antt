@@ -1,5 +1,5 @@
 -- The tokens of a file as the definition has them, and that the walk of its lines is the ordinary one.
-use Rattle.std.proofs.Common.{◌≡◌, ℕ, ◌<◌, List, [], ◌∷◌, ◌++◌, map, drop, Option, Some, None, Result, Ok, Err, refl, sym, ap, ◌∙◌, subst}
+use Rattle.std.proofs.Common.{◌≡◌, ℕ, ◌<◌, List, [], ◌∷◌, ◌++◌, map, drop, Option, Some, None, Ok, Err, refl, sym, ap, ◌∙◌}
 use Rattle.std.proofs.lemmas.List.Elements.{All-head, All-tail, All-nil, All-cons}
 use Rattle.std.specs.Option.{option_map, option_to_list}
 use Rattle.std.specs.Prelude.{All, length, slice_get, unwrap_or}
@@ -9,21 +9,20 @@ use Rattle.sc_core.specs.declared.preprocessed.Preprocessed.{Preprocessed}
 use Rattle.sc_core.specs.declared.walk.Walk.{Walk}
 use Rattle.sc_core.specs.Machine.{run, start}
 use Rattle.sc_core.specs.Mirrors.{Mirrors}
-use Rattle.sc_core.specs.Preprocesses.{Stands, IsOrdinary, IsRefused}
-use Rattle.sc_core.proofs.Machine.{Ends, finishes, stops, Follows, follows}
+use Rattle.sc_core.specs.Preprocesses.{IsOrdinary, IsRefused}
+use Rattle.sc_core.proofs.Machine.{Ends, finishes, stops, follows}
 use Rattle.sc_guarded.specs.Items.{items_at, faults_at, seen_fault}
 use Rattle.sc_lex.specs.declared.token.Token as base
 use Rattle.sc_lex.specs.Seen.{text_at, seen, seen_place, IsHeld}
 use Rattle.sc_lex.specs.Spell as spell
 use Rattle.sc_lex.specs.Spell.{position_of, lexeme_at, Spell, AreTokensOf}
-use Rattle.sc_lines.specs.Nests.{seen_lines}
 use Rattle.sc_model.specs.Lex.{Lexed}
-use Rattle.sc_model.specs.Lines.{lines_of, Group, group_lines, IsTree, Tree, nested}
+use Rattle.sc_model.specs.Lines.{lines_of, Group, IsTree, Tree}
 use Rattle.sc_model.specs.Outside.{Files}
 use Rattle.sc_model.specs.Pre.{Fault, State, Walks, Closes, closed, unexpanded, Enters, stopped, walked, largest_file, initial_state, Pre}
 use Rattle.sc_model.specs.Sets.{Sets}
 use Rattle.sc_model.specs.Space.{Space, initial_macros}
-use Rattle.sc_model.specs.Token.{Position, Lexeme, Token, in_file, name_of}
+use Rattle.sc_model.specs.Token.{Lexeme, Token, in_file, name_of}
 
 abbrev first_or : {X : Type 0} → X → List X → X
 first_or d [] = d

@@ -4,11 +4,11 @@ use Rattle.std.specs.Prelude.{is_none, if◌then◌else◌}
 use Rattle.sc_model.specs.declared.cause.Cause.TheVariants.{BadDirective}
 use Rattle.sc_model.specs.declared.conditional.Conditional.{Conditional}
 use Rattle.sc_model.specs.declared.conditional.Conditional.TheVariants.{If, Ifdef, Ifndef, Elif, Else, Endif}
-use Rattle.sc_model.specs.Lines.{Line, is_directive, conditional_of, hash_place, Group, Branches, empty, plain, section, closing, otherwise, alternative, group_lines, branch_lines, IsGroup, AreBranches, Opens, is_opening}
-use Rattle.sc_model.specs.Pre.{Fault, State, Becomes, unexpanded, Closes, closed, refused, RefusedAt, operand_of, Decides, if_defined, if_undefined, no_name, expression, is_null, is_named, ignored_names, Steps, text, null, stopped, ignored, unknown, Walks, done, line, line_stops, taken, taken_stops, passed, passed_stops, head_stops, WalksBranches, none_taken, last_taken, later_taken, later_passed, later_stops, fault_at, first_place}
+use Rattle.sc_model.specs.Lines.{Line, is_directive, conditional_of, Group, Branches, empty, plain, section, closing, otherwise, alternative, group_lines, branch_lines, IsGroup, AreBranches, Opens, is_opening}
+use Rattle.sc_model.specs.Pre.{Fault, State, unexpanded, Closes, closed, RefusedAt, operand_of, Decides, if_defined, if_undefined, no_name, expression, is_null, is_named, ignored_names, Steps, text, null, ignored, unknown, Walks, done, line, line_stops, taken, taken_stops, passed, passed_stops, head_stops, WalksBranches, none_taken, last_taken, later_stops}
 use Rattle.sc_model.specs.Space.{Macros}
-use Rattle.sc_model.specs.Token.{Place, Token}
-use Rattle.sc_core.specs.Machine.{Machine, acts, place_of, refusal, refusing, turned, put_out, opened, opened_by_name, next_branch, ended, plain_step, step_by, step, run}
+use Rattle.sc_model.specs.Token.{Token}
+use Rattle.sc_core.specs.Machine.{Machine, acts, refusal, refusing, turned, put_out, opened, opened_by_name, next_branch, ended, plain_step, step_by, step, run}
 
 pub run-append : (macros : Macros) (m : Machine) (xs ys : List Line) → run macros m (xs ++ ys) ≡ run macros (run macros m xs) ys
 run-append macros m [] ys = refl

@@ -1,16 +1,16 @@
 -- Which configurations start with a macro of a name.
-use Rattle.std.proofs.Common.{◌≡◌, ℕ, zero, suc, ◌+◌, ◌<◌, ◌≤◌, ◌||◌, ◌&&◌, Bool, true, false, List, [], ◌∷◌, ◌++◌, length, map, take, drop, get_or, Option, Some, None, is_some, eqb, add-one, refl, sym, ap, ◌∙◌, subst, inl, inr, arith}
+use Rattle.std.proofs.Common.{◌≡◌, ℕ, zero, suc, ◌+◌, ◌<◌, ◌||◌, ◌&&◌, Bool, true, false, List, [], ◌∷◌, ◌++◌, length, take, drop, get_or, add-one, refl, sym, ap, ◌∙◌, arith}
 use Rattle.std.proofs.Math.Seq.{drop-cons}
 use Rattle.std.proofs.lemmas.List.{take_more, length-take-le}
 use Rattle.std.proofs.lemmas.Bool.Decides.{nat_tests}
-use Rattle.std.specs.Prelude.{if◌then◌else◌, ◌==◌, slice_get, slice_index}
+use Rattle.std.specs.Prelude.{if◌then◌else◌, ◌==◌, slice_get}
 use Rattle.std.specs.Option.{option_and_then}
 use Rattle.sc_model.specs.declared.variable_option.VariableOption.{VariableOption}
 use Rattle.sc_model.specs.declared.variable_option.VariableOption.TheVariants.{Undefined, Number}
 use Rattle.sc_model.specs.Bytes.{same_bytes}
 use Rattle.sc_model.specs.Sets.{Sets, IsConfig, Denotes}
-use Rattle.sc_core.specs.Variables.{is_defining_option, no_variable, Finds}
-use Rattle.sc_model.specs.Space.{Variable, Space, definition_of, is_defining, variable_definition}
+use Rattle.sc_core.specs.Variables.{is_defining_option, no_variable}
+use Rattle.sc_model.specs.Space.{Variable, definition_of, is_defining, variable_definition}
 
 -- a test that agrees with another at every configuration
 pub Denotes-as : {s : Sets} {a : ℕ} {f : List ℕ → Bool} (g : List ℕ → Bool) → Denotes s a f → ((c : List ℕ) → IsConfig s.arities c → f c ≡ g c) → Denotes s a g

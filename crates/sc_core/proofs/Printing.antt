@@ -23,7 +23,7 @@ use Rattle.sc_model.specs.Lex.{is_newline}
 use Rattle.sc_model.specs.Lines.{onto_first}
 use Rattle.sc_model.proofs.PlainLaws.{lexed-plain}
 use Rattle.sc_model.specs.Pre.{Fault}
-use Rattle.sc_model.specs.Sets.{Sets, IsCond, IsConfig}
+use Rattle.sc_model.specs.Sets.{Sets, IsCond}
 use Rattle.sc_model.specs.Text.{is_plain}
 use Rattle.sc_model.specs.Token.{Lexeme}
 use Rattle.sc_show.specs.Shows.{IsShowable, IsShowableFault, AreApart}

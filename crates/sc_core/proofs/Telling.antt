@@ -1,5 +1,5 @@
 -- That a text tells what ordinary preprocessing gives.
-use Rattle.std.proofs.Common.{◌≡◌, ℕ, ◌==◌, not, Bool, true, false, List, [], ◌∷◌, map, length, Option, Some, None, Result, Ok, Err, arith, refl, sym, ap, ◌∙◌, subst}
+use Rattle.std.proofs.Common.{◌≡◌, ℕ, ◌==◌, not, Bool, true, false, List, [], ◌∷◌, map, length, Result, Ok, Err, arith, refl, sym, ap, ◌∙◌, subst}
 use Rattle.std.proofs.lemmas.Bool.{and_parts}
 use Rattle.std.proofs.lemmas.Bool.Decides.{nat_tests}
 use Rattle.std.proofs.lemmas.Simd.{map-map}
@@ -23,7 +23,7 @@ use Rattle.sc_model.specs.Pre.{Fault, Pre}
 use Rattle.sc_model.specs.Sets.{Sets, IsConfig, IsNever, Keeps}
 use Rattle.sc_model.specs.Space.{Space, IsListed, arities_of}
 use Rattle.sc_model.specs.Text.{Answer, Reads, at, project, unless_refused, is_plain}
-use Rattle.sc_model.specs.Token.{Token, Shown, shown}
+use Rattle.sc_model.specs.Token.{Token, shown}
 use Rattle.sc_show.specs.Rules.{KeepsRules}
 use Rattle.sc_show.specs.Shows.{Shows}
 use Rattle.sc_space.specs.SpaceFile.{read_space}

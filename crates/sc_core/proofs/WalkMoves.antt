@@ -1,5 +1,5 @@
 -- What one move of the walk of all configurations does at each of them.
-use Rattle.std.proofs.Common.{◌≡◌, ℕ, ◌&&◌, ◌||◌, not, Bool, true, false, List, [], ◌∷◌, ◌++◌, map, reverse, length, Option, Some, None, Vec, Global, append-nil, refl, sym, ap, ◌∙◌, subst}
+use Rattle.std.proofs.Common.{◌≡◌, ℕ, ◌&&◌, not, Bool, true, false, List, [], ◌∷◌, ◌++◌, map, reverse, Option, Some, None, Vec, Global, append-nil, refl, sym, ap, ◌∙◌, subst}
 use Rattle.std.proofs.lemmas.List.{reverse-append, map-append}
 use Rattle.std.proofs.lemmas.List.Elements.{All-nil, All-cons, All-head, All-tail, All-push, All-pop, All-append}
 use Rattle.std.specs.Option.{option_to_list}
@@ -9,13 +9,12 @@ use Rattle.sc_base.specs.declared.fault.Fault as base
 use Rattle.sc_base.specs.declared.id.Cond.{Cond}
 use Rattle.sc_core.specs.declared.walk.Section.{Section}
 use Rattle.sc_core.specs.declared.walk.Walk.{Walk}
-use Rattle.sc_core.specs.Machine.{Machine, acts, opened, next_branch, ended, refusing, refusal, put_out, place_of}
+use Rattle.sc_core.specs.Machine.{Machine, acts, opened, next_branch, ended, refusing, refusal, put_out}
 use Rattle.sc_core.specs.Mirrors.{section_at, Mirrors, OwnsSection, Owns, Advances}
 use Rattle.sc_guarded.specs.Items.{items_at, faults_at, seen_fault}
 use Rattle.sc_lex.specs.declared.token.Token.{Token}
-use Rattle.sc_lex.specs.Seen.{seen, seen_place}
+use Rattle.sc_lex.specs.Seen.{seen}
 use Rattle.sc_model.proofs.SetLemmas.{IsConfig-Keeps}
-use Rattle.sc_model.specs.Lines.{Line}
 use Rattle.sc_model.specs.Sets.{Sets, IsConfig, IsCond, Denotes, Keeps}
 
 -- what holds of each item under a weaker fact

@@ -1,7 +1,6 @@
 -- The walk of all configurations at once, seen at one configuration.
 use Rattle.std.specs.Prelude.{◌≡◌, ℕ, Bool, List, map, reverse, All, is_none}
 use Rattle.std.specs.Option.{option_to_list}
-use Rattle.sc_base.specs.declared.fault.Fault as base
 use Rattle.sc_core.specs.declared.walk.Section.{Section}
 use Rattle.sc_core.specs.declared.walk.Walk.{Walk}
 use Rattle.sc_core.specs.Machine.{Machine, acts, step}

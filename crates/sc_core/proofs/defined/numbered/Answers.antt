@@ -1,8 +1,7 @@
-use Rattle.std.proofs.Common.{◌≡◌, ◌∙◌, ◌+◌, sym, ap, subst, ◌||◌, ◌&&◌, Bool, List, ℕ, length, take, get_or, refl, arith}
+use Rattle.std.proofs.Common.{◌≡◌, ◌∙◌, ◌+◌, sym, ap, length, take, refl, arith}
 use Rattle.std.proofs.Math.Seq.{take-length}
-use Rattle.std.specs.Prelude.{◌==◌, slice_index}
+use Rattle.std.specs.Prelude.{slice_index}
 use Rattle.sc_model.proofs.SetLemmas.{Keeps-trans}
-use Rattle.sc_model.specs.Sets.{Denotes}
 use Rattle.sc_model.specs.Space.{is_defining}
 use Rattle.sc_core.proofs.Options.{Denotes-as, defining-more}
 use Rattle.sc_core.proofs.defined.numbered.Goals as goal

@@ -1,4 +1,4 @@
-use Rattle.std.proofs.Common.{◌≡◌, ◌∙◌, ◌<◌, sym, ap, subst, false, ℕ, List, length, map, get_or, arith}
+use Rattle.std.proofs.Common.{◌≡◌, ◌∙◌, ◌<◌, sym, ap, false, length, map, get_or, arith}
 use Rattle.std.proofs.lemmas.List.{length-map, get_or-map}
 use Rattle.sc_model.specs.Bytes.{same_bytes}
 use Rattle.sc_model.specs.Space.{Variable}

@@ -1,8 +1,5 @@
-use Rattle.std.proofs.Common.{◌≡◌, ap, ◌||◌, ◌&&◌, Bool, List, ℕ}
 use Rattle.std.specs.Prelude.{◌==◌, slice_index}
 use Rattle.sc_model.proofs.SetLemmas.{Denotes-Keeps}
-use Rattle.sc_core.specs.Variables.{is_defining_option}
-use Rattle.sc_core.proofs.Options.{Denotes-as}
 use Rattle.sc_core.proofs.defined.with_option.Goals as goal
 
 pub returns-in_ok-apply_or-in-Number-clause-meaning : goal.returns-in_ok-apply_or-in-Number-clause-meaning

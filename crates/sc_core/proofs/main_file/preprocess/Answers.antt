@@ -1,4 +1,4 @@
-use Rattle.std.proofs.Common.{◌≡◌, ◌∙◌, sym, ap, subst}
+use Rattle.std.proofs.Common.{◌∙◌, sym, ap, subst}
 use Rattle.std.specs.Option.{option_map}
 use Rattle.sc_core.specs.Preprocesses.{IsRefused}
 use Rattle.sc_core.specs.Printable.{ArePrintable}

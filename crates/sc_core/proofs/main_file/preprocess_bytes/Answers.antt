@@ -1,4 +1,4 @@
-use Rattle.std.proofs.Common.{◌≡◌, ◌∙◌, sym, ap, subst, ℕ, List, [], map, refl, arith, Err}
+use Rattle.std.proofs.Common.{◌≡◌, ◌∙◌, sym, ap, subst, List, [], map, refl, arith, Err}
 use Rattle.std.proofs.lemmas.Result.{IfOk-weaker}
 use Rattle.sc_core.specs.Preprocesses.{IsRefused}
 use Rattle.std.specs.Prelude.{All}
@@ -8,7 +8,7 @@ use Rattle.sc_model.proofs.SetLemmas.{IsConfig-kept}
 use Rattle.sc_core.proofs.FileWalk.{held, tokens-seen, place-seen, refused-ordinary, walk-ordinary}
 use Rattle.sc_core.proofs.main_file.preprocess_bytes.Goals as goal
 use Rattle.sc_lex.specs.declared.token.Token.{Token}
-use Rattle.sc_lex.specs.Seen.{seen, seen_place}
+use Rattle.sc_lex.specs.Seen.{seen_place}
 use Rattle.sc_lex.specs.Spell as lex
 use Rattle.sc_lex.specs.Spell.{position_of, IsUnendedAt}
 use Rattle.sc_lines.specs.Nests as nests

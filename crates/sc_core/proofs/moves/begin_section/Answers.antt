@@ -1,4 +1,4 @@
-use Rattle.std.proofs.Common.{◌≡◌, ◌&&◌, not, Bool, List, ℕ}
+use Rattle.std.proofs.Common.{◌&&◌, not}
 use Rattle.sc_model.proofs.SetLemmas.{Keeps-trans, Denotes-self, Denotes-Keeps}
 use Rattle.sc_core.proofs.WalkMoves.{begins}
 use Rattle.sc_core.proofs.moves.begin_section.Goals as goal

@@ -1,4 +1,4 @@
-use Rattle.std.proofs.Common.{sym, subst, refl, not, false, List, drop, get_or, map}
+use Rattle.std.proofs.Common.{sym, subst, refl, not, false, drop, get_or, map}
 use Rattle.std.proofs.Math.Seq.{drop-cons}
 use Rattle.sc_lex.specs.declared.token.Token.{Token}
 use Rattle.sc_lex.specs.Seen.{seen}

@@ -1,4 +1,4 @@
-use Rattle.std.proofs.Common.{◌≡◌, ◌∷◌, ◌+◌, ◌∙◌, suc, ap, sym, length, [], take, drop, arith}
+use Rattle.std.proofs.Common.{◌≡◌, ◌∷◌, ◌+◌, ◌∙◌, suc, ap, sym, length, [], take, arith}
 use Rattle.std.proofs.Math.Seq.{take-length, drop-length}
 use Rattle.sc_core.proofs.Writing.{split-first, split-last}
 use Rattle.sc_core.proofs.program.line_length.Goals as goal

@@ -1,4 +1,4 @@
-use Rattle.std.proofs.Common.{[], ◌∙◌, ap, map, None, Some, true, false}
+use Rattle.std.proofs.Common.{[], ap, map, Some, true, false}
 use Rattle.std.proofs.lemmas.Result.{on_ok_weaker}
 use Rattle.sc_lex.specs.Seen.{seen}
 use Rattle.sc_model.specs.declared.conditional.Conditional.TheVariants.{If, Ifdef, Ifndef, Elif, Else, Endif}

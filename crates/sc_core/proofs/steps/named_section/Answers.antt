@@ -1,4 +1,4 @@
-use Rattle.std.proofs.Common.{◌≡◌, [], ◌∙◌, false, map, sym, ap, ℕ, List, Option, Some}
+use Rattle.std.proofs.Common.{[], ◌∙◌, false, map, sym, ap, ℕ, List, Option, Some}
 use Rattle.std.proofs.lemmas.Result.{on_ok_weaker}
 use Rattle.std.specs.Prelude.{unwrap_or}
 use Rattle.sc_lex.specs.Seen.{seen}

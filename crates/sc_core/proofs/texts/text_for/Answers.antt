@@ -1,10 +1,10 @@
-use Rattle.std.proofs.Common.{◌≡◌, ◌∙◌, ap, refl, sym, Ok, List, ℕ}
+use Rattle.std.proofs.Common.{◌∙◌, ap, refl, sym, Ok, List, ℕ}
 use Rattle.std.proofs.lemmas.Result.{IfOk-weaker}
 use Rattle.std.specs.Prelude.{string_bytes}
 use Rattle.sc_args.proofs.FileNames.{file-named}
 use Rattle.sc_args.specs.declared.command.Command.{Command}
 use Rattle.sc_args.specs.Seen.{seen_command}
-use Rattle.sc_args.specs.Words.{Asked, Misuse, tokens, conflicts}
+use Rattle.sc_args.specs.Words.{tokens, conflicts}
 use Rattle.sc_core.proofs.texts.text_for.Goals as goal
 
 pub tokens_text-requires : goal.tokens_text-requires

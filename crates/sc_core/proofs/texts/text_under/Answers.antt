@@ -1,4 +1,4 @@
-use Rattle.std.proofs.Common.{◌≡◌, ◌∙◌, sym, subst, ℕ, List}
+use Rattle.std.proofs.Common.{◌∙◌, sym, subst, List}
 use Rattle.std.specs.Prelude.{All}
 use Rattle.sc_base.specs.declared.fault.Fault as base
 use Rattle.sc_core.proofs.Telling.{tells-tokens}

@@ -1,4 +1,4 @@
-use Rattle.std.proofs.Common.{◌≡◌, ◌∙◌, sym, ap, subst, ℕ, List, length, map, take, get_or, arith, None}
+use Rattle.std.proofs.Common.{◌≡◌, ◌∙◌, sym, ap, subst, length, map, take, arith, None}
 use Rattle.std.proofs.Math.Seq.{take-length}
 use Rattle.sc_lex.specs.Seen.{seen}
 use Rattle.sc_lines.specs.declared.line.Line.{Line}
