@@ -1,3 +1,4 @@
+pub mod Branching
 pub mod Judging
 pub mod Nesting
 pub mod SeenLines

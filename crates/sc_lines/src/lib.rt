@@ -1,6 +1,7 @@
 //! The lines of a file and the nesting of its conditional directives (C11 6.10).
 #![tactic(auto)]
 
+mod branches;
 mod line;
 mod nest;
 mod section;
@@ -8,6 +9,6 @@ mod split;
 mod stop;
 mod tree;
 
-pub use line::{FileTree, Line};
+pub use line::{Branch, FileTree, Line};
 pub use stop::NestStop;
 pub use tree::groups;
