@@ -74,10 +74,13 @@ module _ (ms : List Line) where
       record {
         after = omega arith;
         begins = ap begins_branch (line-is i head (lines ++ next ∷ rest) _ placed refl) ∙ begins;
-        between = (g, record {
-          grouped = w;
-          whole = sym (ap (λ n. take n (drop (i + 1) ms)) size ∙ (ap (λ k. take (length lines) (drop k ms)) start ∙ (ap (take (length lines)) behind ∙ take-append_seam lines (next ∷ rest))));
-        });
+        between = (
+          g,
+          record {
+            grouped = w;
+            whole = sym (ap (λ n. take n (drop (i + 1) ms)) size ∙ (ap (λ k. take (length lines) (drop k ms)) start ∙ (ap (take (length lines)) behind ∙ take-append_seam lines (next ∷ rest))));
+          },
+        );
         ends = ap ends_branch (line-is j next rest _ (past-at ms lines (next ∷ rest) (suc i) j at behind) refl) ∙ ends;
       }
 

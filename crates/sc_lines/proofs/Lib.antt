@@ -1,3 +1,4 @@
+pub mod BranchLaws
 pub mod Branching
 pub mod Judging
 pub mod Nesting

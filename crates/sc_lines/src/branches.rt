@@ -8,7 +8,7 @@ use sc_base::OutOfMemory;
 use sc_model::Conditional;
 use std::alloc::Global;
 
-/// Gives each line that begins a branch its branch. The lines are nested, and have no branches yet.
+/// Gives each line the branch that it begins, where it begins one. The lines are nested.
 pub fn set_branches(alloc: Global, lines: &mut [Line]) -> Result<(), OutOfMemory>
     ensures branches { OnOk result ((ms : List model.Line) (group : model.Group)
         → map model.conditional_of ms ≡ map (λ l. l.conditional) lines.old → model.IsTree ms group → HasBranches ms lines.new) }

@@ -2,6 +2,7 @@
 #![tactic(auto)]
 
 mod branches;
+mod laws;
 mod line;
 mod nest;
 mod section;
@@ -9,6 +10,10 @@ mod split;
 mod stop;
 mod tree;
 
+pub use laws::a_line_begins_one_branch;
 pub use line::{Branch, FileTree, Line};
 pub use stop::NestStop;
 pub use tree::groups;
+
+#[cfg(test)]
+mod tests;

@@ -12,7 +12,7 @@ loop-i-preserved c =
     let at : c.loop-i.i ≡ suc j = omega arith in
     let within : j < length c.loop-i.lines = omega arith in
     let read = read-step c.loop-i.lines c.loop-i.i j nothing c.in_ok-lines.field-0 _ _ at within c.in_ok-lines.ensures.begins c.in_ok-lines.ensures.opens
-        (record { sections = c.loop-i.invariant.sections; branches = c.loop-i.invariant.branches }) in
+    (record { sections = c.loop-i.invariant.sections; branches = c.loop-i.invariant.branches }) in
     record {
       others = map-set_same without_branch c.loop-i.lines j _ nothing refl ∙ c.loop-i.invariant.others;
       sections = read.sections;
