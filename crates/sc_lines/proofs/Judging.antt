@@ -1,5 +1,5 @@
 -- The line at which a nesting fails, by the numbers of lines.
-use Rattle.std.proofs.Common.{◌≡◌, ℕ, zero, suc, ◌+◌, ◌<◌, ◌≤◌, Bool, true, false, List, [], ◌∷◌, ◌++◌, length, map, take, drop, get_or, reverse, Option, Some, None, Err, refl, sym, ap, ◌∙◌, subst, inl, inr, arith}
+use Rattle.std.proofs.Common.{◌≡◌, ℕ, zero, suc, ◌+◌, ◌<◌, Bool, true, false, List, [], ◌∷◌, ◌++◌, length, map, take, drop, get_or, Option, Some, None, Err, refl, sym, ap, ◌∙◌, subst, inl, inr, arith}
 use Rattle.std.proofs.Math.Seq.{split_at, take-length}
 use Rattle.std.proofs.lemmas.Bool.{cases_lt}
 use Rattle.std.proofs.lemmas.List.{take_more, get_or_past, reverse-append}
@@ -11,8 +11,7 @@ use Rattle.sc_lines.specs.Sections.{Sections, nest_by, sections_of}
 use Rattle.sc_lines.proofs.Nesting.{nest, nest_all, nest_all-append, accepted, misplaced_at, open_at_end, head_named}
 use Rattle.sc_model.specs.declared.conditional.Conditional.{Conditional}
 use Rattle.sc_model.specs.declared.conditional.Conditional.TheVariants.{If, Ifdef, Ifndef, Elif, Else, Endif}
-use Rattle.sc_model.specs.Lines.{Line, Group, IsTree, conditional_of, hash_place, Opens, Tree}
-use Rattle.sc_model.specs.Token.{Place}
+use Rattle.sc_model.specs.Lines.{Line, Group, IsTree, conditional_of, Opens, Tree}
 
 -- the sections with their first lines in the place of their numbers
 abbrev pub with_lines : List Line → Sections ℕ → Sections Line

@@ -1,3 +1,5 @@
+pub mod BranchLaws
+pub mod Branching
 pub mod Judging
 pub mod Nesting
 pub mod SeenLines

@@ -1,5 +1,5 @@
 -- The lines of tokens, seen through the tables of texts and of files.
-use Rattle.std.proofs.Common.{◌≡◌, ℕ, zero, suc, ◌-◌, ◌<◌, ◌≤◌, Bool, true, false, List, [], ◌∷◌, ◌++◌, length, map, take, drop, get_or, Option, Some, None, Err, refl, sym, ap, ◌∙◌, subst, inl, inr, arith}
+use Rattle.std.proofs.Common.{◌≡◌, ℕ, zero, suc, ◌-◌, ◌<◌, Bool, true, false, List, [], ◌∷◌, length, map, take, drop, get_or, Option, Some, None, Err, refl, sym, ap, ◌∙◌, subst, inl, inr, arith}
 use Rattle.std.proofs.Math.Seq.{drop-cons}
 use Rattle.std.proofs.Math.ListN.{drop_of_length-le}
 use Rattle.std.proofs.lemmas.Bool.{cases_lt}
@@ -15,7 +15,6 @@ use Rattle.sc_lines.specs.Split.{AreLines, tokens_of, token_lines, conditional_a
 use Rattle.sc_lines.proofs.Judging.{same_at, same_length}
 use Rattle.sc_model.specs.Lex.{is_newline}
 use Rattle.sc_model.specs.Lines as model
-use Rattle.sc_model.specs.Token.{Place}
 
 onto_first-map : {A B : Type 0} (f : A → B) (t : A) (lines : List (List A)) → model.onto_first (f t) (map (map f) lines) ≡ map (map f) (model.onto_first t lines)
 onto_first-map f t [] = refl

@@ -1,4 +1,6 @@
+pub mod Branches
 pub mod Judges
 pub mod Nests
 pub mod Sections
 pub mod Split
+pub mod Unread

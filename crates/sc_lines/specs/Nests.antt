@@ -7,6 +7,7 @@ use Rattle.sc_lex.specs.Seen.{seen, seen_place}
 use Rattle.sc_lines.specs.declared.line.FileTree.{FileTree}
 use Rattle.sc_lines.specs.declared.stop.NestStop.{NestStop}
 use Rattle.sc_lines.specs.declared.stop.NestStop.TheVariants.{Nesting, OutOfMemory}
+use Rattle.sc_lines.specs.Branches.{HasBranches}
 use Rattle.sc_lines.specs.Split.{AreLines}
 use Rattle.sc_model.specs.Lines as model
 
@@ -14,10 +15,11 @@ use Rattle.sc_model.specs.Lines as model
 abbrev pub seen_lines : List (List ℕ) → List (List ℕ) → List Token → List model.Line
 seen_lines names files tokens = model.lines_of (map (seen names files) tokens)
 
--- the tree has the lines of the tokens, which are nested
+-- the tree has the lines of the tokens, which are nested, and their branches
 pub record IsTreeOf (names : List (List ℕ)) (tokens : List Token) (tree : FileTree) : Type 0 where
   pub lines : AreLines names tokens tree.lines.items
   pub nested : (files : List (List ℕ)) → (group : model.Group) × model.IsTree (seen_lines names files tokens) group
+  pub branches : (files : List (List ℕ)) → HasBranches (seen_lines names files tokens) tree.lines.items
 
 -- the nesting is at fault at this place, which is in the file of the tokens
 pub record IsFaultAt (names : List (List ℕ)) (tokens : List Token) (place : Place) : Type 0 where

@@ -1,5 +1,5 @@
 -- The lines of a file's tokens.
-use Rattle.std.specs.Prelude.{◌≡◌, ℕ, ◌<◌, ◌≤◌, List, [], map, Option, slice_range, All, length}
+use Rattle.std.specs.Prelude.{◌≡◌, ℕ, ◌≤◌, List, [], map, Option, slice_range, All, length}
 use Rattle.sc_lex.specs.declared.token.Token.{Token}
 use Rattle.sc_lex.specs.Seen.{seen}
 use Rattle.sc_lines.specs.declared.line.Line.{Line}

@@ -1,6 +1,8 @@
 //! The lines of a file and the nesting of its conditional directives (C11 6.10).
 #![tactic(auto)]
 
+mod branches;
+mod laws;
 mod line;
 mod nest;
 mod section;
@@ -8,6 +10,10 @@ mod split;
 mod stop;
 mod tree;
 
-pub use line::{FileTree, Line};
+pub use laws::a_line_begins_one_branch;
+pub use line::{Branch, FileTree, Line};
 pub use stop::NestStop;
 pub use tree::groups;
+
+#[cfg(test)]
+mod tests;

@@ -23,6 +23,7 @@ pub fn lines(alloc: Global, names: &Names, tokens: &[Token]) -> Result<Vec<Line>
             first,
             end,
             conditional: conditional(names, &tokens[first..end]),
+            branch: None,
         })?;
         first = end + 1;
     }

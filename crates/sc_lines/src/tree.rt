@@ -4,6 +4,7 @@ ghost use Rattle.sc_model.specs.Lines as model;
 ghost use Rattle.sc_lines.specs.Judges.{Judges, no_token};
 ghost use Rattle.sc_lines.specs.Nests.{IsTreeOf, Refuses};
 
+use crate::branches::set_branches;
 use crate::nest::nest;
 use crate::section::Open;
 use crate::split::lines;
@@ -18,9 +19,12 @@ pub fn groups(alloc: Global, names: &Names, tokens: &[Token]) -> Result<FileTree
     ensures ok { IfOk result (IsTreeOf names.now tokens.now) }
     ensures err { IfErr result (Refuses names.now tokens.now) }
 {
-    let lines = lines(alloc, names, tokens)?;
+    let mut lines = lines(alloc, names, tokens)?;
     match fault_line(alloc, &lines)? {
-        None => Ok(FileTree { lines }),
+        None => {
+            set_branches(alloc, &mut lines)?;
+            Ok(FileTree { lines })
+        }
         Some(at) => Err(NestStop::Nesting(place_of(tokens, &lines[at]))),
     }
 }

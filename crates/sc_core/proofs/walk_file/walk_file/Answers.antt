@@ -23,7 +23,7 @@ loop-line-init g c = record {
 
 pub walk_line-requires-clause-directive : goal.walk_line-requires-clause-directive
 walk_line-requires-clause-directive g c =
-    directive-at c.args.names.now c.args.tokens.now c.args.lines.now c.requires.lines c.loop-line.line-index (record { first = 0; end = 0; conditional = None }) c.loop-line-test.true
+    directive-at c.args.names.now c.args.tokens.now c.args.lines.now c.requires.lines c.loop-line.line-index (record { first = 0; end = 0; conditional = None; branch = None }) c.loop-line-test.true
 
 pub returns-in_err-walk_line-clause-keeps : goal.returns-in_err-walk_line-clause-keeps
 returns-in_err-walk_line-clause-keeps g c = Keeps-trans c.loop-line.invariant.keeps c.walk_line.ensures.keeps
@@ -34,13 +34,13 @@ loop-line-preserved g c = record {
   keeps = Keeps-trans c.loop-line.invariant.keeps c.in_ok-walk_line.ensures.keeps;
   printable = λ file all.
       c.in_ok-walk_line.ensures.printable file
-      (line-printable c.args.names.now file c.args.tokens.now c.args.lines.now c.requires.lines all c.loop-line.line-index (record { first = 0; end = 0; conditional = None }) c.loop-line-test.true)
+      (line-printable c.args.names.now file c.args.tokens.now c.args.lines.now c.requires.lines all c.loop-line.line-index (record { first = 0; end = 0; conditional = None; branch = None }) c.loop-line-test.true)
       (c.loop-line.invariant.printable file all);
   at = λ files config listed.
       let f = λ (line : Line). map (seen c.args.names.now files) (tokens_of c.args.tokens.now line) in
       let macros = initial_macros (seen_space c.args.space.now) config in
       subst (Mirrors (g.C.Conditions.sets c.walk_line.new.conds) c.args.names.now files c.walk_line.new.walk config)
-      (sym (run-more macros start f c.args.lines.now c.loop-line.line-index (record { first = 0; end = 0; conditional = None }) c.loop-line-test.true))
+      (sym (run-more macros start f c.args.lines.now c.loop-line.line-index (record { first = 0; end = 0; conditional = None; branch = None }) c.loop-line-test.true))
       (c.in_ok-walk_line.ensures.steps.at files config (run macros start (map f (take c.loop-line.line-index c.args.lines.now)))
       (IsConfig-Keeps c.loop-line.invariant.keeps listed) (c.loop-line.invariant.at files config listed));
 }

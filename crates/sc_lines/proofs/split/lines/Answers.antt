@@ -1,8 +1,7 @@
-use Rattle.std.proofs.Common.{◌≡◌, ◌∙◌, sym, ap, [], ◌++◌, map, drop, List, append-nil, refl}
+use Rattle.std.proofs.Common.{◌≡◌, ◌∙◌, sym, ap, [], ◌++◌, map, drop, append-nil}
 use Rattle.std.proofs.Math.ListN.{drop_of_length-le}
 use Rattle.std.proofs.lemmas.Simd.{map-map}
-use Rattle.sc_lex.specs.declared.token.Token.{Token}
-use Rattle.sc_lines.specs.Split.{AreLines, tokens_of, token_lines, conditional_at}
+use Rattle.sc_lines.specs.Split.{tokens_of, token_lines, conditional_at}
 use Rattle.sc_lines.proofs.split.lines.Goals as goal
 
 pub returns : goal.returns

@@ -1,4 +1,4 @@
-use Rattle.std.proofs.Common.{◌≡◌, ◌++◌, ◌-◌, ℕ, ◌≤◌, length, map, drop}
+use Rattle.std.proofs.Common.{◌≡◌, ◌++◌, ◌-◌, ◌≤◌, length, map, drop}
 use Rattle.std.specs.Prelude.{All}
 use Rattle.sc_lines.specs.Split.{tokens_of, token_lines, conditional_at}
 use Rattle.sc_lines.proofs.split.lines.Given as goal

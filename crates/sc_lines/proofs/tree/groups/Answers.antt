@@ -1,13 +1,19 @@
-use Rattle.std.proofs.Common.{◌≡◌, ◌∙◌, sym, ap, subst, ℕ, List, map, None, Some, arith}
+use Rattle.std.proofs.Common.{◌≡◌, ◌∙◌, sym, ap, subst, ℕ, List, map, arith}
+use Rattle.std.proofs.lemmas.List.{with_items_is}
 use Rattle.std.proofs.lemmas.List.Elements.{All-get_or}
+use Rattle.std.specs.Vec.{with_items}
 use Rattle.sc_lex.specs.declared.token.Token.{Token}
 use Rattle.sc_lines.specs.declared.line.Line.{Line}
+use Rattle.sc_lines.specs.Branches.{HasBranches, without_branch}
 use Rattle.sc_lines.specs.Judges.{Judges, FailsAt, no_token}
 use Rattle.sc_lines.specs.Nests.{seen_lines}
+use Rattle.sc_lines.specs.Split.{AreLines}
+use Rattle.sc_lines.proofs.Branching.{lines-same}
+use Rattle.sc_lines.proofs.Judging.{same_length}
 use Rattle.sc_lines.proofs.SeenLines.{conditionals-seen, fails, fault-within, fault-first, fault-tree}
 use Rattle.sc_model.specs.Lines as model
 use Rattle.sc_lines.proofs.tree.groups.Goals as goal
-use Rattle.sc_lines.proofs.tree.groups.Goals.{In_ok-fault_line, In-Some}
+use Rattle.sc_lines.proofs.tree.groups.Goals.{In_ok-fault_line, In-None, In-Some}
 
 -- how the nesting of the lines was judged
 judged : (c : In_ok-fault_line) → (ms : List model.Line) → map model.conditional_of ms ≡ map (λ l. l.conditional) c.in_ok-lines.lines.items → Judges ms c.in_ok-fault_line.field-0
@@ -26,13 +32,33 @@ pub place_of-requires : goal.place_of-requires
 place_of-requires c =
     fault-first c.args.names.now c.args.tokens.now c.in_ok-lines.lines.items c.in_ok-lines.ensures c.in-Some.at (failed (goal.at.place_of-requires c).In-Some) c.index.result.now c.index.ensures
 
-pub returns-in-None-clause-ok : goal.returns-in-None-clause-ok
-returns-in-None-clause-ok c = record {
-  lines = c.in_ok-lines.ensures;
-  nested = λ files.
-      subst (Judges (seen_lines c.args.names.now files c.args.tokens.now)) c.in-None.is
-      (judged (goal.at.returns-in-None-clause-ok c).In_ok-fault_line (seen_lines c.args.names.now files c.args.tokens.now) (conditionals-seen c.args.names.now files c.args.tokens.now c.in_ok-lines.lines.items c.in_ok-lines.ensures));
-}
+nested : (c : In-None) → (files : List (List ℕ)) → (group : model.Group) × model.IsTree (seen_lines c.args.names.now files c.args.tokens.now) group
+unfolding judged
+nested c files =
+    let seen = seen_lines c.args.names.now files c.args.tokens.now in
+    subst (Judges seen) c.in-None.is
+    (c.in_ok-fault_line.ensures seen
+    (conditionals-seen c.args.names.now files c.args.tokens.now c.in_ok-lines.lines.items c.in_ok-lines.ensures ∙ ap (map (λ (l : Line). l.conditional)) (sym c.deref.ensures.value)))
+
+pub returns-in_ok-set_branches-in-None-clause-ok : goal.returns-in_ok-set_branches-in-None-clause-ok
+returns-in_ok-set_branches-in-None-clause-ok c =
+    let names = c.args.names.now in
+    let tokens = c.args.tokens.now in
+    let lines = c.in_ok-lines.lines.items in
+    let found = c.set_branches.new.lines in
+    let set = c.in_ok-set_branches-in-None.ensures in
+    let tree = nested (goal.at.returns-in_ok-set_branches-in-None-clause-ok c).In-None in
+    let others : map without_branch found ≡ map without_branch lines = set.others ∙ ap (map without_branch) c.deref_mut.ensures.value in
+    let written : found ≡ (with_items c.in_ok-lines.lines found).items =
+    sym (with_items_is c.in_ok-lines.lines found (same_length without_branch without_branch found lines others ∙ sym c.in_ok-lines.lines.ok.0)) in
+    record {
+      lines = subst (AreLines names tokens) written (lines-same names tokens found lines others c.in_ok-lines.ensures);
+      nested = tree;
+      branches = λ files.
+          subst (HasBranches (seen_lines names files tokens)) written
+          (set.branches (seen_lines names files tokens) (tree files).0
+          (conditionals-seen names files tokens lines c.in_ok-lines.ensures ∙ ap (map (λ (l : Line). l.conditional)) (sym c.deref_mut.ensures.value)) (tree files).1);
+    }
 
 pub returns-in-Some-clause-err : goal.returns-in-Some-clause-err
 returns-in-Some-clause-err c = record {
