@@ -1,5 +1,5 @@
 -- A line begins one branch or none.
-use Rattle.std.proofs.Common.{◌≡◌, ℕ, zero, suc, ◌+◌, ◌-◌, ◌<◌, Bool, true, false, List, [], ◌∷◌, ◌++◌, length, take, drop, get_or, Option, Some, None, refl, sym, ap, ◌∙◌, subst, inl, inr, arith}
+use Rattle.std.proofs.Common.{◌≡◌, ℕ, zero, suc, ◌+◌, ◌-◌, ◌<◌, true, false, List, [], ◌∷◌, ◌++◌, length, take, drop, get_or, Option, Some, None, refl, sym, ap, ◌∙◌, subst, inl, inr, arith}
 use Rattle.std.proofs.lemmas.Bool.{cases_lt}
 use Rattle.std.proofs.lemmas.List.{get_or-drop, get_or_past, length-drop}
 use Rattle.std.specs.Option.{option_and_then}
@@ -7,7 +7,7 @@ use Rattle.sc_lines.specs.Branches.{begins_branch, ends_branch, IsNextBranch, Cl
 use Rattle.sc_lines.specs.declared.line.Branch.{Branch}
 use Rattle.sc_lines.specs.Judges.{line_at}
 use Rattle.sc_lines.specs.Sections.{nest_by}
-use Rattle.sc_lines.proofs.Nesting.{nest, nest_all, nest_all-append, nest-group}
+use Rattle.sc_lines.proofs.Nesting.{nest_all, nest_all-append, nest-group}
 use Rattle.sc_model.specs.declared.conditional.Conditional.{Conditional}
 use Rattle.sc_model.specs.declared.conditional.Conditional.TheVariants.{If, Ifdef, Ifndef, Elif, Else, Endif}
 use Rattle.sc_model.specs.Lines.{Line, conditional_of, Group, group_lines}
