@@ -2,6 +2,7 @@ pub mod Bytes
 pub mod Cause
 pub mod Grammar
 pub mod Growth
+pub mod Layout
 pub mod Lex
 pub mod Lines
 pub mod Outside

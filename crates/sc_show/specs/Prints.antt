@@ -52,26 +52,12 @@ pub record Agrees (s : Sets) (conditions : List Cond) (tests : List Condition) :
   pub long : length tests ≡ length conditions
   pub each : (n : ℕ) (cond : Cond) → slice_get conditions n ≡ Some cond → (c : List ℕ) → IsConfig s.arities c → condition_at tests n c ≡ s.has cond.0 c
 
--- The text so far reads as these tokens and these faults at each configuration.
-pub record Prints (space : Space) (s : Sets) (files : List (List ℕ)) (printer : Printer) (tokens : List ℕ → List Shown) (faults : List ℕ → List Fault) : Type 0 where
-  pub lines : List TextLine
-  pub reading : Reading
+-- These lines are the text so far, and read from the first to the last they give the conditions and the files their numbers.
+pub record Prints (space : Space) (s : Sets) (files : List (List ℕ)) (printer : Printer) (lines : List TextLine) : Type 0 where
   pub clear : list_all is_clear lines ≡ true
   pub written : printer.text.items ≡ concat (map line_text lines)
+  pub reading : Reading
   pub read : read_lines space nothing_read lines ≡ Some reading
   pub unended : reading.ended ≡ false
   pub conditions : Agrees s printer.conditions.keys reading.conditions
   pub names : reading.files ≡ map (λ (f : FileId). text_at files f.0) printer.files.keys
-  pub tokens_are : (c : List ℕ) → IsConfig s.arities c → project reading.answer.tokens c ≡ tokens c
-  pub faults_are : (c : List ℕ) → IsConfig s.arities c → project reading.answer.faults c ≡ faults c
-
--- The printer wrote what its numbers need and nothing more.
-pub record Continues (space : Space) (old new : Sets) (p q : Printer) : Type 0 where
-  pub table : IsTable new q.conditions.keys
-  pub grows : Extends p.conditions.keys q.conditions.keys
-  pub same_files : q.files.keys ≡ p.files.keys
-  pub prints : (files : List (List ℕ)) (tokens : List ℕ → List Shown) (faults : List ℕ → List Fault) → Prints space old files p tokens faults → Prints space new files q tokens faults
-
--- the item at the configurations of a condition
-abbrev pub when : {T : Type 0} → Bool → T → List T
-when holds item = if holds then item ∷ [] else []

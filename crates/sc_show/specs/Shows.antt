@@ -3,13 +3,14 @@ use Rattle.std.specs.Prelude.{◌≡◌, ℕ, ◌<◌, ◌≤◌, List, length, 
 use Rattle.std.specs.List.{concat}
 use Rattle.sc_base.specs.declared.fault.Fault as base
 use Rattle.sc_base.specs.declared.id.Cond.{Cond}
-use Rattle.sc_guarded.specs.Items.{items_at, faults_at, seen_fault}
+use Rattle.sc_guarded.specs.Items.{faults_at, seen_fault}
 use Rattle.sc_lex.specs.declared.token.Token.{Token}
 use Rattle.sc_lex.specs.Seen.{IsHeld, seen, text_at}
+use Rattle.sc_model.specs.Layout.{IsTextOf, AreAlike}
 use Rattle.sc_model.specs.Sets.{Sets, IsConfig, IsCond}
 use Rattle.sc_model.specs.Space.{Space}
-use Rattle.sc_model.specs.Text.{Answer, Reads, project, is_plain}
-use Rattle.sc_model.specs.Token.{shown}
+use Rattle.sc_model.specs.Text.{Condition, Answer, project, is_plain}
+use Rattle.sc_model.specs.Token.{Shown, shown}
 use Rattle.sc_show.specs.Pieces.{split_lines_after}
 
 -- an item that can be shown: its condition was made, its token is held, and its spelling and file are of one line
@@ -27,12 +28,16 @@ pub record IsShowableFault (s : Sets) (files : List (List ℕ)) (f : base.Fault)
 pub record AreApart (s : Sets) (faults : List base.Fault) : Type 0 where
   pub few : (c : List ℕ) → IsConfig s.arities c → length (faults_at s faults c) ≤ 1
 
--- The text reads as an answer that has at each configuration the tokens of the list and its fault.
+-- the items as they are shown, under the sets of their conditions
+abbrev pub shown_items : Sets → List (List ℕ) → List (List ℕ) → List (Cond × Token) → List (Condition × Shown)
+shown_items s names files list = map (λ item. (s.has item.0.0, shown (seen names files item.1))) list
+
+-- The text is that of an answer with the tokens of the list under their conditions and, at each configuration, its fault.
 pub record Shows (space : Space) (s : Sets) (names files : List (List ℕ)) (list : List (Cond × Token)) (faults : List base.Fault) (text : List ℕ) : Type 0 where
   pub pieces : List (List ℕ)
   pub answer : Answer
   pub whole : text ≡ concat pieces
-  pub reads : Reads space pieces answer
   pub cut : split_lines_after text ≡ pieces
-  pub tokens : (c : List ℕ) → IsConfig s.arities c → project answer.tokens c ≡ map (λ t. shown (seen names files t)) (items_at s list c)
+  pub text_of : IsTextOf space pieces answer
+  pub tokens : AreAlike space (shown_items s names files list) answer.tokens
   pub faults_are : (c : List ℕ) → IsConfig s.arities c → project answer.faults c ≡ map (seen_fault files) (faults_at s faults c)
