@@ -4,7 +4,7 @@ use Rattle.std.proofs.lemmas.Bool.{and_parts}
 use Rattle.std.proofs.lemmas.Bool.Decides.{nat_tests}
 use Rattle.std.proofs.lemmas.Simd.{map-map}
 use Rattle.std.proofs.lemmas.List.Elements.{All-nil, All-cons, All-head, All-tail}
-use Rattle.std.specs.List.{concat, list_all, list_any}
+use Rattle.std.specs.List.{list_all, list_any}
 use Rattle.std.specs.Prelude.{All, nat_le, ◌||◌, if◌then◌else◌}
 use Rattle.sc_args.specs.Words.{is_file_name}
 use Rattle.sc_base.specs.declared.fault.Fault as base
@@ -16,15 +16,17 @@ use Rattle.sc_core.specs.Texts.{TellsTokens}
 use Rattle.sc_core.proofs.WalkMoves.{items-kept, faults-kept}
 use Rattle.sc_guarded.specs.Items.{items_at, faults_at, seen_fault}
 use Rattle.sc_lex.specs.Seen.{seen}
+use Rattle.sc_model.proofs.Alike.{AreAlike-project}
 use Rattle.sc_model.proofs.PreLaws.{pre-unique}
 use Rattle.sc_model.proofs.SetLemmas.{IsConfig-Keeps}
+use Rattle.sc_model.specs.Layout.{IsTextOf}
 use Rattle.sc_model.specs.Outside.{Files}
 use Rattle.sc_model.specs.Pre.{Fault, Pre}
 use Rattle.sc_model.specs.Sets.{Sets, IsConfig, IsNever, Keeps}
 use Rattle.sc_model.specs.Space.{Space, IsListed, arities_of}
-use Rattle.sc_model.specs.Text.{Answer, Reads, at, project, unless_refused, is_plain}
+use Rattle.sc_model.specs.Text.{Answer, at, project, unless_refused, is_plain}
 use Rattle.sc_model.specs.Token.{Token, shown}
-use Rattle.sc_show.specs.Rules.{KeepsRules}
+use Rattle.sc_show.proofs.ShownItems.{project-shown_items}
 use Rattle.sc_show.specs.Shows.{Shows}
 use Rattle.sc_space.specs.SpaceFile.{read_space}
 
@@ -80,7 +82,7 @@ tells-by true Never Accepted none some accepted never = λ all. some refl (never
 tells-by false Never Accepted none some accepted never = accepted (none refl)
 
 module _ {s new : Sets} (keeps : Keeps s new) (names files : List (List ℕ)) (space : Space) (outside : Files) (main : List ℕ) (p : Preprocessed) (text : Text)
-    (shows : Shows space new names files p.list p.faults.items text.lines.items) (rules : KeepsRules space new names files p.list p.faults.items text.lines.items) (owns : OwnsList s p) (arities : s.arities ≡ arities_of space)
+    (shows : Shows space new names files p.list p.faults.items text.lines.items) (owns : OwnsList s p) (arities : s.arities ≡ arities_of space)
     (ordinary : (config : List ℕ) → IsListed space config → IsOrdinary s names files p (Pre space outside main config) config)
     (none : text.is_refused ≡ false → All (λ (f : base.Fault). IsNever s f.cond.0) p.faults.items)
     (some : text.is_refused ≡ true → All (λ (f : base.Fault). IsNever s f.cond.0) p.faults.items → ⊥) where
@@ -98,7 +100,7 @@ module _ {s new : Sets} (keeps : Keeps s new) (names files : List (List ℕ)) (s
         ordinary = o.answer;
         preprocessed = o.preprocessed;
         same = told shows.answer config o.answer (map (seen names files) (items_at s p.list config)) (map (seen_fault files) (faults_at s p.faults.items config))
-            (shows.tokens config (IsConfig-Keeps keeps now)
+            (sym (AreAlike-project config listed shows.tokens) ∙ project-shown_items new names files p.list config
             ∙ (ap (map (λ t. shown (seen names files t))) (items-kept keeps config now p.list owns.list) ∙ sym (map-map shown (seen names files) (items_at s p.list config))))
             (shows.faults_are config (IsConfig-Keeps keeps now) ∙ ap (map (seen_fault files)) (faults-kept keeps config now p.faults.items owns.faults))
             o.stands;
@@ -121,15 +123,7 @@ module _ {s new : Sets} (keeps : Keeps s new) (names files : List (List ℕ)) (s
   pub tells-tokens : TellsTokens space outside main text
   tells-tokens = record {
     answer = shows.answer;
-    reads = subst (λ pieces. Reads space pieces shows.answer) (sym shows.cut) shows.reads;
-    format = record {
-      sets = new;
-      names = names;
-      files = files;
-      list = p.list;
-      faults = p.faults.items;
-      kept = subst (KeepsRules space new names files p.list p.faults.items) (shows.whole ∙ ap concat (sym shows.cut)) rules;
-    };
+    text_of = subst (λ pieces. IsTextOf space pieces shows.answer) (sym shows.cut) shows.text_of;
     ordinary = ordinary-at;
     verdict = tells-by text.is_refused (All (λ (f : base.Fault). IsNever s f.cond.0) p.faults.items) ((config : List ℕ) → IsListed space config → (ts : List Token) × Pre space outside main config (Ok ts)) none some all-accepted none-refused;
   }

@@ -1,10 +1,7 @@
 -- What a run of the program does, by its status.
 use Rattle.std.specs.Prelude.{◌≡◌, ℕ, ◌⊎◌, Bool, true, false, List, [], ◌∷◌, codes, map, All, Option, Some, None, Result, Ok, Err}
-use Rattle.std.specs.List.{Contains, concat}
+use Rattle.std.specs.List.{Contains}
 use Rattle.std.specs.Prelude.{◌↔◌}
-use Rattle.sc_base.specs.declared.fault.Fault as base
-use Rattle.sc_base.specs.declared.id.Cond.{Cond}
-use Rattle.sc_lex.specs.declared.token.Token as lexed
 use Rattle.sc_args.specs.Words.{Asked, tokens, conflicts, usage, bad_file, asked_of}
 use Rattle.sc_core.specs.declared.complaint.Complaint.{Complaint}
 use Rattle.sc_core.specs.declared.complaint.Complaint.TheVariants as complaint
@@ -16,16 +13,15 @@ use Rattle.sc_lalr.specs.Tables.{InOrder}
 use Rattle.sc_model.specs.declared.grammar.Conflict.{Conflict}
 use Rattle.sc_model.specs.declared.grammar.Grammar.{Grammar}
 use Rattle.sc_model.specs.Grammar.{entries_of}
+use Rattle.sc_model.specs.Layout.{IsTextOf}
 use Rattle.sc_model.specs.Outside.{Files, Rose, Write, Writes, WritesPart, whole_write}
 use Rattle.sc_model.specs.Pre.{Fault, Pre}
-use Rattle.sc_model.specs.Sets.{Sets}
 use Rattle.sc_model.specs.Space.{Space, IsListed}
 use Rattle.sc_model.specs.Tables.{IsStates, IsConflict}
-use Rattle.sc_model.specs.Text.{Answer, Reads, at}
+use Rattle.sc_model.specs.Text.{Answer, at}
 use Rattle.sc_model.specs.Token.{Shown, Token, shown}
 use Rattle.sc_show.specs.Conflicts.{conflict_pieces}
 use Rattle.sc_show.specs.Pieces.{IsLine}
-use Rattle.sc_show.specs.Rules.{KeepsRules}
 use Rattle.sc_source.specs.Sink.{WritesCut}
 use Rattle.sc_space.specs.SpaceFile as file
 use Rattle.sc_space.specs.SpaceFile.{read_space}
@@ -72,22 +68,12 @@ pub record RefusesSpace (files : Files) (name line : List ℕ) : Type 0 where
   pub read : read_space bytes ≡ Err fault
   pub told : line ≡ space_line fault
 
--- The pieces are the lines that the rules of the format give for a list of tokens and faults under conditions.
-pub record KeepsFormat (space : Space) (pieces : List (List ℕ)) : Type 0 where
-  pub sets : Sets
-  pub names : List (List ℕ)
-  pub files : List (List ℕ)
-  pub list : List (Cond × lexed.Token)
-  pub faults : List base.Fault
-  pub kept : KeepsRules space sets names files list faults (concat pieces)
-
 -- The pieces are the lines of a text that keeps the rules of the format and is right at every configuration.
 pub record IsTokensText (files : Files) (name main : List ℕ) (pieces : List (List ℕ)) : Type 0 where
   pub space : Space
   pub has_space : HasSpace files name space
   pub answer : Answer
-  pub reads : Reads space pieces answer
-  pub format : KeepsFormat space pieces
+  pub text : IsTextOf space pieces answer
   pub ordinary : (config : List ℕ) → IsListed space config → IsOrdinaryAt space files main answer config
 
 -- ordinary preprocessing refuses no configuration
@@ -113,9 +99,9 @@ pub record IsConflictsText (pieces : List (List ℕ)) : Type 0 where
 
 -- ---- what was asked for
 
-abbrev pub IsTextOf : Files → Asked → List (List ℕ) → Type 0
-IsTextOf files (tokens space main) pieces = IsTokensText files space main pieces
-IsTextOf files conflicts pieces = IsConflictsText pieces
+abbrev pub IsAskedText : Files → Asked → List (List ℕ) → Type 0
+IsAskedText files (tokens space main) pieces = IsTokensText files space main pieces
+IsAskedText files conflicts pieces = IsConflictsText pieces
 
 abbrev pub Accepts : Files → Asked → Type 0
 Accepts files (tokens space main) = AcceptsAll files space main
@@ -126,7 +112,7 @@ pub record HasText (holds : Option Files) (words : List (List ℕ)) (pieces : Li
   pub asked : Asked
   pub asked_is : asked_of words ≡ Ok asked
   pub lines : All IsLine pieces
-  pub right : (files : Files) → holds ≡ Some files → IsTextOf files asked pieces
+  pub right : (files : Files) → holds ≡ Some files → IsAskedText files asked pieces
 
 -- whether it is so
 abbrev pub Tells : Bool → Type 0 → Type 0

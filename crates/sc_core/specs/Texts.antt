@@ -3,11 +3,12 @@ use Rattle.std.specs.Prelude.{◌≡◌, ℕ, not, List, All, Option, Some, None
 use Rattle.sc_core.specs.declared.complaint.Complaint.{Complaint}
 use Rattle.sc_core.specs.declared.complaint.Complaint.TheVariants as complaint
 use Rattle.sc_core.specs.declared.text.Text.{Text}
-use Rattle.sc_core.specs.Outcome.{KeepsFormat, IsOrdinaryAt, IsTokensText, AcceptsAll, RefusesSpace, Tells, HasVerdict}
+use Rattle.sc_core.specs.Outcome.{IsOrdinaryAt, IsTokensText, AcceptsAll, RefusesSpace, Tells, HasVerdict}
+use Rattle.sc_model.specs.Layout.{IsTextOf}
 use Rattle.sc_model.specs.Outside.{Files, Rose}
 use Rattle.sc_model.specs.Pre.{Pre}
 use Rattle.sc_model.specs.Space.{Space, IsListed}
-use Rattle.sc_model.specs.Text.{Answer, Reads}
+use Rattle.sc_model.specs.Text.{Answer}
 use Rattle.sc_model.specs.Token.{Token}
 use Rattle.sc_show.specs.Pieces.{IsLine, split_lines_after}
 
@@ -17,8 +18,7 @@ lines_of text = split_lines_after text.lines.items
 -- The text tells what ordinary preprocessing of the main file gives at each configuration of the space, and whether it refuses one.
 pub record TellsTokens (space : Space) (files : Files) (main : List ℕ) (text : Text) : Type 0 where
   pub answer : Answer
-  pub reads : Reads space (lines_of text) answer
-  pub format : KeepsFormat space (lines_of text)
+  pub text_of : IsTextOf space (lines_of text) answer
   pub ordinary : (config : List ℕ) → IsListed space config → IsOrdinaryAt space files main answer config
   pub verdict : Tells (not text.is_refused) ((config : List ℕ) → IsListed space config → (ts : List Token) × Pre space files main config (Ok ts))
 

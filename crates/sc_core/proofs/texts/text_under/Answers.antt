@@ -6,14 +6,13 @@ use Rattle.sc_core.proofs.texts.text_under.Goals as goal
 use Rattle.sc_model.specs.Sets.{IsConfig, IsNever}
 use Rattle.sc_show.proofs.Pieces.{text_lines}
 use Rattle.sc_show.specs.Pieces.{IsLine}
-use Rattle.sc_show.specs.Rules.{KeepsRules}
 use Rattle.sc_show.specs.Shows.{Shows}
 use Rattle.sc_space.specs.Seen.{seen_space}
 
 pub returns-clause-lines : goal.returns-clause-lines
 returns-clause-lines g c =
     let shows = c.in_ok-lines.ensures.text in
-    subst (All IsLine) (sym (shows.cut ∙ shows.reads.written)) (text_lines shows.reads.lines shows.reads.clear)
+    subst (All IsLine) (sym (shows.cut ∙ shows.text_of.reads.written)) (text_lines shows.text_of.reads.lines shows.text_of.reads.clear)
 
 pub returns-clause-tokens : goal.returns-clause-tokens
 returns-clause-tokens g c = λ outside holds.
@@ -21,10 +20,9 @@ returns-clause-tokens g c = λ outside holds.
     let space = seen_space c.args.space.now in
     let p = c.in_ok-answer.answer in
     let shows = subst (λ (fs : List base.Fault). Shows space (g.C.Conditions.sets c.show_tokens.new.conds) c.preprocess.new.names c.preprocess.new.files p.list fs c.in_ok-lines.lines.items) c.deref-2.ensures.value c.in_ok-lines.ensures.text in
-    let rules = subst (λ (fs : List base.Fault). KeepsRules space (g.C.Conditions.sets c.show_tokens.new.conds) c.preprocess.new.names c.preprocess.new.files p.list fs c.in_ok-lines.lines.items) c.deref-2.ensures.value c.in_ok-lines.ensures.rules in
     tells-tokens c.in_ok-lines.ensures.keeps c.preprocess.new.names c.preprocess.new.files space outside c.args.file.now p
     (record { lines = c.in_ok-lines.lines; is_refused = c.has_fault-is_refused.result })
-    shows rules c.in_ok-answer.ensures.owns (c.in_ok-answer.ensures.keeps.arities ∙ c.requires.arities)
+    shows c.in_ok-answer.ensures.owns (c.in_ok-answer.ensures.keeps.arities ∙ c.requires.arities)
     (λ config listed. c.in_ok-answer.ensures.ordinary outside holds config (subst (λ ns. IsConfig ns config) (sym c.requires.arities) listed))
     (λ e. subst (All (λ (f : base.Fault). IsNever s f.cond.0)) c.deref.ensures.value (c.has_fault-is_refused.ensures.none e))
     (λ e all. c.has_fault-is_refused.ensures.some e (subst (All (λ (f : base.Fault). IsNever s f.cond.0)) (sym c.deref.ensures.value) all))

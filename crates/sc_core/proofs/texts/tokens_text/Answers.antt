@@ -15,8 +15,7 @@ returns-in-Ok-clause-text g c = record {
         space = seen_space c.in_ok-space.space;
         has_space = c.in_ok-space.ensures.space files holds;
         answer = tells.answer;
-        reads = tells.reads;
-        format = tells.format;
+        text = tells.text_of;
         ordinary = tells.ordinary;
       };
   verdict = λ files holds.
