@@ -1,3 +1,6 @@
+pub mod Alike
+pub mod ConditionLemmas
+pub mod LayoutReading
 pub mod LexLaws
 pub mod NestLaws
 pub mod Numerals

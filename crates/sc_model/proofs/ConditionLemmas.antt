@@ -1,0 +1,30 @@
+-- Conditions by their numbers, and bytes that are compared.
+use Rattle.std.proofs.Common.{◌≡◌, ℕ, zero, suc, ◌<◌, ◌==◌, ◌&&◌, Bool, true, false, List, [], ◌∷◌, ◌++◌, length, refl, sym, arith}
+use Rattle.std.proofs.lemmas.Bool.{eq-eqb, eqb-true, true≢false, and_parts}
+use Rattle.sc_model.specs.Bytes.{same_bytes}
+use Rattle.sc_model.specs.Text.{Condition, condition_at}
+
+-- the condition of a number stays as conditions are read
+pub condition_at-push : (tests : List Condition) (test : Condition) (n : ℕ) → n < length tests → condition_at (tests ++ test ∷ []) n ≡ condition_at tests n
+condition_at-push [] test n h = absurd (omega arith)
+condition_at-push (t ∷ tests) test zero h = refl
+condition_at-push (t ∷ tests) test (suc n) h = condition_at-push tests test n (omega arith)
+
+pub condition_at-last : (tests : List Condition) (test : Condition) (c : List ℕ) → condition_at (tests ++ test ∷ []) (length tests) c ≡ test c
+condition_at-last [] test c = refl
+condition_at-last (t ∷ tests) test c = condition_at-last tests test c
+
+-- the same bytes are the same list
+pub same_bytes-refl : (xs : List ℕ) → same_bytes xs xs ≡ true
+same_bytes-refl [] = refl
+same_bytes-refl (x ∷ xs) = rw (eq-eqb x x refl) (same_bytes-refl xs)
+
+pub same_bytes-true : (xs ys : List ℕ) → same_bytes xs ys ≡ true → xs ≡ ys
+same_bytes-true [] [] h = refl
+same_bytes-true [] (y ∷ ys) h = absurd (true≢false (sym h))
+same_bytes-true (x ∷ xs) [] h = absurd (true≢false (sym h))
+same_bytes-true (x ∷ xs) (y ∷ ys) h =
+    let parts = and_parts (x == y) (same_bytes xs ys) h in
+    let first : x ≡ y = eqb-true x y parts.0 in
+    let others : xs ≡ ys = same_bytes-true xs ys parts.1 in
+    cc
