@@ -1,8 +1,8 @@
--- Conditions by their numbers, and bytes that are compared.
-use Rattle.std.proofs.Common.{◌≡◌, ℕ, zero, suc, ◌<◌, ◌==◌, ◌&&◌, Bool, true, false, List, [], ◌∷◌, ◌++◌, length, refl, sym, arith}
-use Rattle.std.proofs.lemmas.Bool.{eq-eqb, eqb-true, true≢false, and_parts}
+-- Conditions by their numbers, the options of one, and bytes that are compared.
+use Rattle.std.proofs.Common.{◌≡◌, ℕ, zero, suc, ◌<◌, ◌==◌, ◌&&◌, nat_lt, true, List, [], ◌∷◌, ◌++◌, length, refl, sym, arith}
+use Rattle.std.proofs.lemmas.Bool.{eq-eqb, eqb-true, ltb-true, true≢false, and_parts}
 use Rattle.sc_model.specs.Bytes.{same_bytes}
-use Rattle.sc_model.specs.Text.{Condition, condition_at}
+use Rattle.sc_model.specs.Text.{Condition, condition_at, are_options}
 
 -- the condition of a number stays as conditions are read
 pub condition_at-push : (tests : List Condition) (test : Condition) (n : ℕ) → n < length tests → condition_at (tests ++ test ∷ []) n ≡ condition_at tests n
@@ -28,3 +28,11 @@ same_bytes-true (x ∷ xs) (y ∷ ys) h =
     let first : x ≡ y = eqb-true x y parts.0 in
     let others : xs ≡ ys = same_bytes-true xs ys parts.1 in
     cc
+
+-- the first option, and those after it
+pub are_options-cons : {id : ℕ} (text : List ℕ) (texts : List (List ℕ)) (option : List ℕ × ℕ) (options : List (List ℕ × ℕ)) → are_options id (text ∷ texts) (option ∷ options) ≡ true
+    → (option.0 ≡ text) × (option.1 < id) × (are_options id texts options ≡ true)
+are_options-cons {id} text texts option options fits =
+    let parts = and_parts (same_bytes option.0 text && nat_lt option.1 id) (are_options id texts options) fits in
+    let first = and_parts (same_bytes option.0 text) (nat_lt option.1 id) parts.0 in
+    (same_bytes-true option.0 text first.0, ltb-true option.1 id first.1, parts.1)
