@@ -1,17 +1,16 @@
 -- What the lines of a text read as, item by item.
-use Rattle.std.proofs.Common.{◌≡◌, ℕ, zero, suc, ◌+◌, ◌<◌, ◌≤◌, ◌==◌, ◌&&◌, nat_lt, Bool, true, false, List, [], ◌∷◌, ◌++◌, length, map, get_or, slice_get, slice_index, Option, Some, None, option_map, unwrap_or, All, refl, sym, ap, subst, ◌∙◌, arith, append-nil, append_assoc, if◌then◌else◌}
+use Rattle.std.proofs.Common.{◌≡◌, ℕ, ◌+◌, ◌<◌, ◌≤◌, ◌==◌, ◌&&◌, nat_lt, Bool, true, false, List, [], ◌∷◌, ◌++◌, length, map, get_or, slice_get, Option, Some, None, option_map, unwrap_or, All, refl, sym, ap, subst, ◌∙◌, arith, append-nil, append_assoc, if◌then◌else◌}
 use Rattle.std.specs.Option.{option_and_then}
-use Rattle.std.proofs.lemmas.Bool.{and_parts, eqb-true, ltb-true, true≢false}
+use Rattle.std.proofs.lemmas.Bool.{and_parts, eqb-true, ltb-true}
 use Rattle.std.proofs.lemmas.List.{length-append}
 use Rattle.std.proofs.lemmas.List.Elements.{All-nil, All-cons, All-head}
 use Rattle.std.proofs.lemmas.Option.{cond_some, get_or_from_slice_get, same_Some, slice_get_within, unwrap_or-slice_get}
-use Rattle.sc_model.specs.declared.cause.Cause.{Cause}
 use Rattle.sc_model.specs.Layout.{Introduces, nothing, known, node, IntroducesFiles, no_file, known_file, new_file, LaysOut, done, shows}
 use Rattle.sc_model.specs.Pre.{Fault}
 use Rattle.sc_model.specs.Space.{Variable, Space, option_text}
 use Rattle.sc_model.specs.Text.{Condition, Answer, Printed, TextLine, condition_line, file_line, token_line, fault_line, end_line, Reading, condition_at, variable_from, are_options, chosen, with_condition, with_file, with_token, with_fault, with_end, place_of, read_condition, read_line, read_lines}
 use Rattle.sc_model.specs.Token.{Place, Shown}
-use Rattle.sc_model.proofs.ConditionLemmas.{are_options-cons, condition_at-push, condition_at-last}
+use Rattle.sc_model.proofs.ConditionLemmas.{condition_at-push, condition_at-last, slice_get-push, slice_get-last, chosen-kept}
 
 -- what is read of each line, by the conditions and the files that all lines give
 abbrev pub tokens_read : List Condition → List (List ℕ) → List TextLine → List (Condition × Shown)
@@ -93,46 +92,24 @@ laid-tokens conditions files laid = of_items (tokens_read conditions files) refl
 pub laid-faults : {n m i j : ℕ} {items lines : List TextLine} (conditions : List Condition) (files : List (List ℕ)) → LaysOut n m items lines i j → faults_read conditions files lines ≡ faults_read conditions files items
 laid-faults conditions files laid = of_items (faults_read conditions files) refl (faults_read-append conditions files) (λ id name options. refl) (λ id name. refl) laid
 
--- an item stays in place as one is added
-slice_get-push : {T : Type 0} (xs : List T) (x : T) (n : ℕ) → n < length xs → slice_get (xs ++ x ∷ []) n ≡ slice_get xs n
-slice_get-push [] x n below = absurd (omega arith)
-slice_get-push (y ∷ ys) x zero below = refl
-slice_get-push (y ∷ ys) x (suc n) below = slice_get-push ys x n (omega arith)
-
-slice_get-last : {T : Type 0} (xs : List T) (x : T) → slice_get (xs ++ x ∷ []) (length xs) ≡ Some x
-slice_get-last [] x = refl
-slice_get-last (y ∷ ys) x = slice_get-last ys x
-
--- an option has the number of a condition before this one; past the options stands that of the first
-option_below : {n id : ℕ} (texts : List (List ℕ)) (options : List (List ℕ × ℕ)) (k : ℕ) → 0 < n → id ≤ n → are_options id texts options ≡ true
-    → slice_index (map (λ option. option.1) options) k < n
-option_below texts [] k begun below fits = begun
-option_below [] (option ∷ options) k begun below fits = absurd (true≢false (sym fits))
-option_below (text ∷ texts) (option ∷ options) zero begun below fits = let first = (are_options-cons text texts option options fits).1 in omega (arith, first, below)
-option_below (text ∷ texts) (option ∷ options) (suc k) begun below fits = option_below texts options k begun below (are_options-cons text texts option options fits).2
-
 -- ---- what stays as lines are read
 
-module _ (conditions more : List Condition) (begun : 0 < length conditions) (kept : (n : ℕ) → n < length conditions → condition_at more n ≡ condition_at conditions n) where
-  chosen-kept : (id : ℕ) (texts : List (List ℕ)) (options : List (List ℕ × ℕ)) (place : ℕ) (config : List ℕ) → id ≤ length conditions → are_options id texts options ≡ true
-      → chosen more place options config ≡ chosen conditions place options config
-  chosen-kept id texts options place config below fits = ap (λ f. f config) (kept _ (option_below texts options (slice_index config place) begun below fits))
-
-  IsNode-kept : {space : Space} {id : ℕ} {name : List ℕ} {options : List (List ℕ × ℕ)} → length conditions ≤ length more → IsNode space conditions id name options → IsNode space more id name options
-  IsNode-kept {id} {options} grows was = record {
-    place = was.place;
-    variable = was.variable;
-    found = was.found;
-    fits = was.fits;
-    below = omega (arith, grows, was.below);
-    means = λ config.
-        ap (λ f. f config) (kept id was.below) ∙ was.means config
-        ∙ sym (chosen-kept id (map option_text was.variable.options) options was.place config (omega (arith, was.below)) was.fits);
-  }
+IsNode-kept : {space : Space} {conditions more : List Condition} {id : ℕ} {name : List ℕ} {options : List (List ℕ × ℕ)} → 0 < length conditions → length conditions ≤ length more
+    → ((n : ℕ) → n < length conditions → condition_at more n ≡ condition_at conditions n) → IsNode space conditions id name options → IsNode space more id name options
+IsNode-kept {conditions} {more} {id} {options} begun grows kept was = record {
+  place = was.place;
+  variable = was.variable;
+  found = was.found;
+  fits = was.fits;
+  below = omega (arith, grows, was.below);
+  means = λ config.
+      ap (λ f. f config) (kept id was.below) ∙ was.means config
+      ∙ sym (chosen-kept conditions more _ options was.place config begun (omega (arith, was.below)) was.fits kept);
+}
 
 module _ {space : Space} {s t : Reading} {lines : List TextLine} (later : HasRead space s t lines) where
   Holds-kept : (line : TextLine) → 0 < length s.conditions → Holds space s.conditions s.files line → Holds space t.conditions t.files line
-  Holds-kept (condition_line id name options) begun holds = IsNode-kept s.conditions t.conditions begun later.kept later.grows holds
+  Holds-kept (condition_line id name options) begun holds = IsNode-kept begun later.grows later.kept holds
   Holds-kept (file_line id name) begun holds = later.files_kept id (slice_get_within s.files id name holds) ∙ holds
   Holds-kept (token_line cond place spelling) begun holds = (omega (arith, later.grows, holds.0), omega (arith, later.files_grow, holds.1))
   Holds-kept (fault_line cond cause place) begun holds = (omega (arith, later.grows, holds.0), omega (arith, later.files_grow, holds.1))
@@ -179,6 +156,9 @@ HasRead-cons {space} {r} {s} {t} {line} {lines} begun first later =
 
 -- ---- one line
 
+holds_alone : (space : Space) (conditions : List Condition) (files : List (List ℕ)) (line : TextLine) → Holds space conditions files line → All (Holds space conditions files) (line ∷ [])
+holds_alone space conditions files line holds = All-cons (Holds space conditions files) line [] holds (All-nil (Holds space conditions files))
+
 if_some : {T : Type 0} {o : Option T} {x : T} (b : Bool) → (if b then o else None) ≡ Some x → (b ≡ true) × (o ≡ Some x)
 if_some true e = (refl, e)
 if_some false e = absurd (cc)
@@ -214,46 +194,17 @@ module _ (space : Space) (r : Reading) where
         below = omega (arith, last, long);
         means = λ config.
             ap (λ n. condition_at more n config) last ∙ condition_at-last r.conditions test config
-            ∙ sym (chosen-kept r.conditions more begun kept id (map option_text variable.options) options place config (omega (arith, last)) fits);
+            ∙ sym (chosen-kept r.conditions more _ options place config begun (omega (arith, last)) fits kept);
       } in
       record {
         grows = omega (arith, long);
         kept = kept;
         files_grow = omega arith;
         files_kept = λ n below. refl;
-        holds = All-cons (Holds space more r.files) (condition_line id name options) [] holds (All-nil (Holds space more r.files));
+        holds = holds_alone space more r.files (condition_line id name options) holds;
         tokens = sym (append-nil r.answer.tokens);
         faults = sym (append-nil r.answer.faults);
       }
-
-  adds_file : (id : ℕ) (name : List ℕ) → id ≡ length r.files → HasRead space r (with_file r name) (file_line id name ∷ [])
-  adds_file id name last =
-      let long : length (r.files ++ name ∷ []) ≡ length r.files + 1 = length-append r.files (name ∷ []) in
-      record {
-        grows = omega arith;
-        kept = λ n below. refl;
-        files_grow = omega (arith, long);
-        files_kept = slice_get-push r.files name;
-        holds = All-cons (Holds space r.conditions (r.files ++ name ∷ [])) _ [] (ap (slice_get (r.files ++ name ∷ [])) last ∙ slice_get-last r.files name) (All-nil _);
-        tokens = sym (append-nil r.answer.tokens);
-        faults = sym (append-nil r.answer.faults);
-      }
-
-  adds_token : (cond : ℕ) (place : Printed) (spelling name : List ℕ) → cond < length r.conditions → slice_get r.files place.file ≡ Some name
-      → HasRead space r (with_token r (condition_at r.conditions cond) (record { place = record { file = name; position = place.position }; spelling = spelling })) (token_line cond place spelling ∷ [])
-  adds_token cond place spelling name below found =
-      let same = sym (get_or_from_slice_get r.files place.file name [] found) in
-      only_items _ r.ended _ (All-cons (Holds space r.conditions r.files) _ [] (below, slice_get_within r.files place.file name found) (All-nil _))
-      (λ i. r.answer.tokens ++ (condition_at r.conditions cond, record { place = record { file = same i; position = place.position }; spelling = spelling }) ∷ [])
-      (sym (append-nil r.answer.faults))
-
-  adds_fault : (cond : ℕ) (cause : Cause) (place : Printed) (name : List ℕ) → cond < length r.conditions → slice_get r.files place.file ≡ Some name
-      → HasRead space r (with_fault r (condition_at r.conditions cond) (record { cause = cause; place = record { file = name; position = place.position } })) (fault_line cond cause place ∷ [])
-  adds_fault cond cause place name below found =
-      let same = sym (get_or_from_slice_get r.files place.file name [] found) in
-      only_items _ r.ended _ (All-cons (Holds space r.conditions r.files) _ [] (below, slice_get_within r.files place.file name found) (All-nil _))
-      (sym (append-nil r.answer.tokens))
-      (λ i. r.answer.faults ++ (condition_at r.conditions cond, record { cause = cause; place = record { file = same i; position = place.position } }) ∷ [])
 
   -- what is made of a place that was read
   from_place : {s : Reading} (place : Printed) (make : Place → Reading) → option_map make (place_of r place) ≡ Some s
@@ -276,18 +227,35 @@ module _ (space : Space) (r : Reading) where
           subst (λ s. HasRead space r s (condition_line id name options ∷ [])) told.1 (adds_node id name options at.0 at.1 begun found (eqb-true id _ parts.0) parts.1)
   adds_line (file_line id name) s begun read =
       let told = cond_some (id == length r.files) (with_file r name) s read in
-      subst (λ s. HasRead space r s (file_line id name ∷ [])) told.1 (adds_file id name (eqb-true id _ told.0))
+      let long : length (r.files ++ name ∷ []) ≡ length r.files + 1 = length-append r.files (name ∷ []) in
+      subst (λ s. HasRead space r s (file_line id name ∷ [])) told.1 (record {
+        grows = omega arith;
+        kept = λ n below. refl;
+        files_grow = omega (arith, long);
+        files_kept = slice_get-push r.files name;
+        holds = holds_alone space r.conditions (r.files ++ name ∷ []) (file_line id name) (ap (slice_get (r.files ++ name ∷ [])) (eqb-true id _ told.0) ∙ slice_get-last r.files name);
+        tokens = sym (append-nil r.answer.tokens);
+        faults = sym (append-nil r.answer.faults);
+      })
   adds_line (token_line cond place spelling) s begun read =
       let told = if_some (nat_lt cond (length r.conditions)) read in
       let at = from_place place (λ at. with_token r (condition_at r.conditions cond) (record { place = at; spelling = spelling })) told.1 in
-      subst (λ s. HasRead space r s (token_line cond place spelling ∷ [])) at.2 (adds_token cond place spelling at.0 (ltb-true cond _ told.0) at.1)
+      let file = sym (get_or_from_slice_get r.files place.file at.0 [] at.1) in
+      subst (λ s. HasRead space r s (token_line cond place spelling ∷ [])) at.2 (only_items _ r.ended _
+      (holds_alone space r.conditions r.files (token_line cond place spelling) (ltb-true cond _ told.0, slice_get_within r.files place.file at.0 at.1))
+      (λ i. r.answer.tokens ++ (condition_at r.conditions cond, record { place = record { file = file i; position = place.position }; spelling = spelling }) ∷ [])
+      (sym (append-nil r.answer.faults)))
   adds_line (fault_line cond cause place) s begun read =
       let told = if_some (nat_lt cond (length r.conditions)) read in
       let at = from_place place (λ at. with_fault r (condition_at r.conditions cond) (record { cause = cause; place = at })) told.1 in
-      subst (λ s. HasRead space r s (fault_line cond cause place ∷ [])) at.2 (adds_fault cond cause place at.0 (ltb-true cond _ told.0) at.1)
+      let file = sym (get_or_from_slice_get r.files place.file at.0 [] at.1) in
+      subst (λ s. HasRead space r s (fault_line cond cause place ∷ [])) at.2 (only_items _ r.ended _
+      (holds_alone space r.conditions r.files (fault_line cond cause place) (ltb-true cond _ told.0, slice_get_within r.files place.file at.0 at.1))
+      (sym (append-nil r.answer.tokens))
+      (λ i. r.answer.faults ++ (condition_at r.conditions cond, record { cause = cause; place = record { file = file i; position = place.position } }) ∷ []))
   adds_line end_line s begun read =
       subst (λ s. HasRead space r s (end_line ∷ [])) (same_Some (with_end r) s read)
-      (only_items r.answer true _ (All-cons (Holds space r.conditions r.files) end_line [] tt (All-nil _)) (sym (append-nil r.answer.tokens)) (sym (append-nil r.answer.faults)))
+      (only_items r.answer true _ (holds_alone space r.conditions r.files end_line tt) (sym (append-nil r.answer.tokens)) (sym (append-nil r.answer.faults)))
 
 -- whatever lines are read after others
 pub read-HasRead : (space : Space) (lines : List TextLine) (r s : Reading) → 0 < length r.conditions → read_lines space r lines ≡ Some s → HasRead space r s lines
