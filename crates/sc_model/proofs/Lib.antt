@@ -2,6 +2,7 @@ pub mod Alike
 pub mod ConditionLemmas
 pub mod LayoutReading
 pub mod LexLaws
+pub mod ListLemmas
 pub mod NestLaws
 pub mod Numerals
 pub mod PreLaws
