@@ -1,5 +1,6 @@
 pub mod Alike
 pub mod ConditionLemmas
+pub mod Expansions
 pub mod LayoutReading
 pub mod LexLaws
 pub mod NestLaws
