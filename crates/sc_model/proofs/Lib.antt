@@ -4,6 +4,7 @@ pub mod Expansions
 pub mod LayoutReading
 pub mod LexLaws
 pub mod NestLaws
+pub mod Nodes
 pub mod Numerals
 pub mod PreLaws
 pub mod PlainLaws
