@@ -6,6 +6,7 @@ pub mod LexLaws
 pub mod NestLaws
 pub mod Nodes
 pub mod Numerals
+pub mod OneLayout
 pub mod PreLaws
 pub mod PlainLaws
 pub mod SetLemmas

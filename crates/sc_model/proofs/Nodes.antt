@@ -49,7 +49,7 @@ options-smaller id (text ∷ texts) (option ∷ options) h =
     All-cons (λ part. part < id) option.1 (map (λ (option : List ℕ × ℕ). option.1) options) (ltb-true option.1 id (and_parts (same_bytes option.0 text) (nat_lt option.1 id) parts.0).1) (options-smaller id texts options parts.1)
 
 -- the options' texts with their numbers
-same_options : (xs ys : List (List ℕ × ℕ)) → map (λ (option : List ℕ × ℕ). option.0) xs ≡ map (λ (option : List ℕ × ℕ). option.0) ys
+pub same_options : (xs ys : List (List ℕ × ℕ)) → map (λ (option : List ℕ × ℕ). option.0) xs ≡ map (λ (option : List ℕ × ℕ). option.0) ys
     → map (λ (option : List ℕ × ℕ). option.1) xs ≡ map (λ (option : List ℕ × ℕ). option.1) ys → xs ≡ ys
 same_options [] [] texts numbers = refl
 same_options [] (y ∷ ys) texts numbers = cc
