@@ -4,12 +4,14 @@ use Rattle.std.proofs.lemmas.Bool.{cases_lt}
 use Rattle.std.proofs.lemmas.List.{get_or-append-add}
 use Rattle.std.proofs.Math.ListN.{get_or-append}
 use Rattle.std.proofs.lemmas.List.Elements.{All-head, All-tail}
+use Rattle.std.proofs.lemmas.Option.{same_Some}
 use Rattle.std.specs.List.{AllZip}
+use Rattle.sc_model.specs.declared.cause.Cause.{Cause}
 use Rattle.sc_model.specs.Layout.{Introduces, nothing, known, node, IntroducesFiles, no_file, known_file, new_file, LaysOut, done, shows, sets_of, HasOrder, conditions_of, files_of}
 use Rattle.sc_model.specs.Growth.{IsOneToOne}
 use Rattle.sc_model.specs.Sets.{IsCanonical}
 use Rattle.sc_model.specs.Space.{Space}
-use Rattle.sc_model.specs.Text.{Condition, TextLine, condition_line, file_line, token_line, fault_line, end_line}
+use Rattle.sc_model.specs.Text.{Condition, TextLine, condition_line, file_line, token_line, fault_line, end_line, Printed}
 use Rattle.sc_model.proofs.Expansions.{Corresponds}
 use Rattle.sc_model.proofs.LayoutReading.{IsNode, Holds}
 use Rattle.sc_model.proofs.Nodes.{AreOneNode, one_node, same_options}
@@ -91,3 +93,110 @@ module _ {space : Space} {conditions others : List Condition} (files names : Lis
         counts = later.counts;
         agree = later.agree;
       }
+
+-- the number of one text and that of the other stand for the same file
+pub record IsSameFile (files names : List (List ℕ)) (u v : ℕ) : Type 0 where
+  pub name : List ℕ
+  pub found : slice_get files u ≡ Some name
+  pub found_too : slice_get names v ≡ Some name
+
+-- the first numbers of both texts stand for the same files
+abbrev AgreeOnFiles : List (List ℕ) → List (List ℕ) → ℕ → Type 0
+AgreeOnFiles files names count = (n : ℕ) → n < count → IsSameFile files names n n
+
+-- the same lines of files, with the same numbers
+record AreOneNaming (files names : List (List ℕ)) (us vs : List ℕ) (xs ys : List TextLine) (m k : ℕ) : Type 0 where
+  numbers : us ≡ vs
+  lines : xs ≡ ys
+  counts : m ≡ k
+  agree : AgreeOnFiles files names m
+
+module _ (space : Space) (conditions others : List Condition) {files names : List (List ℕ)} (one : IsOneToOne files) (one_too : IsOneToOne names) where
+  one_file : {u v : ℕ} → IsSameFile files names u v → IsSameFile files names v v → u ≡ v
+  one_file {u} {v} c d = one.same u v c.name c.found (d.found ∙ sym d.found_too ∙ c.found_too)
+
+  one_file_too : {u v : ℕ} → IsSameFile files names u v → IsSameFile files names u u → u ≡ v
+  one_file_too {u} {v} c d = one_too.same u v c.name (d.found_too ∙ sym d.found ∙ c.found) c.found_too
+
+  one_naming : {n l m k : ℕ} {us vs : List ℕ} {xs ys : List TextLine} → IntroducesFiles n us xs m → IntroducesFiles l vs ys k → n ≡ l → AgreeOnFiles files names n
+      → AllZip (IsSameFile files names) us vs → All (Fits space conditions files) xs → All (Fits space others names) ys → AreOneNaming files names us vs xs ys m k
+  one_naming (no_file n) (no_file l) start agree same fits fits_too = record { numbers = refl; lines = refl; counts = start; agree = agree }
+  one_naming (no_file n) (known_file l v vs ys k below rest) start agree same fits fits_too = absurd same
+  one_naming (no_file n) (new_file l label vs ys k rest) start agree same fits fits_too = absurd same
+  one_naming (known_file n u us xs m below rest) (no_file l) start agree same fits fits_too = absurd same
+  one_naming (known_file n u us xs m below rest) (known_file l v vs ys k below_too rest_too) start agree same fits fits_too =
+      let first = one_file same.0 (agree v (omega arith)) in
+      let later = one_naming rest rest_too start agree same.1 fits fits_too in
+      record { numbers = λ i. first i ∷ later.numbers i; lines = later.lines; counts = later.counts; agree = later.agree }
+  one_naming (known_file n u us xs m below rest) (new_file l label vs ys k rest_too) start agree same fits fits_too =
+      let first = one_file_too same.0 (agree u below) in
+      absurd (omega arith)
+  one_naming (new_file n name us xs m rest) (no_file l) start agree same fits fits_too = absurd same
+  one_naming (new_file n name us xs m rest) (known_file l v vs ys k below rest_too) start agree same fits fits_too =
+      let first = one_file same.0 (agree v (omega arith)) in
+      absurd (omega arith)
+  one_naming (new_file n name us xs m rest) (new_file l label vs ys k rest_too) start agree same fits fits_too =
+      let here = (All-head (Fits space conditions files) (file_line n name) xs fits).0 in
+      let here_too = (All-head (Fits space others names) (file_line l label) ys fits_too).0 in
+      let found : Some name ≡ Some label = sym here ∙ same.0.found ∙ sym same.0.found_too ∙ here_too in
+      let spelled = same_Some name label found in
+      let own = subst (λ b. IsSameFile files names n b) (sym start) same.0 in
+      let later = one_naming rest rest_too (ap (λ b. b + 1) start) (AgreeOnFiles-more agree own) same.1 (All-tail (Fits space conditions files) (file_line n name) xs fits)
+      (All-tail (Fits space others names) (file_line l label) ys fits_too) in
+      record {
+        numbers = λ i. start i ∷ later.numbers i;
+        lines = λ i. file_line (start i) (spelled i) ∷ later.lines i;
+        counts = later.counts;
+        agree = later.agree;
+      }
+    where
+      AgreeOnFiles-more : AgreeOnFiles files names n → IsSameFile files names n n → AgreeOnFiles files names (n + 1)
+      AgreeOnFiles-more agree here k below = elim (cases_lt k n) [ inl less ↦ agree k less | inr most ↦ (let last : n ≡ k = omega arith in subst (λ k. IsSameFile files names k k) last here) ]
+
+-- items that say the same
+pub data IsSameItem (space : Space) (conditions others : List Condition) (files names : List (List ℕ)) : TextLine → TextLine → Type 0 where
+  same_token : (a b : ℕ) (p q : Printed) (spelling : List ℕ) → Corresponds space conditions others a b → IsSameFile files names p.file q.file → p.position ≡ q.position
+      → IsSameItem space conditions others files names (token_line a p spelling) (token_line b q spelling)
+  same_fault : (a b : ℕ) (cause : Cause) (p q : Printed) → Corresponds space conditions others a b → IsSameFile files names p.file q.file → p.position ≡ q.position
+      → IsSameItem space conditions others files names (fault_line a cause p) (fault_line b cause q)
+  same_end : IsSameItem space conditions others files names end_line end_line
+
+module _ {space : Space} {conditions others : List Condition} {files names : List (List ℕ)} where
+  same_conditions : {x y : TextLine} → IsSameItem space conditions others files names x y → AllZip (Corresponds space conditions others) (conditions_of x) (conditions_of y)
+  same_conditions (same_token a b p q spelling cond file position) = (cond, tt)
+  same_conditions (same_fault a b cause p q cond file position) = (cond, tt)
+  same_conditions same_end = tt
+
+  same_files : {x y : TextLine} → IsSameItem space conditions others files names x y → AllZip (IsSameFile files names) (files_of x) (files_of y)
+  same_files (same_token a b p q spelling cond file position) = (file, tt)
+  same_files (same_fault a b cause p q cond file position) = (file, tt)
+  same_files same_end = tt
+
+  one_item : {x y : TextLine} → IsSameItem space conditions others files names x y → conditions_of x ≡ conditions_of y → files_of x ≡ files_of y → x ≡ y
+  one_item (same_token a b p q spelling cond file position) conds numbers =
+      let number : a ≡ b = cc in
+      let place : p.file ≡ q.file = cc in
+      λ i. token_line (number i) (record { file = place i; position = position i }) spelling
+  one_item (same_fault a b cause p q cond file position) conds numbers =
+      let number : a ≡ b = cc in
+      let place : p.file ≡ q.file = cc in
+      λ i. fault_line (number i) cause (record { file = place i; position = position i })
+  one_item same_end conds numbers = refl
+
+pub one_layout : {space : Space} {conditions others : List Condition} {files names : List (List ℕ)} {n l m k i j s t : ℕ} {items shown xs ys : List TextLine} → IsCanonical (sets_of space conditions) → IsCanonical (sets_of space others)
+    → IsOneToOne files → IsOneToOne names → LaysOut n i items xs m s → LaysOut l j shown ys k t → n ≡ l → i ≡ j → AgreeBelow space conditions others n → AgreeOnFiles files names i
+    → AllZip (IsSameItem space conditions others files names) items shown → All (Fits space conditions files) xs → All (Fits space others names) ys → xs ≡ ys
+one_layout canonical canonical_too one one_too (done n i) (done l j) start begin agree agree_files same fits fits_too = refl
+one_layout canonical canonical_too one one_too (done n i) (shows l j y shown ds gs ys l' j' k t conds files rest) start begin agree agree_files same fits fits_too = absurd same
+one_layout canonical canonical_too one one_too (shows n i x items cs fs xs n' i' m s conds files rest) (done l j) start begin agree agree_files same fits fits_too = absurd same
+one_layout {space} {conditions} {others} {files} {names} canonical canonical_too one one_too (shows n i x items cs fs xs n' i' m s conds naming rest) (shows l j y shown ds gs ys l' j' k t conds_too naming_too rest_too) start begin agree agree_files same fits fits_too =
+    let P = Fits space conditions files in
+    let Q = Fits space others names in
+    let after = All-back P cs (fs ++ x ∷ xs) fits in
+    let after_too = All-back Q ds (gs ++ y ∷ ys) fits_too in
+    let first = one_introduction files names canonical canonical_too conds conds_too start agree (same_conditions same.0) (All-front P cs (fs ++ x ∷ xs) fits) (All-front Q ds (gs ++ y ∷ ys) fits_too) in
+    let second = one_naming space conditions others one one_too naming naming_too begin agree_files (same_files same.0) (All-front P fs (x ∷ xs) after) (All-front Q gs (y ∷ ys) after_too) in
+    let item = one_item same.0 first.numbers second.numbers in
+    let later = one_layout canonical canonical_too one one_too rest rest_too first.counts second.counts first.agree second.agree same.1 (All-tail P x xs (All-back P fs (x ∷ xs) after))
+    (All-tail Q y ys (All-back Q gs (y ∷ ys) after_too)) in
+    λ i. first.lines i ++ (second.lines i ++ item i ∷ later i)
