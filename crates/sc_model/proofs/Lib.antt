@@ -1,6 +1,7 @@
 pub mod Alike
 pub mod ConditionLemmas
 pub mod Expansions
+pub mod FaultOrder
 pub mod LayoutReading
 pub mod LexLaws
 pub mod NestLaws
