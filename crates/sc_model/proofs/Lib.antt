@@ -7,6 +7,7 @@ pub mod LexLaws
 pub mod NestLaws
 pub mod Nodes
 pub mod Numerals
+pub mod OneAnswer
 pub mod OneLayout
 pub mod PreLaws
 pub mod PlainLaws

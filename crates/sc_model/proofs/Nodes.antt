@@ -1,17 +1,17 @@
 -- The line of a condition: its variable, and the texts of the options.
-use Rattle.std.proofs.Common.{◌≡◌, ℕ, suc, ◌+◌, ◌<◌, Bool, true, false, List, [], ◌∷◌, length, map, All, Option, Some, None, slice_get, refl, sym, ◌∙◌, ap, subst, arith, if◌then◌else◌}
-use Rattle.std.proofs.lemmas.Bool.{true≢false, and_parts, ltb-true}
+use Rattle.std.proofs.Common.{◌≡◌, ℕ, suc, ◌+◌, ◌<◌, Bool, true, false, List, [], ◌∷◌, length, map, All, Some, slice_get, refl, sym, ◌∙◌, ap, subst, arith, if◌then◌else◌}
+use Rattle.std.proofs.lemmas.Bool.{true≢false}
 use Rattle.std.proofs.lemmas.List.{length-map, get_or-map}
 use Rattle.std.proofs.lemmas.List.Elements.{All-nil, All-cons, All-map}
 use Rattle.std.proofs.lemmas.Option.{some_pair_parts, slice_get_within, get_or_from_slice_get, none-some, same_Some}
 use Rattle.std.specs.List.{AllZip}
-use Rattle.std.specs.Prelude.{◌&&◌, nat_lt, slice_index}
+use Rattle.std.specs.Prelude.{slice_index}
 use Rattle.sc_model.specs.Bytes.{same_bytes}
 use Rattle.sc_model.specs.Layout.{sets_of, IsOrdered}
 use Rattle.sc_model.specs.Sets.{IsCanonical, DependsFrom}
 use Rattle.sc_model.specs.Space.{Variable, Space, arities_of, option_text}
 use Rattle.sc_model.specs.Text.{Condition, variable_from, are_options}
-use Rattle.sc_model.proofs.ConditionLemmas.{same_bytes-true}
+use Rattle.sc_model.proofs.ConditionLemmas.{same_bytes-true, are_options-cons}
 use Rattle.sc_model.proofs.Expansions.{IsExpansion, Corresponds, one_variable, parts_correspond}
 use Rattle.sc_model.proofs.LayoutReading.{IsNode}
 
@@ -31,22 +31,22 @@ named_from n (v ∷ vs) name place variable found = by (same_bytes v.name name) 
 
 -- the texts of the options, and smaller numbers
 options-texts : (id : ℕ) (texts : List (List ℕ)) (options : List (List ℕ × ℕ)) → are_options id texts options ≡ true → map (λ (option : List ℕ × ℕ). option.0) options ≡ texts
-options-texts id [] [] h = refl
-options-texts id (text ∷ texts) [] h = absurd (true≢false (sym h))
-options-texts id [] (option ∷ options) h = absurd (true≢false (sym h))
-options-texts id (text ∷ texts) (option ∷ options) h =
-    let parts = and_parts (same_bytes option.0 text && nat_lt option.1 id) (are_options id texts options) h in
-    let first = same_bytes-true option.0 text (and_parts (same_bytes option.0 text) (nat_lt option.1 id) parts.0).0 in
-    let more = options-texts id texts options parts.1 in
+options-texts id [] [] fits = refl
+options-texts id (text ∷ texts) [] fits = absurd (true≢false (sym fits))
+options-texts id [] (option ∷ options) fits = absurd (true≢false (sym fits))
+options-texts id (text ∷ texts) (option ∷ options) fits =
+    let parts = are_options-cons text texts option options fits in
+    let first = parts.0 in
+    let more = options-texts id texts options parts.2 in
     cc
 
 options-smaller : (id : ℕ) (texts : List (List ℕ)) (options : List (List ℕ × ℕ)) → are_options id texts options ≡ true → All (λ part. part < id) (map (λ (option : List ℕ × ℕ). option.1) options)
-options-smaller id [] [] h = All-nil (λ part. part < id)
-options-smaller id (text ∷ texts) [] h = absurd (true≢false (sym h))
-options-smaller id [] (option ∷ options) h = absurd (true≢false (sym h))
-options-smaller id (text ∷ texts) (option ∷ options) h =
-    let parts = and_parts (same_bytes option.0 text && nat_lt option.1 id) (are_options id texts options) h in
-    All-cons (λ part. part < id) option.1 (map (λ (option : List ℕ × ℕ). option.1) options) (ltb-true option.1 id (and_parts (same_bytes option.0 text) (nat_lt option.1 id) parts.0).1) (options-smaller id texts options parts.1)
+options-smaller id [] [] fits = All-nil (λ part. part < id)
+options-smaller id (text ∷ texts) [] fits = absurd (true≢false (sym fits))
+options-smaller id [] (option ∷ options) fits = absurd (true≢false (sym fits))
+options-smaller id (text ∷ texts) (option ∷ options) fits =
+    let parts = are_options-cons text texts option options fits in
+    All-cons (λ part. part < id) option.1 (map (λ (option : List ℕ × ℕ). option.1) options) parts.1 (options-smaller id texts options parts.2)
 
 -- the options' texts with their numbers
 pub same_options : (xs ys : List (List ℕ × ℕ)) → map (λ (option : List ℕ × ℕ). option.0) xs ≡ map (λ (option : List ℕ × ℕ). option.0) ys

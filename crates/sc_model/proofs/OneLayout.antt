@@ -1,5 +1,5 @@
 -- Items that say the same have the same lines.
-use Rattle.std.proofs.Common.{◌≡◌, ℕ, ◌+◌, ◌<◌, ◌≤◌, List, [], ◌∷◌, ◌++◌, length, map, get_or, All, Some, slice_get, refl, sym, ap, subst, ◌∙◌, inl, inr, arith, length-append}
+use Rattle.std.proofs.Common.{◌≡◌, ℕ, ◌+◌, ◌<◌, ◌≤◌, List, ◌∷◌, ◌++◌, length, All, Some, slice_get, refl, sym, ap, subst, ◌∙◌, inl, inr, arith, length-append}
 use Rattle.std.proofs.lemmas.Bool.{cases_lt}
 use Rattle.std.proofs.lemmas.List.{get_or-append-add}
 use Rattle.std.proofs.Math.ListN.{get_or-append}
@@ -13,8 +13,8 @@ use Rattle.sc_model.specs.Sets.{IsCanonical}
 use Rattle.sc_model.specs.Space.{Space}
 use Rattle.sc_model.specs.Text.{Condition, TextLine, condition_line, file_line, token_line, fault_line, end_line, Printed}
 use Rattle.sc_model.proofs.Expansions.{Corresponds}
-use Rattle.sc_model.proofs.LayoutReading.{IsNode, Holds}
-use Rattle.sc_model.proofs.Nodes.{AreOneNode, one_node, same_options}
+use Rattle.sc_model.proofs.LayoutReading.{Holds}
+use Rattle.sc_model.proofs.Nodes.{one_node, same_options}
 
 -- the parts of a list of which each element is so
 pub All-front : {X : Type 0} (P : X → Type 0) (xs ys : List X) → All P (xs ++ ys) → All P xs
