@@ -9,6 +9,7 @@ pub mod Nodes
 pub mod Numerals
 pub mod OneAnswer
 pub mod OneLayout
+pub mod OneText
 pub mod PreLaws
 pub mod PlainLaws
 pub mod SetLemmas

@@ -6,12 +6,11 @@ use Rattle.std.proofs.Math.ListN.{get_or-append}
 use Rattle.std.proofs.lemmas.List.Elements.{All-head, All-tail}
 use Rattle.std.proofs.lemmas.Option.{same_Some}
 use Rattle.std.specs.List.{AllZip}
-use Rattle.sc_model.specs.declared.cause.Cause.{Cause}
 use Rattle.sc_model.specs.Layout.{Introduces, nothing, known, node, IntroducesFiles, no_file, known_file, new_file, LaysOut, done, shows, sets_of, HasOrder, conditions_of, files_of}
 use Rattle.sc_model.specs.Growth.{IsOneToOne}
 use Rattle.sc_model.specs.Sets.{IsCanonical}
 use Rattle.sc_model.specs.Space.{Space}
-use Rattle.sc_model.specs.Text.{Condition, TextLine, condition_line, file_line, token_line, fault_line, end_line, Printed}
+use Rattle.sc_model.specs.Text.{Condition, TextLine, condition_line, file_line}
 use Rattle.sc_model.proofs.Expansions.{Corresponds}
 use Rattle.sc_model.proofs.LayoutReading.{Holds}
 use Rattle.sc_model.proofs.Nodes.{one_node, same_options}
@@ -153,35 +152,11 @@ module _ (space : Space) (conditions others : List Condition) {files names : Lis
       AgreeOnFiles-more : AgreeOnFiles files names n → IsSameFile files names n n → AgreeOnFiles files names (n + 1)
       AgreeOnFiles-more agree here k below = elim (cases_lt k n) [ inl less ↦ agree k less | inr most ↦ (let last : n ≡ k = omega arith in subst (λ k. IsSameFile files names k k) last here) ]
 
--- items that say the same
-pub data IsSameItem (space : Space) (conditions others : List Condition) (files names : List (List ℕ)) : TextLine → TextLine → Type 0 where
-  same_token : (a b : ℕ) (p q : Printed) (spelling : List ℕ) → Corresponds space conditions others a b → IsSameFile files names p.file q.file → p.position ≡ q.position
-      → IsSameItem space conditions others files names (token_line a p spelling) (token_line b q spelling)
-  same_fault : (a b : ℕ) (cause : Cause) (p q : Printed) → Corresponds space conditions others a b → IsSameFile files names p.file q.file → p.position ≡ q.position
-      → IsSameItem space conditions others files names (fault_line a cause p) (fault_line b cause q)
-  same_end : IsSameItem space conditions others files names end_line end_line
-
-module _ {space : Space} {conditions others : List Condition} {files names : List (List ℕ)} where
-  same_conditions : {x y : TextLine} → IsSameItem space conditions others files names x y → AllZip (Corresponds space conditions others) (conditions_of x) (conditions_of y)
-  same_conditions (same_token a b p q spelling cond file position) = (cond, tt)
-  same_conditions (same_fault a b cause p q cond file position) = (cond, tt)
-  same_conditions same_end = tt
-
-  same_files : {x y : TextLine} → IsSameItem space conditions others files names x y → AllZip (IsSameFile files names) (files_of x) (files_of y)
-  same_files (same_token a b p q spelling cond file position) = (file, tt)
-  same_files (same_fault a b cause p q cond file position) = (file, tt)
-  same_files same_end = tt
-
-  one_item : {x y : TextLine} → IsSameItem space conditions others files names x y → conditions_of x ≡ conditions_of y → files_of x ≡ files_of y → x ≡ y
-  one_item (same_token a b p q spelling cond file position) conds numbers =
-      let number : a ≡ b = cc in
-      let place : p.file ≡ q.file = cc in
-      λ i. token_line (number i) (record { file = place i; position = position i }) spelling
-  one_item (same_fault a b cause p q cond file position) conds numbers =
-      let number : a ≡ b = cc in
-      let place : p.file ≡ q.file = cc in
-      λ i. fault_line (number i) cause (record { file = place i; position = position i })
-  one_item same_end conds numbers = refl
+-- items that name the same conditions and files, and are one where the numbers are
+pub record IsSameItem (space : Space) (conditions others : List Condition) (files names : List (List ℕ)) (x y : TextLine) : Type 0 where
+  pub same_conditions : AllZip (Corresponds space conditions others) (conditions_of x) (conditions_of y)
+  pub same_files : AllZip (IsSameFile files names) (files_of x) (files_of y)
+  pub one : conditions_of x ≡ conditions_of y → files_of x ≡ files_of y → x ≡ y
 
 pub one_layout : {space : Space} {conditions others : List Condition} {files names : List (List ℕ)} {n l m k i j s t : ℕ} {items shown xs ys : List TextLine} → IsCanonical (sets_of space conditions) → IsCanonical (sets_of space others)
     → IsOneToOne files → IsOneToOne names → LaysOut n i items xs m s → LaysOut l j shown ys k t → n ≡ l → i ≡ j → AgreeBelow space conditions others n → AgreeOnFiles files names i
@@ -194,9 +169,9 @@ one_layout {space} {conditions} {others} {files} {names} canonical canonical_too
     let Q = Fits space others names in
     let after = All-back P cs (fs ++ x ∷ xs) fits in
     let after_too = All-back Q ds (gs ++ y ∷ ys) fits_too in
-    let first = one_introduction files names canonical canonical_too conds conds_too start agree (same_conditions same.0) (All-front P cs (fs ++ x ∷ xs) fits) (All-front Q ds (gs ++ y ∷ ys) fits_too) in
-    let second = one_naming space conditions others one one_too naming naming_too begin agree_files (same_files same.0) (All-front P fs (x ∷ xs) after) (All-front Q gs (y ∷ ys) after_too) in
-    let item = one_item same.0 first.numbers second.numbers in
+    let first = one_introduction files names canonical canonical_too conds conds_too start agree same.0.same_conditions (All-front P cs (fs ++ x ∷ xs) fits) (All-front Q ds (gs ++ y ∷ ys) fits_too) in
+    let second = one_naming space conditions others one one_too naming naming_too begin agree_files same.0.same_files (All-front P fs (x ∷ xs) after) (All-front Q gs (y ∷ ys) after_too) in
+    let item = same.0.one first.numbers second.numbers in
     let later = one_layout canonical canonical_too one one_too rest rest_too first.counts second.counts first.agree second.agree same.1 (All-tail P x xs (All-back P fs (x ∷ xs) after))
     (All-tail Q y ys (All-back Q gs (y ∷ ys) after_too)) in
     λ i. first.lines i ++ (second.lines i ++ item i ∷ later i)
