@@ -75,20 +75,24 @@ module _ {space : Space} {conditions others : List Condition} (files names : Lis
       let first = one_number same.0 (agree.each v (omega arith)) in
       absurd (omega (arith, introduces-grows children))
   one_introduction (node n u name options us xs more m children rest) (node l v label choices vs ys more_too k children_too rest_too) start agree same fits fits_too =
-      let after = All-back (Fits space conditions files) xs (condition_line u name options ∷ more) fits in
-      let after_too = All-back (Fits space others names) ys (condition_line v label choices ∷ more_too) fits_too in
-      let here = All-head (Fits space conditions files) (condition_line u name options) more after in
-      let here_too = All-head (Fits space others names) (condition_line v label choices) more_too after_too in
-      let first = one_node canonical canonical_too here.0 here.1 here_too.0 here_too.1 (omega (arith, introduces-grows children, agree.positive)) (omega (arith, introduces-grows children_too, agree.positive)) same.0 in
-      let below = one_introduction children children_too start agree first.numbers (All-front (Fits space conditions files) xs (condition_line u name options ∷ more) fits)
-      (All-front (Fits space others names) ys (condition_line v label choices ∷ more_too) fits_too) in
+      let P = Fits space conditions files in
+      let Q = Fits space others names in
+      let line : TextLine = condition_line u name options in
+      let line_too : TextLine = condition_line v label choices in
+      let after = All-back P xs (line ∷ more) fits in
+      let after_too = All-back Q ys (line_too ∷ more_too) fits_too in
+      let here = All-head P line more after in
+      let here_too = All-head Q line_too more_too after_too in
+      let positive : 0 < u = omega (arith, introduces-grows children, agree.positive) in
+      let positive_too : 0 < v = omega (arith, introduces-grows children_too, agree.positive) in
+      let one = one_node canonical canonical_too here.0 here.1 here_too.0 here_too.1 positive positive_too same.0 in
+      let below = one_introduction children children_too start agree one.numbers (All-front P xs (line ∷ more) fits) (All-front Q ys (line_too ∷ more_too) fits_too) in
       let own = subst (λ b. Corresponds space conditions others u b) (sym below.counts) same.0 in
-      let later = one_introduction rest rest_too (ap (λ b. b + 1) below.counts) (AgreeBelow-more below.agree own) same.1 (All-tail (Fits space conditions files) (condition_line u name options) more after)
-      (All-tail (Fits space others names) (condition_line v label choices) more_too after_too) in
-      let chosen = same_options options choices first.texts below.numbers in
+      let later = one_introduction rest rest_too (ap (λ b. b + 1) below.counts) (AgreeBelow-more below.agree own) same.1 (All-tail P line more after) (All-tail Q line_too more_too after_too) in
+      let chosen = same_options options choices one.texts below.numbers in
       record {
         numbers = λ i. below.counts i ∷ later.numbers i;
-        lines = λ i. below.lines i ++ condition_line (below.counts i) (first.names i) (chosen i) ∷ later.lines i;
+        lines = λ i. below.lines i ++ condition_line (below.counts i) (one.names i) (chosen i) ∷ later.lines i;
         counts = later.counts;
         agree = later.agree;
       }
@@ -135,13 +139,12 @@ module _ (space : Space) (conditions others : List Condition) {files names : Lis
       let first = one_file same.0 (agree v (omega arith)) in
       absurd (omega arith)
   one_naming (new_file n name us xs m rest) (new_file l label vs ys k rest_too) start agree same fits fits_too =
-      let here = (All-head (Fits space conditions files) (file_line n name) xs fits).0 in
-      let here_too = (All-head (Fits space others names) (file_line l label) ys fits_too).0 in
-      let found : Some name ≡ Some label = sym here ∙ same.0.found ∙ sym same.0.found_too ∙ here_too in
+      let P = Fits space conditions files in
+      let Q = Fits space others names in
+      let found : Some name ≡ Some label = sym (All-head P (file_line n name) xs fits).0 ∙ same.0.found ∙ sym same.0.found_too ∙ (All-head Q (file_line l label) ys fits_too).0 in
       let spelled = same_Some name label found in
       let own = subst (λ b. IsSameFile files names n b) (sym start) same.0 in
-      let later = one_naming rest rest_too (ap (λ b. b + 1) start) (AgreeOnFiles-more agree own) same.1 (All-tail (Fits space conditions files) (file_line n name) xs fits)
-      (All-tail (Fits space others names) (file_line l label) ys fits_too) in
+      let later = one_naming rest rest_too (ap (λ b. b + 1) start) (AgreeOnFiles-more agree own) same.1 (All-tail P (file_line n name) xs fits) (All-tail Q (file_line l label) ys fits_too) in
       record {
         numbers = λ i. start i ∷ later.numbers i;
         lines = λ i. file_line (start i) (spelled i) ∷ later.lines i;
