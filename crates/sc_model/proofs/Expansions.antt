@@ -1,5 +1,5 @@
 -- Conditions that are split by a variable: one condition for each option, of what remains.
-use Rattle.std.proofs.Common.{◌≡◌, ℕ, suc, ◌+◌, ◌<◌, ◌≤◌, List, [], ◌∷◌, length, All, sym, ◌∙◌, ap, inl, inr, arith}
+use Rattle.std.proofs.Common.{◌≡◌, ℕ, suc, ◌+◌, ◌<◌, ◌≤◌, List, [], ◌∷◌, length, All, refl, sym, ◌∙◌, ap, inl, inr, arith}
 use Rattle.std.proofs.lemmas.Bool.{cases_lt}
 use Rattle.std.proofs.lemmas.List.{get_or-set_same, get_or-set_other}
 use Rattle.std.specs.List.{AllZip}
@@ -8,7 +8,7 @@ use Rattle.sc_model.specs.Layout.{sets_of, AreSame}
 use Rattle.sc_model.specs.Sets.{Sets, IsConfig, IsCond, IsCanonical, DependsFrom}
 use Rattle.sc_model.specs.Space.{Space, arities_of}
 use Rattle.sc_model.specs.Text.{Condition, condition_at}
-use Rattle.sc_model.proofs.SetLemmas.{IsConfig-set, has-DependsFrom}
+use Rattle.sc_model.proofs.SetLemmas.{IsConfig-set, has-DependsFrom, DependsFrom-same}
 
 -- each option of the variable has a condition of a smaller number, which depends on later variables alone
 pub record IsExpansion (s : Sets) (a v : ℕ) (parts : List ℕ) : Type 0 where
@@ -68,21 +68,12 @@ pub record Corresponds (space : Space) (conditions others : List Condition) (a b
   pub same : AreSame space (condition_at conditions a) (condition_at others b)
 
 module _ {space : Space} {conditions others : List Condition} {a b : ℕ} where
-  pub Corresponds-sym : Corresponds space conditions others a b → Corresponds space others conditions b a
+  Corresponds-sym : Corresponds space conditions others a b → Corresponds space others conditions b a
   Corresponds-sym c = record { below = c.below_too; below_too = c.below; same = record { at = λ config listed. sym (c.same.at config listed) } }
 
   -- from where a condition depends is seen in its configurations
   DependsFrom-Corresponds : {v : ℕ} → Corresponds space conditions others a b → DependsFrom (sets_of space conditions) a v → DependsFrom (sets_of space others) b v
-  DependsFrom-Corresponds c from = record {
-    free = λ u below depends. from.free u below (record {
-      config = depends.config;
-      option = depends.option;
-      listed = depends.listed;
-      within = depends.within;
-      in_range = depends.in_range;
-      changes = λ e. depends.changes (sym (c.same.at _ depends.listed) ∙ e ∙ c.same.at _ (IsConfig-set u depends.option depends.listed depends.within depends.in_range));
-    });
-  }
+  DependsFrom-Corresponds c from = DependsFrom-same refl (λ config listed. sym (c.same.at config listed)) from
 
 -- a relation that holds index by index
 AllZip-from_index : (R : ℕ → ℕ → Type 0) (xs ys : List ℕ) → length xs ≡ length ys → ((k : ℕ) → k < length xs → R (slice_index xs k) (slice_index ys k)) → AllZip R xs ys

@@ -1,12 +1,10 @@
--- The order of faults is a total one.
+-- Faults that are ordered alike are one.
 use Rattle.std.proofs.Common.{◌≡◌, ℕ, List, [], ◌∷◌, refl, sym}
-use Rattle.std.proofs.lemmas.Cmp.{then_total, on_total, nat_cmp_total, nat_list_cmp_total, ranked}
-use Rattle.std.specs.Cmp.{IsTotalOrder}
+use Rattle.std.proofs.lemmas.Cmp.{ranked}
 use Rattle.std.specs.Cmp.Lexicographic.{slice_cmp}
 use Rattle.std.specs.Ordering.{nat_cmp, ordering_then}
 use Rattle.std.specs.declared.cmp.Ordering.{Ordering}
 use Rattle.std.specs.declared.cmp.Ordering.TheVariants.{Less, Equal, Greater}
-use Rattle.sc_model.specs.Cause.{code_of}
 use Rattle.sc_model.specs.Layout.{fault_order}
 use Rattle.sc_model.specs.Pre.{Fault}
 use Rattle.sc_model.proofs.TextLaws.{code_of-injective}
@@ -30,7 +28,6 @@ texts_equal (x ∷ xs) (y ∷ ys) h =
     let rest = texts_equal xs ys parts.1 in
     cc
 
--- faults that are ordered alike are one
 pub faults_equal : (f g : Fault) → fault_order f g ≡ Equal → f ≡ g
 faults_equal f g h =
     let codes = then_equal _ _ h in
@@ -41,9 +38,3 @@ faults_equal f g h =
     let column = nat_equal _ _ columns.1 in
     let cause = code_of-injective _ _ (nat_equal _ _ codes.1) in
     λ i. record { cause = cause i; place = record { file = name i; position = record { line = line i; column = column i } } }
-
-pub fault_total : IsTotalOrder fault_order
-fault_total =
-    then_total
-    (then_total (then_total (on_total (λ (f : Fault). f.place.file) nat_list_cmp_total) (on_total (λ (f : Fault). f.place.position.line) nat_cmp_total)) (on_total (λ (f : Fault). f.place.position.column) nat_cmp_total))
-    (on_total (λ (f : Fault). code_of f.cause) nat_cmp_total)

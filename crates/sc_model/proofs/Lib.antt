@@ -1,4 +1,5 @@
 pub mod Alike
+pub mod Ascending
 pub mod ConditionLemmas
 pub mod Expansions
 pub mod FaultOrder

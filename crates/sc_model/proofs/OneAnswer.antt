@@ -1,7 +1,7 @@
 -- Items in order, none of them without a configuration, are told by what each configuration has of them.
-use Rattle.std.proofs.Common.{◌≡◌, ℕ, suc, ◌+◌, Bool, true, false, List, [], ◌∷◌, map, All, slice_get, refl, sym, ap, ◌∙◌, arith, if◌then◌else◌}
+use Rattle.std.proofs.Common.{◌≡◌, ℕ, Bool, true, false, List, [], ◌∷◌, map, All, refl, sym, ap, ◌∙◌, if◌then◌else◌}
 use Rattle.std.proofs.lemmas.Cmp.{tied_itself}
-use Rattle.std.proofs.lemmas.List.Elements.{All-nil, All-cons, All-head, All-tail, All-weaker}
+use Rattle.std.proofs.lemmas.List.Elements.{All-nil, All-head, All-tail}
 use Rattle.std.specs.List.{AllZip}
 use Rattle.std.specs.Ordering.{ordering_reverse}
 use Rattle.std.specs.declared.cmp.Ordering.{Ordering}
@@ -10,7 +10,8 @@ use Rattle.sc_model.specs.Layout.{fault_order, IsAscending, AreSame, IsEmpty, Ar
 use Rattle.sc_model.specs.Pre.{Fault}
 use Rattle.sc_model.specs.Space.{Space, IsListed}
 use Rattle.sc_model.specs.Text.{Condition, project}
-use Rattle.sc_model.proofs.FaultOrder.{faults_equal, fault_total}
+use Rattle.sc_model.proofs.Ascending.{IsBefore, All-before, IsAscending-tail, IsAscending-head, fault_total}
+use Rattle.sc_model.proofs.FaultOrder.{faults_equal}
 
 -- the same item under the same condition
 pub record IsSamePair {T : Type 0} (space : Space) (x y : Condition × T) : Type 0 where
@@ -30,38 +31,24 @@ module _ {T : Type 0} {space : Space} where
   pairs_from_alike (both f g item xs ys same rest) shown shown_too =
       (record { cond = same; item = refl }, pairs_from_alike rest (All-tail (IsShown space) (f, item) xs shown) (All-tail (IsShown space) (g, item) ys shown_too))
 
--- the fault is before each of these
-abbrev IsBefore : Fault → List (Condition × Fault) → Type 0
-IsBefore f pairs = All (λ (pair : Condition × Fault). fault_order f pair.1 ≡ Less) pairs
-
-IsBefore-cons : (f : Fault) (pair : Condition × Fault) (pairs : List (Condition × Fault)) → fault_order f pair.1 ≡ Less → IsBefore pair.1 pairs → IsBefore f (pair ∷ pairs)
-IsBefore-cons f pair pairs less before =
-    All-cons (λ (q : Condition × Fault). fault_order f q.1 ≡ Less) pair pairs less
-    (All-weaker (λ (q : Condition × Fault). fault_order pair.1 q.1 ≡ Less) (λ (q : Condition × Fault). fault_order f q.1 ≡ Less) (λ q later. fault_total.trans f pair.1 q.1 less later) pairs before)
-
-IsAscending-tail : (f : Fault) (fs : List Fault) → IsAscending (f ∷ fs) → IsAscending fs
-IsAscending-tail f fs ascending = record { each = λ k x y here next. let place : suc k + 1 ≡ suc (k + 1) = omega arith in ascending.each (suc k) x y here (ap (slice_get (f ∷ fs)) place ∙ next) }
-
--- the first of them is before the others
-first_before : (pair : Condition × Fault) (pairs : List (Condition × Fault)) → IsAscending (map (λ (p : Condition × Fault). p.1) (pair ∷ pairs)) → IsBefore pair.1 pairs
-first_before pair [] ascending = All-nil (λ (q : Condition × Fault). fault_order pair.1 q.1 ≡ Less)
-first_before pair (next ∷ pairs) ascending =
-    IsBefore-cons pair.1 next pairs (ascending.each 0 pair.1 next.1 refl refl) (first_before next pairs (IsAscending-tail pair.1 (map (λ (p : Condition × Fault). p.1) (next ∷ pairs)) ascending))
+-- the faults, each under its condition
+abbrev faults_of : List (Condition × Fault) → List Fault
+faults_of pairs = map (λ (pair : Condition × Fault). pair.1) pairs
 
 -- a fault that is before all of them is not among those of a configuration
-not_among : (f : Fault) (pairs : List (Condition × Fault)) (config : List ℕ) {rest : List Fault} → IsBefore f pairs → f ∷ rest ≡ project pairs config → ⊥
+not_among : (f : Fault) (pairs : List (Condition × Fault)) (config : List ℕ) {rest : List Fault} → All (IsBefore f) (faults_of pairs) → f ∷ rest ≡ project pairs config → ⊥
 not_among f [] config before e = cc
-not_among f (pair ∷ pairs) config {rest} before e = by (pair.0 config) e (not_among f pairs config (All-tail (λ (q : Condition × Fault). fault_order f q.1 ≡ Less) pair pairs before))
+not_among f (pair ∷ pairs) config {rest} before e = by (pair.0 config) e (not_among f pairs config (All-tail (IsBefore f) pair.1 (faults_of pairs) before))
   where
     by : (b : Bool) → f ∷ rest ≡ (if b then pair.1 ∷ project pairs config else project pairs config) → (f ∷ rest ≡ project pairs config → ⊥) → ⊥
     by true e later =
         let same : f ≡ pair.1 = cc in
-        let less = All-head (λ (q : Condition × Fault). fault_order f q.1 ≡ Less) pair pairs before in
+        let less = All-head (IsBefore f) pair.1 (faults_of pairs) before in
         let equal : fault_order f pair.1 ≡ Equal = ap (fault_order f) (sym same) ∙ tied_itself fault_total f in
         cc
     by false e later = later e
 
-absent : (x : Condition × Fault) (xs ys : List (Condition × Fault)) (config : List ℕ) → IsBefore x.1 ys → project (x ∷ xs) config ≡ project ys config → x.0 config ≡ false
+absent : (x : Condition × Fault) (xs ys : List (Condition × Fault)) (config : List ℕ) → All (IsBefore x.1) (faults_of ys) → project (x ∷ xs) config ≡ project ys config → x.0 config ≡ false
 absent x xs ys config before e = by (x.0 config) e
   where
     by : (b : Bool) → (if b then x.1 ∷ project xs config else project xs config) ≡ project ys config → b ≡ false
@@ -69,7 +56,7 @@ absent x xs ys config before e = by (x.0 config) e
     by false e = refl
 
 -- where the first ones are one fault, both have it or neither, and the others are the same
-alike_first : (x y : Condition × Fault) (xs ys : List (Condition × Fault)) (config : List ℕ) → x.1 ≡ y.1 → IsBefore x.1 xs → IsBefore y.1 ys → project (x ∷ xs) config ≡ project (y ∷ ys) config
+alike_first : (x y : Condition × Fault) (xs ys : List (Condition × Fault)) (config : List ℕ) → x.1 ≡ y.1 → All (IsBefore x.1) (faults_of xs) → All (IsBefore y.1) (faults_of ys) → project (x ∷ xs) config ≡ project (y ∷ ys) config
     → (x.0 config ≡ y.0 config) × (project xs config ≡ project ys config)
 alike_first x y xs ys config one before before_too e = by (x.0 config) (y.0 config) e
   where
@@ -79,26 +66,26 @@ alike_first x y xs ys config one before before_too e = by (x.0 config) (y.0 conf
     by true false e = absurd (not_among y.1 ys config before_too (ap (λ f. f ∷ project xs config) (sym one) ∙ e))
     by false true e = absurd (not_among x.1 xs config before (ap (λ f. f ∷ project ys config) one ∙ sym e))
 
-pub pairs_from_projections : {space : Space} (xs ys : List (Condition × Fault)) → IsAscending (map (λ (pair : Condition × Fault). pair.1) xs) → IsAscending (map (λ (pair : Condition × Fault). pair.1) ys)
+pub pairs_from_projections : {space : Space} (xs ys : List (Condition × Fault)) → IsAscending (faults_of xs) → IsAscending (faults_of ys)
     → All (IsShown space) xs → All (IsShown space) ys → ((config : List ℕ) → IsListed space config → project xs config ≡ project ys config) → AllZip (IsSamePair space) xs ys
 pairs_from_projections [] [] ascending ascending_too shown shown_too same = tt
 pairs_from_projections {space} [] (y ∷ ys) ascending ascending_too shown shown_too same =
-    absurd (All-head (IsShown space) y ys shown_too (record { none = λ config listed. absent y ys [] config (All-nil (λ (q : Condition × Fault). fault_order y.1 q.1 ≡ Less)) (sym (same config listed)) }))
+    absurd (All-head (IsShown space) y ys shown_too (record { none = λ config listed. absent y ys [] config (All-nil (IsBefore y.1)) (sym (same config listed)) }))
 pairs_from_projections {space} (x ∷ xs) [] ascending ascending_too shown shown_too same =
-    absurd (All-head (IsShown space) x xs shown (record { none = λ config listed. absent x xs [] config (All-nil (λ (q : Condition × Fault). fault_order x.1 q.1 ≡ Less)) (same config listed) }))
+    absurd (All-head (IsShown space) x xs shown (record { none = λ config listed. absent x xs [] config (All-nil (IsBefore x.1)) (same config listed) }))
 pairs_from_projections {space} (x ∷ xs) (y ∷ ys) ascending ascending_too shown shown_too same =
     by (fault_order x.1 y.1) refl
-    (pairs_from_projections xs ys (IsAscending-tail x.1 (map (λ (p : Condition × Fault). p.1) xs) ascending) (IsAscending-tail y.1 (map (λ (p : Condition × Fault). p.1) ys) ascending_too)
+    (pairs_from_projections xs ys (IsAscending-tail ascending) (IsAscending-tail ascending_too)
     (All-tail (IsShown space) x xs shown) (All-tail (IsShown space) y ys shown_too))
   where
     by : (o : Ordering) → fault_order x.1 y.1 ≡ o → (((config : List ℕ) → IsListed space config → project xs config ≡ project ys config) → AllZip (IsSamePair space) xs ys)
         → AllZip (IsSamePair space) (x ∷ xs) (y ∷ ys)
     by Less less later =
-        absurd (All-head (IsShown space) x xs shown (record { none = λ config listed. absent x xs (y ∷ ys) config (IsBefore-cons x.1 y ys less (first_before y ys ascending_too)) (same config listed) }))
+        absurd (All-head (IsShown space) x xs shown (record { none = λ config listed. absent x xs (y ∷ ys) config (All-before x.1 y.1 (faults_of ys) less (IsAscending-head y.1 (faults_of ys) ascending_too)) (same config listed) }))
     by Greater greater later =
         let less : fault_order y.1 x.1 ≡ Less = fault_total.antisymm y.1 x.1 ∙ ap ordering_reverse greater in
-        absurd (All-head (IsShown space) y ys shown_too (record { none = λ config listed. absent y ys (x ∷ xs) config (IsBefore-cons y.1 x xs less (first_before x xs ascending)) (sym (same config listed)) }))
+        absurd (All-head (IsShown space) y ys shown_too (record { none = λ config listed. absent y ys (x ∷ xs) config (All-before y.1 x.1 (faults_of xs) less (IsAscending-head x.1 (faults_of xs) ascending)) (sym (same config listed)) }))
     by Equal equal later =
         let one = faults_equal x.1 y.1 equal in
-        let each = λ (config : List ℕ) (listed : IsListed space config). alike_first x y xs ys config one (first_before x xs ascending) (first_before y ys ascending_too) (same config listed) in
+        let each = λ (config : List ℕ) (listed : IsListed space config). alike_first x y xs ys config one (IsAscending-head x.1 (faults_of xs) ascending) (IsAscending-head y.1 (faults_of ys) ascending_too) (same config listed) in
         (record { cond = record { at = λ config listed. (each config listed).0 }; item = one }, later (λ config listed. (each config listed).1))
