@@ -1,5 +1,5 @@
 -- Conditions by their numbers, the options of one, and bytes that are compared.
-use Rattle.std.proofs.Common.{◌≡◌, ℕ, zero, suc, ◌<◌, ◌≤◌, ◌==◌, ◌&&◌, nat_lt, true, List, [], ◌∷◌, ◌++◌, length, map, slice_get, slice_index, Some, refl, sym, ap, arith}
+use Rattle.std.proofs.Common.{◌≡◌, ℕ, zero, suc, ◌<◌, ◌≤◌, ◌==◌, ◌&&◌, nat_lt, true, List, [], ◌∷◌, ◌++◌, length, map, slice_index, refl, sym, ap, arith}
 use Rattle.std.proofs.lemmas.Bool.{eq-eqb, eqb-true, ltb-true, true≢false, and_parts}
 use Rattle.sc_model.specs.Bytes.{same_bytes}
 use Rattle.sc_model.specs.Text.{Condition, condition_at, are_options, chosen}
@@ -13,16 +13,6 @@ condition_at-push (t ∷ tests) test (suc n) h = condition_at-push tests test n 
 pub condition_at-last : (tests : List Condition) (test : Condition) (c : List ℕ) → condition_at (tests ++ test ∷ []) (length tests) c ≡ test c
 condition_at-last [] test c = refl
 condition_at-last (t ∷ tests) test c = condition_at-last tests test c
-
--- an item stays in place as one is added
-pub slice_get-push : {T : Type 0} (xs : List T) (x : T) (n : ℕ) → n < length xs → slice_get (xs ++ x ∷ []) n ≡ slice_get xs n
-slice_get-push [] x n below = absurd (omega arith)
-slice_get-push (y ∷ ys) x zero below = refl
-slice_get-push (y ∷ ys) x (suc n) below = slice_get-push ys x n (omega arith)
-
-pub slice_get-last : {T : Type 0} (xs : List T) (x : T) → slice_get (xs ++ x ∷ []) (length xs) ≡ Some x
-slice_get-last [] x = refl
-slice_get-last (y ∷ ys) x = slice_get-last ys x
 
 -- the same bytes are the same list
 pub same_bytes-refl : (xs : List ℕ) → same_bytes xs xs ≡ true

@@ -10,7 +10,8 @@ use Rattle.sc_model.specs.Pre.{Fault}
 use Rattle.sc_model.specs.Space.{Variable, Space, option_text}
 use Rattle.sc_model.specs.Text.{Condition, Answer, Printed, TextLine, condition_line, file_line, token_line, fault_line, end_line, Reading, condition_at, variable_from, are_options, chosen, with_condition, with_file, with_token, with_fault, with_end, place_of, read_condition, read_line, read_lines}
 use Rattle.sc_model.specs.Token.{Place, Shown}
-use Rattle.sc_model.proofs.ConditionLemmas.{condition_at-push, condition_at-last, slice_get-push, slice_get-last, chosen-kept}
+use Rattle.sc_model.proofs.ConditionLemmas.{condition_at-push, condition_at-last, chosen-kept}
+use Rattle.sc_model.proofs.ListLemmas.{slice_get-push, slice_get-seam}
 
 -- what is read of each line, by the conditions and the files that all lines give
 abbrev pub tokens_read : List Condition → List (List ℕ) → List TextLine → List (Condition × Shown)
@@ -178,6 +179,7 @@ module _ (space : Space) (r : Reading) where
     faults = faults;
   }
 
+  -- a node has the configurations that its options choose
   adds_node : (id : ℕ) (name : List ℕ) (options : List (List ℕ × ℕ)) (place : ℕ) (variable : Variable) → 0 < length r.conditions → variable_from 0 space.variables name ≡ Some (place, variable)
       → id ≡ length r.conditions → are_options id (map option_text variable.options) options ≡ true
       → HasRead space r (with_condition r (chosen r.conditions place options)) (condition_line id name options ∷ [])
@@ -216,6 +218,7 @@ module _ (space : Space) (r : Reading) where
       by None found read = absurd (cc)
       by (Some name) found read = (name, found, same_Some _ _ read)
 
+  -- a line says what it reads as
   adds_line : (line : TextLine) (s : Reading) → 0 < length r.conditions → read_line space r line ≡ Some s → HasRead space r s (line ∷ [])
   adds_line (condition_line id name options) s begun read = by (variable_from 0 space.variables name) refl read
     where
@@ -233,7 +236,7 @@ module _ (space : Space) (r : Reading) where
         kept = λ n below. refl;
         files_grow = omega (arith, long);
         files_kept = slice_get-push r.files name;
-        holds = holds_alone space r.conditions (r.files ++ name ∷ []) (file_line id name) (ap (slice_get (r.files ++ name ∷ [])) (eqb-true id _ told.0) ∙ slice_get-last r.files name);
+        holds = holds_alone space r.conditions (r.files ++ name ∷ []) (file_line id name) (ap (slice_get (r.files ++ name ∷ [])) (eqb-true id _ told.0) ∙ slice_get-seam r.files name []);
         tokens = sym (append-nil r.answer.tokens);
         faults = sym (append-nil r.answer.faults);
       })

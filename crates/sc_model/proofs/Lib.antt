@@ -5,6 +5,7 @@ pub mod Expansions
 pub mod FaultOrder
 pub mod LayoutReading
 pub mod LexLaws
+pub mod ListLemmas
 pub mod NestLaws
 pub mod Nodes
 pub mod Numerals
