@@ -18,7 +18,8 @@ use Rattle.sc_model.specs.declared.cause.Cause.{Cause}
 use Rattle.sc_model.specs.declared.cause.Cause.TheVariants.{NotFound, FileTooLarge, UnterminatedComment, BadNesting, BadDirective, BadDefine, Redefined, ProtectedName, BadIf, IfDivision, IfOverflow, IfShift, DefinedFromMacro, BadInclude, IncludeDepth, ErrorDirective, UnterminatedCall, WrongArguments, BadPaste, BadStringize, BadToken, Syntax}
 use Rattle.sc_model.specs.Cause.{code_of}
 use Rattle.sc_model.specs.Pre.{Fault}
-use Rattle.sc_show.specs.Order.{fault_order, IsKeyOf, IsInOrder, IsAscending, MayFollow, EndsWith}
+use Rattle.sc_show.specs.Order.{IsKeyOf, IsInOrder, MayFollow, EndsWith}
+use Rattle.sc_model.specs.Layout.{fault_order, IsAscending}
 
 -- where two orders in a row find no difference, neither does
 then_equal : (o p : Ordering) → ordering_then o p ≡ Equal → (o ≡ Equal) × (p ≡ Equal)
@@ -120,7 +121,7 @@ strictly f g h other = by (fault_order g f) h (fault_total.antisymm f g)
     by Greater h e = e
 
 -- what an item of a mapped list comes from
-found_in : {X Y : Type 0} (f : X → Y) (xs : List X) (k : ℕ) (y : Y) → slice_get (map f xs) k ≡ Some y → (x : X) × (slice_get xs k ≡ Some x) × (f x ≡ y)
+pub found_in : {X Y : Type 0} (f : X → Y) (xs : List X) (k : ℕ) (y : Y) → slice_get (map f xs) k ≡ Some y → (x : X) × (slice_get xs k ≡ Some x) × (f x ≡ y)
 found_in f [] k y at = absurd (cc)
 found_in f (x ∷ xs) zero y at = (x, refl, same_Some (f x) y at)
 found_in f (x ∷ xs) (suc k) y at = found_in f xs k y at
