@@ -7,3 +7,5 @@ pub mod SetLemmas
 pub mod TextLaws
 mod TextVectors
 mod Vectors
+pub mod LayoutLemmas
+pub mod Ascending
