@@ -1,4 +1,8 @@
+pub mod Alike
+pub mod ConditionLemmas
+pub mod LayoutReading
 pub mod LexLaws
+pub mod ListLemmas
 pub mod NestLaws
 pub mod Numerals
 pub mod PreLaws
