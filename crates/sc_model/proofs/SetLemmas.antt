@@ -86,14 +86,7 @@ module _ {old new : Sets} where
   DependsOn-kept {a} keeps own depends = DependsOn-same keeps.arities (λ c listed. keeps.at a c own listed) depends
 
   pub DependsOn-Keeps : {a v : ℕ} → Keeps old new → IsCond old a → DependsOn old a v → DependsOn new a v
-  DependsOn-Keeps {a} {v} keeps own depends = record {
-    config = depends.config;
-    option = depends.option;
-    listed = IsConfig-Keeps keeps depends.listed;
-    within = subst (λ ns. v < length ns) (sym keeps.arities) depends.within;
-    in_range = subst (λ ns. depends.option < slice_index ns v) (sym keeps.arities) depends.in_range;
-    changes = λ same. depends.changes (sym (keeps.at a _ own depends.listed) ∙ same ∙ keeps.at a _ own (IsConfig-set v _ depends.listed depends.within depends.in_range));
-  }
+  DependsOn-Keeps {a} keeps own depends = DependsOn-same (sym keeps.arities) (λ c listed. sym (keeps.at a c own (IsConfig-kept keeps listed))) depends
 
   pub DependsFrom-Keeps : {a v : ℕ} → Keeps old new → IsCond old a → DependsFrom old a v → DependsFrom new a v
   DependsFrom-Keeps {a} keeps own from = DependsFrom-same keeps.arities (λ c listed. keeps.at a c own listed) from
