@@ -3,6 +3,8 @@ pub mod Ascending
 pub mod ConditionLemmas
 pub mod Expansions
 pub mod FaultOrder
+pub mod ItemsRead
+pub mod LayoutLemmas
 pub mod LayoutReading
 pub mod LexLaws
 pub mod ListLemmas
@@ -18,5 +20,3 @@ pub mod SetLemmas
 pub mod TextLaws
 mod TextVectors
 mod Vectors
-pub mod LayoutLemmas
-pub mod Ascending
