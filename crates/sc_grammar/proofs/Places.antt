@@ -8,6 +8,7 @@ use Rattle.sc_model.specs.declared.grammar.Mark.{Mark}
 use Rattle.sc_model.specs.declared.grammar.Nonterminal.{Nonterminal}
 use Rattle.sc_model.specs.declared.grammar.Entry.{Entry}
 use Rattle.sc_model.specs.declared.grammar.Entry.TheVariants.{Left}
+use Rattle.sc_model.proofs.ListLemmas.{slice_get-seam}
 use Rattle.sc_grammar.specs.Production.{symbols_of, places_from}
 
 length_right : (xs : List Symbol) → length (right_entries xs) ≡ length xs
@@ -17,10 +18,6 @@ length_right (x ∷ xs) = ap suc (length_right xs)
 pub symbols-right : (xs : List Symbol) → symbols_of (right_entries xs) ≡ xs
 symbols-right [] = refl
 symbols-right (x ∷ xs) = ap (λ zs. x ∷ zs) (symbols-right xs)
-
-slice_at : {A : Type 0} (xs : List A) (y : A) (ys : List A) → slice_get (xs ++ y ∷ ys) (length xs) ≡ Some y
-slice_at [] y ys = refl
-slice_at (x ∷ xs) y ys = slice_at xs y ys
 
 -- the entries before a production and after it, and where it begins and ends
 pub record Stands (n : ℕ) (ps : List Rule) (k : ℕ) (p : Rule) : Type 0 where
@@ -64,7 +61,7 @@ reads ps entries right k begin end p at e f h r =
     let begin_is : begin ≡ length s.before = same_Some begin (0 + length s.before) (sym f ∙ s.begin) ∙ zero-add (length s.before) in
     let end_is : end ≡ length s.before + (length p.right + 1) = omega (arith, same_Some end (0 + length s.before + (length p.right + 1)) (sym h ∙ s.end)) in
     let whole = e ∙ s.entries in
-    let left : slice_get entries begin ≡ Some (Left (record { 0 = p.left }) p.mark) = rw (whole, begin_is) (slice_at s.before (Left (record { 0 = p.left }) p.mark) (right_entries p.right ++ s.behind)) in
+    let left : slice_get entries begin ≡ Some (Left (record { 0 = p.left }) p.mark) = rw (whole, begin_is) (slice_get-seam s.before (Left (record { 0 = p.left }) p.mark) (right_entries p.right ++ s.behind)) in
     let first : List Entry = s.before ++ (Left (record { 0 = p.left }) p.mark ∷ []) in
     let split : entries ≡ first ++ (right_entries p.right ++ s.behind) = whole ∙ sym (append_assoc s.before (Left (record { 0 = p.left }) p.mark ∷ []) (right_entries p.right ++ s.behind)) in
     let first_long : length first ≡ begin + 1 = length_push s.before (Left (record { 0 = p.left }) p.mark) ∙ ap (λ z. z + 1) (sym begin_is) in

@@ -11,9 +11,10 @@ use Rattle.std.proofs.lemmas.Bool.{cases_lt}
 use Rattle.sc_model.specs.Grammar.{IsStart, after}
 use Rattle.sc_model.specs.Tables.{Moved, IsGoto, IsLeastPair, IsStates, Before}
 use Rattle.sc_model.specs.declared.grammar.Grammar.{Grammar}
+use Rattle.sc_model.proofs.ListLemmas.{slice_get-seam}
 use Rattle.sc_items.specs.Found.{Found, FoundAt}
 use Rattle.sc_items.proofs.Listing.{no_member}
-use Rattle.sc_items.proofs.Opening.{slice_get-push_old, slice_get-push_new, slice_get-push_cases}
+use Rattle.sc_items.proofs.Opening.{slice_get-push_old, slice_get-push_cases}
 
 -- ---- two rising lists with the same members are one
 pub cons_cases : (x v : ℕ) (xs : List ℕ) → Contains (x ∷ xs) v → (x ≡ v) ⊎ Contains xs v
@@ -146,7 +147,7 @@ new_not_before : (g : Grammar) (states : List (List ℕ)) (k : List ℕ) (s x : 
 new_not_before g states k s x f inc new r y r_in before h =
     let source_at = old_at g states k r h.source r_in h.source_at in
     let other = f.closed r y (get_or h.target 0 0) h.source before source_at (goto_member g (states ++ k ∷ []) r y (length states) h) in
-    let target_is : h.target ≡ k = same_Some h.target k (sym h.target_at ∙ slice_get-push_new states k) in
+    let target_is : h.target ≡ k = same_Some h.target k (sym h.target_at ∙ slice_get-seam states k []) in
     let source_is : other.1.source ≡ h.source = goto_source g states r y other.0 h.source other.1 source_at in
     let to : (v : ℕ) → Contains other.1.target v → Contains k v = λ v w. subst (λ zs. Contains zs v) target_is ((h.moved v).1 (subst (λ zs. Moved g zs y v) source_is ((other.1.moved v).0 w))) in
     let back : (v : ℕ) → Contains k v → Contains other.1.target v = λ v w. (other.1.moved v).1 (subst (λ zs. Moved g zs y v) (sym source_is) ((h.moved v).0 (subst (λ zs. Contains zs v) (sym target_is) w))) in
@@ -225,7 +226,7 @@ Found-new g states k s x source f at inc within some moved new = record {
       source = source;
       target = k;
       source_at = slice_get-push_old states k source s at;
-      target_at = slice_get-push_new states k;
+      target_at = slice_get-seam states k [];
       some = some;
       moved = moved;
     }

@@ -9,8 +9,8 @@ use Rattle.std.proofs.lemmas.Option.{same_Some, none-some}
 use Rattle.std.proofs.lemmas.Bool.{false≢true}
 use Rattle.std.proofs.lemmas.Slice.Eq.{bytes_eq-Decides}
 use Rattle.indexmap.specs.IndexSet.{insert_key}
+use Rattle.sc_model.proofs.ListLemmas.{slice_get-seam}
 use Rattle.sc_items.specs.Kernel.{lists, IsNumbered}
-use Rattle.sc_items.proofs.Opening.{slice_get-push_new}
 
 -- whether two kernels are equal
 abbrev pub same_items : Vec ℕ Global → Vec ℕ Global → Bool
@@ -55,4 +55,4 @@ numbered k old new number e f = go (list_any (same_items k) old) refl
         let pushed : new ≡ old ++ k ∷ [] = rw h at e in
         let here : number ≡ length (lists old) = f ∙ absent-position k old h ∙ sym (length-map old (λ (v : Vec ℕ Global). v.items)) in
         let grown : lists new ≡ lists old ++ k.items ∷ [] = ap lists pushed ∙ map_push (λ (v : Vec ℕ Global). v.items) old k in
-        record { at = rw (grown, here) (slice_get-push_new (lists old) k.items); grown = inr (grown, here, absent k old h) }
+        record { at = rw (grown, here) (slice_get-seam (lists old) k.items []); grown = inr (grown, here, absent k old h) }

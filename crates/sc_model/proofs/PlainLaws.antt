@@ -9,6 +9,7 @@ use Rattle.sc_model.specs.Bytes.{same_bytes, begins_with, is_digit, is_hex_digit
 use Rattle.sc_model.specs.Token.{Position, Lexeme}
 use Rattle.sc_model.specs.Lex.{token, rank, fits, fits_here, expects_header, is_header_row, IsLongest, Marked, bytes_of, with_first, lexeme, is_newline, Lexed, Lexes, nothing, white, piece, unended, goes_on, is_named, is_identifier, is_exponent, begins_with_digit, number_goes_on, number_is_named, is_number, closes, escapes, is_quoted, is_prefixed, header_closes, is_delimited, is_header, punctuators, is_one_byte}
 use Rattle.sc_model.specs.Text.{is_plain}
+use Rattle.sc_model.proofs.ConditionLemmas.{same_bytes-true}
 
 -- a byte that passes a test that the newline's doesn't
 apart : (test : ℕ → Bool) → test 10 ≡ false → (b : ℕ) → test b ≡ true → (b == 10) ≡ false
@@ -75,19 +76,9 @@ number-plain (b ∷ bs) h =
     ] in
     plain-cons b bs first (number_goes_on-plain false 0 bs p.1)
 
--- the same bytes are one text
-pub same_bytes-same : (xs ys : List ℕ) → same_bytes xs ys ≡ true → xs ≡ ys
-same_bytes-same [] [] h = refl
-same_bytes-same [] (y ∷ ys) h = cc
-same_bytes-same (x ∷ xs) [] h = cc
-same_bytes-same (x ∷ xs) (y ∷ ys) h =
-    let p = and_parts (x == y) (same_bytes xs ys) h in
-    let first : x ≡ y = eqb-true x y p.0 in
-    let rest = same_bytes-same xs ys p.1 in
-    cc
-
+-- the same bytes as a plain text
 same_bytes-plain : (xs ys : List ℕ) → is_plain ys ≡ true → same_bytes xs ys ≡ true → is_plain xs ≡ true
-same_bytes-plain xs ys plain same = subst (λ zs. is_plain zs ≡ true) (sym (same_bytes-same xs ys same)) plain
+same_bytes-plain xs ys plain same = subst (λ zs. is_plain zs ≡ true) (sym (same_bytes-true xs ys same)) plain
 
 -- a text with a plain front and a plain rest
 begins_with-plain : (prefix bs : List ℕ) → is_plain prefix ≡ true → begins_with prefix bs ≡ true → is_plain (drop (length prefix) bs) ≡ true → is_plain bs ≡ true
@@ -169,7 +160,7 @@ listed-plain bs (text ∷ texts) all h =
 one_byte-plain : (bs : List ℕ) → is_one_byte bs ≡ true → same_bytes bs (10 ∷ []) ≡ false → is_plain bs ≡ true
 one_byte-plain [] h no_newline = refl
 one_byte-plain (b ∷ bs) h no_newline =
-    let rest = same_bytes-same bs [] h in
+    let rest = same_bytes-true bs [] h in
     subst (λ cs. is_plain (b ∷ cs) ≡ true) (sym rest) (plain-cons b [] (elim (and_cases (b == 10) (same_bytes bs []) no_newline) [ inl e ↦ e | inr e ↦ absurd (true≢false (sym h ∙ e)) ]) refl)
 
 -- A text that is a token of the kind. Of the kinds after the newline's it is none.

@@ -31,6 +31,24 @@ Keeps-trans k l = record {
 pub Denotes-self : (s : Sets) (a : ℕ) → IsCond s a → Denotes s a (s.has a)
 Denotes-self s a own = record { own = own; at = λ c listed. refl }
 
+-- conditions with the same configurations depend on the same variables
+pub DependsOn-same : {s t : Sets} {a b v : ℕ} → t.arities ≡ s.arities → ((c : List ℕ) → IsConfig s.arities c → t.has b c ≡ s.has a c) → DependsOn t b v → DependsOn s a v
+DependsOn-same {s} {t} {a} {b} {v} arities same depends =
+    let listed : IsConfig s.arities depends.config = subst (λ ns. IsConfig ns depends.config) arities depends.listed in
+    let within : v < length s.arities = subst (λ ns. v < length ns) arities depends.within in
+    let in_range : depends.option < slice_index s.arities v = subst (λ ns. depends.option < slice_index ns v) arities depends.in_range in
+    record {
+      config = depends.config;
+      option = depends.option;
+      listed = listed;
+      within = within;
+      in_range = in_range;
+      changes = λ still. depends.changes (same _ listed ∙ still ∙ sym (same _ (IsConfig-set v _ listed within in_range)));
+    }
+
+pub DependsFrom-same : {s t : Sets} {a b v : ℕ} → t.arities ≡ s.arities → ((c : List ℕ) → IsConfig s.arities c → t.has b c ≡ s.has a c) → DependsFrom s a v → DependsFrom t b v
+DependsFrom-same arities same from = record { free = λ u below depends. from.free u below (DependsOn-same arities same depends) }
+
 module _ {old new : Sets} where
   -- the configurations are those that they were
   pub IsConfig-Keeps : {c : List ℕ} → Keeps old new → IsConfig old.arities c → IsConfig new.arities c
@@ -65,31 +83,13 @@ module _ {old new : Sets} where
 
   -- what a condition depends on, it depended on
   pub DependsOn-kept : {a v : ℕ} → Keeps old new → IsCond old a → DependsOn new a v → DependsOn old a v
-  DependsOn-kept {a} {v} keeps own depends =
-      let listed = IsConfig-kept keeps depends.listed in
-      let within : v < length old.arities = subst (λ ns. v < length ns) keeps.arities depends.within in
-      let in_range : depends.option < slice_index old.arities v = subst (λ ns. depends.option < slice_index ns v) keeps.arities depends.in_range in
-      record {
-        config = depends.config;
-        option = depends.option;
-        listed = listed;
-        within = within;
-        in_range = in_range;
-        changes = λ same. depends.changes (keeps.at a _ own listed ∙ same ∙ sym (keeps.at a _ own (IsConfig-set v _ listed within in_range)));
-      }
+  DependsOn-kept {a} keeps own depends = DependsOn-same keeps.arities (λ c listed. keeps.at a c own listed) depends
 
   pub DependsOn-Keeps : {a v : ℕ} → Keeps old new → IsCond old a → DependsOn old a v → DependsOn new a v
-  DependsOn-Keeps {a} {v} keeps own depends = record {
-    config = depends.config;
-    option = depends.option;
-    listed = IsConfig-Keeps keeps depends.listed;
-    within = subst (λ ns. v < length ns) (sym keeps.arities) depends.within;
-    in_range = subst (λ ns. depends.option < slice_index ns v) (sym keeps.arities) depends.in_range;
-    changes = λ same. depends.changes (sym (keeps.at a _ own depends.listed) ∙ same ∙ keeps.at a _ own (IsConfig-set v _ depends.listed depends.within depends.in_range));
-  }
+  DependsOn-Keeps {a} keeps own depends = DependsOn-same (sym keeps.arities) (λ c listed. sym (keeps.at a c own (IsConfig-kept keeps listed))) depends
 
   pub DependsFrom-Keeps : {a v : ℕ} → Keeps old new → IsCond old a → DependsFrom old a v → DependsFrom new a v
-  DependsFrom-Keeps keeps own from = record { free = λ u below depends. from.free u below (DependsOn-kept keeps own depends) }
+  DependsFrom-Keeps {a} keeps own from = DependsFrom-same keeps.arities (λ c listed. keeps.at a c own listed) from
 
   pub IsTop-Keeps : {a v : ℕ} → Keeps old new → IsCond old a → IsTop old a v → IsTop new a v
   IsTop-Keeps keeps own top = record { depends = DependsOn-Keeps keeps own top.depends; first = DependsFrom-Keeps keeps own top.first }

@@ -99,7 +99,7 @@ unfolding causes
 cause-code NotFound = refl
 cause-code _ = refl
 
-code_of-injective : (c d : Cause) → code_of c ≡ code_of d → c ≡ d
+pub code_of-injective : (c d : Cause) → code_of c ≡ code_of d → c ≡ d
 code_of-injective c d e = sym (cause-code c) ∙ (ap (λ code. get_or causes (code - 1) NotFound) e ∙ cause-code d)
 
 -- each kind of line with what follows it

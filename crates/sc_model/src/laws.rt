@@ -1,6 +1,7 @@
 //! Laws about the definitions, each the contract of a function without code.
 ghost use Rattle.std.specs.Prelude.{List, ℕ, true, ◌||◌, ◌≡◌, Result, Ok};
 ghost use Rattle.std.specs.List.{concat, list_all};
+ghost use Rattle.sc_model.specs.Layout.{IsSameAnswer, IsTextOf};
 ghost use Rattle.sc_model.specs.Lex.{Lexed, is_newline};
 ghost use Rattle.sc_model.specs.Lines.{Group, Line, Tree};
 ghost use Rattle.sc_model.specs.Outside.{Files};
@@ -32,4 +33,9 @@ pub fn preprocessing_has_one_answer()
 /// A text reads as one answer, however it is cut into pieces.
 pub fn text_has_one_answer()
     ensures { (space : Space) (p q : List (List ℕ)) (a b : Answer) → concat p ≡ concat q → Reads space p a → Reads space q b → a ≡ b }
+{}
+
+/// A result has one text: two texts that keep the rules and read as the same tokens and faults are one.
+pub fn result_has_one_text()
+    ensures { (space : Space) (p q : List (List ℕ)) (a b : Answer) → IsTextOf space p a → IsTextOf space q b → IsSameAnswer space a b → p ≡ q }
 {}

@@ -14,6 +14,6 @@ pub use grammar::{Action, Conflict, Entry, Grammar, Mark, Nonterminal, Symbol, T
 pub use kind::Kind;
 pub use laws::{
     lexing_has_one_answer, nesting_has_one_answer, preprocessing_has_one_answer,
-    text_has_one_answer, tokens_are_plain,
+    result_has_one_text, text_has_one_answer, tokens_are_plain,
 };
 pub use variable_option::VariableOption;

@@ -1,0 +1,13 @@
+-- Where the items of a list stand that grows.
+use Rattle.std.proofs.Common.{◌≡◌, ℕ, zero, suc, ◌<◌, List, [], ◌∷◌, ◌++◌, length, slice_get, Some, refl, arith}
+
+-- an item stays in place as one is added
+pub slice_get-push : {T : Type 0} (xs : List T) (x : T) (n : ℕ) → n < length xs → slice_get (xs ++ x ∷ []) n ≡ slice_get xs n
+slice_get-push [] x n below = absurd (omega arith)
+slice_get-push (y ∷ ys) x zero below = refl
+slice_get-push (y ∷ ys) x (suc n) below = slice_get-push ys x n (omega arith)
+
+-- an item stands after those before it
+pub slice_get-seam : {T : Type 0} (xs : List T) (x : T) (ys : List T) → slice_get (xs ++ x ∷ ys) (length xs) ≡ Some x
+slice_get-seam [] x ys = refl
+slice_get-seam (y ∷ xs) x ys = slice_get-seam xs x ys
