@@ -8,5 +8,6 @@ pub mod Steps
 pub mod Shows
 pub mod Reducing
 pub mod Ruling
+pub mod Ending
 pub mod Faults
 pub mod ConflictLines
