@@ -13,9 +13,8 @@ use Rattle.sc_guarded.specs.Items.{faults_at, seen_fault}
 use Rattle.sc_model.specs.Pre as model
 use Rattle.sc_model.specs.Sets.{Sets, IsConfig, IsCond, Denotes, Keeps}
 use Rattle.sc_model.proofs.SetLemmas.{IsConfig-kept, IsConfig-Keeps}
-use Rattle.sc_show.specs.Prints.{when}
 use Rattle.sc_show.specs.Shows.{AreApart}
-use Rattle.sc_show.proofs.Shows.{faults_at-Keeps, faults_more, map-when}
+use Rattle.sc_show.proofs.Shows.{when, faults_at-Keeps, faults_more, map-when}
 
 pub All-front : {X : Type 0} (P : X → Type 0) (xs ys : List X) → All P (xs ++ ys) → All P xs
 All-front P xs ys all = λ k d h. subst P (get_or-append xs ys d k h) (all k d (omega (arith, length-append xs ys)))

@@ -1,211 +1,148 @@
--- Lines after one another.
-use Rattle.std.proofs.Common.{◌≡◌, ℕ, zero, suc, ◌+◌, ◌<◌, ◌≤◌, ◌⊎◌, inl, inr, ◌==◌, ◌||◌, Bool, true, false, List, [], ◌∷◌, ◌++◌, length, map, take, slice_get, slice_index, get_or, Some, refl, sym, ap, subst, ◌∙◌, arith, append-nil, append_assoc, length-append}
-use Rattle.std.specs.List.{Contains, concat, list_any}
+-- Lines after one another, and the numbers that they give.
+use Rattle.std.proofs.Common.{◌≡◌, ℕ, zero, suc, ◌+◌, ◌<◌, ◌≤◌, ◌⊎◌, inl, inr, ◌==◌, ◌||◌, Bool, true, false, List, [], ◌∷◌, ◌++◌, length, map, take, slice_get, get_or, Some, All, refl, sym, ap, subst, ◌∙◌, arith, append-nil, append_assoc, length-append}
+use Rattle.std.specs.List.{Contains, list_any}
 use Rattle.std.proofs.lemmas.Bool.{cases_lt, eq-eqb, true≢false}
 use Rattle.std.proofs.lemmas.List.{map-append, take_more}
-use Rattle.std.proofs.lemmas.List.Elements.{Contains-push_cases}
-use Rattle.std.proofs.lemmas.List.Folds.{concat-append}
-use Rattle.std.proofs.lemmas.Option.{same_Some, slice_get_within, get_or_from_slice_get}
-use Rattle.std.proofs.Math.ListN.{get_or-append}
-use Rattle.std.proofs.Math.Seq.{get_or-append_seam}
+use Rattle.std.proofs.lemmas.List.Elements.{All-nil, All-cons, All-append}
+use Rattle.std.proofs.lemmas.Option.{same_Some, slice_get_within, slice_get-get_or, get_or_from_slice_get}
 use Rattle.sc_base.specs.declared.id.Cond.{Cond}
 use Rattle.sc_base.specs.declared.id.FileId.{FileId}
-use Rattle.sc_base.proofs.Growth.{Extends-keeps, slice_get-append_seam, slice_get-append_left}
+use Rattle.sc_base.proofs.Growth.{Extends-refl, Extends-trans, Extends-push, Extends-keeps, slice_get-append_seam, slice_get-append_left}
 use Rattle.sc_model.specs.Growth.{Extends}
+use Rattle.sc_model.specs.Layout.{Introduces, nothing, known, node, IntroducesFiles, no_file, known_file, new_file, LaysOut, done, shows, HasOrder, conditions_of, files_of}
 use Rattle.sc_model.specs.Sets.{Sets, IsConfig, IsCond, Denotes, Keeps, IsCanonical, IsNever, IsAlways, DependsFrom, IsTop}
-use Rattle.sc_model.specs.Space.{Space, Variable}
-use Rattle.sc_model.specs.Text.{TextLine, condition_line, file_line, line_text}
-use Rattle.sc_model.proofs.SetLemmas.{Keeps-trans, IsConfig-kept, DependsFrom-Keeps, IsTop-Keeps, IsConfig-Keeps, IsNever-Keeps, le-IsTop}
+use Rattle.sc_model.specs.Space.{Space, Variable, arities_of}
+use Rattle.sc_model.specs.Text.{Condition, TextLine, condition_line, file_line, line_text, is_plain}
+use Rattle.sc_model.proofs.SetLemmas.{Keeps-trans, IsConfig-kept, DependsFrom-Keeps, IsConfig-Keeps, IsNever-Keeps}
 use Rattle.sc_show.specs.declared.printer.Printer.{Printer}
-use Rattle.sc_show.specs.Prints.{IsTable, choices_of}
-use Rattle.sc_show.specs.Rules.{Introduced, Remains, IsNodeLine, Introduces, nothing, known, node, Item, ShowsItem, IntroducesFile, known_file, new_file, IntroducedFile, LaysOut, done, left_out, shown, LaidOut}
+use Rattle.sc_show.specs.Prints.{HasPlainNames, IsTable, Prints, choices_of}
+use Rattle.sc_show.specs.Rules.{AreFrom, Introduced, IntroducedFile, Item, AreLinesOf, no_line, without_line, line_of, LaidOut, tests_of}
+use Rattle.sc_show.proofs.Children.{HasChildren, HasChildren-grows, HasOrder-node}
+use Rattle.sc_show.proofs.Choices.{numbers-choices_of}
+use Rattle.sc_show.proofs.Numbers.{IsTable-Keeps, IsTable-push, owned_at}
+use Rattle.sc_show.proofs.Steps.{Prints-Keeps, Prints-printer, Prints-condition, Prints-file}
 
-pub Introduces-append : {space : Space} {s : Sets} {ks ls ms us bs : List Cond} {lines more : List TextLine} → Introduces space s ks us lines ls → Introduces space s ls bs more ms
-    → Introduces space s ks (us ++ bs) (lines ++ more) ms
-Introduces-append (nothing ks) b = b
-Introduces-append {bs = bs} {more = more} (known ks a us lines ls has rest) b = known ks a (us ++ bs) (lines ++ more) _ has (Introduces-append rest b)
-Introduces-append {space} {s} {ms = ms} {bs = bs} {more = more0} (node ks2 a us children lines line more between now absent first is rest) b =
-    subst (λ t. Introduces space s ks2 (a ∷ (us ++ bs)) t ms) (sym (append_assoc lines (line ∷ more) more0))
-    (node ks2 a (us ++ bs) children lines line (more ++ more0) between ms absent first is (Introduces-append rest b))
+All-one : {X : Type 0} (P : X → Type 0) (x : X) → P x → All P (x ∷ [])
+All-one P x p = All-cons P x [] p (All-nil P)
 
-Remains-Keeps : {old new : Sets} {a child : Cond} {v k : ℕ} → Keeps old new → IsCond old a.0 → Remains old a v k child → Remains new a v k child
-Remains-Keeps {old} {new} {a} {child} keeps own is = record {
-  own = keeps.own _ is.own;
-  later = DependsFrom-Keeps keeps is.own is.later;
-  agrees = λ c listed at.
-      let was = IsConfig-kept keeps listed in
-      keeps.at child.0 c is.own was ∙ is.agrees c was at ∙ sym (keeps.at a.0 c own was);
+-- ---- which conditions got a number
+
+pub AreFrom-none : {s : Sets} {ks : List Cond} {v : ℕ} → AreFrom s ks ks v
+AreFrom-none {s} {ks} = record { each = λ n a above at. absurd (omega (arith, slice_get_within ks n a at)) }
+
+pub AreFrom-before : {s : Sets} {ks ls : List Cond} {v w : ℕ} → v ≤ w → AreFrom s ks ls w → AreFrom s ks ls v
+AreFrom-before {v = v} {w = w} ahead from = record {
+  each = λ n a above at. let later = from.each n a above at in record { free = λ u below depends. later.free u (let far : u < w = omega (arith, ahead, below) in far) depends };
 }
 
-IsNodeLine-Keeps : {space : Space} {old new : Sets} {ks children : List Cond} {a : Cond} {line : TextLine} → Keeps old new → IsNodeLine space old ks a children line → IsNodeLine space new ks a children line
-IsNodeLine-Keeps keeps is = record {
-  own = keeps.own _ is.own;
-  place = is.place;
-  variable = is.variable;
-  numbers = is.numbers;
-  top = IsTop-Keeps keeps is.own is.top;
-  named = is.named;
-  whole = is.whole;
-  long = is.long;
-  remains = λ k child at. Remains-Keeps keeps is.own (is.remains k child at);
-  each = is.each;
-  is = is.is;
-}
-
-pub Introduces-Keeps : {space : Space} {old new : Sets} {ks us ls : List Cond} {lines : List TextLine} → Keeps old new → Introduces space old ks us lines ls → Introduces space new ks us lines ls
-Introduces-Keeps keeps (nothing ks) = nothing ks
-Introduces-Keeps keeps (known ks a us lines ls has rest) = known ks a us lines ls has (Introduces-Keeps keeps rest)
-Introduces-Keeps keeps (node ks a us children lines line more between now absent first is rest) =
-    node ks a us children lines line more between now absent (Introduces-Keeps keeps first) (IsNodeLine-Keeps keeps is) (Introduces-Keeps keeps rest)
-
--- each condition depends on variables from v on
-pub record AllFrom (s : Sets) (v : ℕ) (us : List Cond) : Type 0 where
-  pub each : (k : ℕ) (a : Cond) → slice_get us k ≡ Some a → DependsFrom s a.0 v
-
-AllFrom-first : {s : Sets} {v : ℕ} {a : Cond} {us : List Cond} → AllFrom s v (a ∷ us) → DependsFrom s a.0 v
-AllFrom-first {s} {v} {a} from = from.each 0 a refl
-
-AllFrom-rest : {s : Sets} {v : ℕ} {a : Cond} {us : List Cond} → AllFrom s v (a ∷ us) → AllFrom s v us
-AllFrom-rest from = record { each = λ k b at. from.each (suc k) b at }
-
-AllFrom-children : {space : Space} {s : Sets} {ks children : List Cond} {a : Cond} {line : TextLine} {v : ℕ} → IsNodeLine space s ks a children line → DependsFrom s a.0 v → AllFrom s v children
-AllFrom-children {space} {s} {ks} {children} {a} {line} {v} is from =
-    let ahead : v ≤ is.place = le-IsTop is.top from in
-    record { each = λ k child at. let later = (is.remains k child at).later in record { free = λ u below depends. later.free u (omega arith) depends } }
-
--- what gets a number depends on no earlier variable than what is needed
-pub Introduces-from : {space : Space} {s : Sets} {ks us ls : List Cond} {lines : List TextLine} (v : ℕ) (b : Cond) → Introduces space s ks us lines ls → AllFrom s v us
-    → Contains ls b → Contains ks b ⊎ DependsFrom s b.0 v
-Introduces-from v b (nothing ks) from has = inl has
-Introduces-from v b (known ks a us lines ls known_a rest) from has = Introduces-from v b rest (AllFrom-rest from) has
-Introduces-from {space} {s} v b (node ks a us children lines line more between now absent first is rest) from has =
-    by (Introduces-from v b first (AllFrom-children is (AllFrom-first from))) (Introduces-from v b rest (AllFrom-rest from) has)
+pub AreFrom-push : {s : Sets} {ks ls : List Cond} {v : ℕ} (a : Cond) → DependsFrom s a.0 v → AreFrom s ks ls v → AreFrom s ks (ls ++ a ∷ []) v
+AreFrom-push {s} {ks} {ls} {v} a later from = record { each = λ n b above at. by n b above at (cases_lt n (length ls)) }
   where
-    last : (Contains between b → Contains ks b ⊎ DependsFrom s b.0 v) → Contains between b ⊎ (a ≡ b) → Contains ks b ⊎ DependsFrom s b.0 v
-    last before (inl has) = before has
-    last before (inr same) = inr (subst (λ (x : Cond). DependsFrom s x.0 v) same (AllFrom-first from))
+    by : (n : ℕ) (b : Cond) → length ks ≤ n → slice_get (ls ++ a ∷ []) n ≡ Some b → (n < length ls) ⊎ (length ls ≤ n) → DependsFrom s b.0 v
+    by n b above at (inl below) = from.each n b above (sym (slice_get-append_left ls (a ∷ []) n below) ∙ at)
+    by n b above at (inr past) =
+        let within = slice_get_within (ls ++ a ∷ []) n b at in
+        let last : length ls ≡ n = omega (arith, length-append ls (a ∷ [])) in
+        subst (λ (x : Cond). DependsFrom s x.0 v) (same_Some a b (sym (slice_get-append_seam ls a []) ∙ ap (slice_get (ls ++ a ∷ [])) last ∙ at)) later
 
-    by : (Contains between b → Contains ks b ⊎ DependsFrom s b.0 v) → Contains (between ++ a ∷ []) b ⊎ DependsFrom s b.0 v → Contains ks b ⊎ DependsFrom s b.0 v
-    by before (inl has) = last before (Contains-push_cases between a b has)
-    by before (inr later) = inr later
+pub AreFrom-trans : {old new : Sets} {ks ls ms : List Cond} {v : ℕ} → Keeps old new → IsTable old ls → Extends ls ms → AreFrom old ks ls v → AreFrom new ls ms v → AreFrom new ks ms v
+AreFrom-trans {old} {new} {ks} {ls} {ms} {v} keeps table grows first second = record { each = λ n a above at. by n a above at (cases_lt n (length ls)) }
+  where
+    by : (n : ℕ) (a : Cond) → length ks ≤ n → slice_get ms n ≡ Some a → (n < length ls) ⊎ (length ls ≤ n) → DependsFrom new a.0 v
+    by n a above at (inl below) = let was = sym (grows.kept n below) ∙ at in DependsFrom-Keeps keeps (owned_at n a table was) (first.each n a above was)
+    by n a above at (inr past) = second.each n a past at
 
--- the children of a condition so far, and what was printed for them
-pub record HasParts (space : Space) (s : Sets) (p q : Printer) (a : Cond) (v : ℕ) (numbers : List ℕ) : Type 0 where
-  pub children : List Cond
-  pub lines : List TextLine
-  pub introduces : Introduces space s p.conditions.keys children lines q.conditions.keys
-  pub written : q.text.items ≡ p.text.items ++ concat (map line_text lines)
-  pub long : length numbers ≡ length children
-  pub remains : (k : ℕ) (child : Cond) → slice_get children k ≡ Some child → Remains s a v k child
-  pub each : (k : ℕ) (child : Cond) → slice_get children k ≡ Some child → slice_get q.conditions.keys (slice_index numbers k) ≡ Some child
+-- a condition gets no number from what depends on later variables than it does
+pub AreFrom-absent : {s : Sets} {ks ls : List Cond} {v : ℕ} (a : Cond) → Extends ks ls → AreFrom s ks ls (v + 1) → IsTop s a.0 v → (Contains ks a → ⊥) → Contains ls a → ⊥
+AreFrom-absent {s} {ks} {ls} {v} a grows from top absent has = by (cases_lt has.0 (length ks))
+  where
+    at : slice_get ls has.0 ≡ Some a
+    at = slice_get-get_or ls has.0 a has.1 ∙ ap Some has.2
 
-has_at : {X : Type 0} (xs : List X) (x : X) (n : ℕ) → slice_get xs n ≡ Some x → Contains xs x
-has_at xs x n at = (n, slice_get_within xs n x at, get_or_from_slice_get xs n x x at)
+    by : (has.0 < length ks) ⊎ (length ks ≤ has.0) → ⊥
+    by (inl below) = absent (has.0, below, get_or_from_slice_get ks has.0 a a (sym (grows.kept has.0 below) ∙ at))
+    by (inr past) = (from.each has.0 a past at).free v (omega arith) top.depends
 
-pub HasParts-none : {space : Space} {s : Sets} {p : Printer} {a : Cond} {v : ℕ} {numbers : List ℕ} → numbers ≡ [] → HasParts space s p p a v numbers
-HasParts-none {space} {s} {p} {a} {v} {numbers} none = record {
-  children = [];
-  lines = [];
-  introduces = nothing p.conditions.keys;
-  written = sym (append-nil p.text.items);
-  long = ap length none;
-  remains = λ k child at. absurd (cc);
-  each = λ k child at. absurd (cc);
+-- ---- the lines of conditions
+
+Introduces-append : {n m i : ℕ} {ns ms : List ℕ} {lines more : List TextLine} → Introduces n ns lines m → Introduces m ms more i → Introduces n (ns ++ ms) (lines ++ more) i
+Introduces-append (nothing n) b = b
+Introduces-append {ms = ms} {more = more} (known n number ns lines m below rest) b = known n number (ns ++ ms) (lines ++ more) _ below (Introduces-append rest b)
+Introduces-append {i = i} {ms = ms} {more = more0} (node n number variable options ns lines more m first rest) b =
+    subst (λ t. Introduces n (number ∷ (ns ++ ms)) t i) (sym (append_assoc lines (condition_line number variable options ∷ more) more0))
+    (node n number variable options (ns ++ ms) lines (more ++ more0) i first (Introduces-append rest b))
+
+pub Introduced-trans : {space : Space} {s t u : Sets} {p q r : Printer} {ns ms : List ℕ} → Keeps t u → Introduced space s t p q ns → Introduced space t u q r ms → Introduced space s u p r (ns ++ ms)
+Introduced-trans {space} {s} {t} {u} {p} {q} {r} keeps a b = record {
+  lines = a.lines ++ b.lines;
+  introduces = Introduces-append a.introduces b.introduces;
+  ordered = λ v ks kept grows. All-append (HasOrder space (tests_of v ks)) a.lines b.lines (a.ordered v ks (Keeps-trans keeps kept) (Extends-trans b.grows grows)) (b.ordered v ks kept grows);
+  table = b.table;
+  grows = Extends-trans a.grows b.grows;
+  same_files = b.same_files ∙ a.same_files;
+  prints = λ files before was. subst (Prints space u files r) (append_assoc before a.lines b.lines) (b.prints files (before ++ a.lines) (a.prints files before was));
 }
 
--- two texts after one another
-written_both : (t u v : List ℕ) (lines more : List TextLine) → u ≡ t ++ concat (map line_text lines) → v ≡ u ++ concat (map line_text more) → v ≡ t ++ concat (map line_text (lines ++ more))
-written_both t u v lines more first second =
-    second ∙ ap (λ x. x ++ concat (map line_text more)) first ∙ append_assoc t (concat (map line_text lines)) (concat (map line_text more))
-    ∙ ap (λ x. t ++ x) (sym (ap concat (map-append line_text lines more) ∙ concat-append (map line_text lines) (map line_text more)))
-
-written_one : (t v : List ℕ) (line : TextLine) → v ≡ t ++ line_text line → v ≡ t ++ concat (map line_text (line ∷ []))
-written_one t v line first = first ∙ ap (λ x. t ++ x) (sym (append-nil (line_text line)))
-
--- the parts are those of the condition us the sets grow and more was printed
-module _ {space : Space} {old mid new : Sets} {p q r : Printer} {a : Cond} {v : ℕ} {numbers : List ℕ} where
-  pub HasParts-push : (child : Cond) (number : ℕ) (more : List ℕ) → Keeps old mid → Keeps mid new → IsCond old a.0 → HasParts space old p q a v numbers → Remains mid a v (length numbers) child
-      → Introduced space new q r child → slice_get r.conditions.keys number ≡ Some child → Extends q.conditions.keys r.conditions.keys → more ≡ numbers ++ number ∷ [] → HasParts space new p r a v more
-  HasParts-push child number more first second own was is printed at grows pushed =
-      let kept = Keeps-trans first second in
-      record {
-        children = was.children ++ child ∷ [];
-        lines = was.lines ++ printed.lines;
-        introduces = Introduces-append (Introduces-Keeps kept was.introduces) printed.introduces;
-        written = written_both _ _ _ was.lines printed.lines was.written printed.written;
-        long = ap length pushed ∙ length-append numbers (number ∷ []) ∙ ap (λ n. n + 1) was.long ∙ sym (length-append was.children (child ∷ []));
-        remains = λ k x found. by_child k x found (cases_lt k (length was.children));
-        each = λ k x found. by_number k x found (cases_lt k (length was.children));
-      }
-    where
-      last_child : (k : ℕ) (x : Cond) → slice_get (was.children ++ child ∷ []) k ≡ Some x → length was.children ≤ k → (length was.children ≡ k) × (child ≡ x)
-      last_child k x found above =
-          let within = slice_get_within (was.children ++ child ∷ []) k x found in
-          let here : length was.children ≡ k = omega (arith, length-append was.children (child ∷ [])) in
-          (here, same_Some child x (sym (slice_get-append_seam was.children child []) ∙ ap (slice_get (was.children ++ child ∷ [])) here ∙ found))
-
-      by_child : (k : ℕ) (x : Cond) → slice_get (was.children ++ child ∷ []) k ≡ Some x → (k < length was.children) ⊎ (length was.children ≤ k) → Remains new a v k x
-      by_child k x found (inl below) = Remains-Keeps (Keeps-trans first second) own (was.remains k x (sym (slice_get-append_left was.children (child ∷ []) k below) ∙ found))
-      by_child k x found (inr above) =
-          let at_end = last_child k x found above in
-          let here : length numbers ≡ k = was.long ∙ at_end.0 in
-          subst (λ j. Remains new a v j x) here (subst (λ y. Remains new a v (length numbers) y) at_end.1 (Remains-Keeps second (first.own _ own) is))
-
-      by_number : (k : ℕ) (x : Cond) → slice_get (was.children ++ child ∷ []) k ≡ Some x → (k < length was.children) ⊎ (length was.children ≤ k) → slice_get r.conditions.keys (slice_index more k) ≡ Some x
-      by_number k x found (inl below) =
-          let before = was.each k x (sym (slice_get-append_left was.children (child ∷ []) k below) ∙ found) in
-          let h : k < length numbers = omega (arith, was.long) in
-          ap (λ n. slice_get r.conditions.keys n) (ap (λ ns. slice_index ns k) pushed ∙ get_or-append numbers (number ∷ []) 0 k h) ∙ Extends-keeps _ _ before grows
-      by_number k x found (inr above) =
-          let at_end = last_child k x found above in
-          let here : k ≡ length numbers = sym (was.long ∙ at_end.0) in
-          ap (λ n. slice_get r.conditions.keys n) (ap (λ ns. slice_index ns k) pushed ∙ ap (λ j. slice_index (numbers ++ number ∷ []) j) here ∙ get_or-append_seam numbers number [] 0)
-          ∙ at ∙ ap Some at_end.1
-
--- a condition's line after its children
-pub Introduced-node : {space : Space} {s : Sets} {p q r : Printer} {a : Cond} {v : ℕ} {numbers : List ℕ} (variable : Variable) (number : ℕ) (ns : List ℕ)
-    → IsCond s a.0 → IsTop s a.0 v → slice_get space.variables v ≡ Some variable → length numbers ≡ length variable.options → (Contains p.conditions.keys a → ⊥)
-    → HasParts space s p q a v numbers → number ≡ length q.conditions.keys → r.conditions.keys ≡ q.conditions.keys ++ a ∷ [] → ns ≡ numbers
-    → r.text.items ≡ q.text.items ++ line_text (condition_line number variable.name (choices_of variable.options ns)) → Introduced space s p r a
-Introduced-node {space} {s} {p} {q} {r} {a} {v} {numbers} variable number ns own top named count absent parts at keys same written =
-    let line = condition_line (length q.conditions.keys) variable.name (choices_of variable.options numbers) in
-    record {
-      lines = parts.lines ++ line ∷ [];
-      introduces = subst (Introduces space s p.conditions.keys (a ∷ []) (parts.lines ++ line ∷ [])) (sym keys)
-          (node p.conditions.keys a [] parts.children parts.lines line [] q.conditions.keys (q.conditions.keys ++ a ∷ []) absent parts.introduces (record {
-            own = own;
-            place = v;
-            variable = variable;
-            numbers = numbers;
-            top = top;
-            named = named;
-            whole = sym parts.long ∙ count;
-            long = parts.long;
-            remains = parts.remains;
-            each = parts.each;
-            is = refl;
-          }) (nothing (q.conditions.keys ++ a ∷ [])));
-      written = written_both _ _ _ parts.lines (line ∷ []) parts.written
-          (written_one _ _ line (written ∙ ap (λ n. q.text.items ++ line_text (condition_line n variable.name (choices_of variable.options ns))) at
-          ∙ ap (λ ms. q.text.items ++ line_text (condition_line (length q.conditions.keys) variable.name (choices_of variable.options ms))) same));
-    }
+-- nothing is printed as the store grows
+pub Introduced-nothing : {space : Space} {old new : Sets} {p : Printer} → Keeps old new → IsTable old p.conditions.keys → Introduced space old new p p []
+Introduced-nothing {space} {old} {new} {p} keeps table = record {
+  lines = [];
+  introduces = nothing (length p.conditions.keys);
+  ordered = λ s ks kept grows. All-nil (HasOrder space (tests_of s ks));
+  table = IsTable-Keeps keeps table;
+  grows = Extends-refl p.conditions.keys;
+  same_files = refl;
+  prints = λ files before was. subst (Prints space new files p) (sym (append-nil before)) (Prints-Keeps keeps table was);
+}
 
 -- a condition that has a number already
-pub Introduced-known : {space : Space} {s : Sets} {p : Printer} (a : Cond) (n : ℕ) → slice_get p.conditions.keys n ≡ Some a → Introduced space s p p a
-Introduced-known {space} {s} {p} a n at = record {
+pub Introduced-known : {space : Space} {s : Sets} {p : Printer} (a : Cond) (n : ℕ) → IsTable s p.conditions.keys → slice_get p.conditions.keys n ≡ Some a → Introduced space s s p p (n ∷ [])
+Introduced-known {space} {s} {p} a n table at = record {
   lines = [];
-  introduces = known p.conditions.keys a [] [] p.conditions.keys (has_at p.conditions.keys a n at) (nothing p.conditions.keys);
-  written = sym (append-nil p.text.items);
+  introduces = known (length p.conditions.keys) n [] [] (length p.conditions.keys) (slice_get_within p.conditions.keys n a at) (nothing (length p.conditions.keys));
+  ordered = λ t ks kept grows. All-nil (HasOrder space (tests_of t ks));
+  table = table;
+  grows = Extends-refl p.conditions.keys;
+  same_files = refl;
+  prints = λ files before was. subst (Prints space s files p) (sym (append-nil before)) was;
 }
 
--- the condition itself gets no number from what it needs
-pub HasParts-absent : {space : Space} {s : Sets} {p q : Printer} {a : Cond} {v : ℕ} {numbers : List ℕ} → HasParts space s p q a v numbers → IsTop s a.0 v → (Contains p.conditions.keys a → ⊥)
-    → Contains q.conditions.keys a → ⊥
-HasParts-absent {space} {s} {p} {q} {a} {v} parts top absent has = by (Introduces-from (v + 1) a parts.introduces (record { each = λ k child at. (parts.remains k child at).later }) has)
+-- a condition's line after those of its children
+pub Introduced-node : {space : Space} {old s : Sets} {p q r : Printer} {ns : List ℕ} (a : Cond) (variable : Variable) (v number : ℕ) (shown : List ℕ) → HasPlainNames space → s.arities ≡ arities_of space
+    → slice_get space.variables v ≡ Some variable → v < length s.arities → IsCond s a.0 → Introduced space old s p q ns → HasChildren s q.conditions.keys a v ns → length ns ≡ length variable.options
+    → number ≡ length q.conditions.keys → r.conditions.keys ≡ q.conditions.keys ++ a ∷ [] → r.files.keys ≡ q.files.keys → shown ≡ ns
+    → r.text.items ≡ q.text.items ++ line_text (condition_line number variable.name (choices_of variable.options shown)) → Introduced space old s p r (number ∷ [])
+Introduced-node {space} {old} {s} {p} {q} {r} {ns} a variable v number shown plain arities named within own parts has count at keys same_files same written = record {
+  lines = parts.lines ++ line ∷ [];
+  introduces = subst (Introduces (length p.conditions.keys) (number ∷ []) (parts.lines ++ line ∷ [])) (sym counted)
+      (node (length p.conditions.keys) number variable.name options [] parts.lines [] (number + 1) children (nothing (number + 1)));
+  ordered = λ t ks kept grows.
+      All-append (HasOrder space (tests_of t ks)) parts.lines (line ∷ []) (parts.ordered t ks kept (Extends-trans longer grows))
+      (All-one (HasOrder space (tests_of t ks)) line (HasOrder-node number variable plain (kept.arities ∙ arities) named (HasChildren-grows kept own (Extends-trans longer grows) has)));
+  table = subst (IsTable s) (sym keys) (IsTable-push a own parts.table);
+  grows = Extends-trans parts.grows longer;
+  same_files = same_files ∙ parts.same_files;
+  prints = λ files before was.
+      subst (Prints space s files r) (append_assoc before parts.lines (line ∷ []))
+      (Prints-condition a variable v number ns plain arities named within has count at keys same_files
+      (written ∙ ap (λ ms. q.text.items ++ line_text (condition_line number variable.name (choices_of variable.options ms))) same) (parts.prints files before was));
+}
   where
-    by : Contains p.conditions.keys a ⊎ DependsFrom s a.0 (v + 1) → ⊥
-    by (inl before) = absent before
-    by (inr later) = later.free v (omega arith) top.depends
+    options : List (List ℕ × ℕ)
+    options = choices_of variable.options ns
+
+    line : TextLine
+    line = condition_line number variable.name (choices_of variable.options ns)
+
+    longer : Extends q.conditions.keys r.conditions.keys
+    longer = subst (Extends q.conditions.keys) (sym keys) (Extends-push q.conditions.keys a)
+
+    counted : length r.conditions.keys ≡ number + 1
+    counted = ap length keys ∙ length-append q.conditions.keys (a ∷ []) ∙ ap (λ n. n + 1) (sym at)
+
+    children : Introduces (length p.conditions.keys) (map (λ option. option.1) (choices_of variable.options ns)) parts.lines number
+    children = subst (λ ms. Introduces (length p.conditions.keys) ms parts.lines number) (sym (numbers-choices_of variable.options ns count))
+        (subst (Introduces (length p.conditions.keys) ns parts.lines) (sym at) parts.introduces)
 
 -- never has number 0, and always has number 1
 same_set : {s : Sets} (key a : Cond) (test : List ℕ → Bool) → IsCanonical s → Denotes s key.0 test → IsCond s a.0 → ((c : List ℕ) → IsConfig s.arities c → s.has a.0 c ≡ test c) → key ≡ a
@@ -236,110 +173,152 @@ any_Contains {X} p (y ∷ ys) x has h = by has.0 has.1 has.2 (λ more. any_Conta
 pub absent_cond : (ks : List Cond) (a : Cond) → false ≡ list_any (λ (k : Cond). a.0 == k.0) ks → Contains ks a → ⊥
 absent_cond ks a none has = true≢false (sym (any_Contains (λ (k : Cond). a.0 == k.0) ks a has (eq-eqb a.0 a.0 refl)) ∙ sym none)
 
-pub absent_file : (fs : List FileId) (f : FileId) → false ≡ list_any (λ (k : FileId). f.0 == k.0) fs → Contains fs f → ⊥
-absent_file fs f none has = true≢false (sym (any_Contains (λ (k : FileId). f.0 == k.0) fs f has (eq-eqb f.0 f.0 refl)) ∙ sym none)
+-- ---- the lines of files
 
-pub IntroducedFile-new : {files : List (List ℕ)} {p q : Printer} (file : FileId) (name : List ℕ) (number : ℕ) → false ≡ list_any (λ (k : FileId). file.0 == k.0) p.files.keys → slice_get files file.0 ≡ Some name
-    → number ≡ length p.files.keys → q.files.keys ≡ p.files.keys ++ file ∷ [] → q.text.items ≡ p.text.items ++ line_text (file_line number name) → IntroducedFile files p q file
-IntroducedFile-new {files} {p} {q} file name number none named at keys written = record {
-  lines = file_line (length p.files.keys) name ∷ [];
-  introduces = subst (IntroducesFile files p.files.keys file (file_line (length p.files.keys) name ∷ [])) (sym keys) (new_file p.files.keys file name (absent_file p.files.keys file none) named);
-  written = written_one _ _ (file_line (length p.files.keys) name) (written ∙ ap (λ n. p.text.items ++ line_text (file_line n name)) at);
-}
-
-pub IntroducedFile-known : {files : List (List ℕ)} {p q : Printer} (file : FileId) → Contains p.files.keys file → q.files.keys ≡ p.files.keys → q.text.items ≡ p.text.items → IntroducedFile files p q file
-IntroducedFile-known {files} {p} {q} file has keys same = record {
+-- a file that has a number already
+pub IntroducedFile-known : {files : List (List ℕ)} {p q : Printer} (number : ℕ) → number < length q.files.keys → q.files.keys ≡ p.files.keys
+    → q.conditions.keys ≡ p.conditions.keys → q.text.items ≡ p.text.items → IntroducedFile files p q number
+IntroducedFile-known {files} {p} {q} number within keys same same_text = record {
   lines = [];
-  introduces = subst (IntroducesFile files p.files.keys file []) (sym keys) (known_file p.files.keys file has);
-  written = same ∙ sym (append-nil p.text.items);
+  introduces = subst (λ fs. IntroducesFiles (length p.files.keys) (number ∷ []) [] (length fs)) (sym keys)
+      (known_file (length p.files.keys) number [] [] (length p.files.keys) (subst (λ fs. number < length fs) keys within) (no_file (length p.files.keys)));
+  grows = subst (Extends p.files.keys) (sym keys) (Extends-refl p.files.keys);
+  same_conditions = same;
+  prints = λ space s before was. subst (Prints space s files q) (sym (append-nil before)) (Prints-printer same keys same_text was);
 }
 
--- an item's line, after those of its condition and of its file
-pub LaidOut-one : {space : Space} {s : Sets} {files : List (List ℕ)} {p q r u : Printer} (item : Item) (n m : ℕ) → IsCond s item.cond.0 → (IsNever s item.cond.0 → ⊥)
-    → Introduced space s p q item.cond → q.files.keys ≡ p.files.keys → IntroducedFile files q r item.file → r.conditions.keys ≡ q.conditions.keys
-    → slice_get q.conditions.keys n ≡ Some item.cond → slice_get r.files.keys m ≡ Some item.file → u.conditions.keys ≡ r.conditions.keys → u.files.keys ≡ r.files.keys
-    → u.text.items ≡ r.text.items ++ line_text (item.line n m) → LaidOut space s files p u (item ∷ [])
-LaidOut-one {space} {s} {files} {p} {q} {r} {u} item n m own some conditions same_files file same_conditions numbered file_numbered kept kept_files written =
-    let line = item.line n m in
-    let lines : List TextLine = conditions.lines ++ (file.lines ++ line ∷ []) in
-    let keys : u.conditions.keys ≡ q.conditions.keys = kept ∙ same_conditions in
+pub IntroducedFile-new : {files : List (List ℕ)} {p q : Printer} (file : FileId) (name : List ℕ) (number : ℕ) → All (λ (name : List ℕ). is_plain name ≡ true) files → slice_get files file.0 ≡ Some name
+    → number ≡ length p.files.keys → q.files.keys ≡ p.files.keys ++ file ∷ [] → q.conditions.keys ≡ p.conditions.keys → q.text.items ≡ p.text.items ++ line_text (file_line number name)
+    → IntroducedFile files p q number
+IntroducedFile-new {files} {p} {q} file name number plain named at keys same written =
+    let counted : length q.files.keys ≡ number + 1 = ap length keys ∙ length-append p.files.keys (file ∷ []) ∙ ap (λ n. n + 1) (sym at) in
     record {
-      lines = lines ++ [];
-      lays = shown p.conditions.keys p.files.keys item [] lines [] u.conditions.keys u.files.keys u.conditions.keys u.files.keys (record {
-        own = own;
-        some = some;
-        condition_lines = conditions.lines;
-        file_lines = file.lines;
-        number = n;
-        file_number = m;
-        introduces = subst (Introduces space s p.conditions.keys (item.cond ∷ []) conditions.lines) (sym keys) conditions.introduces;
-        introduces_file = subst (IntroducesFile files p.files.keys item.file file.lines) (sym kept_files)
-            (subst (λ fs. IntroducesFile files fs item.file file.lines r.files.keys) same_files file.introduces);
-        numbered = ap (λ ks. slice_get ks n) keys ∙ numbered;
-        file_numbered = ap (λ fs. slice_get fs m) kept_files ∙ file_numbered;
-        are = refl;
-      }) (done u.conditions.keys u.files.keys);
-      written = written_both _ _ _ conditions.lines (file.lines ++ line ∷ []) conditions.written (written_both _ _ _ file.lines (line ∷ []) file.written (written_one _ _ line written))
-          ∙ ap (λ ls. p.text.items ++ concat (map line_text ls)) (sym (append-nil lines));
+      lines = file_line number name ∷ [];
+      introduces = subst (IntroducesFiles (length p.files.keys) (number ∷ []) (file_line number name ∷ [])) (sym counted)
+          (subst (λ n. IntroducesFiles n (number ∷ []) (file_line number name ∷ []) (number + 1)) at (new_file number name [] [] (number + 1) (no_file (number + 1))));
+      grows = subst (Extends p.files.keys) (sym keys) (Extends-push p.files.keys file);
+      same_conditions = same;
+      prints = λ space s before was. Prints-file file name number plain named at keys same written was;
     }
 
-pub LaidOut-never : {space : Space} {s : Sets} {files : List (List ℕ)} {p : Printer} (item : Item) → IsCond s item.cond.0 → IsNever s item.cond.0 → LaidOut space s files p p (item ∷ [])
-LaidOut-never {p = p} item own none = record {
-  lines = [];
-  lays = left_out p.conditions.keys p.files.keys item [] [] p.conditions.keys p.files.keys own none (done p.conditions.keys p.files.keys);
-  written = sym (append-nil p.text.items);
+-- ---- the lines of items
+
+AreLinesOf-append : {s : Sets} {ks : List Cond} {fs : List FileId} {items others : List Item} {lines more : List TextLine} → AreLinesOf s ks fs items lines → AreLinesOf s ks fs others more
+    → AreLinesOf s ks fs (items ++ others) (lines ++ more)
+AreLinesOf-append no_line b = b
+AreLinesOf-append {others = others} {more = more} (without_line item items lines none rest) b = without_line item (items ++ others) (lines ++ more) none (AreLinesOf-append rest b)
+AreLinesOf-append {others = others} {more = more} (line_of item number file items lines some at file_at rest) b =
+    line_of item number file (items ++ others) (lines ++ more) some at file_at (AreLinesOf-append rest b)
+
+LaysOut-append : {n m i j k l : ℕ} {items others lines more : List TextLine} → LaysOut n m items lines i j → LaysOut i j others more k l → LaysOut n m (items ++ others) (lines ++ more) k l
+LaysOut-append (done n m) b = b
+LaysOut-append {k = k} {l = l} {others = others} {more = more0} (shows n m item items condition_lines file_lines more i j k0 l0 conditions files rest) b =
+    subst (λ t. LaysOut n m (item ∷ (items ++ others)) t k l) (sym (append_assoc condition_lines (file_lines ++ item ∷ more) more0 ∙ ap (λ t. condition_lines ++ t) (append_assoc file_lines (item ∷ more) more0)))
+    (shows n m item (items ++ others) condition_lines file_lines (more ++ more0) i j k l conditions files (LaysOut-append rest b))
+
+pub LaidOut-trans : {space : Space} {old mid new : Sets} {files : List (List ℕ)} {p q r : Printer} {items more : List Item} → Keeps mid new → LaidOut space old mid files p q items → LaidOut space mid new files q r more
+    → LaidOut space old new files p r (items ++ more)
+LaidOut-trans {space} {old} {mid} {new} {files} {p} {q} {r} keeps a b = record {
+  lines = a.lines ++ b.lines;
+  shown = a.shown ++ b.shown;
+  laid = LaysOut-append a.laid b.laid;
+  are = λ s ks fs kept grows files_grow.
+      AreLinesOf-append (a.are s ks fs (Keeps-trans keeps kept) (Extends-trans b.grows grows) (Extends-trans b.files_grow files_grow)) (b.are s ks fs kept grows files_grow);
+  ordered = λ s ks kept grows. All-append (HasOrder space (tests_of s ks)) a.lines b.lines (a.ordered s ks (Keeps-trans keeps kept) (Extends-trans b.grows grows)) (b.ordered s ks kept grows);
+  table = b.table;
+  grows = Extends-trans a.grows b.grows;
+  files_grow = Extends-trans a.files_grow b.files_grow;
+  prints = λ before was. subst (Prints space new files r) (append_assoc before a.lines b.lines) (b.prints (before ++ a.lines) (a.prints before was));
 }
 
-pub LaidOut-nothing : {space : Space} {s : Sets} {files : List (List ℕ)} {p : Printer} → LaidOut space s files p p []
-LaidOut-nothing {p = p} = record { lines = []; lays = done p.conditions.keys p.files.keys; written = sym (append-nil p.text.items) }
+-- items that have no line
+LaidOut-without : {space : Space} {s : Sets} {files : List (List ℕ)} {p : Printer} (items : List Item) → ((t : Sets) (ks : List Cond) (fs : List FileId) → Keeps s t → AreLinesOf t ks fs items [])
+    → IsTable s p.conditions.keys → LaidOut space s s files p p items
+LaidOut-without {space} {s} {files} {p} items without table = record {
+  lines = [];
+  shown = [];
+  laid = done (length p.conditions.keys) (length p.files.keys);
+  are = λ t ks fs kept grows files_grow. without t ks fs kept;
+  ordered = λ t ks kept grows. All-nil (HasOrder space (tests_of t ks));
+  table = table;
+  grows = Extends-refl p.conditions.keys;
+  files_grow = Extends-refl p.files.keys;
+  prints = λ before was. subst (Prints space s files p) (sym (append-nil before)) was;
+}
+
+pub LaidOut-nothing : {space : Space} {s : Sets} {files : List (List ℕ)} {p : Printer} → IsTable s p.conditions.keys → LaidOut space s s files p p []
+LaidOut-nothing table = LaidOut-without [] (λ t ks fs kept. no_line) table
+
+-- no configuration has the item
+pub LaidOut-never : {space : Space} {s : Sets} {files : List (List ℕ)} {p : Printer} (item : Item) → IsTable s p.conditions.keys → IsCond s item.cond.0 → IsNever s item.cond.0
+    → LaidOut space s s files p p (item ∷ [])
+LaidOut-never item table own none = LaidOut-without (item ∷ []) (λ t ks fs kept. without_line item [] [] (IsNever-Keeps kept own none) no_line) table
+
+-- a condition that some configuration has isn't number 0
+some_number : {s : Sets} {ks : List Cond} (a : Cond) (n : ℕ) → IsTable s ks → slice_get ks n ≡ Some a → (IsNever s a.0 → ⊥) → 0 < n
+some_number {s} a zero table at some =
+    let same = same_Some table.never.cond a (sym table.never.found ∙ at) in
+    absurd (some (record { none = λ c listed. ap (λ (k : Cond). s.has k.0 c) (sym same) ∙ table.never.means.at c listed }))
+some_number a (suc n) table at some = omega arith
+
+files_have_order : (space : Space) (tests : List Condition) {n m : ℕ} {ns : List ℕ} {lines : List TextLine} → IntroducesFiles n ns lines m → All (HasOrder space tests) lines
+files_have_order space tests (no_file n) = All-nil (HasOrder space tests)
+files_have_order space tests (known_file n number ns lines m below rest) = files_have_order space tests rest
+files_have_order space tests (new_file n name ns lines m rest) = All-cons (HasOrder space tests) (file_line n name) lines tt (files_have_order space tests rest)
 
 pub IsNever-kept : {old new : Sets} {a : ℕ} → Keeps old new → IsCond old a → IsNever new a → IsNever old a
 IsNever-kept {old} {new} {a} keeps own none = record { none = λ c listed. sym (keeps.at a c own listed) ∙ none.none c (IsConfig-Keeps keeps listed) }
 
-ShowsItem-Keeps : {space : Space} {old new : Sets} {files : List (List ℕ)} {ks ls : List Cond} {fs gs : List FileId} {item : Item} {lines : List TextLine} → Keeps old new → ShowsItem space old files ks fs item lines ls gs
-    → ShowsItem space new files ks fs item lines ls gs
-ShowsItem-Keeps keeps is = record {
-  own = keeps.own _ is.own;
-  some = λ none. is.some (IsNever-kept keeps is.own none);
-  condition_lines = is.condition_lines;
-  file_lines = is.file_lines;
-  number = is.number;
-  file_number = is.file_number;
-  introduces = Introduces-Keeps keeps is.introduces;
-  introduces_file = is.introduces_file;
-  numbered = is.numbered;
-  file_numbered = is.file_numbered;
-  are = is.are;
-}
+-- a file's line changes no number of a condition
+pub numbered_still : {files : List (List ℕ)} {p q : Printer} {m : ℕ} {a : Cond} (n : ℕ) → IntroducedFile files p q m → slice_get p.conditions.keys n ≡ Some a → slice_get q.conditions.keys n ≡ Some a
+numbered_still n file at = ap (λ ks. slice_get ks n) file.same_conditions ∙ at
 
-pub LaysOut-Keeps : {space : Space} {old new : Sets} {files : List (List ℕ)} {ks ls : List Cond} {fs gs : List FileId} {items : List Item} {lines : List TextLine} → Keeps old new
-    → LaysOut space old files ks fs items lines ls gs → LaysOut space new files ks fs items lines ls gs
-LaysOut-Keeps keeps (done ks fs) = done ks fs
-LaysOut-Keeps keeps (left_out ks fs item items lines ls gs own none rest) = left_out ks fs item items lines ls gs (keeps.own _ own) (IsNever-Keeps keeps own none) (LaysOut-Keeps keeps rest)
-LaysOut-Keeps keeps (shown ks fs item items lines more ls gs ms hs is rest) = shown ks fs item items lines more ls gs ms hs (ShowsItem-Keeps keeps is) (LaysOut-Keeps keeps rest)
+-- an item's line, after those of its condition and of its file
+module _ {space : Space} {old s : Sets} {files : List (List ℕ)} {p q r u : Printer} (item : Item) (n m : ℕ) (conditions_are : conditions_of (item.line n m) ≡ n ∷ []) (files_are : files_of (item.line n m) ≡ m ∷ [])
+    (no_order : (space : Space) (tests : List Condition) → HasOrder space tests (item.line n m)) (some : IsNever s item.cond.0 → ⊥)
+    (conditions : Introduced space old s p q (n ∷ [])) (file : IntroducedFile files q r m) (numbered : slice_get q.conditions.keys n ≡ Some item.cond) (file_numbered : slice_get r.files.keys m ≡ Some item.file)
+    (kept : u.conditions.keys ≡ r.conditions.keys) (kept_files : u.files.keys ≡ r.files.keys)
+    (prints : (before : List TextLine) → Prints space s files r before → Prints space s files u (before ++ item.line n m ∷ [])) where
+  keys : u.conditions.keys ≡ q.conditions.keys
+  keys = kept ∙ file.same_conditions
 
-LaysOut-append : {space : Space} {s : Sets} {files : List (List ℕ)} {ks ls ms : List Cond} {fs gs hs : List FileId} {items others : List Item} {lines more : List TextLine}
-    → LaysOut space s files ks fs items lines ls gs → LaysOut space s files ls gs others more ms hs → LaysOut space s files ks fs (items ++ others) (lines ++ more) ms hs
-LaysOut-append (done ks fs) b = b
-LaysOut-append {ms = ms} {hs = hs} {others = others} {more = more} (left_out ks fs item items lines ls gs own none rest) b =
-    left_out ks fs item (items ++ others) (lines ++ more) ms hs own none (LaysOut-append rest b)
-LaysOut-append {space} {s} {files} {ms = ms} {hs = hs} {others = others} {more = more0} (shown ks fs item items lines more ls gs ms1 hs1 is rest) b =
-    subst (λ t. LaysOut space s files ks fs (item ∷ (items ++ others)) t ms hs) (sym (append_assoc lines more more0))
-    (shown ks fs item (items ++ others) lines (more ++ more0) ls gs ms hs is (LaysOut-append rest b))
+  longer_files : Extends q.files.keys u.files.keys
+  longer_files = subst (Extends q.files.keys) (sym kept_files) file.grows
 
-pub LaidOut-trans : {space : Space} {old new : Sets} {files : List (List ℕ)} {p q r : Printer} {items more : List Item} → Keeps old new → LaidOut space old files p q items → LaidOut space new files q r more
-    → LaidOut space new files p r (items ++ more)
-LaidOut-trans keeps a b = record {
-  lines = a.lines ++ b.lines;
-  lays = LaysOut-append (LaysOut-Keeps keeps a.lays) b.lays;
-  written = written_both _ _ _ a.lines b.lines a.written b.written;
-}
+  line_laid : LaysOut (length p.conditions.keys) (length p.files.keys) (item.line n m ∷ []) (conditions.lines ++ (file.lines ++ item.line n m ∷ [])) (length u.conditions.keys) (length u.files.keys)
+  line_laid =
+      shows (length p.conditions.keys) (length p.files.keys) (item.line n m) [] conditions.lines file.lines [] (length u.conditions.keys) (length u.files.keys) (length u.conditions.keys) (length u.files.keys)
+      (subst (λ ns. Introduces (length p.conditions.keys) ns conditions.lines (length u.conditions.keys)) (sym conditions_are)
+      (subst (λ ks. Introduces (length p.conditions.keys) (n ∷ []) conditions.lines (length ks)) (sym keys) conditions.introduces))
+      (subst (λ ms. IntroducesFiles (length p.files.keys) ms file.lines (length u.files.keys)) (sym files_are)
+      (subst (λ fs. IntroducesFiles (length p.files.keys) (m ∷ []) file.lines (length fs)) (sym kept_files)
+      (subst (λ fs. IntroducesFiles (length fs) (m ∷ []) file.lines (length r.files.keys)) conditions.same_files file.introduces)))
+      (done (length u.conditions.keys) (length u.files.keys))
+
+  pub LaidOut-one : LaidOut space old s files p u (item ∷ [])
+  LaidOut-one = record {
+    lines = conditions.lines ++ (file.lines ++ item.line n m ∷ []);
+    shown = item.line n m ∷ [];
+    laid = line_laid;
+    are = λ t ks fs keeps grows files_grow.
+        line_of item n m [] [] (some_number item.cond n conditions.table numbered some) (Extends-keeps _ _ (ap (λ ls. slice_get ls n) keys ∙ numbered) grows)
+        (Extends-keeps _ _ (ap (λ gs. slice_get gs m) kept_files ∙ file_numbered) files_grow) no_line;
+    ordered = λ t ks keeps grows.
+        All-append (HasOrder space (tests_of t ks)) conditions.lines (file.lines ++ item.line n m ∷ []) (conditions.ordered t ks keeps (subst (λ ls. Extends ls ks) keys grows))
+        (All-append (HasOrder space (tests_of t ks)) file.lines (item.line n m ∷ []) (files_have_order space (tests_of t ks) file.introduces) (All-one (HasOrder space (tests_of t ks)) (item.line n m) (no_order space (tests_of t ks))));
+    table = subst (IsTable s) (sym keys) conditions.table;
+    grows = subst (Extends p.conditions.keys) (sym keys) conditions.grows;
+    files_grow = subst (λ fs. Extends fs u.files.keys) conditions.same_files longer_files;
+    prints = λ before was.
+        subst (Prints space s files u) (append_assoc (before ++ conditions.lines) file.lines (item.line n m ∷ []) ∙ append_assoc before conditions.lines (file.lines ++ item.line n m ∷ []))
+        (prints ((before ++ conditions.lines) ++ file.lines) (file.prints space s (before ++ conditions.lines) (conditions.prints files before was)));
+  }
 
 -- the items so far with the next one
-pub LaidOut-more : {X : Type 0} {space : Space} {old new : Sets} {files : List (List ℕ)} {p q r : Printer} (f : X → Item) (xs : List X) (i : ℕ) (x : X) (item : Item) → slice_get xs i ≡ Some x → item ≡ f x → Keeps old new
-    → LaidOut space old files p q (map f (take i xs)) → LaidOut space new files q r (item ∷ []) → LaidOut space new files p r (map f (take (i + 1) xs))
-LaidOut-more {X} {space} {old} {new} {files} {p} {q} {r} f xs i x item at is keeps before one =
+pub LaidOut-more : {X : Type 0} {space : Space} {old mid new : Sets} {files : List (List ℕ)} {p q r : Printer} (f : X → Item) (xs : List X) (i : ℕ) (x : X) (item : Item) → slice_get xs i ≡ Some x → item ≡ f x → Keeps mid new
+    → LaidOut space old mid files p q (map f (take i xs)) → LaidOut space mid new files q r (item ∷ []) → LaidOut space old new files p r (map f (take (i + 1) xs))
+LaidOut-more {X} {space} {old} {mid} {new} {files} {p} {q} {r} f xs i x item at is keeps before one =
     let next : map f (take i xs) ++ item ∷ [] ≡ map f (take (i + 1) xs) =
     ap (λ y. map f (take i xs) ++ y ∷ []) is ∙ sym (map-append f (take i xs) (x ∷ [])) ∙ ap (λ y. map f (take i xs ++ y ∷ [])) (sym (get_or_from_slice_get xs i x x at))
     ∙ ap (map f) (sym (take_more xs i x (slice_get_within xs i x at))) in
-    subst (LaidOut space new files p r) next (LaidOut-trans keeps before one)
+    subst (LaidOut space old new files p r) next (LaidOut-trans keeps before one)

@@ -10,7 +10,7 @@ use Rattle.sc_model.specs.declared.variable_option.VariableOption.{VariableOptio
 use Rattle.sc_model.specs.Bytes.{same_bytes}
 use Rattle.sc_model.specs.Growth.{IsOneToOne}
 use Rattle.sc_model.specs.Space.{Variable, Space, option_text}
-use Rattle.sc_model.specs.Text.{Condition, Reading, TextLine, line_text, read_lines, read_line, is_clear, condition_at, project, variable_from, are_options}
+use Rattle.sc_model.specs.Text.{Condition, Reading, TextLine, line_text, read_lines, read_line, is_clear, condition_at, variable_from, are_options}
 use Rattle.sc_show.specs.Prints.{choices_of}
 use Rattle.sc_show.proofs.Choices.{both}
 
@@ -37,17 +37,6 @@ written-push lines line = ap concat (map-append line_text lines (line ∷ [])) �
 
 pub clear-push : (lines : List TextLine) (line : TextLine) → list_all is_clear lines ≡ true → is_clear line ≡ true → list_all is_clear (lines ++ line ∷ []) ≡ true
 clear-push lines line h k = list_all-append is_clear lines (line ∷ []) ∙ both h (both k refl)
-
-pub project-push : {T : Type 0} (pairs : List (Condition × T)) (test : Condition) (item : T) (c : List ℕ)
-    → project (pairs ++ (test, item) ∷ []) c ≡ project pairs c ++ (if test c then item ∷ [] else [])
-project-push [] test item c = refl
-project-push (pair ∷ pairs) test item c = by (pair.0 c) (project-push pairs test item c)
-  where
-    by : (b : Bool) → project (pairs ++ (test, item) ∷ []) c ≡ project pairs c ++ (if test c then item ∷ [] else [])
-        → (if b then pair.1 ∷ project (pairs ++ (test, item) ∷ []) c else project (pairs ++ (test, item) ∷ []) c)
-        ≡ (if b then pair.1 ∷ project pairs c else project pairs c) ++ (if test c then item ∷ [] else [])
-    by true ih = ap (λ r. pair.1 ∷ r) ih
-    by false ih = ih
 
 -- the same bytes are the same list
 pub same_bytes-refl : (xs : List ℕ) → same_bytes xs xs ≡ true

@@ -41,12 +41,6 @@ pub record IsTable (s : Sets) (conditions : List Cond) : Type 0 where
   pub never : IsNumberOf s conditions (λ _. false) 0
   pub always : IsNumberOf s conditions (λ _. true) 1
 
--- the condition of this number says of the configurations with an option of a variable what the test says
-pub record IsChild (s : Sets) (conditions : List Cond) (test : List ℕ → Bool) (variable option number : ℕ) : Type 0 where
-  pub part : List ℕ → Bool
-  pub names : IsNumberOf s conditions part number
-  pub agrees : (c : List ℕ) → IsConfig s.arities c → slice_index c variable ≡ option → part c ≡ test c
-
 -- the tests that were read are those of the conditions
 pub record Agrees (s : Sets) (conditions : List Cond) (tests : List Condition) : Type 0 where
   pub long : length tests ≡ length conditions
