@@ -8,5 +8,6 @@ pub mod Numbers
 pub mod Pieces
 pub mod Steps
 pub mod Shows
+pub mod Ending
 pub mod Faults
 pub mod ConflictLines
