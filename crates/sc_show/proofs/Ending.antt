@@ -143,7 +143,9 @@ project-seen : (s : Sets) (files : List (List ℕ)) (faults : List base.Fault) (
 project-seen s files [] c = refl
 project-seen s files (x ∷ xs) c = by (s.has x.cond.0 c) (project-seen s files xs c)
   where
-    by : (b : Bool) {read : List Fault} {at : List base.Fault} → read ≡ map (seen_fault files) at → (if b then seen_fault files x ∷ read else read) ≡ map (seen_fault files) (if b then x ∷ at else at)
+    by : (b : Bool) → project (map (λ (f : base.Fault). (s.has f.cond.0, seen_fault files f)) xs) c ≡ map (seen_fault files) (faults_at s xs c)
+        → (if b then seen_fault files x ∷ project (map (λ (f : base.Fault). (s.has f.cond.0, seen_fault files f)) xs) c else project (map (λ (f : base.Fault). (s.has f.cond.0, seen_fault files f)) xs) c)
+        ≡ map (seen_fault files) (if b then x ∷ faults_at s xs c else faults_at s xs c)
     by true e = ap (λ fs. seen_fault files x ∷ fs) e
     by false e = e
 
@@ -156,8 +158,7 @@ agrees_tests s (k ∷ ks) (test ∷ tests) zero c agrees listed = agrees.each 0 
 agrees_tests s (k ∷ ks) (test ∷ tests) (suc n) c agrees listed =
     agrees_tests s ks tests n c (record { long = omega (arith, agrees.long); each = λ m a at. agrees.each (suc m) a at }) listed
 
--- no two numbers stand for one set
-module _ {space : Space} {s : Sets} {ks : List Cond} {tests : List Condition} (arities : s.arities ≡ arities_of space) (agrees : Agrees s ks tests) (table : IsTable s ks) where
+module _ {s : Sets} {ks : List Cond} {tests : List Condition} (agrees : Agrees s ks tests) (table : IsTable s ks) where
   -- the condition of a number
   numbered : (n : ℕ) → n < length tests → (a : Cond) × (slice_get ks n ≡ Some a) × IsCond s a.0
   numbered n below =
@@ -165,8 +166,9 @@ module _ {space : Space} {s : Sets} {ks : List Cond} {tests : List Condition} (a
       let a = get_or ks n (record { 0 = 0 }) in
       (a, slice_get-get_or ks n (record { 0 = 0 }) long, table.own n (record { 0 = 0 }) long)
 
-  numbers_reduced : IsOneToOne ks → IsCanonical s → IsCanonical (sets_of space tests)
-  numbers_reduced differ canonical = record { one = λ i j own own_too same. by i j (numbered i own.made) (numbered j own_too.made) same.at }
+  -- no two numbers stand for one set
+  numbers_reduced : (space : Space) → s.arities ≡ arities_of space → IsOneToOne ks → IsCanonical s → IsCanonical (sets_of space tests)
+  numbers_reduced space arities differ canonical = record { one = λ i j own own_too same. by i j (numbered i own.made) (numbered j own_too.made) same.at }
     where
       by : (i j : ℕ) → (a : Cond) × (slice_get ks i ≡ Some a) × IsCond s a.0 → (b : Cond) × (slice_get ks j ≡ Some b) × IsCond s b.0
           → ((c : List ℕ) → IsListed space c → condition_at tests i c ≡ condition_at tests j c) → i ≡ j
@@ -239,7 +241,7 @@ Shows-end {space} {s = s} {texts = texts} {files = files} {p = p} {q = q} list f
           are_tokens = are_tokens;
           are_faults = are_faults;
           laid = to_end;
-          reduced = numbers_reduced arities before.conditions laid.table differ canonical;
+          reduced = numbers_reduced before.conditions laid.table space arities differ canonical;
           ordered = All-append (HasOrder space tests) laid.lines (end_line ∷ [])
               (λ k d h. HasOrder-same space (tests_of s ks) tests same_sets (get_or laid.lines k d) (laid.ordered s ks (Keeps-refl s) (Extends-refl ks) k d h))
               (All-cons (HasOrder space tests) end_line [] tt (All-nil (HasOrder space tests)));
