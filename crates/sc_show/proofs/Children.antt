@@ -14,7 +14,7 @@ use Rattle.sc_model.specs.Layout.{HasOrder, sets_of}
 use Rattle.sc_model.specs.Sets.{Sets, IsConfig, IsCond, Keeps, DependsFrom}
 use Rattle.sc_model.specs.Space.{Space, Variable, arities_of, option_text}
 use Rattle.sc_model.specs.Text.{condition_line, condition_at}
-use Rattle.sc_model.proofs.SetLemmas.{IsConfig-set, IsConfig-kept, DependsFrom-Keeps}
+use Rattle.sc_model.proofs.SetLemmas.{IsConfig-kept, DependsFrom-same, DependsFrom-Keeps}
 use Rattle.sc_show.specs.Prints.{HasPlainNames, choices_of}
 use Rattle.sc_show.specs.Rules.{tests_of}
 use Rattle.sc_show.proofs.Reading.{variable_from-found}
@@ -58,23 +58,6 @@ HasChildren-push {s} {ks} {a} {v} {ns} n child has = record { each = λ k h. by 
         let last : length ns ≡ k = omega (arith, length-append ns (n ∷ [])) in
         let at : slice_index (ns ++ n ∷ []) (length ns) ≡ n = get_or-append_seam ns n [] 0 in
         subst (λ j. IsChild s ks a v j (slice_index (ns ++ n ∷ []) j)) last (subst (IsChild s ks a v (length ns)) (sym at) child)
-
--- conditions with the same configurations depend on the same variables
-pub DependsFrom-same : {s t : Sets} {a b v : ℕ} → t.arities ≡ s.arities → ((c : List ℕ) → IsConfig s.arities c → t.has b c ≡ s.has a c) → DependsFrom s a v → DependsFrom t b v
-DependsFrom-same {s} {t} same means from = record {
-  free = λ u below depends.
-      let listed = subst (λ ns. IsConfig ns depends.config) same depends.listed in
-      let within : u < length s.arities = subst (λ ns. u < length ns) same depends.within in
-      let in_range : depends.option < slice_index s.arities u = subst (λ ns. depends.option < slice_index ns u) same depends.in_range in
-      from.free u below (record {
-        config = depends.config;
-        option = depends.option;
-        listed = listed;
-        within = within;
-        in_range = in_range;
-        changes = λ e. depends.changes (means _ listed ∙ e ∙ sym (means _ (IsConfig-set u depends.option listed within in_range)));
-      });
-}
 
 condition_at-tests : (s : Sets) (ks : List Cond) (n : ℕ) (a : Cond) (c : List ℕ) → slice_get ks n ≡ Some a → condition_at (tests_of s ks) n c ≡ s.has a.0 c
 condition_at-tests s [] n a c at = absurd (cc)

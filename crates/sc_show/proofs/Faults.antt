@@ -145,7 +145,7 @@ module _ {old now : Sets} (files : List (List ℕ)) (sorted merged : List Fault)
       ap (map (seen_fault files)) (faults_at-append now merged (fault ∷ []) c) ∙ map-append (seen_fault files) (faults_at now merged c) (when (now.has fault.cond.0 c) fault)
       ∙ ap (λ r. map (seen_fault files) (faults_at now merged c) ++ r) (map-when (seen_fault files) (now.has fault.cond.0 c) fault)
       ∙ ap (λ r. r ++ when (now.has fault.cond.0 c) (seen_fault files fault)) (same c listed)
-      ∙ faults_more (seen_fault files) old now sorted i fault [] c keeps own listed at
+      ∙ faults_more (seen_fault files) old now sorted i fault c keeps own listed at
 
   pub apart_more : AreApart old sorted → AreApart now (merged ++ fault ∷ [])
   apart_more apart = record {

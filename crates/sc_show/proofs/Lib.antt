@@ -2,7 +2,8 @@ pub mod Choices
 pub mod Reading
 pub mod Children
 pub mod Ordering
-pub mod Placing
+pub mod Introducing
+pub mod Laying
 pub mod Numbers
 pub mod Pieces
 pub mod Steps

@@ -46,14 +46,12 @@ map-when f true x = refl
 map-when f false x = refl
 
 -- the seen faults with one more
-pub faults_more : {U : Type 0} (f : base.Fault → U) (old now : Sets) (faults : List base.Fault) (i : ℕ) (fault : base.Fault) (before : List U) (c : List ℕ) → Keeps old now → IsCond old fault.cond.0
-    → IsConfig old.arities c → slice_get faults i ≡ Some fault
-    → (before ++ map f (faults_at old (take i faults) c)) ++ when (now.has fault.cond.0 c) (f fault) ≡ before ++ map f (faults_at old (take (i + 1) faults) c)
-faults_more f old now faults i fault before c keeps own listed at =
+pub faults_more : {U : Type 0} (f : base.Fault → U) (old now : Sets) (faults : List base.Fault) (i : ℕ) (fault : base.Fault) (c : List ℕ) → Keeps old now → IsCond old fault.cond.0 → IsConfig old.arities c
+    → slice_get faults i ≡ Some fault → map f (faults_at old (take i faults) c) ++ when (now.has fault.cond.0 c) (f fault) ≡ map f (faults_at old (take (i + 1) faults) c)
+faults_more f old now faults i fault c keeps own listed at =
     let more = ap (map f) (faults_at-more old faults i fault c at) ∙ map-append f (faults_at old (take i faults) c) (when (old.has fault.cond.0 c) fault)
     ∙ ap (λ r. map f (faults_at old (take i faults) c) ++ r) (map-when f (old.has fault.cond.0 c) fault) in
-    rw add-one (ap (λ b. (before ++ map f (faults_at old (take i faults) c)) ++ when b (f fault)) (keeps.at fault.cond.0 c own listed)
-    ∙ append_assoc before (map f (faults_at old (take i faults) c)) (when (old.has fault.cond.0 c) (f fault)) ∙ ap (λ r. before ++ r) (sym more))
+    rw add-one (ap (λ b. map f (faults_at old (take i faults) c) ++ when b (f fault)) (keeps.at fault.cond.0 c own listed) ∙ sym more)
 
 -- what can be shown still can
 pub IsShowable-Keeps : {old new : Sets} {names files : List (List ℕ)} {item : Cond × Token} → Keeps old new → IsShowable old names files item → IsShowable new names files item

@@ -16,6 +16,7 @@ use Rattle.sc_model.specs.Sets.{Sets, IsConfig, IsCond, HasOptions, Denotes, Kee
 use Rattle.sc_model.specs.Space.{Space, Variable, arities_of}
 use Rattle.sc_model.specs.Text.{Condition, Reading, TextLine, condition_line, file_line, token_line, fault_line, line_text, is_clear, is_plain, is_word, read_line, condition_at, chosen, read_condition, variable_from, with_condition, with_file, with_token, with_fault, place_of, nothing_read}
 use Rattle.sc_model.specs.Token.{Place, Shown}
+use Rattle.sc_model.proofs.ConditionLemmas.{condition_at-push, condition_at-last}
 use Rattle.sc_model.proofs.SetLemmas.{IsConfig-kept}
 use Rattle.sc_space.specs.Seen.{seen_space, seen_variable}
 use Rattle.sc_space.specs.declared.space.Space as declared_space
@@ -24,7 +25,7 @@ use Rattle.sc_show.specs.declared.printer.Printer.{Printer}
 use Rattle.sc_show.specs.Prints.{HasPlainNames, Prints, Agrees, IsTable, choices_of, printed_place}
 use Rattle.sc_show.proofs.Children.{HasChildren}
 use Rattle.sc_show.proofs.Choices.{both, clear_choices, numbers-choices_of}
-use Rattle.sc_show.proofs.Reading.{read_lines-push, written-push, clear-push, variable_from-found, condition_at-push, condition_at-last, are_options-choices_of}
+use Rattle.sc_show.proofs.Reading.{read_lines-push, written-push, clear-push, variable_from-found, are_options-choices_of}
 use Rattle.sc_show.proofs.Numbers.{owned_at}
 
 -- one line more

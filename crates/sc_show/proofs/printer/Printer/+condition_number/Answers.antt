@@ -9,7 +9,7 @@ use Rattle.sc_space.specs.Seen.{seen_space, seen_variable}
 use Rattle.sc_show.specs.Rules.{AreFrom, Introduced}
 use Rattle.sc_show.proofs.Children.{HasChildren, HasChildren-none, HasChildren-grows, HasChildren-push}
 use Rattle.sc_show.proofs.Numbers.{same_cond, present, slice_get-position, IsTable-Keeps, pushed, pushed_at}
-use Rattle.sc_show.proofs.Placing.{AreFrom-none, AreFrom-before, AreFrom-push, AreFrom-trans, AreFrom-absent, Introduced-trans, Introduced-nothing, Introduced-known, Introduced-node, numbered_never, numbered_always, absent_cond}
+use Rattle.sc_show.proofs.Introducing.{AreFrom-none, AreFrom-before, AreFrom-push, AreFrom-trans, AreFrom-absent, Introduced-trans, Introduced-nothing, Introduced-known, Introduced-node, numbered_never, numbered_always, absent_cond}
 use Rattle.sc_show.proofs.Steps.{variables_count, variable_at, arity_at}
 use Rattle.sc_show.proofs.printer.Printer.+condition_number.Goals as goal
 

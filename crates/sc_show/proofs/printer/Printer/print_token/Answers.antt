@@ -2,7 +2,7 @@ use Rattle.std.proofs.Common.{◌∙◌, sym, refl, rules}
 use Rattle.std.proofs.lemmas.Bool.{true≢false}
 use Rattle.sc_model.specs.Sets.{IsNever}
 use Rattle.sc_show.specs.Rules.{token_item}
-use Rattle.sc_show.proofs.Placing.{LaidOut-one, LaidOut-never, IsNever-kept, numbered_still}
+use Rattle.sc_show.proofs.Laying.{LaidOut-one, LaidOut-never, IsNever-kept, numbered_still}
 use Rattle.sc_show.proofs.Steps.{Prints-token}
 use Rattle.sc_show.proofs.printer.Printer.print_token.Goals as goal
 
