@@ -1,5 +1,5 @@
 -- The whole text shows the list.
-use Rattle.std.proofs.Common.{◌≡◌, ℕ, zero, suc, ◌+◌, ◌<◌, ◌≤◌, ◌⊎◌, inl, inr, Bool, true, false, List, [], ◌∷◌, ◌++◌, length, map, get_or, slice_get, Some, unwrap_or, option_map, All, refl, sym, ap, subst, ◌∙◌, arith, append_assoc, if◌then◌else◌}
+use Rattle.std.proofs.Common.{◌≡◌, ℕ, zero, suc, ◌<◌, Bool, true, false, List, [], ◌∷◌, ◌++◌, length, map, get_or, slice_get, Some, option_map, All, refl, sym, ap, subst, ◌∙◌, arith, append_assoc, if◌then◌else◌}
 use Rattle.std.specs.List.{concat, list_all}
 use Rattle.std.proofs.lemmas.Bool.{lt-ltb}
 use Rattle.std.proofs.lemmas.List.Elements.{All-nil, All-cons, All-head, All-tail, All-append}
@@ -14,16 +14,15 @@ use Rattle.sc_lex.specs.Seen.{seen, text_at}
 use Rattle.sc_lex.specs.Spell.{position_of}
 use Rattle.sc_model.specs.Growth.{IsOneToOne}
 use Rattle.sc_model.specs.Layout.{LaysOut, files_of, sets_of, HasOrder, IsAscending, is_token, is_fault, AreAlike, no_item, left_out, both as same_item}
-use Rattle.sc_model.specs.Pre.{Fault}
 use Rattle.sc_model.specs.Sets.{Sets, IsConfig, IsCond, IsCanonical}
 use Rattle.sc_model.specs.Space.{Space, arities_of, IsListed}
-use Rattle.sc_model.specs.Text.{Condition, TextLine, end_line, line_text, is_clear, with_end, Reading, nothing_read, read_lines, condition_at, project}
-use Rattle.sc_model.specs.Token.{Shown, shown}
+use Rattle.sc_model.specs.Text.{Condition, TextLine, end_line, line_text, with_end, Reading, nothing_read, condition_at, project}
+use Rattle.sc_model.specs.Token.{shown}
 use Rattle.sc_model.proofs.Alike.{AreAlike-project}
 use Rattle.sc_model.proofs.Ascending.{IsBefore, IsAscending-nil, IsAscending-cons, IsAscending-head, IsAscending-tail}
 use Rattle.sc_model.proofs.ItemsRead.{tokens_are, faults_are}
 use Rattle.sc_model.proofs.LayoutLemmas.{LaysOut-end, LaysOut-each_file, HasOrder-same}
-use Rattle.sc_model.proofs.LayoutReading.{tokens_read, faults_read, HasRead, read-HasRead}
+use Rattle.sc_model.proofs.LayoutReading.{tokens_read, faults_read, read-HasRead}
 use Rattle.sc_model.proofs.ListLemmas.{found_in}
 use Rattle.sc_model.proofs.SetLemmas.{Keeps-refl}
 use Rattle.sc_show.specs.declared.printer.Printer.{Printer}

@@ -5,7 +5,7 @@ use Rattle.sc_space.specs.Seen.{seen_space}
 use Rattle.sc_show.specs.Rules.{list_item, fault_item, LaidOut}
 use Rattle.sc_show.specs.Shows.{IsShowableFault}
 use Rattle.sc_show.proofs.Ending.{Shows-end}
-use Rattle.sc_show.proofs.Placing.{LaidOut-trans}
+use Rattle.sc_show.proofs.Laying.{LaidOut-trans}
 use Rattle.sc_show.proofs.Shows.{IsShowable-Keeps, IsShowableFault-Keeps, faults_at-Keeps}
 use Rattle.sc_show.proofs.tokens.show_tokens.Goals as goal
 
