@@ -1,5 +1,5 @@
 -- The whole text shows the list.
-use Rattle.std.proofs.Common.{◌≡◌, ℕ, zero, suc, ◌+◌, ◌<◌, ◌≤◌, ◌⊎◌, inl, inr, Bool, true, false, List, [], ◌∷◌, ◌++◌, length, map, get_or, slice_get, Some, unwrap_or, option_map, All, refl, sym, ap, subst, ◌∙◌, arith, append_assoc, if◌then◌else◌}
+use Rattle.std.proofs.Common.{◌≡◌, ℕ, zero, suc, ◌<◌, Bool, true, false, List, [], ◌∷◌, ◌++◌, length, map, get_or, slice_get, Some, option_map, All, refl, sym, ap, subst, ◌∙◌, arith, append_assoc, if◌then◌else◌}
 use Rattle.std.specs.List.{concat, list_all}
 use Rattle.std.proofs.lemmas.Bool.{lt-ltb}
 use Rattle.std.proofs.lemmas.List.Elements.{All-nil, All-cons, All-head, All-tail, All-append}
@@ -14,16 +14,15 @@ use Rattle.sc_lex.specs.Seen.{seen, text_at}
 use Rattle.sc_lex.specs.Spell.{position_of}
 use Rattle.sc_model.specs.Growth.{IsOneToOne}
 use Rattle.sc_model.specs.Layout.{LaysOut, files_of, sets_of, HasOrder, IsAscending, is_token, is_fault, AreAlike, no_item, left_out, both as same_item}
-use Rattle.sc_model.specs.Pre.{Fault}
 use Rattle.sc_model.specs.Sets.{Sets, IsConfig, IsCond, IsCanonical}
 use Rattle.sc_model.specs.Space.{Space, arities_of, IsListed}
-use Rattle.sc_model.specs.Text.{Condition, TextLine, end_line, line_text, is_clear, with_end, Reading, nothing_read, read_lines, condition_at, project}
-use Rattle.sc_model.specs.Token.{Shown, shown}
+use Rattle.sc_model.specs.Text.{Condition, TextLine, end_line, line_text, with_end, Reading, nothing_read, condition_at, project}
+use Rattle.sc_model.specs.Token.{shown}
 use Rattle.sc_model.proofs.Alike.{AreAlike-project}
 use Rattle.sc_model.proofs.Ascending.{IsBefore, IsAscending-nil, IsAscending-cons, IsAscending-head, IsAscending-tail}
 use Rattle.sc_model.proofs.ItemsRead.{tokens_are, faults_are}
 use Rattle.sc_model.proofs.LayoutLemmas.{LaysOut-end, LaysOut-each_file, HasOrder-same}
-use Rattle.sc_model.proofs.LayoutReading.{tokens_read, faults_read, HasRead, read-HasRead}
+use Rattle.sc_model.proofs.LayoutReading.{tokens_read, faults_read, read-HasRead}
 use Rattle.sc_model.proofs.ListLemmas.{found_in}
 use Rattle.sc_model.proofs.SetLemmas.{Keeps-refl}
 use Rattle.sc_show.specs.declared.printer.Printer.{Printer}
@@ -143,7 +142,9 @@ project-seen : (s : Sets) (files : List (List ℕ)) (faults : List base.Fault) (
 project-seen s files [] c = refl
 project-seen s files (x ∷ xs) c = by (s.has x.cond.0 c) (project-seen s files xs c)
   where
-    by : (b : Bool) {read : List Fault} {at : List base.Fault} → read ≡ map (seen_fault files) at → (if b then seen_fault files x ∷ read else read) ≡ map (seen_fault files) (if b then x ∷ at else at)
+    by : (b : Bool) → project (map (λ (f : base.Fault). (s.has f.cond.0, seen_fault files f)) xs) c ≡ map (seen_fault files) (faults_at s xs c)
+        → (if b then seen_fault files x ∷ project (map (λ (f : base.Fault). (s.has f.cond.0, seen_fault files f)) xs) c else project (map (λ (f : base.Fault). (s.has f.cond.0, seen_fault files f)) xs) c)
+        ≡ map (seen_fault files) (if b then x ∷ faults_at s xs c else faults_at s xs c)
     by true e = ap (λ fs. seen_fault files x ∷ fs) e
     by false e = e
 
@@ -156,8 +157,7 @@ agrees_tests s (k ∷ ks) (test ∷ tests) zero c agrees listed = agrees.each 0 
 agrees_tests s (k ∷ ks) (test ∷ tests) (suc n) c agrees listed =
     agrees_tests s ks tests n c (record { long = omega (arith, agrees.long); each = λ m a at. agrees.each (suc m) a at }) listed
 
--- no two numbers stand for one set
-module _ {space : Space} {s : Sets} {ks : List Cond} {tests : List Condition} (arities : s.arities ≡ arities_of space) (agrees : Agrees s ks tests) (table : IsTable s ks) where
+module _ {s : Sets} {ks : List Cond} {tests : List Condition} (agrees : Agrees s ks tests) (table : IsTable s ks) where
   -- the condition of a number
   numbered : (n : ℕ) → n < length tests → (a : Cond) × (slice_get ks n ≡ Some a) × IsCond s a.0
   numbered n below =
@@ -165,8 +165,9 @@ module _ {space : Space} {s : Sets} {ks : List Cond} {tests : List Condition} (a
       let a = get_or ks n (record { 0 = 0 }) in
       (a, slice_get-get_or ks n (record { 0 = 0 }) long, table.own n (record { 0 = 0 }) long)
 
-  numbers_reduced : IsOneToOne ks → IsCanonical s → IsCanonical (sets_of space tests)
-  numbers_reduced differ canonical = record { one = λ i j own own_too same. by i j (numbered i own.made) (numbered j own_too.made) same.at }
+  -- no two numbers stand for one set
+  numbers_reduced : (space : Space) → s.arities ≡ arities_of space → IsOneToOne ks → IsCanonical s → IsCanonical (sets_of space tests)
+  numbers_reduced space arities differ canonical = record { one = λ i j own own_too same. by i j (numbered i own.made) (numbered j own_too.made) same.at }
     where
       by : (i j : ℕ) → (a : Cond) × (slice_get ks i ≡ Some a) × IsCond s a.0 → (b : Cond) × (slice_get ks j ≡ Some b) × IsCond s b.0
           → ((c : List ℕ) → IsListed space c → condition_at tests i c ≡ condition_at tests j c) → i ≡ j
@@ -239,7 +240,7 @@ Shows-end {space} {s = s} {texts = texts} {files = files} {p = p} {q = q} list f
           are_tokens = are_tokens;
           are_faults = are_faults;
           laid = to_end;
-          reduced = numbers_reduced arities before.conditions laid.table differ canonical;
+          reduced = numbers_reduced before.conditions laid.table space arities differ canonical;
           ordered = All-append (HasOrder space tests) laid.lines (end_line ∷ [])
               (λ k d h. HasOrder-same space (tests_of s ks) tests same_sets (get_or laid.lines k d) (laid.ordered s ks (Keeps-refl s) (Extends-refl ks) k d h))
               (All-cons (HasOrder space tests) end_line [] tt (All-nil (HasOrder space tests)));

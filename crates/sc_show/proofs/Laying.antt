@@ -1,27 +1,21 @@
 -- The lines of items, after one another.
-use Rattle.std.proofs.Common.{◌≡◌, ℕ, zero, suc, ◌+◌, ◌<◌, ◌≤◌, ◌⊎◌, inl, inr, ◌==◌, ◌||◌, Bool, true, false, List, [], ◌∷◌, ◌++◌, length, map, take, slice_get, get_or, Some, All, refl, sym, ap, subst, ◌∙◌, arith, append-nil, append_assoc, length-append}
-use Rattle.std.specs.List.{Contains, list_any}
-use Rattle.std.proofs.lemmas.Bool.{cases_lt, eq-eqb, true≢false}
+use Rattle.std.proofs.Common.{◌≡◌, ℕ, zero, suc, ◌+◌, ◌<◌, List, [], ◌∷◌, ◌++◌, length, map, take, slice_get, Some, All, sym, ap, subst, ◌∙◌, arith, append-nil, append_assoc}
 use Rattle.std.proofs.lemmas.List.{map-append, take_more}
 use Rattle.std.proofs.lemmas.List.Elements.{All-nil, All-cons, All-append}
-use Rattle.std.proofs.lemmas.Option.{same_Some, slice_get_within, slice_get-get_or, get_or_from_slice_get}
+use Rattle.std.proofs.lemmas.Option.{same_Some, slice_get_within, get_or_from_slice_get}
 use Rattle.sc_base.specs.declared.id.Cond.{Cond}
 use Rattle.sc_base.specs.declared.id.FileId.{FileId}
-use Rattle.sc_base.proofs.Growth.{Extends-refl, Extends-trans, Extends-push, Extends-keeps, slice_get-append_seam, slice_get-append_left}
+use Rattle.sc_base.proofs.Growth.{Extends-refl, Extends-trans, Extends-keeps}
 use Rattle.sc_model.specs.Growth.{Extends}
-use Rattle.sc_model.specs.Layout.{Introduces, nothing, known, node, IntroducesFiles, no_file, known_file, new_file, LaysOut, done, shows, HasOrder, conditions_of, files_of}
-use Rattle.sc_model.specs.Sets.{Sets, IsConfig, IsCond, Denotes, Keeps, IsCanonical, IsNever, IsAlways, DependsFrom, IsTop}
-use Rattle.sc_model.specs.Space.{Space, Variable, arities_of}
-use Rattle.sc_model.specs.Text.{Condition, TextLine, condition_line, file_line, line_text, is_plain}
+use Rattle.sc_model.specs.Layout.{Introduces, IntroducesFiles, no_file, known_file, new_file, LaysOut, done, shows, HasOrder, conditions_of, files_of}
+use Rattle.sc_model.specs.Sets.{Sets, IsCond, Keeps, IsNever}
+use Rattle.sc_model.specs.Space.{Space}
+use Rattle.sc_model.specs.Text.{Condition, TextLine, file_line}
 use Rattle.sc_model.proofs.LayoutLemmas.{LaysOut-append}
-use Rattle.sc_model.proofs.SetLemmas.{Keeps-trans, IsConfig-kept, DependsFrom-Keeps, IsConfig-Keeps, IsNever-Keeps}
+use Rattle.sc_model.proofs.SetLemmas.{Keeps-trans, IsConfig-Keeps, IsNever-Keeps}
 use Rattle.sc_show.specs.declared.printer.Printer.{Printer}
-use Rattle.sc_show.specs.Prints.{HasPlainNames, IsTable, Prints, choices_of}
-use Rattle.sc_show.specs.Rules.{AreFrom, Introduced, IntroducedFile, Item, AreLinesOf, no_line, without_line, line_of, LaidOut, tests_of}
-use Rattle.sc_show.proofs.Children.{HasChildren, HasChildren-grows, HasOrder-node}
-use Rattle.sc_show.proofs.Choices.{numbers-choices_of}
-use Rattle.sc_show.proofs.Numbers.{IsTable-Keeps, IsTable-push, owned_at}
-use Rattle.sc_show.proofs.Steps.{Prints-Keeps, Prints-printer, Prints-condition, Prints-file}
+use Rattle.sc_show.specs.Prints.{IsTable, Prints}
+use Rattle.sc_show.specs.Rules.{Introduced, IntroducedFile, Item, AreLinesOf, no_line, without_line, line_of, LaidOut, tests_of}
 use Rattle.sc_show.proofs.Faults.{All-one}
 
 AreLinesOf-append : {s : Sets} {ks : List Cond} {fs : List FileId} {items others : List Item} {lines more : List TextLine} → AreLinesOf s ks fs items lines → AreLinesOf s ks fs others more

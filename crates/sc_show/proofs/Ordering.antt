@@ -1,22 +1,17 @@
 -- Faults in order.
-use Rattle.std.proofs.Common.{◌≡◌, ℕ, zero, suc, ◌+◌, ◌-◌, ◌<◌, ◌≤◌, ◌⊎◌, inl, inr, ◌==◌, nat_lt, cond, Bool, true, false, List, [], ◌∷◌, ◌++◌, length, map, take, slice_get, get_or, Some, All, refl, sym, ap, subst, ◌∙◌, arith, length-append, Bor}
+use Rattle.std.proofs.Common.{◌≡◌, ℕ, zero, suc, ◌+◌, ◌<◌, ◌≤◌, ◌⊎◌, inl, inr, false, List, [], ◌∷◌, ◌++◌, length, map, take, slice_get, get_or, Some, All, refl, sym, ap, subst, ◌∙◌, arith, length-append, Bor}
 use Rattle.std.specs.Cmp.Lexicographic.{slice_cmp}
 use Rattle.std.specs.Ordering.{nat_cmp, ordering_then, ordering_reverse, is_lt}
-use Rattle.std.specs.Cmp.{IsTotalOrder}
 use Rattle.std.specs.List.Sorted.{IsSortedByKey}
-use Rattle.std.proofs.lemmas.Cmp.{then_total, on_total, nat_cmp_total, nat_list_cmp_total}
 use Rattle.std.specs.declared.cmp.Ordering.{Ordering}
 use Rattle.std.specs.declared.cmp.Ordering.TheVariants.{Less, Equal, Greater}
-use Rattle.std.proofs.lemmas.Bool.{cases_lt, eqb-true, true≢false}
+use Rattle.std.proofs.lemmas.Bool.{cases_lt, true≢false}
 use Rattle.std.proofs.lemmas.Option.{same_Some, slice_get_within, get_or_from_slice_get}
 use Rattle.std.proofs.lemmas.List.{map-append, take_more}
 use Rattle.std.proofs.lemmas.List.Elements.{All-append, All-cons}
 use Rattle.sc_base.specs.declared.fault.Fault as base
 use Rattle.sc_base.proofs.Growth.{slice_get-append_seam, slice_get-append_left}
 use Rattle.sc_guarded.specs.Items.{seen_fault}
-use Rattle.sc_model.specs.declared.cause.Cause.{Cause}
-use Rattle.sc_model.specs.declared.cause.Cause.TheVariants.{NotFound, FileTooLarge, UnterminatedComment, BadNesting, BadDirective, BadDefine, Redefined, ProtectedName, BadIf, IfDivision, IfOverflow, IfShift, DefinedFromMacro, BadInclude, IncludeDepth, ErrorDirective, UnterminatedCall, WrongArguments, BadPaste, BadStringize, BadToken, Syntax}
-use Rattle.sc_model.specs.Cause.{code_of}
 use Rattle.sc_model.specs.Layout.{fault_order, IsAscending}
 use Rattle.sc_model.specs.Pre.{Fault}
 use Rattle.sc_model.proofs.Ascending.{fault_total}

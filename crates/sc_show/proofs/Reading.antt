@@ -1,8 +1,8 @@
 -- Reading a text with one line more.
-use Rattle.std.proofs.Common.{◌≡◌, ℕ, zero, suc, ◌+◌, ◌<◌, ◌==◌, ◌&&◌, Bool, true, false, List, [], ◌∷◌, ◌++◌, length, map, slice_get, slice_index, Option, Some, None, option_map, refl, sym, ap, subst, ◌∙◌, arith, append-nil, if◌then◌else◌}
+use Rattle.std.proofs.Common.{◌≡◌, ℕ, zero, suc, ◌+◌, ◌<◌, Bool, true, false, List, [], ◌∷◌, ◌++◌, length, map, slice_get, slice_index, Option, Some, None, option_map, refl, sym, ap, subst, ◌∙◌, arith, append-nil, if◌then◌else◌}
 use Rattle.std.specs.List.{concat, list_all}
 use Rattle.std.specs.Option.{option_and_then}
-use Rattle.std.proofs.lemmas.Bool.{eq-eqb, eqb-true, lt-ltb, true≢false}
+use Rattle.std.proofs.lemmas.Bool.{lt-ltb}
 use Rattle.std.proofs.lemmas.List.{map-append}
 use Rattle.std.proofs.lemmas.List.Folds.{concat-append, list_all-append}
 use Rattle.std.proofs.lemmas.Option.{slice_get-map, same_Some}
@@ -10,7 +10,7 @@ use Rattle.sc_model.specs.declared.variable_option.VariableOption.{VariableOptio
 use Rattle.sc_model.specs.Bytes.{same_bytes}
 use Rattle.sc_model.specs.Growth.{IsOneToOne}
 use Rattle.sc_model.specs.Space.{Variable, Space, option_text}
-use Rattle.sc_model.specs.Text.{Condition, Reading, TextLine, line_text, read_lines, read_line, is_clear, condition_at, variable_from, are_options}
+use Rattle.sc_model.specs.Text.{Reading, TextLine, line_text, read_lines, read_line, is_clear, variable_from, are_options}
 use Rattle.sc_model.proofs.ConditionLemmas.{same_bytes-refl, same_bytes-true}
 use Rattle.sc_show.specs.Prints.{choices_of}
 use Rattle.sc_show.proofs.Choices.{both}

@@ -88,7 +88,9 @@ pub fn show_tokens<C: Conditions>(
     let mut printer = Printer::new(alloc, conds)?;
     print_list(&mut printer, conds, space, names, files, list)?;
     print_faults(&mut printer, conds, space, files, &merged)?;
-    printer.print_end()?;
     conds.canonical();
+    files.one_to_one();
+    printer.one_to_one();
+    printer.print_end()?;
     Ok(printer.text)
 }

@@ -2,7 +2,6 @@ use Rattle.std.proofs.Common.{◌≡◌, ◌⊎◌, ◌+◌, ◌<◌, ◌≤◌,
 use Rattle.std.proofs.lemmas.Bool.{true≢false}
 use Rattle.indexmap.proofs.CallerLemmas.{Contains-list_any}
 use Rattle.sc_base.specs.declared.id.Cond.{Cond}
-use Rattle.sc_base.proofs.Growth.{Extends-push}
 use Rattle.sc_model.specs.Sets.{IsNever, IsAlways}
 use Rattle.sc_model.proofs.SetLemmas.{Keeps-refl, Keeps-trans, DependsFrom-Keeps, IsConfig-kept, le-IsTop, IsTop-Keeps}
 use Rattle.sc_space.specs.Seen.{seen_space, seen_variable}
