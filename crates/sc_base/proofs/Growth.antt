@@ -1,5 +1,8 @@
 -- Lists that only gain items at their end, as the tables of ids do. `growth` is the set of lemmas for a `using`.
-use Rattle.std.proofs.Common.{◌≡◌, ℕ, zero, suc, ◌<◌, ◌≤◌, ◌⊎◌, inl, inr, List, [], ◌∷◌, ◌++◌, length, length-append, slice_get, Some, Contains, refl, ap, sym, ◌∙◌, arith}
+use Rattle.std.proofs.Common.{◌≡◌, ℕ, zero, suc, ◌<◌, ◌≤◌, ◌⊎◌, inl, inr, Bool, true, false, List, [], ◌∷◌, ◌++◌, length, length-append, slice_get, Some, Contains, refl, ap, sym, ◌∙◌, arith}
+use Rattle.std.specs.List.{IsDistinct}
+use Rattle.std.proofs.lemmas.Bool.{cases_order, true≢false}
+use Rattle.std.proofs.lemmas.Map.Keys.{apart_from_distinct}
 use Rattle.std.proofs.lemmas.Option.{slice_get_within, get_or_from_slice_get, same_Some}
 use Rattle.sc_model.specs.Growth.{Extends, IsOneToOne}
 
@@ -55,5 +58,21 @@ IsOneToOne-push {A} xs y apart lacks = record { same = λ i j x at_i at_j. by i 
     by i j x (inl a) (inr b) = absurd (has i x a b.1)
     by i j x (inr a) (inl b) = absurd (has j x b a.1)
     by i j x (inr a) (inr b) = a.0 ∙ sym b.0
+
+-- items of which none is equal to a later one stand at one place each
+pub IsOneToOne-IsDistinct : {A : Type 0} (eq : A → A → Bool) (xs : List A) → ((x : A) → eq x x ≡ true) → IsDistinct eq xs → IsOneToOne xs
+IsOneToOne-IsDistinct {A} eq xs itself distinct = record { same = λ i j x at_i at_j. by i j x at_i at_j (cases_order i j) }
+  where
+    apart : (i j : ℕ) (x : A) → slice_get xs i ≡ Some x → slice_get xs j ≡ Some x → i < j → ⊥
+    apart i j x at_i at_j before =
+        let differ = apart_from_distinct eq xs i j x distinct before (slice_get_within xs j x at_j) in
+        let first = get_or_from_slice_get xs i x x at_i in
+        let second = get_or_from_slice_get xs j x x at_j in
+        absurd (true≢false (sym (itself x) ∙ sym (λ k. eq (first k) (second k)) ∙ differ))
+
+    by : (i j : ℕ) (x : A) → slice_get xs i ≡ Some x → slice_get xs j ≡ Some x → (i ≡ j) ⊎ ((i < j) ⊎ (j < i)) → i ≡ j
+    by i j x at_i at_j (inl same) = same
+    by i j x at_i at_j (inr (inl before)) = absurd (apart i j x at_i at_j before)
+    by i j x at_i at_j (inr (inr after)) = absurd (apart j i x at_j at_i after)
 
 pub ruleset growth = (Extends-refl, Extends-trans, Extends-push, Extends-keeps, Extends-within)

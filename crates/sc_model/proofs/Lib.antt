@@ -3,6 +3,8 @@ pub mod Ascending
 pub mod ConditionLemmas
 pub mod Expansions
 pub mod FaultOrder
+pub mod ItemsRead
+pub mod LayoutLemmas
 pub mod LayoutReading
 pub mod LexLaws
 pub mod ListLemmas

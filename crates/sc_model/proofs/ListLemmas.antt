@@ -1,5 +1,6 @@
--- Where the items of a list stand that grows.
-use Rattle.std.proofs.Common.{◌≡◌, ℕ, zero, suc, ◌<◌, List, [], ◌∷◌, ◌++◌, length, slice_get, Some, refl, arith}
+-- Where the items of a list stand.
+use Rattle.std.proofs.Common.{◌≡◌, ℕ, zero, suc, ◌<◌, List, [], ◌∷◌, ◌++◌, length, map, slice_get, Some, refl, arith}
+use Rattle.std.proofs.lemmas.Option.{same_Some}
 
 -- an item stays in place as one is added
 pub slice_get-push : {T : Type 0} (xs : List T) (x : T) (n : ℕ) → n < length xs → slice_get (xs ++ x ∷ []) n ≡ slice_get xs n
@@ -11,3 +12,9 @@ slice_get-push (y ∷ ys) x (suc n) below = slice_get-push ys x n (omega arith)
 pub slice_get-seam : {T : Type 0} (xs : List T) (x : T) (ys : List T) → slice_get (xs ++ x ∷ ys) (length xs) ≡ Some x
 slice_get-seam [] x ys = refl
 slice_get-seam (y ∷ xs) x ys = slice_get-seam xs x ys
+
+-- what an item of a mapped list comes from
+pub found_in : {X Y : Type 0} (f : X → Y) (xs : List X) (k : ℕ) (y : Y) → slice_get (map f xs) k ≡ Some y → (x : X) × (slice_get xs k ≡ Some x) × (f x ≡ y)
+found_in f [] k y at = absurd (cc)
+found_in f (x ∷ xs) zero y at = (x, refl, same_Some (f x) y at)
+found_in f (x ∷ xs) (suc k) y at = found_in f xs k y at

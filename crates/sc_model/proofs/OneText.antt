@@ -1,5 +1,5 @@
 -- A result has one text.
-use Rattle.std.proofs.Common.{◌≡◌, ℕ, ◌<◌, nat_lt, true, List, [], ◌∷◌, ◌++◌, length, map, get_or, All, Some, refl, sym, ap, subst, ◌∙◌, arith, append-nil}
+use Rattle.std.proofs.Common.{◌≡◌, ℕ, ◌<◌, nat_lt, true, List, [], ◌∷◌, ◌++◌, length, map, get_or, All, Some, refl, sym, ap, subst, ◌∙◌, arith}
 use Rattle.std.proofs.lemmas.Bool.{and_parts, ltb-true, true≢false}
 use Rattle.std.proofs.lemmas.List.Elements.{All-nil, All-cons, All-head, All-tail}
 use Rattle.std.proofs.lemmas.Option.{slice_get-get_or}
@@ -11,7 +11,8 @@ use Rattle.sc_model.specs.Sets.{IsCanonical}
 use Rattle.sc_model.specs.Space.{Space}
 use Rattle.sc_model.specs.Text.{Condition, Answer, TextLine, token_line, fault_line, end_line, Printed, Reading, nothing_read, condition_at, line_text}
 use Rattle.sc_model.specs.Token.{Shown}
-use Rattle.sc_model.proofs.LayoutReading.{tokens_read, faults_read, Holds, HasRead, read-HasRead, laid-tokens, laid-faults, tokens_read-append, faults_read-append}
+use Rattle.sc_model.proofs.ItemsRead.{tokens_are, faults_are}
+use Rattle.sc_model.proofs.LayoutReading.{tokens_read, faults_read, Holds, HasRead, read-HasRead}
 use Rattle.sc_model.proofs.OneAnswer.{IsSamePair, IsShown, pairs_from_alike, pairs_from_projections}
 use Rattle.sc_model.proofs.OneLayout.{All-front, All-back, Fits, AgreeBelow, IsSameFile, IsSameItem, one_layout}
 
@@ -27,18 +28,6 @@ AllZip-append R [] zs [] ws first later = later
 AllZip-append R [] zs (y ∷ ys) ws first later = absurd first
 AllZip-append R (x ∷ xs) zs [] ws first later = absurd first
 AllZip-append R (x ∷ xs) zs (y ∷ ys) ws first later = (first.0, AllZip-append R xs zs ys ws first.1 later)
-
-module _ (conditions : List Condition) (files : List (List ℕ)) where
-  -- no token is read of the lines of faults, and no fault of those of tokens
-  no_token : (faults : List TextLine) → list_all is_fault faults ≡ true → tokens_read conditions files faults ≡ []
-  no_token [] are = refl
-  no_token (fault_line cond cause place ∷ faults) are = no_token faults (and_parts (nat_lt 0 cond) (list_all is_fault faults) are).1
-  no_token (line ∷ faults) are = absurd (true≢false (sym are))
-
-  no_fault : (tokens : List TextLine) → list_all is_token tokens ≡ true → faults_read conditions files tokens ≡ []
-  no_fault [] are = refl
-  no_fault (token_line cond place spelling ∷ tokens) are = no_fault tokens (and_parts (nat_lt 0 cond) (list_all is_token tokens) are).1
-  no_fault (line ∷ tokens) are = absurd (true≢false (sym are))
 
 -- a condition whose number is not that of never has a configuration
 number_shown : {space : Space} (conditions : List Condition) {number : ℕ} → IsCanonical (sets_of space conditions) → IsEmpty space (condition_at conditions 0) → 0 < number → number < length conditions
@@ -151,16 +140,10 @@ module _ {space : Space} {lines : List TextLine} {reading : Reading} (told : Has
       (All-back (Holds space reading.conditions reading.files) rules.tokens (rules.faults ++ end_line ∷ []) items_hold)
 
   text_tokens : reading.answer.tokens ≡ tokens_read reading.conditions reading.files rules.tokens
-  text_tokens =
-      told.tokens ∙ laid-tokens reading.conditions reading.files rules.laid ∙ tokens_read-append reading.conditions reading.files rules.tokens (rules.faults ++ end_line ∷ [])
-      ∙ rw (tokens_read-append reading.conditions reading.files rules.faults (end_line ∷ []), no_token reading.conditions reading.files rules.faults rules.are_faults)
-      (append-nil (tokens_read reading.conditions reading.files rules.tokens))
+  text_tokens = tokens_are rules.tokens rules.faults told rules.laid rules.are_faults
 
   text_faults : reading.answer.faults ≡ faults_read reading.conditions reading.files rules.faults
-  text_faults =
-      told.faults ∙ laid-faults reading.conditions reading.files rules.laid ∙ faults_read-append reading.conditions reading.files rules.tokens (rules.faults ++ end_line ∷ [])
-      ∙ rw (no_fault reading.conditions reading.files rules.tokens rules.are_tokens, faults_read-append reading.conditions reading.files rules.faults (end_line ∷ []))
-      (append-nil (faults_read reading.conditions reading.files rules.faults))
+  text_faults = faults_are rules.tokens rules.faults told rules.laid rules.are_tokens
 
   text_tokens_shown : All (IsShown space) reading.answer.tokens
   text_tokens_shown = subst (All (IsShown space)) (sym text_tokens) (tokens_shown space reading.conditions reading.files rules.reduced text_never rules.tokens rules.are_tokens tokens_hold)

@@ -13,9 +13,8 @@ use Rattle.sc_guarded.specs.Items.{faults_at, seen_fault}
 use Rattle.sc_model.specs.Pre as model
 use Rattle.sc_model.specs.Sets.{Sets, IsConfig, IsCond, Denotes, Keeps}
 use Rattle.sc_model.proofs.SetLemmas.{IsConfig-kept, IsConfig-Keeps}
-use Rattle.sc_show.specs.Prints.{when}
 use Rattle.sc_show.specs.Shows.{AreApart}
-use Rattle.sc_show.proofs.Shows.{faults_at-Keeps, faults_more, map-when}
+use Rattle.sc_show.proofs.Shows.{when, faults_at-Keeps, faults_more, map-when}
 
 pub All-front : {X : Type 0} (P : X → Type 0) (xs ys : List X) → All P (xs ++ ys) → All P xs
 All-front P xs ys all = λ k d h. subst P (get_or-append xs ys d k h) (all k d (omega (arith, length-append xs ys)))
@@ -146,7 +145,7 @@ module _ {old now : Sets} (files : List (List ℕ)) (sorted merged : List Fault)
       ap (map (seen_fault files)) (faults_at-append now merged (fault ∷ []) c) ∙ map-append (seen_fault files) (faults_at now merged c) (when (now.has fault.cond.0 c) fault)
       ∙ ap (λ r. map (seen_fault files) (faults_at now merged c) ++ r) (map-when (seen_fault files) (now.has fault.cond.0 c) fault)
       ∙ ap (λ r. r ++ when (now.has fault.cond.0 c) (seen_fault files fault)) (same c listed)
-      ∙ faults_more (seen_fault files) old now sorted i fault [] c keeps own listed at
+      ∙ faults_more (seen_fault files) old now sorted i fault c keeps own listed at
 
   pub apart_more : AreApart old sorted → AreApart now (merged ++ fault ∷ [])
   apart_more apart = record {

@@ -1,12 +1,13 @@
 pub mod Choices
 pub mod Reading
+pub mod Children
 pub mod Ordering
-pub mod Placing
+pub mod Introducing
+pub mod Laying
 pub mod Numbers
 pub mod Pieces
 pub mod Steps
 pub mod Shows
-pub mod Reducing
-pub mod Ruling
+pub mod Ending
 pub mod Faults
 pub mod ConflictLines

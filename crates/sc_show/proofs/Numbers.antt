@@ -1,64 +1,48 @@
 -- What numbers of conditions stand for, as more conditions get numbers.
-use Rattle.std.proofs.Common.{◌≡◌, ℕ, zero, suc, ◌+◌, ◌<◌, ◌==◌, ◌||◌, not, cond, Bool, true, false, List, [], ◌∷◌, ◌++◌, length, slice_get, slice_index_or, position, get_or, Some, refl, sym, ap, ◌∙◌, arith, if◌then◌else◌}
+use Rattle.std.proofs.Common.{◌≡◌, ℕ, zero, suc, ◌+◌, ◌<◌, ◌==◌, ◌||◌, not, cond, Bool, true, false, List, [], ◌∷◌, ◌++◌, length, slice_get, slice_index_or, position, get_or, Some, refl, sym, ap, subst, ◌∙◌, arith, if◌then◌else◌}
 use Rattle.std.specs.List.{list_any, position_or_len}
 use Rattle.std.proofs.lemmas.Bool.{true≢false, eqb-true, ltb-true}
 use Rattle.std.proofs.lemmas.List.Sums.{passes_at_first}
 use Rattle.std.proofs.lemmas.List.Elements.{All-append}
-use Rattle.std.proofs.lemmas.Option.{cond_some, slice_get_within, slice_get-get_or}
+use Rattle.std.proofs.lemmas.Option.{cond_some, slice_get_within, slice_get-get_or, get_or_from_slice_get}
 use Rattle.indexmap.specs.IndexSet.{insert_key}
 use Rattle.sc_base.specs.declared.id.Cond.{Cond}
 use Rattle.sc_base.specs.declared.id.FileId.{FileId}
 use Rattle.sc_base.proofs.Growth.{Extends-push, Extends-refl, Extends-keeps}
 use Rattle.sc_model.specs.Growth.{Extends}
-use Rattle.sc_model.specs.Sets.{Sets, IsConfig, IsCond, Keeps}
-use Rattle.sc_model.specs.Text.{Condition, condition_at}
-use Rattle.sc_model.proofs.SetLemmas.{Denotes-self, Denotes-Keeps, IsConfig-kept}
-use Rattle.sc_show.specs.Prints.{IsNumberOf, IsTable, IsChild, Agrees}
+use Rattle.sc_model.specs.Sets.{Sets, IsCond, Keeps}
+use Rattle.sc_model.proofs.SetLemmas.{Keeps-refl, Denotes-Keeps}
+use Rattle.sc_show.specs.Prints.{IsNumberOf, IsTable}
 
-module _ {old new : Sets} where
-  pub IsNumberOf-grows : {ks ls : List Cond} {test : List ℕ → Bool} {n : ℕ} → Keeps old new → Extends ks ls → IsNumberOf old ks test n → IsNumberOf new ls test n
-  IsNumberOf-grows keeps grows number = record {
-    cond = number.cond;
-    found = Extends-keeps _ _ number.found grows;
-    means = Denotes-Keeps keeps number.means;
-  }
+IsNumberOf-grows : {old new : Sets} {ks ls : List Cond} {test : List ℕ → Bool} {n : ℕ} → Keeps old new → Extends ks ls → IsNumberOf old ks test n → IsNumberOf new ls test n
+IsNumberOf-grows keeps grows number = record {
+  cond = number.cond;
+  found = Extends-keeps _ _ number.found grows;
+  means = Denotes-Keeps keeps number.means;
+}
 
-  pub IsTable-Keeps : {ks : List Cond} → Keeps old new → IsTable old ks → IsTable new ks
-  IsTable-Keeps {ks} keeps table = record {
-    own = λ k d h. keeps.own _ (table.own k d h);
-    never = IsNumberOf-grows keeps (Extends-refl ks) table.never;
-    always = IsNumberOf-grows keeps (Extends-refl ks) table.always;
-  }
+pub IsTable-Keeps : {old new : Sets} {ks : List Cond} → Keeps old new → IsTable old ks → IsTable new ks
+IsTable-Keeps {ks = ks} keeps table = record {
+  own = λ k d h. keeps.own _ (table.own k d h);
+  never = IsNumberOf-grows keeps (Extends-refl ks) table.never;
+  always = IsNumberOf-grows keeps (Extends-refl ks) table.always;
+}
 
-  pub IsChild-grows : {ks ls : List Cond} {test : List ℕ → Bool} {v k n : ℕ} → Keeps old new → Extends ks ls → IsChild old ks test v k n → IsChild new ls test v k n
-  IsChild-grows keeps grows child = record {
-    part = child.part;
-    names = IsNumberOf-grows keeps grows child.names;
-    agrees = λ c listed chosen. child.agrees c (IsConfig-kept keeps listed) chosen;
-  }
+-- a condition with a number was made
+pub owned_at : {s : Sets} {ks : List Cond} (n : ℕ) (a : Cond) → IsTable s ks → slice_get ks n ≡ Some a → IsCond s a.0
+owned_at {s} {ks} n a table at = subst (λ (k : Cond). IsCond s k.0) (get_or_from_slice_get ks n a a at) (table.own n a (slice_get_within ks n a at))
 
 -- a condition more is owned as the others are
 pub IsTable-push : {s : Sets} {ks : List Cond} (cond : Cond) → IsCond s cond.0 → IsTable s ks → IsTable s (ks ++ cond ∷ [])
 IsTable-push {s} {ks} cond own table = record {
   own = All-append (λ (k : Cond). IsCond s k.0) ks (cond ∷ []) table.own one;
-  never = grown table.never;
-  always = grown table.always;
+  never = IsNumberOf-grows (Keeps-refl s) (Extends-push ks cond) table.never;
+  always = IsNumberOf-grows (Keeps-refl s) (Extends-push ks cond) table.always;
 }
   where
     one : (k : ℕ) (d : Cond) → k < length (cond ∷ []) → IsCond s (get_or (cond ∷ []) k d).0
     one zero d h = own
     one (suc k) d h = absurd (omega arith)
-
-    grown : {test : List ℕ → Bool} {n : ℕ} → IsNumberOf s ks test n → IsNumberOf s (ks ++ cond ∷ []) test n
-    grown number = record { cond = number.cond; found = Extends-keeps _ _ number.found (Extends-push ks cond); means = number.means }
-
-pub within_IsNumberOf : {s : Sets} {ks : List Cond} {test : List ℕ → Bool} {n : ℕ} → IsNumberOf s ks test n → n < length ks
-within_IsNumberOf {s} {ks} {test} {n} number = slice_get_within ks n number.cond number.found
-
--- what was read under a number is what the number stands for
-pub condition_at-IsNumberOf : {s : Sets} {ks : List Cond} {tests : List Condition} {test : List ℕ → Bool} {n : ℕ} → Agrees s ks tests → IsNumberOf s ks test n
-    → (c : List ℕ) → IsConfig s.arities c → condition_at tests n c ≡ test c
-condition_at-IsNumberOf agrees number c listed = agrees.each _ _ number.found c listed ∙ number.means.at c listed
 
 pub same_cond : (a b : Cond) → (a.0 == b.0) ≡ true → a ≡ b
 same_cond a b same = ap (λ (n : ℕ). let x : Cond = record { 0 = n } in x) (eqb-true a.0 b.0 same)
@@ -76,12 +60,6 @@ position_passes p (x ∷ xs) i h =
 
 pub slice_get-position : (ks : List Cond) (a : Cond) (n : ℕ) → Some n ≡ position (λ (k : Cond). a.0 == k.0) ks → slice_get ks n ≡ Some a
 slice_get-position ks a n found = let at = position_passes (λ (k : Cond). a.0 == k.0) ks n (sym found) in at.1 ∙ ap Some (sym (same_cond a at.0 at.2))
-
--- a condition that was found has its index as its number
-pub IsNumberOf-position : (s : Sets) (ks : List Cond) (a : Cond) (n : ℕ) → IsCond s a.0 → Some n ≡ position (λ (k : Cond). a.0 == k.0) ks → IsNumberOf s ks (s.has a.0) n
-IsNumberOf-position s ks a n own found =
-    let at = position_passes (λ (k : Cond). a.0 == k.0) ks n (sym found) in
-    record { cond = a; found = at.1 ∙ ap Some (sym (same_cond a at.0 at.2)); means = Denotes-self s a.0 own }
 
 -- nothing passes, so the first place that does is the end
 position_or_len-none : {T : Type 0} (p : T → Bool) (xs : List T) → list_any p xs ≡ false → position_or_len p xs ≡ length xs

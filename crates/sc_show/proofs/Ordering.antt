@@ -1,73 +1,22 @@
 -- Faults in order.
-use Rattle.std.proofs.Common.{◌≡◌, ℕ, zero, suc, ◌+◌, ◌-◌, ◌<◌, ◌≤◌, ◌⊎◌, inl, inr, ◌==◌, nat_lt, cond, Bool, true, false, List, [], ◌∷◌, ◌++◌, length, map, take, slice_get, get_or, Some, All, refl, sym, ap, subst, ◌∙◌, arith, length-append, Bor}
+use Rattle.std.proofs.Common.{◌≡◌, ℕ, zero, suc, ◌+◌, ◌<◌, ◌≤◌, ◌⊎◌, inl, inr, false, List, [], ◌∷◌, ◌++◌, length, map, take, slice_get, get_or, Some, All, refl, sym, ap, subst, ◌∙◌, arith, length-append, Bor}
 use Rattle.std.specs.Cmp.Lexicographic.{slice_cmp}
 use Rattle.std.specs.Ordering.{nat_cmp, ordering_then, ordering_reverse, is_lt}
-use Rattle.std.specs.Cmp.{IsTotalOrder}
 use Rattle.std.specs.List.Sorted.{IsSortedByKey}
-use Rattle.std.proofs.lemmas.Cmp.{then_total, on_total, nat_cmp_total, nat_list_cmp_total}
 use Rattle.std.specs.declared.cmp.Ordering.{Ordering}
 use Rattle.std.specs.declared.cmp.Ordering.TheVariants.{Less, Equal, Greater}
-use Rattle.std.proofs.lemmas.Bool.{cases_lt, eqb-true, true≢false}
+use Rattle.std.proofs.lemmas.Bool.{cases_lt, true≢false}
 use Rattle.std.proofs.lemmas.Option.{same_Some, slice_get_within, get_or_from_slice_get}
 use Rattle.std.proofs.lemmas.List.{map-append, take_more}
 use Rattle.std.proofs.lemmas.List.Elements.{All-append, All-cons}
 use Rattle.sc_base.specs.declared.fault.Fault as base
 use Rattle.sc_base.proofs.Growth.{slice_get-append_seam, slice_get-append_left}
 use Rattle.sc_guarded.specs.Items.{seen_fault}
-use Rattle.sc_model.specs.declared.cause.Cause.{Cause}
-use Rattle.sc_model.specs.declared.cause.Cause.TheVariants.{NotFound, FileTooLarge, UnterminatedComment, BadNesting, BadDirective, BadDefine, Redefined, ProtectedName, BadIf, IfDivision, IfOverflow, IfShift, DefinedFromMacro, BadInclude, IncludeDepth, ErrorDirective, UnterminatedCall, WrongArguments, BadPaste, BadStringize, BadToken, Syntax}
-use Rattle.sc_model.specs.Cause.{code_of}
+use Rattle.sc_model.specs.Layout.{fault_order, IsAscending}
 use Rattle.sc_model.specs.Pre.{Fault}
-use Rattle.sc_show.specs.Order.{fault_order, IsKeyOf, IsInOrder, IsAscending, MayFollow, EndsWith}
-
--- where two orders in a row find no difference, neither does
-then_equal : (o p : Ordering) → ordering_then o p ≡ Equal → (o ≡ Equal) × (p ≡ Equal)
-then_equal Less p h = absurd (cc)
-then_equal Equal p h = (refl, h)
-then_equal Greater p h = absurd (cc)
-
-nat_equal : (x y : ℕ) → nat_cmp x y ≡ Equal → x ≡ y
-nat_equal x y h = by (nat_lt x y) (x == y) refl h
-  where
-    by : (a b : Bool) → (x == y) ≡ b → cond a Less (cond b Equal Greater) ≡ Equal → x ≡ y
-    by true b e h = absurd (cc)
-    by false true e h = eqb-true x y e
-    by false false e h = absurd (cc)
-
-texts_equal : (xs ys : List ℕ) → slice_cmp nat_cmp xs ys ≡ Equal → xs ≡ ys
-texts_equal [] [] h = refl
-texts_equal [] (y ∷ ys) h = absurd (cc)
-texts_equal (x ∷ xs) [] h = absurd (cc)
-texts_equal (x ∷ xs) (y ∷ ys) h =
-    let parts = then_equal (nat_cmp x y) (slice_cmp nat_cmp xs ys) h in
-    let first = nat_equal x y parts.0 in
-    let rest = texts_equal xs ys parts.1 in
-    cc
-
-causes : List Cause
-causes =
-    NotFound ∷ FileTooLarge ∷ UnterminatedComment ∷ BadNesting ∷ BadDirective ∷ BadDefine ∷ Redefined ∷ ProtectedName ∷ BadIf ∷ IfDivision ∷ IfOverflow ∷ IfShift
-    ∷ DefinedFromMacro ∷ BadInclude ∷ IncludeDepth ∷ ErrorDirective ∷ UnterminatedCall ∷ WrongArguments ∷ BadPaste ∷ BadStringize ∷ BadToken ∷ Syntax ∷ []
-
-cause_at : (cause : Cause) → get_or causes (code_of cause - 1) NotFound ≡ cause
-unfolding causes
-cause_at NotFound = refl
-cause_at _ = refl
-
-codes_equal : (c d : Cause) → code_of c ≡ code_of d → c ≡ d
-codes_equal c d e = sym (cause_at c) ∙ (ap (λ code. get_or causes (code - 1) NotFound) e ∙ cause_at d)
-
--- faults that are ordered alike are one
-pub faults_equal : (f g : Fault) → fault_order f g ≡ Equal → f ≡ g
-faults_equal f g h =
-    let codes = then_equal _ _ h in
-    let columns = then_equal _ _ codes.0 in
-    let lines = then_equal _ _ columns.0 in
-    let name = texts_equal _ _ lines.0 in
-    let line = nat_equal _ _ lines.1 in
-    let column = nat_equal _ _ columns.1 in
-    let cause = codes_equal _ _ (nat_equal _ _ codes.1) in
-    λ i. record { cause = cause i; place = record { file = name i; position = record { line = line i; column = column i } } }
+use Rattle.sc_model.proofs.Ascending.{fault_total}
+use Rattle.sc_model.proofs.ListLemmas.{found_in}
+use Rattle.sc_show.specs.Order.{IsKeyOf, IsInOrder, MayFollow, EndsWith}
 
 -- the last of a list that is longer by one
 last_same : {X : Type 0} (fs gs : List X) (f g : X) → fs ++ f ∷ [] ≡ gs ++ g ∷ [] → f ≡ g
@@ -104,12 +53,6 @@ MayFollow-none g = record { last = λ front f e. absurd (omega (arith, ap length
 pub MayFollow-next : (fs : List Fault) (f g : Fault) → EndsWith fs f → is_lt (fault_order g f) ≡ false → MayFollow fs g
 MayFollow-next fs f g ends h = record { last = λ front x e. subst (λ y. is_lt (fault_order g y) ≡ false) (last_same ends.front front f x (sym ends.is ∙ e)) h }
 
-fault_total : IsTotalOrder fault_order
-fault_total =
-    then_total
-    (then_total (then_total (on_total (λ (f : Fault). f.place.file) nat_list_cmp_total) (on_total (λ (f : Fault). f.place.position.line) nat_cmp_total)) (on_total (λ (f : Fault). f.place.position.column) nat_cmp_total))
-    (on_total (λ (f : Fault). code_of f.cause) nat_cmp_total)
-
 -- of two different faults one is before the other
 pub strictly : (f g : Fault) → is_lt (fault_order g f) ≡ false → (fault_order f g ≡ Equal → ⊥) → fault_order f g ≡ Less
 strictly f g h other = by (fault_order g f) h (fault_total.antisymm f g)
@@ -118,12 +61,6 @@ strictly f g h other = by (fault_order g f) h (fault_total.antisymm f g)
     by Less h e = absurd (true≢false h)
     by Equal h e = absurd (other e)
     by Greater h e = e
-
--- what an item of a mapped list comes from
-found_in : {X Y : Type 0} (f : X → Y) (xs : List X) (k : ℕ) (y : Y) → slice_get (map f xs) k ≡ Some y → (x : X) × (slice_get xs k ≡ Some x) × (f x ≡ y)
-found_in f [] k y at = absurd (cc)
-found_in f (x ∷ xs) zero y at = (x, refl, same_Some (f x) y at)
-found_in f (x ∷ xs) (suc k) y at = found_in f xs k y at
 
 abbrev pub Key : Type 0
 Key = Bor (List ℕ) × ℕ × ℕ × ℕ

@@ -1,8 +1,8 @@
 -- Reading a text with one line more.
-use Rattle.std.proofs.Common.{◌≡◌, ℕ, zero, suc, ◌+◌, ◌<◌, ◌==◌, ◌&&◌, Bool, true, false, List, [], ◌∷◌, ◌++◌, length, map, slice_get, slice_index, Option, Some, None, option_map, refl, sym, ap, subst, ◌∙◌, arith, append-nil, if◌then◌else◌}
+use Rattle.std.proofs.Common.{◌≡◌, ℕ, zero, suc, ◌+◌, ◌<◌, Bool, true, false, List, [], ◌∷◌, ◌++◌, length, map, slice_get, slice_index, Option, Some, None, option_map, refl, sym, ap, subst, ◌∙◌, arith, append-nil, if◌then◌else◌}
 use Rattle.std.specs.List.{concat, list_all}
 use Rattle.std.specs.Option.{option_and_then}
-use Rattle.std.proofs.lemmas.Bool.{eq-eqb, eqb-true, lt-ltb, true≢false}
+use Rattle.std.proofs.lemmas.Bool.{lt-ltb}
 use Rattle.std.proofs.lemmas.List.{map-append}
 use Rattle.std.proofs.lemmas.List.Folds.{concat-append, list_all-append}
 use Rattle.std.proofs.lemmas.Option.{slice_get-map, same_Some}
@@ -10,7 +10,8 @@ use Rattle.sc_model.specs.declared.variable_option.VariableOption.{VariableOptio
 use Rattle.sc_model.specs.Bytes.{same_bytes}
 use Rattle.sc_model.specs.Growth.{IsOneToOne}
 use Rattle.sc_model.specs.Space.{Variable, Space, option_text}
-use Rattle.sc_model.specs.Text.{Condition, Reading, TextLine, line_text, read_lines, read_line, is_clear, condition_at, project, variable_from, are_options}
+use Rattle.sc_model.specs.Text.{Reading, TextLine, line_text, read_lines, read_line, is_clear, variable_from, are_options}
+use Rattle.sc_model.proofs.ConditionLemmas.{same_bytes-refl, same_bytes-true}
 use Rattle.sc_show.specs.Prints.{choices_of}
 use Rattle.sc_show.proofs.Choices.{both}
 
@@ -38,35 +39,6 @@ written-push lines line = ap concat (map-append line_text lines (line ∷ [])) �
 pub clear-push : (lines : List TextLine) (line : TextLine) → list_all is_clear lines ≡ true → is_clear line ≡ true → list_all is_clear (lines ++ line ∷ []) ≡ true
 clear-push lines line h k = list_all-append is_clear lines (line ∷ []) ∙ both h (both k refl)
 
-pub project-push : {T : Type 0} (pairs : List (Condition × T)) (test : Condition) (item : T) (c : List ℕ)
-    → project (pairs ++ (test, item) ∷ []) c ≡ project pairs c ++ (if test c then item ∷ [] else [])
-project-push [] test item c = refl
-project-push (pair ∷ pairs) test item c = by (pair.0 c) (project-push pairs test item c)
-  where
-    by : (b : Bool) → project (pairs ++ (test, item) ∷ []) c ≡ project pairs c ++ (if test c then item ∷ [] else [])
-        → (if b then pair.1 ∷ project (pairs ++ (test, item) ∷ []) c else project (pairs ++ (test, item) ∷ []) c)
-        ≡ (if b then pair.1 ∷ project pairs c else project pairs c) ++ (if test c then item ∷ [] else [])
-    by true ih = ap (λ r. pair.1 ∷ r) ih
-    by false ih = ih
-
--- the same bytes are the same list
-pub same_bytes-refl : (xs : List ℕ) → same_bytes xs xs ≡ true
-same_bytes-refl [] = refl
-same_bytes-refl (x ∷ xs) = both (eq-eqb x x refl) (same_bytes-refl xs)
-
-pub same_bytes-true : (xs ys : List ℕ) → same_bytes xs ys ≡ true → xs ≡ ys
-same_bytes-true [] [] h = refl
-same_bytes-true [] (y ∷ ys) h = absurd (true≢false (sym h))
-same_bytes-true (x ∷ xs) [] h = absurd (true≢false (sym h))
-same_bytes-true (x ∷ xs) (y ∷ ys) h = let parts = halves (x == y) (same_bytes xs ys) h in cons (eqb-true x y parts.0) (same_bytes-true xs ys parts.1)
-  where
-    halves : (a b : Bool) → (a && b) ≡ true → (a ≡ true) × (b ≡ true)
-    halves true b h = (refl, h)
-    halves false b h = absurd (true≢false (sym h))
-
-    cons : x ≡ y → xs ≡ ys → x ∷ xs ≡ y ∷ ys
-    cons p q = cc
-
 -- a variable is found by its name
 pub variable_from-found : (n : ℕ) (vs : List Variable) (v : ℕ) (found : Variable) → IsOneToOne (map (λ v. v.name) vs) → slice_get vs v ≡ Some found
     → variable_from n vs found.name ≡ Some (n + v, found)
@@ -90,16 +62,6 @@ variable_from-found n (x ∷ vs) (suc v) found apart at =
         let e = apart.same 0 (suc v) x.name refl (slice_get-map (λ y. y.name) vs v ∙ ap (option_map (λ y. y.name)) at ∙ ap Some (sym (same_bytes-true _ _ same))) in
         absurd (omega arith)
     by false other later = later
-
--- the condition of a number stays as conditions are read
-pub condition_at-push : (tests : List Condition) (test : Condition) (n : ℕ) → n < length tests → condition_at (tests ++ test ∷ []) n ≡ condition_at tests n
-condition_at-push [] test n h = absurd (omega arith)
-condition_at-push (t ∷ tests) test zero h = refl
-condition_at-push (t ∷ tests) test (suc n) h = condition_at-push tests test n (omega arith)
-
-pub condition_at-last : (tests : List Condition) (test : Condition) (c : List ℕ) → condition_at (tests ++ test ∷ []) (length tests) c ≡ test c
-condition_at-last [] test c = refl
-condition_at-last (t ∷ tests) test c = condition_at-last tests test c
 
 pub are_options-choices_of : (id : ℕ) (os : List VariableOption) (ns : List ℕ) → length ns ≡ length os → ((k : ℕ) → k < length ns → slice_index ns k < id)
     → are_options id (map option_text os) (choices_of os ns) ≡ true

@@ -2,170 +2,78 @@
 use Rattle.std.proofs.Common.{◌≡◌, ℕ, zero, suc, ◌+◌, ◌<◌, ◌≤◌, ◌⊎◌, inl, inr, ◌==◌, ◌||◌, nat_lt, unwrap_or, Bool, true, false, List, [], ◌∷◌, ◌++◌, length, map, slice_get, slice_index, get_or, Some, None, option_map, All, refl, sym, ap, subst, ◌∙◌, arith, length-append, if◌then◌else◌}
 use Rattle.std.proofs.lemmas.Bool.{true≢false, eq-eqb, eqb-true, lt-ltb, cases_lt}
 use Rattle.std.proofs.lemmas.List.{map-append, length-map, get_or-map}
-use Rattle.std.proofs.Math.ListN.{get_or-append}
-use Rattle.std.proofs.Math.Seq.{get_or-append_seam}
 use Rattle.std.proofs.lemmas.Option.{slice_get-map, slice_get_within, same_Some, slice_get-get_or, get_or_from_slice_get}
 use Rattle.sc_base.specs.declared.id.Cond.{Cond}
 use Rattle.sc_base.specs.declared.id.FileId.{FileId}
 use Rattle.sc_base.specs.declared.place.Place as declared_place
-use Rattle.sc_base.proofs.Growth.{Extends-trans, Extends-push, Extends-refl, slice_get-append_seam, slice_get-append_left}
+use Rattle.sc_base.proofs.Growth.{slice_get-append_seam, slice_get-append_left}
 use Rattle.sc_lex.specs.Seen.{text_at, seen_place}
 use Rattle.sc_lex.specs.Spell.{position_of}
 use Rattle.indexmap.specs.IndexSet.{insert_key}
 use Rattle.sc_model.specs.declared.cause.Cause.{Cause}
-use Rattle.sc_model.specs.Growth.{Extends}
 use Rattle.sc_model.specs.Pre.{Fault}
 use Rattle.sc_model.specs.Sets.{Sets, IsConfig, IsCond, HasOptions, Denotes, Keeps}
 use Rattle.sc_model.specs.Space.{Space, Variable, arities_of}
-use Rattle.sc_model.specs.Text.{Condition, Reading, TextLine, condition_line, file_line, token_line, fault_line, line_text, is_clear, is_plain, is_word, read_line, condition_at, chosen, read_condition, variable_from, project, with_condition, with_file, with_token, with_fault, place_of, nothing_read}
+use Rattle.sc_model.specs.Text.{Condition, Reading, TextLine, condition_line, file_line, token_line, fault_line, line_text, is_clear, is_plain, is_word, read_line, condition_at, chosen, read_condition, variable_from, with_condition, with_file, with_token, with_fault, place_of, nothing_read}
 use Rattle.sc_model.specs.Token.{Place, Shown}
+use Rattle.sc_model.proofs.ConditionLemmas.{condition_at-push, condition_at-last}
 use Rattle.sc_model.proofs.SetLemmas.{IsConfig-kept}
 use Rattle.sc_space.specs.Seen.{seen_space, seen_variable}
 use Rattle.sc_space.specs.declared.space.Space as declared_space
 use Rattle.sc_space.specs.declared.space.Variable as declared_variable
 use Rattle.sc_show.specs.declared.printer.Printer.{Printer}
-use Rattle.sc_show.specs.Prints.{HasPlainNames, Prints, Continues, Agrees, IsTable, IsNumberOf, IsChild, choices_of, printed_place, when}
+use Rattle.sc_show.specs.Prints.{HasPlainNames, Prints, Agrees, IsTable, choices_of, printed_place}
+use Rattle.sc_show.proofs.Children.{HasChildren}
 use Rattle.sc_show.proofs.Choices.{both, clear_choices, numbers-choices_of}
-use Rattle.sc_show.proofs.Reading.{read_lines-push, written-push, clear-push, project-push, variable_from-found, condition_at-push, condition_at-last, are_options-choices_of}
-use Rattle.sc_show.proofs.Numbers.{IsTable-Keeps, IsTable-push, IsChild-grows, within_IsNumberOf, condition_at-IsNumberOf}
+use Rattle.sc_show.proofs.Reading.{read_lines-push, written-push, clear-push, variable_from-found, are_options-choices_of}
+use Rattle.sc_show.proofs.Numbers.{owned_at}
 
 -- one line more
-Prints-push : {space : Space} {s : Sets} {files : List (List ℕ)} {p q : Printer} {tokens more_tokens : List ℕ → List Shown} {faults more_faults : List ℕ → List Fault}
-    (was : Prints space s files p tokens faults) (line : TextLine) (reading : Reading)
+Prints-push : {space : Space} {s : Sets} {files : List (List ℕ)} {p q : Printer} {before : List TextLine} (was : Prints space s files p before) (line : TextLine) (reading : Reading)
     → is_clear line ≡ true → q.text.items ≡ p.text.items ++ line_text line → read_line space was.reading line ≡ Some reading → reading.ended ≡ false
-    → Agrees s q.conditions.keys reading.conditions → reading.files ≡ map (λ (f : FileId). text_at files f.0) q.files.keys
-    → ((c : List ℕ) → IsConfig s.arities c → project reading.answer.tokens c ≡ more_tokens c)
-    → ((c : List ℕ) → IsConfig s.arities c → project reading.answer.faults c ≡ more_faults c)
-    → Prints space s files q more_tokens more_faults
-Prints-push {space} was line reading clear written read unended conditions names tokens faults = record {
-  lines = was.lines ++ line ∷ [];
+    → Agrees s q.conditions.keys reading.conditions → reading.files ≡ map (λ (f : FileId). text_at files f.0) q.files.keys → Prints space s files q (before ++ line ∷ [])
+Prints-push {space} {before = before} was line reading clear written read unended conditions names = record {
+  clear = clear-push before line was.clear clear;
+  written = written ∙ ap (λ t. t ++ line_text line) was.written ∙ sym (written-push before line);
   reading = reading;
-  clear = clear-push was.lines line was.clear clear;
-  written = written ∙ ap (λ t. t ++ line_text line) was.written ∙ sym (written-push was.lines line);
-  read = read_lines-push space was.lines _ was.reading reading line was.read was.unended read;
+  read = read_lines-push space before _ was.reading reading line was.read was.unended read;
   unended = unended;
   conditions = conditions;
   names = names;
-  tokens_are = tokens;
-  faults_are = faults;
 }
 
 -- the sets grow
 Agrees-Keeps : {old new : Sets} {ks : List Cond} {tests : List Condition} → Keeps old new → IsTable old ks → Agrees old ks tests → Agrees new ks tests
-Agrees-Keeps {old} {new} {ks} keeps table agrees = record {
+Agrees-Keeps keeps table agrees = record {
   long = agrees.long;
   each = λ n cond at c listed.
       let was = IsConfig-kept keeps listed in
-      agrees.each n cond at c was ∙ sym (keeps.at cond.0 c (owned n cond at) was);
+      agrees.each n cond at c was ∙ sym (keeps.at cond.0 c (owned_at n cond table at) was);
 }
-  where
-    owned : (n : ℕ) (cond : Cond) → slice_get ks n ≡ Some cond → IsCond old cond.0
-    owned n cond at = subst (λ (k : Cond). IsCond old k.0) (get_or_from_slice_get ks n cond cond at) (table.own n cond (slice_get_within ks n cond at))
 
-pub Prints-Keeps : {space : Space} {old new : Sets} {files : List (List ℕ)} {p : Printer} {tokens : List ℕ → List Shown} {faults : List ℕ → List Fault}
-    → Keeps old new → IsTable old p.conditions.keys → Prints space old files p tokens faults → Prints space new files p tokens faults
+pub Prints-Keeps : {space : Space} {old new : Sets} {files : List (List ℕ)} {p : Printer} {before : List TextLine} → Keeps old new → IsTable old p.conditions.keys → Prints space old files p before
+    → Prints space new files p before
 Prints-Keeps keeps table was = record {
-  lines = was.lines;
-  reading = was.reading;
   clear = was.clear;
   written = was.written;
+  reading = was.reading;
   read = was.read;
   unended = was.unended;
   conditions = Agrees-Keeps keeps table was.conditions;
   names = was.names;
-  tokens_are = λ c listed. was.tokens_are c (IsConfig-kept keeps listed);
-  faults_are = λ c listed. was.faults_are c (IsConfig-kept keeps listed);
 }
 
--- the same items said otherwise
-pub Prints-same : {space : Space} {s : Sets} {files : List (List ℕ)} {p : Printer} {tokens more_tokens : List ℕ → List Shown} {faults more_faults : List ℕ → List Fault}
-    → ((c : List ℕ) → IsConfig s.arities c → tokens c ≡ more_tokens c) → ((c : List ℕ) → IsConfig s.arities c → faults c ≡ more_faults c)
-    → Prints space s files p tokens faults → Prints space s files p more_tokens more_faults
-Prints-same same_tokens same_faults was = record {
-  lines = was.lines;
-  reading = was.reading;
-  clear = was.clear;
-  written = was.written;
-  read = was.read;
-  unended = was.unended;
-  conditions = was.conditions;
-  names = was.names;
-  tokens_are = λ c listed. was.tokens_are c listed ∙ same_tokens c listed;
-  faults_are = λ c listed. was.faults_are c listed ∙ same_faults c listed;
-}
-
-pub Prints-printer : {space : Space} {s : Sets} {files : List (List ℕ)} {p q : Printer} {tokens : List ℕ → List Shown} {faults : List ℕ → List Fault}
-    → q.conditions.keys ≡ p.conditions.keys → q.files.keys ≡ p.files.keys → q.text.items ≡ p.text.items → Prints space s files p tokens faults → Prints space s files q tokens faults
+-- the same printer with other spare room
+pub Prints-printer : {space : Space} {s : Sets} {files : List (List ℕ)} {p q : Printer} {before : List TextLine} → q.conditions.keys ≡ p.conditions.keys → q.files.keys ≡ p.files.keys → q.text.items ≡ p.text.items
+    → Prints space s files p before → Prints space s files q before
 Prints-printer {space} {s} {files} keys same_files same_text was = record {
-  lines = was.lines;
-  reading = was.reading;
   clear = was.clear;
   written = same_text ∙ was.written;
+  reading = was.reading;
   read = was.read;
   unended = was.unended;
   conditions = subst (λ ks. Agrees s ks was.reading.conditions) (sym keys) was.conditions;
   names = was.names ∙ ap (map (λ (f : FileId). text_at files f.0)) (sym same_files);
-  tokens_are = was.tokens_are;
-  faults_are = was.faults_are;
-}
-
-pub Continues-Keeps : {space : Space} {old new : Sets} {p : Printer} → Keeps old new → IsTable old p.conditions.keys → Continues space old new p p
-Continues-Keeps keeps table = record {
-  table = IsTable-Keeps keeps table;
-  grows = Extends-refl _;
-  same_files = refl;
-  prints = λ files tokens faults. Prints-Keeps keeps table;
-}
-
-pub Continues-trans : {space : Space} {s t u : Sets} {p q r : Printer} → Continues space s t p q → Continues space t u q r → Continues space s u p r
-Continues-trans a b = record {
-  table = b.table;
-  grows = Extends-trans a.grows b.grows;
-  same_files = b.same_files ∙ a.same_files;
-  prints = λ files tokens faults was. b.prints files tokens faults (a.prints files tokens faults was);
-}
-
--- every option of the variable has its child
-pub record HasChildren (s : Sets) (conditions : List Cond) (test : List ℕ → Bool) (variable : ℕ) (children : List ℕ) : Type 0 where
-  pub each : (k : ℕ) → k < length children → IsChild s conditions test variable k (slice_index children k)
-
-pub HasChildren-none : {s : Sets} {ks : List Cond} {test : List ℕ → Bool} {v : ℕ} → HasChildren s ks test v []
-HasChildren-none = record { each = λ k h. absurd (omega arith) }
-
-pub HasChildren-grows : {old new : Sets} {ks ls : List Cond} {test : List ℕ → Bool} {v : ℕ} {ns : List ℕ} → Keeps old new → Extends ks ls
-    → HasChildren old ks test v ns → HasChildren new ls test v ns
-HasChildren-grows keeps grows has = record { each = λ k h. IsChild-grows keeps grows (has.each k h) }
-
-pub HasChildren-push : {s : Sets} {ks : List Cond} {test : List ℕ → Bool} {v : ℕ} {ns : List ℕ} (n : ℕ) → IsChild s ks test v (length ns) n
-    → HasChildren s ks test v ns → HasChildren s ks test v (ns ++ n ∷ [])
-HasChildren-push {s} {ks} {test} {v} {ns} n child has = record { each = λ k h. by k h (cases_lt k (length ns)) }
-  where
-    by : (k : ℕ) → k < length (ns ++ n ∷ []) → (k < length ns) ⊎ (length ns ≤ k) → IsChild s ks test v k (slice_index (ns ++ n ∷ []) k)
-    by k h (inl below) = subst (IsChild s ks test v k) (sym (get_or-append ns (n ∷ []) 0 k below)) (has.each k below)
-    by k h (inr above) =
-        let last : length ns ≡ k = omega (arith, length-append ns (n ∷ [])) in
-        let at : slice_index (ns ++ n ∷ []) (length ns) ≡ n = get_or-append_seam ns n [] 0 in
-        subst (λ j. IsChild s ks test v j (slice_index (ns ++ n ∷ []) j)) last (subst (IsChild s ks test v (length ns)) (sym at) child)
-
--- the test is the condition's own
-pub HasChildren-now : {old new : Sets} {ks : List Cond} {v : ℕ} {ns : List ℕ} (a : ℕ) → Keeps old new → IsCond old a
-    → HasChildren new ks (old.has a) v ns → HasChildren new ks (new.has a) v ns
-HasChildren-now a keeps own has = record {
-  each = λ k h. record {
-    part = (has.each k h).part;
-    names = (has.each k h).names;
-    agrees = λ c listed chosen. (has.each k h).agrees c listed chosen ∙ sym (keeps.at a c own (IsConfig-kept keeps listed));
-  };
-}
-
--- the same printer with another spare room
-pub Continues-same : {space : Space} {s t : Sets} {p q r : Printer} → Continues space s t p q → r.conditions.keys ≡ q.conditions.keys → r.files.keys ≡ q.files.keys
-    → r.text.items ≡ q.text.items → Continues space s t p r
-Continues-same {space} {s} {t} {p} {q} {r} a keys same_files same_text = record {
-  table = subst (IsTable t) (sym keys) a.table;
-  grows = subst (Extends p.conditions.keys) (sym keys) a.grows;
-  same_files = same_files ∙ a.same_files;
-  prints = λ files tokens faults was. Prints-printer keys same_files same_text (a.prints files tokens faults was);
 }
 
 -- how many variables there are, and where one stands
@@ -205,54 +113,47 @@ Agrees-push {s} {ks} {tests} cond test agrees means = record {
         ap (λ m. condition_at (tests ++ test ∷ []) m c) here ∙ condition_at-last tests test c ∙ means c listed ∙ ap (λ (k : Cond). s.has k.0 c) same
 
 -- a condition's line
-pub Continues-condition : {space : Space} {s : Sets} {p q : Printer} (cond : Cond) (variable : Variable) (v number : ℕ) (children : List ℕ)
+pub Prints-condition : {space : Space} {s : Sets} {files : List (List ℕ)} {p q : Printer} {before : List TextLine} (a : Cond) (variable : Variable) (v number : ℕ) (children : List ℕ)
     → HasPlainNames space → s.arities ≡ arities_of space → slice_get space.variables v ≡ Some variable → v < length s.arities
-    → IsCond s cond.0 → IsTable s p.conditions.keys → HasChildren s p.conditions.keys (s.has cond.0) v children → length children ≡ length variable.options
-    → number ≡ length p.conditions.keys → q.conditions.keys ≡ p.conditions.keys ++ cond ∷ [] → q.files.keys ≡ p.files.keys
-    → (ns : List ℕ) → ns ≡ children → q.text.items ≡ p.text.items ++ line_text (condition_line number variable.name (choices_of variable.options ns))
-    → Continues space s s p q
-Continues-condition {space} {s} {p} {q} cond variable v number children plain arities found within own table has count at keys same_files ns shown written = record {
-  table = subst (IsTable s) (sym keys) (IsTable-push cond own table);
-  grows = subst (Extends p.conditions.keys) (sym keys) (Extends-push p.conditions.keys cond);
-  same_files = same_files;
-  prints = λ files tokens faults was.
-      Prints-push was (condition_line number variable.name (choices_of variable.options children)) (with_condition was.reading (chosen was.reading.conditions v (choices_of variable.options children))) clear
-      (written ∙ ap (λ ns. p.text.items ++ line_text (condition_line number variable.name (choices_of variable.options ns))) shown)
-      (read was.reading was.conditions) was.unended
-      (subst (λ ks. Agrees s ks (was.reading.conditions ++ chosen was.reading.conditions v (choices_of variable.options children) ∷ [])) (sym keys)
-      (Agrees-push cond (chosen was.reading.conditions v (choices_of variable.options children)) was.conditions (means was.reading was.conditions)))
-      (was.names ∙ ap (map (λ (f : FileId). text_at files f.0)) (sym same_files)) was.tokens_are was.faults_are;
-}
+    → HasChildren s p.conditions.keys a v children → length children ≡ length variable.options
+    → number ≡ length p.conditions.keys → q.conditions.keys ≡ p.conditions.keys ++ a ∷ [] → q.files.keys ≡ p.files.keys
+    → q.text.items ≡ p.text.items ++ line_text (condition_line number variable.name (choices_of variable.options children)) → Prints space s files p before
+    → Prints space s files q (before ++ condition_line number variable.name (choices_of variable.options children) ∷ [])
+Prints-condition {space} {s} {files} {p} {q} a variable v number children plain arities found within has count at keys same_files written was =
+    let options = choices_of variable.options children in
+    Prints-push was (condition_line number variable.name options) (with_condition was.reading (chosen was.reading.conditions v options)) clear written read was.unended
+    (subst (λ ks. Agrees s ks (was.reading.conditions ++ chosen was.reading.conditions v options ∷ [])) (sym keys) (Agrees-push a (chosen was.reading.conditions v options) was.conditions means))
+    (was.names ∙ ap (map (λ (f : FileId). text_at files f.0)) (sym same_files))
   where
     clear : is_clear (condition_line number variable.name (choices_of variable.options children)) ≡ true
     clear =
         let here : (get_or space.variables v variable).name ≡ variable.name = ap (λ (x : Variable). x.name) (get_or_from_slice_get space.variables v variable variable found) in
         both (subst (λ name. is_word name ≡ true) here (plain.words v variable (slice_get_within space.variables v variable found))) (clear_choices variable.options children)
 
-    read : (r : Reading) → Agrees s p.conditions.keys r.conditions
-        → read_line space r (condition_line number variable.name (choices_of variable.options children)) ≡ Some (with_condition r (chosen r.conditions v (choices_of variable.options children)))
-    read r agrees =
+    read : read_line space was.reading (condition_line number variable.name (choices_of variable.options children))
+        ≡ Some (with_condition was.reading (chosen was.reading.conditions v (choices_of variable.options children)))
+    read =
         let placed : variable_from 0 space.variables variable.name ≡ Some (v, variable) =
         variable_from-found 0 space.variables v variable plain.differ found ∙ ap (λ k. Some (k, variable)) (let e : 0 + v ≡ v = omega arith in e) in
-        let next : number ≡ length r.conditions = at ∙ sym agrees.long in
-        let lower = λ (k : ℕ) (h : k < length children). subst (λ m. slice_index children k < m) (sym at) (within_IsNumberOf (has.each k h).names) in
-        ap (read_condition r number (choices_of variable.options children)) placed
-        ∙ ap (λ b. if b then Some (with_condition r (chosen r.conditions v (choices_of variable.options children))) else None)
-        (both (eq-eqb number (length r.conditions) next) (are_options-choices_of number variable.options children count lower))
+        let next : number ≡ length was.reading.conditions = at ∙ sym was.conditions.long in
+        let lower = λ (k : ℕ) (h : k < length children). let is = has.each k h in subst (λ m. slice_index children k < m) (sym at) (slice_get_within p.conditions.keys (slice_index children k) is.child is.found) in
+        ap (read_condition was.reading number (choices_of variable.options children)) placed
+        ∙ ap (λ b. if b then Some (with_condition was.reading (chosen was.reading.conditions v (choices_of variable.options children))) else None)
+        (both (eq-eqb number (length was.reading.conditions) next) (are_options-choices_of number variable.options children count lower))
 
-    means : (r : Reading) → Agrees s p.conditions.keys r.conditions → (c : List ℕ) → IsConfig s.arities c → chosen r.conditions v (choices_of variable.options children) c ≡ s.has cond.0 c
-    means r agrees c listed =
+    means : (c : List ℕ) → IsConfig s.arities c → chosen was.reading.conditions v (choices_of variable.options children) c ≡ s.has a.0 c
+    means c listed =
         let k = slice_index c v in
         let arity = arity_at space s.arities v variable arities found in
         let below : k < length children = omega (arith, listed.each v within, arity, count) in
-        ap (λ ns. condition_at r.conditions (slice_index ns k) c) (numbers-choices_of variable.options children count)
-        ∙ condition_at-IsNumberOf agrees (has.each k below).names c listed ∙ (has.each k below).agrees c listed refl
+        let is = has.each k below in
+        ap (λ ns. condition_at was.reading.conditions (slice_index ns k) c) (numbers-choices_of variable.options children count)
+        ∙ was.conditions.each (slice_index children k) is.child is.found c listed ∙ is.agrees c listed refl
 
 -- a file's line
-pub Prints-file : {space : Space} {s : Sets} {files : List (List ℕ)} {p q : Printer} {tokens : List ℕ → List Shown} {faults : List ℕ → List Fault}
-    (file : FileId) (name : List ℕ) (number : ℕ) → All (λ (name : List ℕ). is_plain name ≡ true) files → slice_get files file.0 ≡ Some name
-    → number ≡ length p.files.keys → q.files.keys ≡ p.files.keys ++ file ∷ [] → q.conditions.keys ≡ p.conditions.keys
-    → q.text.items ≡ p.text.items ++ line_text (file_line number name) → Prints space s files p tokens faults → Prints space s files q tokens faults
+pub Prints-file : {space : Space} {s : Sets} {files : List (List ℕ)} {p q : Printer} {before : List TextLine} (file : FileId) (name : List ℕ) (number : ℕ) → All (λ (name : List ℕ). is_plain name ≡ true) files
+    → slice_get files file.0 ≡ Some name → number ≡ length p.files.keys → q.files.keys ≡ p.files.keys ++ file ∷ [] → q.conditions.keys ≡ p.conditions.keys
+    → q.text.items ≡ p.text.items ++ line_text (file_line number name) → Prints space s files p before → Prints space s files q (before ++ file_line number name ∷ [])
 Prints-file {space} {s} {files} {p} {q} file name number plain named at keys same written was =
     let clear = subst (λ (text : List ℕ). is_plain text ≡ true) (get_or_from_slice_get files file.0 name name named) (plain file.0 name (slice_get_within files file.0 name named)) in
     let next : number ≡ length was.reading.files = at ∙ sym (ap length was.names ∙ length-map p.files.keys (λ (f : FileId). text_at files f.0)) in
@@ -261,8 +162,7 @@ Prints-file {space} {s} {files} {p} {q} file name number plain named at keys sam
     let names : was.reading.files ++ name ∷ [] ≡ map (λ (f : FileId). text_at files f.0) q.files.keys =
     ap (λ fs. fs ++ name ∷ []) was.names ∙ ap (λ n. map (λ (f : FileId). text_at files f.0) p.files.keys ++ n ∷ []) (sym named_so)
     ∙ sym (ap (map (λ (f : FileId). text_at files f.0)) keys ∙ map-append (λ (f : FileId). text_at files f.0) p.files.keys (file ∷ [])) in
-    Prints-push was (file_line number name) (with_file was.reading name) clear written read was.unended (subst (λ ks. Agrees s ks was.reading.conditions) (sym same) was.conditions) names was.tokens_are
-    was.faults_are
+    Prints-push was (file_line number name) (with_file was.reading name) clear written read was.unended (subst (λ ks. Agrees s ks was.reading.conditions) (sym same) was.conditions) names
 
 -- the place that is read is the one that was printed
 place_of-printed : (files : List (List ℕ)) (keys : List FileId) (r : Reading) (m : ℕ) (place : declared_place.Place) → r.files ≡ map (λ (f : FileId). text_at files f.0) keys
@@ -271,63 +171,47 @@ place_of-printed files keys r m place names at =
     ap (option_map (λ (name : List ℕ). let x : Place = record { file = name; position = position_of place } in x))
     (ap (λ fs. slice_get fs m) names ∙ slice_get-map (λ (f : FileId). text_at files f.0) keys m ∙ ap (option_map (λ (f : FileId). text_at files f.0)) at)
 
-module _ {space : Space} {s : Sets} {files : List (List ℕ)} {p : Printer} {tokens : List ℕ → List Shown} {faults : List ℕ → List Fault} {ks : List Cond} {test : List ℕ → Bool} {n : ℕ}
-    (q : Printer) (m : ℕ) (place : declared_place.Place) (number : IsNumberOf s ks test n) (same : p.conditions.keys ≡ ks) (file : slice_get p.files.keys m ≡ Some place.file)
-    (kept : q.conditions.keys ≡ p.conditions.keys) (kept_files : q.files.keys ≡ p.files.keys) (was : Prints space s files p tokens faults) where
+module _ {space : Space} {s : Sets} {files : List (List ℕ)} {p : Printer} {cond : Cond} (q : Printer) (n m : ℕ) (place : declared_place.Place) (number : slice_get p.conditions.keys n ≡ Some cond)
+    (file : slice_get p.files.keys m ≡ Some place.file) (kept : q.conditions.keys ≡ p.conditions.keys) (kept_files : q.files.keys ≡ p.files.keys) {before : List TextLine} (was : Prints space s files p before) where
   agrees_still : Agrees s q.conditions.keys was.reading.conditions
   agrees_still = subst (λ ks. Agrees s ks was.reading.conditions) (sym kept) was.conditions
 
-  numbered : IsNumberOf s p.conditions.keys test n
-  numbered = subst (λ ks. IsNumberOf s ks test n) (sym same) number
-
   below : nat_lt n (length was.reading.conditions) ≡ true
-  below = let h = within_IsNumberOf numbered in lt-ltb n (length was.reading.conditions) (subst (λ k. n < k) (sym was.conditions.long) h)
+  below = lt-ltb n (length was.reading.conditions) (subst (λ k. n < k) (sym was.conditions.long) (slice_get_within p.conditions.keys n cond number))
 
   named_still : was.reading.files ≡ map (λ (f : FileId). text_at files f.0) q.files.keys
   named_still = was.names ∙ ap (map (λ (f : FileId). text_at files f.0)) (sym kept_files)
 
   -- a token's line
   pub Prints-token : (spelling : List ℕ) → is_plain spelling ≡ true → q.text.items ≡ p.text.items ++ line_text (token_line n (printed_place m place) spelling)
-      → Prints space s files q (λ c. tokens c ++ when (test c) (record { place = seen_place files place; spelling = spelling })) faults
+      → Prints space s files q (before ++ token_line n (printed_place m place) spelling ∷ [])
   Prints-token spelling plain written =
       let it : Shown = record { place = seen_place files place; spelling = spelling } in
       let read =
       ap (λ b. if b then option_map (λ at. with_token was.reading (condition_at was.reading.conditions n) (record { place = at; spelling = spelling })) (place_of was.reading (printed_place m place)) else None) below
       ∙ ap (option_map (λ at. with_token was.reading (condition_at was.reading.conditions n) (record { place = at; spelling = spelling }))) (place_of-printed files p.files.keys was.reading m place was.names file) in
       Prints-push was (token_line n (printed_place m place) spelling) (with_token was.reading (condition_at was.reading.conditions n) it) plain written read was.unended agrees_still named_still
-      (λ c listed. project-push was.reading.answer.tokens (condition_at was.reading.conditions n) it c
-      ∙ ap (λ ts. ts ++ when (condition_at was.reading.conditions n c) it) (was.tokens_are c listed)
-      ∙ ap (λ b. tokens c ++ when b it) (condition_at-IsNumberOf was.conditions numbered c listed))
-      was.faults_are
 
   -- a fault's line
-  pub Prints-fault : (cause : Cause) → q.text.items ≡ p.text.items ++ line_text (fault_line n cause (printed_place m place))
-      → Prints space s files q tokens (λ c. faults c ++ when (test c) (record { cause = cause; place = seen_place files place }))
+  pub Prints-fault : (cause : Cause) → q.text.items ≡ p.text.items ++ line_text (fault_line n cause (printed_place m place)) → Prints space s files q (before ++ fault_line n cause (printed_place m place) ∷ [])
   Prints-fault cause written =
       let it : Fault = record { cause = cause; place = seen_place files place } in
       let read =
       ap (λ b. if b then option_map (λ at. with_fault was.reading (condition_at was.reading.conditions n) (record { cause = cause; place = at })) (place_of was.reading (printed_place m place)) else None) below
       ∙ ap (option_map (λ at. with_fault was.reading (condition_at was.reading.conditions n) (record { cause = cause; place = at }))) (place_of-printed files p.files.keys was.reading m place was.names file) in
       Prints-push was (fault_line n cause (printed_place m place)) (with_fault was.reading (condition_at was.reading.conditions n) it) refl written read was.unended agrees_still named_still
-      was.tokens_are
-      (λ c listed. project-push was.reading.answer.faults (condition_at was.reading.conditions n) it c
-      ∙ ap (λ ts. ts ++ when (condition_at was.reading.conditions n c) it) (was.faults_are c listed)
-      ∙ ap (λ b. faults c ++ when b it) (condition_at-IsNumberOf was.conditions numbered c listed))
 
 -- nothing was printed yet
 pub Prints-nothing : {space : Space} {s : Sets} {files : List (List ℕ)} {p : Printer} (never always : Cond) → Denotes s never.0 (λ _. false) → Denotes s always.0 (λ _. true)
-    → p.conditions.keys ≡ never ∷ always ∷ [] → p.files.keys ≡ [] → p.text.items ≡ [] → Prints space s files p (λ _. []) (λ _. [])
+    → p.conditions.keys ≡ never ∷ always ∷ [] → p.files.keys ≡ [] → p.text.items ≡ [] → Prints space s files p []
 Prints-nothing {space} {s} {files} {p} never always none all keys no_files no_text = record {
-  lines = [];
-  reading = nothing_read;
   clear = refl;
   written = no_text;
+  reading = nothing_read;
   read = refl;
   unended = refl;
   conditions = record { long = sym (ap length keys); each = λ n cond at c listed. by n cond (ap (λ ks. slice_get ks n) (sym keys) ∙ at) c listed };
   names = sym (ap (map (λ (f : FileId). text_at files f.0)) no_files);
-  tokens_are = λ c listed. refl;
-  faults_are = λ c listed. refl;
 }
   where
     by : (n : ℕ) (cond : Cond) → slice_get (never ∷ always ∷ []) n ≡ Some cond → (c : List ℕ) → IsConfig s.arities c → condition_at nothing_read.conditions n c ≡ s.has cond.0 c

@@ -1,5 +1,5 @@
 -- What a printer printed, read so far, and what its numbers stand for.
-use Rattle.std.specs.Prelude.{◌≡◌, ℕ, Bool, true, false, List, [], ◌∷◌, length, map, All, Some, slice_get, slice_index, if◌then◌else◌}
+use Rattle.std.specs.Prelude.{◌≡◌, ℕ, Bool, true, false, List, [], ◌∷◌, length, map, All, Some, slice_get}
 use Rattle.std.specs.List.{concat, list_all}
 use Rattle.sc_base.specs.declared.id.Cond.{Cond}
 use Rattle.sc_base.specs.declared.id.FileId.{FileId}
@@ -7,12 +7,10 @@ use Rattle.sc_base.specs.declared.place.Place as declared_place
 use Rattle.sc_lex.specs.Seen.{text_at}
 use Rattle.sc_lex.specs.Spell.{position_of}
 use Rattle.sc_model.specs.declared.variable_option.VariableOption.{VariableOption}
-use Rattle.sc_model.specs.Growth.{Extends, IsOneToOne}
-use Rattle.sc_model.specs.Pre.{Fault}
+use Rattle.sc_model.specs.Growth.{IsOneToOne}
 use Rattle.sc_model.specs.Sets.{Sets, IsConfig, IsCond, Denotes}
 use Rattle.sc_model.specs.Space.{Space, Variable, option_text}
-use Rattle.sc_model.specs.Text.{Condition, Printed, Reading, TextLine, line_text, nothing_read, read_lines, condition_at, project, is_clear, is_word}
-use Rattle.sc_model.specs.Token.{Shown}
+use Rattle.sc_model.specs.Text.{Condition, Printed, Reading, TextLine, line_text, nothing_read, read_lines, condition_at, is_clear, is_word}
 use Rattle.sc_show.specs.declared.printer.Printer.{Printer}
 
 -- each name can stand in a line, and names one variable
@@ -40,12 +38,6 @@ pub record IsTable (s : Sets) (conditions : List Cond) : Type 0 where
   pub own : All (λ (cond : Cond). IsCond s cond.0) conditions
   pub never : IsNumberOf s conditions (λ _. false) 0
   pub always : IsNumberOf s conditions (λ _. true) 1
-
--- the condition of this number says of the configurations with an option of a variable what the test says
-pub record IsChild (s : Sets) (conditions : List Cond) (test : List ℕ → Bool) (variable option number : ℕ) : Type 0 where
-  pub part : List ℕ → Bool
-  pub names : IsNumberOf s conditions part number
-  pub agrees : (c : List ℕ) → IsConfig s.arities c → slice_index c variable ≡ option → part c ≡ test c
 
 -- the tests that were read are those of the conditions
 pub record Agrees (s : Sets) (conditions : List Cond) (tests : List Condition) : Type 0 where

@@ -2,7 +2,7 @@
 --
 -- Conditions of a store with the same configurations are one, so a condition goes by its id. Its number in the text is its
 -- place in the list of those that have a number, and likewise for files.
-use Rattle.std.specs.Prelude.{◌≡◌, ℕ, ◌<◌, List, [], ◌∷◌, ◌++◌, length, map, All, Some, slice_get}
+use Rattle.std.specs.Prelude.{◌≡◌, ℕ, ◌<◌, ◌≤◌, List, [], ◌∷◌, ◌++◌, length, map, All, Some, slice_get}
 use Rattle.sc_base.specs.declared.fault.Fault as base
 use Rattle.sc_base.specs.declared.id.Cond.{Cond}
 use Rattle.sc_base.specs.declared.id.FileId.{FileId}
@@ -12,7 +12,7 @@ use Rattle.sc_lex.specs.declared.token.Token.{Token}
 use Rattle.sc_lex.specs.Seen.{text_at}
 use Rattle.sc_model.specs.Growth.{Extends}
 use Rattle.sc_model.specs.Layout.{Introduces, IntroducesFiles, LaysOut, HasOrder, IsAscending}
-use Rattle.sc_model.specs.Sets.{Sets, IsConfig, IsNever, Denotes}
+use Rattle.sc_model.specs.Sets.{Sets, IsConfig, IsNever, Keeps, DependsFrom}
 use Rattle.sc_model.specs.Space.{Space}
 use Rattle.sc_model.specs.Text.{Condition, TextLine, token_line, fault_line}
 use Rattle.sc_show.specs.declared.printer.Printer.{Printer}
@@ -45,11 +45,15 @@ pub data AreLinesOf (s : Sets) (conditions : List Cond) (files : List FileId) : 
   line_of : (item : Item) (number file : ℕ) (items : List Item) (lines : List TextLine) → 0 < number → slice_get conditions number ≡ Some item.cond → slice_get files file ≡ Some item.file
       → AreLinesOf s conditions files items lines → AreLinesOf s conditions files (item ∷ items) (item.line number file ∷ lines)
 
--- a condition got its number, after the lines that it needs
-pub record Introduced (space : Space) (old new : Sets) (p q : Printer) (number : ℕ) : Type 0 where
+-- each condition that got a number depends on no variable before this one
+pub record AreFrom (s : Sets) (old new : List Cond) (from : ℕ) : Type 0 where
+  pub each : (n : ℕ) (a : Cond) → length old ≤ n → slice_get new n ≡ Some a → DependsFrom s a.0 from
+
+-- conditions got these numbers, after the lines that they need, which keep their order as the store and the numbers grow
+pub record Introduced (space : Space) (old new : Sets) (p q : Printer) (numbers : List ℕ) : Type 0 where
   pub lines : List TextLine
-  pub introduces : Introduces (length p.conditions.keys) (number ∷ []) lines (length q.conditions.keys)
-  pub ordered : All (HasOrder space (tests_of new q.conditions.keys)) lines
+  pub introduces : Introduces (length p.conditions.keys) numbers lines (length q.conditions.keys)
+  pub ordered : (s : Sets) (conditions : List Cond) → Keeps new s → Extends q.conditions.keys conditions → All (HasOrder space (tests_of s conditions)) lines
   pub table : IsTable new q.conditions.keys
   pub grows : Extends p.conditions.keys q.conditions.keys
   pub same_files : q.files.keys ≡ p.files.keys
@@ -63,13 +67,13 @@ pub record IntroducedFile (files : List (List ℕ)) (p q : Printer) (number : �
   pub same_conditions : q.conditions.keys ≡ p.conditions.keys
   pub prints : (space : Space) (s : Sets) (before : List TextLine) → Prints space s files p before → Prints space s files q (before ++ lines)
 
--- the items were printed, each after the lines that it needs
+-- the items were printed, each after the lines that it needs; the lines say the same as the store and the numbers grow
 pub record LaidOut (space : Space) (old new : Sets) (files : List (List ℕ)) (p q : Printer) (items : List Item) : Type 0 where
   pub lines : List TextLine
   pub shown : List TextLine
   pub laid : LaysOut (length p.conditions.keys) (length p.files.keys) shown lines (length q.conditions.keys) (length q.files.keys)
-  pub are : AreLinesOf new q.conditions.keys q.files.keys items shown
-  pub ordered : All (HasOrder space (tests_of new q.conditions.keys)) lines
+  pub are : (s : Sets) (conditions : List Cond) (names : List FileId) → Keeps new s → Extends q.conditions.keys conditions → Extends q.files.keys names → AreLinesOf s conditions names items shown
+  pub ordered : (s : Sets) (conditions : List Cond) → Keeps new s → Extends q.conditions.keys conditions → All (HasOrder space (tests_of s conditions)) lines
   pub table : IsTable new q.conditions.keys
   pub grows : Extends p.conditions.keys q.conditions.keys
   pub files_grow : Extends p.files.keys q.files.keys

@@ -1,15 +1,12 @@
 ghost use Rattle.std.specs.Prelude.{◌≡◌, ◌++◌, ◌∷◌, ◌<◌, List, ℕ, [], true, All, Some, length, slice_get, IfOk, OnOk};
-ghost use Rattle.sc_guarded.specs.Items.{seen_fault};
-ghost use Rattle.sc_lex.specs.Seen.{seen_place};
-ghost use Rattle.sc_model.specs.Pre.{Fault as model_fault};
-ghost use Rattle.sc_model.specs.Sets.{Sets, IsCond, Keeps, DependsFrom};
+ghost use Rattle.sc_model.specs.Growth.{IsOneToOne};
+ghost use Rattle.sc_model.specs.Sets.{IsCond, Keeps, DependsFrom};
 ghost use Rattle.sc_model.specs.Space as model;
 ghost use Rattle.sc_model.specs.Space.{arities_of};
 ghost use Rattle.sc_model.specs.Text.{is_plain, line_text, end_line};
-ghost use Rattle.sc_model.specs.Token.{Shown};
 ghost use Rattle.sc_space.specs.Seen.{seen_space};
-ghost use Rattle.sc_show.specs.Rules.{token_item, fault_item, IsBegun, Introduced, IntroducedFile, LaidOut};
-ghost use Rattle.sc_show.specs.Prints.{HasPlainNames, IsNumberOf, IsTable, Prints, Continues, when};
+ghost use Rattle.sc_show.specs.Rules.{token_item, fault_item, AreFrom, Introduced, IntroducedFile, LaidOut};
+ghost use Rattle.sc_show.specs.Prints.{HasPlainNames, IsTable, Prints};
 
 use crate::lines;
 use indexmap::IndexSet;
@@ -36,8 +33,9 @@ pub struct Printer {
 impl Printer {
     pub fn new<C: Conditions>(alloc: Global, conds: &C) -> Result<Printer, OutOfMemory>
         ensures table { IfOk result (λ printer. IsTable (C.sets conds.now) printer.conditions.keys) }
-        ensures prints { IfOk result (λ printer. (space : model.Space) (files : List (List ℕ)) → Prints space (C.sets conds.now) files printer (λ _. []) (λ _. [])) }
-        ensures first { IfOk result (IsBegun (C.sets conds.now)) }
+        ensures conditions { IfOk result (λ printer. length printer.conditions.keys ≡ 2) }
+        ensures files { IfOk result (λ printer. printer.files.keys ≡ []) }
+        ensures prints { IfOk result (λ printer. (space : model.Space) (files : List (List ℕ)) → Prints space (C.sets conds.now) files printer []) }
     {
         conds.has_options();
         let mut conditions = IndexSet::new(alloc);
@@ -63,10 +61,9 @@ impl Printer {
         requires arities { (C.sets conds.old).arities ≡ arities_of (seen_space space.now) }
         requires names { HasPlainNames (seen_space space.now) }
         requires table { IsTable (C.sets conds.old) self.old.conditions.keys }
-        ensures number { IfOk result (λ n. IsNumberOf (C.sets conds.new) self.new.conditions.keys ((C.sets conds.old).has cond.0) n) }
-        ensures place { IfOk result (λ n. slice_get self.new.conditions.keys n ≡ Some cond) }
-        ensures continues { OnOk result (Continues (seen_space space.now) (C.sets conds.old) (C.sets conds.new) self.old self.new) }
-        ensures lines { OnOk result (Introduced (seen_space space.now) (C.sets conds.new) self.old self.new cond) }
+        ensures number { IfOk result (λ n. slice_get self.new.conditions.keys n ≡ Some cond) }
+        ensures lines { IfOk result (λ n. Introduced (seen_space space.now) (C.sets conds.old) (C.sets conds.new) self.old self.new (n ∷ [])) }
+        ensures later { OnOk result (AreFrom (C.sets conds.new) self.old.conditions.keys self.new.conditions.keys from) }
 
         // at every outcome
         ensures keeps { Keeps (C.sets conds.old) (C.sets conds.new) }
@@ -98,10 +95,7 @@ impl Printer {
         requires file { file.0 < length files.now }
         requires plain { All (λ name. is_plain name ≡ true) files.now }
         ensures number { IfOk result (λ n. slice_get self.new.files.keys n ≡ Some file) }
-        ensures conditions { OnOk result (self.new.conditions.keys ≡ self.old.conditions.keys) }
-        ensures lines { OnOk result (IntroducedFile files.now self.old self.new file) }
-        ensures prints { OnOk result ((space : model.Space) (s : Sets) (tokens : List ℕ → List Shown) (faults : List ℕ → List model_fault)
-            → Prints space s files.now self.old tokens faults → Prints space s files.now self.new tokens faults) }
+        ensures lines { IfOk result (IntroducedFile files.now self.old self.new) }
     {
         let (number, is_new) = self.files.insert_full(file)?;
         if !is_new {
@@ -127,12 +121,7 @@ impl Printer {
         requires names { HasPlainNames (seen_space space.now) }
         requires plain { All (λ name. is_plain name ≡ true) files.now }
         requires table { IsTable (C.sets conds.old) self.old.conditions.keys }
-        ensures table { OnOk result (IsTable (C.sets conds.new) self.new.conditions.keys) }
-        ensures prints { OnOk result ((tokens : List ℕ → List Shown) (faults : List ℕ → List model_fault)
-            → Prints (seen_space space.now) (C.sets conds.old) files.now self.old tokens faults
-            → Prints (seen_space space.now) (C.sets conds.new) files.now self.new
-            (λ c. tokens c ++ when ((C.sets conds.old).has cond.0 c) (record { place = seen_place files.now place; spelling = spelling.now })) faults) }
-        ensures lines { OnOk result (LaidOut (seen_space space.now) (C.sets conds.new) files.now self.old self.new (token_item cond place spelling.now ∷ [])) }
+        ensures lines { OnOk result (LaidOut (seen_space space.now) (C.sets conds.old) (C.sets conds.new) files.now self.old self.new (token_item cond place spelling.now ∷ [])) }
 
         // at every outcome
         ensures keeps { Keeps (C.sets conds.old) (C.sets conds.new) }
@@ -159,12 +148,7 @@ impl Printer {
         requires names { HasPlainNames (seen_space space.now) }
         requires plain { All (λ name. is_plain name ≡ true) files.now }
         requires table { IsTable (C.sets conds.old) self.old.conditions.keys }
-        ensures table { OnOk result (IsTable (C.sets conds.new) self.new.conditions.keys) }
-        ensures prints { OnOk result ((tokens : List ℕ → List Shown) (faults : List ℕ → List model_fault)
-            → Prints (seen_space space.now) (C.sets conds.old) files.now self.old tokens faults
-            → Prints (seen_space space.now) (C.sets conds.new) files.now self.new tokens
-            (λ c. faults c ++ when ((C.sets conds.old).has fault.cond.0 c) (seen_fault files.now fault))) }
-        ensures lines { OnOk result (LaidOut (seen_space space.now) (C.sets conds.new) files.now self.old self.new (fault_item fault ∷ [])) }
+        ensures lines { OnOk result (LaidOut (seen_space space.now) (C.sets conds.old) (C.sets conds.new) files.now self.old self.new (fault_item fault ∷ [])) }
 
         // at every outcome
         ensures keeps { Keeps (C.sets conds.old) (C.sets conds.new) }
@@ -176,6 +160,15 @@ impl Printer {
         let file = self.file_number(files, fault.place.file)?;
         lines::write_fault(&mut self.text, condition, fault.cause, file, fault.place)?;
         Ok(())
+    }
+
+    /// No condition and no file has two numbers. This takes no time: it tells a proof.
+    pub fn one_to_one(&self)
+        ensures conditions { IsOneToOne self.now.conditions.keys }
+        ensures files { IsOneToOne self.now.files.keys }
+    {
+        let _conditions = self.conditions.len();
+        let _files = self.files.len();
     }
 
     /// Prints the last line.

@@ -1,14 +1,10 @@
-ghost use Rattle.std.specs.Prelude.{◌≡◌, ◌<◌, ◌++◌, ℕ, List, true, All, length, map, IfOk, OnOk};
-ghost use Rattle.sc_guarded.specs.Items.{items_at, faults_at, seen_fault};
-ghost use Rattle.sc_lex.specs.Seen.{seen};
-ghost use Rattle.sc_model.specs.Pre.{Fault as model_fault};
+ghost use Rattle.std.specs.Prelude.{◌≡◌, true, All, map, IfOk, OnOk};
 ghost use Rattle.sc_model.specs.Sets.{Keeps};
 ghost use Rattle.sc_model.specs.Space.{arities_of};
 ghost use Rattle.sc_model.specs.Text.{is_plain};
-ghost use Rattle.sc_model.specs.Token.{Shown, shown};
 ghost use Rattle.sc_space.specs.Seen.{seen_space};
-ghost use Rattle.sc_show.specs.Prints.{HasPlainNames, IsTable, Prints};
-ghost use Rattle.sc_show.specs.Rules.{list_item, fault_item, LaidOut, KeepsRules};
+ghost use Rattle.sc_show.specs.Prints.{HasPlainNames, IsTable};
+ghost use Rattle.sc_show.specs.Rules.{list_item, fault_item, LaidOut};
 ghost use Rattle.sc_show.specs.Shows.{IsShowable, IsShowableFault, AreApart, Shows};
 
 use crate::merge::merged;
@@ -33,12 +29,7 @@ fn print_list<C: Conditions>(
     requires plain { All (λ name. is_plain name ≡ true) files.now }
     requires list { All (IsShowable (C.sets conds.old) names.now files.now) list.now }
     requires table { IsTable (C.sets conds.old) printer.old.conditions.keys }
-    ensures table { OnOk result (IsTable (C.sets conds.new) printer.new.conditions.keys) }
-    ensures prints { OnOk result ((tokens : List ℕ → List Shown) (faults : List ℕ → List model_fault)
-        → Prints (seen_space space.now) (C.sets conds.old) files.now printer.old tokens faults
-        → Prints (seen_space space.now) (C.sets conds.new) files.now printer.new
-        (λ c. tokens c ++ map (λ t. shown (seen names.now files.now t)) (items_at (C.sets conds.old) list.now c)) faults) }
-    ensures lines { OnOk result (LaidOut (seen_space space.now) (C.sets conds.new) files.now printer.old printer.new (map (list_item names.now) list.now)) }
+    ensures lines { OnOk result (LaidOut (seen_space space.now) (C.sets conds.old) (C.sets conds.new) files.now printer.old printer.new (map (list_item names.now) list.now)) }
 
     // at every outcome
     ensures keeps { Keeps (C.sets conds.old) (C.sets conds.new) }
@@ -63,11 +54,7 @@ fn print_faults<C: Conditions>(
     requires plain { All (λ name. is_plain name ≡ true) files.now }
     requires faults { All (IsShowableFault (C.sets conds.old) files.now) faults.now }
     requires table { IsTable (C.sets conds.old) printer.old.conditions.keys }
-    ensures prints { OnOk result ((tokens : List ℕ → List Shown) (before : List ℕ → List model_fault)
-        → Prints (seen_space space.now) (C.sets conds.old) files.now printer.old tokens before
-        → Prints (seen_space space.now) (C.sets conds.new) files.now printer.new tokens
-        (λ c. before c ++ map (seen_fault files.now) (faults_at (C.sets conds.old) faults.now c))) }
-    ensures lines { OnOk result (LaidOut (seen_space space.now) (C.sets conds.new) files.now printer.old printer.new (map fault_item faults.now)) }
+    ensures lines { OnOk result (LaidOut (seen_space space.now) (C.sets conds.old) (C.sets conds.new) files.now printer.old printer.new (map fault_item faults.now)) }
 
     // at every outcome
     ensures keeps { Keeps (C.sets conds.old) (C.sets conds.new) }
@@ -95,14 +82,15 @@ pub fn show_tokens<C: Conditions>(
     requires faults { All (IsShowableFault (C.sets conds.old) files.now) faults.now }
     requires apart { AreApart (C.sets conds.old) faults.now }
     ensures text { IfOk result (λ text. Shows (seen_space space.now) (C.sets conds.new) names.now files.now list.now faults.now text.items) }
-    ensures rules { IfOk result (λ text. KeepsRules (seen_space space.now) (C.sets conds.new) names.now files.now list.now faults.now text.items) }
     ensures keeps { Keeps (C.sets conds.old) (C.sets conds.new) }
 {
     let merged = merged(alloc, conds, files, faults)?;
     let mut printer = Printer::new(alloc, conds)?;
     print_list(&mut printer, conds, space, names, files, list)?;
     print_faults(&mut printer, conds, space, files, &merged)?;
-    printer.print_end()?;
     conds.canonical();
+    files.one_to_one();
+    printer.one_to_one();
+    printer.print_end()?;
     Ok(printer.text)
 }

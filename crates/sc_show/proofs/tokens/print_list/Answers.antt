@@ -1,43 +1,23 @@
-use Rattle.std.proofs.Common.{◌≡◌, ◌++◌, ◌∙◌, ap, sym, refl, subst, map, take, take_all, append-nil, List, ℕ, true, arith}
-use Rattle.sc_guarded.specs.Items.{items_at}
-use Rattle.sc_lex.specs.Seen.{seen, seen_place}
+use Rattle.std.proofs.Common.{◌≡◌, ◌∙◌, ap, sym, subst, map, take, take_all, List, ℕ, true, arith}
 use Rattle.sc_model.specs.Text.{is_plain}
-use Rattle.sc_model.specs.Token.{Shown, shown}
-use Rattle.sc_model.proofs.SetLemmas.{Keeps-refl, Keeps-trans, IsConfig-kept}
+use Rattle.sc_model.proofs.SetLemmas.{Keeps-refl, Keeps-trans}
 use Rattle.sc_space.specs.Seen.{seen_space}
 use Rattle.sc_show.specs.Rules.{list_item, token_item, LaidOut}
-use Rattle.sc_show.proofs.Placing.{LaidOut-nothing, LaidOut-more}
-use Rattle.sc_show.proofs.Shows.{shown_more, showable_at, text_at-slice_get}
-use Rattle.sc_show.proofs.Steps.{Prints-same}
+use Rattle.sc_show.proofs.Laying.{LaidOut-nothing, LaidOut-more}
+use Rattle.sc_show.proofs.Shows.{showable_at, text_at-slice_get}
 use Rattle.sc_show.proofs.tokens.print_list.Goals as goal
 
 pub loop-index-init : goal.loop-index-init
-loop-index-init g c = record {
-  keeps = Keeps-refl _;
-  table = c.requires.table;
-  prints = λ tokens faults was. Prints-same (λ x listed. sym (append-nil (tokens x))) (λ x listed. refl) was;
-  lines = LaidOut-nothing;
-}
+loop-index-init g c = record { keeps = Keeps-refl _; lines = LaidOut-nothing c.requires.table }
 
 pub loop-index-preserved : goal.loop-index-preserved
 loop-index-preserved g c =
     let was = c.loop-index.invariant in
-    let kept = Keeps-trans was.keeps c.print_token.ensures.keeps in
-    let can = showable_at c.args.list.now c.loop-index.index _ c.requires.list c.item.ensures in
-    let place = seen_place c.args.files.now c.item.result.1.now.place in
-    let it : Shown = record { place = place; spelling = c.text-spelling.result.now } in
-    let same : it ≡ shown (seen c.args.names.now c.args.files.now c.item.result.1.now) =
-    ap (λ (text : List ℕ). let x : Shown = record { place = place; spelling = text } in x) (text_at-slice_get c.args.names.now _ c.text-spelling.result.now c.text-spelling.ensures) in
+    let place = c.item.result.1.now.place in
     record {
-      keeps = kept;
-      table = c.in_ok-print_token.ensures.table;
-      prints = λ tokens faults begun.
-          Prints-same
-          (λ x listed. shown_more (λ t. shown (seen c.args.names.now c.args.files.now t)) _ _ c.args.list.now c.loop-index.index c.item.result.0 c.item.result.1.now (tokens x) x was.keeps can.own
-          (IsConfig-kept kept listed) c.item.ensures it same)
-          (λ x listed. refl) (c.in_ok-print_token.ensures.prints _ faults (was.prints tokens faults begun));
-      lines = LaidOut-more (list_item c.args.names.now) c.args.list.now c.loop-index.index (c.item.result.0, c.item.result.1.now) (token_item c.item.result.0 c.item.result.1.now.place c.text-spelling.result.now) c.item.ensures
-          (ap (token_item c.item.result.0 c.item.result.1.now.place) (text_at-slice_get c.args.names.now _ c.text-spelling.result.now c.text-spelling.ensures)) c.print_token.ensures.keeps was.lines
+      keeps = Keeps-trans was.keeps c.print_token.ensures.keeps;
+      lines = LaidOut-more (list_item c.args.names.now) c.args.list.now c.loop-index.index (c.item.result.0, c.item.result.1.now) (token_item c.item.result.0 place c.text-spelling.result.now) c.item.ensures
+          (ap (token_item c.item.result.0 place) (text_at-slice_get c.args.names.now _ c.text-spelling.result.now c.text-spelling.ensures)) c.print_token.ensures.keeps was.lines
           c.in_ok-print_token.ensures.lines;
     }
 
@@ -55,7 +35,7 @@ print_token-requires g c =
       arities = was.keeps.arities ∙ c.requires.arities;
       names = c.requires.names;
       plain = c.requires.plain;
-      table = was.table;
+      table = was.lines.table;
     }
 
 pub returns-in_err-print_token-clause-keeps : goal.returns-in_err-print_token-clause-keeps
@@ -66,10 +46,6 @@ returns g c =
     let was = c.loop-index.invariant in
     let all : take c.loop-index.index c.args.list.now ≡ c.args.list.now = take_all _ _ (omega arith) in
     record {
-      table = was.table;
-      prints = λ tokens faults begun.
-          Prints-same (λ x listed. ap (λ l. tokens x ++ map (λ t. shown (seen c.args.names.now c.args.files.now t)) (items_at (g.C.Conditions.sets c.args.conds.now) l x)) all) (λ x listed. refl)
-          (was.prints tokens faults begun);
-      lines = subst (λ list. LaidOut (seen_space c.args.space.now) (g.C.Conditions.sets c.loop-index.conds) c.args.files.now c.args.printer.now c.loop-index.printer (map (list_item c.args.names.now) list)) all was.lines;
+      lines = subst (λ list. LaidOut (seen_space c.args.space.now) (g.C.Conditions.sets c.args.conds.now) (g.C.Conditions.sets c.loop-index.conds) c.args.files.now c.args.printer.now c.loop-index.printer (map (list_item c.args.names.now) list)) all was.lines;
       keeps = was.keeps;
     }

@@ -1,14 +1,12 @@
 use Rattle.std.proofs.Common.{◌∙◌, ◌++◌, ap, sym, subst, map, All}
-use Rattle.sc_guarded.specs.Items.{faults_at, seen_fault}
-use Rattle.sc_lex.specs.Seen.{seen}
-use Rattle.sc_model.specs.Token.{shown}
+use Rattle.sc_guarded.specs.Items.{seen_fault}
 use Rattle.sc_model.proofs.SetLemmas.{Keeps-trans, IsConfig-kept}
 use Rattle.sc_space.specs.Seen.{seen_space}
-use Rattle.sc_show.specs.Shows.{IsShowableFault}
 use Rattle.sc_show.specs.Rules.{list_item, fault_item, LaidOut}
-use Rattle.sc_show.proofs.Placing.{LaidOut-trans}
-use Rattle.sc_show.proofs.Ruling.{KeepsRules-end}
-use Rattle.sc_show.proofs.Shows.{IsShowable-Keeps, IsShowableFault-Keeps, Shows-end, items_at-Keeps, faults_at-Keeps}
+use Rattle.sc_show.specs.Shows.{IsShowableFault}
+use Rattle.sc_show.proofs.Ending.{Shows-end}
+use Rattle.sc_show.proofs.Laying.{LaidOut-trans}
+use Rattle.sc_show.proofs.Shows.{IsShowable-Keeps, IsShowableFault-Keeps, faults_at-Keeps}
 use Rattle.sc_show.proofs.tokens.show_tokens.Goals as goal
 
 pub print_list-requires : goal.print_list-requires
@@ -29,32 +27,20 @@ print_faults-requires g c =
       names = c.requires.sound;
       plain = c.requires.files;
       faults = λ k d h. IsShowableFault-Keeps c.print_list.ensures.keeps (all k d h);
-      table = c.in_ok-print_list.ensures.table;
+      table = c.in_ok-print_list.ensures.lines.table;
     }
 
 pub returns : goal.returns
 returns g c =
     let first = c.merged.ensures.keeps in
     let later = Keeps-trans c.print_list.ensures.keeps c.print_faults.ensures.keeps in
+    let space = seen_space c.args.space.now in
     let files = c.args.files.now in
     let merged = c.in_ok-merged.merged.items in
-    let sets = g.C.Conditions.sets c.print_list.new.conds in
-    let started = c.in_ok-printer.ensures.prints (seen_space c.args.space.now) files in
-    let told = c.in_ok-print_faults.ensures.prints _ _ (c.in_ok-print_list.ensures.prints _ _ started) in
+    let laid = LaidOut-trans c.print_faults.ensures.keeps c.in_ok-print_list.ensures.lines c.in_ok-print_faults.ensures.lines in
     record {
-      text = Shows-end c.args.list.now c.args.faults.now c.print_end.new.self.text.items c.in_ok-print_end.ensures
-          (λ x listed. ap (map (λ t. shown (seen c.args.names.now files t)))
-          (sym (items_at-Keeps c.args.list.now x later (λ k d h. first.own _ (c.requires.list k d h).own) (IsConfig-kept later listed))))
-          (λ x listed.
-          let here = IsConfig-kept later listed in
-          let before = IsConfig-kept first here in
-          ap (map (seen_fault files))
-          (ap (λ fs. faults_at sets fs x) c.deref.ensures.value ∙ faults_at-Keeps merged x c.print_list.ensures.keeps (λ k d h. (c.in_ok-merged.ensures.faults k d h).own) here)
-          ∙ c.in_ok-merged.ensures.same x before
-          ∙ ap (map (seen_fault files)) (sym (faults_at-Keeps c.args.faults.now x (Keeps-trans first later) (λ k d h. (c.requires.faults k d h).own) before)))
-          told;
-      rules = KeepsRules-end c.args.list.now c.args.faults.now merged c.print_end.new.self.text.items c.requires.sound c.requires.files
-          (λ k d h. IsShowable-Keeps first (c.requires.list k d h)) c.canonical.ensures later c.in_ok-printer.ensures.first (record {
+      text = Shows-end c.args.list.now c.args.faults.now merged c.print_end.new.self.text.items (later.arities ∙ first.arities ∙ c.requires.space) c.one_to_one.ensures c.requires.list
+          c.in_ok-merged.ensures.faults c.canonical.ensures (record {
             ascending = c.in_ok-merged.ensures.ascending;
             same = λ x listed.
                 let here = IsConfig-kept later listed in
@@ -63,9 +49,10 @@ returns g c =
                 ∙ c.in_ok-merged.ensures.same x before
                 ∙ ap (map (seen_fault files)) (sym (faults_at-Keeps c.args.faults.now x (Keeps-trans first later) (λ k d h. (c.requires.faults k d h).own) before));
           })
-          (subst (λ faults. LaidOut (seen_space c.args.space.now) (g.C.Conditions.sets c.print_faults.new.conds) files c.in_ok-printer.printer c.print_faults.new.printer (map (list_item c.args.names.now) c.args.list.now ++ map fault_item faults))
-          c.deref.ensures.value (LaidOut-trans c.print_faults.ensures.keeps c.in_ok-print_list.ensures.lines c.in_ok-print_faults.ensures.lines))
-          c.in_ok-print_end.ensures;
+          c.in_ok-printer.ensures.conditions c.in_ok-printer.ensures.files (c.in_ok-printer.ensures.prints space files)
+          (subst (λ faults. LaidOut space (g.C.Conditions.sets c.merged.new.conds) (g.C.Conditions.sets c.print_faults.new.conds) files c.in_ok-printer.printer c.print_faults.new.printer
+          (map (list_item c.args.names.now) c.args.list.now ++ map fault_item faults)) c.deref.ensures.value laid)
+          c.one_to_one-2.ensures.conditions c.one_to_one-2.ensures.files c.in_ok-print_end.ensures;
       keeps = Keeps-trans first later;
     }
 

@@ -5,13 +5,12 @@ use Rattle.sc_base.specs.declared.id.Cond.{Cond}
 use Rattle.sc_model.specs.Sets.{IsNever, IsAlways}
 use Rattle.sc_model.proofs.SetLemmas.{Keeps-refl, Keeps-trans, DependsFrom-Keeps, IsConfig-kept, le-IsTop, IsTop-Keeps}
 use Rattle.sc_space.specs.Seen.{seen_space, seen_variable}
-use Rattle.sc_show.proofs.Numbers.{same_cond, present, IsNumberOf-position, slice_get-position, IsTable-Keeps, pushed, pushed_at, stays}
-use Rattle.sc_show.proofs.Placing.{HasParts-push, HasParts-none, HasParts-absent, Introduced-node, Introduced-known, numbered_never, numbered_always, absent_cond}
-use Rattle.sc_show.proofs.Steps.{HasChildren, HasChildren-none, HasChildren-grows, HasChildren-push, HasChildren-now, Continues-Keeps, Continues-trans, Continues-same, Continues-condition, variables_count, variable_at, arity_at}
+use Rattle.sc_show.specs.Rules.{AreFrom, Introduced}
+use Rattle.sc_show.proofs.Children.{HasChildren, HasChildren-none, HasChildren-grows, HasChildren-push}
+use Rattle.sc_show.proofs.Numbers.{same_cond, present, slice_get-position, IsTable-Keeps, pushed, pushed_at}
+use Rattle.sc_show.proofs.Introducing.{AreFrom-none, AreFrom-before, AreFrom-push, AreFrom-trans, AreFrom-absent, Introduced-trans, Introduced-nothing, Introduced-known, Introduced-node, numbered_never, numbered_always, absent_cond}
+use Rattle.sc_show.proofs.Steps.{variables_count, variable_at, arity_at}
 use Rattle.sc_show.proofs.printer.Printer.+condition_number.Goals as goal
-
-pub returns-in-Some-get_index_of-clause-number : goal.returns-in-Some-get_index_of-clause-number
-returns-in-Some-get_index_of-clause-number g t c = IsNumberOf-position _ _ _ _ c.requires.own c.in-Some-get_index_of.ensures.index
 
 pub part-requires-clause-option : goal.part-requires-clause-option
 part-requires-clause-option g t c =
@@ -29,7 +28,7 @@ condition_number-requires g t c κs within =
     let count = variables_count c.args.space.now _ c.requires.arities in
     let below : c.in-Some.variable < length c.args.space.now.variables.items = omega (arith, count, c.in-Some.ensures.some.depends.within) in
     let arities = c.part.ensures.keeps.arities ∙ c.loop-option.invariant.keeps.arities ∙ c.requires.arities in
-    let table = IsTable-Keeps c.part.ensures.keeps c.loop-option.invariant.continues.table in (
+    let table = IsTable-Keeps c.part.ensures.keeps c.loop-option.invariant.lines.table in (
       search rules,
       (within, (c.in_ok-part.ensures.own, (c.in_ok-part.ensures.later c.loop-option.invariant.later, (arities, (c.requires.names, table))))),
     )
@@ -40,100 +39,104 @@ returns-in_err-child-clause-keeps g t c = Keeps-trans c.loop-option.invariant.ke
 pub returns-in_err-push-clause-keeps : goal.returns-in_err-push-clause-keeps
 returns-in_err-push-clause-keeps g t c = Keeps-trans c.loop-option.invariant.keeps (Keeps-trans c.part.ensures.keeps c.condition_number.ensures.keeps)
 
+pub loop-option-init : goal.loop-option-init
+loop-option-init g t c = record {
+  own = c.requires.own;
+  later = c.in-Some.ensures.some.first;
+  keeps = Keeps-refl _;
+  lines = subst (Introduced (seen_space c.args.space.now) _ _ c.args.self.now c.args.self.now) (sym c.new-children.ensures.items) (Introduced-nothing (Keeps-refl _) c.requires.table);
+  from = AreFrom-none;
+  children = subst (HasChildren _ _ _ _) (sym c.new-children.ensures.items) HasChildren-none;
+  count = ap length c.new-children.ensures.items;
+}
+
 pub loop-option-preserved : goal.loop-option-preserved
 loop-option-preserved g t c =
     let was = c.loop-option.invariant in
-    let kept = Keeps-trans c.part.ensures.keeps c.condition_number.ensures.keeps in
-    let more = c.in_ok-child.ensures.continues in
+    let more = c.in_ok-child.ensures.lines in
+    let later = c.condition_number.ensures.keeps in
+    let kept = Keeps-trans c.part.ensures.keeps later in
     let longer : length c.push.new.self.items ≡ length c.loop-option.children.items + 1 = ap length c.in_ok-push.ensures.items ∙ length-append _ _ in
     record {
       own = kept.own _ was.own;
       later = DependsFrom-Keeps kept was.own was.later;
       keeps = Keeps-trans was.keeps kept;
-      continues = Continues-trans was.continues (Continues-trans (Continues-Keeps c.part.ensures.keeps was.continues.table) more);
-      children = subst (HasChildren _ _ _ _) (sym c.in_ok-push.ensures.items) (HasChildren-push c.in_ok-child.child (record {
-        part = (g.C.Conditions.sets c.part.new.self).has c.in_ok-part.part.0;
-        names = c.in_ok-child.ensures.number;
-        agrees = λ x listed chosen.
-            c.in_ok-part.ensures.chosen x (IsConfig-kept kept listed) (chosen ∙ was.count)
-            ∙ was.keeps.at _ x c.requires.own (IsConfig-kept (Keeps-trans was.keeps kept) listed);
-      }) (HasChildren-grows kept more.grows was.children));
-      parts = HasParts-push c.in_ok-part.part c.in_ok-child.child c.push.new.self.items c.part.ensures.keeps c.condition_number.ensures.keeps was.own was.parts (record {
-        own = c.in_ok-part.ensures.own;
-        later = c.in_ok-part.ensures.later was.later;
-        agrees = λ x listed chosen. c.in_ok-part.ensures.chosen x (IsConfig-kept c.part.ensures.keeps listed) (chosen ∙ was.count) ∙ sym (c.part.ensures.keeps.at _ x was.own (IsConfig-kept c.part.ensures.keeps listed));
-      }) c.in_ok-child.ensures.lines c.in_ok-child.ensures.place more.grows c.in_ok-push.ensures.items;
+      lines = subst (Introduced (seen_space c.args.space.now) _ _ _ _) (sym c.in_ok-push.ensures.items)
+          (Introduced-trans kept was.lines (Introduced-trans later (Introduced-nothing c.part.ensures.keeps was.lines.table) more));
+      from = AreFrom-trans kept was.lines.table more.grows was.from c.in_ok-child.ensures.later;
+      children = subst (HasChildren _ _ _ _) (sym c.in_ok-push.ensures.items)
+          (HasChildren-push c.in_ok-child.child (record {
+            child = c.in_ok-part.part;
+            found = c.in_ok-child.ensures.number;
+            own = later.own _ c.in_ok-part.ensures.own;
+            later = DependsFrom-Keeps later c.in_ok-part.ensures.own (c.in_ok-part.ensures.later was.later);
+            agrees = λ x listed chosen.
+                let between = IsConfig-kept later listed in
+                let before = IsConfig-kept c.part.ensures.keeps between in
+                later.at _ x c.in_ok-part.ensures.own between ∙ c.in_ok-part.ensures.chosen x before (chosen ∙ was.count) ∙ sym (kept.at _ x was.own before);
+          }) (HasChildren-grows kept was.own more.grows was.children));
       count = longer ∙ ap (λ n. n + 1) was.count;
     }
 
-pub returns-then-not-is_new-clause-continues : goal.returns-then-not-is_new-clause-continues
-returns-then-not-is_new-clause-continues g t c =
-    Continues-same c.loop-option.invariant.continues
-    (stays (λ (a b : Cond). a.0 == b.0) _ _ _ c.in_ok-number.number (sym c.if-not-is_new.true ∙ c.in_ok-number.ensures.added) c.in_ok-number.ensures.keys) refl refl
-
-pub returns-clause-continues : goal.returns-clause-continues
-returns-clause-continues g t c =
-    let was = c.loop-option.invariant in
-    let count = variables_count c.args.space.now _ c.requires.arities in
-    let below : c.in-Some.variable < length c.args.space.now.variables.items = omega (arith, count, c.in-Some.ensures.some.depends.within) in
-    let arities = was.keeps.arities ∙ c.requires.arities in
-    let fresh = sym c.if-not-is_new.false ∙ c.in_ok-number.ensures.added in
-    let placed : c.in-Some.variable < length (g.C.Conditions.sets c.loop-option.conds).arities = omega (arith, below, variables_count c.args.space.now _ arities) in
-    Continues-trans was.continues (Continues-condition c.args.cond (seen_variable c.index-named.result.now) c.in-Some.variable c.in_ok-number.number c.loop-option.children.items
-    c.requires.names arities (variable_at c.args.space.now _ _ c.index-named.ensures below) placed was.own was.continues.table
-    (HasChildren-now _ was.keeps c.requires.own was.children) (omega arith)
-    (pushed_at (λ (a b : Cond). a.0 == b.0) _ _ c.insert_full.new.self.keys _ fresh c.in_ok-number.ensures.index) (pushed (λ (a b : Cond). a.0 == b.0) _ _ _ c.in_ok-number.number fresh c.in_ok-number.ensures.keys)
-    refl c.deref.result.now c.deref.ensures.value c.in_ok-write_condition.ensures)
-
-pub returns-then-is_never-clause-place : goal.returns-then-is_never-clause-place
-returns-then-is_never-clause-place g t c =
+pub returns-then-is_never-clause-number : goal.returns-then-is_never-clause-number
+returns-then-is_never-clause-number g t c =
     let never : IsNever (g.C.Conditions.sets c.args.conds.now) c.args.cond.0 = c.is_never.ensures.0 (search rules) in
     numbered_never c.args.cond c.canonical.ensures c.requires.table c.requires.own never
 
-pub returns-else-is_never-clause-place : goal.returns-else-is_never-clause-place
-returns-else-is_never-clause-place g t c =
+pub returns-else-is_never-clause-number : goal.returns-else-is_never-clause-number
+returns-else-is_never-clause-number g t c =
     let sets = g.C.Conditions.sets c.args.conds.now in
     let some : IsNever sets c.args.cond.0 → ⊥ = λ never. absurd (true≢false (sym (c.is_never.ensures.1 never) ∙ c.if-is_never.false)) in
     let either : IsNever sets c.args.cond.0 ⊎ IsAlways sets c.args.cond.0 = c.in_default.ensures.none.0 (search rules) in
     numbered_always c.args.cond c.canonical.ensures c.requires.table c.requires.own some either
 
 pub returns-then-is_never-clause-lines : goal.returns-then-is_never-clause-lines
-returns-then-is_never-clause-lines g t c = Introduced-known c.args.cond 0 (returns-then-is_never-clause-place g t c)
+returns-then-is_never-clause-lines g t c = Introduced-known c.args.cond 0 c.requires.table (returns-then-is_never-clause-number g t c)
 
 pub returns-else-is_never-clause-lines : goal.returns-else-is_never-clause-lines
-returns-else-is_never-clause-lines g t c = Introduced-known c.args.cond 1 (returns-else-is_never-clause-place g t c)
+returns-else-is_never-clause-lines g t c = Introduced-known c.args.cond 1 c.requires.table (returns-else-is_never-clause-number g t c)
 
-pub returns-in-Some-get_index_of-clause-place : goal.returns-in-Some-get_index_of-clause-place
-returns-in-Some-get_index_of-clause-place g t c = slice_get-position _ _ _ c.in-Some-get_index_of.ensures.index
+pub returns-then-is_never-clause-later : goal.returns-then-is_never-clause-later
+returns-then-is_never-clause-later g t c = AreFrom-none
+
+pub returns-else-is_never-clause-later : goal.returns-else-is_never-clause-later
+returns-else-is_never-clause-later g t c = AreFrom-none
+
+pub returns-in-Some-get_index_of-clause-number : goal.returns-in-Some-get_index_of-clause-number
+returns-in-Some-get_index_of-clause-number g t c = slice_get-position _ _ _ c.in-Some-get_index_of.ensures.index
 
 pub returns-in-Some-get_index_of-clause-lines : goal.returns-in-Some-get_index_of-clause-lines
-returns-in-Some-get_index_of-clause-lines g t c = Introduced-known c.args.cond _ (slice_get-position _ _ _ c.in-Some-get_index_of.ensures.index)
+returns-in-Some-get_index_of-clause-lines g t c = Introduced-known c.args.cond _ c.requires.table (slice_get-position _ _ _ c.in-Some-get_index_of.ensures.index)
 
-pub loop-option-init : goal.loop-option-init
-loop-option-init g t c = record {
-  own = c.requires.own;
-  later = c.in-Some.ensures.some.first;
-  keeps = Keeps-refl _;
-  continues = Continues-Keeps (Keeps-refl _) c.requires.table;
-  children = subst (HasChildren _ _ _ _) (sym c.new-children.ensures.items) HasChildren-none;
-  parts = HasParts-none c.new-children.ensures.items;
-  count = ap length c.new-children.ensures.items;
-}
+pub returns-in-Some-get_index_of-clause-later : goal.returns-in-Some-get_index_of-clause-later
+returns-in-Some-get_index_of-clause-later g t c = AreFrom-none
 
-pub returns-then-not-is_new-clause-lines : goal.returns-then-not-is_new-clause-lines
-returns-then-not-is_new-clause-lines g t c =
+pub returns-then-not-is_new : goal.returns-then-not-is_new
+returns-then-not-is_new g t c =
     let was = c.loop-option.invariant in
     let has = Contains-list_any (λ (a b : Cond). a.0 == b.0) same_cond c.loop-option.self.conditions.keys c.args.cond
     (present (λ (a b : Cond). a.0 == b.0) c.args.cond c.loop-option.self.conditions.keys c.insert_full.new.self.keys c.in_ok-number.number (sym c.if-not-is_new.true ∙ c.in_ok-number.ensures.added)) in
-    absurd (HasParts-absent was.parts (IsTop-Keeps was.keeps c.requires.own c.in-Some.ensures.some) (absent_cond c.args.self.now.conditions.keys c.args.cond c.in_default-get_index_of.ensures.found) has)
+    absurd (AreFrom-absent c.args.cond was.lines.grows was.from (IsTop-Keeps was.keeps c.requires.own c.in-Some.ensures.some)
+    (absent_cond c.args.self.now.conditions.keys c.args.cond c.in_default-get_index_of.ensures.found) has)
 
 pub returns-clause-lines : goal.returns-clause-lines
 returns-clause-lines g t c =
     let was = c.loop-option.invariant in
     let count = variables_count c.args.space.now _ c.requires.arities in
     let below : c.in-Some.variable < length c.args.space.now.variables.items = omega (arith, count, c.in-Some.ensures.some.depends.within) in
+    let arities = was.keeps.arities ∙ c.requires.arities in
+    let placed : c.in-Some.variable < length (g.C.Conditions.sets c.loop-option.conds).arities = omega (arith, below, variables_count c.args.space.now _ arities) in
     let fresh = sym c.if-not-is_new.false ∙ c.in_ok-number.ensures.added in
-    Introduced-node (seen_variable c.index-named.result.now) c.in_ok-number.number c.deref.result.now was.own (IsTop-Keeps was.keeps c.requires.own c.in-Some.ensures.some)
-    (variable_at c.args.space.now _ _ c.index-named.ensures below) (omega arith) (absent_cond c.args.self.now.conditions.keys c.args.cond c.in_default-get_index_of.ensures.found) was.parts
+    Introduced-node c.args.cond (seen_variable c.index-named.result.now) c.in-Some.variable c.in_ok-number.number c.deref.result.now c.requires.names arities
+    (variable_at c.args.space.now _ _ c.index-named.ensures below) placed was.own was.lines was.children (omega arith)
     (pushed_at (λ (a b : Cond). a.0 == b.0) _ _ c.insert_full.new.self.keys _ fresh c.in_ok-number.ensures.index) (pushed (λ (a b : Cond). a.0 == b.0) _ _ _ c.in_ok-number.number fresh c.in_ok-number.ensures.keys)
-    c.deref.ensures.value c.in_ok-write_condition.ensures
+    refl c.deref.ensures.value c.in_ok-write_condition.ensures
+
+pub returns-clause-later : goal.returns-clause-later
+returns-clause-later g t c =
+    let was = c.loop-option.invariant in
+    let fresh = sym c.if-not-is_new.false ∙ c.in_ok-number.ensures.added in
+    let ahead : c.args.from ≤ c.in-Some.variable = le-IsTop c.in-Some.ensures.some c.requires.from in
+    subst (λ ks. AreFrom (g.C.Conditions.sets c.loop-option.conds) c.args.self.now.conditions.keys ks c.args.from)
+    (sym (pushed (λ (a b : Cond). a.0 == b.0) _ _ _ c.in_ok-number.number fresh c.in_ok-number.ensures.keys))
+    (AreFrom-push c.args.cond (DependsFrom-Keeps was.keeps c.requires.own c.requires.from) (AreFrom-before (omega arith) was.from))

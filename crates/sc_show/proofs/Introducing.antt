@@ -1,0 +1,188 @@
+-- Lines that give numbers, after one another.
+use Rattle.std.proofs.Common.{◌≡◌, ℕ, ◌+◌, ◌<◌, ◌≤◌, ◌⊎◌, inl, inr, ◌==◌, Bool, true, false, List, [], ◌∷◌, ◌++◌, length, map, slice_get, Some, All, refl, sym, ap, subst, ◌∙◌, arith, append-nil, append_assoc, length-append}
+use Rattle.std.specs.List.{Contains, list_any}
+use Rattle.std.proofs.lemmas.Bool.{cases_lt, true≢false}
+use Rattle.std.proofs.lemmas.Cmp.{nat_eq_equiv, on_equiv}
+use Rattle.std.proofs.lemmas.List.Elements.{All-nil, All-append}
+use Rattle.std.proofs.lemmas.Map.Views.{list_any-from_Contains}
+use Rattle.std.proofs.lemmas.Option.{same_Some, slice_get_within, slice_get-get_or, get_or_from_slice_get}
+use Rattle.sc_base.specs.declared.id.Cond.{Cond}
+use Rattle.sc_base.specs.declared.id.FileId.{FileId}
+use Rattle.sc_base.proofs.Growth.{Extends-refl, Extends-trans, Extends-push, slice_get-append_seam, slice_get-append_left}
+use Rattle.sc_model.specs.Growth.{Extends}
+use Rattle.sc_model.specs.Layout.{Introduces, nothing, known, node, IntroducesFiles, no_file, known_file, new_file, HasOrder}
+use Rattle.sc_model.specs.Sets.{Sets, IsConfig, IsCond, Denotes, Keeps, IsCanonical, IsNever, IsAlways, DependsFrom, IsTop}
+use Rattle.sc_model.specs.Space.{Space, Variable, arities_of}
+use Rattle.sc_model.specs.Text.{TextLine, condition_line, file_line, line_text, is_plain}
+use Rattle.sc_model.proofs.SetLemmas.{Keeps-trans, DependsFrom-Keeps}
+use Rattle.sc_show.specs.declared.printer.Printer.{Printer}
+use Rattle.sc_show.specs.Prints.{HasPlainNames, IsTable, Prints, choices_of}
+use Rattle.sc_show.specs.Rules.{AreFrom, Introduced, IntroducedFile, tests_of}
+use Rattle.sc_show.proofs.Children.{HasChildren, HasChildren-grows, HasOrder-node}
+use Rattle.sc_show.proofs.Choices.{numbers-choices_of}
+use Rattle.sc_show.proofs.Numbers.{IsTable-Keeps, IsTable-push, owned_at}
+use Rattle.sc_show.proofs.Steps.{Prints-Keeps, Prints-printer, Prints-condition, Prints-file}
+use Rattle.sc_show.proofs.Faults.{All-one}
+
+-- ---- which conditions got a number
+
+pub AreFrom-none : {s : Sets} {ks : List Cond} {v : ℕ} → AreFrom s ks ks v
+AreFrom-none {s} {ks} = record { each = λ n a above at. absurd (omega (arith, slice_get_within ks n a at)) }
+
+pub AreFrom-before : {s : Sets} {ks ls : List Cond} {v w : ℕ} → v ≤ w → AreFrom s ks ls w → AreFrom s ks ls v
+AreFrom-before {v = v} {w = w} ahead from = record {
+  each = λ n a above at. let later = from.each n a above at in record { free = λ u below depends. later.free u (let far : u < w = omega (arith, ahead, below) in far) depends };
+}
+
+pub AreFrom-push : {s : Sets} {ks ls : List Cond} {v : ℕ} (a : Cond) → DependsFrom s a.0 v → AreFrom s ks ls v → AreFrom s ks (ls ++ a ∷ []) v
+AreFrom-push {s} {ks} {ls} {v} a later from = record { each = λ n b above at. by n b above at (cases_lt n (length ls)) }
+  where
+    by : (n : ℕ) (b : Cond) → length ks ≤ n → slice_get (ls ++ a ∷ []) n ≡ Some b → (n < length ls) ⊎ (length ls ≤ n) → DependsFrom s b.0 v
+    by n b above at (inl below) = from.each n b above (sym (slice_get-append_left ls (a ∷ []) n below) ∙ at)
+    by n b above at (inr past) =
+        let within = slice_get_within (ls ++ a ∷ []) n b at in
+        let last : length ls ≡ n = omega (arith, length-append ls (a ∷ [])) in
+        subst (λ (x : Cond). DependsFrom s x.0 v) (same_Some a b (sym (slice_get-append_seam ls a []) ∙ ap (slice_get (ls ++ a ∷ [])) last ∙ at)) later
+
+pub AreFrom-trans : {old new : Sets} {ks ls ms : List Cond} {v : ℕ} → Keeps old new → IsTable old ls → Extends ls ms → AreFrom old ks ls v → AreFrom new ls ms v → AreFrom new ks ms v
+AreFrom-trans {old} {new} {ks} {ls} {ms} {v} keeps table grows first second = record { each = λ n a above at. by n a above at (cases_lt n (length ls)) }
+  where
+    by : (n : ℕ) (a : Cond) → length ks ≤ n → slice_get ms n ≡ Some a → (n < length ls) ⊎ (length ls ≤ n) → DependsFrom new a.0 v
+    by n a above at (inl below) = let was = sym (grows.kept n below) ∙ at in DependsFrom-Keeps keeps (owned_at n a table was) (first.each n a above was)
+    by n a above at (inr past) = second.each n a past at
+
+-- a condition gets no number from what depends on later variables than it does
+pub AreFrom-absent : {s : Sets} {ks ls : List Cond} {v : ℕ} (a : Cond) → Extends ks ls → AreFrom s ks ls (v + 1) → IsTop s a.0 v → (Contains ks a → ⊥) → Contains ls a → ⊥
+AreFrom-absent {s} {ks} {ls} {v} a grows from top absent has = by (cases_lt has.0 (length ks))
+  where
+    at : slice_get ls has.0 ≡ Some a
+    at = slice_get-get_or ls has.0 a has.1 ∙ ap Some has.2
+
+    by : (has.0 < length ks) ⊎ (length ks ≤ has.0) → ⊥
+    by (inl below) = absent (has.0, below, get_or_from_slice_get ks has.0 a a (sym (grows.kept has.0 below) ∙ at))
+    by (inr past) = (from.each has.0 a past at).free v (omega arith) top.depends
+
+-- ---- the lines of conditions
+
+Introduces-append : {n m i : ℕ} {ns ms : List ℕ} {lines more : List TextLine} → Introduces n ns lines m → Introduces m ms more i → Introduces n (ns ++ ms) (lines ++ more) i
+Introduces-append (nothing n) b = b
+Introduces-append {ms = ms} {more = more} (known n number ns lines m below rest) b = known n number (ns ++ ms) (lines ++ more) _ below (Introduces-append rest b)
+Introduces-append {i = i} {ms = ms} {more = more0} (node n number variable options ns lines more m first rest) b =
+    subst (λ t. Introduces n (number ∷ (ns ++ ms)) t i) (sym (append_assoc lines (condition_line number variable options ∷ more) more0))
+    (node n number variable options (ns ++ ms) lines (more ++ more0) i first (Introduces-append rest b))
+
+pub Introduced-trans : {space : Space} {s t u : Sets} {p q r : Printer} {ns ms : List ℕ} → Keeps t u → Introduced space s t p q ns → Introduced space t u q r ms → Introduced space s u p r (ns ++ ms)
+Introduced-trans {space} {s} {t} {u} {p} {q} {r} keeps a b = record {
+  lines = a.lines ++ b.lines;
+  introduces = Introduces-append a.introduces b.introduces;
+  ordered = λ v ks kept grows. All-append (HasOrder space (tests_of v ks)) a.lines b.lines (a.ordered v ks (Keeps-trans keeps kept) (Extends-trans b.grows grows)) (b.ordered v ks kept grows);
+  table = b.table;
+  grows = Extends-trans a.grows b.grows;
+  same_files = b.same_files ∙ a.same_files;
+  prints = λ files before was. subst (Prints space u files r) (append_assoc before a.lines b.lines) (b.prints files (before ++ a.lines) (a.prints files before was));
+}
+
+-- nothing is printed as the store grows
+pub Introduced-nothing : {space : Space} {old new : Sets} {p : Printer} → Keeps old new → IsTable old p.conditions.keys → Introduced space old new p p []
+Introduced-nothing {space} {old} {new} {p} keeps table = record {
+  lines = [];
+  introduces = nothing (length p.conditions.keys);
+  ordered = λ s ks kept grows. All-nil (HasOrder space (tests_of s ks));
+  table = IsTable-Keeps keeps table;
+  grows = Extends-refl p.conditions.keys;
+  same_files = refl;
+  prints = λ files before was. subst (Prints space new files p) (sym (append-nil before)) (Prints-Keeps keeps table was);
+}
+
+-- a condition that has a number already
+pub Introduced-known : {space : Space} {s : Sets} {p : Printer} (a : Cond) (n : ℕ) → IsTable s p.conditions.keys → slice_get p.conditions.keys n ≡ Some a → Introduced space s s p p (n ∷ [])
+Introduced-known {space} {s} {p} a n table at = record {
+  lines = [];
+  introduces = known (length p.conditions.keys) n [] [] (length p.conditions.keys) (slice_get_within p.conditions.keys n a at) (nothing (length p.conditions.keys));
+  ordered = λ t ks kept grows. All-nil (HasOrder space (tests_of t ks));
+  table = table;
+  grows = Extends-refl p.conditions.keys;
+  same_files = refl;
+  prints = λ files before was. subst (Prints space s files p) (sym (append-nil before)) was;
+}
+
+-- a condition's line after those of its children
+pub Introduced-node : {space : Space} {old s : Sets} {p q r : Printer} {ns : List ℕ} (a : Cond) (variable : Variable) (v number : ℕ) (shown : List ℕ) → HasPlainNames space → s.arities ≡ arities_of space
+    → slice_get space.variables v ≡ Some variable → v < length s.arities → IsCond s a.0 → Introduced space old s p q ns → HasChildren s q.conditions.keys a v ns → length ns ≡ length variable.options
+    → number ≡ length q.conditions.keys → r.conditions.keys ≡ q.conditions.keys ++ a ∷ [] → r.files.keys ≡ q.files.keys → shown ≡ ns
+    → r.text.items ≡ q.text.items ++ line_text (condition_line number variable.name (choices_of variable.options shown)) → Introduced space old s p r (number ∷ [])
+Introduced-node {space} {old} {s} {p} {q} {r} {ns} a variable v number shown plain arities named within own parts has count at keys same_files same written = record {
+  lines = parts.lines ++ line ∷ [];
+  introduces = subst (Introduces (length p.conditions.keys) (number ∷ []) (parts.lines ++ line ∷ [])) (sym counted)
+      (node (length p.conditions.keys) number variable.name options [] parts.lines [] (number + 1) children (nothing (number + 1)));
+  ordered = λ t ks kept grows.
+      All-append (HasOrder space (tests_of t ks)) parts.lines (line ∷ []) (parts.ordered t ks kept (Extends-trans longer grows))
+      (All-one (HasOrder space (tests_of t ks)) line (HasOrder-node number variable plain (kept.arities ∙ arities) named (HasChildren-grows kept own (Extends-trans longer grows) has)));
+  table = subst (IsTable s) (sym keys) (IsTable-push a own parts.table);
+  grows = Extends-trans parts.grows longer;
+  same_files = same_files ∙ parts.same_files;
+  prints = λ files before was.
+      subst (Prints space s files r) (append_assoc before parts.lines (line ∷ []))
+      (Prints-condition a variable v number ns plain arities named within has count at keys same_files
+      (written ∙ ap (λ ms. q.text.items ++ line_text (condition_line number variable.name (choices_of variable.options ms))) same) (parts.prints files before was));
+}
+  where
+    options : List (List ℕ × ℕ)
+    options = choices_of variable.options ns
+
+    line : TextLine
+    line = condition_line number variable.name (choices_of variable.options ns)
+
+    longer : Extends q.conditions.keys r.conditions.keys
+    longer = subst (Extends q.conditions.keys) (sym keys) (Extends-push q.conditions.keys a)
+
+    counted : length r.conditions.keys ≡ number + 1
+    counted = ap length keys ∙ length-append q.conditions.keys (a ∷ []) ∙ ap (λ n. n + 1) (sym at)
+
+    children : Introduces (length p.conditions.keys) (map (λ option. option.1) (choices_of variable.options ns)) parts.lines number
+    children = subst (λ ms. Introduces (length p.conditions.keys) ms parts.lines number) (sym (numbers-choices_of variable.options ns count))
+        (subst (Introduces (length p.conditions.keys) ns parts.lines) (sym at) parts.introduces)
+
+-- never has number 0, and always has number 1
+same_set : {s : Sets} (key a : Cond) (test : List ℕ → Bool) → IsCanonical s → Denotes s key.0 test → IsCond s a.0 → ((c : List ℕ) → IsConfig s.arities c → s.has a.0 c ≡ test c) → key ≡ a
+same_set key a test canonical means own at =
+    ap (λ (n : ℕ). let x : Cond = record { 0 = n } in x)
+    (canonical.one key.0 a.0 means.own own (record { at = λ c listed. means.at c listed ∙ sym (at c listed) }))
+
+pub numbered_never : {s : Sets} {ks : List Cond} (a : Cond) → IsCanonical s → IsTable s ks → IsCond s a.0 → IsNever s a.0 → slice_get ks 0 ≡ Some a
+numbered_never a canonical table own never = table.never.found ∙ ap Some (same_set table.never.cond a (λ _. false) canonical table.never.means own never.none)
+
+pub numbered_always : {s : Sets} {ks : List Cond} (a : Cond) → IsCanonical s → IsTable s ks → IsCond s a.0 → (IsNever s a.0 → ⊥) → IsNever s a.0 ⊎ IsAlways s a.0 → slice_get ks 1 ≡ Some a
+numbered_always a canonical table own some (inl never) = absurd (some never)
+numbered_always a canonical table own some (inr always) = table.always.found ∙ ap Some (same_set table.always.cond a (λ _. true) canonical table.always.means own always.all)
+
+pub absent_cond : (ks : List Cond) (a : Cond) → false ≡ list_any (λ (k : Cond). a.0 == k.0) ks → Contains ks a → ⊥
+absent_cond ks a none has = true≢false (sym (list_any-from_Contains (on_equiv (λ (k : Cond). k.0) nat_eq_equiv) a ks has) ∙ sym none)
+
+-- ---- the lines of files
+
+-- a file that has a number already
+pub IntroducedFile-known : {files : List (List ℕ)} {p q : Printer} (number : ℕ) → number < length q.files.keys → q.files.keys ≡ p.files.keys
+    → q.conditions.keys ≡ p.conditions.keys → q.text.items ≡ p.text.items → IntroducedFile files p q number
+IntroducedFile-known {files} {p} {q} number within keys same same_text = record {
+  lines = [];
+  introduces = subst (λ fs. IntroducesFiles (length p.files.keys) (number ∷ []) [] (length fs)) (sym keys)
+      (known_file (length p.files.keys) number [] [] (length p.files.keys) (subst (λ fs. number < length fs) keys within) (no_file (length p.files.keys)));
+  grows = subst (Extends p.files.keys) (sym keys) (Extends-refl p.files.keys);
+  same_conditions = same;
+  prints = λ space s before was. subst (Prints space s files q) (sym (append-nil before)) (Prints-printer same keys same_text was);
+}
+
+pub IntroducedFile-new : {files : List (List ℕ)} {p q : Printer} (file : FileId) (name : List ℕ) (number : ℕ) → All (λ (name : List ℕ). is_plain name ≡ true) files → slice_get files file.0 ≡ Some name
+    → number ≡ length p.files.keys → q.files.keys ≡ p.files.keys ++ file ∷ [] → q.conditions.keys ≡ p.conditions.keys → q.text.items ≡ p.text.items ++ line_text (file_line number name)
+    → IntroducedFile files p q number
+IntroducedFile-new {files} {p} {q} file name number plain named at keys same written =
+    let counted : length q.files.keys ≡ number + 1 = ap length keys ∙ length-append p.files.keys (file ∷ []) ∙ ap (λ n. n + 1) (sym at) in
+    record {
+      lines = file_line number name ∷ [];
+      introduces = subst (IntroducesFiles (length p.files.keys) (number ∷ []) (file_line number name ∷ [])) (sym counted)
+          (subst (λ n. IntroducesFiles n (number ∷ []) (file_line number name ∷ []) (number + 1)) at (new_file number name [] [] (number + 1) (no_file (number + 1))));
+      grows = subst (Extends p.files.keys) (sym keys) (Extends-push p.files.keys file);
+      same_conditions = same;
+      prints = λ space s before was. Prints-file file name number plain named at keys same written was;
+    }

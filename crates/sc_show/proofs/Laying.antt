@@ -1,0 +1,133 @@
+-- The lines of items, after one another.
+use Rattle.std.proofs.Common.{◌≡◌, ℕ, zero, suc, ◌+◌, ◌<◌, List, [], ◌∷◌, ◌++◌, length, map, take, slice_get, Some, All, sym, ap, subst, ◌∙◌, arith, append-nil, append_assoc}
+use Rattle.std.proofs.lemmas.List.{map-append, take_more}
+use Rattle.std.proofs.lemmas.List.Elements.{All-nil, All-cons, All-append}
+use Rattle.std.proofs.lemmas.Option.{same_Some, slice_get_within, get_or_from_slice_get}
+use Rattle.sc_base.specs.declared.id.Cond.{Cond}
+use Rattle.sc_base.specs.declared.id.FileId.{FileId}
+use Rattle.sc_base.proofs.Growth.{Extends-refl, Extends-trans, Extends-keeps}
+use Rattle.sc_model.specs.Growth.{Extends}
+use Rattle.sc_model.specs.Layout.{Introduces, IntroducesFiles, no_file, known_file, new_file, LaysOut, done, shows, HasOrder, conditions_of, files_of}
+use Rattle.sc_model.specs.Sets.{Sets, IsCond, Keeps, IsNever}
+use Rattle.sc_model.specs.Space.{Space}
+use Rattle.sc_model.specs.Text.{Condition, TextLine, file_line}
+use Rattle.sc_model.proofs.LayoutLemmas.{LaysOut-append}
+use Rattle.sc_model.proofs.SetLemmas.{Keeps-trans, IsConfig-Keeps, IsNever-Keeps}
+use Rattle.sc_show.specs.declared.printer.Printer.{Printer}
+use Rattle.sc_show.specs.Prints.{IsTable, Prints}
+use Rattle.sc_show.specs.Rules.{Introduced, IntroducedFile, Item, AreLinesOf, no_line, without_line, line_of, LaidOut, tests_of}
+use Rattle.sc_show.proofs.Faults.{All-one}
+
+AreLinesOf-append : {s : Sets} {ks : List Cond} {fs : List FileId} {items others : List Item} {lines more : List TextLine} → AreLinesOf s ks fs items lines → AreLinesOf s ks fs others more
+    → AreLinesOf s ks fs (items ++ others) (lines ++ more)
+AreLinesOf-append no_line b = b
+AreLinesOf-append {others = others} {more = more} (without_line item items lines none rest) b = without_line item (items ++ others) (lines ++ more) none (AreLinesOf-append rest b)
+AreLinesOf-append {others = others} {more = more} (line_of item number file items lines some at file_at rest) b =
+    line_of item number file (items ++ others) (lines ++ more) some at file_at (AreLinesOf-append rest b)
+
+pub LaidOut-trans : {space : Space} {old mid new : Sets} {files : List (List ℕ)} {p q r : Printer} {items more : List Item} → Keeps mid new → LaidOut space old mid files p q items → LaidOut space mid new files q r more
+    → LaidOut space old new files p r (items ++ more)
+LaidOut-trans {space} {old} {mid} {new} {files} {p} {q} {r} keeps a b = record {
+  lines = a.lines ++ b.lines;
+  shown = a.shown ++ b.shown;
+  laid = LaysOut-append a.laid b.laid;
+  are = λ s ks fs kept grows files_grow.
+      AreLinesOf-append (a.are s ks fs (Keeps-trans keeps kept) (Extends-trans b.grows grows) (Extends-trans b.files_grow files_grow)) (b.are s ks fs kept grows files_grow);
+  ordered = λ s ks kept grows. All-append (HasOrder space (tests_of s ks)) a.lines b.lines (a.ordered s ks (Keeps-trans keeps kept) (Extends-trans b.grows grows)) (b.ordered s ks kept grows);
+  table = b.table;
+  grows = Extends-trans a.grows b.grows;
+  files_grow = Extends-trans a.files_grow b.files_grow;
+  prints = λ before was. subst (Prints space new files r) (append_assoc before a.lines b.lines) (b.prints (before ++ a.lines) (a.prints before was));
+}
+
+-- items that have no line
+LaidOut-without : {space : Space} {s : Sets} {files : List (List ℕ)} {p : Printer} (items : List Item) → ((t : Sets) (ks : List Cond) (fs : List FileId) → Keeps s t → AreLinesOf t ks fs items [])
+    → IsTable s p.conditions.keys → LaidOut space s s files p p items
+LaidOut-without {space} {s} {files} {p} items without table = record {
+  lines = [];
+  shown = [];
+  laid = done (length p.conditions.keys) (length p.files.keys);
+  are = λ t ks fs kept grows files_grow. without t ks fs kept;
+  ordered = λ t ks kept grows. All-nil (HasOrder space (tests_of t ks));
+  table = table;
+  grows = Extends-refl p.conditions.keys;
+  files_grow = Extends-refl p.files.keys;
+  prints = λ before was. subst (Prints space s files p) (sym (append-nil before)) was;
+}
+
+pub LaidOut-nothing : {space : Space} {s : Sets} {files : List (List ℕ)} {p : Printer} → IsTable s p.conditions.keys → LaidOut space s s files p p []
+LaidOut-nothing table = LaidOut-without [] (λ t ks fs kept. no_line) table
+
+-- no configuration has the item
+pub LaidOut-never : {space : Space} {s : Sets} {files : List (List ℕ)} {p : Printer} (item : Item) → IsTable s p.conditions.keys → IsCond s item.cond.0 → IsNever s item.cond.0
+    → LaidOut space s s files p p (item ∷ [])
+LaidOut-never item table own none = LaidOut-without (item ∷ []) (λ t ks fs kept. without_line item [] [] (IsNever-Keeps kept own none) no_line) table
+
+-- a condition that some configuration has isn't number 0
+some_number : {s : Sets} {ks : List Cond} (a : Cond) (n : ℕ) → IsTable s ks → slice_get ks n ≡ Some a → (IsNever s a.0 → ⊥) → 0 < n
+some_number {s} a zero table at some =
+    let same = same_Some table.never.cond a (sym table.never.found ∙ at) in
+    absurd (some (record { none = λ c listed. ap (λ (k : Cond). s.has k.0 c) (sym same) ∙ table.never.means.at c listed }))
+some_number a (suc n) table at some = omega arith
+
+files_have_order : (space : Space) (tests : List Condition) {n m : ℕ} {ns : List ℕ} {lines : List TextLine} → IntroducesFiles n ns lines m → All (HasOrder space tests) lines
+files_have_order space tests (no_file n) = All-nil (HasOrder space tests)
+files_have_order space tests (known_file n number ns lines m below rest) = files_have_order space tests rest
+files_have_order space tests (new_file n name ns lines m rest) = All-cons (HasOrder space tests) (file_line n name) lines tt (files_have_order space tests rest)
+
+pub IsNever-kept : {old new : Sets} {a : ℕ} → Keeps old new → IsCond old a → IsNever new a → IsNever old a
+IsNever-kept {old} {new} {a} keeps own none = record { none = λ c listed. sym (keeps.at a c own listed) ∙ none.none c (IsConfig-Keeps keeps listed) }
+
+-- a file's line changes no number of a condition
+pub numbered_still : {files : List (List ℕ)} {p q : Printer} {m : ℕ} {a : Cond} (n : ℕ) → IntroducedFile files p q m → slice_get p.conditions.keys n ≡ Some a → slice_get q.conditions.keys n ≡ Some a
+numbered_still n file at = ap (λ ks. slice_get ks n) file.same_conditions ∙ at
+
+-- an item's line, after those of its condition and of its file
+module _ {space : Space} {old s : Sets} {files : List (List ℕ)} {p q r u : Printer} (item : Item) (n m : ℕ) (conditions_are : conditions_of (item.line n m) ≡ n ∷ []) (files_are : files_of (item.line n m) ≡ m ∷ [])
+    (no_order : (space : Space) (tests : List Condition) → HasOrder space tests (item.line n m)) (some : IsNever s item.cond.0 → ⊥)
+    (conditions : Introduced space old s p q (n ∷ [])) (file : IntroducedFile files q r m) (numbered : slice_get q.conditions.keys n ≡ Some item.cond) (file_numbered : slice_get r.files.keys m ≡ Some item.file)
+    (kept : u.conditions.keys ≡ r.conditions.keys) (kept_files : u.files.keys ≡ r.files.keys)
+    (prints : (before : List TextLine) → Prints space s files r before → Prints space s files u (before ++ item.line n m ∷ [])) where
+  keys : u.conditions.keys ≡ q.conditions.keys
+  keys = kept ∙ file.same_conditions
+
+  longer_files : Extends q.files.keys u.files.keys
+  longer_files = subst (Extends q.files.keys) (sym kept_files) file.grows
+
+  line_laid : LaysOut (length p.conditions.keys) (length p.files.keys) (item.line n m ∷ []) (conditions.lines ++ (file.lines ++ item.line n m ∷ [])) (length u.conditions.keys) (length u.files.keys)
+  line_laid =
+      shows (length p.conditions.keys) (length p.files.keys) (item.line n m) [] conditions.lines file.lines [] (length u.conditions.keys) (length u.files.keys) (length u.conditions.keys) (length u.files.keys)
+      (subst (λ ns. Introduces (length p.conditions.keys) ns conditions.lines (length u.conditions.keys)) (sym conditions_are)
+      (subst (λ ks. Introduces (length p.conditions.keys) (n ∷ []) conditions.lines (length ks)) (sym keys) conditions.introduces))
+      (subst (λ ms. IntroducesFiles (length p.files.keys) ms file.lines (length u.files.keys)) (sym files_are)
+      (subst (λ fs. IntroducesFiles (length p.files.keys) (m ∷ []) file.lines (length fs)) (sym kept_files)
+      (subst (λ fs. IntroducesFiles (length fs) (m ∷ []) file.lines (length r.files.keys)) conditions.same_files file.introduces)))
+      (done (length u.conditions.keys) (length u.files.keys))
+
+  pub LaidOut-one : LaidOut space old s files p u (item ∷ [])
+  LaidOut-one = record {
+    lines = conditions.lines ++ (file.lines ++ item.line n m ∷ []);
+    shown = item.line n m ∷ [];
+    laid = line_laid;
+    are = λ t ks fs keeps grows files_grow.
+        line_of item n m [] [] (some_number item.cond n conditions.table numbered some) (Extends-keeps _ _ (ap (λ ls. slice_get ls n) keys ∙ numbered) grows)
+        (Extends-keeps _ _ (ap (λ gs. slice_get gs m) kept_files ∙ file_numbered) files_grow) no_line;
+    ordered = λ t ks keeps grows.
+        All-append (HasOrder space (tests_of t ks)) conditions.lines (file.lines ++ item.line n m ∷ []) (conditions.ordered t ks keeps (subst (λ ls. Extends ls ks) keys grows))
+        (All-append (HasOrder space (tests_of t ks)) file.lines (item.line n m ∷ []) (files_have_order space (tests_of t ks) file.introduces) (All-one (HasOrder space (tests_of t ks)) (item.line n m) (no_order space (tests_of t ks))));
+    table = subst (IsTable s) (sym keys) conditions.table;
+    grows = subst (Extends p.conditions.keys) (sym keys) conditions.grows;
+    files_grow = subst (λ fs. Extends fs u.files.keys) conditions.same_files longer_files;
+    prints = λ before was.
+        subst (Prints space s files u) (append_assoc (before ++ conditions.lines) file.lines (item.line n m ∷ []) ∙ append_assoc before conditions.lines (file.lines ++ item.line n m ∷ []))
+        (prints ((before ++ conditions.lines) ++ file.lines) (file.prints space s (before ++ conditions.lines) (conditions.prints files before was)));
+  }
+
+-- the items so far with the next one
+pub LaidOut-more : {X : Type 0} {space : Space} {old mid new : Sets} {files : List (List ℕ)} {p q r : Printer} (f : X → Item) (xs : List X) (i : ℕ) (x : X) (item : Item) → slice_get xs i ≡ Some x → item ≡ f x → Keeps mid new
+    → LaidOut space old mid files p q (map f (take i xs)) → LaidOut space mid new files q r (item ∷ []) → LaidOut space old new files p r (map f (take (i + 1) xs))
+LaidOut-more {X} {space} {old} {mid} {new} {files} {p} {q} {r} f xs i x item at is keeps before one =
+    let next : map f (take i xs) ++ item ∷ [] ≡ map f (take (i + 1) xs) =
+    ap (λ y. map f (take i xs) ++ y ∷ []) is ∙ sym (map-append f (take i xs) (x ∷ [])) ∙ ap (λ y. map f (take i xs ++ y ∷ [])) (sym (get_or_from_slice_get xs i x x at))
+    ∙ ap (map f) (sym (take_more xs i x (slice_get_within xs i x at))) in
+    subst (LaidOut space old new files p r) next (LaidOut-trans keeps before one)
