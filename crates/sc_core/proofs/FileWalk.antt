@@ -5,12 +5,12 @@ use Rattle.std.specs.Option.{option_map, option_to_list}
 use Rattle.std.specs.Prelude.{All, length, slice_get, unwrap_or}
 use Rattle.sc_base.specs.declared.id.FileId.{FileId}
 use Rattle.sc_base.specs.declared.place.Place as declared_place
-use Rattle.sc_core.specs.declared.preprocessed.Preprocessed.{Preprocessed}
 use Rattle.sc_core.specs.declared.walk.Walk.{Walk}
 use Rattle.sc_core.specs.Machine.{run, start}
 use Rattle.sc_core.specs.Mirrors.{Mirrors}
 use Rattle.sc_core.specs.Preprocesses.{IsOrdinary, IsRefused}
 use Rattle.sc_core.proofs.Machine.{Ends, finishes, stops, follows}
+use Rattle.sc_guarded.specs.declared.expanded.Expanded.{Expanded}
 use Rattle.sc_guarded.specs.Items.{items_at, faults_at, seen_fault}
 use Rattle.sc_lex.specs.declared.token.Token as base
 use Rattle.sc_lex.specs.Seen.{text_at, seen, seen_place, IsHeld}
@@ -80,7 +80,7 @@ held names (t ∷ ts) own named =
     (held names ts (All-tail (spell.IsHeld names) t ts own) (All-tail (λ (t : base.Token). slice_get names t.name.0 ≡ option_map name_of (slice_get names t.spelling.0)) t ts named))
 
 -- what stands at a configuration that is refused
-pub refused-ordinary : (s : Sets) (names files : List (List ℕ)) (p : Preprocessed) (space : Space) (outside : Files) (main config : List ℕ) (fault : Fault)
+pub refused-ordinary : (s : Sets) (names files : List (List ℕ)) (p : Expanded) (space : Space) (outside : Files) (main config : List ℕ) (fault : Fault)
     → ((s : State) → Enters outside main (record { file = main; position = record { line = 1; column = 1 } }) s (Err fault))
     → IsRefused s names files p fault config → IsOrdinary s names files p (Pre space outside main config) config
 refused-ordinary s names files p space outside main config fault enters refused = record {
@@ -92,7 +92,7 @@ refused-ordinary s names files p space outside main config fault enters refused 
 module _ (s : Sets) (names files : List (List ℕ)) (space : Space) (outside : Files) (main config bytes : List ℕ) (lexemes : List Lexeme) (group : Group)
     (there : outside main ≡ Some bytes) (small : largest_file < length bytes → ⊥) (lexed : Lexed bytes (Ok lexemes))
     (tree : Tree (lines_of (map (in_file main) lexemes)) (Ok group)) where
-  ends_ordinary : (p : Preprocessed) (tokens : List Token) (fault : Option Fault) → Ends (Walks group) (initial_macros space config) tokens fault
+  ends_ordinary : (p : Expanded) (tokens : List Token) (fault : Option Fault) → Ends (Walks group) (initial_macros space config) tokens fault
       → map (seen names files) (items_at s p.list config) ≡ tokens
       → map (seen_fault files) (faults_at s p.faults.items config) ≡ option_to_list fault
       → IsOrdinary s names files p (Pre space outside main config) config
@@ -119,7 +119,7 @@ module _ (s : Sets) (names files : List (List ℕ)) (space : Space) (outside : F
   }
 
   -- a walk that mirrors the machine on the group's lines
-  pub walk-ordinary : (p : Preprocessed) (walk : Walk) (lines : List (List Token)) → IsTree lines group
+  pub walk-ordinary : (p : Expanded) (walk : Walk) (lines : List (List Token)) → IsTree lines group
       → Mirrors s names files walk config (run (initial_macros space config) start lines)
       → p.list ≡ walk.list → p.faults.items ≡ walk.faults.items
       → IsOrdinary s names files p (Pre space outside main config) config

@@ -9,12 +9,12 @@ use Rattle.std.specs.Prelude.{All, if◌then◌else◌, slice_get, unwrap_or}
 use Rattle.sc_base.specs.declared.fault.Fault as base
 use Rattle.sc_base.specs.declared.id.Cond.{Cond}
 use Rattle.sc_base.specs.declared.id.FileId.{FileId}
-use Rattle.sc_core.specs.declared.preprocessed.Preprocessed.{Preprocessed}
 use Rattle.sc_core.specs.Preprocesses.{OwnsList}
 use Rattle.sc_core.specs.Printable.{IsPrintable, IsOfFile, ArePrintable, CanBeShown}
 use Rattle.sc_core.proofs.WalkMoves.{under}
-use Rattle.sc_lex.specs.declared.token.Token.{Token}
+use Rattle.sc_guarded.specs.declared.expanded.Expanded.{Expanded}
 use Rattle.sc_guarded.specs.Items.{faults_at, seen_fault}
+use Rattle.sc_lex.specs.declared.token.Token.{Token}
 use Rattle.sc_lex.specs.Seen.{IsHeld, text_at}
 use Rattle.sc_lex.specs.Spell.{position_of, lexeme_at, AreTokensOf}
 use Rattle.sc_lines.specs.declared.line.Line.{Line}
@@ -129,7 +129,7 @@ module _ (s : Sets) (names files : List (List ℕ)) (file : FileId) (there : fil
       (faults-showable fs (All-tail (λ (f : base.Fault). IsCond s f.cond.0) f fs own) (All-tail (λ (f : base.Fault). f.place.file ≡ file) f fs placed))
 
   -- all that stands in a file of the table can be shown
-  pub all-shown : (p : Preprocessed) → OwnsList s p → ArePrintable names file p.list p.faults.items → AreApart s p.faults.items → CanBeShown s names files p
+  pub all-shown : (p : Expanded) → OwnsList s p → ArePrintable names file p.list p.faults.items → AreApart s p.faults.items → CanBeShown s names files p
   all-shown p owns printable apart = record {
     list = tokens-showable p.list owns.list printable.tokens;
     faults = faults-showable p.faults.items owns.faults printable.faults;

@@ -8,12 +8,12 @@ use Rattle.std.specs.List.{list_all, list_any}
 use Rattle.std.specs.Prelude.{All, nat_le, ◌||◌, if◌then◌else◌}
 use Rattle.sc_args.specs.Words.{is_file_name}
 use Rattle.sc_base.specs.declared.fault.Fault as base
-use Rattle.sc_core.specs.declared.preprocessed.Preprocessed.{Preprocessed}
 use Rattle.sc_core.specs.declared.text.Text.{Text}
 use Rattle.sc_core.specs.Outcome.{Tells, IsOrdinaryAt, shown_answer, HasSpace, AcceptsAll}
 use Rattle.sc_core.specs.Preprocesses.{Stands, IsOrdinary, OwnsList}
 use Rattle.sc_core.specs.Texts.{TellsTokens}
 use Rattle.sc_core.proofs.WalkMoves.{items-kept, faults-kept}
+use Rattle.sc_guarded.specs.declared.expanded.Expanded.{Expanded}
 use Rattle.sc_guarded.specs.Items.{items_at, faults_at, seen_fault}
 use Rattle.sc_lex.specs.Seen.{seen}
 use Rattle.sc_model.proofs.Alike.{AreAlike-project}
@@ -81,7 +81,7 @@ tells-by : (b : Bool) (Never Accepted : Type 0) → (b ≡ false → Never) → 
 tells-by true Never Accepted none some accepted never = λ all. some refl (never all)
 tells-by false Never Accepted none some accepted never = accepted (none refl)
 
-module _ {s new : Sets} (keeps : Keeps s new) (names files : List (List ℕ)) (space : Space) (outside : Files) (main : List ℕ) (p : Preprocessed) (text : Text)
+module _ {s new : Sets} (keeps : Keeps s new) (names files : List (List ℕ)) (space : Space) (outside : Files) (main : List ℕ) (p : Expanded) (text : Text)
     (shows : Shows space new names files p.list p.faults.items text.lines.items) (owns : OwnsList s p) (arities : s.arities ≡ arities_of space)
     (ordinary : (config : List ℕ) → IsListed space config → IsOrdinary s names files p (Pre space outside main config) config)
     (none : text.is_refused ≡ false → All (λ (f : base.Fault). IsNever s f.cond.0) p.faults.items)

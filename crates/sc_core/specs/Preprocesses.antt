@@ -4,7 +4,7 @@ use Rattle.sc_base.specs.declared.fault.Fault as base
 use Rattle.sc_base.specs.declared.id.Cond.{Cond}
 use Rattle.sc_base.specs.declared.stop.Stop.{Stop}
 use Rattle.sc_base.specs.declared.stop.Stop.TheVariants.{BranchesFull, ReadFault, OutOfMemory}
-use Rattle.sc_core.specs.declared.preprocessed.Preprocessed.{Preprocessed}
+use Rattle.sc_guarded.specs.declared.expanded.Expanded.{Expanded}
 use Rattle.sc_guarded.specs.Items.{items_at, faults_at, seen_fault}
 use Rattle.sc_lex.specs.declared.token.Token as base_token
 use Rattle.sc_lex.specs.Seen.{seen}
@@ -19,18 +19,18 @@ Stands (Ok tokens) items faults = (items ≡ tokens) × (faults ≡ [])
 Stands (Err fault) items faults = faults ≡ fault ∷ []
 
 -- At the configuration the lists are what ordinary preprocessing gives there.
-pub record IsOrdinary (s : Sets) (names files : List (List ℕ)) (p : Preprocessed) (preprocesses : Result (List Token) Fault → Type 0) (config : List ℕ) : Type 0 where
+pub record IsOrdinary (s : Sets) (names files : List (List ℕ)) (p : Expanded) (preprocesses : Result (List Token) Fault → Type 0) (config : List ℕ) : Type 0 where
   pub answer : Result (List Token) Fault
   pub preprocessed : preprocesses answer
   pub stands : Stands answer (map (seen names files) (items_at s p.list config)) (map (seen_fault files) (faults_at s p.faults.items config))
 
 -- the configuration has this fault alone
-pub record IsRefused (s : Sets) (names files : List (List ℕ)) (p : Preprocessed) (fault : Fault) (config : List ℕ) : Type 0 where
+pub record IsRefused (s : Sets) (names files : List (List ℕ)) (p : Expanded) (fault : Fault) (config : List ℕ) : Type 0 where
   pub items : map (seen names files) (items_at s p.list config) ≡ []
   pub faults : map (seen_fault files) (faults_at s p.faults.items config) ≡ fault ∷ []
 
 -- the store made all conditions
-pub record OwnsList (s : Sets) (p : Preprocessed) : Type 0 where
+pub record OwnsList (s : Sets) (p : Expanded) : Type 0 where
   pub list : All (λ (item : Cond × base_token.Token). IsCond s item.0.0) p.list
   pub faults : All (λ (f : base.Fault). IsCond s f.cond.0) p.faults.items
 

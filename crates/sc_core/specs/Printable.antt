@@ -3,8 +3,8 @@ use Rattle.std.specs.Prelude.{◌≡◌, ℕ, ◌||◌, true, List, All}
 use Rattle.sc_base.specs.declared.fault.Fault as base
 use Rattle.sc_base.specs.declared.id.Cond.{Cond}
 use Rattle.sc_base.specs.declared.id.FileId.{FileId}
-use Rattle.sc_core.specs.declared.preprocessed.Preprocessed.{Preprocessed}
 use Rattle.sc_core.specs.declared.walk.Walk.{Walk}
+use Rattle.sc_guarded.specs.declared.expanded.Expanded.{Expanded}
 use Rattle.sc_lex.specs.declared.token.Token.{Token}
 use Rattle.sc_lex.specs.Seen.{IsHeld, text_at}
 use Rattle.sc_model.specs.Lex.{is_newline}
@@ -35,7 +35,7 @@ StaysPrintable names line old new = (file : FileId) → All (IsPrintable names f
     → ArePrintable names file old.list old.faults.items → ArePrintable names file new.list new.faults.items
 
 -- all of it can be shown
-pub record CanBeShown (s : Sets) (names files : List (List ℕ)) (p : Preprocessed) : Type 0 where
+pub record CanBeShown (s : Sets) (names files : List (List ℕ)) (p : Expanded) : Type 0 where
   pub list : All (IsShowable s names files) p.list
   pub faults : All (IsShowableFault s files) p.faults.items
   pub apart : AreApart s p.faults.items

@@ -6,7 +6,6 @@ mod defined;
 mod line_kind;
 mod main_file;
 mod moves;
-mod preprocessed;
 mod program;
 mod space_file;
 mod status;
@@ -17,7 +16,6 @@ mod walk;
 mod walk_file;
 
 pub use main_file::preprocess;
-pub use preprocessed::Preprocessed;
 pub use program::run;
 pub use status::Status;
 

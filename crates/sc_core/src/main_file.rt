@@ -12,10 +12,9 @@ ghost use Rattle.sc_show.specs.Shows.{AreApart};
 ghost use Rattle.sc_core.specs.Preprocesses.{IsOrdinary, OwnsList, IsRefused, Stops};
 ghost use Rattle.sc_core.specs.Printable.{ArePrintable, CanBeShown};
 
-use crate::preprocessed::Preprocessed;
 use crate::walk_file::walk_file;
 use sc_base::{Cause, Fault, FileId, Files, Names, OutOfMemory, Place, Stop};
-use sc_guarded::Guarded;
+use sc_guarded::{Expanded, Guarded};
 use sc_lex::{LexStop, tokens};
 use sc_lines::{NestStop, groups};
 use sc_presence::Conditions;
@@ -36,7 +35,7 @@ pub fn preprocess<C: Conditions, S: Source>(
     names: &mut Names,
     files: &mut Files,
     main: &str,
-) -> Result<Preprocessed, Stop>
+) -> Result<Expanded, Stop>
     requires { (C.sets conds.old).arities ≡ arities_of (seen_space space.now) }
     ensures ordinary { (outside : Outside) → S.holds src.old ≡ Some outside → IfOk result (λ p. (config : List ℕ)
         → IsConfig (C.sets conds.old).arities config
@@ -69,7 +68,7 @@ fn preprocess_bytes<C: Conditions>(
     names: &mut Names,
     file: FileId,
     bytes: &[u8],
-) -> Result<Preprocessed, OutOfMemory>
+) -> Result<Expanded, OutOfMemory>
     requires { (C.sets conds.old).arities ≡ arities_of (seen_space space.now) }
     ensures ordinary { IfOk result (λ p. (files : List (List ℕ)) (outside : Outside) (main config : List ℕ)
         → slice_get files file.0 ≡ Some main → outside main ≡ Some bytes.now → IsConfig (C.sets conds.old).arities config
@@ -98,7 +97,7 @@ fn preprocess_bytes<C: Conditions>(
         Err(NestStop::OutOfMemory) => return Err(OutOfMemory),
     };
     let walk = walk_file(alloc, conds, space, names, &tokens, &tree.lines)?;
-    Ok(Preprocessed {
+    Ok(Expanded {
         list: walk.list,
         faults: walk.faults,
     })
@@ -111,7 +110,7 @@ fn refused<C: Conditions>(
     conds: &C,
     cause: Cause,
     place: Place,
-) -> Result<Preprocessed, OutOfMemory>
+) -> Result<Expanded, OutOfMemory>
     ensures refused { IfOk result (λ p. (names files : List (List ℕ)) (config : List ℕ) → IsConfig (C.sets conds.now).arities config
         → IsRefused (C.sets conds.now) names files p (fault_at cause (seen_place files place)) config) }
     ensures owns { IfOk result (OwnsList (C.sets conds.now)) }
@@ -124,7 +123,7 @@ fn refused<C: Conditions>(
         cause,
         place,
     })?;
-    Ok(Preprocessed {
+    Ok(Expanded {
         list: Guarded::new(alloc)?,
         faults,
     })

@@ -1,7 +1,7 @@
 -- Items whose conditions are met with another from an index on.
 use Rattle.std.proofs.Common.{◌≡◌, ℕ, zero, suc, ◌+◌, ◌<◌, ◌≤◌, ◌&&◌, Bool, List, [], ◌∷◌, ◌++◌, All, map, take, drop, length, get_or, set, ◌-◌, refl, ap, subst, sym, ◌∙◌, arith, if◌then◌else◌}
-use Rattle.std.proofs.lemmas.List.{map-append, take_more, append_assoc, take-map, take_at, take_more_set, map-set, set-get_or, drop_at, drop-append-le, length-take-le, length-map}
-use Rattle.std.proofs.lemmas.List.Elements.{All-nil, All-cons, All-head, All-tail, All-append, All-take, All-map}
+use Rattle.std.proofs.lemmas.List.{map-append, take_more, append_assoc, take-map, take_at, take_more_set, map-set, set-get_or, drop_at, drop-append-le, drop-map, get_or-map, length-take-le, length-map}
+use Rattle.std.proofs.lemmas.List.Elements.{All-head, All-tail, All-append, All-take, All-map}
 use Rattle.sc_base.specs.declared.id.Cond.{Cond}
 use Rattle.sc_guarded.specs.Items.{items_at}
 use Rattle.sc_guarded.proofs.ItemLemmas.{items_at-met, map-condition, same_pairs}
@@ -17,14 +17,8 @@ map-has-Keeps {old} {new} (x ∷ xs) c keeps own listed =
     ap (λ b. b ∷ map (λ (cond : Cond). new.has cond.0 c) xs) (keeps.at x.0 c (All-head P x xs own) listed)
     ∙ ap (λ bs. old.has x.0 c ∷ bs) (map-has-Keeps xs c keeps (All-tail P x xs own) listed)
 
-drop-map : {X Y : Type 0} (f : X → Y) (n : ℕ) (xs : List X) → drop n (map f xs) ≡ map f (drop n xs)
-drop-map f zero xs = refl
-drop-map f (suc n) [] = refl
-drop-map f (suc n) (x ∷ xs) = drop-map f n xs
-
 All-unmap : {X Y : Type 0} (P : Y → Type 0) (f : X → Y) (xs : List X) → All P (map f xs) → All (λ x. P (f x)) xs
-All-unmap P f [] all = All-nil (λ x. P (f x))
-All-unmap P f (x ∷ xs) all = All-cons (λ x. P (f x)) x xs (All-head P (f x) (map f xs) all) (All-unmap P f xs (All-tail P (f x) (map f xs) all))
+All-unmap P f xs all = λ k d h. subst P (get_or-map f xs k d (f d) h) (all k (f d) (omega (arith, length-map xs f, h)))
 
 -- the part of a list between two indices, with the second one step on
 drop-take_more : {X : Type 0} (xs : List X) (from i : ℕ) (x : X) → from ≤ i → i < length xs → x ≡ get_or xs i x → drop from (take (i + 1) xs) ≡ drop from (take i xs) ++ x ∷ []

@@ -1,8 +1,8 @@
 -- The branches of lines that are nested, read from the last line to the first.
 use Rattle.std.proofs.Common.{◌≡◌, ℕ, zero, suc, ◌+◌, ◌-◌, ◌<◌, ◌≤◌, true, List, [], ◌∷◌, ◌++◌, length, map, take, drop, get_or, set, add-one, Option, Some, None, refl, sym, ap, ◌∙◌, subst, append_assoc, append-nil, arith}
 use Rattle.std.proofs.Math.Seq.{take-append_seam, drop-nil}
-use Rattle.std.proofs.lemmas.List.{get_or-drop, length-append, drop-set}
-use Rattle.std.proofs.lemmas.List.Elements.{All-cons, All-map, All-nil}
+use Rattle.std.proofs.lemmas.List.{get_or-drop, get_or-map, length-append, length-map, drop-set}
+use Rattle.std.proofs.lemmas.List.Elements.{All-map}
 use Rattle.std.proofs.lemmas.Simd.{map-map}
 use Rattle.std.specs.Prelude.{All, slice_get}
 use Rattle.sc_lex.specs.declared.token.Token.{Token}
@@ -242,8 +242,7 @@ pub others-same : {T : Type 0} (f : declared_line.Line → T) (a b : List declar
 others-same f a b e = sym (map-map f without_branch a) ∙ (ap (map f) e ∙ map-map f without_branch b)
 
 all-others : (P : declared_line.Line → Type 0) (ls : List declared_line.Line) → All P (map without_branch ls) → All (λ l. P (without_branch l)) ls
-all-others P [] all = All-nil (λ l. P (without_branch l))
-all-others P (l ∷ ls) all = All-cons (λ l. P (without_branch l)) l ls (all 0 (without_branch l) (omega arith)) (all-others P ls (λ k d h. all (suc k) d (omega arith)))
+all-others P ls all = λ k d h. subst P (get_or-map without_branch ls k d (without_branch d) h) (all k (without_branch d) (omega (arith, length-map ls without_branch, h)))
 
 pub lines-same : (names : List (List ℕ)) (tokens : List Token) (a b : List declared_line.Line) → map without_branch a ≡ map without_branch b → AreLines names tokens b → AreLines names tokens a
 lines-same names tokens a b e are = record {

@@ -1,5 +1,6 @@
 -- The nesting of conditional directives, line by line, and the groups that it makes.
 use Rattle.std.proofs.Common.{◌≡◌, ℕ, Bool, true, false, List, [], ◌∷◌, ◌++◌, Option, Some, None, Err, codes, refl, sym, ap, ◌∙◌, subst, append_assoc, append-nil}
+use Rattle.std.proofs.lemmas.Option.{option_and_then_some}
 use Rattle.std.specs.Option.{option_and_then}
 use Rattle.sc_model.specs.declared.conditional.Conditional.{Conditional}
 use Rattle.sc_model.specs.declared.conditional.Conditional.TheVariants.{If, Ifdef, Ifndef, Elif, Else, Endif}
@@ -155,17 +156,13 @@ nested-by n line (Some Else) e ss' s = nested-next true n line ss' (λ lines u. 
 nested-by n line (Some Endif) e ss' s = nested-closed n line e ss' s
 
 -- all lines
-pub some_then : {A B : Type 0} (f : A → Option B) (o : Option A) (b : B) → option_and_then f o ≡ Some b → (a : A) × (o ≡ Some a) × (f a ≡ Some b)
-some_then f None b e = cc
-some_then f (Some a) b e = (a, refl, e)
-
 nested-all : (ys : List Line) (ss : Sections Line) (xs : List Line) → Nested ss xs → (ss' : Sections Line) → nest_all ys ss ≡ Some ss' → Nested ss' (xs ++ ys)
 nested-all [] ss xs n ss' e =
     let same : ss ≡ ss' = cc in
     subst (Nested ss') (sym (append-nil xs)) (subst (λ r. Nested r xs) same n)
 nested-all (y ∷ ys) ss xs n ss' e =
-    let s = some_then (nest_all ys) (nest y ss) ss' e in
-    subst (Nested ss') (append_assoc xs (y ∷ []) ys) (nested-all ys s.0 (xs ++ y ∷ []) (nested-by n y (conditional_of y) refl s.0 s.1) ss' s.2)
+    option_and_then_some (nest_all ys) (nest y ss) ss' e (λ next here rest.
+    subst (Nested ss') (append_assoc xs (y ∷ []) ys) (nested-all ys next (xs ++ y ∷ []) (nested-by n y (conditional_of y) refl next here) ss' rest))
 
 pub nested-lines : (lines : List Line) → (ss : Sections Line) → nest_all lines [] ≡ Some ss → Nested ss lines
 nested-lines lines ss e = nested-all lines [] [] (outside empty tt) ss e

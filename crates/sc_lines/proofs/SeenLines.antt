@@ -35,10 +35,17 @@ map-same f g same [] = refl
 map-same f g same (x ∷ xs) = ap (λ y. y ∷ map f xs) (same x) ∙ ap (λ ys. g x ∷ ys) (map-same f g same xs)
 
 -- which directive a line is doesn't depend on the names of files
-conditional-files : (names files : List (List ℕ)) (line : List Token) → model.conditional_of (map (seen names files) line) ≡ conditional_at names line
+pub conditional-files : (names files : List (List ℕ)) (line : List Token) → model.conditional_of (map (seen names files) line) ≡ conditional_at names line
 conditional-files names files [] = refl
 conditional-files names files (hash ∷ []) = refl
 conditional-files names files (hash ∷ word ∷ rest) = refl
+
+-- the directive of a line is that of its tokens
+pub directive-at : (names : List (List ℕ)) (tokens : List Token) (lines : List Line) → AreLines names tokens lines → (i : ℕ) (d : Line) → i < length lines
+    → (get_or lines i d).conditional ≡ conditional_at names (tokens_of tokens (get_or lines i d))
+directive-at names tokens lines are i d h =
+    same_at (λ l. l.conditional) (λ l. conditional_at names (tokens_of tokens l)) lines lines i d d
+    (are.conditionals ∙ (ap (map (conditional_at names)) (sym are.tokens_are) ∙ map-map (conditional_at names) (tokens_of tokens) lines)) h
 
 module _ (names files : List (List ℕ)) (tokens : List Token) (lines : List Line) (are : AreLines names tokens lines) where
   pub lines-seen : seen_lines names files tokens ≡ map (λ l. map (seen names files) (tokens_of tokens l)) lines

@@ -2,20 +2,9 @@
 use Rattle.std.proofs.Common.{◌≡◌, ℕ, suc, ◌+◌, ◌<◌, ◌&&◌, not, Bool, true, false, List, [], ◌∷◌, ◌++◌, length, take, drop, get_or, add-one, refl, sym, ap, ◌∙◌, subst, arith}
 use Rattle.std.proofs.Math.Seq.{split_at, take-length}
 use Rattle.std.proofs.Math.ListN.{drop_of_length-le}
+use Rattle.std.proofs.lemmas.Bool.{and_parts, not-true}
 use Rattle.std.specs.List.{list_all}
 use Rattle.sc_model.specs.Lines.{onto_first, split_lines}
-
-and_first : (a b : Bool) → (a && b) ≡ true → a ≡ true
-and_first true b e = refl
-and_first false b e = e
-
-and_second : (a b : Bool) → (a && b) ≡ true → b ≡ true
-and_second true b e = e
-and_second false b e = cc
-
-from_not : (b : Bool) → not b ≡ true → b ≡ false
-from_not true e = sym e
-from_not false e = refl
 
 module _ {T : Type 0} (ends : T → Bool) where
   -- no item ends a line
@@ -25,12 +14,14 @@ module _ {T : Type 0} (ends : T → Bool) where
   split-front : (xs : List T) (t : T) (ys : List T) → is_open xs ≡ true → ends t ≡ true → split_lines ends (xs ++ t ∷ ys) ≡ xs ∷ split_lines ends ys
   split-front [] t ys o e = rw e
   split-front (x ∷ xs) t ys o e =
-      rw (from_not (ends x) (and_first (not (ends x)) (is_open xs) o)) (ap (onto_first x) (split-front xs t ys (and_second (not (ends x)) (is_open xs) o) e))
+      let parts = and_parts (not (ends x)) (is_open xs) o in
+      rw (not-true (ends x) parts.0) (ap (onto_first x) (split-front xs t ys parts.1 e))
 
   split-open : (x : T) (xs : List T) → is_open (x ∷ xs) ≡ true → split_lines ends (x ∷ xs) ≡ (x ∷ xs) ∷ []
-  split-open x [] o = rw (from_not (ends x) (and_first (not (ends x)) true o))
+  split-open x [] o = rw (not-true (ends x) (and_parts (not (ends x)) true o).0)
   split-open x (y ∷ ys) o =
-      rw (from_not (ends x) (and_first (not (ends x)) (is_open (y ∷ ys)) o)) (ap (onto_first x) (split-open y ys (and_second (not (ends x)) (is_open (y ∷ ys)) o)))
+      let parts = and_parts (not (ends x)) (is_open (y ∷ ys)) o in
+      rw (not-true (ends x) parts.0) (ap (onto_first x) (split-open y ys parts.1))
 
   -- a line up to the first item that ends one
   pub split-at_end : (ts : List T) (i : ℕ) (d : T) → i < length ts → is_open (take i ts) ≡ true → ends (get_or ts i d) ≡ true
