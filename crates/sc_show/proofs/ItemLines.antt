@@ -48,7 +48,7 @@ parts_of (item ∷ items) (line_of it number file more lines some numbered filed
 pub record IsFileOf (names : List FileId) (files : List (List ℕ)) (number : ℕ) : Type 0 where
   pub each : (id : FileId) → slice_get names number ≡ Some id → id.0 < length files
 
--- Things that are shown as items: the line of each reads as what it shows, under the set of its condition's number.
+-- A list whose elements are shown as items: the line of each reads as what it shows, under the set of its condition's number.
 module _ {X T : Type 0} (s : Sets) (ks : List Cond) (fs : List FileId) (tests : List Condition) (item : X → Item) (what : X → T) (read : List TextLine → List (Condition × T)) (none_read : read [] ≡ [])
     (one_read : (x : X) (number file : ℕ) (lines : List TextLine) → slice_get fs file ≡ Some (item x).file → read ((item x).line number file ∷ lines) ≡ (condition_at tests number, what x) ∷ read lines) where
   pub read-AreAlike : {space : Space} (xs : List X) (lines : List TextLine) → s.arities ≡ arities_of space → Agrees s ks tests → AreLinesOf s ks fs (map item xs) lines
@@ -72,14 +72,14 @@ module _ {X T : Type 0} (s : Sets) (ks : List Cond) (fs : List FileId) (tests : 
       (All-cons P (what x) (map (λ pair. pair.1) (read lines)) (All-head P (what x) (map what xs) all) (read-All P xs lines rest (All-tail P (what x) (map what xs) all)))
 
 module _ {X : Type 0} (s : Sets) (ks : List Cond) (fs : List FileId) (item : X → Item) where
-  -- each line passes a test that those of the things do
+  -- each line passes a test that those of all elements pass
   pub lines_pass : (test : TextLine → Bool) → ((x : X) (number file : ℕ) → 0 < number → test ((item x).line number file) ≡ true) → (xs : List X) (lines : List TextLine) → AreLinesOf s ks fs (map item xs) lines
       → list_all test lines ≡ true
   lines_pass test each [] lines no_line = refl
   lines_pass test each (x ∷ xs) lines (without_line it items ls none rest) = lines_pass test each xs lines rest
   lines_pass test each (x ∷ xs) ls (line_of it number file items lines some numbered filed rest) = both (each x number file some) (lines_pass test each xs lines rest)
 
-  -- the files that the lines name are those of the things
+  -- the files that the lines name are those of the elements
   pub lines_files : (files : List (List ℕ)) → ((x : X) (number file : ℕ) → files_of ((item x).line number file) ≡ file ∷ []) → (xs : List X) (lines : List TextLine)
       → All (λ (x : X). (item x).file.0 < length files) xs → AreLinesOf s ks fs (map item xs) lines → All (λ line. All (IsFileOf fs files) (files_of line)) lines
   lines_files files named [] lines held no_line = All-nil (λ (line : TextLine). All (IsFileOf fs files) (files_of line))
