@@ -9,6 +9,7 @@ pub mod Pieces
 pub mod Steps
 pub mod Shows
 pub mod ShownItems
+pub mod ItemLines
 pub mod Ending
 pub mod Faults
 pub mod ConflictLines
