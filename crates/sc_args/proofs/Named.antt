@@ -1,8 +1,11 @@
 -- Words that are taken name `tokens` with both its words, or `conflicts`.
-use Rattle.std.proofs.Common.{◌≡◌, ◌∙◌, ap, sym, subst, refl, [], ◌∷◌, ◌++◌, codes, ℕ, List, length, true, false, arith, ◌&&◌, ◌||◌, inl, inr}
+use Rattle.std.proofs.Common.{◌≡◌, ◌∙◌, ap, sym, subst, refl, [], ◌∷◌, ◌++◌, codes, ℕ, List, length, true, false, ◌&&◌, ◌||◌, inl, inr}
 use Rattle.std.specs.Prelude.{◌⊎◌, Option, Some, None, if◌then◌else◌, Bool, is_some, not, fold, option_map, find, cond, unwrap_or}
 use Rattle.std.specs.Option.{option_map_or}
 use Rattle.std.specs.Str.{bytes_eq}
+use Rattle.std.proofs.Math.Bool.{or-false}
+use Rattle.std.proofs.lemmas.Bool.{both_ways}
+use Rattle.std.proofs.lemmas.Option.{none-some}
 use Rattle.std.proofs.lemmas.Slice.Eq.{bytes_eq-Decides}
 use Rattle.clap.specs.Kinds.{Kinds, or_else, range_kinds}
 use Rattle.clap.specs.Faults.{entered_fault, fault_of, check_fault, level_fault, other_fault, step_fault, turn_fault, walk_fault, word_fault}
@@ -17,9 +20,6 @@ use Rattle.clap.specs.declared.parser.matches.ValueSource.TheVariants.{CommandLi
 use Rattle.sc_args.proofs.Values.{AllUsable, IsUsable, finished_is_full, is_full, text_of_given, used_is_full, walk_is_full}
 use Rattle.sc_args.specs.Laws.{NamesCommand, has_text}
 use Rattle.sc_args.specs.Words.{conflicts_app, required_rule, superc_app, tokens_app}
-
-none_some : {X : Type 0} (x : X) → None ≡ Some x → ⊥
-none_some x e = let h : false ≡ true = ap is_some e in grind arith
 
 -- ---- the subcommand that a step names
 
@@ -61,10 +61,10 @@ positional_goes_on c (Some a) word w h e = refl
 
 stop_is_named : (c : List Rule) (word : Text) (w : Walk) (h : Held) (step : Step) (q : Text × List Text)
     → w.stopped ≡ None → (after_step c word w h step).stopped ≡ Some q → named_by step ≡ Some q.0
-stop_is_named c word w h (next waiting) q none e = absurd (none_some q (sym none ∙ e))
-stop_is_named c word w h (trailing position) q none e = absurd (none_some q (sym none ∙ e))
+stop_is_named c word w h (next waiting) q none e = absurd (none-some q (sym none ∙ e))
+stop_is_named c word w h (trailing position) q none e = absurd (none-some q (sym none ∙ e))
 stop_is_named c word w h (subcommand name) q none e = ap (option_map (λ p. p.0)) e
-stop_is_named c word w h value q none e = absurd (none_some q (sym (positional_goes_on c (arg_by_index c w.position) word w h none) ∙ e))
+stop_is_named c word w h value q none e = absurd (none-some q (sym (positional_goes_on c (arg_by_index c w.position) word w h none) ∙ e))
 
 -- ---- no subcommand of a walk without a fault is `help`
 
@@ -78,7 +78,7 @@ help_fails s name word h enabled e = go (bytes_eq name (codes "help")) s.disable
 
 word_names_no_help : (s : Shape) (names : Names) (is_trailing : Bool) (waiting : Waiting) (position : ℕ) (word : Text) (h : Held) (name : Text) → s.disable_help_subcommand ≡ false
     → word_fault s names is_trailing waiting word h ≡ [] → named_by (word_met s.rules names is_trailing waiting position word h).1 ≡ Some name → bytes_eq name (codes "help") ≡ false
-word_names_no_help s names true waiting position word h name enabled e named = absurd (none_some name named)
+word_names_no_help s names true waiting position word h name enabled e named = absurd (none-some name named)
 word_names_no_help s names false waiting position word h name enabled e named =
     let met : subcommand_met names waiting word ≡ Some name = sym (other_names s.rules (subcommand_met names waiting word) waiting position word h) ∙ named in
     help_fails s name word h enabled (subst (λ o. other_fault s o word h ≡ []) met e)
@@ -110,7 +110,7 @@ same_stop c names (word ∷ words) w q p stopped ends = same_stop c names words 
 walk_names_no_help : (s : Shape) (names : Names) (words : List Text) (w : Walk) (p : Text × List Text) → s.disable_help_subcommand ≡ false → w.stopped ≡ None
     → walk_fault s names w words ≡ [] → (fold (walked s.rules names) w words).stopped ≡ Some p → bytes_eq p.0 (codes "help") ≡ false
 unfolding walk_fault
-walk_names_no_help s names [] w p enabled going e ends = absurd (none_some p (sym going ∙ ends))
+walk_names_no_help s names [] w p enabled going e ends = absurd (none-some p (sym going ∙ ends))
 walk_names_no_help s names (word ∷ words) w p enabled going e ends =
     go (walked s.rules names w word).stopped refl (λ next_going. walk_names_no_help s names words (walked s.rules names w word) p enabled next_going (both _ _ e).1 ends)
   where
@@ -139,9 +139,6 @@ tokens_built = built_leaf (inherited whole.top tokens_app.top)
 abbrev conflicts_built : Shape
 conflicts_built = built_leaf (inherited whole.top conflicts_app.top)
 
-no_both : (b : Bool) → b ≡ false → b ≡ true → ⊥
-no_both b is_false is_true = let h : false ≡ true = sym is_false ∙ is_true in grind arith
-
 -- a subcommand that was entered and isn't `help`
 record IsEntered (name : Text) (s : Shape) (p : Text × List Text) : Type 0 where
   named : name ≡ p.0
@@ -163,10 +160,6 @@ found_first test s rest e = ap (λ b. cond b (Some s) (find test rest)) e
 found_later : (test : Shape → Bool) (s : Shape) (rest : List Shape) → test s ≡ false → find test (s ∷ rest) ≡ find test rest
 found_later test s rest e = ap (λ b. cond b (Some s) (find test rest)) e
 
-or_false : (b : Bool) → (b || false) ≡ true → b ≡ true
-or_false true e = refl
-or_false false e = e
-
 entered_as : (name : Text) (s : Shape) (p : Text × List Text) → bytes_eq name p.0 ≡ true → find (answers p) whole.subs ≡ Some s → IsEntered name s p
 entered_as name s p e found = record {
   named = (bytes_eq-Decides name p.0).0 e;
@@ -181,17 +174,17 @@ one_of_two p no_help is_entered = cases (answers p tokens_built) (answers p conf
     cases : (a b c : Bool) → answers p tokens_built ≡ a → answers p conflicts_built ≡ b → answers p help_built ≡ c
         → IsEntered (codes "tokens") tokens_built p ⊎ IsEntered (codes "conflicts") conflicts_built p
     cases true b c ea eb ec =
-        inl (entered_as (codes "tokens") tokens_built p (or_false (bytes_eq (codes "tokens") p.0) ea) (found_first (answers p) tokens_built (conflicts_built ∷ help_built ∷ []) ea))
-    cases false true c ea eb ec = inr (entered_as (codes "conflicts") conflicts_built p (or_false (bytes_eq (codes "conflicts") p.0) eb)
+        inl (entered_as (codes "tokens") tokens_built p (sym (or-false (bytes_eq (codes "tokens") p.0)) ∙ ea) (found_first (answers p) tokens_built (conflicts_built ∷ help_built ∷ []) ea))
+    cases false true c ea eb ec = inr (entered_as (codes "conflicts") conflicts_built p (sym (or-false (bytes_eq (codes "conflicts") p.0)) ∙ eb)
         (found_later (answers p) tokens_built (conflicts_built ∷ help_built ∷ []) ea ∙ found_first (answers p) conflicts_built (help_built ∷ []) eb))
     cases false false true ea eb ec =
         let is_help : bytes_eq p.0 (codes "help") ≡ true =
-        (bytes_eq-Decides p.0 (codes "help")).1 (sym ((bytes_eq-Decides (codes "help") p.0).0 (or_false (bytes_eq (codes "help") p.0) ec))) in
-        absurd (no_both (bytes_eq p.0 (codes "help")) no_help is_help)
+        (bytes_eq-Decides p.0 (codes "help")).1 (sym ((bytes_eq-Decides (codes "help") p.0).0 (sym (or-false (bytes_eq (codes "help") p.0)) ∙ ec))) in
+        absurd (both_ways (bytes_eq p.0 (codes "help")) no_help is_help)
     cases false false false ea eb ec =
         let nothing : find (answers p) whole.subs ≡ None = found_later (answers p) tokens_built (conflicts_built ∷ help_built ∷ []) ea
         ∙ (found_later (answers p) conflicts_built (help_built ∷ []) eb ∙ found_later (answers p) help_built [] ec) in
-        absurd (no_both (is_some (entered whole (Some p))) (ap (λ o. is_some (option_map (λ s. rows_at s p.1) o)) nothing) is_entered)
+        absurd (both_ways (is_some (entered whole (Some p))) (ap (λ o. is_some (option_map (λ s. rows_at s p.1) o)) nothing) is_entered)
 
 -- ---- what the words name
 
@@ -216,7 +209,7 @@ tokens_usable test a found = go (test (one_value_rule 1 (codes "space"))) (test 
     go true y z e = subst IsUsable (ap (λ o. unwrap_or o help_flag) e) (takes_one 1 (codes "space"))
     go false true z e = subst IsUsable (ap (λ o. unwrap_or o help_flag) e) (takes_one 2 (codes "file"))
     go false false true e = subst IsUsable (ap (λ o. unwrap_or o help_flag) e) help_fails_always
-    go false false false e = absurd (none_some a e)
+    go false false false e = absurd (none-some a e)
 
 both_given : (rows : List Row) → check_fault tokens_built rows false ≡ [] → (is_given (codes "space") rows ≡ true) × (is_given (codes "file") rows ≡ true)
 both_given rows e = go (is_given (codes "space") rows) (is_given (codes "file") rows) e
@@ -262,7 +255,7 @@ faultless_words_name_a_command words e = go (stop_in (argument_words superc_app 
         (entered_fault whole (stop_in (argument_words superc_app words))) e
 
     go : (o : Option (Text × List Text)) → stop_in (argument_words superc_app words) ≡ o → entered_fault whole o ≡ [] → is_some (entered whole o) ≡ true → NamesCommand (entered whole o)
-    go None stops below is_entered = absurd (no_both false refl is_entered)
+    go None stops below is_entered = absurd (both_ways false refl is_entered)
     go (Some p) stops below is_entered = entered_command p below
         (one_of_two p (walk_names_no_help whole.top (names_of whole) (argument_words superc_app words) (walk_from nothing_held) p refl refl steps.walks stops) is_entered)
 

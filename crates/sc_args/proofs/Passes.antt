@@ -4,6 +4,8 @@ use Rattle.std.specs.Prelude.{Option, Some, None, if◌then◌else◌, Bool, is_
 use Rattle.std.specs.List.{list_all, list_any}
 use Rattle.std.specs.Option.{option_map_or}
 use Rattle.std.specs.Str.{bytes_eq, chars}
+use Rattle.std.proofs.lemmas.Bool.{and_from, and_parts}
+use Rattle.std.proofs.lemmas.Option.{none-some}
 use Rattle.clap.specs.Facts.{explicit_source, parser_of_value, unwrap_or_range}
 use Rattle.clap.specs.Kinds.{Kinds, check_kinds, or_else, range_kinds, value_kinds, values_kinds}
 use Rattle.clap.specs.Lexer.{long_of, short_of}
@@ -18,10 +20,7 @@ use Rattle.clap.specs.declared.builder.action.ArgAction.{ArgAction}
 use Rattle.clap.specs.declared.builder.action.ArgAction.TheVariants.{Set, Append, SetTrue, SetFalse, Count, Help, HelpShort, HelpLong, Version}
 use Rattle.clap.specs.declared.builder.value_parser.ValueParser.{ValueParser}
 use Rattle.clap.specs.declared.error.ErrorKind.TheVariants as kind
-use Rattle.sc_args.proofs.Steps.{both, level_steps, not_empty, split_and}
-
-both_true : (a b : Bool) → a ≡ true → b ≡ true → (a && b) ≡ true
-both_true a b e f = ap (λ x. x && b) e ∙ f
+use Rattle.sc_args.proofs.Steps.{both, level_steps, not_empty}
 
 -- ---- one use
 
@@ -36,7 +35,7 @@ values_are_accepted : (ignore_case : Bool) (parser : ValueParser) (values : List
 values_are_accepted ignore_case parser [] e = refl
 values_are_accepted ignore_case parser (v ∷ vs) e =
     let parts = both (value_kinds ignore_case parser v) (values_kinds ignore_case parser vs) e in
-    both_true _ _ (value_is_accepted ignore_case parser v parts.0) (values_are_accepted ignore_case parser vs parts.1)
+    and_from _ _ (value_is_accepted ignore_case parser v parts.0) (values_are_accepted ignore_case parser vs parts.1)
 
 values_of_rule : (a : Rule) (values : List Text) → values_kinds a.ignore_case (parser_of_value a.parser) values ≡ [] → values_pass a values ≡ true
 values_of_rule a values e = values_are_accepted a.ignore_case (parser_of_value a.parser) values e
@@ -48,7 +47,7 @@ count_goes a (v ∷ vs) rows e = values_of_rule a (v ∷ vs) e
 set_goes : (again : Bool) (a : Rule) (values : List Text) (rows : List Row) → set_fault again a values rows ≡ [] → set_passes again a values rows ≡ true
 set_goes again a values rows e =
     let parts = both (repeat_fault again a.id rows) (values_kinds a.ignore_case (parser_of_value a.parser) values) e in
-    both_true _ _ (go (has_row a.id rows) again parts.0) (values_of_rule a values parts.1)
+    and_from _ _ (go (has_row a.id rows) again parts.0) (values_of_rule a values parts.1)
   where
     go : (b again : Bool) → (if b && not again then kind.ArgumentConflict ∷ [] else []) ≡ [] → (not b || again) ≡ true
     go false again e = refl
@@ -83,7 +82,7 @@ use_goes : (again : Bool) (a : Rule) (values : List Text) (rows : List Row) → 
 use_goes again a values rows e =
     let parts = both (range_kinds (unwrap_or_range a.range).start_inclusive (most_values a) (length values)) (action_fault (action_of a) again a (values_or_missing a values) rows) e in
     let fits = within (unwrap_or_range a.range).start_inclusive (most_values a) (length values) parts.0 in
-    both_true _ _ fits.0 (both_true _ _ fits.1 (action_goes (action_of a) again a (values_or_missing a values) rows parts.1))
+    and_from _ _ fits.0 (and_from _ _ fits.1 (action_goes (action_of a) again a (values_or_missing a values) rows parts.1))
 
 -- ---- the walk
 
@@ -102,7 +101,7 @@ settle_goes c again h e = go h.pending e
 react_goes : (c : List Rule) (again : Bool) (a : Rule) (values : List Text) (h : Held) → react_fault c again a values h ≡ [] → react_passes c again a values h ≡ true
 react_goes c again a values h e =
     let parts = both (settle_fault c again h) (use_fault again a values (settled c h).rows) e in
-    both_true _ _ (settle_goes c again h parts.0) (use_goes again a values (settled c h).rows parts.1)
+    and_from _ _ (settle_goes c again h parts.0) (use_goes again a values (settled c h).rows parts.1)
 
 option_goes : (c : List Rule) (again : Bool) (a : Rule) (v : Option Text) (h : Held) → option_fault c again a v h ≡ [] → option_passes c again a v h ≡ true
 option_goes c again a (Some v) h e = react_goes c again a (v ∷ []) h e
@@ -128,7 +127,7 @@ short_goes c again (Some a) rest h fault passes later e = go (takes_values a) e
     go true e = option_goes c again a (attached_value rest) h e
     go false e =
         let parts = both (react_fault c again a [] h) (fault (reacted c a [] h)) e in
-        both_true _ _ (react_goes c again a [] h parts.0) (later (reacted c a [] h) parts.1)
+        and_from _ _ (react_goes c again a [] h parts.0) (later (reacted c a [] h) parts.1)
 
 bundle_step_goes : (c : List Rule) (again : Bool) (x : Option ℕ) (flags : Text) (skip : ℕ) (h : Held) (fault : Text → ℕ → Held → Kinds) (passes : Text → ℕ → Held → Bool)
     → ((flags : Text) (skip : ℕ) (g : Held) → fault flags skip g ≡ [] → passes flags skip g ≡ true)
@@ -199,14 +198,14 @@ turn_goes s names w word e = go (is_some w.stopped) e
     go false e =
         let met = word_met s.rules names w.is_trailing w.waiting w.position word w.held in
         let parts = both (word_fault s names w.is_trailing w.waiting word w.held) (step_fault s w.position met.0 met.1) e in
-        both_true _ _ (word_goes s names w.is_trailing w.waiting word w.held parts.0) (step_goes s w.position met.0 met.1 parts.1)
+        and_from _ _ (word_goes s names w.is_trailing w.waiting word w.held parts.0) (step_goes s w.position met.0 met.1 parts.1)
 
 pub walk_goes : (s : Shape) (names : Names) (words : List Text) (w : Walk) → walk_fault s names w words ≡ [] → walk_passes s names w words ≡ true
 unfolding walk_fault walk_passes
 walk_goes s names [] w e = refl
 walk_goes s names (word ∷ words) w e =
     let parts = both (turn_fault s names w word) (walk_fault s names (walked s.rules names w word) words) e in
-    both_true _ _ (turn_goes s names w word parts.0) (walk_goes s names words (walked s.rules names w word) parts.1)
+    and_from _ _ (turn_goes s names w word parts.0) (walk_goes s names words (walked s.rules names w word) parts.1)
 
 -- ---- a level, and the command
 
@@ -225,9 +224,9 @@ valid_goes s rows has free e =
     let given = list_any (λ r. explicit_source r.source) rows in
     let lacks = list_any (λ a. a.required && not (is_given a.id rows)) s.rules in
     let checks = none_checked (not has && (s.arg_required_else_help && not given)) (not has && s.subcommand_required) (not (s.subcommand_negates_reqs && has) && lacks) e in
-    both_true _ _ (help s.arg_required_else_help has given checks.0)
-    (both_true _ _ (sub s.subcommand_required has checks.1)
-    (both_true _ _ free (needs (s.subcommand_negates_reqs && has) lacks (list_all (λ a. not a.required || is_given a.id rows) s.rules) (all_given rows s.rules) checks.2)))
+    and_from _ _ (help s.arg_required_else_help has given checks.0)
+    (and_from _ _ (sub s.subcommand_required has checks.1)
+    (and_from _ _ free (needs (s.subcommand_negates_reqs && has) lacks (list_all (λ a. not a.required || is_given a.id rows) s.rules) (all_given rows s.rules) checks.2)))
   where
     none_checked : (x y z : Bool) → check_kinds x y z ≡ [] → (x ≡ false) × (y ≡ false) × (z ≡ false)
     none_checked false false false e = (refl, refl, refl)
@@ -257,23 +256,23 @@ is_free_of_defaults s = list_all (λ a. a.is_free) s.rules && list_all (λ a. is
 defaults_go : (rules : List Rule) → list_all (λ a. is_empty a.defaults) rules ≡ true → list_all default_passes rules ≡ true
 defaults_go [] e = refl
 defaults_go (a ∷ rules) e =
-    let parts = split_and (is_empty a.defaults) (list_all (λ a. is_empty a.defaults) rules) e in
-    both_true _ _ (ap (λ b. b || (not (is_request (action_of a)) && values_pass a a.defaults)) parts.0) (defaults_go rules parts.1)
+    let parts = and_parts (is_empty a.defaults) (list_all (λ a. is_empty a.defaults) rules) e in
+    and_from _ _ (ap (λ b. b || (not (is_request (action_of a)) && values_pass a a.defaults)) parts.0) (defaults_go rules parts.1)
 
 pub level_goes : (s : Shape) (names : Names) (h : Held) (words : List Text) (has : Bool) (below : Kinds) → is_free_of_defaults s ≡ true
     → level_fault s names h words has below ≡ [] → level_passes s names h words has ≡ true
 level_goes s names h words has below plain e =
     let steps = level_steps s names h words has below e in
-    let free = split_and (list_all (λ a. a.is_free) s.rules) (list_all (λ a. is_empty a.defaults) s.rules) plain in
+    let free = and_parts (list_all (λ a. a.is_free) s.rules) (list_all (λ a. is_empty a.defaults) s.rules) plain in
     let end = (walk s.rules names h words).held in
-    both_true _ _ (walk_goes s names words (walk_from h) steps.walks)
-    (both_true _ _ (settle_goes s.rules s.args_override_self end steps.settles)
-    (both_true _ _ (defaults_go s.rules free.1) (valid_goes s (finished s.rules end) has free.0 steps.checks)))
+    and_from _ _ (walk_goes s names words (walk_from h) steps.walks)
+    (and_from _ _ (settle_goes s.rules s.args_override_self end steps.settles)
+    (and_from _ _ (defaults_go s.rules free.1) (valid_goes s (finished s.rules end) has free.0 steps.checks)))
 
 pub found_has : (P test : Shape → Bool) (xs : List Shape) (s : Shape) → list_all P xs ≡ true → find test xs ≡ Some s → P s ≡ true
-found_has P test [] s all e = let h : false ≡ true = ap is_some e in grind arith
+found_has P test [] s all e = absurd (none-some s e)
 found_has P test (x ∷ xs) s all e =
-    let parts = split_and (P x) (list_all P xs) all in
+    let parts = and_parts (P x) (list_all P xs) all in
     go (test x) (found_has P test xs s parts.1) parts.0 e
   where
     go : (b : Bool) → (find test xs ≡ Some s → P s ≡ true) → P x ≡ true → cond b (Some x) (find test xs) ≡ Some s → P s ≡ true
@@ -297,4 +296,4 @@ fault_free_is_taken a words simple top subs e =
     let stop = (walk b.top.rules (names_of b) nothing_held ws).stopped in
     let has = is_some (entered b stop) in
     let steps = level_steps b.top (names_of b) nothing_held ws has (entered_fault b stop) e in
-    both_true _ _ simple (both_true _ _ (entered_goes b stop subs steps.enters) (level_goes b.top (names_of b) nothing_held ws has (entered_fault b stop) top e))
+    and_from _ _ simple (and_from _ _ (entered_goes b stop subs steps.enters) (level_goes b.top (names_of b) nothing_held ws has (entered_fault b stop) top e))

@@ -1,5 +1,5 @@
 -- Steps that may fail, of which none does.
-use Rattle.std.proofs.Common.{◌≡◌, ◌∙◌, ap, refl, [], ◌∷◌, length, arith, List, true, false, ◌&&◌}
+use Rattle.std.proofs.Common.{◌≡◌, ◌∙◌, ap, refl, [], ◌∷◌, length, arith, List}
 use Rattle.std.specs.Prelude.{Bool}
 use Rattle.clap.specs.Faults.{check_fault, defaults_fault, level_fault, settle_fault, walk_fault}
 use Rattle.clap.specs.Simple.{Shape}
@@ -18,10 +18,6 @@ both (k ∷ ks) b e = absurd (not_empty k ks e)
 -- where neither fails, both don't
 pub neither : (a b : Kinds) → a ≡ [] → b ≡ [] → or_else a b ≡ []
 neither a b e f = ap (λ x. or_else x b) e ∙ f
-
-pub split_and : (a b : Bool) → (a && b) ≡ true → (a ≡ true) × (b ≡ true)
-split_and true b e = (refl, e)
-split_and false b e = (e, let h : false ≡ true = e in grind arith)
 
 -- a level of a parse where no step fails
 pub record IsFaultless (s : Shape) (names : Names) (h : Held) (words : List Text) (has : Bool) (below : Kinds) : Type 0 where

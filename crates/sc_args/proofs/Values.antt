@@ -4,6 +4,8 @@ use Rattle.std.specs.Prelude.{Option, Some, None, if◌then◌else◌, Bool, is_
 use Rattle.std.specs.List.{list_all}
 use Rattle.std.specs.Option.{option_map_or}
 use Rattle.std.specs.Str.{bytes_eq, chars}
+use Rattle.std.proofs.lemmas.Bool.{and_from, and_parts, false≢true}
+use Rattle.std.proofs.lemmas.List.Folds.{list_all-append}
 use Rattle.clap.specs.Facts.{explicit_source}
 use Rattle.clap.specs.Kinds.{Kinds, or_else}
 use Rattle.clap.specs.Lexer.{long_of, short_of}
@@ -14,7 +16,7 @@ use Rattle.clap.specs.Walk.{Held, Names, Outcome, Row, Rule, Step, Text, Waiting
 use Rattle.clap.specs.declared.parser.matches.ValueSource.{ValueSource}
 use Rattle.clap.specs.declared.builder.value_parser.Reading.{Reading}
 use Rattle.clap.specs.declared.error.ErrorKind.TheVariants as kind
-use Rattle.sc_args.proofs.Steps.{both, split_and}
+use Rattle.sc_args.proofs.Steps.{both}
 
 -- each row has a value
 abbrev pub is_full_row : Row → Bool
@@ -23,28 +25,23 @@ is_full_row r = is_some (slice_get r.values 0)
 abbrev pub is_full : List Row → Bool
 is_full = list_all is_full_row
 
-full_append : (xs ys : List Row) → is_full xs ≡ true → is_full ys ≡ true → is_full (xs ++ ys) ≡ true
-full_append [] ys e f = f
-full_append (x ∷ xs) ys e f = let parts = split_and (is_full_row x) (is_full xs) e in
-    ap (λ b. b && is_full (xs ++ ys)) parts.0 ∙ full_append xs ys parts.1 f
-
 full_at_row : (id : Text) (change : Row → List Row) (missing rows : List Row) → ((r : Row) → is_full_row r ≡ true → is_full (change r) ≡ true)
     → is_full missing ≡ true → is_full rows ≡ true → is_full (at_row id change missing rows) ≡ true
 full_at_row id change missing [] keeps m e = m
-full_at_row id change missing (r ∷ rs) keeps m e = go (bytes_eq r.id id) (full_at_row id change missing rs keeps m (split_and (is_full_row r) (is_full rs) e).1)
+full_at_row id change missing (r ∷ rs) keeps m e = go (bytes_eq r.id id) (full_at_row id change missing rs keeps m (and_parts (is_full_row r) (is_full rs) e).1)
   where
     parts : (is_full_row r ≡ true) × (is_full rs ≡ true)
-    parts = split_and (is_full_row r) (is_full rs) e
+    parts = and_parts (is_full_row r) (is_full rs) e
 
     go : (b : Bool) → is_full (at_row id change missing rs) ≡ true → is_full (if b then change r ++ rs else r ∷ at_row id change missing rs) ≡ true
-    go true later = full_append (change r) rs (keeps r parts.0) parts.1
-    go false later = ap (λ b. b && is_full (at_row id change missing rs)) parts.0 ∙ later
+    go true later = list_all-append is_full_row (change r) rs ∙ and_from (is_full (change r)) (is_full rs) (keeps r parts.0) parts.1
+    go false later = and_from (is_full_row r) (is_full (at_row id change missing rs)) parts.0 later
 
 more_is_full : (s : ValueSource) (values : List Text) (r : Row) → is_full_row r ≡ true → is_full (more_values s values r) ≡ true
 more_is_full s values r e = go r.values e
   where
     go : (vs : List Text) → is_some (slice_get vs 0) ≡ true → (is_some (slice_get (vs ++ values) 0) && true) ≡ true
-    go [] e = let h : false ≡ true = e in grind arith
+    go [] e = absurd (false≢true e)
     go (v ∷ vs) e = refl
 
 -- one use with a value
@@ -225,12 +222,12 @@ defaulted_rows rows a none = go (has_row a.id rows) a.defaults none
     go : (b : Bool) (ds : List Text) → is_empty ds ≡ true → (if b then rows else default_rows a.id (reading_by a) ds rows) ≡ rows
     go true ds none = refl
     go false [] none = refl
-    go false (d ∷ ds) none = let h : false ≡ true = sym (cons_not_empty d ds) ∙ none in grind arith
+    go false (d ∷ ds) none = absurd (false≢true (sym (cons_not_empty d ds) ∙ none))
 
 defaults_keep_rows : (c : List Rule) (rows : List Row) → have_no_defaults c ≡ true → fold with_default rows c ≡ rows
 defaults_keep_rows [] rows none = refl
 defaults_keep_rows (a ∷ c) rows none =
-    let parts = split_and (is_empty a.defaults) (have_no_defaults c) none in
+    let parts = and_parts (is_empty a.defaults) (have_no_defaults c) none in
     ap (λ xs. fold with_default xs c) (defaulted_rows rows a parts.0) ∙ defaults_keep_rows c rows parts.1
 
 pub finished_is_full : (c : List Rule) → AllUsable c → (again : Bool) (h : Held) → have_no_defaults c ≡ true → settle_fault c again h ≡ [] → is_full h.rows ≡ true
@@ -240,10 +237,10 @@ finished_is_full c usable again h none e f = full_as (finished c h) (settled c h
 -- an argument that is given in such rows has a text
 pub text_of_given : (id : Text) (rows : List Row) → is_full rows ≡ true → is_given id rows ≡ true → is_some (first_of id rows) ≡ true
 text_of_given id [] f given = given
-text_of_given id (r ∷ rs) f given = go (bytes_eq r.id id) (text_of_given id rs (split_and (is_full_row r) (is_full rs) f).1) given
+text_of_given id (r ∷ rs) f given = go (bytes_eq r.id id) (text_of_given id rs (and_parts (is_full_row r) (is_full rs) f).1) given
   where
     go : (b : Bool) → (is_given id rs ≡ true → is_some (first_of id rs) ≡ true)
         → option_map_or (λ r. explicit_source r.source) (cond b (Some r) (find (λ r. bytes_eq r.id id) rs)) false ≡ true
         → is_some (option_and_then (λ r. slice_get r.values 0) (cond b (Some r) (find (λ r. bytes_eq r.id id) rs))) ≡ true
-    go true later given = (split_and (is_full_row r) (is_full rs) f).0
+    go true later given = (and_parts (is_full_row r) (is_full rs) f).0
     go false later given = later given

@@ -8,26 +8,19 @@ use Rattle.sc_model.specs.Lines.{Line, is_directive, conditional_of, Group, Bran
 use Rattle.sc_model.specs.Pre.{Fault, State, unexpanded, Closes, closed, RefusedAt, operand_of, Decides, if_defined, if_undefined, no_name, expression, is_null, is_named, ignored_names, Steps, text, null, ignored, unknown, Walks, done, line, line_stops, taken, taken_stops, passed, passed_stops, head_stops, WalksBranches, none_taken, last_taken, later_stops}
 use Rattle.sc_model.specs.Space.{Macros}
 use Rattle.sc_model.specs.Token.{Token}
-use Rattle.sc_core.specs.Machine.{Machine, acts, refusal, refusing, turned, put_out, opened, opened_by_name, next_branch, ended, plain_step, step_by, step, run}
+use Rattle.sc_core.specs.declared.line_kind.LineKind.{LineKind}
+use Rattle.sc_core.specs.declared.line_kind.LineKind.TheVariants.{Text, Idle, Unknown}
+use Rattle.sc_core.specs.LineKind.{line_kind}
+use Rattle.sc_core.specs.Machine.{Machine, acts, refusal, refusing, turned, put_out, opened, opened_by_name, next_branch, ended, is_taken, step_of_kind, plain_step, step_by, step, run}
 
 pub run-append : (macros : Macros) (m : Machine) (xs ys : List Line) → run macros m (xs ++ ys) ≡ run macros (run macros m xs) ys
 run-append macros m [] ys = refl
 run-append macros m (x ∷ xs) ys = run-append macros (step macros m x) xs ys
 
--- what a conditional directive with these macros says, refused where it can't be decided
-abbrev pub decided_by_name : Line → (List ℕ → Bool) → Option (List ℕ) → Result Bool Fault
-decided_by_name l test None = Err (refusal l)
-decided_by_name l test (Some name) = Ok (test name)
-
-abbrev pub decision_by : Macros → Line → Option Conditional → Result Bool Fault
-decision_by macros l (Some Ifdef) = decided_by_name l (λ name. is_some (macros name)) (operand_of l)
-decision_by macros l (Some Ifndef) = decided_by_name l (λ name. not (is_some (macros name))) (operand_of l)
-decision_by macros l _ = Err (refusal l)
-
 -- the machine after the first line of a section that is taken
 abbrev pub opened_as : Machine → Result Bool Fault → Machine
 opened_as m (Ok test) = opened m test
-opened_as m (Err fault) = opened (record { active = m.active; sections = m.sections; output = m.output; fault = Some fault }) false
+opened_as m (Err fault) = opened (record m { fault = Some fault }) false
 
 -- a machine that takes the lines, with no fault yet
 abbrev pub taking : List (Bool × Bool) → List Token → Machine
@@ -46,20 +39,18 @@ refused_line (t ∷ ts) e = record { cause_is = refl; place_is = refl }
 
 -- Lines that are not taken, or that follow a fault, do nothing.
 inert_refusing : (m : Machine) (l : Line) → acts m ≡ false → refusing m l ≡ m
-inert_refusing m l e = ap (λ b. record { active = m.active; sections = m.sections; output = m.output; fault = if b then Some (refusal l) else m.fault }) e
+inert_refusing m l e = ap (λ b. record m { fault = if b then Some (refusal l) else m.fault }) e
 
 inert_put_out : (m : Machine) (l : Line) → acts m ≡ false → put_out m l ≡ m
-inert_put_out m l e = ap (λ b. record { active = m.active; sections = m.sections; output = if b then m.output ++ l else m.output; fault = m.fault }) e
+inert_put_out m l e = ap (λ b. record m { output = if b then m.output ++ l else m.output }) e
 
 inert_plain : (m : Machine) (l : Line) → acts m ≡ false → plain_step m l ≡ m
-inert_plain m l e =
-    elim (is_directive l) as (λ d. (if d then (if is_null l then m else (if is_named ignored_names l then m else refusing m l)) else put_out m l) ≡ m) [
-      | true ↦ elim (is_null l) as (λ n. (if n then m else (if is_named ignored_names l then m else refusing m l)) ≡ m) [
-        | true ↦ refl
-        | false ↦ elim (is_named ignored_names l) as (λ n. (if n then m else refusing m l) ≡ m) [ true ↦ refl | false ↦ inert_refusing m l e ]
-      ]
-      | false ↦ inert_put_out m l e
-    ]
+inert_plain m l e = by (line_kind l)
+  where
+    by : (kind : LineKind) → step_of_kind m l kind ≡ m
+    by Text = inert_put_out m l e
+    by Idle = refl
+    by Unknown = inert_refusing m l e
 
 -- a section's first line that does nothing only opens the section
 record OpensInert (macros : Macros) (m : Machine) (l : Line) : Type 0 where
@@ -72,8 +63,8 @@ inert_by_name m l test (Some name) e = (test name, refl)
 
 inert_opens_by : (macros : Macros) (m : Machine) (l : Line) (c : Conditional) → is_opening c ≡ true → acts m ≡ false → (b : Bool) × (step_by macros m l (Some c) ≡ opened m b)
 inert_opens_by macros m l If o e = (false, ap (λ n. opened n false) (inert_refusing m l e))
-inert_opens_by macros m l Ifdef o e = inert_by_name m l (λ name. is_some (macros name)) (operand_of l) e
-inert_opens_by macros m l Ifndef o e = inert_by_name m l (λ name. not (is_some (macros name))) (operand_of l) e
+inert_opens_by macros m l Ifdef o e = inert_by_name m l (is_taken macros true) (operand_of l) e
+inert_opens_by macros m l Ifndef o e = inert_by_name m l (is_taken macros false) (operand_of l) e
 inert_opens_by macros m l Elif o e = cc
 inert_opens_by macros m l Else o e = cc
 inert_opens_by macros m l Endif o e = cc
@@ -149,17 +140,17 @@ record OpensTaken (macros : Macros) (l : Line) : Type 0 where
   decides : Decides macros l says
   opens : (ss : List (Bool × Bool)) (out : List Token) → step macros (taking ss out) l ≡ opened_as (taking ss out) says
 
-opens_by_name : (macros : Macros) (l : Line) (c : Conditional) (named : conditional_of l ≡ Some c) (test : List ℕ → Bool)
+opens_by_name : (macros : Macros) (l : Line) (test : List ℕ → Bool)
     → ((name : List ℕ) → operand_of l ≡ Some name → Decides macros l (Ok (test name)))
     → (operand_of l ≡ None → Decides macros l (Err (refusal l)))
     → ((ss : List (Bool × Bool)) (out : List Token) → step macros (taking ss out) l ≡ opened_by_name (taking ss out) l test (operand_of l))
     → (operand : Option (List ℕ)) → operand_of l ≡ operand → OpensTaken macros l
-opens_by_name macros l c named test some none steps None e = record {
+opens_by_name macros l test some none steps None e = record {
   says = Err (refusal l);
   decides = none e;
   opens = λ ss out. steps ss out ∙ ap (opened_by_name (taking ss out) l test) e;
 }
-opens_by_name macros l c named test some none steps (Some name) e = record {
+opens_by_name macros l test some none steps (Some name) e = record {
   says = Ok (test name);
   decides = some name e;
   opens = λ ss out. steps ss out ∙ ap (opened_by_name (taking ss out) l test) e;
@@ -172,9 +163,9 @@ opens_taken_by macros l If n o = record {
   opens = λ ss out. step_is macros (taking ss out) l n;
 }
 opens_taken_by macros l Ifdef n o =
-    opens_by_name macros l Ifdef n (λ name. is_some (macros name)) (λ name e. if_defined name n e) (λ e. no_name (refusal l) (inl n) e (refused_at l n)) (λ ss out. step_is macros (taking ss out) l n) (operand_of l) refl
+    opens_by_name macros l (is_taken macros true) (λ name e. if_defined name n e) (λ e. no_name (refusal l) (inl n) e (refused_at l n)) (λ ss out. step_is macros (taking ss out) l n) (operand_of l) refl
 opens_taken_by macros l Ifndef n o =
-    opens_by_name macros l Ifndef n (λ name. not (is_some (macros name))) (λ name e. if_undefined name n e) (λ e. no_name (refusal l) (inr n) e (refused_at l n)) (λ ss out. step_is macros (taking ss out) l n) (operand_of l) refl
+    opens_by_name macros l (is_taken macros false) (λ name e. if_undefined name n e) (λ e. no_name (refusal l) (inr n) e (refused_at l n)) (λ ss out. step_is macros (taking ss out) l n) (operand_of l) refl
 opens_taken_by macros l Elif n o = cc
 opens_taken_by macros l Else n o = cc
 opens_taken_by macros l Endif n o = cc
@@ -241,38 +232,38 @@ record PlainFollows (macros : Macros) (l : Line) : Type 0 where
 closes : (s : State) → Closes s (Ok (record { macros = s.macros; run = []; output = s.output ++ s.run; depth = s.depth }))
 closes s = closed s.run unexpanded
 
+-- the kind of a line, by its tests
+abbrev kind_by : Bool → Bool → Bool → LineKind
+kind_by d n i = if d then (if n then Idle else (if i then Idle else Unknown)) else Text
+
+kind_is : (l : Line) {d n i : Bool} → is_directive l ≡ d → is_null l ≡ n → is_named ignored_names l ≡ i → line_kind l ≡ kind_by d n i
+kind_is l {d} {n} {i} d_is n_is i_is =
+    ap (λ b. kind_by b (is_null l) (is_named ignored_names l)) d_is ∙ (ap (λ b. kind_by d b (is_named ignored_names l)) n_is ∙ ap (kind_by d n) i_is)
+
 plain_by : (macros : Macros) (l : Line) (d n i : Bool) → is_directive l ≡ d → is_null l ≡ n → is_named ignored_names l ≡ i → PlainFollows macros l
 plain_by macros l false n i d_is n_is i_is = record {
   tokens = l;
   fault = None;
   ends = finishes (λ s e. (record { macros = s.macros; run = s.run ++ l; output = s.output; depth = s.depth }, text d_is, e, sym (append_assoc s.output s.run l), refl));
-  machine = λ ss out. ap (λ b. if b then (if is_null l then taking ss out else (if is_named ignored_names l then taking ss out else refusing (taking ss out) l)) else put_out (taking ss out) l) d_is;
+  machine = λ ss out. ap (step_of_kind (taking ss out) l) (kind_is l d_is n_is i_is);
 }
 plain_by macros l true true i d_is n_is i_is = record {
   tokens = [];
   fault = None;
   ends = ends_nothing (λ s e. null d_is n_is);
-  machine = λ ss out.
-      ap (λ b. if b then (if is_null l then taking ss out else (if is_named ignored_names l then taking ss out else refusing (taking ss out) l)) else put_out (taking ss out) l) d_is
-      ∙ (ap (λ b. if b then taking ss out else (if is_named ignored_names l then taking ss out else refusing (taking ss out) l)) n_is ∙ after_nothing ss out None);
+  machine = λ ss out. ap (step_of_kind (taking ss out) l) (kind_is l d_is n_is i_is) ∙ after_nothing ss out None;
 }
 plain_by macros l true false true d_is n_is i_is = record {
   tokens = [];
   fault = None;
   ends = finishes (λ s e. (record { macros = s.macros; run = []; output = s.output ++ s.run; depth = s.depth }, ignored _ d_is n_is i_is (closes s), e, refl, refl));
-  machine = λ ss out.
-      ap (λ b. if b then (if is_null l then taking ss out else (if is_named ignored_names l then taking ss out else refusing (taking ss out) l)) else put_out (taking ss out) l) d_is
-      ∙ (ap (λ b. if b then taking ss out else (if is_named ignored_names l then taking ss out else refusing (taking ss out) l)) n_is
-      ∙ (ap (λ b. if b then taking ss out else refusing (taking ss out) l) i_is ∙ after_nothing ss out None));
+  machine = λ ss out. ap (step_of_kind (taking ss out) l) (kind_is l d_is n_is i_is) ∙ after_nothing ss out None;
 }
 plain_by macros l true false false d_is n_is i_is = record {
   tokens = [];
   fault = Some (refusal l);
   ends = stops (refusal l) (λ s e. unknown _ (refusal l) d_is n_is i_is (closes s) (refused_line l d_is));
-  machine = λ ss out.
-      ap (λ b. if b then (if is_null l then taking ss out else (if is_named ignored_names l then taking ss out else refusing (taking ss out) l)) else put_out (taking ss out) l) d_is
-      ∙ (ap (λ b. if b then taking ss out else (if is_named ignored_names l then taking ss out else refusing (taking ss out) l)) n_is
-      ∙ (ap (λ b. if b then taking ss out else refusing (taking ss out) l) i_is ∙ after_nothing ss out (Some (refusal l))));
+  machine = λ ss out. ap (step_of_kind (taking ss out) l) (kind_is l d_is n_is i_is) ∙ after_nothing ss out (Some (refusal l));
 }
 
 plain_follows : (macros : Macros) (l : Line) → PlainFollows macros l

@@ -59,8 +59,3 @@ module _ (vs : List Variable) (config : List ℕ) (i : ℕ) (name : List ℕ) (h
   definition-next differs =
       ap (λ n. variable_definition (drop n vs) (drop n config) name) (add-one i)
       ∙ sym (definition-split ∙ ap (λ b. if b then option_and_then definition_of (slice_get (get_or vs i no_variable).options (get_or config i 0)) else variable_definition (drop (suc i) vs) (drop (suc i) config) name) differs)
-
-  pub definition-here : same_bytes (get_or vs i no_variable).name name ≡ true
-      → variable_definition (drop i vs) (drop i config) name ≡ option_and_then definition_of (slice_get (get_or vs i no_variable).options (get_or config i 0))
-  definition-here same =
-      definition-split ∙ ap (λ b. if b then option_and_then definition_of (slice_get (get_or vs i no_variable).options (get_or config i 0)) else variable_definition (drop (suc i) vs) (drop (suc i) config) name) same

@@ -2,7 +2,7 @@
 use Rattle.std.proofs.Common.{◌≡◌, ℕ, ◌<◌, ◌≤◌, ◌||◌, Bool, true, false, List, [], ◌∷◌, ◌++◌, map, length, get_or, Option, Some, None, arith, refl, sym, ap, ◌∙◌, subst}
 use Rattle.std.proofs.lemmas.Bool.{and_parts}
 use Rattle.std.proofs.lemmas.List.{get_or-map, length-map}
-use Rattle.std.proofs.lemmas.List.Elements.{All-nil, All-cons, All-head, All-tail, All-append, All-get_or}
+use Rattle.std.proofs.lemmas.List.Elements.{All-nil, All-cons, All-head, All-tail, All-append, All-get_or, All-map}
 use Rattle.std.specs.List.{list_all}
 use Rattle.std.specs.Option.{option_map, option_to_list}
 use Rattle.std.specs.Prelude.{All, if◌then◌else◌, slice_get, unwrap_or}
@@ -11,7 +11,7 @@ use Rattle.sc_base.specs.declared.id.Cond.{Cond}
 use Rattle.sc_base.specs.declared.id.FileId.{FileId}
 use Rattle.sc_core.specs.Preprocesses.{OwnsList}
 use Rattle.sc_core.specs.Printable.{IsPrintable, IsOfFile, ArePrintable, CanBeShown}
-use Rattle.sc_core.proofs.WalkMoves.{under}
+use Rattle.sc_guarded.proofs.ItemLemmas.{under}
 use Rattle.sc_guarded.specs.declared.expanded.Expanded.{Expanded}
 use Rattle.sc_guarded.specs.Items.{faults_at, seen_fault}
 use Rattle.sc_lex.specs.declared.token.Token.{Token}
@@ -29,17 +29,13 @@ use Rattle.sc_model.specs.Token.{Lexeme}
 use Rattle.sc_show.specs.Shows.{IsShowable, IsShowableFault, AreApart}
 
 module _ (names : List (List ℕ)) (file : FileId) where
-  under-printable : (live : Cond) (ts : List Token) → All (IsPrintable names file) ts → All (λ (item : Cond × Token). IsPrintable names file item.1) (under live ts)
-  under-printable live [] all = All-nil (λ (item : Cond × Token). IsPrintable names file item.1)
-  under-printable live (t ∷ ts) all =
-      All-cons (λ (item : Cond × Token). IsPrintable names file item.1) (live, t) (under live ts)
-      (All-head (IsPrintable names file) t ts all) (under-printable live ts (All-tail (IsPrintable names file) t ts all))
-
   -- a line that is put out
   pub puts-printable : (list : List (Cond × Token)) (faults : List base.Fault) (live : Cond) (ts : List Token) → All (IsPrintable names file) ts
       → ArePrintable names file list faults → ArePrintable names file (list ++ under live ts) faults
   puts-printable list faults live ts all old = record {
-    tokens = All-append (λ (item : Cond × Token). IsPrintable names file item.1) list (under live ts) old.tokens (under-printable live ts all);
+    tokens =
+        let P : Cond × Token → Type 0 = λ item. IsPrintable names file item.1 in
+        All-append P list (under live ts) old.tokens (All-map P (λ t. (live, t)) ts all);
     faults = old.faults;
   }
 
@@ -146,11 +142,3 @@ pub mirrors-few : (s : Sets) (files : List (List ℕ)) (faults : List base.Fault
 mirrors-few s files faults config o e =
     let same = ap (length {A = Fault}) e in
     omega (arith, few_of o, same, length-map (faults_at s faults config) (seen_fault files))
-
--- one fault is apart from all others
-few_by : (b : Bool) (f : base.Fault) → length (if b then f ∷ [] else []) ≤ 1
-few_by true f = omega arith
-few_by false f = omega arith
-
-pub one-apart : (s : Sets) (f : base.Fault) (faults : List base.Fault) → faults ≡ f ∷ [] → AreApart s faults
-one-apart s f faults e = subst (AreApart s) (sym e) (record { few = λ c listed. few_by (s.has f.cond.0 c) f })

@@ -3,7 +3,7 @@ use Rattle.std.proofs.Common.{◌≡◌, ℕ, ◌==◌, not, Bool, true, false, 
 use Rattle.std.proofs.lemmas.Bool.{and_parts}
 use Rattle.std.proofs.lemmas.Bool.Decides.{nat_tests}
 use Rattle.std.proofs.lemmas.Simd.{map-map}
-use Rattle.std.proofs.lemmas.List.Elements.{All-nil, All-cons, All-head, All-tail}
+use Rattle.std.proofs.lemmas.List.{length-map, nil_from_length}
 use Rattle.std.specs.List.{list_all, list_any}
 use Rattle.std.specs.Prelude.{All, nat_le, ◌||◌, if◌then◌else◌}
 use Rattle.sc_args.specs.Words.{is_file_name}
@@ -12,7 +12,7 @@ use Rattle.sc_core.specs.declared.text.Text.{Text}
 use Rattle.sc_core.specs.Outcome.{Tells, IsOrdinaryAt, shown_answer, HasSpace, AcceptsAll}
 use Rattle.sc_core.specs.Preprocesses.{Stands, IsOrdinary, OwnsList}
 use Rattle.sc_core.specs.Texts.{TellsTokens}
-use Rattle.sc_core.proofs.WalkMoves.{items-kept, faults-kept}
+use Rattle.sc_guarded.proofs.ItemLemmas.{items_at-Keeps, faults_at-Keeps, faults_at-never, never-faults_at}
 use Rattle.sc_guarded.specs.declared.expanded.Expanded.{Expanded}
 use Rattle.sc_guarded.specs.Items.{items_at, faults_at, seen_fault}
 use Rattle.sc_lex.specs.Seen.{seen}
@@ -41,30 +41,6 @@ told answer config (Err fault) items refusals same_tokens same_faults stands =
 
 -- ---- whether a configuration is refused
 
-module _ (s : Sets) where
-  -- a fault that no configuration has stands at none
-  never-at : (faults : List base.Fault) → All (λ (f : base.Fault). IsNever s f.cond.0) faults → (config : List ℕ) → IsConfig s.arities config → faults_at s faults config ≡ []
-  never-at [] all config listed = refl
-  never-at (f ∷ fs) all config listed =
-      ap (λ b. if b then f ∷ faults_at s fs config else faults_at s fs config) ((All-head (λ (f : base.Fault). IsNever s f.cond.0) f fs all).none config listed)
-      ∙ never-at fs (All-tail (λ (f : base.Fault). IsNever s f.cond.0) f fs all) config listed
-
-  head-off : (b : Bool) (f : base.Fault) (fs : List base.Fault) → (if b then f ∷ fs else fs) ≡ [] → b ≡ false
-  head-off true f fs e = cc
-  head-off false f fs e = refl
-
-  tail-off : (b : Bool) (f : base.Fault) (fs : List base.Fault) → (if b then f ∷ fs else fs) ≡ [] → fs ≡ []
-  tail-off true f fs e = cc
-  tail-off false f fs e = e
-
-  -- faults that stand at no configuration are those that none has
-  at-never : (faults : List base.Fault) → ((config : List ℕ) → IsConfig s.arities config → faults_at s faults config ≡ []) → All (λ (f : base.Fault). IsNever s f.cond.0) faults
-  at-never [] none = All-nil (λ (f : base.Fault). IsNever s f.cond.0)
-  at-never (f ∷ fs) none =
-      All-cons (λ (f : base.Fault). IsNever s f.cond.0) f fs
-      (record { none = λ config listed. head-off (s.has f.cond.0 config) f (faults_at s fs config) (none config listed) })
-      (at-never fs (λ config listed. tail-off (s.has f.cond.0 config) f (faults_at s fs config) (none config listed)))
-
 accepted-by : (P : Result (List Token) Fault → Type 0) (a : Result (List Token) Fault) (items : List Token) (refusals : List Fault) → P a → refusals ≡ [] → Stands a items refusals → (ts : List Token) × P (Ok ts)
 accepted-by P (Ok ts) items refusals p none stands = (ts, p)
 accepted-by P (Err fault) items refusals p none stands = let no : [] ≡ fault ∷ [] = sym none ∙ stands in cc
@@ -72,10 +48,6 @@ accepted-by P (Err fault) items refusals p none stands = let no : [] ≡ fault �
 unrefused-by : (a : Result (List Token) Fault) (ts items : List Token) (refusals : List Fault) → a ≡ Ok ts → Stands a items refusals → refusals ≡ []
 unrefused-by (Ok us) ts items refusals e stands = stands.1
 unrefused-by (Err fault) ts items refusals e stands = cc
-
-map-none : (files : List (List ℕ)) (faults : List base.Fault) → map (seen_fault files) faults ≡ [] → faults ≡ []
-map-none files [] e = refl
-map-none files (f ∷ fs) e = cc
 
 tells-by : (b : Bool) (Never Accepted : Type 0) → (b ≡ false → Never) → (b ≡ true → Never → ⊥) → (Never → Accepted) → (Accepted → Never) → Tells (not b) Accepted
 tells-by true Never Accepted none some accepted never = λ all. some refl (never all)
@@ -101,8 +73,8 @@ module _ {s new : Sets} (keeps : Keeps s new) (names files : List (List ℕ)) (s
         preprocessed = o.preprocessed;
         same = told shows.answer config o.answer (map (seen names files) (items_at s p.list config)) (map (seen_fault files) (faults_at s p.faults.items config))
             (sym (AreAlike-project config listed shows.tokens) ∙ project-shown_items new names files p.list config
-            ∙ (ap (map (λ t. shown (seen names files t))) (items-kept keeps config now p.list owns.list) ∙ sym (map-map shown (seen names files) (items_at s p.list config))))
-            (shows.faults_are config (IsConfig-Keeps keeps now) ∙ ap (map (seen_fault files)) (faults-kept keeps config now p.faults.items owns.faults))
+            ∙ (ap (map (λ t. shown (seen names files t))) (items_at-Keeps p.list config keeps owns.list now) ∙ sym (map-map shown (seen names files) (items_at s p.list config))))
+            (shows.faults_are config (IsConfig-Keeps keeps now) ∙ ap (map (seen_fault files)) (faults_at-Keeps p.faults.items config keeps owns.faults now))
             o.stands;
       }
 
@@ -110,15 +82,16 @@ module _ {s new : Sets} (keeps : Keeps s new) (names files : List (List ℕ)) (s
   all-accepted never config listed =
       let o = ordinary config listed in
       accepted-by (Pre space outside main config) o.answer (map (seen names files) (items_at s p.list config)) (map (seen_fault files) (faults_at s p.faults.items config)) o.preprocessed
-      (ap (map (seen_fault files)) (never-at s p.faults.items never config (here config listed))) o.stands
+      (ap (map (seen_fault files)) (faults_at-never s p.faults.items never config (here config listed))) o.stands
 
   none-refused : ((config : List ℕ) → IsListed space config → (ts : List Token) × Pre space outside main config (Ok ts)) → All (λ (f : base.Fault). IsNever s f.cond.0) p.faults.items
   none-refused all =
-      at-never s p.faults.items (λ config listed.
+      never-faults_at s p.faults.items (λ config listed.
       let o = ordinary config (there config listed) in
       let a = all config (there config listed) in
-      map-none files (faults_at s p.faults.items config)
-      (unrefused-by o.answer a.0 (map (seen names files) (items_at s p.list config)) (map (seen_fault files) (faults_at s p.faults.items config)) (pre-unique o.preprocessed a.1) o.stands))
+      let none : map (seen_fault files) (faults_at s p.faults.items config) ≡ [] =
+      unrefused-by o.answer a.0 (map (seen names files) (items_at s p.list config)) (map (seen_fault files) (faults_at s p.faults.items config)) (pre-unique o.preprocessed a.1) o.stands in
+      nil_from_length (faults_at s p.faults.items config) (sym (length-map (faults_at s p.faults.items config) (seen_fault files)) ∙ ap length none))
 
   pub tells-tokens : TellsTokens space outside main text
   tells-tokens = record {

@@ -27,10 +27,6 @@ split-last (x ∷ (y ∷ ys)) h none =
     ap (λ b. if b then (x ∷ []) ∷ split_lines_after (y ∷ ys) else byte_before x (split_lines_after (y ∷ ys))) (is_not x (none 0 (omega arith)))
     ∙ ap (byte_before x) (split-last (y ∷ ys) (omega arith) (λ k below. none (suc k) (omega arith)))
 
-pub Writes-none : (o : Option (List Write)) → Writes o o []
-Writes-none None = tt
-Writes-none (Some ws) = sym (append-nil ws)
-
 Writes-then : (a b c : Option (List Write)) (xs ys : List Write) → Writes a b xs → Writes b c ys → Writes a c (xs ++ ys)
 Writes-then None None None xs ys first second = tt
 Writes-then None None (Some c) xs ys first second = absurd second
@@ -45,9 +41,6 @@ pub record IsWritten (text rest : List ℕ) (old new : Option (List Write)) : Ty
   pub begins : split_lines_after text ≡ done ++ split_lines_after rest
   pub writes : Writes old new (map whole_write done)
 
-pub nothing-written : (text : List ℕ) (o : Option (List Write)) → IsWritten text text o o
-nothing-written text o = record { done = []; begins = refl; writes = Writes-none o }
-
 module _ (text rest line after : List ℕ) (old mid new : Option (List Write)) (so_far : IsWritten text rest old mid) (first : split_lines_after rest ≡ line ∷ split_lines_after after) where
   pub line-written : Writes mid new (whole_write line ∷ []) → IsWritten text after old new
   line-written written = record {
@@ -55,18 +48,3 @@ module _ (text rest line after : List ℕ) (old mid new : Option (List Write)) (
     begins = so_far.begins ∙ (ap (λ ls. so_far.done ++ ls) first ∙ sym (append_assoc so_far.done (line ∷ []) (split_lines_after after)));
     writes = subst (Writes old new) (sym (map-append whole_write so_far.done (line ∷ []))) (Writes-then old mid new (map whole_write so_far.done) (whole_write line ∷ []) so_far.writes written);
   }
-
-  pub line-cut : WritesCut mid new line → WritesPart old new (split_lines_after text)
-  line-cut cut = record {
-    done = so_far.done;
-    part = line;
-    rest = split_lines_after after;
-    end = cut.end;
-    begins = so_far.begins ∙ ap (λ ls. so_far.done ++ ls) first;
-    broken = cut.broken;
-    writes = Writes-then old mid new (map whole_write so_far.done) cut.end so_far.writes cut.writes;
-  }
-
-pub all-written : (text rest : List ℕ) (old new : Option (List Write)) → IsWritten text rest old new → rest ≡ [] → Writes old new (map whole_write (split_lines_after text))
-all-written text rest old new so_far none =
-    subst (λ ls. Writes old new (map whole_write ls)) (sym (so_far.begins ∙ (ap (λ r. so_far.done ++ split_lines_after r) none ∙ append-nil so_far.done))) so_far.writes

@@ -1,10 +1,13 @@
 -- The walk of one configuration over the lines of a file as they come.
 use Rattle.std.specs.Prelude.{ℕ, ◌&&◌, not, Bool, true, false, List, [], ◌∷◌, ◌++◌, Option, Some, None, is_some, is_none, if◌then◌else◌}
+use Rattle.sc_core.specs.declared.line_kind.LineKind.{LineKind}
+use Rattle.sc_core.specs.declared.line_kind.LineKind.TheVariants.{Text, Idle, Unknown}
+use Rattle.sc_core.specs.LineKind.{line_kind}
 use Rattle.sc_model.specs.declared.cause.Cause.TheVariants.{BadDirective}
 use Rattle.sc_model.specs.declared.conditional.Conditional.{Conditional}
 use Rattle.sc_model.specs.declared.conditional.Conditional.TheVariants.{If, Ifdef, Ifndef, Elif, Else, Endif}
-use Rattle.sc_model.specs.Lines.{Line, is_directive, conditional_of}
-use Rattle.sc_model.specs.Pre.{Fault, operand_of, is_null, is_named, ignored_names, fault_at, first_place}
+use Rattle.sc_model.specs.Lines.{Line, conditional_of}
+use Rattle.sc_model.specs.Pre.{Fault, operand_of, fault_at, first_place}
 use Rattle.sc_model.specs.Space.{Macros}
 use Rattle.sc_model.specs.Token.{Place, Token}
 
@@ -30,14 +33,14 @@ refusal l = fault_at BadDirective (place_of l)
 
 -- the line is refused where it does something
 abbrev pub refusing : Machine → Line → Machine
-refusing m l = record { active = m.active; sections = m.sections; output = m.output; fault = if acts m then Some (refusal l) else m.fault }
+refusing m l = record m { fault = if acts m then Some (refusal l) else m.fault }
 
 -- lines of this group are taken from here on
 abbrev pub turned : Machine → Bool → List (Bool × Bool) → Machine
-turned m active sections = record { active = active; sections = sections; output = m.output; fault = m.fault }
+turned m active sections = record m { active = active; sections = sections }
 
 abbrev pub put_out : Machine → Line → Machine
-put_out m l = record { active = m.active; sections = m.sections; output = if acts m then m.output ++ l else m.output; fault = m.fault }
+put_out m l = record m { output = if acts m then m.output ++ l else m.output }
 
 -- a section begins, and its first branch is taken where the test holds
 abbrev pub opened : Machine → Bool → Machine
@@ -47,26 +50,34 @@ abbrev pub opened_by_name : Machine → Line → (List ℕ → Bool) → Option 
 opened_by_name m l test None = opened (refusing m l) false
 opened_by_name m l test (Some name) = opened m (test name)
 
--- the next branch of a section; the last part says that it is refused where it would be decided
+-- the next branch of the innermost section
 abbrev pub next_branch : Machine → List (Bool × Bool) → Machine
 next_branch m [] = m
 next_branch m (s ∷ ss) = turned m s.1 ((s.0, false) ∷ ss)
 
+-- the innermost section ends
 abbrev pub ended : Machine → List (Bool × Bool) → Machine
 ended m [] = m
 ended m (s ∷ ss) = turned m s.0 ss
 
--- a line that is no conditional directive
+-- a line of this kind, which is no conditional directive
+abbrev pub step_of_kind : Machine → Line → LineKind → Machine
+step_of_kind m l Text = put_out m l
+step_of_kind m l Idle = m
+step_of_kind m l Unknown = refusing m l
+
 abbrev pub plain_step : Machine → Line → Machine
-plain_step m l =
-    if is_directive l then (if is_null l then m else (if is_named ignored_names l then m else refusing m l))
-    else put_out m l
+plain_step m l = step_of_kind m l (line_kind l)
+
+-- whether a branch is taken that wants the name defined, or undefined
+abbrev pub is_taken : Macros → Bool → List ℕ → Bool
+is_taken macros wanted name = if wanted then is_some (macros name) else not (is_some (macros name))
 
 abbrev pub step_by : Macros → Machine → Line → Option Conditional → Machine
 step_by macros m l None = plain_step m l
 step_by macros m l (Some If) = opened (refusing m l) false
-step_by macros m l (Some Ifdef) = opened_by_name m l (λ name. is_some (macros name)) (operand_of l)
-step_by macros m l (Some Ifndef) = opened_by_name m l (λ name. not (is_some (macros name))) (operand_of l)
+step_by macros m l (Some Ifdef) = opened_by_name m l (is_taken macros true) (operand_of l)
+step_by macros m l (Some Ifndef) = opened_by_name m l (is_taken macros false) (operand_of l)
 step_by macros m l (Some Elif) = refusing (next_branch m m.sections) l
 step_by macros m l (Some Else) = next_branch m m.sections
 step_by macros m l (Some Endif) = ended m m.sections

@@ -4,11 +4,11 @@ ghost use Rattle.sc_lex.specs.Seen.{IsHeld, seen, text_at};
 ghost use Rattle.sc_lines.specs.Split.{conditional_at};
 ghost use Rattle.sc_model.specs.Pre.{operand_of};
 ghost use Rattle.sc_model.specs.Sets.{IsCond, Denotes, Keeps};
-ghost use Rattle.sc_model.specs.Space.{arities_of};
+ghost use Rattle.sc_model.specs.Space.{arities_of, initial_macros};
 ghost use Rattle.sc_space.specs.Seen.{seen_space};
-ghost use Rattle.sc_core.specs.Machine.{plain_step, opened_by_name, refusing, opened};
+ghost use Rattle.sc_core.specs.Machine.{is_taken, plain_step, opened_by_name, refusing, opened};
 ghost use Rattle.sc_core.specs.Mirrors.{Owns, Advances, walks};
-ghost use Rattle.sc_core.specs.LineKind.{line_kind, is_taken};
+ghost use Rattle.sc_core.specs.LineKind.{line_kind};
 ghost use Rattle.sc_core.specs.Printable.{StaysPrintable};
 
 use crate::defined::defined;
@@ -111,7 +111,7 @@ fn named_section<C: Conditions>(
     requires line { 0 < length line.now }
     ensures printable { OnOk result (StaysPrintable names.now line.now walk.old walk.new) }
     ensures moved { OnOk result (Advances names.now (C.sets conds.old) walk.old (C.sets conds.new) walk.new
-        (λ files config m. opened_by_name m (map (seen names.now files) line.now) (is_taken (seen_space space.now) config wanted) (operand_of (map (seen names.now files) line.now)))) }
+        (λ files config m. opened_by_name m (map (seen names.now files) line.now) (is_taken (initial_macros (seen_space space.now) config) wanted) (operand_of (map (seen names.now files) line.now)))) }
     ensures keeps { Keeps (C.sets conds.old) (C.sets conds.new) }
 {
     match operand(names, line) {
@@ -133,7 +133,7 @@ fn taken<C: Conditions>(
 ) -> Result<Cond, OutOfMemory>
     requires { (C.sets conds.old).arities ≡ arities_of (seen_space space.now) }
     ensures own { IfOk result (λ r. IsCond (C.sets conds.new) r.0) }
-    ensures meaning { IfOk result (λ r. Denotes (C.sets conds.new) r.0 (λ c. is_taken (seen_space space.now) c wanted name.now)) }
+    ensures meaning { IfOk result (λ r. Denotes (C.sets conds.new) r.0 (λ c. is_taken (initial_macros (seen_space space.now) c) wanted name.now)) }
     ensures keeps { Keeps (C.sets conds.old) (C.sets conds.new) }
 {
     let found = defined(conds, space, name)?;

@@ -1,11 +1,11 @@
 -- What stands at one configuration, of lists that are joined, kept or restricted.
 use Rattle.std.proofs.Common.{◌≡◌, ℕ, ◌+◌, ◌<◌, ◌&&◌, Bool, true, false, List, [], ◌∷◌, ◌++◌, All, map, take, length, get_or, refl, ap, sym, ◌∙◌, if◌then◌else◌}
 use Rattle.std.proofs.lemmas.List.{map-append, take_more}
-use Rattle.std.proofs.lemmas.List.Elements.{All-head, All-tail}
+use Rattle.std.proofs.lemmas.List.Elements.{All-nil, All-cons, All-head, All-tail}
 use Rattle.sc_base.specs.declared.fault.Fault.{Fault}
 use Rattle.sc_base.specs.declared.id.Cond.{Cond}
 use Rattle.sc_guarded.specs.Items.{items_at, faults_at}
-use Rattle.sc_model.specs.Sets.{Sets, IsConfig, IsCond, Keeps}
+use Rattle.sc_model.specs.Sets.{Sets, IsConfig, IsCond, Keeps, IsNever}
 
 -- what is made of one item, or of none
 pub map-one : {A B : Type 0} (f : A → B) (b : Bool) (x : A) → map f (if b then x ∷ [] else []) ≡ (if b then f x ∷ [] else [])
@@ -126,3 +126,22 @@ faults_at-Keeps {old} {new} (x ∷ xs) c keeps own listed =
     let P : Fault → Type 0 = λ fault. IsCond old fault.cond.0 in
     ap (λ b. if b then x ∷ faults_at new xs c else faults_at new xs c) (keeps.at x.cond.0 c (All-head P x xs own) listed)
     ∙ ap (λ r. if old.has x.cond.0 c then x ∷ r else r) (faults_at-Keeps xs c keeps (All-tail P x xs own) listed)
+
+-- faults that no configuration has stand at none
+pub faults_at-never : (s : Sets) (faults : List Fault) → All (λ (fault : Fault). IsNever s fault.cond.0) faults → (c : List ℕ) → IsConfig s.arities c → faults_at s faults c ≡ []
+faults_at-never s [] never c listed = refl
+faults_at-never s (x ∷ xs) never c listed =
+    let P : Fault → Type 0 = λ fault. IsNever s fault.cond.0 in
+    ap (λ b. if b then x ∷ faults_at s xs c else faults_at s xs c) ((All-head P x xs never).none c listed) ∙ faults_at-never s xs (All-tail P x xs never) c listed
+
+-- and faults that stand at none are those that no configuration has
+pub never-faults_at : (s : Sets) (faults : List Fault) → ((c : List ℕ) → IsConfig s.arities c → faults_at s faults c ≡ []) → All (λ (fault : Fault). IsNever s fault.cond.0) faults
+never-faults_at s [] none = All-nil (λ (fault : Fault). IsNever s fault.cond.0)
+never-faults_at s (x ∷ xs) none =
+    All-cons (λ (fault : Fault). IsNever s fault.cond.0) x xs
+    (record { none = λ c listed. (by (s.has x.cond.0 c) (faults_at s xs c) (none c listed)).0 })
+    (never-faults_at s xs (λ c listed. (by (s.has x.cond.0 c) (faults_at s xs c) (none c listed)).1))
+  where
+    by : (b : Bool) (rest : List Fault) → (if b then x ∷ rest else rest) ≡ [] → (b ≡ false) × (rest ≡ [])
+    by true rest e = absurd (cc)
+    by false rest e = (refl, e)

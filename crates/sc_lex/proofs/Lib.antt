@@ -5,6 +5,7 @@ pub mod Lines
 pub mod Names
 pub mod Punctuators
 pub mod Quotes
+pub mod SeenLemmas
 pub mod Sources
 pub mod Spells
 pub mod UnclosedLemmas

@@ -5,8 +5,9 @@ use Rattle.std.specs.Prelude.{All}
 use Rattle.sc_core.specs.Printable.{IsOfFile, ArePrintable}
 use Rattle.sc_core.proofs.Printing.{tokens-of_file, mirrors-few}
 use Rattle.sc_model.proofs.SetLemmas.{IsConfig-kept}
-use Rattle.sc_core.proofs.FileWalk.{held, tokens-seen, place-seen, refused-ordinary, walk-ordinary}
+use Rattle.sc_core.proofs.FileWalk.{refused-ordinary, walk-ordinary}
 use Rattle.sc_core.proofs.main_file.preprocess_bytes.Goals as goal
+use Rattle.sc_lex.proofs.SeenLemmas.{held, tokens-seen, place-seen}
 use Rattle.sc_lex.specs.declared.token.Token.{Token}
 use Rattle.sc_lex.specs.Seen.{seen_place}
 use Rattle.sc_lex.specs.Spell as lex
@@ -68,9 +69,9 @@ returns-clause-ordinary g c = λ files outside main config named there listed.
     ∙ ap lines_of (tokens-seen names files c.args.file main c.args.bytes.now c.in-Ok.tokens.items are named) in
     walk-ordinary (g.C.Conditions.sets c.walk_file.new.conds) names files (seen_space c.args.space.now) outside main config c.args.bytes.now are.lexemes group.0
     there (λ big. omega (arith, big)) are.lexed (nested group.0 (subst (λ ls. IsTree ls group.0) lines_are group.1))
-    (record { list = c.in_ok-walk.walk.list; faults = c.in_ok-walk.walk.faults }) c.in_ok-walk.walk (seen_lines names files c.deref-2.result.now)
+    c.in_ok-walk.walk (seen_lines names files c.deref-2.result.now)
     (subst (λ (ts : List Token). IsTree (seen_lines names files ts) group.0) (c.deref.ensures.value ∙ sym c.deref-2.ensures.value) group.1)
-    (c.in_ok-walk.ensures.walked files config listed) refl refl
+    (c.in_ok-walk.ensures.walked files config listed)
 
 pub returns-in-Err-Comment-clause-printable : goal.returns-in-Err-Comment-clause-printable
 returns-in-Err-Comment-clause-printable g c =

@@ -5,7 +5,8 @@ use Rattle.sc_core.specs.Machine.{put_out}
 use Rattle.sc_core.specs.Mirrors.{Advances}
 use Rattle.sc_core.specs.Printable.{ArePrintable}
 use Rattle.sc_core.proofs.Printing.{puts-printable}
-use Rattle.sc_core.proofs.WalkMoves.{under, puts}
+use Rattle.sc_core.proofs.WalkMoves.{puts}
+use Rattle.sc_guarded.proofs.ItemLemmas.{under}
 use Rattle.sc_lex.specs.Seen.{seen}
 use Rattle.sc_core.proofs.moves.put.Goals as goal
 

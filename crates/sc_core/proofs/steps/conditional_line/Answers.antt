@@ -3,9 +3,9 @@ use Rattle.std.proofs.lemmas.Result.{on_ok_weaker}
 use Rattle.sc_lex.specs.Seen.{seen}
 use Rattle.sc_model.specs.declared.conditional.Conditional.TheVariants.{If, Ifdef, Ifndef, Elif, Else, Endif}
 use Rattle.sc_model.specs.Pre.{operand_of}
+use Rattle.sc_model.specs.Space.{initial_macros}
 use Rattle.sc_space.specs.Seen.{seen_space}
-use Rattle.sc_core.specs.LineKind.{is_taken}
-use Rattle.sc_core.specs.Machine.{opened, opened_by_name, refusing, next_branch, ended}
+use Rattle.sc_core.specs.Machine.{is_taken, opened, opened_by_name, refusing, next_branch, ended}
 use Rattle.sc_core.specs.Mirrors.{walks}
 use Rattle.sc_core.proofs.LineSteps.{walks-is}
 use Rattle.sc_core.proofs.WalkMoves.{advances-then, advances-as}
@@ -22,13 +22,13 @@ returns-in-If-clause-steps g c = on_ok_weaker c.refused_section.result (λ moved
 
 pub returns-in-Ifdef-clause-steps : goal.returns-in-Ifdef-clause-steps
 returns-in-Ifdef-clause-steps g c = on_ok_weaker c.named_section.result
-    (advances-as (λ files config m. opened_by_name m (map (seen c.args.names.now files) c.args.line.now) (is_taken (seen_space c.args.space.now) config true) (operand_of (map (seen c.args.names.now files) c.args.line.now))) (walks (seen_space c.args.space.now) c.args.names.now c.args.line.now)
+    (advances-as (λ files config m. opened_by_name m (map (seen c.args.names.now files) c.args.line.now) (is_taken (initial_macros (seen_space c.args.space.now) config) true) (operand_of (map (seen c.args.names.now files) c.args.line.now))) (walks (seen_space c.args.space.now) c.args.names.now c.args.line.now)
     (λ files config m. walks-is (seen_space c.args.space.now) c.args.names.now c.args.line.now files config m (Some c.args.conditional) (Some Ifdef) c.requires.directive (ap Some c.in-Ifdef.is)))
     c.named_section.ensures.moved
 
 pub returns-in-Ifndef-clause-steps : goal.returns-in-Ifndef-clause-steps
 returns-in-Ifndef-clause-steps g c = on_ok_weaker c.named_section-in-Ifndef.result
-    (advances-as (λ files config m. opened_by_name m (map (seen c.args.names.now files) c.args.line.now) (is_taken (seen_space c.args.space.now) config false) (operand_of (map (seen c.args.names.now files) c.args.line.now))) (walks (seen_space c.args.space.now) c.args.names.now c.args.line.now)
+    (advances-as (λ files config m. opened_by_name m (map (seen c.args.names.now files) c.args.line.now) (is_taken (initial_macros (seen_space c.args.space.now) config) false) (operand_of (map (seen c.args.names.now files) c.args.line.now))) (walks (seen_space c.args.space.now) c.args.names.now c.args.line.now)
     (λ files config m. walks-is (seen_space c.args.space.now) c.args.names.now c.args.line.now files config m (Some c.args.conditional) (Some Ifndef) c.requires.directive (ap Some c.in-Ifndef.is)))
     c.named_section-in-Ifndef.ensures.moved
 

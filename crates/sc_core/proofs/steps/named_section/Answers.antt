@@ -4,9 +4,9 @@ use Rattle.std.specs.Prelude.{unwrap_or}
 use Rattle.sc_lex.specs.Seen.{seen}
 use Rattle.sc_model.proofs.SetLemmas.{Keeps-trans}
 use Rattle.sc_model.specs.Pre.{operand_of}
+use Rattle.sc_model.specs.Space.{initial_macros}
 use Rattle.sc_space.specs.Seen.{seen_space}
-use Rattle.sc_core.specs.LineKind.{is_taken}
-use Rattle.sc_core.specs.Machine.{opened, opened_by_name, refusing}
+use Rattle.sc_core.specs.Machine.{is_taken, opened, opened_by_name, refusing}
 use Rattle.sc_core.proofs.WalkMoves.{owns-kept, advances-as, advances-kept}
 use Rattle.sc_core.proofs.steps.named_section.Goals as goal
 
@@ -16,8 +16,8 @@ begin_section-requires-clause-owns g c = owns-kept c.in_ok-test-in-Some.ensures.
 pub returns-in-None-clause-moved : goal.returns-in-None-clause-moved
 returns-in-None-clause-moved g c = on_ok_weaker c.refused_section.result (λ moved.
     advances-as (λ files config m. opened (refusing m (map (seen c.args.names.now files) c.args.line.now)) false)
-    (λ files config m. opened_by_name m (map (seen c.args.names.now files) c.args.line.now) (is_taken (seen_space c.args.space.now) config c.args.wanted) (operand_of (map (seen c.args.names.now files) c.args.line.now)))
-    (λ files config m. ap (opened_by_name m (map (seen c.args.names.now files) c.args.line.now) (is_taken (seen_space c.args.space.now) config c.args.wanted)) (c.in-None.ensures.text files))
+    (λ files config m. opened_by_name m (map (seen c.args.names.now files) c.args.line.now) (is_taken (initial_macros (seen_space c.args.space.now) config) c.args.wanted) (operand_of (map (seen c.args.names.now files) c.args.line.now)))
+    (λ files config m. ap (opened_by_name m (map (seen c.args.names.now files) c.args.line.now) (is_taken (initial_macros (seen_space c.args.space.now) config) c.args.wanted)) (c.in-None.ensures.text files))
     (moved c.args.names.now)) c.refused_section.ensures.moved
 
 pub returns-in_ok-test-in-Some-clause-keeps : goal.returns-in_ok-test-in-Some-clause-keeps
@@ -27,9 +27,9 @@ pub returns-in_ok-test-in-Some-clause-moved : goal.returns-in_ok-test-in-Some-cl
 returns-in_ok-test-in-Some-clause-moved g c = on_ok_weaker c.begin_section.result (λ opens.
     let names = c.args.names.now in
     let text = c.text.result.now in
-    advances-as (λ files config m. opened m (is_taken (seen_space c.args.space.now) config c.args.wanted text))
-    (λ files config m. opened_by_name m (map (seen names files) c.args.line.now) (is_taken (seen_space c.args.space.now) config c.args.wanted) (operand_of (map (seen names files) c.args.line.now)))
-    (λ files config m. ap (opened_by_name m (map (seen names files) c.args.line.now) (is_taken (seen_space c.args.space.now) config c.args.wanted))
+    advances-as (λ files config m. opened m (is_taken (initial_macros (seen_space c.args.space.now) config) c.args.wanted text))
+    (λ files config m. opened_by_name m (map (seen names files) c.args.line.now) (is_taken (initial_macros (seen_space c.args.space.now) config) c.args.wanted) (operand_of (map (seen names files) c.args.line.now)))
+    (λ files config m. ap (opened_by_name m (map (seen names files) c.args.line.now) (is_taken (initial_macros (seen_space c.args.space.now) config) c.args.wanted))
     (ap (λ (o : Option (List ℕ)). Some (unwrap_or o [])) (sym c.text.ensures) ∙ c.in-Some.ensures.text files))
-    (advances-kept c.in_ok-test-in-Some.ensures.keeps c.requires.owns (opens names (λ config. is_taken (seen_space c.args.space.now) config c.args.wanted text) c.in_ok-test-in-Some.ensures.meaning)))
+    (advances-kept c.in_ok-test-in-Some.ensures.keeps c.requires.owns (opens names (λ config. is_taken (initial_macros (seen_space c.args.space.now) config) c.args.wanted text) c.in_ok-test-in-Some.ensures.meaning)))
     c.begin_section.ensures.opened

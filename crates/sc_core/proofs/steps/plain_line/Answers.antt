@@ -1,8 +1,8 @@
-use Rattle.std.proofs.Common.{[], map, sym, ap, ◌∙◌}
+use Rattle.std.proofs.Common.{[], map, ap}
 use Rattle.std.proofs.lemmas.Result.{on_ok_weaker}
 use Rattle.sc_lex.specs.Seen.{seen}
-use Rattle.sc_core.specs.Machine.{plain_step, put_out, refusing}
-use Rattle.sc_core.proofs.LineSteps.{step_as, plain-kind, unknown-long}
+use Rattle.sc_core.specs.Machine.{plain_step, put_out, refusing, step_of_kind}
+use Rattle.sc_core.proofs.LineSteps.{unknown-long}
 use Rattle.sc_core.proofs.WalkMoves.{advances-as}
 use Rattle.sc_core.proofs.steps.plain_line.Goals as goal
 
@@ -12,11 +12,11 @@ refuse-requires-clause-line g c = unknown-long c.args.names.now c.args.line.now 
 pub returns-in-Text-clause-moved : goal.returns-in-Text-clause-moved
 returns-in-Text-clause-moved g c = on_ok_weaker c.put.result (λ puts.
     advances-as (λ files config m. put_out m (map (seen c.args.names.now files) c.args.line.now)) (λ files config m. plain_step m (map (seen c.args.names.now files) c.args.line.now))
-    (λ files config m. let l = map (seen c.args.names.now files) c.args.line.now in sym (plain-kind m l ∙ ap (step_as m l) (sym (c.in-Text.ensures files))))
+    (λ files config m. ap (step_of_kind m (map (seen c.args.names.now files) c.args.line.now)) (c.in-Text.ensures files))
     (puts c.args.names.now (g.C.Conditions.sets c.args.conds.now) c.requires.owns)) c.put.ensures.moved
 
 pub returns-in-Unknown-clause-moved : goal.returns-in-Unknown-clause-moved
 returns-in-Unknown-clause-moved g c = on_ok_weaker c.refuse.result (λ refuses.
     advances-as (λ files config m. refusing m (map (seen c.args.names.now files) c.args.line.now)) (λ files config m. plain_step m (map (seen c.args.names.now files) c.args.line.now))
-    (λ files config m. let l = map (seen c.args.names.now files) c.args.line.now in sym (plain-kind m l ∙ ap (step_as m l) (sym (c.in-Unknown.ensures files))))
+    (λ files config m. ap (step_of_kind m (map (seen c.args.names.now files) c.args.line.now)) (c.in-Unknown.ensures files))
     (refuses c.args.names.now)) c.refuse.ensures.moved

@@ -3,14 +3,14 @@ use Rattle.std.proofs.Math.Seq.{take-length}
 use Rattle.sc_lex.specs.Seen.{seen}
 use Rattle.sc_lines.specs.declared.line.Line.{Line}
 use Rattle.sc_lines.specs.Split.{tokens_of}
-use Rattle.sc_lines.proofs.SeenLines.{lines-seen}
+use Rattle.sc_lines.proofs.SeenLines.{lines-seen, directive-at}
 use Rattle.sc_model.proofs.SetLemmas.{Keeps-refl, Keeps-trans, IsConfig-Keeps}
 use Rattle.sc_model.specs.Space.{initial_macros}
 use Rattle.sc_space.specs.Seen.{seen_space}
 use Rattle.sc_core.specs.Machine.{run, start}
 use Rattle.sc_core.specs.Mirrors.{Mirrors}
 use Rattle.sc_core.proofs.Printing.{line-printable, none-printable}
-use Rattle.sc_core.proofs.LineSteps.{directive-at, run-more}
+use Rattle.sc_core.proofs.LineSteps.{run-more}
 use Rattle.sc_core.proofs.walk_file.walk_file.Goals as goal
 
 pub loop-line-init : goal.loop-line-init

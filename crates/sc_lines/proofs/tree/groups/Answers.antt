@@ -13,14 +13,9 @@ use Rattle.sc_lines.proofs.Judging.{same_length}
 use Rattle.sc_lines.proofs.SeenLines.{conditionals-seen, fails, fault-within, fault-first, fault-tree}
 use Rattle.sc_model.specs.Lines as model
 use Rattle.sc_lines.proofs.tree.groups.Goals as goal
-use Rattle.sc_lines.proofs.tree.groups.Goals.{In_ok-fault_line, In-None, In-Some}
-
--- how the nesting of the lines was judged
-judged : (c : In_ok-fault_line) → (ms : List model.Line) → map model.conditional_of ms ≡ map (λ l. l.conditional) c.in_ok-lines.lines.items → Judges ms c.in_ok-fault_line.field-0
-judged c ms same = c.in_ok-fault_line.ensures ms (same ∙ ap (map (λ (l : Line). l.conditional)) (sym c.deref.ensures.value))
+use Rattle.sc_lines.proofs.tree.groups.Goals.{In-None, In-Some}
 
 failed : (c : In-Some) → (files : List (List ℕ)) → FailsAt (seen_lines c.args.names.now files c.args.tokens.now) c.in-Some.at
-unfolding judged
 failed c = fails c.args.names.now c.args.tokens.now c.in_ok-lines.lines.items c.in_ok-fault_line.field-0 c.in-Some.at c.in_ok-lines.ensures c.in-Some.is
     (λ ms same. c.in_ok-fault_line.ensures ms (same ∙ ap (map (λ (l : Line). l.conditional)) (sym c.deref.ensures.value)))
 
@@ -33,7 +28,6 @@ place_of-requires c =
     fault-first c.args.names.now c.args.tokens.now c.in_ok-lines.lines.items c.in_ok-lines.ensures c.in-Some.at (failed (goal.at.place_of-requires c).In-Some) c.index.result.now c.index.ensures
 
 nested : (c : In-None) → (files : List (List ℕ)) → (group : model.Group) × model.IsTree (seen_lines c.args.names.now files c.args.tokens.now) group
-unfolding judged
 nested c files =
     let seen = seen_lines c.args.names.now files c.args.tokens.now in
     subst (Judges seen) c.in-None.is
