@@ -1,10 +1,7 @@
 -- That the walk of a file's lines is the ordinary one.
-use Rattle.std.proofs.Common.{◌≡◌, ℕ, ◌<◌, List, [], ◌∷◌, ◌++◌, map, drop, Option, Some, None, Ok, Err, refl, sym, ap, ◌∙◌}
-use Rattle.std.proofs.lemmas.List.Elements.{All-head, All-tail, All-nil, All-cons}
-use Rattle.std.specs.Option.{option_map, option_to_list}
-use Rattle.std.specs.Prelude.{All, length, slice_get, unwrap_or}
-use Rattle.sc_base.specs.declared.id.FileId.{FileId}
-use Rattle.sc_base.specs.declared.place.Place as declared_place
+use Rattle.std.proofs.Common.{◌≡◌, ℕ, ◌<◌, List, [], ◌++◌, map, Option, Some, None, Ok, Err, refl, sym, ap, ◌∙◌}
+use Rattle.std.specs.Option.{option_to_list}
+use Rattle.std.specs.Prelude.{length}
 use Rattle.sc_core.specs.declared.walk.Walk.{Walk}
 use Rattle.sc_core.specs.Machine.{run, start}
 use Rattle.sc_core.specs.Mirrors.{Mirrors}
@@ -12,17 +9,14 @@ use Rattle.sc_core.specs.Preprocesses.{IsOrdinary, IsRefused}
 use Rattle.sc_core.proofs.Machine.{Ends, finishes, stops, follows}
 use Rattle.sc_guarded.specs.declared.expanded.Expanded.{Expanded}
 use Rattle.sc_guarded.specs.Items.{items_at, faults_at, seen_fault}
-use Rattle.sc_lex.specs.declared.token.Token as base
-use Rattle.sc_lex.specs.Seen.{text_at, seen, seen_place, IsHeld}
-use Rattle.sc_lex.specs.Spell as spell
-use Rattle.sc_lex.specs.Spell.{position_of, lexeme_at, Spell, AreTokensOf}
+use Rattle.sc_lex.specs.Seen.{seen}
 use Rattle.sc_model.specs.Lex.{Lexed}
 use Rattle.sc_model.specs.Lines.{lines_of, Group, IsTree, Tree}
 use Rattle.sc_model.specs.Outside.{Files}
 use Rattle.sc_model.specs.Pre.{Fault, State, Walks, Closes, closed, unexpanded, Enters, stopped, walked, largest_file, initial_state, Pre}
 use Rattle.sc_model.specs.Sets.{Sets}
 use Rattle.sc_model.specs.Space.{Space, initial_macros}
-use Rattle.sc_model.specs.Token.{Lexeme, Token, in_file, name_of}
+use Rattle.sc_model.specs.Token.{Lexeme, Token, in_file}
 
 -- what stands at a configuration that is refused
 pub refused-ordinary : (s : Sets) (names files : List (List ℕ)) (p : Expanded) (space : Space) (outside : Files) (main config : List ℕ) (fault : Fault)
@@ -66,8 +60,8 @@ module _ (s : Sets) (names files : List (List ℕ)) (space : Space) (outside : F
   -- a walk that mirrors the machine on the group's lines
   pub walk-ordinary : (walk : Walk) (lines : List (List Token)) → IsTree lines group
       → Mirrors s names files walk config (run (initial_macros space config) start lines)
-      → IsOrdinary s names files (record { list = walk.list; faults = walk.faults }) (Pre space outside main config) config
+      → IsOrdinary s names files walk.expanded (Pre space outside main config) config
   walk-ordinary walk lines is_tree mirrors =
       let f = follows (initial_macros space config) group is_tree.grouped in
       let ran = ap (run (initial_macros space config) start) (sym is_tree.whole) ∙ f.machine [] [] in
-      ends_ordinary (record { list = walk.list; faults = walk.faults }) f.tokens f.fault f.ends (mirrors.output ∙ ap (λ m. m.output) ran) (mirrors.fault ∙ ap (λ m. option_to_list m.fault) ran)
+      ends_ordinary walk.expanded f.tokens f.fault f.ends (mirrors.output ∙ ap (λ m. m.output) ran) (mirrors.fault ∙ ap (λ m. option_to_list m.fault) ran)

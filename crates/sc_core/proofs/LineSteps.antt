@@ -1,22 +1,17 @@
 -- How the machine of one configuration takes a line.
-use Rattle.std.proofs.Common.{◌≡◌, ℕ, ◌+◌, take, ◌<◌, true, false, List, [], ◌∷◌, length, map, Option, get_or, refl, sym, ap, ◌∙◌, arith}
+use Rattle.std.proofs.Common.{◌≡◌, ℕ, ◌+◌, take, ◌<◌, List, [], ◌∷◌, length, map, Option, get_or, sym, ap, ◌∙◌, arith}
 use Rattle.std.proofs.lemmas.List.{take_more, map-append}
-use Rattle.std.proofs.lemmas.Simd.{map-map}
-use Rattle.std.specs.Prelude.{if◌then◌else◌}
-use Rattle.sc_core.specs.declared.line_kind.LineKind.{LineKind}
-use Rattle.sc_core.specs.declared.line_kind.LineKind.TheVariants.{Text, Idle, Unknown}
+use Rattle.sc_core.specs.declared.line_kind.LineKind.TheVariants.{Unknown}
 use Rattle.sc_core.specs.LineKind.{line_kind}
-use Rattle.sc_core.specs.Machine.{Machine, plain_step, put_out, refusing, step_by, step, run}
+use Rattle.sc_core.specs.Machine.{Machine, step_by, step, run}
 use Rattle.sc_core.specs.Mirrors.{walks}
 use Rattle.sc_lex.specs.declared.token.Token.{Token}
 use Rattle.sc_lex.specs.Seen.{seen}
 use Rattle.sc_core.proofs.Machine.{run-append}
-use Rattle.sc_lines.specs.declared.line.Line as declared_line
 use Rattle.sc_lines.specs.Split.{conditional_at}
 use Rattle.sc_lines.proofs.SeenLines.{conditional-files}
 use Rattle.sc_model.specs.declared.conditional.Conditional.{Conditional}
-use Rattle.sc_model.specs.Lines.{Line, is_directive, conditional_of}
-use Rattle.sc_model.specs.Pre.{is_null, is_named, ignored_names}
+use Rattle.sc_model.specs.Lines.{Line}
 use Rattle.sc_model.specs.Space.{Space, Macros, initial_macros}
 
 -- a line that is refused has a first token

@@ -30,12 +30,12 @@ use Rattle.sc_show.specs.Shows.{IsShowable, IsShowableFault, AreApart}
 
 module _ (names : List (List ℕ)) (file : FileId) where
   -- a line that is put out
-  pub puts-printable : (list : List (Cond × Token)) (faults : List base.Fault) (live : Cond) (ts : List Token) → All (IsPrintable names file) ts
-      → ArePrintable names file list faults → ArePrintable names file (list ++ under live ts) faults
-  puts-printable list faults live ts all old = record {
+  pub puts-printable : (p : Expanded) (live : Cond) (ts : List Token) → All (IsPrintable names file) ts
+      → ArePrintable names file p → ArePrintable names file (record p { list = p.list ++ under live ts })
+  puts-printable p live ts all old = record {
     tokens =
         let P : Cond × Token → Type 0 = λ item. IsPrintable names file item.1 in
-        All-append P list (under live ts) old.tokens (All-map P (λ t. (live, t)) ts all);
+        All-append P p.list (under live ts) old.tokens (All-map P (λ t. (live, t)) ts all);
     faults = old.faults;
   }
 
@@ -66,8 +66,8 @@ module _ (names : List (List ℕ)) (file : FileId) where
       (All-get_or (All (IsPrintable names file)) (map (tokens_of tokens) lines) i [] long
       (subst (All (All (IsPrintable names file))) (sym are.tokens_are) (lines-printable tokens all)))
 
-  pub none-printable : (list : List (Cond × Token)) (faults : List base.Fault) → list ≡ [] → faults ≡ [] → ArePrintable names file list faults
-  none-printable list faults no_list no_faults = record {
+  pub none-printable : (p : Expanded) → p.list ≡ [] → p.faults.items ≡ [] → ArePrintable names file p
+  none-printable p no_list no_faults = record {
     tokens = subst (All (λ (item : Cond × Token). IsPrintable names file item.1)) (sym no_list) (All-nil (λ (item : Cond × Token). IsPrintable names file item.1));
     faults = subst (All (λ (f : base.Fault). f.place.file ≡ file)) (sym no_faults) (All-nil (λ (f : base.Fault). f.place.file ≡ file));
   }
@@ -125,7 +125,7 @@ module _ (s : Sets) (names files : List (List ℕ)) (file : FileId) (there : fil
       (faults-showable fs (All-tail (λ (f : base.Fault). IsCond s f.cond.0) f fs own) (All-tail (λ (f : base.Fault). f.place.file ≡ file) f fs placed))
 
   -- all that stands in a file of the table can be shown
-  pub all-shown : (p : Expanded) → OwnsList s p → ArePrintable names file p.list p.faults.items → AreApart s p.faults.items → CanBeShown s names files p
+  pub all-shown : (p : Expanded) → OwnsList s p → ArePrintable names file p → AreApart s p.faults.items → CanBeShown s names files p
   all-shown p owns printable apart = record {
     list = tokens-showable p.list owns.list printable.tokens;
     faults = faults-showable p.faults.items owns.faults printable.faults;

@@ -5,7 +5,7 @@ use Rattle.std.proofs.lemmas.Bool.Decides.{nat_tests}
 use Rattle.std.proofs.lemmas.Simd.{map-map}
 use Rattle.std.proofs.lemmas.List.{length-map, nil_from_length}
 use Rattle.std.specs.List.{list_all, list_any}
-use Rattle.std.specs.Prelude.{All, nat_le, ◌||◌, if◌then◌else◌}
+use Rattle.std.specs.Prelude.{All, nat_le, ◌||◌}
 use Rattle.sc_args.specs.Words.{is_file_name}
 use Rattle.sc_base.specs.declared.fault.Fault as base
 use Rattle.sc_core.specs.declared.text.Text.{Text}

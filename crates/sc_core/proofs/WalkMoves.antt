@@ -39,8 +39,10 @@ module _ {old new : Sets} (keeps : Keeps old new) where
     accepted = keeps.own w.accepted.0 o.accepted;
     live = keeps.own w.live.0 o.live;
     sections = All-weaker (OwnsSection old) (OwnsSection new) section-kept w.sections.items o.sections;
-    list = All-weaker (λ (item : Cond × Token). IsCond old item.0.0) (λ (item : Cond × Token). IsCond new item.0.0) (λ item own. keeps.own item.0.0 own) w.list o.list;
-    faults = All-weaker (λ (f : base.Fault). IsCond old f.cond.0) (λ (f : base.Fault). IsCond new f.cond.0) (λ f own. keeps.own f.cond.0 own) w.faults.items o.faults;
+    expanded = record {
+      list = All-weaker (λ (item : Cond × Token). IsCond old item.0.0) (λ (item : Cond × Token). IsCond new item.0.0) (λ item own. keeps.own item.0.0 own) w.expanded.list o.expanded.list;
+      faults = All-weaker (λ (f : base.Fault). IsCond old f.cond.0) (λ (f : base.Fault). IsCond new f.cond.0) (λ f own. keeps.own f.cond.0 own) w.expanded.faults.items o.expanded.faults;
+    };
   }
 
   module _ (config : List ℕ) (listed : IsConfig old.arities config) where
@@ -62,8 +64,8 @@ module _ {old new : Sets} (keeps : Keeps old new) where
     accepted = keeps.at w.accepted.0 config owns.accepted listed ∙ mirrors.accepted;
     live = keeps.at w.live.0 config owns.live listed ∙ mirrors.live;
     sections = sections-kept config listed w.sections.items owns.sections ∙ mirrors.sections;
-    output = ap (map (seen names files)) (items_at-Keeps w.list config keeps owns.list listed) ∙ mirrors.output;
-    fault = ap (map (seen_fault files)) (faults_at-Keeps w.faults.items config keeps owns.faults listed) ∙ mirrors.fault;
+    output = ap (map (seen names files)) (items_at-Keeps w.expanded.list config keeps owns.expanded.list listed) ∙ mirrors.output;
+    fault = ap (map (seen_fault files)) (faults_at-Keeps w.expanded.faults.items config keeps owns.expanded.faults listed) ∙ mirrors.fault;
   }
 
 -- ---- a section begins
@@ -82,8 +84,7 @@ begins names {old} {new} keeps w owns t group untaken live sections items dg du 
         accepted = kept.accepted;
         live = dl.own;
         sections = subst (All (OwnsSection new)) (sym items) (All-push (OwnsSection new) w.sections.items (record { around = w.group; untaken = untaken }) kept.sections (record { around = kept.group; untaken = du.own }));
-        list = kept.list;
-        faults = kept.faults;
+        expanded = kept.expanded;
       };
       at = λ files config m listed mirrors.
           let now : IsConfig new.arities config = IsConfig-Keeps keeps listed in
@@ -126,7 +127,7 @@ module _ {old new : Sets} (keeps : Keeps old new) (w : Walk) (owns : Owns old w)
   turns names group live sections own dl owned next is =
       let kept = owns-kept keeps w owns in
       record {
-        owns = record { group = keeps.own group.0 own; accepted = kept.accepted; live = dl.own; sections = owned; list = kept.list; faults = kept.faults };
+        owns = record { group = keeps.own group.0 own; accepted = kept.accepted; live = dl.own; sections = owned; expanded = kept.expanded };
         at = λ files config m listed mirrors.
             let same = mirrors-kept keeps w owns names files config m listed mirrors in
             subst (Mirrors new names files (record w { group = group; live = live; sections = sections }) config) (is files config m listed mirrors)
@@ -191,10 +192,11 @@ fault_after false None x = refl
 fault_after false (Some y) x = refl
 
 pub refuses : (names : List (List ℕ)) {old new : Sets} (keeps : Keeps old new) (w : Walk) (owns : Owns old w) (token : Token) (tokens : List Token) (fault : base.Fault) (accepted never : Cond) (faults : Vec base.Fault Global)
-    → fault ≡ record { cond = w.live; cause = BadDirective; place = token.place } → faults.items ≡ w.faults.items ++ fault ∷ []
+    → fault ≡ record { cond = w.live; cause = BadDirective; place = token.place } → faults.items ≡ w.expanded.faults.items ++ fault ∷ []
     → Denotes new accepted.0 (λ c. old.has w.accepted.0 c && not (old.has w.live.0 c)) → Denotes new never.0 (λ _. false)
-    → Advances names old w new (record w { accepted = accepted; live = never; faults = faults }) (λ files config m. refusing m (map (seen names files) (token ∷ tokens)))
+    → Advances names old w new (record w { accepted = accepted; live = never; expanded = record w.expanded { faults = faults } }) (λ files config m. refusing m (map (seen names files) (token ∷ tokens)))
 refuses names {old} {new} keeps w owns token tokens fault accepted never faults is items da dn =
+    let IsOwn : base.Fault → Type 0 = λ f. IsCond new f.cond.0 in
     let kept = owns-kept keeps w owns in
     record {
       owns = record {
@@ -202,8 +204,10 @@ refuses names {old} {new} keeps w owns token tokens fault accepted never faults 
         accepted = da.own;
         live = dn.own;
         sections = kept.sections;
-        list = kept.list;
-        faults = subst (All (λ (f : base.Fault). IsCond new f.cond.0)) (sym items) (All-push (λ (f : base.Fault). IsCond new f.cond.0) w.faults.items fault kept.faults (subst (λ (f : base.Fault). IsCond new f.cond.0) (sym is) kept.live));
+        expanded = record {
+          list = kept.expanded.list;
+          faults = subst (All IsOwn) (sym items) (All-push IsOwn w.expanded.faults.items fault kept.expanded.faults (subst IsOwn (sym is) kept.live));
+        };
       };
       at = λ files config m listed mirrors.
           let now : IsConfig new.arities config = IsConfig-Keeps keeps listed in
@@ -217,9 +221,9 @@ refuses names {old} {new} keeps w owns token tokens fault accepted never faults 
             sections = same.sections;
             output = same.output;
             fault =
-                ap (λ fs. map (seen_fault files) (faults_at new fs config)) (items ∙ ap (λ f. w.faults.items ++ f ∷ []) is)
-                ∙ (ap (map (seen_fault files)) (faults_at-append new w.faults.items (own ∷ []) config)
-                ∙ (map-append (seen_fault files) (faults_at new w.faults.items config) (faults_at new (own ∷ []) config)
+                ap (λ fs. map (seen_fault files) (faults_at new fs config)) (items ∙ ap (λ f. w.expanded.faults.items ++ f ∷ []) is)
+                ∙ (ap (map (seen_fault files)) (faults_at-append new w.expanded.faults.items (own ∷ []) config)
+                ∙ (map-append (seen_fault files) (faults_at new w.expanded.faults.items config) (faults_at new (own ∷ []) config)
                 ∙ (ap (λ fs. fs ++ map (seen_fault files) (faults_at new (own ∷ []) config)) same.fault
                 ∙ (ap (λ fs. option_to_list m.fault ++ fs) (map-one (seen_fault files) (new.has w.live.0 config) own ∙ ap (λ b. if b then seen_fault files own ∷ [] else []) same.live)
                 ∙ fault_after m.active m.fault x))));
@@ -232,8 +236,8 @@ chosen_end : {A B : Type 0} (f : A → B) (b : Bool) (xs ys : List A) → map f 
 chosen_end f true xs ys = map-append f xs ys
 chosen_end f false xs ys = ap (map f) (append-nil xs)
 
-pub puts : (names : List (List ℕ)) (s : Sets) (w : Walk) (owns : Owns s w) (tokens : List Token) (list : List (Cond × Token)) → list ≡ w.list ++ under w.live tokens
-    → Advances names s w s (record w { list = list }) (λ files config m. put_out m (map (seen names files) tokens))
+pub puts : (names : List (List ℕ)) (s : Sets) (w : Walk) (owns : Owns s w) (tokens : List Token) (list : List (Cond × Token)) → list ≡ w.expanded.list ++ under w.live tokens
+    → Advances names s w s (record w { expanded = record w.expanded { list = list } }) (λ files config m. put_out m (map (seen names files) tokens))
 puts names s w owns tokens list is =
     let IsOwn : Cond × Token → Type 0 = λ item. IsCond s item.0.0 in
     record {
@@ -242,8 +246,10 @@ puts names s w owns tokens list is =
         accepted = owns.accepted;
         live = owns.live;
         sections = owns.sections;
-        list = subst (All IsOwn) (sym is) (All-append IsOwn w.list (under w.live tokens) owns.list (All-map IsOwn (λ t. (w.live, t)) tokens (λ k d h. owns.live)));
-        faults = owns.faults;
+        expanded = record {
+          list = subst (All IsOwn) (sym is) (All-append IsOwn w.expanded.list (under w.live tokens) owns.expanded.list (All-map IsOwn (λ t. (w.live, t)) tokens (λ k d h. owns.live)));
+          faults = owns.expanded.faults;
+        };
       };
       at = λ files config m listed mirrors. record {
         active = mirrors.active;
@@ -252,8 +258,8 @@ puts names s w owns tokens list is =
         sections = mirrors.sections;
         output =
             ap (λ xs. map (seen names files) (items_at s xs config)) is
-            ∙ (ap (map (seen names files)) (items_at-append s w.list (under w.live tokens) config ∙ ap (λ xs. items_at s w.list config ++ xs) (items_at-under s w.live tokens config ∙ ap (λ b. if b then tokens else []) mirrors.live))
-            ∙ (chosen_end (seen names files) (acts m) (items_at s w.list config) tokens
+            ∙ (ap (map (seen names files)) (items_at-append s w.expanded.list (under w.live tokens) config ∙ ap (λ xs. items_at s w.expanded.list config ++ xs) (items_at-under s w.live tokens config ∙ ap (λ b. if b then tokens else []) mirrors.live))
+            ∙ (chosen_end (seen names files) (acts m) (items_at s w.expanded.list config) tokens
             ∙ ap (λ xs. if acts m then xs ++ map (seen names files) tokens else xs) mirrors.output));
         fault = mirrors.fault;
       };

@@ -1,11 +1,10 @@
 -- That a text is written line by line.
-use Rattle.std.proofs.Common.{◌≡◌, ℕ, zero, suc, ◌<◌, ◌==◌, false, List, [], ◌∷◌, ◌++◌, map, length, take, drop, get_or, Option, Some, None, arith, refl, sym, ap, ◌∙◌, subst, append-nil, append_assoc}
+use Rattle.std.proofs.Common.{◌≡◌, ℕ, zero, suc, ◌<◌, ◌==◌, false, List, [], ◌∷◌, ◌++◌, map, length, take, drop, get_or, Option, Some, None, arith, sym, ap, ◌∙◌, subst, append_assoc}
 use Rattle.std.proofs.lemmas.List.{map-append}
 use Rattle.std.proofs.lemmas.Bool.Decides.{nat_tests}
 use Rattle.std.specs.Prelude.{if◌then◌else◌}
-use Rattle.sc_model.specs.Outside.{Write, Writes, WritesPart, whole_write}
+use Rattle.sc_model.specs.Outside.{Write, Writes, whole_write}
 use Rattle.sc_show.specs.Pieces.{byte_before, split_lines_after}
-use Rattle.sc_source.specs.Sink.{WritesCut}
 
 is_not : (x : ℕ) → (x ≡ 10 → ⊥) → (x == 10) ≡ false
 is_not x other = grind (arith, nat_tests)

@@ -4,6 +4,7 @@ use Rattle.std.specs.Option.{option_to_list}
 use Rattle.sc_core.specs.declared.walk.Section.{Section}
 use Rattle.sc_core.specs.declared.walk.Walk.{Walk}
 use Rattle.sc_core.specs.Machine.{Machine, acts, step}
+use Rattle.sc_core.specs.Preprocesses.{OwnsList}
 use Rattle.sc_guarded.specs.Items.{items_at, faults_at, seen_fault}
 use Rattle.sc_lex.specs.declared.token.Token.{Token}
 use Rattle.sc_lex.specs.Seen.{seen}
@@ -19,8 +20,8 @@ pub record Mirrors (s : Sets) (names files : List (List ℕ)) (walk : Walk) (con
   pub accepted : s.has walk.accepted.0 config ≡ is_none m.fault
   pub live : s.has walk.live.0 config ≡ acts m
   pub sections : map (section_at s config) (reverse walk.sections.items) ≡ m.sections
-  pub output : map (seen names files) (items_at s walk.list config) ≡ m.output
-  pub fault : map (seen_fault files) (faults_at s walk.faults.items config) ≡ option_to_list m.fault
+  pub output : map (seen names files) (items_at s walk.expanded.list config) ≡ m.output
+  pub fault : map (seen_fault files) (faults_at s walk.expanded.faults.items config) ≡ option_to_list m.fault
 
 pub record OwnsSection (s : Sets) (section : Section) : Type 0 where
   pub around : IsCond s section.around.0
@@ -32,8 +33,7 @@ pub record Owns (s : Sets) (walk : Walk) : Type 0 where
   pub accepted : IsCond s walk.accepted.0
   pub live : IsCond s walk.live.0
   pub sections : All (OwnsSection s) walk.sections.items
-  pub list : All (λ item. IsCond s item.0.0) walk.list
-  pub faults : All (λ f. IsCond s f.cond.0) walk.faults.items
+  pub expanded : OwnsList s walk.expanded
 
 -- From one walk to the next, at each configuration the machine does this, whatever the names of files are.
 pub record Advances (names : List (List ℕ)) (old : Sets) (walk : Walk) (new : Sets) (next : Walk) (does : List (List ℕ) → List ℕ → Machine → Machine) : Type 0 where

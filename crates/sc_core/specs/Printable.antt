@@ -25,14 +25,14 @@ pub record IsOfFile (names : List (List ℕ)) (file : FileId) (t : Token) : Type
   pub plain : (is_newline t.kind || is_plain (text_at names t.spelling.0)) ≡ true
 
 -- what was put out is printable, and the faults are in the file
-pub record ArePrintable (names : List (List ℕ)) (file : FileId) (list : List (Cond × Token)) (refused : List base.Fault) : Type 0 where
-  pub tokens : All (λ (item : Cond × Token). IsPrintable names file item.1) list
-  pub faults : All (λ (f : base.Fault). f.place.file ≡ file) refused
+pub record ArePrintable (names : List (List ℕ)) (file : FileId) (p : Expanded) : Type 0 where
+  pub tokens : All (λ (item : Cond × Token). IsPrintable names file item.1) p.list
+  pub faults : All (λ (f : base.Fault). f.place.file ≡ file) p.faults.items
 
 -- from one walk to the next only tokens of the line are put out, and faults of its file
 abbrev pub StaysPrintable : List (List ℕ) → List Token → Walk → Walk → Type 0
 StaysPrintable names line old new = (file : FileId) → All (IsPrintable names file) line
-    → ArePrintable names file old.list old.faults.items → ArePrintable names file new.list new.faults.items
+    → ArePrintable names file old.expanded → ArePrintable names file new.expanded
 
 -- all of it can be shown
 pub record CanBeShown (s : Sets) (names files : List (List ℕ)) (p : Expanded) : Type 0 where

@@ -74,7 +74,7 @@ fn preprocess_bytes<C: Conditions>(
         → slice_get files file.0 ≡ Some main → outside main ≡ Some bytes.now → IsConfig (C.sets conds.old).arities config
         → IsOrdinary (C.sets conds.new) names.new files p (Pre (seen_space space.now) outside main config) config) }
     ensures owns { IfOk result (OwnsList (C.sets conds.new)) }
-    ensures printable { IfOk result (λ p. ArePrintable names.new file p.list p.faults.items) }
+    ensures printable { IfOk result (λ p. ArePrintable names.new file p) }
     ensures apart { IfOk result (λ p. AreApart (C.sets conds.new) p.faults.items) }
 
     // at every outcome
@@ -97,10 +97,7 @@ fn preprocess_bytes<C: Conditions>(
         Err(NestStop::OutOfMemory) => return Err(OutOfMemory),
     };
     let walk = walk_file(alloc, conds, space, names, &tokens, &tree.lines)?;
-    Ok(Expanded {
-        list: walk.list,
-        faults: walk.faults,
-    })
+    Ok(walk.expanded)
 }
 
 /// Every configuration is refused.
@@ -114,7 +111,7 @@ fn refused<C: Conditions>(
     ensures refused { IfOk result (λ p. (names files : List (List ℕ)) (config : List ℕ) → IsConfig (C.sets conds.now).arities config
         → IsRefused (C.sets conds.now) names files p (fault_at cause (seen_place files place)) config) }
     ensures owns { IfOk result (OwnsList (C.sets conds.now)) }
-    ensures printable { IfOk result (λ p. (names : List (List ℕ)) → ArePrintable names place.file p.list p.faults.items) }
+    ensures printable { IfOk result (λ p. (names : List (List ℕ)) → ArePrintable names place.file p) }
     ensures apart { IfOk result (λ p. AreApart (C.sets conds.now) p.faults.items) }
 {
     let mut faults = Vec::new(alloc);

@@ -89,7 +89,7 @@ pub fn refuse<C: Conditions>(
     ensures moved { OnOk result ((names : List (List ℕ)) → Advances names (C.sets conds.old) walk.old (C.sets conds.new) walk.new (λ files config m. refusing m (map (seen names files) line.now))) }
     ensures keeps { Keeps (C.sets conds.old) (C.sets conds.new) }
 {
-    walk.faults.push(Fault {
+    walk.expanded.faults.push(Fault {
         cond: walk.live,
         cause: Cause::BadDirective,
         place: line[0].place,
@@ -107,7 +107,7 @@ pub fn put(walk: &mut Walk, line: &[Token]) -> Result<(), OutOfMemory>
     ensures moved { OnOk result ((names : List (List ℕ)) (s : Sets) → Owns s walk.old → Advances names s walk.old s walk.new (λ files config m. put_out m (map (seen names files) line.now))) }
 {
     for token in line {
-        walk.list.push(walk.live, *token)?;
+        walk.expanded.list.push(walk.live, *token)?;
     }
     Ok(())
 }

@@ -1,6 +1,5 @@
-use sc_base::{Cond, Fault};
-use sc_guarded::Guarded;
-use sc_lex::Token;
+use sc_base::Cond;
+use sc_guarded::Expanded;
 
 /// A section that is open.
 #[derive(Clone, Copy)]
@@ -22,6 +21,6 @@ pub struct Walk {
     pub live: Cond,
     /// The innermost last.
     pub sections: Vec<Section>,
-    pub list: Guarded<Token>,
-    pub faults: Vec<Fault>,
+    /// What was put out and refused so far.
+    pub expanded: Expanded,
 }

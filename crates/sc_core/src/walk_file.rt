@@ -13,7 +13,7 @@ ghost use Rattle.sc_core.specs.Printable.{IsOfFile, ArePrintable};
 use crate::steps::walk_line;
 use crate::walk::Walk;
 use sc_base::{Names, OutOfMemory};
-use sc_guarded::Guarded;
+use sc_guarded::{Expanded, Guarded};
 use sc_lex::Token;
 use sc_lines::Line;
 use sc_presence::Conditions;
@@ -34,7 +34,7 @@ pub fn walk_file<C: Conditions>(
     requires held { All (IsHeld names.now) tokens.now }
     requires lines { AreLines names.now tokens.now lines.now }
     ensures owns { IfOk result (λ walk. Owns (C.sets conds.new) walk) }
-    ensures printable { IfOk result (λ walk. (file : FileId) → All (IsOfFile names.now file) tokens.now → ArePrintable names.now file walk.list walk.faults.items) }
+    ensures printable { IfOk result (λ walk. (file : FileId) → All (IsOfFile names.now file) tokens.now → ArePrintable names.now file walk.expanded) }
     ensures walked { IfOk result (λ walk. (files : List (List ℕ)) (config : List ℕ) → IsConfig (C.sets conds.old).arities config
         → Mirrors (C.sets conds.new) names.now files walk config (run (initial_macros (seen_space space.now) config) start (seen_lines names.now files tokens.now))) }
     ensures keeps { Keeps (C.sets conds.old) (C.sets conds.new) }
@@ -50,7 +50,7 @@ pub fn walk_file<C: Conditions>(
 /// The walk before the first line.
 fn first_walk<C: Conditions>(alloc: Global, conds: &C) -> Result<Walk, OutOfMemory>
     ensures owns { IfOk result (λ walk. Owns (C.sets conds.now) walk) }
-    ensures empty { IfOk result (λ walk. (walk.list ≡ []) × (walk.faults.items ≡ [])) }
+    ensures empty { IfOk result (λ walk. (walk.expanded.list ≡ []) × (walk.expanded.faults.items ≡ [])) }
     ensures starts { IfOk result (λ walk. (names files : List (List ℕ)) (config : List ℕ) → IsConfig (C.sets conds.now).arities config
         → Mirrors (C.sets conds.now) names files walk config start) }
 {
@@ -59,7 +59,9 @@ fn first_walk<C: Conditions>(alloc: Global, conds: &C) -> Result<Walk, OutOfMemo
         accepted: conds.always(),
         live: conds.always(),
         sections: Vec::new(alloc),
-        list: Guarded::new(alloc)?,
-        faults: Vec::new(alloc),
+        expanded: Expanded {
+            list: Guarded::new(alloc)?,
+            faults: Vec::new(alloc),
+        },
     })
 }

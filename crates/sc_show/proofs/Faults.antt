@@ -10,14 +10,12 @@ use Rattle.std.proofs.lemmas.List.Sums.{sum_by-cons}
 use Rattle.sc_base.specs.declared.fault.Fault.{Fault}
 use Rattle.sc_base.specs.declared.id.Cond.{Cond}
 use Rattle.sc_guarded.specs.Items.{faults_at, seen_fault}
+use Rattle.sc_guarded.proofs.ItemLemmas.{faults_at-append, faults_at-Keeps}
 use Rattle.sc_model.specs.Pre as model
 use Rattle.sc_model.specs.Sets.{Sets, IsConfig, IsCond, Denotes, Keeps}
 use Rattle.sc_model.proofs.SetLemmas.{IsConfig-kept, IsConfig-Keeps}
 use Rattle.sc_show.specs.Shows.{AreApart}
-use Rattle.sc_show.proofs.Shows.{when, faults_at-Keeps, faults_more, map-when}
-
-pub All-front : {X : Type 0} (P : X → Type 0) (xs ys : List X) → All P (xs ++ ys) → All P xs
-All-front P xs ys all = λ k d h. subst P (get_or-append xs ys d k h) (all k d (omega (arith, length-append xs ys)))
+use Rattle.sc_show.proofs.Shows.{when, faults_more, map-when}
 
 pub All-last : {X : Type 0} (P : X → Type 0) (xs : List X) (x : X) → All P (xs ++ x ∷ []) → P x
 All-last P xs x all = subst P (get_or-append_seam xs x [] x) (all (length xs) x (omega (arith, length-append xs (x ∷ []))))
@@ -28,15 +26,6 @@ All-one {X} P x p = by
     by : (k : ℕ) (d : X) → k < length (x ∷ []) → P (get_or (x ∷ []) k d)
     by zero d h = p
     by (suc k) d h = absurd (omega arith)
-
-pub faults_at-append : (s : Sets) (xs ys : List Fault) (c : List ℕ) → faults_at s (xs ++ ys) c ≡ faults_at s xs c ++ faults_at s ys c
-faults_at-append s [] ys c = refl
-faults_at-append s (x ∷ xs) ys c = by (s.has x.cond.0 c) (faults_at-append s xs ys c)
-  where
-    by : (b : Bool) → faults_at s (xs ++ ys) c ≡ faults_at s xs c ++ faults_at s ys c
-        → (if b then x ∷ faults_at s (xs ++ ys) c else faults_at s (xs ++ ys) c) ≡ (if b then x ∷ faults_at s xs c else faults_at s xs c) ++ faults_at s ys c
-    by true ih = ap (λ r. x ∷ r) ih
-    by false ih = ih
 
 -- an item stands in a list
 In : {X : Type 0} → X → List X → Type 0

@@ -32,15 +32,6 @@ faults_at-more s (x ∷ xs) (suc i) fault c at = by (s.has x.cond.0 c) (faults_a
     by true ih = ap (λ r. x ∷ r) ih
     by false ih = ih
 
--- the same faults after the sets grew
-pub faults_at-Keeps : {old new : Sets} (faults : List base.Fault) (c : List ℕ) → Keeps old new → All (λ (fault : base.Fault). IsCond old fault.cond.0) faults → IsConfig old.arities c
-    → faults_at new faults c ≡ faults_at old faults c
-faults_at-Keeps [] c keeps own listed = refl
-faults_at-Keeps {old} {new} (x ∷ xs) c keeps own listed =
-    let first : IsCond old x.cond.0 = own 0 x (omega arith) in
-    ap (λ b. if b then x ∷ faults_at new xs c else faults_at new xs c) (keeps.at x.cond.0 c first listed)
-    ∙ ap (λ r. if old.has x.cond.0 c then x ∷ r else r) (faults_at-Keeps xs c keeps (λ k d h. own (suc k) d (omega arith)) listed)
-
 pub map-when : {T U : Type 0} (f : T → U) (b : Bool) (x : T) → map f (when b x) ≡ when b (f x)
 map-when f true x = refl
 map-when f false x = refl

@@ -26,5 +26,5 @@ returns-in_ok-refused-in-None-clause-shown g c =
     let p = c.in_ok-refused-in-None.field-0 in
     let file = c.in_ok-file.file in
     all-shown s c.args.names.now c.intern.new.self file c.in_ok-file.ensures.own p c.in_ok-refused-in-None.ensures.owns
-    (subst (λ file. ArePrintable c.args.names.now file p.list p.faults.items) c.first.ensures.in_file (c.in_ok-refused-in-None.ensures.printable c.args.names.now))
+    (subst (λ file. ArePrintable c.args.names.now file p) c.first.ensures.in_file (c.in_ok-refused-in-None.ensures.printable c.args.names.now))
     c.in_ok-refused-in-None.ensures.apart

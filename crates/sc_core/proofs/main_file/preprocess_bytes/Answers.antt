@@ -1,4 +1,4 @@
-use Rattle.std.proofs.Common.{◌≡◌, ◌∙◌, sym, ap, subst, List, [], map, refl, arith, Err}
+use Rattle.std.proofs.Common.{◌≡◌, ◌∙◌, sym, ap, subst, List, [], map, arith, Err}
 use Rattle.std.proofs.lemmas.Result.{IfOk-weaker}
 use Rattle.sc_core.specs.Preprocesses.{IsRefused}
 use Rattle.std.specs.Prelude.{All}
@@ -76,7 +76,7 @@ returns-clause-ordinary g c = λ files outside main config named there listed.
 pub returns-in-Err-Comment-clause-printable : goal.returns-in-Err-Comment-clause-printable
 returns-in-Err-Comment-clause-printable g c =
     let unended_at : IsUnendedAt c.args.file c.args.bytes.now c.in-Err-Comment.place = subst (lex.Refuses c.args.file c.args.bytes.now) c.in-Err-Comment.field-0-is c.in-Err-Comment.ensures.err in
-    IfOk-weaker c.refused-in-Err-Comment.result _ _ (λ p printable. subst (λ file. ArePrintable c.tokens.new.names file p.list p.faults.items) unended_at.in_file (printable c.tokens.new.names))
+    IfOk-weaker c.refused-in-Err-Comment.result _ _ (λ p printable. subst (λ file. ArePrintable c.tokens.new.names file p) unended_at.in_file (printable c.tokens.new.names))
     c.refused-in-Err-Comment.ensures.printable
 
 pub returns-in-Err-Nesting-clause-printable : goal.returns-in-Err-Nesting-clause-printable
@@ -84,12 +84,12 @@ returns-in-Err-Nesting-clause-printable g c =
     let names = c.tokens.new.names in
     let refuses = subst (nests.Refuses names c.deref.result.now) c.in-Err-Nesting.field-0-is c.in-Err-Nesting.ensures.err in
     let placed = refuses.placed c.args.file (subst (All (λ (t : Token). t.place.file ≡ c.args.file)) (sym c.deref.ensures.value) c.in-Ok.ensures.ok.spell.placed) in
-    IfOk-weaker c.refused-in-Err-Nesting.result _ _ (λ p printable. subst (λ file. ArePrintable names file p.list p.faults.items) placed (printable names))
+    IfOk-weaker c.refused-in-Err-Nesting.result _ _ (λ p printable. subst (λ file. ArePrintable names file p) placed (printable names))
     c.refused-in-Err-Nesting.ensures.printable
 
 pub returns-then-bytes-gt-LARGEST_FILE-clause-printable : goal.returns-then-bytes-gt-LARGEST_FILE-clause-printable
 returns-then-bytes-gt-LARGEST_FILE-clause-printable g c =
-    IfOk-weaker c.refused.result _ _ (λ p printable. subst (λ file. ArePrintable c.args.names.now file p.list p.faults.items) c.first.ensures.in_file (printable c.args.names.now))
+    IfOk-weaker c.refused.result _ _ (λ p printable. subst (λ file. ArePrintable c.args.names.now file p) c.first.ensures.in_file (printable c.args.names.now))
     c.refused.ensures.printable
 
 pub returns-clause-printable : goal.returns-clause-printable
@@ -103,5 +103,5 @@ pub returns-clause-apart : goal.returns-clause-apart
 returns-clause-apart g c = record {
   few = λ config listed.
       let mirrors = c.in_ok-walk.ensures.walked [] config (IsConfig-kept c.walk_file.ensures.keeps listed) in
-      mirrors-few (g.C.Conditions.sets c.walk_file.new.conds) [] c.in_ok-walk.walk.faults.items config _ mirrors.fault;
+      mirrors-few (g.C.Conditions.sets c.walk_file.new.conds) [] c.in_ok-walk.walk.expanded.faults.items config _ mirrors.fault;
 }

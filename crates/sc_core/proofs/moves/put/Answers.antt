@@ -14,14 +14,14 @@ pub returns-clause-moved : goal.returns-clause-moved
 returns-clause-moved c = λ names s owns.
     let w = c.args.walk.now in
     let whole : c.loop-token.token-index ≡ length c.args.line.now = omega arith in
-    let all = ap (λ n. w.list ++ under w.live (take n c.args.line.now)) whole ∙ ap (λ ts. w.list ++ under w.live ts) (take-length c.args.line.now) in
+    let all = ap (λ n. w.expanded.list ++ under w.live (take n c.args.line.now)) whole ∙ ap (λ ts. w.expanded.list ++ under w.live ts) (take-length c.args.line.now) in
     subst (λ next. Advances names s w s next (λ files config m. put_out m (map (seen names files) c.args.line.now))) (sym c.loop-token.invariant)
-    (puts names s w owns c.args.line.now (w.list ++ under w.live (take c.loop-token.token-index c.args.line.now)) all)
+    (puts names s w owns c.args.line.now (w.expanded.list ++ under w.live (take c.loop-token.token-index c.args.line.now)) all)
 
 pub returns-clause-printable : goal.returns-clause-printable
 returns-clause-printable c = λ names file all old.
     let w = c.args.walk.now in
     let whole : c.loop-token.token-index ≡ length c.args.line.now = omega arith in
     let taken = ap (λ n. take n c.args.line.now) whole ∙ take-length c.args.line.now in
-    subst (λ (next : Walk). ArePrintable names file next.list next.faults.items) (sym c.loop-token.invariant)
-    (subst (λ ts. ArePrintable names file (w.list ++ under w.live ts) w.faults.items) (sym taken) (puts-printable names file w.list w.faults.items w.live c.args.line.now all old))
+    subst (λ (next : Walk). ArePrintable names file next.expanded) (sym c.loop-token.invariant)
+    (subst (λ ts. ArePrintable names file (record w.expanded { list = w.expanded.list ++ under w.live ts })) (sym taken) (puts-printable names file w.expanded w.live c.args.line.now all old))

@@ -17,7 +17,7 @@ pub loop-line-init : goal.loop-line-init
 loop-line-init g c = record {
   owns = c.in_ok-walk.ensures.owns;
   keeps = Keeps-refl (g.C.Conditions.sets c.args.conds.now);
-  printable = λ file all. none-printable c.args.names.now file _ _ c.in_ok-walk.ensures.empty.0 c.in_ok-walk.ensures.empty.1;
+  printable = λ file all. none-printable c.args.names.now file _ c.in_ok-walk.ensures.empty.0 c.in_ok-walk.ensures.empty.1;
   at = λ files config listed. c.in_ok-walk.ensures.starts c.args.names.now files config listed;
 }
 

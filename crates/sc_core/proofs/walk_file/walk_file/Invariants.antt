@@ -16,7 +16,7 @@ abbrev pub invariant-loop-line : goal.invariant-loop-line
 invariant-loop-line g l = record {
   owns : Owns (g.C.Conditions.sets l.conds) l.walk;
   keeps : Keeps (g.C.Conditions.sets l.fn.conds) (g.C.Conditions.sets l.conds);
-  printable : (file : FileId) → All (IsOfFile l.names file) l.tokens → ArePrintable l.names file l.walk.list l.walk.faults.items;
+  printable : (file : FileId) → All (IsOfFile l.names file) l.tokens → ArePrintable l.names file l.walk.expanded;
   at : (files : List (List ℕ)) (config : List ℕ) → IsConfig (g.C.Conditions.sets l.fn.conds).arities config
       → Mirrors (g.C.Conditions.sets l.conds) l.names files l.walk config
       (run (initial_macros (seen_space l.space) config) start (map (λ line. map (seen l.names files) (tokens_of l.tokens line)) (take l.line-index l.lines)));

@@ -1,4 +1,5 @@
 use Rattle.std.proofs.Common.{ℕ, List, ◌∙◌, ◌++◌, ap, sym, subst, map, All}
+use Rattle.sc_guarded.proofs.ItemLemmas.{faults_at-Keeps}
 use Rattle.sc_guarded.specs.Items.{seen_fault}
 use Rattle.sc_model.specs.Sets.{IsConfig}
 use Rattle.sc_model.proofs.SetLemmas.{Keeps-trans, IsConfig-kept}
@@ -7,7 +8,7 @@ use Rattle.sc_show.specs.Rules.{list_item, fault_item, LaidOut}
 use Rattle.sc_show.specs.Shows.{IsShowableFault}
 use Rattle.sc_show.proofs.Ending.{Shows-end}
 use Rattle.sc_show.proofs.Laying.{LaidOut-trans}
-use Rattle.sc_show.proofs.Shows.{IsShowable-Keeps, IsShowableFault-Keeps, faults_at-Keeps}
+use Rattle.sc_show.proofs.Shows.{IsShowable-Keeps, IsShowableFault-Keeps}
 use Rattle.sc_show.proofs.tokens.show_tokens.Goals as goal
 
 pub print_list-requires-clause-list : goal.print_list-requires-clause-list
