@@ -1,21 +1,11 @@
 -- Lists that only gain items at their end, as the tables of ids do. `growth` is the set of lemmas for a `using`.
-use Rattle.std.proofs.Common.{◌≡◌, ℕ, zero, suc, ◌<◌, ◌≤◌, ◌⊎◌, inl, inr, Bool, true, false, List, [], ◌∷◌, ◌++◌, length, length-append, slice_get, Some, Contains, refl, ap, sym, ◌∙◌, arith}
+use Rattle.std.proofs.Common.{◌≡◌, ℕ, zero, suc, ◌<◌, ◌≤◌, ◌⊎◌, inl, inr, Bool, true, List, [], ◌∷◌, ◌++◌, length, length-append, slice_get, Some, Contains, refl, ap, sym, ◌∙◌, arith}
 use Rattle.std.specs.List.{IsDistinct}
 use Rattle.std.proofs.lemmas.Bool.{cases_order, true≢false}
 use Rattle.std.proofs.lemmas.Map.Keys.{apart_from_distinct}
 use Rattle.std.proofs.lemmas.Option.{slice_get_within, get_or_from_slice_get, same_Some}
 use Rattle.sc_model.specs.Growth.{Extends, IsOneToOne}
-
--- what stands in front stays
-pub slice_get-append_left : {A : Type 0} (xs ys : List A) (i : ℕ) → i < length xs → slice_get (xs ++ ys) i ≡ slice_get xs i
-slice_get-append_left [] ys i h = absurd (omega arith)
-slice_get-append_left (x ∷ xs) ys zero h = refl
-slice_get-append_left (x ∷ xs) ys (suc i) h = slice_get-append_left xs ys i (omega arith)
-
--- the item that follows it stands at its length
-pub slice_get-append_seam : {A : Type 0} (xs : List A) (y : A) (ys : List A) → slice_get (xs ++ y ∷ ys) (length xs) ≡ Some y
-slice_get-append_seam [] y ys = refl
-slice_get-append_seam (x ∷ xs) y ys = slice_get-append_seam xs y ys
+use Rattle.sc_model.proofs.ListLemmas.{slice_get-front}
 
 pub Extends-refl : {A : Type 0} (xs : List A) → Extends xs xs
 Extends-refl xs = record { kept = λ i h. refl; longer = omega arith }
@@ -26,7 +16,7 @@ Extends-trans {A} {xs} {ys} {zs} a b =
     record { kept = λ i h. b.kept i (omega arith) ∙ a.kept i h; longer = omega (arith, a.longer, b.longer) }
 
 pub Extends-append : {A : Type 0} (xs ys : List A) → Extends xs (xs ++ ys)
-Extends-append xs ys = record { kept = slice_get-append_left xs ys; longer = omega (arith, length-append xs ys) }
+Extends-append xs ys = record { kept = slice_get-front xs ys; longer = omega (arith, length-append xs ys) }
 
 pub Extends-push : {A : Type 0} (xs : List A) (x : A) → Extends xs (xs ++ x ∷ [])
 Extends-push xs x = Extends-append xs (x ∷ [])

@@ -8,14 +8,14 @@ use Rattle.std.proofs.lemmas.List.Elements.{Contains-push, Contains-append_left,
 use Rattle.std.proofs.lemmas.Option.{same_Some, slice_get_within, slice_get-get_or, option_and_then_some, none-some}
 use Rattle.sc_model.specs.Grammar.{after, begun, left_in, right_in}
 use Rattle.sc_model.specs.declared.grammar.Grammar.{Grammar}
-use Rattle.sc_model.proofs.ListLemmas.{slice_get-push}
+use Rattle.sc_model.proofs.ListLemmas.{slice_get-front}
 use Rattle.sc_items.specs.Reach.{Edge, EdgesWithin}
 use Rattle.sc_items.specs.Kernel.{IsListOf, Opens, IsOpened, MovedIn}
 use Rattle.sc_items.proofs.Listing.{no_member, rising-push, rising-none, take-more_cases, take-more_old, take-more_new, take-below}
 
 -- ---- an entry of a list that has grown
 pub slice_get-push_old : {A : Type 0} (xs : List A) (y x : A) (i : ℕ) → slice_get xs i ≡ Some x → slice_get (xs ++ y ∷ []) i ≡ Some x
-slice_get-push_old xs y x i h = slice_get-push xs y i (slice_get_within xs i x h) ∙ h
+slice_get-push_old xs y x i h = slice_get-front xs (y ∷ []) i (slice_get_within xs i x h) ∙ h
 
 pub slice_get-push_cases : {A : Type 0} (xs : List A) (y x : A) (i : ℕ) → slice_get (xs ++ y ∷ []) i ≡ Some x → (slice_get xs i ≡ Some x) ⊎ ((i ≡ length xs) × (y ≡ x))
 slice_get-push_cases [] y x zero h = inr (refl, same_Some y x h)

@@ -11,7 +11,7 @@ use Rattle.sc_model.specs.Space.{Variable, Space, option_text}
 use Rattle.sc_model.specs.Text.{Condition, Answer, Printed, TextLine, condition_line, file_line, token_line, fault_line, end_line, Reading, condition_at, variable_from, are_options, chosen, with_condition, with_file, with_token, with_fault, with_end, place_of, read_condition, read_line, read_lines}
 use Rattle.sc_model.specs.Token.{Place, Shown}
 use Rattle.sc_model.proofs.ConditionLemmas.{condition_at-push, condition_at-last, chosen-kept}
-use Rattle.sc_model.proofs.ListLemmas.{slice_get-push, slice_get-seam}
+use Rattle.sc_model.proofs.ListLemmas.{slice_get-front, slice_get-seam}
 
 -- what is read of each line, by the conditions and the files that all lines give
 abbrev pub tokens_read : List Condition → List (List ℕ) → List TextLine → List (Condition × Shown)
@@ -235,7 +235,7 @@ module _ (space : Space) (r : Reading) where
         grows = omega arith;
         kept = λ n below. refl;
         files_grow = omega (arith, long);
-        files_kept = slice_get-push r.files name;
+        files_kept = slice_get-front r.files (name ∷ []);
         holds = holds_alone space r.conditions (r.files ++ name ∷ []) (file_line id name) (ap (slice_get (r.files ++ name ∷ [])) (eqb-true id _ told.0) ∙ slice_get-seam r.files name []);
         tokens = sym (append-nil r.answer.tokens);
         faults = sym (append-nil r.answer.faults);

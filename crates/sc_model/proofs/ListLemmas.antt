@@ -2,11 +2,11 @@
 use Rattle.std.proofs.Common.{◌≡◌, ℕ, zero, suc, ◌<◌, List, [], ◌∷◌, ◌++◌, length, map, slice_get, Some, refl, arith}
 use Rattle.std.proofs.lemmas.Option.{same_Some}
 
--- an item stays in place as one is added
-pub slice_get-push : {T : Type 0} (xs : List T) (x : T) (n : ℕ) → n < length xs → slice_get (xs ++ x ∷ []) n ≡ slice_get xs n
-slice_get-push [] x n below = absurd (omega arith)
-slice_get-push (y ∷ ys) x zero below = refl
-slice_get-push (y ∷ ys) x (suc n) below = slice_get-push ys x n (omega arith)
+-- an item stays in place as others are added
+pub slice_get-front : {T : Type 0} (xs ys : List T) (n : ℕ) → n < length xs → slice_get (xs ++ ys) n ≡ slice_get xs n
+slice_get-front [] ys n below = absurd (omega arith)
+slice_get-front (x ∷ xs) ys zero below = refl
+slice_get-front (x ∷ xs) ys (suc n) below = slice_get-front xs ys n (omega arith)
 
 -- an item stands after those before it
 pub slice_get-seam : {T : Type 0} (xs : List T) (x : T) (ys : List T) → slice_get (xs ++ x ∷ ys) (length xs) ≡ Some x

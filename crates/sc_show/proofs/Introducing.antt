@@ -8,12 +8,13 @@ use Rattle.std.proofs.lemmas.Map.Views.{list_any-from_Contains}
 use Rattle.std.proofs.lemmas.Option.{same_Some, slice_get_within, slice_get-get_or, get_or_from_slice_get}
 use Rattle.sc_base.specs.declared.id.Cond.{Cond}
 use Rattle.sc_base.specs.declared.id.FileId.{FileId}
-use Rattle.sc_base.proofs.Growth.{Extends-refl, Extends-trans, Extends-push, slice_get-append_seam, slice_get-append_left}
+use Rattle.sc_base.proofs.Growth.{Extends-refl, Extends-trans, Extends-push}
 use Rattle.sc_model.specs.Growth.{Extends}
 use Rattle.sc_model.specs.Layout.{Introduces, nothing, known, node, IntroducesFiles, no_file, known_file, new_file, HasOrder}
 use Rattle.sc_model.specs.Sets.{Sets, IsConfig, IsCond, Denotes, Keeps, IsCanonical, IsNever, IsAlways, DependsFrom, IsTop}
 use Rattle.sc_model.specs.Space.{Space, Variable, arities_of}
 use Rattle.sc_model.specs.Text.{TextLine, condition_line, file_line, line_text, is_plain}
+use Rattle.sc_model.proofs.ListLemmas.{slice_get-front, slice_get-seam}
 use Rattle.sc_model.proofs.SetLemmas.{Keeps-trans, DependsFrom-Keeps}
 use Rattle.sc_show.specs.declared.printer.Printer.{Printer}
 use Rattle.sc_show.specs.Prints.{HasPlainNames, IsTable, Prints, choices_of}
@@ -38,11 +39,11 @@ pub AreFrom-push : {s : Sets} {ks ls : List Cond} {v : ℕ} (a : Cond) → Depen
 AreFrom-push {s} {ks} {ls} {v} a later from = record { each = λ n b above at. by n b above at (cases_lt n (length ls)) }
   where
     by : (n : ℕ) (b : Cond) → length ks ≤ n → slice_get (ls ++ a ∷ []) n ≡ Some b → (n < length ls) ⊎ (length ls ≤ n) → DependsFrom s b.0 v
-    by n b above at (inl below) = from.each n b above (sym (slice_get-append_left ls (a ∷ []) n below) ∙ at)
+    by n b above at (inl below) = from.each n b above (sym (slice_get-front ls (a ∷ []) n below) ∙ at)
     by n b above at (inr past) =
         let within = slice_get_within (ls ++ a ∷ []) n b at in
         let last : length ls ≡ n = omega (arith, length-append ls (a ∷ [])) in
-        subst (λ (x : Cond). DependsFrom s x.0 v) (same_Some a b (sym (slice_get-append_seam ls a []) ∙ ap (slice_get (ls ++ a ∷ [])) last ∙ at)) later
+        subst (λ (x : Cond). DependsFrom s x.0 v) (same_Some a b (sym (slice_get-seam ls a []) ∙ ap (slice_get (ls ++ a ∷ [])) last ∙ at)) later
 
 pub AreFrom-trans : {old new : Sets} {ks ls ms : List Cond} {v : ℕ} → Keeps old new → IsTable old ls → Extends ls ms → AreFrom old ks ls v → AreFrom new ls ms v → AreFrom new ks ms v
 AreFrom-trans {old} {new} {ks} {ls} {ms} {v} keeps table grows first second = record { each = λ n a above at. by n a above at (cases_lt n (length ls)) }

@@ -8,6 +8,7 @@ pub mod Numbers
 pub mod Pieces
 pub mod Steps
 pub mod Shows
+pub mod ItemLines
 pub mod Ending
 pub mod Faults
 pub mod ConflictLines

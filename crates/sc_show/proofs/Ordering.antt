@@ -10,19 +10,18 @@ use Rattle.std.proofs.lemmas.Option.{same_Some, slice_get_within, get_or_from_sl
 use Rattle.std.proofs.lemmas.List.{map-append, take_more}
 use Rattle.std.proofs.lemmas.List.Elements.{All-append, All-cons}
 use Rattle.sc_base.specs.declared.fault.Fault as base
-use Rattle.sc_base.proofs.Growth.{slice_get-append_seam, slice_get-append_left}
 use Rattle.sc_guarded.specs.Items.{seen_fault}
 use Rattle.sc_model.specs.Layout.{fault_order, IsAscending}
 use Rattle.sc_model.specs.Pre.{Fault}
 use Rattle.sc_model.proofs.Ascending.{fault_total}
-use Rattle.sc_model.proofs.ListLemmas.{found_in}
+use Rattle.sc_model.proofs.ListLemmas.{slice_get-front, slice_get-seam, found_in}
 use Rattle.sc_show.specs.Order.{IsKeyOf, IsInOrder, MayFollow, EndsWith}
 
 -- the last of a list that is longer by one
 last_same : {X : Type 0} (fs gs : List X) (f g : X) → fs ++ f ∷ [] ≡ gs ++ g ∷ [] → f ≡ g
 last_same fs gs f g e =
     let long : length fs ≡ length gs = omega (arith, ap length e, length-append fs (f ∷ []), length-append gs (g ∷ [])) in
-    same_Some f g (sym (slice_get-append_seam fs f []) ∙ ap (λ xs. slice_get xs (length fs)) e ∙ ap (slice_get (gs ++ g ∷ [])) long ∙ slice_get-append_seam gs g [])
+    same_Some f g (sym (slice_get-seam fs f []) ∙ ap (λ xs. slice_get xs (length fs)) e ∙ ap (slice_get (gs ++ g ∷ [])) long ∙ slice_get-seam gs g [])
 
 pub IsAscending-push : (fs : List Fault) (g : Fault) → IsAscending fs → ((front : List Fault) (f : Fault) → fs ≡ front ++ f ∷ [] → fault_order f g ≡ Less) → IsAscending (fs ++ g ∷ [])
 IsAscending-push fs g ascending less = record { each = λ k x y at next. by k x y at next (cases_lt (k + 1) (length fs)) }
@@ -35,12 +34,12 @@ IsAscending-push fs g ascending less = record { each = λ k x y at next. by k x 
 
     by : (k : ℕ) (x y : Fault) → slice_get (fs ++ g ∷ []) k ≡ Some x → slice_get (fs ++ g ∷ []) (k + 1) ≡ Some y → (k + 1 < length fs) ⊎ (length fs ≤ k + 1) → fault_order x y ≡ Less
     by k x y at next (inl below) =
-        ascending.each k x y (sym (slice_get-append_left fs (g ∷ []) k (omega arith)) ∙ at) (sym (slice_get-append_left fs (g ∷ []) (k + 1) below) ∙ next)
+        ascending.each k x y (sym (slice_get-front fs (g ∷ []) k (omega arith)) ∙ at) (sym (slice_get-front fs (g ∷ []) (k + 1) below) ∙ next)
     by k x y at next (inr above) =
         let within = slice_get_within (fs ++ g ∷ []) (k + 1) y next in
         let here : k + 1 ≡ length fs = omega (arith, length-append fs (g ∷ [])) in
-        let same : g ≡ y = same_Some g y (sym (slice_get-append_seam fs g []) ∙ ap (slice_get (fs ++ g ∷ [])) (sym here) ∙ next) in
-        let end = last_of fs k x (sym (slice_get-append_left fs (g ∷ []) k (omega arith)) ∙ at) here in
+        let same : g ≡ y = same_Some g y (sym (slice_get-seam fs g []) ∙ ap (slice_get (fs ++ g ∷ [])) (sym here) ∙ next) in
+        let end = last_of fs k x (sym (slice_get-front fs (g ∷ []) k (omega arith)) ∙ at) here in
         subst (λ z. fault_order x z ≡ Less) same (less end.0 x end.1)
 
 pub EndsWith-push : (fs : List Fault) (f : Fault) → EndsWith (fs ++ f ∷ []) f

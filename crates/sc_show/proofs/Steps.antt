@@ -6,7 +6,6 @@ use Rattle.std.proofs.lemmas.Option.{slice_get-map, slice_get_within, same_Some,
 use Rattle.sc_base.specs.declared.id.Cond.{Cond}
 use Rattle.sc_base.specs.declared.id.FileId.{FileId}
 use Rattle.sc_base.specs.declared.place.Place as declared_place
-use Rattle.sc_base.proofs.Growth.{slice_get-append_seam, slice_get-append_left}
 use Rattle.sc_lex.specs.Seen.{text_at, seen_place}
 use Rattle.sc_lex.specs.Spell.{position_of}
 use Rattle.indexmap.specs.IndexSet.{insert_key}
@@ -16,6 +15,7 @@ use Rattle.sc_model.specs.Sets.{Sets, IsConfig, IsCond, HasOptions, Denotes, Kee
 use Rattle.sc_model.specs.Space.{Space, Variable, arities_of}
 use Rattle.sc_model.specs.Text.{Condition, Reading, TextLine, condition_line, file_line, token_line, fault_line, line_text, is_clear, is_plain, is_word, read_line, condition_at, chosen, read_condition, variable_from, with_condition, with_file, with_token, with_fault, place_of, nothing_read}
 use Rattle.sc_model.specs.Token.{Place, Shown}
+use Rattle.sc_model.proofs.ListLemmas.{slice_get-front, slice_get-seam}
 use Rattle.sc_model.proofs.ConditionLemmas.{condition_at-push, condition_at-last}
 use Rattle.sc_model.proofs.SetLemmas.{IsConfig-kept}
 use Rattle.sc_space.specs.Seen.{seen_space, seen_variable}
@@ -104,12 +104,12 @@ Agrees-push {s} {ks} {tests} cond test agrees means = record {
         → condition_at (tests ++ test ∷ []) n c ≡ s.has key.0 c
     by n key at c listed (inl below) =
         let placed : n < length tests = omega (arith, agrees.long) in
-        ap (λ (f : Condition). f c) (condition_at-push tests test n placed) ∙ agrees.each n key (sym (slice_get-append_left ks (cond ∷ []) n below) ∙ at) c listed
+        ap (λ (f : Condition). f c) (condition_at-push tests test n placed) ∙ agrees.each n key (sym (slice_get-front ks (cond ∷ []) n below) ∙ at) c listed
     by n key at c listed (inr above) =
         let within = slice_get_within (ks ++ cond ∷ []) n key at in
         let last : n ≡ length ks = omega (arith, length-append ks (cond ∷ [])) in
         let here : n ≡ length tests = omega (arith, agrees.long) in
-        let same : cond ≡ key = same_Some cond key (sym (slice_get-append_seam ks cond []) ∙ ap (slice_get (ks ++ cond ∷ [])) (sym last) ∙ at) in
+        let same : cond ≡ key = same_Some cond key (sym (slice_get-seam ks cond []) ∙ ap (slice_get (ks ++ cond ∷ [])) (sym last) ∙ at) in
         ap (λ m. condition_at (tests ++ test ∷ []) m c) here ∙ condition_at-last tests test c ∙ means c listed ∙ ap (λ (k : Cond). s.has k.0 c) same
 
 -- a condition's line
