@@ -76,10 +76,10 @@ Prints-printer {space} {s} {files} keys same_files same_text was = record {
   names = was.names ∙ ap (map (λ (f : FileId). text_at files f.0)) (sym same_files);
 }
 
--- how many variables there are, and where one stands
-pub variables_count : (space : declared_space.Space) (arities : List ℕ) → arities ≡ arities_of (seen_space space) → length arities ≡ length space.variables.items
-variables_count space arities e =
-    ap length e ∙ length-map (map seen_variable space.variables.items) (λ (v : Variable). length v.options) ∙ length-map space.variables.items seen_variable
+-- a variable of the configurations is one of the space, and where it stands
+pub variable_within : (space : declared_space.Space) (arities : List ℕ) (v : ℕ) → arities ≡ arities_of (seen_space space) → v < length arities → v < length space.variables.items
+variable_within space arities v e within =
+    omega (arith, within, ap length e ∙ length-map (map seen_variable space.variables.items) (λ (v : Variable). length v.options) ∙ length-map space.variables.items seen_variable)
 
 pub variable_at : (space : declared_space.Space) (v : ℕ) (named : declared_variable.Variable) → named ≡ get_or space.variables.items v named → v < length space.variables.items
     → slice_get (seen_space space).variables v ≡ Some (seen_variable named)

@@ -9,13 +9,12 @@ use Rattle.sc_show.specs.Rules.{AreFrom, Introduced}
 use Rattle.sc_show.proofs.Children.{HasChildren, HasChildren-none, HasChildren-grows, HasChildren-push}
 use Rattle.sc_show.proofs.Numbers.{same_cond, present, slice_get-position, IsTable-Keeps, pushed, pushed_at}
 use Rattle.sc_show.proofs.Introducing.{AreFrom-none, AreFrom-before, AreFrom-push, AreFrom-trans, AreFrom-absent, Introduced-trans, Introduced-nothing, Introduced-known, Introduced-node, numbered_never, numbered_always, absent_cond}
-use Rattle.sc_show.proofs.Steps.{variables_count, variable_at, arity_at}
+use Rattle.sc_show.proofs.Steps.{variable_within, variable_at, arity_at}
 use Rattle.sc_show.proofs.printer.Printer.+condition_number.Goals as goal
 
 pub part-requires-clause-option : goal.part-requires-clause-option
 part-requires-clause-option g t c =
-    let count = variables_count c.args.space.now _ c.requires.arities in
-    let below : c.in-Some.variable < length c.args.space.now.variables.items = omega (arith, count, c.in-Some.ensures.some.depends.within) in
+    let below = variable_within c.args.space.now _ c.in-Some.variable c.requires.arities c.in-Some.ensures.some.depends.within in
     let arity = arity_at (seen_space c.args.space.now) _ _ (seen_variable c.index-named.result.now) (c.loop-option.invariant.keeps.arities ∙ c.requires.arities) (variable_at c.args.space.now _ _ c.index-named.ensures below) in
     omega (arith, arity)
 
@@ -25,8 +24,7 @@ returns-in_err-part-clause-keeps g t c = Keeps-trans c.loop-option.invariant.kee
 pub condition_number-requires : goal.condition_number-requires
 condition_number-requires g t c κs within =
     let ahead : c.args.from ≤ c.in-Some.variable = le-IsTop c.in-Some.ensures.some c.requires.from in
-    let count = variables_count c.args.space.now _ c.requires.arities in
-    let below : c.in-Some.variable < length c.args.space.now.variables.items = omega (arith, count, c.in-Some.ensures.some.depends.within) in
+    let below = variable_within c.args.space.now _ c.in-Some.variable c.requires.arities c.in-Some.ensures.some.depends.within in
     let arities = c.part.ensures.keeps.arities ∙ c.loop-option.invariant.keeps.arities ∙ c.requires.arities in
     let table = IsTable-Keeps c.part.ensures.keeps c.loop-option.invariant.lines.table in (
       search rules,
@@ -78,38 +76,25 @@ loop-option-preserved g t c =
       count = longer ∙ ap (λ n. n + 1) was.count;
     }
 
-pub returns-then-is_never-clause-number : goal.returns-then-is_never-clause-number
-returns-then-is_never-clause-number g t c =
+-- a condition that has a number prints nothing
+pub returns-then-is_never : goal.returns-then-is_never
+returns-then-is_never g t c =
     let never : IsNever (g.C.Conditions.sets c.args.conds.now) c.args.cond.0 = c.is_never.ensures.0 (search rules) in
-    numbered_never c.args.cond c.canonical.ensures c.requires.table c.requires.own never
+    let number = numbered_never c.args.cond c.canonical.ensures c.requires.table c.requires.own never in
+    record { number = number; lines = Introduced-known c.args.cond 0 c.requires.table number; later = AreFrom-none; keeps = Keeps-refl _ }
 
-pub returns-else-is_never-clause-number : goal.returns-else-is_never-clause-number
-returns-else-is_never-clause-number g t c =
+pub returns-else-is_never : goal.returns-else-is_never
+returns-else-is_never g t c =
     let sets = g.C.Conditions.sets c.args.conds.now in
     let some : IsNever sets c.args.cond.0 → ⊥ = λ never. absurd (true≢false (sym (c.is_never.ensures.1 never) ∙ c.if-is_never.false)) in
     let either : IsNever sets c.args.cond.0 ⊎ IsAlways sets c.args.cond.0 = c.in_default.ensures.none.0 (search rules) in
-    numbered_always c.args.cond c.canonical.ensures c.requires.table c.requires.own some either
+    let number = numbered_always c.args.cond c.canonical.ensures c.requires.table c.requires.own some either in
+    record { number = number; lines = Introduced-known c.args.cond 1 c.requires.table number; later = AreFrom-none; keeps = Keeps-refl _ }
 
-pub returns-then-is_never-clause-lines : goal.returns-then-is_never-clause-lines
-returns-then-is_never-clause-lines g t c = Introduced-known c.args.cond 0 c.requires.table (returns-then-is_never-clause-number g t c)
-
-pub returns-else-is_never-clause-lines : goal.returns-else-is_never-clause-lines
-returns-else-is_never-clause-lines g t c = Introduced-known c.args.cond 1 c.requires.table (returns-else-is_never-clause-number g t c)
-
-pub returns-then-is_never-clause-later : goal.returns-then-is_never-clause-later
-returns-then-is_never-clause-later g t c = AreFrom-none
-
-pub returns-else-is_never-clause-later : goal.returns-else-is_never-clause-later
-returns-else-is_never-clause-later g t c = AreFrom-none
-
-pub returns-in-Some-get_index_of-clause-number : goal.returns-in-Some-get_index_of-clause-number
-returns-in-Some-get_index_of-clause-number g t c = slice_get-position _ _ _ c.in-Some-get_index_of.ensures.index
-
-pub returns-in-Some-get_index_of-clause-lines : goal.returns-in-Some-get_index_of-clause-lines
-returns-in-Some-get_index_of-clause-lines g t c = Introduced-known c.args.cond _ c.requires.table (slice_get-position _ _ _ c.in-Some-get_index_of.ensures.index)
-
-pub returns-in-Some-get_index_of-clause-later : goal.returns-in-Some-get_index_of-clause-later
-returns-in-Some-get_index_of-clause-later g t c = AreFrom-none
+pub returns-in-Some-get_index_of : goal.returns-in-Some-get_index_of
+returns-in-Some-get_index_of g t c =
+    let number = slice_get-position _ _ _ c.in-Some-get_index_of.ensures.index in
+    record { number = number; lines = Introduced-known c.args.cond _ c.requires.table number; later = AreFrom-none; keeps = Keeps-refl _ }
 
 pub returns-then-not-is_new : goal.returns-then-not-is_new
 returns-then-not-is_new g t c =
@@ -122,10 +107,9 @@ returns-then-not-is_new g t c =
 pub returns-clause-lines : goal.returns-clause-lines
 returns-clause-lines g t c =
     let was = c.loop-option.invariant in
-    let count = variables_count c.args.space.now _ c.requires.arities in
-    let below : c.in-Some.variable < length c.args.space.now.variables.items = omega (arith, count, c.in-Some.ensures.some.depends.within) in
+    let below = variable_within c.args.space.now _ c.in-Some.variable c.requires.arities c.in-Some.ensures.some.depends.within in
     let arities = was.keeps.arities ∙ c.requires.arities in
-    let placed : c.in-Some.variable < length (g.C.Conditions.sets c.loop-option.conds).arities = omega (arith, below, variables_count c.args.space.now _ arities) in
+    let placed = subst (λ ns. c.in-Some.variable < length ns) (sym was.keeps.arities) c.in-Some.ensures.some.depends.within in
     let fresh = sym c.if-not-is_new.false ∙ c.in_ok-number.ensures.added in
     Introduced-node c.args.cond (seen_variable c.index-named.result.now) c.in-Some.variable c.in_ok-number.number c.deref.result.now c.requires.names arities
     (variable_at c.args.space.now _ _ c.index-named.ensures below) placed was.own was.lines was.children (omega arith)
