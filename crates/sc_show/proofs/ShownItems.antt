@@ -5,7 +5,7 @@ use Rattle.sc_guarded.specs.Items.{items_at}
 use Rattle.sc_lex.specs.declared.token.Token.{Token}
 use Rattle.sc_lex.specs.Seen.{seen}
 use Rattle.sc_model.specs.Sets.{Sets}
-use Rattle.sc_model.specs.Text.{Condition, project}
+use Rattle.sc_model.specs.Text.{project}
 use Rattle.sc_model.specs.Token.{Shown, shown}
 use Rattle.sc_show.specs.Shows.{shown_items}
 
