@@ -1,5 +1,5 @@
 -- Items whose conditions are met with another from an index on.
-use Rattle.std.proofs.Common.{◌≡◌, ℕ, zero, suc, ◌+◌, ◌<◌, ◌≤◌, ◌&&◌, Bool, List, [], ◌∷◌, ◌++◌, All, map, take, drop, length, get_or, set, ◌-◌, refl, ap, subst, sym, ◌∙◌, arith, if◌then◌else◌}
+use Rattle.std.proofs.Common.{◌≡◌, ℕ, ◌+◌, ◌<◌, ◌≤◌, ◌&&◌, Bool, List, [], ◌∷◌, ◌++◌, All, map, take, drop, length, get_or, set, ◌-◌, refl, ap, subst, sym, ◌∙◌, arith, if◌then◌else◌}
 use Rattle.std.proofs.lemmas.List.{map-append, take_more, append_assoc, take-map, take_at, take_more_set, map-set, set-get_or, drop_at, drop-append-le, drop-map, get_or-map, length-take-le, length-map}
 use Rattle.std.proofs.lemmas.List.Elements.{All-head, All-tail, All-append, All-take, All-map}
 use Rattle.sc_base.specs.declared.id.Cond.{Cond}
