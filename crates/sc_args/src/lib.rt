@@ -9,6 +9,3 @@ mod stop;
 pub use command::Command;
 pub use laws::{commands_are_taken, misuse_is_refused, taken_words_name_a_command};
 pub use stop::ArgsStop;
-
-#[cfg(test)]
-mod tests;

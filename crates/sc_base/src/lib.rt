@@ -9,6 +9,7 @@ mod limits;
 mod names;
 mod place;
 mod stop;
+mod token;
 
 pub use bytes::is_same;
 pub use fault::Fault;
@@ -17,8 +18,6 @@ pub use id::{Cond, FileId, Name, TreeId};
 pub use limits::Limits;
 pub use names::Names;
 pub use place::Place;
-pub use sc_model::Cause;
+pub use sc_model::{Cause, Kind};
 pub use stop::{OutOfMemory, Stop};
-
-#[cfg(test)]
-mod tests;
+pub use token::{HasToken, Token};

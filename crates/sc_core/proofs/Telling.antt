@@ -10,21 +10,23 @@ use Rattle.sc_args.specs.Words.{is_file_name}
 use Rattle.sc_base.specs.declared.fault.Fault as base
 use Rattle.sc_core.specs.declared.text.Text.{Text}
 use Rattle.sc_core.specs.Outcome.{Tells, IsOrdinaryAt, shown_answer, HasSpace, AcceptsAll}
-use Rattle.sc_core.specs.Preprocesses.{Stands, IsOrdinary, OwnsList}
+use Rattle.sc_prep.specs.Preprocesses.{Stands, IsOrdinary, OwnsList}
 use Rattle.sc_core.specs.Texts.{TellsTokens}
 use Rattle.sc_guarded.proofs.ItemLemmas.{items_at-Keeps, faults_at-Keeps, faults_at-never, never-faults_at}
 use Rattle.sc_guarded.specs.declared.expanded.Expanded.{Expanded}
 use Rattle.sc_guarded.specs.Items.{items_at, faults_at, seen_fault}
-use Rattle.sc_lex.specs.Seen.{seen}
-use Rattle.sc_model.proofs.Alike.{AreAlike-project}
-use Rattle.sc_model.proofs.PreLaws.{pre-unique}
+use Rattle.sc_base.specs.Seen.{seen}
+use Rattle.sc_text.proofs.Alike.{AreAlike-project}
+use Rattle.c11_directives.proofs.PreLaws.{pre-unique}
 use Rattle.sc_model.proofs.SetLemmas.{IsConfig-Keeps}
-use Rattle.sc_model.specs.Layout.{IsTextOf}
+use Rattle.sc_text.specs.Layout.{IsTextOf}
 use Rattle.sc_model.specs.Outside.{Files}
-use Rattle.sc_model.specs.Pre.{Fault, Pre}
+use Rattle.sc_model.specs.Fault.{Fault}
+use Rattle.c11_directives.specs.Pre.{Pre}
 use Rattle.sc_model.specs.Sets.{Sets, IsConfig, IsNever, Keeps}
 use Rattle.sc_model.specs.Space.{Space, IsListed, arities_of}
-use Rattle.sc_model.specs.Text.{Answer, at, project, unless_refused, is_plain}
+use Rattle.sc_text.specs.Text.{Answer, at, project, unless_refused}
+use Rattle.sc_model.specs.Bytes.{has_no_newline}
 use Rattle.sc_model.specs.Token.{Token, shown}
 use Rattle.sc_show.proofs.ShownItems.{project-shown_items}
 use Rattle.sc_show.specs.Shows.{Shows}
@@ -136,5 +138,5 @@ no_newline (x ∷ xs) h =
     ap (λ b. b || list_any (λ b. b == 10) xs) (above x p.0) ∙ no_newline xs p.1
 
 -- a main file's name is of one line
-pub name-plain : (name : List ℕ) → is_file_name name ≡ true → is_plain name ≡ true
+pub name-plain : (name : List ℕ) → is_file_name name ≡ true → has_no_newline name ≡ true
 name-plain name h = ap not (no_newline name (and_parts (not (length name == 0)) (list_all (nat_le 32) name) h).1)

@@ -1,10 +1,4 @@
 pub mod Complaint
-pub mod LineKind
-pub mod Machine
-pub mod Mirrors
 pub mod Outcome
-pub mod Preprocesses
-pub mod Printable
 pub mod Status
 pub mod Texts
-pub mod Variables

@@ -10,15 +10,16 @@ use Rattle.sc_core.specs.declared.status.Status.TheVariants.{Accepted, Refused, 
 use Rattle.sc_core.specs.Complaint.{line_of, status_of, space_line}
 use Rattle.sc_grammar.specs.C11.{productions}
 use Rattle.sc_lalr.specs.Tables.{InOrder}
-use Rattle.sc_model.specs.declared.grammar.Conflict.{Conflict}
-use Rattle.sc_model.specs.declared.grammar.Grammar.{Grammar}
-use Rattle.sc_model.specs.Grammar.{entries_of}
-use Rattle.sc_model.specs.Layout.{IsTextOf}
+use Rattle.lr_tables.specs.declared.grammar.Conflict.{Conflict}
+use Rattle.lr_tables.specs.declared.grammar.Grammar.{Grammar}
+use Rattle.lr_tables.specs.Grammar.{entries_of}
+use Rattle.sc_text.specs.Layout.{IsTextOf}
 use Rattle.sc_model.specs.Outside.{Files, Rose, Write, Writes, WritesPart, whole_write}
-use Rattle.sc_model.specs.Pre.{Fault, Pre}
+use Rattle.sc_model.specs.Fault.{Fault}
+use Rattle.c11_directives.specs.Pre.{Pre}
 use Rattle.sc_model.specs.Space.{Space, IsListed}
-use Rattle.sc_model.specs.Tables.{IsStates, IsConflict}
-use Rattle.sc_model.specs.Text.{Answer, at}
+use Rattle.lr_tables.specs.Tables.{IsStates, IsConflict}
+use Rattle.sc_text.specs.Text.{Answer, at}
 use Rattle.sc_model.specs.Token.{Shown, Token, shown}
 use Rattle.sc_show.specs.Conflicts.{conflict_pieces}
 use Rattle.sc_show.specs.Pieces.{IsLine}

@@ -4,11 +4,11 @@ use Rattle.sc_core.specs.declared.complaint.Complaint.{Complaint}
 use Rattle.sc_core.specs.declared.complaint.Complaint.TheVariants as complaint
 use Rattle.sc_core.specs.declared.text.Text.{Text}
 use Rattle.sc_core.specs.Outcome.{IsOrdinaryAt, IsTokensText, AcceptsAll, RefusesSpace, Tells, HasVerdict}
-use Rattle.sc_model.specs.Layout.{IsTextOf}
+use Rattle.sc_text.specs.Layout.{IsTextOf}
 use Rattle.sc_model.specs.Outside.{Files, Rose}
-use Rattle.sc_model.specs.Pre.{Pre}
+use Rattle.c11_directives.specs.Pre.{Pre}
 use Rattle.sc_model.specs.Space.{Space, IsListed}
-use Rattle.sc_model.specs.Text.{Answer}
+use Rattle.sc_text.specs.Text.{Answer}
 use Rattle.sc_model.specs.Token.{Token}
 use Rattle.sc_show.specs.Pieces.{IsLine, split_lines_after}
 

@@ -1,23 +1,23 @@
 ghost use Rattle.std.specs.Prelude.{◌≡◌, ◌≤◌, true, false, map, length, string_bytes, All, Some, IfOk, IfErr};
 ghost use Rattle.sc_args.specs.Words.{is_file_name};
 ghost use Rattle.sc_core.specs.Outcome.{IsConflictsText, Complains};
-ghost use Rattle.sc_core.specs.Preprocesses.{Stops};
+ghost use Rattle.sc_prep.specs.Preprocesses.{Stops};
 ghost use Rattle.sc_core.specs.Texts.{TellsTokens, IsTokensAnswer, IsAnswer, ComplainsInSpace, lines_of};
 ghost use Rattle.sc_model.specs.Outside.{Files as Outside};
 ghost use Rattle.sc_model.specs.Sets.{IsCond, IsNever};
 ghost use Rattle.sc_model.specs.Space.{arities_of};
-ghost use Rattle.sc_model.specs.Text.{is_plain};
+ghost use Rattle.sc_model.specs.Bytes.{has_no_newline};
 ghost use Rattle.sc_presence.specs.Plain.{sets_of};
 ghost use Rattle.sc_show.specs.Pieces.{IsLine, split_lines_after};
 ghost use Rattle.sc_space.specs.Seen.{seen_space, seen_variable};
 ghost use Rattle.sc_space.specs.Sound.{IsSound};
 
 use crate::complaint::Complaint;
-use crate::main_file::preprocess;
 use crate::space_file::read_space;
 use crate::text::Text;
 use sc_args::Command;
 use sc_base::{Fault, Files, Names, OutOfMemory, Stop};
+use sc_prep::preprocess;
 use sc_presence::{Conditions, PlainSets};
 use sc_show::{show_conflicts, show_tokens};
 use sc_source::Source;
@@ -111,7 +111,7 @@ fn text_under<C: Conditions, S: Source>(
 ) -> Result<Text, Stop>
     requires arities { (C.sets conds.old).arities ≡ arities_of (seen_space space.now) }
     requires sound { IsSound (seen_space space.now) }
-    requires plain { is_plain file.now ≡ true }
+    requires plain { has_no_newline file.now ≡ true }
     ensures lines { IfOk result (λ text. All IsLine (lines_of text)) }
     ensures tokens { IfOk result (λ text. (outside : Outside) → S.holds src.old ≡ Some outside → TellsTokens (seen_space space.now) outside file.now text) }
     ensures stops { IfErr result (Stops (S.faults src.old) (S.faults src.new)) }

@@ -2,12 +2,12 @@
 use Rattle.std.proofs.Common.{zero, suc, ◌≡◌, ◌<◌, ◌≤◌, ◌+◌, ◌-◌, ℕ, List, [], ◌∷◌, ◌++◌, length, slice_get, slice_range, take, drop, Option, Some, refl, sym, ap, ◌∙◌, subst, arith, zero-add}
 use Rattle.std.proofs.lemmas.List.{append_assoc, length-append, drop_at, take_at, length_push}
 use Rattle.std.proofs.lemmas.Option.{same_Some, none-some}
-use Rattle.sc_model.specs.Grammar.{Production as Rule, entries_of, right_entries}
-use Rattle.sc_model.specs.declared.grammar.Symbol.{Symbol}
-use Rattle.sc_model.specs.declared.grammar.Mark.{Mark}
-use Rattle.sc_model.specs.declared.grammar.Nonterminal.{Nonterminal}
-use Rattle.sc_model.specs.declared.grammar.Entry.{Entry}
-use Rattle.sc_model.specs.declared.grammar.Entry.TheVariants.{Left}
+use Rattle.lr_tables.specs.Grammar.{Production as Rule, entries_of, right_entries}
+use Rattle.lr_tables.specs.declared.grammar.Symbol.{Symbol}
+use Rattle.lr_tables.specs.declared.grammar.Mark.{Mark}
+use Rattle.lr_tables.specs.declared.grammar.Nonterminal.{Nonterminal}
+use Rattle.lr_tables.specs.declared.grammar.Entry.{Entry}
+use Rattle.lr_tables.specs.declared.grammar.Entry.TheVariants.{Left}
 use Rattle.sc_model.proofs.ListLemmas.{slice_get-seam}
 use Rattle.sc_grammar.specs.Production.{symbols_of, places_from}
 

@@ -1,11 +1,11 @@
 -- The grammar of C11 (annex A.2): its terminals and nonterminals in order, and its productions with what each reduction
 -- does to the scopes. An empty right side is never used: each optional part is written out.
 use Rattle.std.specs.Prelude.{ℕ, List, [], ◌∷◌, Some, None}
-use Rattle.sc_model.specs.Grammar.{Production}
-use Rattle.sc_model.specs.declared.grammar.Symbol.{Symbol}
-use Rattle.sc_model.specs.declared.grammar.Symbol.TheVariants.{Terminal, Nonterminal}
-use Rattle.sc_model.specs.declared.grammar.Mark.{Mark}
-use Rattle.sc_model.specs.declared.grammar.Mark.TheVariants.{Push, PushParameters, Pop, Join, BindVariable, BindTypedef}
+use Rattle.lr_tables.specs.Grammar.{Production}
+use Rattle.lr_tables.specs.declared.grammar.Symbol.{Symbol}
+use Rattle.lr_tables.specs.declared.grammar.Symbol.TheVariants.{Terminal, Nonterminal}
+use Rattle.lr_tables.specs.declared.grammar.Mark.{Mark}
+use Rattle.lr_tables.specs.declared.grammar.Mark.TheVariants.{Push, PushParameters, Pop, Join, BindVariable, BindTypedef}
 
 abbrev t : ℕ → Symbol
 t number = Terminal (record { 0 = number })

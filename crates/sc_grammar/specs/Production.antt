@@ -1,11 +1,11 @@
 -- A production as the code gives it.
 use Rattle.std.specs.Prelude.{◌≡◌, ◌+◌, ℕ, List, [], ◌∷◌, length, slice_get, Some, Option}
-use Rattle.sc_model.specs.declared.grammar.Mark.{Mark}
-use Rattle.sc_model.specs.declared.grammar.Nonterminal.{Nonterminal}
-use Rattle.sc_model.specs.Grammar.{Production as Rule}
-use Rattle.sc_model.specs.declared.grammar.Symbol.{Symbol}
-use Rattle.sc_model.specs.declared.grammar.Entry.{Entry}
-use Rattle.sc_model.specs.declared.grammar.Entry.TheVariants.{Left, Right}
+use Rattle.lr_tables.specs.declared.grammar.Mark.{Mark}
+use Rattle.lr_tables.specs.declared.grammar.Nonterminal.{Nonterminal}
+use Rattle.lr_tables.specs.Grammar.{Production as Rule}
+use Rattle.lr_tables.specs.declared.grammar.Symbol.{Symbol}
+use Rattle.lr_tables.specs.declared.grammar.Entry.{Entry}
+use Rattle.lr_tables.specs.declared.grammar.Entry.TheVariants.{Left, Right}
 use Rattle.sc_grammar.specs.declared.rule.Production.{Production}
 
 -- the symbols of a right side

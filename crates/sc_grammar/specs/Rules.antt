@@ -1,9 +1,9 @@
 -- Rules that the productions of C11 keep beyond those of every grammar.
 use Rattle.std.specs.Prelude.{ℕ, ◌==◌, nat_lt, Bool, true, false, ◌&&◌, not, List, [], ◌∷◌}
 use Rattle.std.specs.List.{list_all, list_any, range_with_len}
-use Rattle.sc_model.specs.Grammar.{Production}
-use Rattle.sc_model.specs.declared.grammar.Symbol.{Symbol}
-use Rattle.sc_model.specs.declared.grammar.Symbol.TheVariants.{Terminal, Nonterminal}
+use Rattle.lr_tables.specs.Grammar.{Production}
+use Rattle.lr_tables.specs.declared.grammar.Symbol.{Symbol}
+use Rattle.lr_tables.specs.declared.grammar.Symbol.TheVariants.{Terminal, Nonterminal}
 
 abbrev pub rises_at : ℕ → List Symbol → Bool
 rises_at left (Nonterminal n ∷ []) = nat_lt left n.0

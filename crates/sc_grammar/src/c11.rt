@@ -1,6 +1,6 @@
 //! The grammar of C11.
 use crate::{nonterminal, terminal};
-use sc_model::{Entry, Grammar, Mark, Symbol};
+use lr_tables::{Entry, Grammar, Mark, Symbol};
 
 macro_rules! symbol {
     (t $name:ident) => {

@@ -2,7 +2,7 @@
 #![tactic(auto)]
 
 ghost use Rattle.std.specs.Prelude.{◌≡◌, IsTrue};
-ghost use Rattle.sc_model.specs.Grammar.{IsGrammar, entries_of};
+ghost use Rattle.lr_tables.specs.Grammar.{IsGrammar, entries_of};
 ghost use Rattle.sc_grammar.specs.C11.{productions};
 ghost use Rattle.sc_grammar.specs.Rules.{rises_along_units, all_have_productions, starts_apart};
 
@@ -15,7 +15,7 @@ pub mod terminal;
 use c11::C11;
 pub use lookup::production;
 pub use rule::Production;
-use sc_model::Grammar;
+use lr_tables::Grammar;
 pub use terminal::terminal_name;
 
 /// The grammar of C11 (annex A.2).

@@ -1,12 +1,12 @@
 //! The productions by their numbers.
 ghost use Rattle.std.specs.Prelude.{◌≡◌, ◌≤◌, ◌<◌, ◌+◌, ◌-◌, length, slice_get, slice_range, Some};
-ghost use Rattle.sc_model.specs.Grammar.{entries_of};
+ghost use Rattle.lr_tables.specs.Grammar.{entries_of};
 ghost use Rattle.sc_grammar.specs.C11.{productions};
 ghost use Rattle.sc_grammar.specs.Production.{production_of, IsLeftAt, places_from};
 
 use crate::Production;
 use crate::c11::C11;
-use sc_model::Entry;
+use lr_tables::Entry;
 
 /// Where each production begins among the entries of the grammar, and where the last one ends.
 static PLACES: [usize; 289] = [

@@ -1,5 +1,5 @@
 //! The nonterminals of C11, in the order of their numbers.
-use sc_model::Nonterminal;
+use lr_tables::Nonterminal;
 
 pub const UNIT: Nonterminal = Nonterminal(0);
 

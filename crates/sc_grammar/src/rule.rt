@@ -1,5 +1,5 @@
 //! Productions.
-use sc_model::{Entry, Mark, Nonterminal};
+use lr_tables::{Entry, Mark, Nonterminal};
 
 /// A production of C11.
 #[derive(Clone, Copy)]

@@ -5,7 +5,7 @@ ghost use Rattle.std.specs.Prelude.{◌≡◌, ◌<◌, map, slice_get, Some};
 ghost use Rattle.std.specs.List.{range_with_len};
 ghost use Rattle.sc_grammar.specs.Terminals.{terminal_names};
 
-use sc_model::Terminal;
+use lr_tables::Terminal;
 
 pub const NAME: Terminal = Terminal(0);
 

@@ -2,8 +2,8 @@
 use Rattle.std.specs.Prelude.{ℕ, List, [], ◌∷◌, if◌then◌else◌}
 use Rattle.sc_base.specs.declared.fault.Fault.{Fault}
 use Rattle.sc_base.specs.declared.id.Cond.{Cond}
-use Rattle.sc_lex.specs.Seen.{seen_place}
-use Rattle.sc_model.specs.Pre as model
+use Rattle.sc_base.specs.Seen.{seen_place}
+use Rattle.sc_model.specs.Fault as model
 use Rattle.sc_model.specs.Sets.{Sets}
 
 -- the items whose condition has the configuration, in order

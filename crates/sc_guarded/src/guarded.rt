@@ -7,7 +7,7 @@ use crate::parts::next_parts;
 use crate::projection::tokens_at;
 use crate::restriction::{meets, set_conditions};
 use sc_base::{Cond, OutOfMemory, Stop};
-use sc_lex::{HasToken, Token};
+use sc_base::{HasToken, Token};
 use sc_presence::Conditions;
 use std::alloc::Global;
 use std::marker::Model;

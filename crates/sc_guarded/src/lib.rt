@@ -9,6 +9,3 @@ mod restriction;
 
 pub use expanded::Expanded;
 pub use guarded::Guarded;
-
-#[cfg(test)]
-mod tests;

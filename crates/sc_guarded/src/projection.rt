@@ -3,7 +3,7 @@ ghost use Rattle.sc_model.specs.Sets.{IsConfig, IsCond};
 ghost use Rattle.sc_guarded.specs.Items.{items_at};
 
 use sc_base::{Cond, OutOfMemory};
-use sc_lex::{HasToken, Token};
+use sc_base::{HasToken, Token};
 use sc_presence::Conditions;
 use std::alloc::Global;
 

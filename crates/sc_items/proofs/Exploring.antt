@@ -6,12 +6,12 @@ use Rattle.std.proofs.lemmas.List.{length_push, get_or_past}
 use Rattle.std.proofs.lemmas.Option.{same_Some, none-some, option_and_then_some}
 use Rattle.std.proofs.lemmas.Bool.{cases_lt, false≢true}
 use Rattle.std.proofs.lemmas.Bool.Decides.{nat_tests}
-use Rattle.sc_model.specs.Grammar.{IsGrammar, after, begun, right_in, left_in, is_known}
-use Rattle.sc_model.specs.Tables.{Closure, given, opened, Moved, IsGoto}
-use Rattle.sc_model.specs.declared.grammar.Grammar.{Grammar}
-use Rattle.sc_model.specs.declared.grammar.Entry.{Entry}
-use Rattle.sc_model.specs.declared.grammar.Entry.TheVariants.{Left, Right}
-use Rattle.sc_model.specs.declared.grammar.Symbol.TheVariants.{Terminal, Nonterminal}
+use Rattle.lr_tables.specs.Grammar.{IsGrammar, after, begun, right_in, left_in, is_known}
+use Rattle.lr_tables.specs.Tables.{Closure, given, opened, Moved, IsGoto}
+use Rattle.lr_tables.specs.declared.grammar.Grammar.{Grammar}
+use Rattle.lr_tables.specs.declared.grammar.Entry.{Entry}
+use Rattle.lr_tables.specs.declared.grammar.Entry.TheVariants.{Left, Right}
+use Rattle.lr_tables.specs.declared.grammar.Symbol.TheVariants.{Terminal, Nonterminal}
 use Rattle.sc_items.specs.Reach.{marked, Reaches, start, step, IsReached}
 use Rattle.sc_items.specs.Kernel.{MovedIn, IsListOf, IsOpened}
 use Rattle.sc_items.specs.Found.{Found, IsGotoRow, Keeps, IsStep, nothing, follows}

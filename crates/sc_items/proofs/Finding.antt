@@ -8,9 +8,9 @@ use Rattle.std.proofs.lemmas.List.Elements.{Contains-get_or}
 use Rattle.std.proofs.lemmas.Map.Keys.{below_from_sorted, sorted_from_strictly_increasing, sorted_tail}
 use Rattle.std.proofs.lemmas.Option.{same_Some, slice_get_within, none-some}
 use Rattle.std.proofs.lemmas.Bool.{cases_lt}
-use Rattle.sc_model.specs.Grammar.{IsStart, after}
-use Rattle.sc_model.specs.Tables.{Moved, IsGoto, IsLeastPair, IsStates, Before}
-use Rattle.sc_model.specs.declared.grammar.Grammar.{Grammar}
+use Rattle.lr_tables.specs.Grammar.{IsStart, after}
+use Rattle.lr_tables.specs.Tables.{Moved, IsGoto, IsLeastPair, IsStates, Before}
+use Rattle.lr_tables.specs.declared.grammar.Grammar.{Grammar}
 use Rattle.sc_model.proofs.ListLemmas.{slice_get-seam}
 use Rattle.sc_items.specs.Found.{Found, FoundAt}
 use Rattle.sc_items.proofs.Listing.{no_member}

@@ -2,8 +2,8 @@
 use Rattle.std.proofs.Common.{◌≡◌, ◌<◌, ◌+◌, ℕ, Bool, true, false, IsTrue, List, [], length, get_or, set, take, replicate, Some, inl, inr, sym, ◌∙◌, subst}
 use Rattle.std.proofs.lemmas.Option.{same_Some}
 use Rattle.std.proofs.lemmas.List.{length-set, length-replicate}
-use Rattle.sc_model.specs.Grammar.{after}
-use Rattle.sc_model.specs.declared.grammar.Grammar.{Grammar}
+use Rattle.lr_tables.specs.Grammar.{after}
+use Rattle.lr_tables.specs.declared.grammar.Grammar.{Grammar}
 use Rattle.sc_items.specs.Reach.{marked}
 use Rattle.sc_items.specs.Kernel.{IsNext, AreNext}
 use Rattle.sc_items.proofs.Listing.{no_member, take-more_cases, take-more_old, take-more_new}

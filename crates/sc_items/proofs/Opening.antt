@@ -6,8 +6,8 @@ use Rattle.std.specs.declared.alloc.Global.{Global}
 use Rattle.std.proofs.lemmas.List.{length_push}
 use Rattle.std.proofs.lemmas.List.Elements.{Contains-push, Contains-append_left, Contains-push_cases, Contains-get_or}
 use Rattle.std.proofs.lemmas.Option.{same_Some, slice_get_within, slice_get-get_or, option_and_then_some, none-some}
-use Rattle.sc_model.specs.Grammar.{after, begun, left_in, right_in}
-use Rattle.sc_model.specs.declared.grammar.Grammar.{Grammar}
+use Rattle.lr_tables.specs.Grammar.{after, begun, left_in, right_in}
+use Rattle.lr_tables.specs.declared.grammar.Grammar.{Grammar}
 use Rattle.sc_model.proofs.ListLemmas.{slice_get-front}
 use Rattle.sc_items.specs.Reach.{Edge, EdgesWithin}
 use Rattle.sc_items.specs.Kernel.{IsListOf, Opens, IsOpened, MovedIn}

@@ -5,9 +5,9 @@ use Rattle.std.specs.Slice.{IsItemAt}
 use Rattle.std.specs.Borrow.{Bor}
 use Rattle.std.proofs.lemmas.Option.{same_Some, slice_get_within, slice_get_past, slice_get_read, none-some}
 use Rattle.std.proofs.lemmas.Bool.{false≢true}
-use Rattle.sc_model.specs.Grammar.{IsGrammar}
-use Rattle.sc_model.specs.Tables.{Closure, Moved, IsGoto}
-use Rattle.sc_model.specs.declared.grammar.Grammar.{Grammar}
+use Rattle.lr_tables.specs.Grammar.{IsGrammar}
+use Rattle.lr_tables.specs.Tables.{Closure, Moved, IsGoto}
+use Rattle.lr_tables.specs.declared.grammar.Grammar.{Grammar}
 use Rattle.sc_items.specs.declared.automaton.State.{State}
 use Rattle.sc_items.specs.declared.automaton.States.{States}
 use Rattle.sc_items.specs.Reach.{marked}

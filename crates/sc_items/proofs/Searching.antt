@@ -3,8 +3,8 @@ use Rattle.std.proofs.Common.{◌≡◌, ◌<◌, ◌≤◌, ◌+◌, ◌⊎◌,
 use Rattle.std.specs.declared.alloc.Global.{Global}
 use Rattle.std.proofs.lemmas.List.{length_push}
 use Rattle.std.proofs.lemmas.Option.{none-some}
-use Rattle.sc_model.specs.Grammar.{IsStart}
-use Rattle.sc_model.specs.declared.grammar.Grammar.{Grammar}
+use Rattle.lr_tables.specs.Grammar.{IsStart}
+use Rattle.lr_tables.specs.declared.grammar.Grammar.{Grammar}
 use Rattle.sc_items.specs.declared.automaton.State.{State}
 use Rattle.sc_items.specs.declared.automaton.States.{States}
 use Rattle.sc_items.specs.Kernel.{IsListOf, IsNumbered, lists}

@@ -3,9 +3,9 @@ use Rattle.std.specs.Prelude.{◌≡◌, ◌↔◌, ◌<◌, ◌≤◌, ℕ, Lis
 use Rattle.std.specs.List.{Contains}
 use Rattle.std.specs.List.Sorted.{IsStrictlyIncreasing}
 use Rattle.sc_model.specs.Growth.{IsOneToOne}
-use Rattle.sc_model.specs.Grammar.{IsStart}
-use Rattle.sc_model.specs.Tables.{Moved, IsGoto, IsLeastPair, Before}
-use Rattle.sc_model.specs.declared.grammar.Grammar.{Grammar}
+use Rattle.lr_tables.specs.Grammar.{IsStart}
+use Rattle.lr_tables.specs.Tables.{Moved, IsGoto, IsLeastPair, Before}
+use Rattle.lr_tables.specs.declared.grammar.Grammar.{Grammar}
 use Rattle.sc_items.specs.Kernel.{MovedIn, IsNumbered}
 
 -- the least pair of a state is before this pair

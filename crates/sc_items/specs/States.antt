@@ -1,8 +1,8 @@
 -- The states as the code keeps them.
 use Rattle.std.specs.Prelude.{◌≡◌, ◌↔◌, ◌+◌, ℕ, Bool, false, List, length, slice_get, Option, Some, option_and_then, IsTrue}
 use Rattle.std.specs.Option.{option_map_or}
-use Rattle.sc_model.specs.Tables.{Closure, IsGoto, IsStates}
-use Rattle.sc_model.specs.declared.grammar.Grammar.{Grammar}
+use Rattle.lr_tables.specs.Tables.{Closure, IsGoto, IsStates}
+use Rattle.lr_tables.specs.declared.grammar.Grammar.{Grammar}
 use Rattle.sc_items.specs.declared.automaton.State.{State}
 use Rattle.sc_items.specs.declared.automaton.States.{States}
 use Rattle.sc_items.specs.Reach.{marked}

@@ -20,9 +20,9 @@ pub struct States {
 
 impl States {
     ghost use Rattle.std.specs.Prelude.{◌≡◌, ◌↔◌, length, IsTrue, MatchOption};
-    ghost use Rattle.sc_model.specs.Tables.{IsGoto};
-    ghost use Rattle.sc_model.specs.Grammar.{IsGrammar};
-    ghost use Rattle.sc_model.specs.declared.grammar.Grammar.{Grammar};
+    ghost use Rattle.lr_tables.specs.Tables.{IsGoto};
+    ghost use Rattle.lr_tables.specs.Grammar.{IsGrammar};
+    ghost use Rattle.lr_tables.specs.declared.grammar.Grammar.{Grammar};
     ghost use Rattle.sc_items.specs.States.{AreStates, HasItem, NoGoto, kernels_of, has_item, goto_of};
 
     /// How many there are.

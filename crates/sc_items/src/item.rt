@@ -1,8 +1,8 @@
 //! Items. An item is a production with a dot in its right side, and goes by the place of the entry before the dot.
 ghost use Rattle.std.specs.Prelude.{◌≡◌, ◌<◌, ◌≤◌, ◌+◌, length, IfSome, true};
-ghost use Rattle.sc_model.specs.Grammar.{IsGrammar, after, begun, symbol_number, is_known, is_left, production_at};
+ghost use Rattle.lr_tables.specs.Grammar.{IsGrammar, after, begun, symbol_number, is_known, is_left, production_at};
 
-use sc_model::{Entry, Grammar, Symbol};
+use lr_tables::{Entry, Grammar, Symbol};
 
 /// The place of a symbol in the order of the symbols: first the terminals, then the nonterminals.
 fn number(grammar: &Grammar, symbol: Symbol) -> usize

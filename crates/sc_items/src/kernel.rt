@@ -2,14 +2,14 @@
 ghost use Rattle.std.specs.Prelude.{◌<◌, ◌↔◌, ℕ, length, IfOk, All, IsTrue};
 ghost use Rattle.std.specs.List.{Contains};
 ghost use Rattle.std.specs.List.Sorted.{IsStrictlyIncreasing};
-ghost use Rattle.sc_model.specs.Grammar.{IsGrammar, IsStart};
+ghost use Rattle.lr_tables.specs.Grammar.{IsGrammar, IsStart};
 ghost use Rattle.sc_items.specs.Kernel.{AreNext, IsListOf, IsNumbered, IsOpened, Opens, MovedIn, lists};
 ghost use Rattle.sc_items.specs.Reach.{marked, EdgesWithin};
 
 use crate::{after, begun, production_at};
 use indexmap::IndexSet;
 use sc_base::OutOfMemory;
-use sc_model::Grammar;
+use lr_tables::Grammar;
 use std::alloc::Global;
 
 /// For each item those that begin a production of the symbol after its dot.

@@ -1,7 +1,7 @@
 //! Laws about the definitions, each the contract of a function without code.
 ghost use Rattle.std.specs.Prelude.{◌≡◌, ℕ, List};
-ghost use Rattle.sc_model.specs.Tables.{IsStates};
-ghost use Rattle.sc_model.specs.declared.grammar.Grammar.{Grammar};
+ghost use Rattle.lr_tables.specs.Tables.{IsStates};
+ghost use Rattle.lr_tables.specs.declared.grammar.Grammar.{Grammar};
 
 /// A grammar has one list of LR(0) states at most: the definition determines them with their numbers.
 pub fn states_are_determined()

@@ -14,6 +14,3 @@ pub use kernel::opened;
 pub use laws::states_are_determined;
 pub use reach::reachable;
 pub use search::states;
-
-#[cfg(test)]
-mod tests;

@@ -1,7 +1,7 @@
 //! The search for the states: from each one found, in order, over each symbol, in order.
 ghost use Rattle.std.specs.Prelude.{◌<◌, ◌+◌, length, IfOk, OnOk, All};
 ghost use Rattle.std.specs.List.Sorted.{IsStrictlyIncreasing};
-ghost use Rattle.sc_model.specs.Grammar.{IsGrammar};
+ghost use Rattle.lr_tables.specs.Grammar.{IsGrammar};
 ghost use Rattle.sc_items.specs.Reach.{EdgesWithin};
 ghost use Rattle.sc_items.specs.Kernel.{AreNext, IsOpened, lists};
 ghost use Rattle.sc_items.specs.Found.{Found, Keeps, IsStep};
@@ -11,7 +11,7 @@ use crate::kernel::{members, moved, next_symbols, number, opened, start};
 use crate::{State, States, reachable};
 use indexmap::IndexSet;
 use sc_base::OutOfMemory;
-use sc_model::Grammar;
+use lr_tables::Grammar;
 use std::alloc::Global;
 
 /// The LR(0) states of a grammar.

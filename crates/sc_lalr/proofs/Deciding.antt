@@ -10,11 +10,11 @@ use Rattle.std.proofs.lemmas.List.Elements.{Contains-append_left, Contains-appen
 use Rattle.std.proofs.lemmas.Map.Keys.{below_from_sorted, sorted_from_strictly_increasing, sorted_tail}
 use Rattle.std.proofs.lemmas.Option.{same_Some, slice_get_within, slice_get-map, get_or_from_slice_get, none-some}
 use Rattle.std.proofs.lemmas.Bool.{cases_lt}
-use Rattle.sc_model.specs.Tables.{IsStates, IsGoto, Lookahead, CanReduce, IsAction, shifts, reduces, none, IsConflict, Before, ConflictBefore}
-use Rattle.sc_model.specs.declared.grammar.Grammar.{Grammar}
-use Rattle.sc_model.specs.declared.grammar.Action.{Action}
-use Rattle.sc_model.specs.declared.grammar.Action.TheVariants.{Shift, Reduce}
-use Rattle.sc_model.specs.declared.grammar.Conflict.{Conflict}
+use Rattle.lr_tables.specs.Tables.{IsStates, IsGoto, Lookahead, CanReduce, IsAction, shifts, reduces, none, IsConflict, Before, ConflictBefore}
+use Rattle.lr_tables.specs.declared.grammar.Grammar.{Grammar}
+use Rattle.lr_tables.specs.declared.grammar.Action.{Action}
+use Rattle.lr_tables.specs.declared.grammar.Action.TheVariants.{Shift, Reduce}
+use Rattle.lr_tables.specs.declared.grammar.Conflict.{Conflict}
 use Rattle.sc_items.specs.Kernel.{IsListOf}
 use Rattle.sc_items.specs.Reach.{marked}
 use Rattle.sc_items.specs.States.{HasItem, NoGoto}

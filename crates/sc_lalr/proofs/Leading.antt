@@ -6,9 +6,9 @@ use Rattle.std.proofs.lemmas.List.{length_push}
 use Rattle.std.proofs.lemmas.List.Elements.{Contains-push, Contains-append_left, Contains-push_cases, Contains-get_or}
 use Rattle.std.proofs.lemmas.Option.{same_Some, slice_get-get_or}
 use Rattle.std.proofs.lemmas.Bool.{cases_lt}
-use Rattle.sc_model.specs.Grammar.{IsGrammar, after, begun}
-use Rattle.sc_model.specs.Tables.{First, itself, derived}
-use Rattle.sc_model.specs.declared.grammar.Grammar.{Grammar}
+use Rattle.lr_tables.specs.Grammar.{IsGrammar, after, begun}
+use Rattle.lr_tables.specs.Tables.{First, itself, derived}
+use Rattle.lr_tables.specs.declared.grammar.Grammar.{Grammar}
 use Rattle.sc_items.specs.Reach.{EdgesWithin, Reaches, start, step, IsReached, marked}
 use Rattle.sc_items.proofs.Listing.{no_member}
 use Rattle.sc_items.proofs.Opening.{slice_get-push_cases, slice_some}

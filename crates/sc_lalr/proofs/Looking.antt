@@ -7,9 +7,9 @@ use Rattle.std.proofs.lemmas.List.{length_push}
 use Rattle.std.proofs.lemmas.List.Elements.{Contains-push, Contains-append_left, Contains-push_cases}
 use Rattle.std.proofs.lemmas.Option.{same_Some}
 use Rattle.std.proofs.lemmas.Nat.{div_below}
-use Rattle.sc_model.specs.Grammar.{after, begun}
-use Rattle.sc_model.specs.Tables.{opened as closure_opened, First, Lookahead, spontaneous, opened, moved}
-use Rattle.sc_model.specs.declared.grammar.Grammar.{Grammar}
+use Rattle.lr_tables.specs.Grammar.{after, begun}
+use Rattle.lr_tables.specs.Tables.{opened as closure_opened, First, Lookahead, spontaneous, opened, moved}
+use Rattle.lr_tables.specs.declared.grammar.Grammar.{Grammar}
 use Rattle.sc_items.specs.Reach.{Edge, Reaches, start, step, IsReached, marked}
 use Rattle.sc_items.specs.Kernel.{IsOpened, Opens}
 use Rattle.sc_items.specs.States.{HasItem}

@@ -5,9 +5,9 @@ use Rattle.std.specs.declared.alloc.Global.{Global}
 use Rattle.std.proofs.lemmas.List.{length_push}
 use Rattle.std.proofs.lemmas.List.Elements.{Contains-append_left, Contains-append_right, Contains-append_cases, Contains-get_or}
 use Rattle.std.proofs.lemmas.Option.{same_Some, slice_get-get_or, none-some}
-use Rattle.sc_model.specs.Grammar.{after, begun}
-use Rattle.sc_model.specs.Tables.{Closure, opened as closure_opened, given as closure_given, Moved, IsGoto, IsStates}
-use Rattle.sc_model.specs.declared.grammar.Grammar.{Grammar}
+use Rattle.lr_tables.specs.Grammar.{after, begun}
+use Rattle.lr_tables.specs.Tables.{Closure, opened as closure_opened, given as closure_given, Moved, IsGoto, IsStates}
+use Rattle.lr_tables.specs.declared.grammar.Grammar.{Grammar}
 use Rattle.sc_items.specs.Reach.{EdgesWithin}
 use Rattle.sc_items.specs.Kernel.{IsOpened, Opens}
 use Rattle.sc_items.specs.States.{HasItem, NoGoto}

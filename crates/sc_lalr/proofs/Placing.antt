@@ -4,7 +4,7 @@ use Rattle.std.specs.List.{Contains}
 use Rattle.std.proofs.lemmas.List.{length_push, get_or_append_left, get_or_push}
 use Rattle.std.proofs.lemmas.Option.{same_Some, slice_get_within, slice_get-get_or, slice_get_read, get_or_from_slice_get, none-some}
 use Rattle.std.proofs.lemmas.Nat.{same_from_place, mul-add-lt, div-add-mod', mod_below}
-use Rattle.sc_model.specs.declared.grammar.Grammar.{Grammar}
+use Rattle.lr_tables.specs.declared.grammar.Grammar.{Grammar}
 use Rattle.sc_items.specs.Kernel.{IsListOf}
 use Rattle.sc_items.specs.States.{HasItem}
 use Rattle.sc_items.proofs.Listing.{IsListOf-push, IsListOf-skip, IsListOf-none}

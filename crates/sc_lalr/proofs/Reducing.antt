@@ -6,10 +6,10 @@ use Rattle.std.proofs.lemmas.List.{take-append-drop, take-take}
 use Rattle.std.proofs.lemmas.List.Elements.{Contains-push, Contains-append_left, Contains-push_cases, All-contains}
 use Rattle.std.proofs.lemmas.List.Sums.{count_by_more_yes, sum_by-append}
 use Rattle.std.proofs.lemmas.Option.{slice_get-get_or, none-some}
-use Rattle.sc_model.specs.Grammar.{after, right_in, is_left, production_at, symbol_number}
-use Rattle.sc_model.specs.declared.grammar.Grammar.{Grammar}
-use Rattle.sc_model.specs.declared.grammar.Entry.{Entry}
-use Rattle.sc_model.specs.declared.grammar.Entry.TheVariants.{Left, Right}
+use Rattle.lr_tables.specs.Grammar.{after, right_in, is_left, production_at, symbol_number}
+use Rattle.lr_tables.specs.declared.grammar.Grammar.{Grammar}
+use Rattle.lr_tables.specs.declared.grammar.Entry.{Entry}
+use Rattle.lr_tables.specs.declared.grammar.Entry.TheVariants.{Left, Right}
 use Rattle.sc_items.specs.Reach.{marked}
 use Rattle.sc_items.proofs.Opening.{slice_some}
 use Rattle.sc_items.proofs.Listing.{no_member, rising-push, rising-none, take-more_cases, take-more_old, take-more_new, take-below}

@@ -3,10 +3,10 @@ use Rattle.std.proofs.Common.{◌≡◌, ◌<◌, ◌+◌, ℕ, List, [], ◌∷
 use Rattle.std.specs.declared.alloc.Global.{Global}
 use Rattle.std.proofs.lemmas.List.{length_push}
 use Rattle.std.proofs.lemmas.Option.{slice_get_within, none-some}
-use Rattle.sc_model.specs.Tables.{IsStates, IsGoto, IsAction, none, CanReduce, Before}
-use Rattle.sc_model.specs.declared.grammar.Grammar.{Grammar}
-use Rattle.sc_model.specs.declared.grammar.Action.{Action}
-use Rattle.sc_model.specs.declared.grammar.Conflict.{Conflict}
+use Rattle.lr_tables.specs.Tables.{IsStates, IsGoto, IsAction, none, CanReduce, Before}
+use Rattle.lr_tables.specs.declared.grammar.Grammar.{Grammar}
+use Rattle.lr_tables.specs.declared.grammar.Action.{Action}
+use Rattle.lr_tables.specs.declared.grammar.Conflict.{Conflict}
 use Rattle.sc_items.specs.States.{NoGoto}
 use Rattle.sc_items.proofs.Opening.{slice_get-push_cases, slice_some}
 use Rattle.sc_lalr.specs.Tables.{AreTables, entry, action_of, goto_of}

@@ -1,8 +1,8 @@
 -- Which symbol's productions begin with which.
 use Rattle.std.specs.Prelude.{◌≡◌, ◌+◌, ℕ, List, length, Some, Vec}
 use Rattle.std.specs.declared.alloc.Global.{Global}
-use Rattle.sc_model.specs.Grammar.{after, begun}
-use Rattle.sc_model.specs.declared.grammar.Grammar.{Grammar}
+use Rattle.lr_tables.specs.Grammar.{after, begun}
+use Rattle.lr_tables.specs.declared.grammar.Grammar.{Grammar}
 use Rattle.sc_items.specs.Reach.{Edge}
 
 -- a production of x begins with y

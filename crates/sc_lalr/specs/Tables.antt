@@ -2,12 +2,12 @@
 use Rattle.std.specs.Prelude.{◌≡◌, ◌↔◌, ◌<◌, ◌+◌, ℕ, Bool, IsTrue, List, [], ◌∷◌, slice_get, slice_index, map, Option, Some, None, MatchOption, option_and_then, Vec}
 use Rattle.std.specs.List.{Contains}
 use Rattle.std.specs.declared.alloc.Global.{Global}
-use Rattle.sc_model.specs.Grammar.{after, production_at}
-use Rattle.sc_model.specs.Tables.{IsStates, IsGoto, IsAction, IsConflict, ConflictBefore}
-use Rattle.sc_model.specs.declared.grammar.Grammar.{Grammar}
-use Rattle.sc_model.specs.declared.grammar.Action.{Action}
-use Rattle.sc_model.specs.declared.grammar.Action.TheVariants.{Shift, Reduce}
-use Rattle.sc_model.specs.declared.grammar.Conflict.{Conflict}
+use Rattle.lr_tables.specs.Grammar.{after, production_at}
+use Rattle.lr_tables.specs.Tables.{IsStates, IsGoto, IsAction, IsConflict, ConflictBefore}
+use Rattle.lr_tables.specs.declared.grammar.Grammar.{Grammar}
+use Rattle.lr_tables.specs.declared.grammar.Action.{Action}
+use Rattle.lr_tables.specs.declared.grammar.Action.TheVariants.{Shift, Reduce}
+use Rattle.lr_tables.specs.declared.grammar.Conflict.{Conflict}
 use Rattle.sc_items.specs.Reach.{marked}
 use Rattle.sc_items.specs.States.{HasItem, NoGoto}
 use Rattle.sc_lalr.specs.declared.tables.Tables.{Tables}

@@ -3,7 +3,7 @@ ghost use Rattle.std.specs.Prelude.{◌≡◌, ◌++◌, map, OnOk};
 ghost use Rattle.sc_lalr.specs.Tables.{kept_of, conflicts_at, conflict_at};
 
 use sc_base::OutOfMemory;
-use sc_model::{Action, Conflict, Terminal};
+use lr_tables::{Action, Conflict, Terminal};
 
 /// A shift is preferred to a reduction, and a lower production to a higher one.
 pub fn kept(shift: Option<usize>, productions: &[usize]) -> Option<Action>

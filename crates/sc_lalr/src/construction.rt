@@ -1,6 +1,6 @@
 //! The tables of a grammar from its states.
 ghost use Rattle.std.specs.Prelude.{◌<◌, ◌+◌, length, IfOk, OnOk};
-ghost use Rattle.sc_model.specs.Grammar.{IsGrammar};
+ghost use Rattle.lr_tables.specs.Grammar.{IsGrammar};
 ghost use Rattle.sc_items.specs.States.{AreStates, kernels_of};
 ghost use Rattle.sc_lalr.specs.Propagation.{AreNodes, AreLookaheads};
 ghost use Rattle.sc_lalr.specs.Tables.{AreTables};
@@ -13,7 +13,7 @@ use crate::nodes::{Nodes, nodes_of};
 use crate::reduction::{ends, productions};
 use sc_base::OutOfMemory;
 use sc_items::States;
-use sc_model::{Action, Conflict, Grammar, Terminal};
+use lr_tables::{Action, Conflict, Grammar, Terminal};
 use std::alloc::Global;
 
 /// The LALR(1) tables of a grammar with these states.

@@ -1,15 +1,15 @@
 //! Which texts a terminal can begin.
 ghost use Rattle.std.specs.Prelude.{◌≡◌, ◌<◌, ◌↔◌, ℕ, length, IfOk, IsTrue};
 ghost use Rattle.std.specs.List.{Contains};
-ghost use Rattle.sc_model.specs.Grammar.{IsGrammar};
-ghost use Rattle.sc_model.specs.Tables.{First};
+ghost use Rattle.lr_tables.specs.Grammar.{IsGrammar};
+ghost use Rattle.lr_tables.specs.Tables.{First};
 ghost use Rattle.sc_items.specs.Reach.{EdgesWithin, marked};
-ghost use Rattle.sc_model.specs.declared.grammar.Grammar.{Grammar};
+ghost use Rattle.lr_tables.specs.declared.grammar.Grammar.{Grammar};
 ghost use Rattle.sc_lalr.specs.First.{Leads, IsLeading};
 
 use sc_base::OutOfMemory;
 use sc_items::{after, begun, reachable};
-use sc_model::Grammar;
+use lr_tables::Grammar;
 use std::alloc::Global;
 
 /// The symbols from which a text can be derived that begins with the terminal, as marks.

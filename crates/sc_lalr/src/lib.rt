@@ -12,6 +12,3 @@ mod tables;
 
 pub use construction::build;
 pub use tables::Tables;
-
-#[cfg(test)]
-mod tests;

@@ -1,7 +1,7 @@
 //! Lookaheads.
 ghost use Rattle.std.specs.Prelude.{◌≡◌, ◌<◌, ◌↔◌, ◌+◌, ◌++◌, ℕ, List, length, IfOk, OnOk, All, IsTrue};
 ghost use Rattle.std.specs.List.{flat_map};
-ghost use Rattle.sc_model.specs.Grammar.{IsGrammar};
+ghost use Rattle.lr_tables.specs.Grammar.{IsGrammar};
 ghost use Rattle.sc_items.specs.Kernel.{IsOpened};
 ghost use Rattle.sc_items.specs.States.{AreStates, kernels_of};
 ghost use Rattle.sc_lalr.specs.Propagation.{AreNodes, HavePlaces, AreSources, AreLookaheads, IsFollowed, PlaceFits, seed_part};
@@ -11,7 +11,7 @@ use crate::nodes::Nodes;
 use crate::propagation::{numbered, propagation};
 use sc_base::OutOfMemory;
 use sc_items::{States, after, opened, reachable};
-use sc_model::Grammar;
+use lr_tables::Grammar;
 use std::alloc::Global;
 
 /// For each terminal the nodes of which it is a lookahead, as marks.

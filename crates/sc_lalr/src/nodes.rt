@@ -7,7 +7,7 @@ ghost use Rattle.sc_lalr.specs.Propagation.{AreNodes};
 
 use sc_base::OutOfMemory;
 use sc_items::States;
-use sc_model::Grammar;
+use lr_tables::Grammar;
 use std::alloc::Global;
 
 /// The items that stand in the states.

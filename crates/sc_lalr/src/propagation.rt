@@ -1,7 +1,7 @@
 //! How lookaheads are passed on.
 ghost use Rattle.std.specs.Prelude.{◌≡◌, ◌<◌, ◌↔◌, ◌+◌, ◌*◌, ◌++◌, ℕ, length, IfOk, IfSome, OnOk, All};
 ghost use Rattle.std.specs.List.{Contains};
-ghost use Rattle.sc_model.specs.Grammar.{IsGrammar};
+ghost use Rattle.lr_tables.specs.Grammar.{IsGrammar};
 ghost use Rattle.sc_items.specs.Kernel.{IsOpened};
 ghost use Rattle.sc_items.specs.Reach.{EdgesWithin};
 ghost use Rattle.sc_items.specs.States.{AreStates, kernels_of};
@@ -10,7 +10,7 @@ ghost use Rattle.sc_lalr.specs.Propagation.{AreNodes, PassesTo, IsPropagation, a
 use crate::nodes::Nodes;
 use sc_base::OutOfMemory;
 use sc_items::{States, after};
-use sc_model::Grammar;
+use lr_tables::Grammar;
 use std::alloc::Global;
 
 /// For each node those to which its lookaheads are passed on.

@@ -2,14 +2,14 @@
 ghost use Rattle.std.specs.Prelude.{◌<◌, ◌+◌, ◌↔◌, ℕ, length, slice_index, IfOk, All};
 ghost use Rattle.std.specs.List.{Contains};
 ghost use Rattle.std.specs.List.Sorted.{IsStrictlyIncreasing};
-ghost use Rattle.sc_model.specs.Grammar.{IsGrammar};
+ghost use Rattle.lr_tables.specs.Grammar.{IsGrammar};
 ghost use Rattle.sc_items.specs.Kernel.{IsListOf};
 ghost use Rattle.sc_items.specs.States.{AreStates, kernels_of};
 ghost use Rattle.sc_lalr.specs.Tables.{EndsIn, IsAtEnd, IsMarkedEnd};
 
 use sc_base::OutOfMemory;
 use sc_items::{States, after, production_at};
-use sc_model::Grammar;
+use lr_tables::Grammar;
 use std::alloc::Global;
 
 /// The items of the state whose dot stands at the end.

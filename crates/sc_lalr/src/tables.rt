@@ -1,5 +1,5 @@
 //! The tables.
-use sc_model::{Action, Conflict, Nonterminal, Terminal};
+use lr_tables::{Action, Conflict, Nonterminal, Terminal};
 
 /// The LALR(1) tables of a grammar.
 #[derive(Drop)]

@@ -1,9 +1,9 @@
 -- One row after another, the longest piece.
 use Rattle.std.proofs.Common.{◌≡◌, ℕ, ◌+◌, ◌<◌, ◌≤◌, ◌&&◌, ◌||◌, not, inl, inr, Bool, true, false, List, [], ◌∷◌, length, take, refl, sym, ap, ◌∙◌, arith}
 use Rattle.std.proofs.lemmas.Bool.{cases_lt, and_right, true≢false}
-use Rattle.sc_model.specs.Lex.{Row, blank, comment, token, rank, fits, fits_here, expects_header, is_header_row, IsLongest, IsUnended}
+use Rattle.c11_tokens.specs.Lex.{Row, blank, comment, token, rank, fits, fits_here, expects_header, is_header_row, IsLongest, IsUnended}
 use Rattle.sc_model.specs.declared.kind.Kind.TheVariants.{Identifier, Number, Character, Text, Header, Punctuator, Other, Newline}
-use Rattle.sc_model.proofs.LexLaws.{same_rank}
+use Rattle.c11_tokens.proofs.LexLaws.{same_rank}
 use Rattle.sc_lex.specs.Scan.{IsLongestFront}
 use Rattle.sc_lex.specs.Piece.{IsBestBefore}
 use Rattle.sc_lex.proofs.Fronts.{IsLongestFront-same, closing_byte}

@@ -7,11 +7,12 @@ use Rattle.sc_base.specs.declared.place.Place.{Place}
 use Rattle.sc_model.specs.declared.kind.Kind.{Kind}
 use Rattle.sc_model.specs.Growth.{Extends}
 use Rattle.sc_model.specs.Token.{Position, Lexeme, name_of}
-use Rattle.sc_model.specs.Lex.{Row, token, Marked, bytes_of, IsLongest, IsUnended, is_white, is_newline, line_after, with_first, Lexes, nothing, white, piece, unended, Lexed, phase_1}
-use Rattle.sc_lex.specs.declared.token.Token.{Token}
+use Rattle.c11_tokens.specs.Lex.{Row, token, Marked, bytes_of, IsLongest, IsUnended, is_white, is_newline, line_after, with_first, Lexes, nothing, white, piece, unended, Lexed, phase_1}
+use Rattle.sc_base.specs.declared.token.Token.{Token}
 use Rattle.sc_lex.specs.declared.line.LineFront.{LineFront}
 use Rattle.sc_lex.specs.Line.{front_of}
-use Rattle.sc_lex.specs.Spell.{position_of, lexeme_at, Spell, AreTokensOf, IsUnendedAt}
+use Rattle.sc_base.specs.Seen.{position_of}
+use Rattle.sc_lex.specs.Spell.{lexeme_at, Spell, AreTokensOf, IsUnendedAt}
 use Rattle.sc_lex.proofs.Spells.{Spell-Extends, Spell-none, Spell-push}
 
 -- these tokens first

@@ -3,7 +3,7 @@ use Rattle.std.proofs.Common.{◌≡◌, ℕ, ◌==◌, ◌&&◌, Bool, true, fa
 use lib.Pointwise.{pointwise}
 use Rattle.sc_model.specs.Bytes.{same_bytes}
 use Rattle.sc_model.specs.Token.{name_of}
-use Rattle.sc_model.specs.Lex.{expects_header}
+use Rattle.c11_tokens.specs.Lex.{expects_header}
 use Rattle.sc_lex.specs.declared.line.LineFront.{LineFront}
 use Rattle.sc_lex.specs.declared.line.LineFront.TheVariants.{Start, Hash, Include, Other}
 use Rattle.sc_lex.specs.Line.{front_of}

@@ -3,7 +3,7 @@ use Rattle.std.proofs.Common.{◌≡◌, ℕ, zero, suc, ◌+◌, ◌<◌, ◌�
 use Rattle.std.proofs.lemmas.Bool.{cases_Bool, and_parts, and_cases, and_left, and_right, or_from, or_parts, or_cases, or_right, eqb-true, leb-true, leb-false, le-leb, lt-leb, true≢false}
 use Rattle.std.specs.List.{list_all}
 use Rattle.sc_model.specs.Bytes.{is_hex_digit, is_letter, is_digit}
-use Rattle.sc_model.specs.Lex.{goes_on, is_named, number_goes_on, number_is_named, is_exponent, is_identifier, is_number, begins_with_digit}
+use Rattle.c11_tokens.specs.Lex.{goes_on, is_named, number_goes_on, number_is_named, is_exponent, is_identifier, is_number, begins_with_digit}
 use Rattle.sc_lex.specs.Scan.{IsLongestFront, hex_front, universal_length, letter_length, number_letter_length, is_sign, begins_name, begins_number}
 use Rattle.sc_lex.proofs.Fronts.{Becomes, Becomes-one, IsStuck, Becomes-more, longest_where_stuck, IsLongestFront-same, none_where_stuck, longest_after}
 

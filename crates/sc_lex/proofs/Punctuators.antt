@@ -4,7 +4,7 @@ use Rattle.std.specs.List.{list_any, list_all}
 use Rattle.std.proofs.lemmas.Bool.{and_parts, or_from, and_right, leb-true, le-leb, cases_lt}
 use Rattle.std.proofs.lemmas.List.{length-take-le}
 use Rattle.sc_model.specs.Bytes.{same_bytes}
-use Rattle.sc_model.specs.Lex.{is_punctuator, punctuators}
+use Rattle.c11_tokens.specs.Lex.{is_punctuator, punctuators}
 use Rattle.sc_lex.specs.Scan.{IsLongestFront, has_punctuator}
 
 same_bytes-longer : (xs ys : List ℕ) → length ys < length xs → same_bytes xs ys ≡ false

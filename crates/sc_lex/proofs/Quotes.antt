@@ -3,7 +3,8 @@ use Rattle.std.proofs.Common.{◌≡◌, ℕ, zero, suc, ◌+◌, ◌<◌, ◌�
 use Rattle.std.specs.List.{list_any, starts_with}
 use Rattle.std.proofs.lemmas.Bool.{cases_Bool, and_parts, and_cases, and_left, and_right, or_from, eq-eqb, eqb-true, eqb-false, ne_eqb, le-ltb, le-leb, leb-true, not-true, true≢false}
 use Rattle.sc_model.specs.Bytes.{same_bytes, begins_with}
-use Rattle.sc_model.specs.Lex.{closes, escapes, header_closes, comment_closes, has_no_newline, is_comment, IsUnended}
+use Rattle.c11_tokens.specs.Lex.{closes, escapes, header_closes, comment_closes, is_comment, IsUnended}
+use Rattle.sc_model.specs.Bytes.{has_no_newline}
 use Rattle.sc_lex.specs.Scan.{IsLongestFront, quoted_length, opens}
 use Rattle.sc_lex.proofs.Fronts.{Becomes, Becomes-one, Unmet, Unmet-one, IsStuck, closing_byte, byte_before, byte_before_none, none_where_stuck, IsLongestFront-same, longest_after}
 

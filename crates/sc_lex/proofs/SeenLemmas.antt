@@ -5,10 +5,11 @@ use Rattle.std.specs.Option.{option_map}
 use Rattle.std.specs.Prelude.{All, slice_get, unwrap_or}
 use Rattle.sc_base.specs.declared.id.FileId.{FileId}
 use Rattle.sc_base.specs.declared.place.Place as declared_place
-use Rattle.sc_lex.specs.declared.token.Token as declared_token
-use Rattle.sc_lex.specs.Seen.{text_at, seen, seen_place, IsHeld}
+use Rattle.sc_base.specs.declared.token.Token as declared_token
+use Rattle.sc_base.specs.Seen.{text_at, seen, seen_place, IsHeld}
 use Rattle.sc_lex.specs.Spell as spell
-use Rattle.sc_lex.specs.Spell.{position_of, lexeme_at, AreTokensOf}
+use Rattle.sc_base.specs.Seen.{position_of}
+use Rattle.sc_lex.specs.Spell.{lexeme_at, AreTokensOf}
 use Rattle.sc_model.specs.Token.{Lexeme, in_file, name_of}
 
 -- a place of the file

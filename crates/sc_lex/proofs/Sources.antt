@@ -2,7 +2,7 @@
 use Rattle.std.proofs.Common.{◌≡◌, ℕ, ◌+◌, ◌==◌, ◌&&◌, not, Bool, true, false, cond, List, [], ◌∷◌, drop, Option, Some, None, refl, sym, ap, ◌∙◌, subst, arith}
 use Rattle.std.proofs.lemmas.Bool.{and_parts, eqb-true}
 use Rattle.sc_model.specs.Bytes.{begins_with}
-use Rattle.sc_model.specs.Lex.{Marked, marked_from, bytes_of, without_returns, with_last_newline, phase_1}
+use Rattle.c11_tokens.specs.Lex.{Marked, marked_from, bytes_of, without_returns, with_last_newline, phase_1}
 use Rattle.sc_lex.specs.Source.{logical, Takes}
 use Rattle.sc_lex.proofs.Quotes.{eqb_comm}
 

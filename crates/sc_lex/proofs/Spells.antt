@@ -10,8 +10,9 @@ use Rattle.sc_base.specs.declared.id.FileId.{FileId}
 use Rattle.sc_model.specs.Token.{Lexeme, name_of}
 use Rattle.sc_model.specs.Growth.{Extends}
 use Rattle.sc_base.proofs.Growth.{Extends-keeps}
-use Rattle.sc_lex.specs.declared.token.Token.{Token}
-use Rattle.sc_lex.specs.Spell.{position_of, lexeme_at, Spell, IsHeld}
+use Rattle.sc_base.specs.declared.token.Token.{Token}
+use Rattle.sc_base.specs.Seen.{position_of}
+use Rattle.sc_lex.specs.Spell.{lexeme_at, Spell, IsHeld}
 
 -- what one token is
 abbrev lexeme_of : Token → List ℕ → Lexeme

@@ -2,7 +2,7 @@
 use Rattle.std.proofs.Common.{◌≡◌, ℕ, zero, suc, ◌+◌, ◌-◌, ◌<◌, ◌≤◌, ◌==◌, ◌&&◌, ◌||◌, nat_lt, inl, inr, Bool, true, false, List, [], ◌∷◌, length, take, drop, get_or, refl, sym, ap, ◌∙◌, subst, arith, get_or-drop, zero-add, add-zero, if◌then◌else◌}
 use Rattle.std.proofs.lemmas.Bool.{cases_Bool, cases_lt, and_left, and_right, eqb-true}
 use Rattle.std.proofs.lemmas.List.{drop-drop}
-use Rattle.sc_model.specs.Lex.{closes, is_quoted}
+use Rattle.c11_tokens.specs.Lex.{closes, is_quoted}
 use Rattle.sc_lex.specs.Scan.{IsLongestFront, quoted_length}
 use Rattle.sc_lex.specs.Unclosed.{IsUnclosed}
 use Rattle.sc_lex.proofs.Fronts.{Unmet, Unmet-none, Unmet-never, IsStuck, none_where_stuck}

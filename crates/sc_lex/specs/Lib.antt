@@ -2,7 +2,6 @@ pub mod Line
 pub mod Logical
 pub mod Piece
 pub mod Scan
-pub mod Seen
 pub mod Source
 pub mod Spell
 pub mod Unclosed

@@ -1,6 +1,6 @@
 -- What is left of a source.
 use Rattle.std.specs.Prelude.{List}
-use Rattle.sc_model.specs.Lex.{Marked}
+use Rattle.c11_tokens.specs.Lex.{Marked}
 use Rattle.sc_lex.specs.Source.{logical}
 use Rattle.sc_lex.specs.declared.source.Source.{Source}
 

@@ -1,7 +1,7 @@
 -- The longest piece at the front of a text, found row by row.
 use Rattle.std.specs.Prelude.{◌≡◌, ℕ, ◌<◌, ◌≤◌, List, length, take, true, false}
-use Rattle.sc_model.specs.Lex as lex
-use Rattle.sc_model.specs.Lex.{rank, fits_here}
+use Rattle.c11_tokens.specs.Lex as lex
+use Rattle.c11_tokens.specs.Lex.{rank, fits_here}
 use Rattle.sc_lex.specs.declared.piece.Row.{Row}
 use Rattle.sc_lex.specs.declared.piece.Row.TheVariants.{Blank, Comment, Token}
 

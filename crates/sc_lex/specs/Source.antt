@@ -1,7 +1,7 @@
 -- A file from some byte on, as the later phases of translation see it (C11 5.1.1.2, phase 1).
 use Rattle.std.specs.Prelude.{◌≡◌, ℕ, ◌+◌, ◌==◌, ◌&&◌, Bool, true, false, List, [], ◌∷◌, Option, Some, None, if◌then◌else◌}
 use Rattle.sc_model.specs.Bytes.{begins_with}
-use Rattle.sc_model.specs.Lex.{Marked}
+use Rattle.c11_tokens.specs.Lex.{Marked}
 
 -- The bytes that are left, the first of them at this line and column. A newline is wanted at the end where the byte before it is
 -- another.

@@ -3,14 +3,12 @@ use Rattle.std.specs.Prelude.{◌≡◌, ℕ, ◌<◌, List, length, map, Some, 
 use Rattle.std.specs.Option.{option_map}
 use Rattle.sc_base.specs.declared.id.FileId.{FileId}
 use Rattle.sc_base.specs.declared.place.Place.{Place}
-use Rattle.sc_lex.specs.declared.token.Token.{Token}
+use Rattle.sc_base.specs.Seen.{position_of}
+use Rattle.sc_base.specs.declared.token.Token.{Token}
 use Rattle.sc_lex.specs.declared.stop.LexStop.{LexStop}
 use Rattle.sc_lex.specs.declared.stop.LexStop.TheVariants.{Comment, OutOfMemory}
-use Rattle.sc_model.specs.Token.{Position, Lexeme, name_of}
-use Rattle.sc_model.specs.Lex.{Lexed}
-
-abbrev pub position_of : Place → Position
-position_of p = record { line = p.line; column = p.column }
+use Rattle.sc_model.specs.Token.{Lexeme, name_of}
+use Rattle.c11_tokens.specs.Lex.{Lexed}
 
 -- what the token is, if the table holds its spelling
 abbrev pub lexeme_at : List (List ℕ) → Token → Option Lexeme

@@ -1,7 +1,7 @@
 -- Quotes that are not closed on their line.
 use Rattle.std.specs.Prelude.{◌≡◌, ℕ, ◌+◌, ◌<◌, false, List, take, drop, slice_index}
 use Rattle.sc_lex.specs.declared.unclosed.UnclosedQuotes.{UnclosedQuotes}
-use Rattle.sc_model.specs.Lex.{closes}
+use Rattle.c11_tokens.specs.Lex.{closes}
 
 -- none of these quotes among the first n bytes is closed
 pub record IsUnclosed (quote : ℕ) (bytes : List ℕ) (n : ℕ) : Type 0 where

@@ -1,8 +1,9 @@
 ghost use Rattle.std.specs.Prelude.{◌≡◌, Some, slice_get, All, IfOk, IfErr};
 ghost use Rattle.sc_model.specs.Growth.{Extends, IsOneToOne};
-ghost use Rattle.sc_model.specs.Lex.{is_newline};
+ghost use Rattle.c11_tokens.specs.Lex.{is_newline};
 ghost use Rattle.sc_model.specs.Token.{name_of};
-ghost use Rattle.sc_lex.specs.Spell.{position_of, lexeme_at, IsHeld, AreTokensOf, Refuses};
+ghost use Rattle.sc_base.specs.Seen.{position_of};
+ghost use Rattle.sc_lex.specs.Spell.{lexeme_at, IsHeld, AreTokensOf, Refuses};
 
 use crate::line::{LineFront, digraph};
 use crate::piece::{Row, longest};

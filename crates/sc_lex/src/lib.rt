@@ -7,13 +7,8 @@ mod piece;
 mod scan;
 mod source;
 mod stop;
-mod token;
 mod unclosed;
 
 pub use lexer::tokens;
-pub use sc_model::Kind;
+pub use sc_base::{HasToken, Kind, Token};
 pub use stop::LexStop;
-pub use token::{HasToken, Token};
-
-#[cfg(test)]
-mod tests;

@@ -1,6 +1,6 @@
 ghost use Rattle.std.specs.Prelude.{◌≡◌, ℕ, List, codes, IfSome, IfNone};
 ghost use Rattle.sc_model.specs.Bytes.{same_bytes};
-ghost use Rattle.sc_model.specs.Lex.{expects_header, line_after};
+ghost use Rattle.c11_tokens.specs.Lex.{expects_header, line_after};
 ghost use Rattle.sc_model.specs.Token.{name_of};
 
 use sc_model::Kind;

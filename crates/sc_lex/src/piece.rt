@@ -1,5 +1,5 @@
 ghost use Rattle.std.specs.Prelude.{◌≡◌, ◌+◌, ◌<◌, ℕ, List, length, IfSome, IfNone};
-ghost use Rattle.sc_model.specs.Lex.{token, rank, fits_here, expects_header, IsLongest, IsUnended};
+ghost use Rattle.c11_tokens.specs.Lex.{token, rank, fits_here, expects_header, IsLongest, IsUnended};
 ghost use Rattle.sc_model.specs.declared.kind.Kind.TheVariants as kind;
 ghost use Rattle.sc_lex.specs.Scan.{IsLongestFront};
 ghost use Rattle.sc_lex.specs.Piece.{row_of, IsBestBefore};

@@ -2,11 +2,12 @@
 ghost use Rattle.std.specs.Prelude.{◌≡◌, ◌<◌, ◌&&◌, ℕ, false, [], ◌∷◌, length, take, drop, IfSome, OnSome, IfNone};
 ghost use Rattle.std.specs.List.{list_all};
 ghost use Rattle.sc_model.specs.Bytes.{begins_with, is_letter, is_digit, is_hex_digit};
-ghost use Rattle.sc_model.specs.Lex.{is_blank, is_white_byte, fits, token};
-ghost use Rattle.sc_model.specs.Lex.{is_comment, IsUnended, comment_closes, has_no_newline};
-ghost use Rattle.sc_model.specs.Lex.{is_identifier, goes_on, is_number, is_exponent, number_goes_on};
-ghost use Rattle.sc_model.specs.Lex.{is_character, is_text, is_quoted, closes};
-ghost use Rattle.sc_model.specs.Lex.{is_header, is_delimited, header_closes, is_punctuator};
+ghost use Rattle.c11_tokens.specs.Lex.{is_blank, is_white_byte, fits, token};
+ghost use Rattle.c11_tokens.specs.Lex.{is_comment, IsUnended, comment_closes};
+ghost use Rattle.sc_model.specs.Bytes.{has_no_newline};
+ghost use Rattle.c11_tokens.specs.Lex.{is_identifier, goes_on, is_number, is_exponent, number_goes_on};
+ghost use Rattle.c11_tokens.specs.Lex.{is_character, is_text, is_quoted, closes};
+ghost use Rattle.c11_tokens.specs.Lex.{is_header, is_delimited, header_closes, is_punctuator};
 ghost use Rattle.sc_model.specs.declared.kind.Kind.TheVariants as kind;
 ghost use Rattle.sc_lex.specs.Scan.{IsLongestFront, hex_front, universal_length, letter_length, number_letter_length, begins_name, begins_number, quoted_length, opens, has_punctuator};
 ghost use Rattle.sc_lex.specs.Unclosed.{IsUnclosed};

@@ -1,6 +1,6 @@
 ghost use Rattle.std.specs.Prelude.{◌≡◌, ◌+◌, ◌^◌, ◌<◌, [], ◌∷◌, false, List, length, drop, IfOk};
 ghost use Rattle.sc_model.specs.Bytes.{begins_with};
-ghost use Rattle.sc_model.specs.Lex.{Marked, phase_1, bytes_of};
+ghost use Rattle.c11_tokens.specs.Lex.{Marked, phase_1, bytes_of};
 ghost use Rattle.sc_lex.specs.Source.{Takes};
 
 use sc_base::{FileId, OutOfMemory, Place};
@@ -21,7 +21,7 @@ pub struct Source<'a> {
 
 impl<'a> Source<'a> {
     ghost use Rattle.sc_lex.specs.Logical.{logical_of};
-    ghost use Rattle.sc_lex.specs.Spell.{position_of};
+    ghost use Rattle.sc_base.specs.Seen.{position_of};
 
     /// A whole file.
     pub fn new(bytes: &'a [u8]) -> Source<'a>

@@ -5,16 +5,16 @@ use Rattle.std.proofs.lemmas.List.{get_or-drop, get_or-map, length-append, lengt
 use Rattle.std.proofs.lemmas.List.Elements.{All-map}
 use Rattle.std.proofs.lemmas.Simd.{map-map}
 use Rattle.std.specs.Prelude.{All, slice_get}
-use Rattle.sc_lex.specs.declared.token.Token.{Token}
+use Rattle.sc_base.specs.declared.token.Token.{Token}
 use Rattle.sc_lines.specs.Branches.{begins_branch, ends_branch, IsNextBranch, ClosesAt, last_branch, more_branches, IsBranchOf, HasBranch, HasBranches, without_branch}
 use Rattle.sc_lines.specs.declared.line.Branch.{Branch}
 use Rattle.sc_lines.specs.declared.line.Line as declared_line
 use Rattle.sc_lines.specs.Judges.{line_at}
 use Rattle.sc_lines.specs.Split.{AreLines, tokens_of}
 use Rattle.sc_lines.specs.Unread.{branch_at, sections_at}
-use Rattle.sc_model.specs.declared.conditional.Conditional.{Conditional}
-use Rattle.sc_model.specs.declared.conditional.Conditional.TheVariants.{If, Ifdef, Ifndef, Elif, Else, Endif}
-use Rattle.sc_model.specs.Lines.{Line, conditional_of, is_opening, Group, Branches, empty, plain, section, closing, otherwise, alternative, group_lines, branch_lines, IsGroup, AreBranches, IsTree}
+use Rattle.c11_directives.specs.declared.conditional.Conditional.{Conditional}
+use Rattle.c11_directives.specs.declared.conditional.Conditional.TheVariants.{If, Ifdef, Ifndef, Elif, Else, Endif}
+use Rattle.c11_directives.specs.Lines.{Line, conditional_of, is_opening, Group, Branches, empty, plain, section, closing, otherwise, alternative, group_lines, branch_lines, IsGroup, AreBranches, IsTree}
 
 -- the sections that are open before the lines of these directives, from line i to the last
 abbrev pub sections_from : ℕ → List (Option Conditional) → List Branch

@@ -6,15 +6,15 @@ use Rattle.std.proofs.lemmas.Bool.{cases_lt}
 use Rattle.std.proofs.lemmas.List.{map-id}
 use Rattle.std.proofs.lemmas.Simd.{map-map}
 use Rattle.std.specs.Prelude.{slice_range, if◌then◌else◌}
-use Rattle.sc_lex.specs.declared.token.Token.{Token}
-use Rattle.sc_lex.specs.Seen.{seen, seen_place}
+use Rattle.sc_base.specs.declared.token.Token.{Token}
+use Rattle.sc_base.specs.Seen.{seen, seen_place}
 use Rattle.sc_lines.specs.declared.line.Line.{Line}
 use Rattle.sc_lines.specs.Judges.{line_at, FailsAt, Judges, no_token}
 use Rattle.sc_lines.specs.Nests.{seen_lines}
 use Rattle.sc_lines.specs.Split.{AreLines, tokens_of, token_lines, conditional_at}
 use Rattle.sc_lines.proofs.Judging.{same_at, same_length}
-use Rattle.sc_model.specs.Lex.{is_newline}
-use Rattle.sc_model.specs.Lines as model
+use Rattle.c11_tokens.specs.Lex.{is_newline}
+use Rattle.c11_directives.specs.Lines as model
 
 onto_first-map : {A B : Type 0} (f : A → B) (t : A) (lines : List (List A)) → model.onto_first (f t) (map (map f) lines) ≡ map (map f) (model.onto_first t lines)
 onto_first-map f t [] = refl

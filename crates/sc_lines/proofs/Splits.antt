@@ -4,7 +4,7 @@ use Rattle.std.proofs.Math.Seq.{split_at, take-length}
 use Rattle.std.proofs.Math.ListN.{drop_of_length-le}
 use Rattle.std.proofs.lemmas.Bool.{and_parts, not-true}
 use Rattle.std.specs.List.{list_all}
-use Rattle.sc_model.specs.Lines.{onto_first, split_lines}
+use Rattle.c11_directives.specs.Lines.{onto_first, split_lines}
 
 module _ {T : Type 0} (ends : T → Bool) where
   -- no item ends a line

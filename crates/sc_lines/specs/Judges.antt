@@ -1,9 +1,9 @@
 -- Which line a file's nesting fails at.
 use Rattle.std.specs.Prelude.{◌≡◌, ℕ, ◌<◌, false, List, [], length, Option, Some, None, Err, slice_index_or}
-use Rattle.sc_model.specs.Lines.{Line, IsTree, Group, conditional_of, hash_place, Tree}
+use Rattle.c11_directives.specs.Lines.{Line, IsTree, Group, conditional_of, hash_place, Tree}
 use Rattle.sc_model.specs.declared.kind.Kind.TheVariants.{Newline}
 use Rattle.sc_model.specs.Token.{Place}
-use Rattle.sc_lex.specs.declared.token.Token as declared_token
+use Rattle.sc_base.specs.declared.token.Token as declared_token
 
 -- what stands past the end of a file's tokens
 abbrev pub no_token : declared_token.Token

@@ -2,14 +2,14 @@
 use Rattle.std.specs.Prelude.{◌≡◌, ℕ, List, map, Err, All}
 use Rattle.sc_base.specs.declared.id.FileId.{FileId}
 use Rattle.sc_base.specs.declared.place.Place.{Place}
-use Rattle.sc_lex.specs.declared.token.Token.{Token}
-use Rattle.sc_lex.specs.Seen.{seen, seen_place}
+use Rattle.sc_base.specs.declared.token.Token.{Token}
+use Rattle.sc_base.specs.Seen.{seen, seen_place}
 use Rattle.sc_lines.specs.declared.line.FileTree.{FileTree}
 use Rattle.sc_lines.specs.declared.stop.NestStop.{NestStop}
 use Rattle.sc_lines.specs.declared.stop.NestStop.TheVariants.{Nesting, OutOfMemory}
 use Rattle.sc_lines.specs.Branches.{HasBranches}
 use Rattle.sc_lines.specs.Split.{AreLines}
-use Rattle.sc_model.specs.Lines as model
+use Rattle.c11_directives.specs.Lines as model
 
 -- the lines of the tokens, with any names of files
 abbrev pub seen_lines : List (List ℕ) → List (List ℕ) → List Token → List model.Line

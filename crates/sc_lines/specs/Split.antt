@@ -1,11 +1,11 @@
 -- The lines of a file's tokens.
 use Rattle.std.specs.Prelude.{◌≡◌, ℕ, ◌≤◌, List, [], map, Option, slice_range, All, length}
-use Rattle.sc_lex.specs.declared.token.Token.{Token}
-use Rattle.sc_lex.specs.Seen.{seen}
+use Rattle.sc_base.specs.declared.token.Token.{Token}
+use Rattle.sc_base.specs.Seen.{seen}
 use Rattle.sc_lines.specs.declared.line.Line.{Line}
-use Rattle.sc_model.specs.declared.conditional.Conditional.{Conditional}
-use Rattle.sc_model.specs.Lex.{is_newline}
-use Rattle.sc_model.specs.Lines.{split_lines, conditional_of}
+use Rattle.c11_directives.specs.declared.conditional.Conditional.{Conditional}
+use Rattle.c11_tokens.specs.Lex.{is_newline}
+use Rattle.c11_directives.specs.Lines.{split_lines, conditional_of}
 
 -- the tokens of a line
 abbrev pub tokens_of : List Token → Line → List Token

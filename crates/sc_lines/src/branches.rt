@@ -1,11 +1,11 @@
 ghost use Rattle.std.specs.Prelude.{◌≡◌, List, map, reverse, IfOk, OnOk};
-ghost use Rattle.sc_model.specs.Lines as model;
+ghost use Rattle.c11_directives.specs.Lines as model;
 ghost use Rattle.sc_lines.specs.Branches.{HasBranches, without_branch};
 ghost use Rattle.sc_lines.specs.Unread.{branch_at, branch_here, innermost, sections_at};
 
 use crate::{Branch, Line};
 use sc_base::OutOfMemory;
-use sc_model::Conditional;
+use c11_directives::Conditional;
 use std::alloc::Global;
 
 /// Gives each line the branch that it begins, where it begins one. The lines are nested.

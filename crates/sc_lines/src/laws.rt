@@ -1,6 +1,6 @@
 //! Laws about the definitions, each the contract of a function without code.
 ghost use Rattle.std.specs.Prelude.{◌≡◌, ℕ, List, Option};
-ghost use Rattle.sc_model.specs.Lines.{Line};
+ghost use Rattle.c11_directives.specs.Lines.{Line};
 ghost use Rattle.sc_lines.specs.declared.line.Branch as declared;
 ghost use Rattle.sc_lines.specs.Branches.{HasBranch};
 

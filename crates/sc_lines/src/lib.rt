@@ -14,6 +14,3 @@ pub use laws::a_line_begins_one_branch;
 pub use line::{Branch, FileTree, Line};
 pub use stop::NestStop;
 pub use tree::groups;
-
-#[cfg(test)]
-mod tests;

@@ -1,4 +1,4 @@
-use sc_model::Conditional;
+use c11_directives::Conditional;
 
 /// A line of a file: its tokens from `first` up to `end`, without the newline.
 #[derive(Clone, Copy, Debug, PartialEq, Eq)]

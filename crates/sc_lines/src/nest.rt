@@ -3,7 +3,7 @@ ghost use Rattle.sc_lines.specs.Sections.{nest_by, next_branch, sections_of};
 
 use crate::section::Open;
 use sc_base::OutOfMemory;
-use sc_model::Conditional;
+use c11_directives::Conditional;
 
 /// Whether a line may stand where these sections are open, which it opens, continues or closes.
 pub fn nest(

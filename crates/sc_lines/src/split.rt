@@ -1,13 +1,13 @@
 ghost use Rattle.std.specs.Prelude.{◌≡◌, ◌+◌, ◌<◌, ◌≤◌, ◌∷◌, All, IfOk, length, take, drop};
-ghost use Rattle.sc_lex.specs.Seen.{IsHeld};
-ghost use Rattle.sc_model.specs.Lex.{is_newline};
-ghost use Rattle.sc_model.specs.Lines.{conditional_named};
+ghost use Rattle.sc_base.specs.Seen.{IsHeld};
+ghost use Rattle.c11_tokens.specs.Lex.{is_newline};
+ghost use Rattle.c11_directives.specs.Lines.{conditional_named};
 ghost use Rattle.sc_lines.specs.Split.{AreLines, conditional_at, token_lines};
 
 use crate::Line;
 use sc_base::{Names, OutOfMemory, is_same};
-use sc_lex::{Kind, Token};
-use sc_model::Conditional;
+use sc_base::{Kind, Token};
+use c11_directives::Conditional;
 use std::alloc::Global;
 
 /// The lines of a file's tokens.

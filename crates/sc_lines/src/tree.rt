@@ -1,6 +1,6 @@
 ghost use Rattle.std.specs.Prelude.{◌≡◌, ◌<◌, List, map, length, slice_index_or, All, IfOk, IfErr};
-ghost use Rattle.sc_lex.specs.Seen.{IsHeld};
-ghost use Rattle.sc_model.specs.Lines as model;
+ghost use Rattle.sc_base.specs.Seen.{IsHeld};
+ghost use Rattle.c11_directives.specs.Lines as model;
 ghost use Rattle.sc_lines.specs.Judges.{Judges, no_token};
 ghost use Rattle.sc_lines.specs.Nests.{IsTreeOf, Refuses};
 
@@ -10,7 +10,7 @@ use crate::section::Open;
 use crate::split::lines;
 use crate::{FileTree, Line, NestStop};
 use sc_base::{Names, OutOfMemory, Place};
-use sc_lex::Token;
+use sc_base::Token;
 use std::alloc::Global;
 
 /// The lines of a file, whose conditional directives are nested.

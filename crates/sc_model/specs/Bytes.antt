@@ -1,5 +1,6 @@
 -- Tests of bytes and texts.
-use Rattle.std.specs.Prelude.{ℕ, ◌==◌, ◌&&◌, ◌||◌, nat_le, Bool, true, false, List, [], ◌∷◌}
+use Rattle.std.specs.Prelude.{ℕ, ◌==◌, ◌&&◌, ◌||◌, not, nat_le, Bool, true, false, List, [], ◌∷◌}
+use Rattle.std.specs.List.{list_any}
 
 -- the same bytes
 abbrev pub same_bytes : List ℕ → List ℕ → Bool
@@ -27,3 +28,7 @@ is_hex_digit b = is_digit b || is_between 65 70 b || is_between 97 102 b
 -- a letter, an underscore, or a byte of a character beyond ASCII
 abbrev pub is_letter : ℕ → Bool
 is_letter b = is_between 65 90 b || is_between 97 122 b || b == 95 || nat_le 128 b
+
+-- a text of one line
+abbrev pub has_no_newline : List ℕ → Bool
+has_no_newline bs = not (list_any (λ b. b == 10) bs)

@@ -1,14 +1,8 @@
 pub mod Bytes
 pub mod Cause
-pub mod Grammar
+pub mod Fault
 pub mod Growth
-pub mod Layout
-pub mod Lex
-pub mod Lines
 pub mod Outside
-pub mod Pre
 pub mod Sets
 pub mod Space
-pub mod Tables
-pub mod Text
 pub mod Token

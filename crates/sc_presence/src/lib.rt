@@ -8,6 +8,3 @@ mod rows;
 
 pub use conditions::Conditions;
 pub use plain_sets::{MAX_CONFIGS, PlainSets};
-
-#[cfg(test)]
-mod tests;

@@ -10,10 +10,10 @@ use Rattle.sc_base.specs.declared.id.Cond.{Cond}
 use Rattle.sc_base.proofs.Growth.{Extends-keeps}
 use Rattle.sc_model.specs.declared.variable_option.VariableOption.{VariableOption}
 use Rattle.sc_model.specs.Growth.{Extends}
-use Rattle.sc_model.specs.Layout.{HasOrder, sets_of}
+use Rattle.sc_text.specs.Layout.{HasOrder, sets_of}
 use Rattle.sc_model.specs.Sets.{Sets, IsConfig, IsCond, Keeps, DependsFrom}
 use Rattle.sc_model.specs.Space.{Space, Variable, arities_of, option_text}
-use Rattle.sc_model.specs.Text.{condition_line, condition_at}
+use Rattle.sc_text.specs.Text.{condition_line, condition_at}
 use Rattle.sc_model.proofs.SetLemmas.{IsConfig-kept, DependsFrom-same, DependsFrom-Keeps}
 use Rattle.sc_show.specs.Prints.{HasPlainNames, choices_of}
 use Rattle.sc_show.specs.Rules.{tests_of}

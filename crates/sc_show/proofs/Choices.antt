@@ -8,7 +8,7 @@ use Rattle.std.proofs.lemmas.Bool.Decides.{nat_tests}
 use Rattle.sc_model.specs.declared.variable_option.VariableOption.{VariableOption}
 use Rattle.sc_model.specs.declared.variable_option.VariableOption.TheVariants.{Undefined, Number}
 use Rattle.sc_model.specs.Space.{option_text}
-use Rattle.sc_model.specs.Text.{choice_text, is_word, is_wordless}
+use Rattle.sc_text.specs.Text.{choice_text, is_word, is_wordless}
 use Rattle.sc_show.specs.Prints.{choices_of}
 
 pub choices_of-nil : (os : List VariableOption) → choices_of os [] ≡ []

@@ -8,12 +8,13 @@ use Rattle.std.proofs.lemmas.List.Folds.{concat-append}
 use Rattle.sc_grammar.specs.Terminals.{terminal_names}
 use Rattle.sc_lalr.specs.declared.tables.Tables.{Tables}
 use Rattle.sc_lalr.specs.Tables.{AreTables, conflicts_of}
-use Rattle.sc_lex.specs.Seen.{text_at}
-use Rattle.sc_model.specs.declared.grammar.Action.{Action}
-use Rattle.sc_model.specs.declared.grammar.Action.TheVariants.{Shift, Reduce}
-use Rattle.sc_model.specs.declared.grammar.Conflict.{Conflict}
-use Rattle.sc_model.specs.declared.grammar.Grammar.{Grammar}
-use Rattle.sc_model.specs.Text.{numeral, is_plain, line_text, end_line}
+use Rattle.sc_base.specs.Seen.{text_at}
+use Rattle.lr_tables.specs.declared.grammar.Action.{Action}
+use Rattle.lr_tables.specs.declared.grammar.Action.TheVariants.{Shift, Reduce}
+use Rattle.lr_tables.specs.declared.grammar.Conflict.{Conflict}
+use Rattle.lr_tables.specs.declared.grammar.Grammar.{Grammar}
+use Rattle.sc_text.specs.Text.{numeral, line_text, end_line}
+use Rattle.sc_model.specs.Bytes.{has_no_newline}
 use Rattle.sc_show.specs.Conflicts.{IsNamed, action_text, conflict_text, conflict_pieces}
 use Rattle.sc_show.specs.Pieces.{IsLine}
 use Rattle.sc_show.proofs.Pieces.{has_newline, is_line, newline-append, numeral_plain, line_text_is_line}
@@ -25,14 +26,14 @@ are_named {g} {tables} are few = λ k d h.
     record { terminal = let t = is.terminal in omega arith }
 
 -- no newline stands in the fields
-names_plain : list_all is_plain terminal_names ≡ true
+names_plain : list_all has_no_newline terminal_names ≡ true
 unfolding terminal_names
 names_plain = refl
 
-text_at_plain : (texts : List (List ℕ)) (k : ℕ) → list_all is_plain texts ≡ true → has_newline (text_at texts k) ≡ false
+text_at_plain : (texts : List (List ℕ)) (k : ℕ) → list_all has_no_newline texts ≡ true → has_newline (text_at texts k) ≡ false
 text_at_plain [] k h = refl
-text_at_plain (x ∷ xs) zero h = not-true (has_newline x) (and_parts (is_plain x) (list_all is_plain xs) h).0
-text_at_plain (x ∷ xs) (suc k) h = text_at_plain xs k (and_parts (is_plain x) (list_all is_plain xs) h).1
+text_at_plain (x ∷ xs) zero h = not-true (has_newline x) (and_parts (has_no_newline x) (list_all has_no_newline xs) h).0
+text_at_plain (x ∷ xs) (suc k) h = text_at_plain xs k (and_parts (has_no_newline x) (list_all has_no_newline xs) h).1
 
 action_plain : (action : Action) → has_newline (action_text action) ≡ false
 action_plain (Shift state) = refl

@@ -9,18 +9,18 @@ use Rattle.sc_base.specs.declared.id.Cond.{Cond}
 use Rattle.sc_base.specs.declared.id.FileId.{FileId}
 use Rattle.sc_base.proofs.Growth.{Extends-refl}
 use Rattle.sc_guarded.specs.Items.{seen_fault}
-use Rattle.sc_lex.specs.declared.token.Token.{Token}
-use Rattle.sc_lex.specs.Seen.{seen, text_at}
+use Rattle.sc_base.specs.declared.token.Token.{Token}
+use Rattle.sc_base.specs.Seen.{seen, text_at}
 use Rattle.sc_model.specs.Growth.{IsOneToOne}
-use Rattle.sc_model.specs.Layout.{LaysOut, files_of, sets_of, HasOrder, IsAscending, is_token, is_fault, AreAlike}
+use Rattle.sc_text.specs.Layout.{LaysOut, files_of, sets_of, HasOrder, IsAscending, is_token, is_fault, AreAlike}
 use Rattle.sc_model.specs.Sets.{Sets, IsConfig, IsCond, IsCanonical}
 use Rattle.sc_model.specs.Space.{Space, arities_of, IsListed}
-use Rattle.sc_model.specs.Text.{Condition, TextLine, end_line, line_text, with_end, Reading, nothing_read, condition_at}
+use Rattle.sc_text.specs.Text.{Condition, TextLine, end_line, line_text, with_end, Reading, nothing_read, condition_at}
 use Rattle.sc_model.specs.Token.{shown}
-use Rattle.sc_model.proofs.Alike.{AreAlike-project}
-use Rattle.sc_model.proofs.ItemsRead.{tokens_are, faults_are}
-use Rattle.sc_model.proofs.LayoutLemmas.{LaysOut-end, LaysOut-each_file, HasOrder-same}
-use Rattle.sc_model.proofs.LayoutReading.{tokens_read, faults_read, read-HasRead}
+use Rattle.sc_text.proofs.Alike.{AreAlike-project}
+use Rattle.sc_text.proofs.ItemsRead.{tokens_are, faults_are}
+use Rattle.sc_text.proofs.LayoutLemmas.{LaysOut-end, LaysOut-each_file, HasOrder-same}
+use Rattle.sc_text.proofs.LayoutReading.{tokens_read, faults_read, read-HasRead}
 use Rattle.sc_model.proofs.ListLemmas.{found_in}
 use Rattle.sc_model.proofs.SetLemmas.{Keeps-refl}
 use Rattle.sc_show.specs.declared.printer.Printer.{Printer}

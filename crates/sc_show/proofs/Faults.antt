@@ -10,7 +10,7 @@ use Rattle.sc_base.specs.declared.fault.Fault.{Fault}
 use Rattle.sc_base.specs.declared.id.Cond.{Cond}
 use Rattle.sc_guarded.specs.Items.{faults_at, seen_fault}
 use Rattle.sc_guarded.proofs.ItemLemmas.{faults_at-append, faults_at-Keeps}
-use Rattle.sc_model.specs.Pre as model
+use Rattle.sc_model.specs.Fault as model
 use Rattle.sc_model.specs.Sets.{Sets, IsConfig, IsCond, Denotes, Keeps}
 use Rattle.sc_model.proofs.SetLemmas.{IsConfig-kept, IsConfig-Keeps}
 use Rattle.sc_show.specs.Shows.{AreApart}

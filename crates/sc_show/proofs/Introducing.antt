@@ -10,10 +10,11 @@ use Rattle.sc_base.specs.declared.id.Cond.{Cond}
 use Rattle.sc_base.specs.declared.id.FileId.{FileId}
 use Rattle.sc_base.proofs.Growth.{Extends-refl, Extends-trans, Extends-push}
 use Rattle.sc_model.specs.Growth.{Extends}
-use Rattle.sc_model.specs.Layout.{Introduces, nothing, known, node, IntroducesFiles, no_file, known_file, new_file, HasOrder}
+use Rattle.sc_text.specs.Layout.{Introduces, nothing, known, node, IntroducesFiles, no_file, known_file, new_file, HasOrder}
 use Rattle.sc_model.specs.Sets.{Sets, IsConfig, IsCond, Denotes, Keeps, IsCanonical, IsNever, IsAlways, DependsFrom, IsTop}
 use Rattle.sc_model.specs.Space.{Space, Variable, arities_of}
-use Rattle.sc_model.specs.Text.{TextLine, condition_line, file_line, line_text, is_plain}
+use Rattle.sc_text.specs.Text.{TextLine, condition_line, file_line, line_text}
+use Rattle.sc_model.specs.Bytes.{has_no_newline}
 use Rattle.sc_model.proofs.ListLemmas.{slice_get-front, slice_get-seam}
 use Rattle.sc_model.proofs.SetLemmas.{Keeps-trans, DependsFrom-Keeps}
 use Rattle.sc_show.specs.declared.printer.Printer.{Printer}
@@ -174,7 +175,7 @@ IntroducedFile-known {files} {p} {q} number within keys same same_text = record 
   prints = λ space s before was. subst (Prints space s files q) (sym (append-nil before)) (Prints-printer same keys same_text was);
 }
 
-pub IntroducedFile-new : {files : List (List ℕ)} {p q : Printer} (file : FileId) (name : List ℕ) (number : ℕ) → All (λ (name : List ℕ). is_plain name ≡ true) files → slice_get files file.0 ≡ Some name
+pub IntroducedFile-new : {files : List (List ℕ)} {p q : Printer} (file : FileId) (name : List ℕ) (number : ℕ) → All (λ (name : List ℕ). has_no_newline name ≡ true) files → slice_get files file.0 ≡ Some name
     → number ≡ length p.files.keys → q.files.keys ≡ p.files.keys ++ file ∷ [] → q.conditions.keys ≡ p.conditions.keys → q.text.items ≡ p.text.items ++ line_text (file_line number name)
     → IntroducedFile files p q number
 IntroducedFile-new {files} {p} {q} file name number plain named at keys same written =

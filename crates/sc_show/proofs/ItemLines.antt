@@ -7,16 +7,16 @@ use Rattle.sc_base.specs.declared.fault.Fault as base
 use Rattle.sc_base.specs.declared.id.Cond.{Cond}
 use Rattle.sc_base.specs.declared.id.FileId.{FileId}
 use Rattle.sc_guarded.specs.Items.{faults_at, seen_fault}
-use Rattle.sc_lex.specs.declared.token.Token.{Token}
-use Rattle.sc_lex.specs.Seen.{seen, text_at}
-use Rattle.sc_lex.specs.Spell.{position_of}
-use Rattle.sc_model.specs.Layout.{files_of, IsAscending, AreAlike, no_item, left_out, both as same_item}
+use Rattle.sc_base.specs.declared.token.Token.{Token}
+use Rattle.sc_base.specs.Seen.{seen, text_at}
+use Rattle.sc_base.specs.Seen.{position_of}
+use Rattle.sc_text.specs.Layout.{files_of, IsAscending, AreAlike, no_item, left_out, both as same_item}
 use Rattle.sc_model.specs.Sets.{Sets, IsConfig}
 use Rattle.sc_model.specs.Space.{Space, arities_of}
-use Rattle.sc_model.specs.Text.{Condition, TextLine, condition_at, project}
+use Rattle.sc_text.specs.Text.{Condition, TextLine, condition_at, project}
 use Rattle.sc_model.specs.Token.{shown}
-use Rattle.sc_model.proofs.Ascending.{IsBefore, IsAscending-nil, IsAscending-cons, IsAscending-head, IsAscending-tail}
-use Rattle.sc_model.proofs.LayoutReading.{tokens_read, faults_read}
+use Rattle.sc_text.proofs.Ascending.{IsBefore, IsAscending-nil, IsAscending-cons, IsAscending-head, IsAscending-tail}
+use Rattle.sc_text.proofs.LayoutReading.{tokens_read, faults_read}
 use Rattle.sc_show.specs.Prints.{Agrees}
 use Rattle.sc_show.specs.Rules.{Item, list_item, fault_item, AreLinesOf, no_line, without_line, line_of}
 use Rattle.sc_show.proofs.Choices.{both}

@@ -7,11 +7,11 @@ use Rattle.sc_base.specs.declared.id.Cond.{Cond}
 use Rattle.sc_base.specs.declared.id.FileId.{FileId}
 use Rattle.sc_base.proofs.Growth.{Extends-refl, Extends-trans, Extends-keeps}
 use Rattle.sc_model.specs.Growth.{Extends}
-use Rattle.sc_model.specs.Layout.{Introduces, IntroducesFiles, no_file, known_file, new_file, LaysOut, done, shows, HasOrder, conditions_of, files_of}
+use Rattle.sc_text.specs.Layout.{Introduces, IntroducesFiles, no_file, known_file, new_file, LaysOut, done, shows, HasOrder, conditions_of, files_of}
 use Rattle.sc_model.specs.Sets.{Sets, IsCond, Keeps, IsNever}
 use Rattle.sc_model.specs.Space.{Space}
-use Rattle.sc_model.specs.Text.{Condition, TextLine, file_line}
-use Rattle.sc_model.proofs.LayoutLemmas.{LaysOut-append}
+use Rattle.sc_text.specs.Text.{Condition, TextLine, file_line}
+use Rattle.sc_text.proofs.LayoutLemmas.{LaysOut-append}
 use Rattle.sc_model.proofs.SetLemmas.{Keeps-trans, IsConfig-Keeps, IsNever-Keeps}
 use Rattle.sc_show.specs.declared.printer.Printer.{Printer}
 use Rattle.sc_show.specs.Prints.{IsTable, Prints}

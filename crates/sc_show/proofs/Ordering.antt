@@ -11,9 +11,9 @@ use Rattle.std.proofs.lemmas.List.{map-append, take_more}
 use Rattle.std.proofs.lemmas.List.Elements.{All-append, All-cons}
 use Rattle.sc_base.specs.declared.fault.Fault as base
 use Rattle.sc_guarded.specs.Items.{seen_fault}
-use Rattle.sc_model.specs.Layout.{fault_order, IsAscending}
-use Rattle.sc_model.specs.Pre.{Fault}
-use Rattle.sc_model.proofs.Ascending.{fault_total}
+use Rattle.sc_text.specs.Layout.{fault_order, IsAscending}
+use Rattle.sc_model.specs.Fault.{Fault}
+use Rattle.sc_text.proofs.Ascending.{fault_total}
 use Rattle.sc_model.proofs.ListLemmas.{slice_get-front, slice_get-seam, found_in}
 use Rattle.sc_show.specs.Order.{IsKeyOf, IsInOrder, MayFollow, EndsWith}
 

@@ -7,8 +7,8 @@ use Rattle.std.proofs.lemmas.Bool.{true≢false, and_parts, or_parts, or_from, n
 use Rattle.sc_model.specs.declared.cause.Cause.{Cause}
 use Rattle.sc_model.specs.declared.cause.Cause.TheVariants.{NotFound}
 use Rattle.sc_model.specs.Cause.{code_of, name_of}
-use Rattle.sc_model.specs.Text.{TextLine, condition_line, file_line, token_line, fault_line, end_line, numeral, place_text, choice_text, line_text, is_word, is_wordless, is_clear}
-use Rattle.sc_model.proofs.Numerals.{numeral-digits, is_no_digit}
+use Rattle.sc_text.specs.Text.{TextLine, condition_line, file_line, token_line, fault_line, end_line, numeral, place_text, choice_text, line_text, is_word, is_wordless, is_clear}
+use Rattle.sc_text.proofs.Numerals.{numeral-digits, is_no_digit}
 use Rattle.sc_show.specs.Pieces.{IsLine, byte_before, split_lines_after}
 
 -- no newline stands in these bytes

@@ -10,8 +10,8 @@ use Rattle.sc_model.specs.declared.variable_option.VariableOption.{VariableOptio
 use Rattle.sc_model.specs.Bytes.{same_bytes}
 use Rattle.sc_model.specs.Growth.{IsOneToOne}
 use Rattle.sc_model.specs.Space.{Variable, Space, option_text}
-use Rattle.sc_model.specs.Text.{Reading, TextLine, line_text, read_lines, read_line, is_clear, variable_from, are_options}
-use Rattle.sc_model.proofs.ConditionLemmas.{same_bytes-refl, same_bytes-true}
+use Rattle.sc_text.specs.Text.{Reading, TextLine, line_text, read_lines, read_line, is_clear, variable_from, are_options}
+use Rattle.sc_model.proofs.ByteLemmas.{same_bytes-refl, same_bytes-true}
 use Rattle.sc_show.specs.Prints.{choices_of}
 use Rattle.sc_show.proofs.Choices.{both}
 

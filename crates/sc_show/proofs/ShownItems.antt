@@ -2,10 +2,10 @@
 use Rattle.std.proofs.Common.{◌≡◌, ℕ, Bool, true, false, List, [], ◌∷◌, map, refl, ap, if◌then◌else◌}
 use Rattle.sc_base.specs.declared.id.Cond.{Cond}
 use Rattle.sc_guarded.specs.Items.{items_at}
-use Rattle.sc_lex.specs.declared.token.Token.{Token}
-use Rattle.sc_lex.specs.Seen.{seen}
+use Rattle.sc_base.specs.declared.token.Token.{Token}
+use Rattle.sc_base.specs.Seen.{seen}
 use Rattle.sc_model.specs.Sets.{Sets}
-use Rattle.sc_model.specs.Text.{project}
+use Rattle.sc_text.specs.Text.{project}
 use Rattle.sc_model.specs.Token.{Shown, shown}
 use Rattle.sc_show.specs.Shows.{shown_items}
 

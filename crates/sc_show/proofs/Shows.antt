@@ -5,8 +5,8 @@ use Rattle.std.proofs.lemmas.Option.{same_Some, slice_get_within, get_or_from_sl
 use Rattle.sc_base.specs.declared.fault.Fault as base
 use Rattle.sc_base.specs.declared.id.Cond.{Cond}
 use Rattle.sc_guarded.specs.Items.{faults_at}
-use Rattle.sc_lex.specs.declared.token.Token.{Token}
-use Rattle.sc_lex.specs.Seen.{text_at}
+use Rattle.sc_base.specs.declared.token.Token.{Token}
+use Rattle.sc_base.specs.Seen.{text_at}
 use Rattle.sc_model.specs.declared.cause.Cause.TheVariants.{NotFound}
 use Rattle.sc_model.specs.Sets.{Sets, IsConfig, IsCond, Keeps}
 use Rattle.sc_show.specs.Shows.{IsShowable, IsShowableFault}

@@ -6,17 +6,18 @@ use Rattle.std.proofs.lemmas.Option.{slice_get-map, slice_get_within, same_Some,
 use Rattle.sc_base.specs.declared.id.Cond.{Cond}
 use Rattle.sc_base.specs.declared.id.FileId.{FileId}
 use Rattle.sc_base.specs.declared.place.Place as declared_place
-use Rattle.sc_lex.specs.Seen.{text_at, seen_place}
-use Rattle.sc_lex.specs.Spell.{position_of}
+use Rattle.sc_base.specs.Seen.{text_at, seen_place}
+use Rattle.sc_base.specs.Seen.{position_of}
 use Rattle.indexmap.specs.IndexSet.{insert_key}
 use Rattle.sc_model.specs.declared.cause.Cause.{Cause}
-use Rattle.sc_model.specs.Pre.{Fault}
+use Rattle.sc_model.specs.Fault.{Fault}
 use Rattle.sc_model.specs.Sets.{Sets, IsConfig, IsCond, HasOptions, Denotes, Keeps}
 use Rattle.sc_model.specs.Space.{Space, Variable, arities_of}
-use Rattle.sc_model.specs.Text.{Condition, Reading, TextLine, condition_line, file_line, token_line, fault_line, line_text, is_clear, is_plain, is_word, read_line, condition_at, chosen, read_condition, variable_from, with_condition, with_file, with_token, with_fault, place_of, nothing_read}
+use Rattle.sc_text.specs.Text.{Condition, Reading, TextLine, condition_line, file_line, token_line, fault_line, line_text, is_clear, is_word, read_line, condition_at, chosen, read_condition, variable_from, with_condition, with_file, with_token, with_fault, place_of, nothing_read}
+use Rattle.sc_model.specs.Bytes.{has_no_newline}
 use Rattle.sc_model.specs.Token.{Place, Shown}
 use Rattle.sc_model.proofs.ListLemmas.{slice_get-front, slice_get-seam}
-use Rattle.sc_model.proofs.ConditionLemmas.{condition_at-push, condition_at-last}
+use Rattle.sc_text.proofs.ConditionLemmas.{condition_at-push, condition_at-last}
 use Rattle.sc_model.proofs.SetLemmas.{IsConfig-kept}
 use Rattle.sc_space.specs.Seen.{seen_space, seen_variable}
 use Rattle.sc_space.specs.declared.space.Space as declared_space
@@ -151,11 +152,11 @@ Prints-condition {space} {s} {files} {p} {q} a variable v number children plain 
         ∙ was.conditions.each (slice_index children k) is.child is.found c listed ∙ is.agrees c listed refl
 
 -- a file's line
-pub Prints-file : {space : Space} {s : Sets} {files : List (List ℕ)} {p q : Printer} {before : List TextLine} (file : FileId) (name : List ℕ) (number : ℕ) → All (λ (name : List ℕ). is_plain name ≡ true) files
+pub Prints-file : {space : Space} {s : Sets} {files : List (List ℕ)} {p q : Printer} {before : List TextLine} (file : FileId) (name : List ℕ) (number : ℕ) → All (λ (name : List ℕ). has_no_newline name ≡ true) files
     → slice_get files file.0 ≡ Some name → number ≡ length p.files.keys → q.files.keys ≡ p.files.keys ++ file ∷ [] → q.conditions.keys ≡ p.conditions.keys
     → q.text.items ≡ p.text.items ++ line_text (file_line number name) → Prints space s files p before → Prints space s files q (before ++ file_line number name ∷ [])
 Prints-file {space} {s} {files} {p} {q} file name number plain named at keys same written was =
-    let clear = subst (λ (text : List ℕ). is_plain text ≡ true) (get_or_from_slice_get files file.0 name name named) (plain file.0 name (slice_get_within files file.0 name named)) in
+    let clear = subst (λ (text : List ℕ). has_no_newline text ≡ true) (get_or_from_slice_get files file.0 name name named) (plain file.0 name (slice_get_within files file.0 name named)) in
     let next : number ≡ length was.reading.files = at ∙ sym (ap length was.names ∙ length-map p.files.keys (λ (f : FileId). text_at files f.0)) in
     let read = ap (λ b. if b then Some (with_file was.reading name) else None) (eq-eqb number (length was.reading.files) next) in
     let named_so : text_at files file.0 ≡ name = ap (λ o. unwrap_or o []) named in
@@ -183,7 +184,7 @@ module _ {space : Space} {s : Sets} {files : List (List ℕ)} {p : Printer} {con
   named_still = was.names ∙ ap (map (λ (f : FileId). text_at files f.0)) (sym kept_files)
 
   -- a token's line
-  pub Prints-token : (spelling : List ℕ) → is_plain spelling ≡ true → q.text.items ≡ p.text.items ++ line_text (token_line n (printed_place m place) spelling)
+  pub Prints-token : (spelling : List ℕ) → has_no_newline spelling ≡ true → q.text.items ≡ p.text.items ++ line_text (token_line n (printed_place m place) spelling)
       → Prints space s files q (before ++ token_line n (printed_place m place) spelling ∷ [])
   Prints-token spelling plain written =
       let it : Shown = record { place = seen_place files place; spelling = spelling } in

@@ -1,11 +1,11 @@
 -- The text of the conflicts of tables.
 use Rattle.std.specs.Prelude.{ℕ, ◌<◌, List, [], ◌∷◌, ◌++◌, map, codes}
 use Rattle.sc_grammar.specs.Terminals.{terminal_names}
-use Rattle.sc_lex.specs.Seen.{text_at}
-use Rattle.sc_model.specs.declared.grammar.Action.{Action}
-use Rattle.sc_model.specs.declared.grammar.Action.TheVariants.{Shift, Reduce}
-use Rattle.sc_model.specs.declared.grammar.Conflict.{Conflict}
-use Rattle.sc_model.specs.Text.{numeral, line_text, end_line}
+use Rattle.sc_base.specs.Seen.{text_at}
+use Rattle.lr_tables.specs.declared.grammar.Action.{Action}
+use Rattle.lr_tables.specs.declared.grammar.Action.TheVariants.{Shift, Reduce}
+use Rattle.lr_tables.specs.declared.grammar.Conflict.{Conflict}
+use Rattle.sc_text.specs.Text.{numeral, line_text, end_line}
 
 -- the terminal of the conflict has a name
 pub record IsNamed (c : Conflict) : Type 0 where

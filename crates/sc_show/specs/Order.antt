@@ -3,8 +3,8 @@ use Rattle.std.specs.Prelude.{◌≡◌, ℕ, ◌+◌, List, [], ◌∷◌, ◌+
 use Rattle.std.specs.Borrow.{Bor}
 use Rattle.std.specs.Ordering.{is_lt}
 use Rattle.sc_model.specs.Cause.{code_of}
-use Rattle.sc_model.specs.Layout.{fault_order}
-use Rattle.sc_model.specs.Pre.{Fault}
+use Rattle.sc_text.specs.Layout.{fault_order}
+use Rattle.sc_model.specs.Fault.{Fault}
 
 -- what the fault is ordered by
 pub record IsKeyOf (f : Fault) (key : Bor (List ℕ) × ℕ × ℕ × ℕ) : Type 0 where

@@ -1,11 +1,11 @@
 -- A text as pieces, each a line.
 use Rattle.std.specs.Prelude.{◌≡◌, ℕ, ◌==◌, true, List, [], ◌∷◌, ◌++◌, if◌then◌else◌}
-use Rattle.sc_model.specs.Text.{is_plain}
+use Rattle.sc_model.specs.Bytes.{has_no_newline}
 
 -- a newline ends the piece, and no other one stands in it
 pub record IsLine (piece : List ℕ) : Type 0 where
   pub front : List ℕ
-  pub plain : is_plain front ≡ true
+  pub plain : has_no_newline front ≡ true
   pub whole : piece ≡ front ++ 10 ∷ []
 
 -- the byte at the front of the first piece

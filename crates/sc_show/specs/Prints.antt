@@ -4,13 +4,13 @@ use Rattle.std.specs.List.{concat, list_all}
 use Rattle.sc_base.specs.declared.id.Cond.{Cond}
 use Rattle.sc_base.specs.declared.id.FileId.{FileId}
 use Rattle.sc_base.specs.declared.place.Place as declared_place
-use Rattle.sc_lex.specs.Seen.{text_at}
-use Rattle.sc_lex.specs.Spell.{position_of}
+use Rattle.sc_base.specs.Seen.{text_at}
+use Rattle.sc_base.specs.Seen.{position_of}
 use Rattle.sc_model.specs.declared.variable_option.VariableOption.{VariableOption}
 use Rattle.sc_model.specs.Growth.{IsOneToOne}
 use Rattle.sc_model.specs.Sets.{Sets, IsConfig, IsCond, Denotes}
 use Rattle.sc_model.specs.Space.{Space, Variable, option_text}
-use Rattle.sc_model.specs.Text.{Condition, Printed, Reading, TextLine, line_text, nothing_read, read_lines, condition_at, is_clear, is_word}
+use Rattle.sc_text.specs.Text.{Condition, Printed, Reading, TextLine, line_text, nothing_read, read_lines, condition_at, is_clear, is_word}
 use Rattle.sc_show.specs.declared.printer.Printer.{Printer}
 
 -- each name can stand in a line, and names one variable

@@ -8,13 +8,13 @@ use Rattle.sc_base.specs.declared.id.Cond.{Cond}
 use Rattle.sc_base.specs.declared.id.FileId.{FileId}
 use Rattle.sc_base.specs.declared.place.Place as declared_place
 use Rattle.sc_guarded.specs.Items.{faults_at, seen_fault}
-use Rattle.sc_lex.specs.declared.token.Token.{Token}
-use Rattle.sc_lex.specs.Seen.{text_at}
+use Rattle.sc_base.specs.declared.token.Token.{Token}
+use Rattle.sc_base.specs.Seen.{text_at}
 use Rattle.sc_model.specs.Growth.{Extends}
-use Rattle.sc_model.specs.Layout.{Introduces, IntroducesFiles, LaysOut, HasOrder, IsAscending}
+use Rattle.sc_text.specs.Layout.{Introduces, IntroducesFiles, LaysOut, HasOrder, IsAscending}
 use Rattle.sc_model.specs.Sets.{Sets, IsConfig, IsNever, Keeps, DependsFrom}
 use Rattle.sc_model.specs.Space.{Space}
-use Rattle.sc_model.specs.Text.{Condition, TextLine, token_line, fault_line}
+use Rattle.sc_text.specs.Text.{Condition, TextLine, token_line, fault_line}
 use Rattle.sc_show.specs.declared.printer.Printer.{Printer}
 use Rattle.sc_show.specs.Prints.{IsTable, Prints, printed_place}
 

@@ -4,12 +4,13 @@ use Rattle.std.specs.List.{concat}
 use Rattle.sc_base.specs.declared.fault.Fault as base
 use Rattle.sc_base.specs.declared.id.Cond.{Cond}
 use Rattle.sc_guarded.specs.Items.{faults_at, seen_fault}
-use Rattle.sc_lex.specs.declared.token.Token.{Token}
-use Rattle.sc_lex.specs.Seen.{IsHeld, seen, text_at}
-use Rattle.sc_model.specs.Layout.{IsTextOf, AreAlike}
+use Rattle.sc_base.specs.declared.token.Token.{Token}
+use Rattle.sc_base.specs.Seen.{IsHeld, seen, text_at}
+use Rattle.sc_text.specs.Layout.{IsTextOf, AreAlike}
 use Rattle.sc_model.specs.Sets.{Sets, IsConfig, IsCond}
 use Rattle.sc_model.specs.Space.{Space}
-use Rattle.sc_model.specs.Text.{Condition, Answer, project, is_plain}
+use Rattle.sc_text.specs.Text.{Condition, Answer, project}
+use Rattle.sc_model.specs.Bytes.{has_no_newline}
 use Rattle.sc_model.specs.Token.{Shown, shown}
 use Rattle.sc_show.specs.Pieces.{split_lines_after}
 
@@ -18,7 +19,7 @@ pub record IsShowable (s : Sets) (names files : List (List ℕ)) (item : Cond ×
   pub own : IsCond s item.0.0
   pub held : IsHeld names item.1
   pub file : item.1.place.file.0 < length files
-  pub plain : is_plain (text_at names item.1.spelling.0) ≡ true
+  pub plain : has_no_newline (text_at names item.1.spelling.0) ≡ true
 
 pub record IsShowableFault (s : Sets) (files : List (List ℕ)) (f : base.Fault) : Type 0 where
   pub own : IsCond s f.cond.0

@@ -9,7 +9,7 @@ use crate::lines::{write_end, write_number};
 use sc_base::OutOfMemory;
 use sc_grammar::terminal_name;
 use sc_lalr::Tables;
-use sc_model::{Action, Conflict};
+use lr_tables::{Action, Conflict};
 use std::alloc::Global;
 
 fn write_action(text: &mut Vec<u8>, action: Action) -> Result<(), OutOfMemory>

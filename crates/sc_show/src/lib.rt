@@ -9,6 +9,3 @@ mod tokens;
 
 pub use conflicts::show_conflicts;
 pub use tokens::show_tokens;
-
-#[cfg(test)]
-mod tests;

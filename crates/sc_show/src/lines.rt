@@ -1,7 +1,7 @@
 //! The lines of a text, each written at its end.
 ghost use Rattle.std.specs.Prelude.{◌≡◌, ◌++◌, length, codes, string_bytes, OnOk};
 ghost use Rattle.sc_model.specs.Space.{option_text};
-ghost use Rattle.sc_model.specs.Text.{numeral, place_text, choice_text, line_text, condition_line, file_line, token_line, fault_line, end_line};
+ghost use Rattle.sc_text.specs.Text.{numeral, place_text, choice_text, line_text, condition_line, file_line, token_line, fault_line, end_line};
 ghost use Rattle.sc_show.specs.Prints.{choices_of, printed_place};
 
 use itoa::Buffer;
@@ -9,7 +9,7 @@ use sc_base::{Cause, OutOfMemory, Place};
 use sc_model::VariableOption;
 use sc_space::Variable;
 
-#[tactic(auto, using(sc_model::proofs::Numerals::numeral_is))]
+#[tactic(auto, using(sc_text::proofs::Numerals::numeral_is))]
 pub fn write_number(text: &mut Vec<u8>, number: usize) -> Result<(), OutOfMemory>
     ensures { OnOk result (text.new.items ≡ text.old.items ++ numeral number) }
 {

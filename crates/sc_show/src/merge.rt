@@ -1,7 +1,7 @@
 ghost use Rattle.std.specs.Prelude.{◌≡◌, ◌<◌, ◌++◌, ◌∷◌, ◌↔◌, [], ℕ, List, All, IsTrue, length, map, IfOk, OnOk};
 ghost use Rattle.std.specs.List.Sorted.{IsPermutation};
 ghost use Rattle.sc_guarded.specs.Items.{faults_at, seen_fault};
-ghost use Rattle.sc_model.specs.Layout.{fault_order, IsAscending};
+ghost use Rattle.sc_text.specs.Layout.{fault_order, IsAscending};
 ghost use Rattle.sc_model.specs.Sets.{IsConfig, IsCond, Keeps};
 ghost use Rattle.sc_show.specs.Order.{IsKeyOf, IsInOrder, MayFollow, EndsWith};
 ghost use Rattle.sc_show.specs.Shows.{IsShowableFault, AreApart};

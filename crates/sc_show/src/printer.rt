@@ -3,7 +3,8 @@ ghost use Rattle.sc_model.specs.Growth.{IsOneToOne};
 ghost use Rattle.sc_model.specs.Sets.{IsCond, Keeps, DependsFrom};
 ghost use Rattle.sc_model.specs.Space as model;
 ghost use Rattle.sc_model.specs.Space.{arities_of};
-ghost use Rattle.sc_model.specs.Text.{is_plain, line_text, end_line};
+ghost use Rattle.sc_model.specs.Bytes.{has_no_newline};
+ghost use Rattle.sc_text.specs.Text.{line_text, end_line};
 ghost use Rattle.sc_space.specs.Seen.{seen_space};
 ghost use Rattle.sc_show.specs.Rules.{token_item, fault_item, AreFrom, Introduced, IntroducedFile, LaidOut};
 ghost use Rattle.sc_show.specs.Prints.{HasPlainNames, IsTable, Prints};
@@ -93,7 +94,7 @@ impl Printer {
     /// The number of a file, after the line that it needs.
     fn file_number(&mut self, files: &Files, file: FileId) -> Result<usize, OutOfMemory>
         requires file { file.0 < length files.now }
-        requires plain { All (λ name. is_plain name ≡ true) files.now }
+        requires plain { All (λ name. has_no_newline name ≡ true) files.now }
         ensures number { IfOk result (λ n. slice_get self.new.files.keys n ≡ Some file) }
         ensures lines { IfOk result (IntroducedFile files.now self.old self.new) }
     {
@@ -116,10 +117,10 @@ impl Printer {
     ) -> Result<(), OutOfMemory>
         requires own { IsCond (C.sets conds.old) cond.0 }
         requires file { place.file.0 < length files.now }
-        requires spelling { is_plain spelling.now ≡ true }
+        requires spelling { has_no_newline spelling.now ≡ true }
         requires arities { (C.sets conds.old).arities ≡ arities_of (seen_space space.now) }
         requires names { HasPlainNames (seen_space space.now) }
-        requires plain { All (λ name. is_plain name ≡ true) files.now }
+        requires plain { All (λ name. has_no_newline name ≡ true) files.now }
         requires table { IsTable (C.sets conds.old) self.old.conditions.keys }
         ensures lines { OnOk result (LaidOut (seen_space space.now) (C.sets conds.old) (C.sets conds.new) files.now self.old self.new (token_item cond place spelling.now ∷ [])) }
 
@@ -146,7 +147,7 @@ impl Printer {
         requires file { fault.place.file.0 < length files.now }
         requires arities { (C.sets conds.old).arities ≡ arities_of (seen_space space.now) }
         requires names { HasPlainNames (seen_space space.now) }
-        requires plain { All (λ name. is_plain name ≡ true) files.now }
+        requires plain { All (λ name. has_no_newline name ≡ true) files.now }
         requires table { IsTable (C.sets conds.old) self.old.conditions.keys }
         ensures lines { OnOk result (LaidOut (seen_space space.now) (C.sets conds.old) (C.sets conds.new) files.now self.old self.new (fault_item fault ∷ [])) }
 

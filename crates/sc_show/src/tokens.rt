@@ -1,7 +1,7 @@
 ghost use Rattle.std.specs.Prelude.{◌≡◌, true, All, map, IfOk, OnOk};
 ghost use Rattle.sc_model.specs.Sets.{Keeps};
 ghost use Rattle.sc_model.specs.Space.{arities_of};
-ghost use Rattle.sc_model.specs.Text.{is_plain};
+ghost use Rattle.sc_model.specs.Bytes.{has_no_newline};
 ghost use Rattle.sc_space.specs.Seen.{seen_space};
 ghost use Rattle.sc_show.specs.Prints.{HasPlainNames, IsTable};
 ghost use Rattle.sc_show.specs.Rules.{list_item, fault_item, LaidOut};
@@ -11,7 +11,7 @@ use crate::merge::merged;
 use crate::printer::Printer;
 use sc_base::{Fault, Files, Names, OutOfMemory};
 use sc_guarded::Guarded;
-use sc_lex::Token;
+use sc_base::Token;
 use sc_presence::Conditions;
 use sc_space::Space;
 use std::alloc::Global;
@@ -26,7 +26,7 @@ fn print_list<C: Conditions>(
 ) -> Result<(), OutOfMemory>
     requires arities { (C.sets conds.old).arities ≡ arities_of (seen_space space.now) }
     requires names { HasPlainNames (seen_space space.now) }
-    requires plain { All (λ name. is_plain name ≡ true) files.now }
+    requires plain { All (λ name. has_no_newline name ≡ true) files.now }
     requires list { All (IsShowable (C.sets conds.old) names.now files.now) list.now }
     requires table { IsTable (C.sets conds.old) printer.old.conditions.keys }
     ensures lines { OnOk result (LaidOut (seen_space space.now) (C.sets conds.old) (C.sets conds.new) files.now printer.old printer.new (map (list_item names.now) list.now)) }
@@ -51,7 +51,7 @@ fn print_faults<C: Conditions>(
 ) -> Result<(), OutOfMemory>
     requires arities { (C.sets conds.old).arities ≡ arities_of (seen_space space.now) }
     requires names { HasPlainNames (seen_space space.now) }
-    requires plain { All (λ name. is_plain name ≡ true) files.now }
+    requires plain { All (λ name. has_no_newline name ≡ true) files.now }
     requires faults { All (IsShowableFault (C.sets conds.old) files.now) faults.now }
     requires table { IsTable (C.sets conds.old) printer.old.conditions.keys }
     ensures lines { OnOk result (LaidOut (seen_space space.now) (C.sets conds.old) (C.sets conds.new) files.now printer.old printer.new (map fault_item faults.now)) }
@@ -77,7 +77,7 @@ pub fn show_tokens<C: Conditions>(
 ) -> Result<Vec<u8>, OutOfMemory>
     requires space { (C.sets conds.old).arities ≡ arities_of (seen_space space.now) }
     requires sound { HasPlainNames (seen_space space.now) }
-    requires files { All (λ name. is_plain name ≡ true) files.now }
+    requires files { All (λ name. has_no_newline name ≡ true) files.now }
     requires list { All (IsShowable (C.sets conds.old) names.now files.now) list.now }
     requires faults { All (IsShowableFault (C.sets conds.old) files.now) faults.now }
     requires apart { AreApart (C.sets conds.old) faults.now }

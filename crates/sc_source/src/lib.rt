@@ -15,6 +15,3 @@ pub use memory_source::MemorySource;
 pub use sink::{Failed, Sink};
 pub use source::{Source, SourceStop};
 pub use std_sink::StdSink;
-
-#[cfg(test)]
-mod tests;

@@ -17,9 +17,10 @@ use Rattle.std.specs.declared.cmp.Ordering.TheVariants.{Less}
 use Rattle.sc_model.specs.declared.variable_option.VariableOption.{VariableOption}
 use Rattle.sc_model.specs.declared.variable_option.VariableOption.TheVariants.{Undefined, Number}
 use Rattle.sc_model.specs.Bytes.{same_bytes, is_digit, is_letter}
-use Rattle.sc_model.specs.Lex.{goes_on, is_identifier}
-use Rattle.sc_model.specs.Space.{Variable, predefined_names}
-use Rattle.sc_model.specs.Text.{is_word, is_wordless}
+use Rattle.c11_tokens.specs.Lex.{goes_on, is_identifier}
+use Rattle.sc_model.specs.Space.{Variable}
+use Rattle.c11_macros.specs.Macros.{predefined_names}
+use Rattle.sc_text.specs.Text.{is_word, is_wordless}
 use Rattle.sc_space.specs.Sound.{IsInRange, IsBefore, IsSoundVariable, IsSound, names_of}
 use Rattle.sc_space.specs.SpaceFile.{Fault, ◌>>=◌, is_identifier_start, is_identifier_byte, is_ascii_identifier, is_protected, read_option, read_each, read_options, same_option, are_different, read_variable, read_variables, is_small, with_defaults}
 use Rattle.toml.specs.Data.{Data, string, integer, array, Items, no_items, item, Members, no_members, member}

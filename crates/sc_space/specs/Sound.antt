@@ -8,10 +8,11 @@ use Rattle.sc_model.specs.declared.variable_option.VariableOption.{VariableOptio
 use Rattle.sc_model.specs.declared.variable_option.VariableOption.TheVariants.{Undefined, Number}
 use Rattle.sc_model.specs.Bytes.{same_bytes}
 use Rattle.sc_model.specs.Growth.{IsOneToOne}
-use Rattle.sc_model.specs.Lex.{is_identifier}
+use Rattle.c11_tokens.specs.Lex.{is_identifier}
 use Rattle.sc_model.specs.Sets.{HasOptions, config_count}
-use Rattle.sc_model.specs.Space.{Variable, Space, arities_of, predefined_names}
-use Rattle.sc_model.specs.Text.{is_word}
+use Rattle.sc_model.specs.Space.{Variable, Space, arities_of}
+use Rattle.c11_macros.specs.Macros.{predefined_names}
+use Rattle.sc_text.specs.Text.{is_word}
 use Rattle.sc_space.specs.SpaceFile.{is_ascii_identifier, is_protected}
 
 -- the number is one of the machine's signed whole numbers

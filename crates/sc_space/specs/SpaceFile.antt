@@ -7,7 +7,8 @@ use Rattle.sc_model.specs.declared.variable_option.VariableOption.{VariableOptio
 use Rattle.sc_model.specs.declared.variable_option.VariableOption.TheVariants.{Undefined, Number}
 use Rattle.sc_model.specs.Bytes.{same_bytes, is_between, is_digit}
 use Rattle.sc_model.specs.Sets.{config_count}
-use Rattle.sc_model.specs.Space.{Variable, Space, predefined_names}
+use Rattle.sc_model.specs.Space.{Variable, Space}
+use Rattle.c11_macros.specs.Macros.{predefined_names}
 use Rattle.toml.specs.Data.{Data, string, integer, array, Items, no_items, item, Members, no_members, member, as_table, get_member}
 use Rattle.toml.specs.Parse.{parse_document}
 

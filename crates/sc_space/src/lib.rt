@@ -8,6 +8,3 @@ mod space;
 pub use fault::{SpaceFault, SpaceStop};
 pub use sc_model::VariableOption;
 pub use space::{Space, Variable};
-
-#[cfg(test)]
-mod tests;

@@ -1,8 +1,8 @@
 use Rattle.std.proofs.Common.{◌≡◌, ◌≤◌, ◌+◌, ◌-◌, suc, ℕ, List, slice_get, slice_range, Some, refl, sym, ap, ◌∙◌, subst, arith}
 use Rattle.std.proofs.lemmas.Option.{same_Some}
-use Rattle.sc_model.specs.Grammar.{Production as Rule, entries_of}
-use Rattle.sc_model.specs.declared.grammar.Entry.{Entry}
-use Rattle.sc_model.specs.declared.grammar.Entry.TheVariants.{Left}
+use Rattle.lr_tables.specs.Grammar.{Production as Rule, entries_of}
+use Rattle.lr_tables.specs.declared.grammar.Entry.{Entry}
+use Rattle.lr_tables.specs.declared.grammar.Entry.TheVariants.{Left}
 use Rattle.sc_grammar.specs.C11.{productions}
 use Rattle.sc_grammar.specs.Production.{places_from, symbols_of}
 use Rattle.sc_grammar.proofs.Places.{reads, rule_same, some_rule}

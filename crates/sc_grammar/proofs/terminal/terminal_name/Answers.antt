@@ -1,7 +1,7 @@
 use Rattle.std.proofs.Common.{ℕ, List, ◌≡◌, ◌<◌, ◌∙◌, sym, ap, refl, length, map, slice_get, get_or, Some, option_map, arith, Bor}
 use Rattle.std.proofs.lemmas.List.{length-map}
 use Rattle.std.proofs.lemmas.Option.{slice_get-map, slice_get-get_or}
-use Rattle.sc_model.specs.declared.grammar.Terminal.{Terminal}
+use Rattle.lr_tables.specs.declared.grammar.Terminal.{Terminal}
 use Rattle.sc_grammar.specs.Terminals.{terminal_names}
 use Rattle.sc_grammar.proofs.terminal.terminal_name.Goals as goal
 

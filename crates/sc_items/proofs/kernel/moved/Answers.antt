@@ -1,7 +1,7 @@
 use Rattle.std.proofs.Common.{◌≤◌, ℕ, List, length, ap, ◌∙◌, sym, subst, Some, take}
 use Rattle.std.proofs.lemmas.List.{take_all}
 use Rattle.std.proofs.lemmas.Option.{same_Some, none-some}
-use Rattle.sc_model.specs.declared.grammar.Grammar.{Grammar}
+use Rattle.lr_tables.specs.declared.grammar.Grammar.{Grammar}
 use Rattle.sc_items.proofs.Opening.{MovedSoFar, MovedSoFar-none, MovedSoFar-left, MovedSoFar-kept}
 use Rattle.sc_items.proofs.kernel.moved.Goals as goal
 use Rattle.sc_items.proofs.kernel.moved.Goals.{in-Some+then-next-symbol+in_ok-push, in-Some+else-next-symbol, in_default}

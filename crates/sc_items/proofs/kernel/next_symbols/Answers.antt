@@ -1,7 +1,7 @@
 use Rattle.std.proofs.Common.{◌≤◌, ℕ, Bool, List, length, get_or, take, ap, ◌∙◌, sym, arith, subst}
 use Rattle.std.proofs.lemmas.List.{take_all}
 use Rattle.std.proofs.lemmas.Option.{none-some}
-use Rattle.sc_model.specs.declared.grammar.Grammar.{Grammar}
+use Rattle.lr_tables.specs.declared.grammar.Grammar.{Grammar}
 use Rattle.sc_items.specs.Kernel.{AreNext}
 use Rattle.sc_items.proofs.Exploring.{after_small}
 use Rattle.sc_items.proofs.Following.{AreNext-none, AreNext-left, AreNext-more}

@@ -1,7 +1,7 @@
 use Rattle.std.proofs.Common.{◌≡◌, ℕ, length, ap, ◌∙◌, sym, arith, Some, None}
 use Rattle.std.proofs.lemmas.Option.{same_Some, none-some}
-use Rattle.sc_model.specs.Grammar.{after, begun}
-use Rattle.sc_model.specs.declared.grammar.Grammar.{Grammar}
+use Rattle.lr_tables.specs.Grammar.{after, begun}
+use Rattle.lr_tables.specs.declared.grammar.Grammar.{Grammar}
 use Rattle.sc_items.specs.Kernel.{Opens}
 use Rattle.sc_items.proofs.Listing.{IsListOf-kept, IsListOf-left, IsListOf-done, IsListOf-empty}
 use Rattle.sc_items.proofs.kernel.opened_by.Goals as goal

@@ -1,7 +1,7 @@
 use Rattle.std.proofs.Common.{◌≡◌, ◌<◌, ◌≤◌, ℕ, length, ap, ◌∙◌, sym, arith, Option, Some, None, is_some, true, false, refl, subst}
 use Rattle.std.proofs.lemmas.Bool.{false≢true}
-use Rattle.sc_model.specs.Grammar.{IsStart, begun, production_at}
-use Rattle.sc_model.specs.declared.grammar.Grammar.{Grammar}
+use Rattle.lr_tables.specs.Grammar.{IsStart, begun, production_at}
+use Rattle.lr_tables.specs.declared.grammar.Grammar.{Grammar}
 use Rattle.sc_items.proofs.Listing.{IsListOf-kept, IsListOf-left, IsListOf-done}
 use Rattle.sc_items.proofs.kernel.start.Goals as goal
 use Rattle.sc_items.proofs.kernel.start.Goals.{then-is_some+then-production_at-lt3+in_ok-push, then-is_some+else-production_at-lt3, else-is_some}

@@ -1,4 +1,4 @@
-use Rattle.sc_model.specs.Grammar.{IsStart}
+use Rattle.lr_tables.specs.Grammar.{IsStart}
 use Rattle.sc_items.specs.Kernel.{IsListOf}
 use Rattle.sc_items.proofs.kernel.start.Given as goal
 

@@ -1,6 +1,6 @@
 use Rattle.std.proofs.Common.{◌≡◌, ◌+◌, ◌<◌, ◌++◌, ◌∷◌, [], ℕ, List, map, take, get_or, length, ap, ◌∙◌, sym}
 use Rattle.std.proofs.lemmas.List.{map_more, append_assoc}
-use Rattle.sc_model.specs.declared.grammar.Conflict.{Conflict}
+use Rattle.lr_tables.specs.declared.grammar.Conflict.{Conflict}
 use Rattle.sc_lalr.specs.Tables.{conflict_at}
 use Rattle.sc_lalr.proofs.conflict.note_lost.Goals as goal
 

@@ -3,8 +3,8 @@ use Rattle.std.specs.List.{Contains}
 use Rattle.std.specs.declared.alloc.Global.{Global}
 use Rattle.std.proofs.lemmas.List.Elements.{Contains-get_or}
 use Rattle.std.proofs.lemmas.Option.{slice_get_read}
-use Rattle.sc_model.specs.Tables.{CanReduce}
-use Rattle.sc_model.specs.declared.grammar.Grammar.{Grammar}
+use Rattle.lr_tables.specs.Tables.{CanReduce}
+use Rattle.lr_tables.specs.declared.grammar.Grammar.{Grammar}
 use Rattle.sc_items.specs.Kernel.{IsListOf}
 use Rattle.sc_items.specs.States.{kernels_of}
 use Rattle.sc_lalr.specs.Propagation.{AreNodes, AreLookaheads}

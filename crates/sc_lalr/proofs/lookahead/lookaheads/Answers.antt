@@ -2,8 +2,8 @@ use Rattle.std.proofs.Common.{◌≡◌, ◌↔◌, ◌<◌, ◌*◌, ℕ, Bool,
 use Rattle.std.specs.List.{Contains, flat_map}
 use Rattle.std.specs.declared.alloc.Global.{Global}
 use Rattle.std.proofs.lemmas.List.Elements.{Contains-get_or}
-use Rattle.sc_model.specs.Tables.{First}
-use Rattle.sc_model.specs.declared.grammar.Grammar.{Grammar}
+use Rattle.lr_tables.specs.Tables.{First}
+use Rattle.lr_tables.specs.declared.grammar.Grammar.{Grammar}
 use Rattle.sc_items.specs.Reach.{marked, IsReached}
 use Rattle.sc_items.specs.States.{kernels_of}
 use Rattle.sc_lalr.specs.First.{IsLeading}

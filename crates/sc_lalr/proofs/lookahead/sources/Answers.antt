@@ -3,7 +3,7 @@ use Rattle.std.specs.List.{Contains}
 use Rattle.std.proofs.lemmas.Bool.{false≢true}
 use Rattle.std.proofs.lemmas.List.{take_all}
 use Rattle.std.proofs.lemmas.List.Elements.{Contains-get_or}
-use Rattle.sc_model.specs.declared.grammar.Grammar.{Grammar}
+use Rattle.lr_tables.specs.declared.grammar.Grammar.{Grammar}
 use Rattle.sc_lalr.specs.Propagation.{HasPlace, AreNodes}
 use Rattle.sc_lalr.specs.declared.nodes.Nodes.{Nodes}
 use Rattle.sc_lalr.proofs.Placing.{place_at}

@@ -4,9 +4,9 @@ use Rattle.std.specs.declared.alloc.Global.{Global}
 use Rattle.std.proofs.lemmas.Option.{none-some, slice_get_read, slice_get_within}
 use Rattle.std.proofs.lemmas.Nat.{div_below}
 use Rattle.std.proofs.lemmas.List.Elements.{Contains-get_or}
-use Rattle.sc_model.specs.Grammar.{after}
-use Rattle.sc_model.specs.Tables.{IsGoto}
-use Rattle.sc_model.specs.declared.grammar.Grammar.{Grammar}
+use Rattle.lr_tables.specs.Grammar.{after}
+use Rattle.lr_tables.specs.Tables.{IsGoto}
+use Rattle.lr_tables.specs.declared.grammar.Grammar.{Grammar}
 use Rattle.sc_items.specs.Kernel.{IsOpened}
 use Rattle.sc_items.specs.States.{kernels_of, NoGoto}
 use Rattle.sc_items.proofs.Listing.{no_member}

@@ -1,7 +1,7 @@
 use Rattle.std.proofs.Common.{◌≤◌, ℕ, Bool, List, length, take, ◌∙◌, sym, subst}
 use Rattle.std.proofs.lemmas.List.{take_all}
 use Rattle.std.proofs.lemmas.Bool.{false≢true}
-use Rattle.sc_model.specs.declared.grammar.Grammar.{Grammar}
+use Rattle.lr_tables.specs.declared.grammar.Grammar.{Grammar}
 use Rattle.sc_lalr.proofs.Reducing.{MarkedSoFar, MarkedSoFar-none, MarkedSoFar-left, MarkedSoFar-kept}
 use Rattle.sc_lalr.proofs.reduction.productions.Goals as goal
 use Rattle.sc_lalr.proofs.reduction.productions.Goals.{then-marks-numbers+in_ok-push, else-marks-numbers}

@@ -1,6 +1,6 @@
 use Rattle.std.proofs.Common.{◌≡◌, ℕ, ◌-◌, ◌+◌, ◌<◌, List, [], ◌∷◌, ◌++◌, Some, length, take, drop, ◌⊎◌, inl, inr, true, false, refl, sym, ap, ◌∙◌, subst, arith}
 use Rattle.std.proofs.lemmas.List.{take_rest, drop-drop}
-use Rattle.sc_model.specs.Lex.{bytes_of, is_newline, line_after, IsLongest, IsUnended, is_white}
+use Rattle.c11_tokens.specs.Lex.{bytes_of, is_newline, line_after, IsLongest, IsUnended, is_white}
 use Rattle.sc_lex.specs.declared.piece.Row.{Row}
 use Rattle.sc_lex.specs.declared.piece.Row.TheVariants.{Blank, Comment}
 use Rattle.sc_lex.specs.declared.line.LineFront.TheVariants.{Start}
@@ -9,7 +9,7 @@ use Rattle.sc_lex.specs.Line.{front_of}
 use Rattle.sc_lex.specs.Logical.{logical_of}
 use Rattle.std.specs.Option.{option_map}
 use Rattle.sc_model.specs.Token.{name_of}
-use Rattle.sc_lex.specs.Spell.{position_of}
+use Rattle.sc_base.specs.Seen.{position_of}
 use Rattle.sc_lex.specs.Piece.{row_of}
 use Rattle.sc_lex.specs.Unclosed.{AreUnclosed}
 use Rattle.sc_lex.proofs.UnclosedLemmas.{IsUnclosed-none}

@@ -1,5 +1,5 @@
 use Rattle.std.proofs.Common.{◌≡◌, ℕ, false, refl}
-use Rattle.sc_model.specs.Lex.{Row, blank, comment, token, fits, is_header_row}
+use Rattle.c11_tokens.specs.Lex.{Row, blank, comment, token, fits, is_header_row}
 use Rattle.sc_model.specs.declared.kind.Kind.TheVariants.{Identifier, Number, Character, Text, Punctuator, Other, Newline}
 use Rattle.sc_lex.specs.Scan.{IsLongestFront}
 use Rattle.sc_lex.proofs.Best.{best_of_first, front_here, longest_of_best, one_byte_fits, some_byte}

@@ -1,5 +1,5 @@
 use Rattle.std.proofs.Common.{refl, rules}
-use Rattle.sc_model.specs.Lex.{is_blank, is_white_byte}
+use Rattle.c11_tokens.specs.Lex.{is_blank, is_white_byte}
 use Rattle.sc_lex.proofs.Fronts.{one_byte}
 use Rattle.sc_lex.proofs.scan.blank.Goals as goal
 

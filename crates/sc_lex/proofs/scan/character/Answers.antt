@@ -1,5 +1,5 @@
 use Rattle.std.proofs.Common.{ℕ, Bool, true, ◌||◌, List, [], ◌∷◌, take}
-use Rattle.sc_model.specs.Lex.{is_quoted, is_character}
+use Rattle.c11_tokens.specs.Lex.{is_quoted, is_character}
 use Rattle.sc_lex.proofs.Fronts.{IsLongestFront-same, longer}
 use Rattle.sc_lex.proofs.Quotes.{behind, four_tests}
 use Rattle.sc_lex.proofs.scan.character.Goals as goal

@@ -1,6 +1,6 @@
 use Rattle.std.proofs.Common.{◌≡◌, drop, arith, sym, ap, ◌∙◌, subst, eq-eqb, ne_eqb, length-drop}
 use Rattle.std.proofs.lemmas.List.{take_rest}
-use Rattle.sc_model.specs.Lex.{closes}
+use Rattle.c11_tokens.specs.Lex.{closes}
 use Rattle.sc_lex.specs.Scan.{quoted_length}
 use Rattle.sc_lex.proofs.Fronts.{Unmet, Unmet-more, Unmet-met, Unmet-never, never_longest, at_first}
 use Rattle.sc_lex.proofs.Quotes.{Goes, closing-steps, closing-found}

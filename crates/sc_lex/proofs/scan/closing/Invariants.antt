@@ -1,5 +1,5 @@
 use Rattle.std.proofs.Common.{length, ◌-◌}
-use Rattle.sc_model.specs.Lex.{closes}
+use Rattle.c11_tokens.specs.Lex.{closes}
 use Rattle.sc_lex.proofs.Fronts.{Unmet}
 use Rattle.sc_lex.proofs.scan.closing.Given as goal
 

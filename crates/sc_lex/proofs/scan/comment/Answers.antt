@@ -1,7 +1,8 @@
 use Rattle.std.proofs.Common.{[], ◌∷◌, take, arith, sym, ◌∙◌, subst, ap}
 use Rattle.std.proofs.lemmas.List.{take_rest}
 use Rattle.std.proofs.lemmas.Bool.{true≢false}
-use Rattle.sc_model.specs.Lex.{comment_closes, has_no_newline}
+use Rattle.c11_tokens.specs.Lex.{comment_closes}
+use Rattle.sc_model.specs.Bytes.{has_no_newline}
 use Rattle.sc_lex.specs.Scan.{IsLongestFront}
 use Rattle.sc_lex.proofs.Quotes.{starts_with-is, line_comment, block_comment, no_comment, unended}
 use Rattle.sc_lex.proofs.scan.comment.Goals as goal

@@ -1,5 +1,5 @@
 use Rattle.std.proofs.Common.{sym, subst}
-use Rattle.sc_model.specs.Lex.{is_header, is_delimited}
+use Rattle.c11_tokens.specs.Lex.{is_header, is_delimited}
 use Rattle.sc_lex.specs.Scan.{IsLongestFront}
 use Rattle.sc_lex.proofs.Fronts.{either}
 use Rattle.sc_lex.proofs.scan.header.Goals as goal

@@ -1,5 +1,5 @@
 use Rattle.std.proofs.Common.{arith, eq-eqb, ne_eqb}
-use Rattle.sc_model.specs.Lex.{header_closes}
+use Rattle.c11_tokens.specs.Lex.{header_closes}
 use Rattle.sc_lex.specs.Scan.{IsLongestFront}
 use Rattle.sc_lex.proofs.Fronts.{IsStuck, Unmet-met, Unmet-never, never_longest, at_place}
 use Rattle.sc_lex.proofs.Quotes.{header-found, header-stops}

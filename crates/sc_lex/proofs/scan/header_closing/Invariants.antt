@@ -1,4 +1,4 @@
-use Rattle.sc_model.specs.Lex.{header_closes}
+use Rattle.c11_tokens.specs.Lex.{header_closes}
 use Rattle.sc_lex.proofs.Fronts.{Unmet}
 use Rattle.sc_lex.proofs.scan.header_closing.Given as goal
 

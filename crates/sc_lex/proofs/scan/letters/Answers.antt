@@ -1,6 +1,6 @@
 use Rattle.std.proofs.Common.{◌<◌, ◌≤◌, ◌+◌, length, drop, refl, arith, ap, ◌∙◌, length-drop}
 use Rattle.std.proofs.lemmas.List.{take_rest}
-use Rattle.sc_model.specs.Lex.{goes_on}
+use Rattle.c11_tokens.specs.Lex.{goes_on}
 use Rattle.sc_lex.specs.Scan.{letter_length}
 use Rattle.sc_lex.proofs.Fronts.{longest_where_stuck, IsStuck-end}
 use Rattle.sc_lex.proofs.Names.{letter-steps, more_parts, last_part}

@@ -1,5 +1,5 @@
 use Rattle.std.proofs.Common.{length, ◌-◌}
-use Rattle.sc_model.specs.Lex.{goes_on}
+use Rattle.c11_tokens.specs.Lex.{goes_on}
 use Rattle.sc_lex.proofs.Fronts.{Becomes}
 use Rattle.sc_lex.proofs.scan.letters.Given as goal
 

@@ -1,5 +1,5 @@
 use Rattle.std.proofs.Common.{◌≡◌, length, refl, arith, subst, eq-eqb, length-drop}
-use Rattle.sc_model.specs.Lex.{has_no_newline}
+use Rattle.sc_model.specs.Bytes.{has_no_newline}
 use Rattle.sc_lex.specs.Scan.{IsLongestFront}
 use Rattle.sc_lex.proofs.Fronts.{IsStuck, IsStuck-end, longest_where_stuck, at_place}
 use Rattle.sc_lex.proofs.Quotes.{line-stops}

@@ -1,4 +1,4 @@
-use Rattle.sc_model.specs.Lex.{has_no_newline}
+use Rattle.sc_model.specs.Bytes.{has_no_newline}
 use Rattle.sc_lex.proofs.Fronts.{Becomes}
 use Rattle.sc_lex.proofs.scan.line_length.Given as goal
 

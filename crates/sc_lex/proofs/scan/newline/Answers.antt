@@ -1,5 +1,5 @@
 use Rattle.std.proofs.Common.{refl, rules, ◌==◌}
-use Rattle.sc_model.specs.Lex.{fits, token}
+use Rattle.c11_tokens.specs.Lex.{fits, token}
 use Rattle.sc_model.specs.declared.kind.Kind.TheVariants as kind
 use Rattle.sc_lex.proofs.Fronts.{one_byte}
 use Rattle.sc_lex.proofs.scan.newline.Goals as goal

@@ -1,6 +1,6 @@
 use Rattle.std.proofs.Common.{false, sym, subst, ◌∙◌}
 use Rattle.std.proofs.lemmas.List.{take_rest}
-use Rattle.sc_model.specs.Lex.{number_goes_on}
+use Rattle.c11_tokens.specs.Lex.{number_goes_on}
 use Rattle.sc_lex.specs.Scan.{IsLongestFront}
 use Rattle.sc_lex.proofs.Names.{number-front, number-none}
 use Rattle.sc_lex.proofs.scan.number.Goals as goal

@@ -1,6 +1,6 @@
 use Rattle.std.proofs.Common.{◌≡◌, ◌≤◌, ◌+◌, length, drop, get_or, refl, arith, sym, ap, subst, ◌∙◌, length-drop, get_or-drop, add-zero}
 use Rattle.std.proofs.lemmas.List.{take_rest}
-use Rattle.sc_model.specs.Lex.{number_goes_on, is_exponent}
+use Rattle.c11_tokens.specs.Lex.{number_goes_on, is_exponent}
 use Rattle.sc_lex.specs.Scan.{number_letter_length}
 use Rattle.sc_lex.proofs.Fronts.{Becomes, longest_where_stuck, IsStuck-end}
 use Rattle.sc_lex.proofs.Names.{Steps, number-steps, more_parts, last_part}

@@ -1,5 +1,5 @@
 use Rattle.std.proofs.Common.{length, ◌-◌, false}
-use Rattle.sc_model.specs.Lex.{number_goes_on}
+use Rattle.c11_tokens.specs.Lex.{number_goes_on}
 use Rattle.sc_lex.proofs.Fronts.{Becomes}
 use Rattle.sc_lex.proofs.scan.number_letters.Given as goal
 

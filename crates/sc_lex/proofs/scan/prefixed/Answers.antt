@@ -1,6 +1,6 @@
 use Rattle.std.proofs.Common.{length, drop, refl, arith, sym, ◌∙◌, subst}
 use Rattle.std.proofs.lemmas.List.{take_rest}
-use Rattle.sc_model.specs.Lex.{is_quoted}
+use Rattle.c11_tokens.specs.Lex.{is_quoted}
 use Rattle.sc_lex.specs.Scan.{IsLongestFront}
 use Rattle.sc_lex.proofs.Quotes.{behind-some, behind-none, behind-off, starts_with-is}
 use Rattle.sc_lex.proofs.UnclosedLemmas.{IsUnclosed-drop, quoted-unclosed}

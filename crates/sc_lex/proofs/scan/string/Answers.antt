@@ -1,5 +1,5 @@
 use Rattle.std.proofs.Common.{ℕ, Bool, false, ◌||◌, List, [], ◌∷◌, take}
-use Rattle.sc_model.specs.Lex.{is_quoted, is_text}
+use Rattle.c11_tokens.specs.Lex.{is_quoted, is_text}
 use Rattle.sc_lex.proofs.Fronts.{IsLongestFront-same, longer}
 use Rattle.sc_lex.proofs.Quotes.{behind, five_tests}
 use Rattle.sc_lex.proofs.scan.string.Goals as goal

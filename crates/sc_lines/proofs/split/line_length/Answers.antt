@@ -1,5 +1,5 @@
 use Rattle.std.proofs.Common.{◌≡◌, ◌∙◌, sym, subst, true, take, length, arith}
-use Rattle.sc_model.specs.Lex.{is_newline}
+use Rattle.c11_tokens.specs.Lex.{is_newline}
 use Rattle.sc_lines.proofs.Splits.{is_open, split-at_end, split-last}
 use Rattle.sc_lines.proofs.split.line_length.Goals as goal
 

@@ -1,5 +1,5 @@
 use Rattle.std.proofs.Common.{◌≡◌, true, take}
-use Rattle.sc_model.specs.Lex.{is_newline}
+use Rattle.c11_tokens.specs.Lex.{is_newline}
 use Rattle.sc_lines.proofs.Splits.{is_open}
 use Rattle.sc_lines.proofs.split.line_length.Given as goal
 

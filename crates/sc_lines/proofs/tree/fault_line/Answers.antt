@@ -1,6 +1,6 @@
 use Rattle.std.proofs.Common.{◌≡◌, ◌∙◌, ◌<◌, ap, [], length, arith}
 use Rattle.std.proofs.lemmas.List.{nil_from_length}
-use Rattle.sc_model.specs.Lines.{conditional_of}
+use Rattle.c11_directives.specs.Lines.{conditional_of}
 use Rattle.sc_lines.specs.Sections.{sections_of}
 use Rattle.sc_lines.proofs.Judging.{same_at, same_length, nests-more, nests-fails, nests-whole, nests-accepted, nests-open, sections-push}
 use Rattle.sc_lines.proofs.tree.fault_line.Goals as goal

@@ -1,5 +1,5 @@
 use Rattle.std.proofs.Common.{◌≡◌, map, List}
-use Rattle.sc_model.specs.Lines.{Line, conditional_of}
+use Rattle.c11_directives.specs.Lines.{Line, conditional_of}
 use Rattle.sc_lines.specs.Sections.{sections_of}
 use Rattle.sc_lines.proofs.Judging.{Nests}
 use Rattle.sc_lines.proofs.tree.fault_line.Given as goal

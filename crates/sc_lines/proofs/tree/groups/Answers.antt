@@ -2,7 +2,7 @@ use Rattle.std.proofs.Common.{◌≡◌, ◌∙◌, sym, ap, subst, ℕ, List, m
 use Rattle.std.proofs.lemmas.List.{with_items_is}
 use Rattle.std.proofs.lemmas.List.Elements.{All-get_or}
 use Rattle.std.specs.Vec.{with_items}
-use Rattle.sc_lex.specs.declared.token.Token.{Token}
+use Rattle.sc_base.specs.declared.token.Token.{Token}
 use Rattle.sc_lines.specs.declared.line.Line.{Line}
 use Rattle.sc_lines.specs.Branches.{HasBranches, without_branch}
 use Rattle.sc_lines.specs.Judges.{Judges, FailsAt, no_token}
@@ -11,7 +11,7 @@ use Rattle.sc_lines.specs.Split.{AreLines}
 use Rattle.sc_lines.proofs.Branching.{lines-same}
 use Rattle.sc_lines.proofs.Judging.{same_length}
 use Rattle.sc_lines.proofs.SeenLines.{conditionals-seen, fails, fault-within, fault-first, fault-tree}
-use Rattle.sc_model.specs.Lines as model
+use Rattle.c11_directives.specs.Lines as model
 use Rattle.sc_lines.proofs.tree.groups.Goals as goal
 use Rattle.sc_lines.proofs.tree.groups.Goals.{In-None, In-Some}
 

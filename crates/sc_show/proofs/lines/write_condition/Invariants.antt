@@ -1,6 +1,6 @@
 use Rattle.std.proofs.Common.{◌≡◌, ◌++◌, take}
 use Rattle.std.specs.List.{flat_map}
-use Rattle.sc_model.specs.Text.{choice_text}
+use Rattle.sc_text.specs.Text.{choice_text}
 use Rattle.sc_show.specs.Prints.{choices_of}
 use Rattle.sc_show.proofs.lines.write_condition.Given as goal
 

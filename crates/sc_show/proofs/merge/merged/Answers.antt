@@ -8,7 +8,7 @@ use Rattle.sc_guarded.specs.Items.{faults_at, seen_fault}
 use Rattle.sc_model.specs.Sets.{IsCond}
 use Rattle.sc_model.proofs.SetLemmas.{Keeps-refl, Keeps-trans, IsConfig-Keeps}
 use Rattle.sc_show.specs.Order.{IsInOrder, MayFollow}
-use Rattle.sc_model.specs.Layout.{IsAscending}
+use Rattle.sc_text.specs.Layout.{IsAscending}
 use Rattle.sc_show.proofs.Ordering.{MayFollow-none, MayFollow-next}
 use Rattle.sc_show.specs.Shows.{IsShowableFault}
 use Rattle.sc_show.proofs.Shows.{no_fault}

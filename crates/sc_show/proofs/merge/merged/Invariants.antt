@@ -2,9 +2,9 @@ use Rattle.std.proofs.Common.{◌≡◌, ◌<◌, ℕ, List, All, Some, length, 
 use Rattle.sc_base.specs.declared.fault.Fault.{Fault}
 use Rattle.sc_guarded.specs.Items.{faults_at, seen_fault}
 use Rattle.sc_model.specs.Sets.{IsConfig, IsCond, Keeps}
-use Rattle.sc_model.specs.Pre as model
+use Rattle.sc_model.specs.Fault as model
 use Rattle.sc_show.specs.Order.{MayFollow}
-use Rattle.sc_model.specs.Layout.{IsAscending}
+use Rattle.sc_text.specs.Layout.{IsAscending}
 use Rattle.sc_show.proofs.merge.merged.Given as goal
 
 abbrev pub invariant-loop-fault : goal.invariant-loop-fault

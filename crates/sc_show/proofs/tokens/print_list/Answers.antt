@@ -1,5 +1,5 @@
 use Rattle.std.proofs.Common.{◌≡◌, ◌∙◌, ap, sym, subst, map, take, take_all, List, ℕ, true, arith}
-use Rattle.sc_model.specs.Text.{is_plain}
+use Rattle.sc_model.specs.Bytes.{has_no_newline}
 use Rattle.sc_model.proofs.SetLemmas.{Keeps-refl, Keeps-trans}
 use Rattle.sc_space.specs.Seen.{seen_space}
 use Rattle.sc_show.specs.Rules.{list_item, token_item, LaidOut}
@@ -31,7 +31,7 @@ print_token-requires g c =
     record {
       own = was.keeps.own _ can.own;
       file = can.file;
-      spelling = subst (λ (text : List ℕ). is_plain text ≡ true) (sym (text_at-slice_get c.args.names.now _ c.text-spelling.result.now c.text-spelling.ensures)) can.plain;
+      spelling = subst (λ (text : List ℕ). has_no_newline text ≡ true) (sym (text_at-slice_get c.args.names.now _ c.text-spelling.result.now c.text-spelling.ensures)) can.plain;
       arities = was.keeps.arities ∙ c.requires.arities;
       names = c.requires.names;
       plain = c.requires.plain;

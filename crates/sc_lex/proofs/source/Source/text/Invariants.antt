@@ -1,5 +1,5 @@
 use Rattle.std.proofs.Common.{◌≡◌, ◌++◌, length}
-use Rattle.sc_model.specs.Lex.{bytes_of}
+use Rattle.c11_tokens.specs.Lex.{bytes_of}
 use Rattle.sc_lex.specs.Logical.{logical_of}
 use Rattle.sc_lex.proofs.source.Source.text.Given as goal
 

@@ -1,0 +1,2 @@
+pub mod NestLaws
+pub mod PreLaws

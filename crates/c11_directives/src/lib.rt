@@ -1,0 +1,8 @@
+//! Directives of C11: lines, groups, conditional inclusion and the walk of files (6.10), as definitions.
+#![tactic(auto)]
+
+mod conditional;
+mod laws;
+
+pub use conditional::Conditional;
+pub use laws::{nesting_has_one_answer, preprocessing_has_one_answer};

@@ -1,0 +1,3 @@
+pub mod LexLaws
+pub mod PlainLaws
+mod Vectors

@@ -1,5 +1,0 @@
-use Rattle.sc_model.proofs.TextLaws.{reads-unique}
-use Rattle.sc_model.proofs.laws.text_has_one_answer.Goals as goal
-
-pub returns : goal.returns
-returns c = λ space p q a b. reads-unique

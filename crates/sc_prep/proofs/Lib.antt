@@ -1,0 +1,5 @@
+pub mod FileWalk
+pub mod LineSteps
+pub mod Machine
+pub mod Printing
+pub mod WalkMoves

@@ -1,0 +1,5 @@
+pub mod LineKind
+pub mod Machine
+pub mod Mirrors
+pub mod Preprocesses
+pub mod Printable

@@ -1,0 +1,5 @@
+use Rattle.sc_text.proofs.OneText.{one_text}
+use Rattle.sc_text.proofs.laws.result_has_one_text.Goals as goal
+
+pub returns : goal.returns
+returns c = λ space p q a b. one_text
