@@ -12,21 +12,21 @@ use Rattle.sc_guarded.specs.Items.{seen_fault}
 use Rattle.sc_base.specs.declared.token.Token.{Token}
 use Rattle.sc_base.specs.Seen.{seen, text_at}
 use Rattle.sc_model.specs.Growth.{IsOneToOne}
-use Rattle.sc_text.specs.Layout.{LaysOut, files_of, sets_of, HasOrder, IsAscending, is_token, is_fault, AreAlike}
+use Rattle.sc_text.specs.Layout.{LaysOut, at_start, needs, sets_of, HasOrder, IsAscending, is_token, is_fault, AreAlike}
 use Rattle.sc_model.specs.Sets.{Sets, IsConfig, IsCond, IsCanonical}
-use Rattle.sc_model.specs.Space.{Space, arities_of, IsListed}
-use Rattle.sc_text.specs.Text.{Condition, TextLine, end_line, line_text, with_end, Reading, nothing_read, condition_at}
+use Rattle.sc_model.specs.Space.{Space, arities_of}
+use Rattle.sc_text.specs.Text.{Condition, TextLine, end_line, line_text, with_end, token_list, Reading, nothing_read, condition_at}
 use Rattle.sc_model.specs.Token.{shown}
 use Rattle.sc_text.proofs.Alike.{AreAlike-project}
 use Rattle.sc_text.proofs.ItemsRead.{tokens_are, faults_are}
-use Rattle.sc_text.proofs.LayoutLemmas.{LaysOut-end, LaysOut-each_file, HasOrder-same}
+use Rattle.sc_text.proofs.LayoutLemmas.{OfFiles, LaysOut-end, LaysOut-each_file, HasOrder-same}
 use Rattle.sc_text.proofs.LayoutReading.{tokens_read, faults_read, read-HasRead}
 use Rattle.sc_model.proofs.ListLemmas.{found_in}
 use Rattle.sc_model.proofs.SetLemmas.{Keeps-refl}
 use Rattle.sc_show.specs.declared.printer.Printer.{Printer}
 use Rattle.sc_show.specs.Pieces.{split_lines_after}
 use Rattle.sc_show.specs.Prints.{IsTable, Agrees, Prints}
-use Rattle.sc_show.specs.Rules.{tests_of, list_item, fault_item, LaidOut, AreMerged}
+use Rattle.sc_show.specs.Rules.{counts_of, tests_of, list_item, fault_item, LaidOut, AreMerged}
 use Rattle.sc_show.specs.Shows.{IsShowable, IsShowableFault, shown_items, Shows}
 use Rattle.sc_show.proofs.Pieces.{split_lines, text_lines}
 use Rattle.sc_show.proofs.Reading.{read_lines-push, written-push, clear-push}
@@ -54,7 +54,7 @@ module _ {s : Sets} {ks : List Cond} {tests : List Condition} (agrees : Agrees s
   numbers_reduced space arities differ canonical = record { one = λ i j own own_too same. by i j (numbered i own.made) (numbered j own_too.made) same.at }
     where
       by : (i j : ℕ) → (a : Cond) × (slice_get ks i ≡ Some a) × IsCond s a.0 → (b : Cond) × (slice_get ks j ≡ Some b) × IsCond s b.0
-          → ((c : List ℕ) → IsListed space c → condition_at tests i c ≡ condition_at tests j c) → i ≡ j
+          → ((c : List ℕ) → IsConfig (arities_of space) c → condition_at tests i c ≡ condition_at tests j c) → i ≡ j
       by i j (a, at, own) (b, at_too, own_too) same =
           let one = canonical.one a.0 b.0 own own_too (record {
             at = λ c listed. sym (agrees.each i a at c listed) ∙ same c (subst (λ ns. IsConfig ns c) arities listed) ∙ agrees.each j b at_too c listed;
@@ -87,26 +87,27 @@ Shows-end {space} {s = s} {texts = texts} {files = files} {p = p} {q = q} list f
     let tests = before.reading.conditions in
     let names = before.reading.files in
     let lines : List TextLine = laid.lines ++ end_line ∷ [] in
-    let reading : Reading = with_end before.reading in
+    let reading : Reading token_list = with_end before.reading in
     let parts = parts_of (map (list_item texts) list) (laid.are s ks fs (Keeps-refl s) (Extends-refl ks) (Extends-refl fs)) in
     let clear = clear-push laid.lines end_line before.clear refl in
     let read = read_lines-push space laid.lines nothing_read before.reading reading end_line before.read before.unended refl in
     let told = read-HasRead space lines nothing_read reading (omega arith) read in
     let whole : text ≡ concat (map line_text lines) = written ∙ ap (λ t. t ++ line_text end_line) before.written ∙ sym (written-push laid.lines end_line) in
-    let from_start : LaysOut 2 0 (parts.first ++ parts.later) laid.lines (length ks) (length fs) =
-    subst (λ n. LaysOut n 0 (parts.first ++ parts.later) laid.lines (length ks) (length fs)) begun
-    (subst (λ m. LaysOut (length p.conditions.keys) m (parts.first ++ parts.later) laid.lines (length ks) (length fs)) (ap length no_files)
-    (subst (λ items. LaysOut (length p.conditions.keys) (length p.files.keys) items laid.lines (length ks) (length fs)) parts.is laid.laid)) in
-    let to_end : LaysOut 2 0 (parts.first ++ (parts.later ++ end_line ∷ [])) lines (length ks) (length fs) =
-    subst (λ items. LaysOut 2 0 items lines (length ks) (length fs)) (append_assoc parts.first parts.later (end_line ∷ [])) (LaysOut-end from_start) in
+    let no_file = ap length no_files in
+    let counted : counts_of p ≡ at_start = λ i. record { conditions = begun i; files = no_file i } in
+    let from_start : LaysOut at_start (parts.first ++ parts.later) laid.lines (counts_of q) =
+    subst (λ n. LaysOut n (parts.first ++ parts.later) laid.lines (counts_of q)) counted
+    (subst (λ items. LaysOut (counts_of p) items laid.lines (counts_of q)) parts.is laid.laid) in
+    let to_end : LaysOut at_start (parts.first ++ (parts.later ++ end_line ∷ [])) lines (counts_of q) =
+    subst (λ items. LaysOut at_start items lines (counts_of q)) (append_assoc parts.first parts.later (end_line ∷ [])) (LaysOut-end from_start) in
     let are_tokens = lines_pass s ks fs (list_item texts) is_token (λ x number file some. lt-ltb 0 number some) list parts.first parts.are_first in
     let are_faults = lines_pass s ks fs fault_item is_fault (λ x number file some. lt-ltb 0 number some) merged parts.later parts.are_later in
     let token_pairs = tokens_are parts.first parts.later told to_end are_faults in
     let fault_pairs = faults_are parts.first parts.later told to_end are_tokens in
     let alike_faults = subst (AreAlike space (map (λ (f : base.Fault). (s.has f.cond.0, seen_fault files f)) merged)) (sym fault_pairs)
     (read-AreAlike s ks fs tests fault_item (seen_fault files) (faults_read tests names) refl (fault_read s ks fs tests files names before.names) merged parts.later arities before.conditions parts.are_later) in
-    let same_sets = λ (n : ℕ) (c : List ℕ) (listed : IsListed space c). agrees_tests s ks tests n c before.conditions (subst (λ ns. IsConfig ns c) (sym arities) listed) in
-    let of_table = λ (line : TextLine). All (IsFileOf fs files) (files_of line) in
+    let same_sets = λ (n : ℕ) (c : List ℕ) (listed : IsConfig (arities_of space) c). agrees_tests s ks tests n c before.conditions (subst (λ ns. IsConfig ns c) (sym arities) listed) in
+    let of_table = λ (line : TextLine). All (OfFiles (IsFileOf fs files)) (needs line) in
     let in_table : All of_table (parts.first ++ parts.later) = All-append of_table parts.first parts.later
     (lines_files s ks fs (list_item texts) files (λ x number file. refl) list parts.first (λ k d h. (can k d h).file) parts.are_first)
     (lines_files s ks fs fault_item files (λ x number file. refl) merged parts.later (λ k d h. (can_too k d h).file) parts.are_later) in
@@ -118,12 +119,11 @@ Shows-end {space} {s = s} {texts = texts} {files = files} {p = p} {q = q} list f
       text_of = record {
         reads = record { lines = lines; clear = clear; written = refl; reading = reading; read = read; ended = refl; answer_is = refl };
         rules = record {
-          tokens = parts.first;
+          body = parts.first;
           faults = parts.later;
-          conditions = length ks;
-          files = length fs;
-          are_tokens = are_tokens;
-          are_faults = are_faults;
+          now = counts_of q;
+          right_body = are_tokens;
+          right_faults = are_faults;
           laid = to_end;
           reduced = numbers_reduced before.conditions laid.table space arities differ canonical;
           ordered = All-append (HasOrder space tests) laid.lines (end_line ∷ [])

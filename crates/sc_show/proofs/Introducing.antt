@@ -1,6 +1,8 @@
 -- Lines that give numbers, after one another.
 use Rattle.std.proofs.Common.{◌≡◌, ℕ, ◌+◌, ◌<◌, ◌≤◌, ◌⊎◌, inl, inr, ◌==◌, Bool, true, false, List, [], ◌∷◌, ◌++◌, length, map, slice_get, Some, All, refl, sym, ap, subst, ◌∙◌, arith, append-nil, append_assoc, length-append}
 use Rattle.std.specs.List.{Contains, list_any}
+use Rattle.std.proofs.lemmas.List.{map-append}
+use Rattle.std.proofs.lemmas.Simd.{map-map}
 use Rattle.std.proofs.lemmas.Bool.{cases_lt, true≢false}
 use Rattle.std.proofs.lemmas.Cmp.{nat_eq_equiv, on_equiv}
 use Rattle.std.proofs.lemmas.List.Elements.{All-nil, All-append}
@@ -10,7 +12,7 @@ use Rattle.sc_base.specs.declared.id.Cond.{Cond}
 use Rattle.sc_base.specs.declared.id.FileId.{FileId}
 use Rattle.sc_base.proofs.Growth.{Extends-refl, Extends-trans, Extends-push}
 use Rattle.sc_model.specs.Growth.{Extends}
-use Rattle.sc_text.specs.Layout.{Introduces, nothing, known, node, IntroducesFiles, no_file, known_file, new_file, HasOrder}
+use Rattle.sc_text.specs.Layout.{Need, condition_numbered, file_numbered, Counts, next_condition, next_file, Introduces, nothing, known, new, HasOrder}
 use Rattle.sc_model.specs.Sets.{Sets, IsConfig, IsCond, Denotes, Keeps, IsCanonical, IsNever, IsAlways, DependsFrom, IsTop}
 use Rattle.sc_model.specs.Space.{Space, Variable, arities_of}
 use Rattle.sc_text.specs.Text.{TextLine, condition_line, file_line, line_text}
@@ -19,7 +21,7 @@ use Rattle.sc_model.proofs.ListLemmas.{slice_get-front, slice_get-seam}
 use Rattle.sc_model.proofs.SetLemmas.{Keeps-trans, DependsFrom-Keeps}
 use Rattle.sc_show.specs.declared.printer.Printer.{Printer}
 use Rattle.sc_show.specs.Prints.{HasPlainNames, IsTable, Prints, choices_of}
-use Rattle.sc_show.specs.Rules.{AreFrom, Introduced, IntroducedFile, tests_of}
+use Rattle.sc_show.specs.Rules.{AreFrom, Introduced, IntroducedFile, counts_of, tests_of}
 use Rattle.sc_show.proofs.Children.{HasChildren, HasChildren-grows, HasOrder-node}
 use Rattle.sc_show.proofs.Choices.{numbers-choices_of}
 use Rattle.sc_show.proofs.Numbers.{IsTable-Keeps, IsTable-push, owned_at}
@@ -66,17 +68,16 @@ AreFrom-absent {s} {ks} {ls} {v} a grows from top absent has = by (cases_lt has.
 
 -- ---- the lines of conditions
 
-Introduces-append : {n m i : ℕ} {ns ms : List ℕ} {lines more : List TextLine} → Introduces n ns lines m → Introduces m ms more i → Introduces n (ns ++ ms) (lines ++ more) i
+pub Introduces-append : {n m i : Counts} {ns ms : List Need} {lines more : List TextLine} → Introduces n ns lines m → Introduces m ms more i → Introduces n (ns ++ ms) (lines ++ more) i
 Introduces-append (nothing n) b = b
-Introduces-append {ms = ms} {more = more} (known n number ns lines m below rest) b = known n number (ns ++ ms) (lines ++ more) _ below (Introduces-append rest b)
-Introduces-append {i = i} {ms = ms} {more = more0} (node n number variable options ns lines more m first rest) b =
-    subst (λ t. Introduces n (number ∷ (ns ++ ms)) t i) (sym (append_assoc lines (condition_line number variable options ∷ more) more0))
-    (node n number variable options (ns ++ ms) lines (more ++ more0) i first (Introduces-append rest b))
+Introduces-append {i = i} {ms = ms} {more = more} (known n m need ns lines stands rest) b = known n i need (ns ++ ms) (lines ++ more) stands (Introduces-append rest b)
+Introduces-append {n = n} {i = i} {ms = ms} {more = more0} (new n1 before after m line need ns lines more introduced gives rest) b =
+    subst (λ t. Introduces n (need ∷ (ns ++ ms)) t i) (sym (append_assoc lines (line ∷ more) more0)) (new n before after i line need (ns ++ ms) lines (more ++ more0) introduced gives (Introduces-append rest b))
 
 pub Introduced-trans : {space : Space} {s t u : Sets} {p q r : Printer} {ns ms : List ℕ} → Keeps t u → Introduced space s t p q ns → Introduced space t u q r ms → Introduced space s u p r (ns ++ ms)
-Introduced-trans {space} {s} {t} {u} {p} {q} {r} keeps a b = record {
+Introduced-trans {space} {s} {t} {u} {p} {q} {r} {ns} {ms} keeps a b = record {
   lines = a.lines ++ b.lines;
-  introduces = Introduces-append a.introduces b.introduces;
+  introduces = subst (λ needed. Introduces (counts_of p) needed (a.lines ++ b.lines) (counts_of r)) (sym (map-append condition_numbered ns ms)) (Introduces-append a.introduces b.introduces);
   ordered = λ v ks kept grows. All-append (HasOrder space (tests_of v ks)) a.lines b.lines (a.ordered v ks (Keeps-trans keeps kept) (Extends-trans b.grows grows)) (b.ordered v ks kept grows);
   table = b.table;
   grows = Extends-trans a.grows b.grows;
@@ -88,7 +89,7 @@ Introduced-trans {space} {s} {t} {u} {p} {q} {r} keeps a b = record {
 pub Introduced-nothing : {space : Space} {old new : Sets} {p : Printer} → Keeps old new → IsTable old p.conditions.keys → Introduced space old new p p []
 Introduced-nothing {space} {old} {new} {p} keeps table = record {
   lines = [];
-  introduces = nothing (length p.conditions.keys);
+  introduces = nothing (counts_of p);
   ordered = λ s ks kept grows. All-nil (HasOrder space (tests_of s ks));
   table = IsTable-Keeps keeps table;
   grows = Extends-refl p.conditions.keys;
@@ -100,7 +101,7 @@ Introduced-nothing {space} {old} {new} {p} keeps table = record {
 pub Introduced-known : {space : Space} {s : Sets} {p : Printer} (a : Cond) (n : ℕ) → IsTable s p.conditions.keys → slice_get p.conditions.keys n ≡ Some a → Introduced space s s p p (n ∷ [])
 Introduced-known {space} {s} {p} a n table at = record {
   lines = [];
-  introduces = known (length p.conditions.keys) n [] [] (length p.conditions.keys) (slice_get_within p.conditions.keys n a at) (nothing (length p.conditions.keys));
+  introduces = known (counts_of p) (counts_of p) (condition_numbered n) [] [] (slice_get_within p.conditions.keys n a at) (nothing (counts_of p));
   ordered = λ t ks kept grows. All-nil (HasOrder space (tests_of t ks));
   table = table;
   grows = Extends-refl p.conditions.keys;
@@ -115,8 +116,7 @@ pub Introduced-node : {space : Space} {old s : Sets} {p q r : Printer} {ns : Lis
     → r.text.items ≡ q.text.items ++ line_text (condition_line number variable.name (choices_of variable.options shown)) → Introduced space old s p r (number ∷ [])
 Introduced-node {space} {old} {s} {p} {q} {r} {ns} a variable v number shown plain arities named within own parts has count at keys same_files same written = record {
   lines = parts.lines ++ line ∷ [];
-  introduces = subst (Introduces (length p.conditions.keys) (number ∷ []) (parts.lines ++ line ∷ [])) (sym counted)
-      (node (length p.conditions.keys) number variable.name options [] parts.lines [] (number + 1) children (nothing (number + 1)));
+  introduces = placed;
   ordered = λ t ks kept grows.
       All-append (HasOrder space (tests_of t ks)) parts.lines (line ∷ []) (parts.ordered t ks kept (Extends-trans longer grows))
       (All-one (HasOrder space (tests_of t ks)) line (HasOrder-node number variable plain (kept.arities ∙ arities) named (HasChildren-grows kept own (Extends-trans longer grows) has)));
@@ -138,12 +138,24 @@ Introduced-node {space} {old} {s} {p} {q} {r} {ns} a variable v number shown pla
     longer : Extends q.conditions.keys r.conditions.keys
     longer = subst (Extends q.conditions.keys) (sym keys) (Extends-push q.conditions.keys a)
 
-    counted : length r.conditions.keys ≡ number + 1
-    counted = ap length keys ∙ length-append q.conditions.keys (a ∷ []) ∙ ap (λ n. n + 1) (sym at)
+    after : Counts
+    after = record { conditions = length q.conditions.keys + 1; files = length q.files.keys }
 
-    children : Introduces (length p.conditions.keys) (map (λ option. option.1) (choices_of variable.options ns)) parts.lines number
-    children = subst (λ ms. Introduces (length p.conditions.keys) ms parts.lines number) (sym (numbers-choices_of variable.options ns count))
-        (subst (Introduces (length p.conditions.keys) ns parts.lines) (sym at) parts.introduces)
+    counted : after ≡ counts_of r
+    counted =
+        let conditions = sym (ap length keys ∙ length-append q.conditions.keys (a ∷ [])) in
+        let files = ap length (sym same_files) in
+        λ i. record { conditions = conditions i; files = files i }
+
+    children : Introduces (counts_of p) (map (λ (option : List ℕ × ℕ). condition_numbered option.1) options) parts.lines (counts_of q)
+    children = subst (λ needed. Introduces (counts_of p) needed parts.lines (counts_of q))
+        (ap (map condition_numbered) (sym (numbers-choices_of variable.options ns count)) ∙ map-map condition_numbered (λ (option : List ℕ × ℕ). option.1) options) parts.introduces
+
+    placed : Introduces (counts_of p) (condition_numbered number ∷ []) (parts.lines ++ line ∷ []) (counts_of r)
+    placed = subst (Introduces (counts_of p) (condition_numbered number ∷ []) (parts.lines ++ line ∷ [])) counted
+        (subst (λ n. Introduces (counts_of p) (condition_numbered n ∷ []) (parts.lines ++ condition_line n variable.name options ∷ []) after) (sym at)
+        (new (counts_of p) (counts_of q) after after (condition_line (length q.conditions.keys) variable.name options) (condition_numbered (length q.conditions.keys)) [] parts.lines [] children
+        (next_condition (counts_of q) variable.name options) (nothing after)))
 
 -- never has number 0, and always has number 1
 same_set : {s : Sets} (key a : Cond) (test : List ℕ → Bool) → IsCanonical s → Denotes s key.0 test → IsCond s a.0 → ((c : List ℕ) → IsConfig s.arities c → s.has a.0 c ≡ test c) → key ≡ a
@@ -168,8 +180,13 @@ pub IntroducedFile-known : {files : List (List ℕ)} {p q : Printer} (number : �
     → q.conditions.keys ≡ p.conditions.keys → q.text.items ≡ p.text.items → IntroducedFile files p q number
 IntroducedFile-known {files} {p} {q} number within keys same same_text = record {
   lines = [];
-  introduces = subst (λ fs. IntroducesFiles (length p.files.keys) (number ∷ []) [] (length fs)) (sym keys)
-      (known_file (length p.files.keys) number [] [] (length p.files.keys) (subst (λ fs. number < length fs) keys within) (no_file (length p.files.keys)));
+  introduces =
+      let conditions = ap length (sym same) in
+      let files_are = ap length (sym keys) in
+      let counted : counts_of p ≡ counts_of q = λ i. record { conditions = conditions i; files = files_are i } in
+      subst (Introduces (counts_of p) (file_numbered number ∷ []) []) counted
+      (known (counts_of p) (counts_of p) (file_numbered number) [] [] (subst (λ fs. number < length fs) keys within) (nothing (counts_of p)));
+  ordered = λ space tests. All-nil (HasOrder space tests);
   grows = subst (Extends p.files.keys) (sym keys) (Extends-refl p.files.keys);
   same_conditions = same;
   prints = λ space s before was. subst (Prints space s files q) (sym (append-nil before)) (Prints-printer same keys same_text was);
@@ -179,11 +196,16 @@ pub IntroducedFile-new : {files : List (List ℕ)} {p q : Printer} (file : FileI
     → number ≡ length p.files.keys → q.files.keys ≡ p.files.keys ++ file ∷ [] → q.conditions.keys ≡ p.conditions.keys → q.text.items ≡ p.text.items ++ line_text (file_line number name)
     → IntroducedFile files p q number
 IntroducedFile-new {files} {p} {q} file name number plain named at keys same written =
-    let counted : length q.files.keys ≡ number + 1 = ap length keys ∙ length-append p.files.keys (file ∷ []) ∙ ap (λ n. n + 1) (sym at) in
+    let after : Counts = record { conditions = length p.conditions.keys; files = length p.files.keys + 1 } in
+    let conditions = ap length (sym same) in
+    let files_are = sym (ap length keys ∙ length-append p.files.keys (file ∷ [])) in
+    let counted : after ≡ counts_of q = λ i. record { conditions = conditions i; files = files_are i } in
     record {
       lines = file_line number name ∷ [];
-      introduces = subst (IntroducesFiles (length p.files.keys) (number ∷ []) (file_line number name ∷ [])) (sym counted)
-          (subst (λ n. IntroducesFiles n (number ∷ []) (file_line number name ∷ []) (number + 1)) at (new_file number name [] [] (number + 1) (no_file (number + 1))));
+      introduces = subst (Introduces (counts_of p) (file_numbered number ∷ []) (file_line number name ∷ [])) counted
+          (subst (λ n. Introduces (counts_of p) (file_numbered n ∷ []) (file_line n name ∷ []) after) (sym at)
+          (new (counts_of p) (counts_of p) after after (file_line (length p.files.keys) name) (file_numbered (length p.files.keys)) [] [] [] (nothing (counts_of p)) (next_file (counts_of p) name) (nothing after)));
+      ordered = λ space tests. All-one (HasOrder space tests) (file_line number name) tt;
       grows = subst (Extends p.files.keys) (sym keys) (Extends-push p.files.keys file);
       same_conditions = same;
       prints = λ space s before was. Prints-file file name number plain named at keys same written was;

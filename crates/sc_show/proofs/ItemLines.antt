@@ -10,12 +10,13 @@ use Rattle.sc_guarded.specs.Items.{faults_at, seen_fault}
 use Rattle.sc_base.specs.declared.token.Token.{Token}
 use Rattle.sc_base.specs.Seen.{seen, text_at}
 use Rattle.sc_base.specs.Seen.{position_of}
-use Rattle.sc_text.specs.Layout.{files_of, IsAscending, AreAlike, no_item, left_out, both as same_item}
+use Rattle.sc_text.specs.Layout.{condition_numbered, file_numbered, needs, IsAscending, AreAlike, no_item, left_out, both as same_item}
 use Rattle.sc_model.specs.Sets.{Sets, IsConfig}
 use Rattle.sc_model.specs.Space.{Space, arities_of}
 use Rattle.sc_text.specs.Text.{Condition, TextLine, condition_at, project}
 use Rattle.sc_model.specs.Token.{shown}
 use Rattle.sc_text.proofs.Ascending.{IsBefore, IsAscending-nil, IsAscending-cons, IsAscending-head, IsAscending-tail}
+use Rattle.sc_text.proofs.LayoutLemmas.{OfFiles}
 use Rattle.sc_text.proofs.LayoutReading.{tokens_read, faults_read}
 use Rattle.sc_show.specs.Prints.{Agrees}
 use Rattle.sc_show.specs.Rules.{Item, list_item, fault_item, AreLinesOf, no_line, without_line, line_of}
@@ -79,14 +80,15 @@ module _ {X : Type 0} (s : Sets) (ks : List Cond) (fs : List FileId) (item : X �
   lines_pass test each (x ∷ xs) lines (without_line it items ls none rest) = lines_pass test each xs lines rest
   lines_pass test each (x ∷ xs) ls (line_of it number file items lines some numbered filed rest) = both (each x number file some) (lines_pass test each xs lines rest)
 
-  -- the files that the lines name are those of the elements
-  pub lines_files : (files : List (List ℕ)) → ((x : X) (number file : ℕ) → files_of ((item x).line number file) ≡ file ∷ []) → (xs : List X) (lines : List TextLine)
-      → All (λ (x : X). (item x).file.0 < length files) xs → AreLinesOf s ks fs (map item xs) lines → All (λ line. All (IsFileOf fs files) (files_of line)) lines
-  lines_files files named [] lines held no_line = All-nil (λ (line : TextLine). All (IsFileOf fs files) (files_of line))
+  -- the files that the lines need are those of the elements
+  pub lines_files : (files : List (List ℕ)) → ((x : X) (number file : ℕ) → needs ((item x).line number file) ≡ condition_numbered number ∷ file_numbered file ∷ []) → (xs : List X) (lines : List TextLine)
+      → All (λ (x : X). (item x).file.0 < length files) xs → AreLinesOf s ks fs (map item xs) lines → All (λ line. All (OfFiles (IsFileOf fs files)) (needs line)) lines
+  lines_files files named [] lines held no_line = All-nil (λ (line : TextLine). All (OfFiles (IsFileOf fs files)) (needs line))
   lines_files files named (x ∷ xs) lines held (without_line it items ls none rest) = lines_files files named xs lines (All-tail (λ (y : X). (item y).file.0 < length files) x xs held) rest
   lines_files files named (x ∷ xs) ls held (line_of it number file items lines some numbered filed rest) =
-      All-cons (λ (line : TextLine). All (IsFileOf fs files) (files_of line)) ((item x).line number file) lines
-      (subst (All (IsFileOf fs files)) (sym (named x number file)) (All-cons (IsFileOf fs files) file [] (record { each = each }) (All-nil (IsFileOf fs files))))
+      let P = OfFiles (IsFileOf fs files) in
+      All-cons (λ (line : TextLine). All P (needs line)) ((item x).line number file) lines
+      (subst (All P) (sym (named x number file)) (All-cons P (condition_numbered number) (file_numbered file ∷ []) tt (All-cons P (file_numbered file) [] (record { each = each }) (All-nil P))))
       (lines_files files named xs lines (All-tail (λ (y : X). (item y).file.0 < length files) x xs held) rest)
     where
       each : (id : FileId) → slice_get fs file ≡ Some id → id.0 < length files

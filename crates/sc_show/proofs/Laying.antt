@@ -1,22 +1,23 @@
 -- The lines of items, after one another.
-use Rattle.std.proofs.Common.{◌≡◌, ℕ, zero, suc, ◌+◌, ◌<◌, List, [], ◌∷◌, ◌++◌, length, map, take, slice_get, Some, All, sym, ap, subst, ◌∙◌, arith, append-nil, append_assoc}
+use Rattle.std.proofs.Common.{◌≡◌, ℕ, zero, suc, ◌+◌, ◌<◌, List, [], ◌∷◌, ◌++◌, length, map, take, slice_get, Some, sym, ap, subst, ◌∙◌, arith, append-nil, append_assoc}
 use Rattle.std.proofs.lemmas.List.{map-append, take_more}
-use Rattle.std.proofs.lemmas.List.Elements.{All-nil, All-cons, All-append}
+use Rattle.std.proofs.lemmas.List.Elements.{All-nil, All-append}
 use Rattle.std.proofs.lemmas.Option.{same_Some, slice_get_within, get_or_from_slice_get}
 use Rattle.sc_base.specs.declared.id.Cond.{Cond}
 use Rattle.sc_base.specs.declared.id.FileId.{FileId}
 use Rattle.sc_base.proofs.Growth.{Extends-refl, Extends-trans, Extends-keeps}
 use Rattle.sc_model.specs.Growth.{Extends}
-use Rattle.sc_text.specs.Layout.{Introduces, IntroducesFiles, no_file, known_file, new_file, LaysOut, done, shows, HasOrder, conditions_of, files_of}
+use Rattle.sc_text.specs.Layout.{condition_numbered, file_numbered, needs, Introduces, done, shows, HasOrder}
 use Rattle.sc_model.specs.Sets.{Sets, IsCond, Keeps, IsNever}
 use Rattle.sc_model.specs.Space.{Space}
-use Rattle.sc_text.specs.Text.{Condition, TextLine, file_line}
+use Rattle.sc_text.specs.Text.{Condition, TextLine}
 use Rattle.sc_text.proofs.LayoutLemmas.{LaysOut-append}
 use Rattle.sc_model.proofs.SetLemmas.{Keeps-trans, IsConfig-Keeps, IsNever-Keeps}
 use Rattle.sc_show.specs.declared.printer.Printer.{Printer}
 use Rattle.sc_show.specs.Prints.{IsTable, Prints}
-use Rattle.sc_show.specs.Rules.{Introduced, IntroducedFile, Item, AreLinesOf, no_line, without_line, line_of, LaidOut, tests_of}
+use Rattle.sc_show.specs.Rules.{Introduced, IntroducedFile, Item, AreLinesOf, no_line, without_line, line_of, LaidOut, counts_of, tests_of}
 use Rattle.sc_show.proofs.Faults.{All-one}
+use Rattle.sc_show.proofs.Introducing.{Introduces-append}
 
 AreLinesOf-append : {s : Sets} {ks : List Cond} {fs : List FileId} {items others : List Item} {lines more : List TextLine} → AreLinesOf s ks fs items lines → AreLinesOf s ks fs others more
     → AreLinesOf s ks fs (items ++ others) (lines ++ more)
@@ -46,7 +47,7 @@ LaidOut-without : {space : Space} {s : Sets} {files : List (List ℕ)} {p : Prin
 LaidOut-without {space} {s} {files} {p} items without table = record {
   lines = [];
   shown = [];
-  laid = done (length p.conditions.keys) (length p.files.keys);
+  laid = done (counts_of p);
   are = λ t ks fs kept grows files_grow. without t ks fs kept;
   ordered = λ t ks kept grows. All-nil (HasOrder space (tests_of t ks));
   table = table;
@@ -70,11 +71,6 @@ some_number {s} a zero table at some =
     absurd (some (record { none = λ c listed. ap (λ (k : Cond). s.has k.0 c) (sym same) ∙ table.never.means.at c listed }))
 some_number a (suc n) table at some = omega arith
 
-files_have_order : (space : Space) (tests : List Condition) {n m : ℕ} {ns : List ℕ} {lines : List TextLine} → IntroducesFiles n ns lines m → All (HasOrder space tests) lines
-files_have_order space tests (no_file n) = All-nil (HasOrder space tests)
-files_have_order space tests (known_file n number ns lines m below rest) = files_have_order space tests rest
-files_have_order space tests (new_file n name ns lines m rest) = All-cons (HasOrder space tests) (file_line n name) lines tt (files_have_order space tests rest)
-
 pub IsNever-kept : {old new : Sets} {a : ℕ} → Keeps old new → IsCond old a → IsNever new a → IsNever old a
 IsNever-kept {old} {new} {a} keeps own none = record { none = λ c listed. sym (keeps.at a c own listed) ∙ none.none c (IsConfig-Keeps keeps listed) }
 
@@ -83,9 +79,9 @@ pub numbered_still : {files : List (List ℕ)} {p q : Printer} {m : ℕ} {a : Co
 numbered_still n file at = ap (λ ks. slice_get ks n) file.same_conditions ∙ at
 
 -- an item's line, after those of its condition and of its file
-module _ {space : Space} {old s : Sets} {files : List (List ℕ)} {p q r u : Printer} (item : Item) (n m : ℕ) (conditions_are : conditions_of (item.line n m) ≡ n ∷ []) (files_are : files_of (item.line n m) ≡ m ∷ [])
+module _ {space : Space} {old s : Sets} {files : List (List ℕ)} {p q r u : Printer} (item : Item) (n m : ℕ) (needs_are : needs (item.line n m) ≡ condition_numbered n ∷ file_numbered m ∷ [])
     (no_order : (space : Space) (tests : List Condition) → HasOrder space tests (item.line n m)) (some : IsNever s item.cond.0 → ⊥)
-    (conditions : Introduced space old s p q (n ∷ [])) (file : IntroducedFile files q r m) (numbered : slice_get q.conditions.keys n ≡ Some item.cond) (file_numbered : slice_get r.files.keys m ≡ Some item.file)
+    (conditions : Introduced space old s p q (n ∷ [])) (file : IntroducedFile files q r m) (numbered : slice_get q.conditions.keys n ≡ Some item.cond) (file_found : slice_get r.files.keys m ≡ Some item.file)
     (kept : u.conditions.keys ≡ r.conditions.keys) (kept_files : u.files.keys ≡ r.files.keys)
     (prints : (before : List TextLine) → Prints space s files r before → Prints space s files u (before ++ item.line n m ∷ [])) where
   keys : u.conditions.keys ≡ q.conditions.keys
@@ -94,32 +90,33 @@ module _ {space : Space} {old s : Sets} {files : List (List ℕ)} {p q r u : Pri
   longer_files : Extends q.files.keys u.files.keys
   longer_files = subst (Extends q.files.keys) (sym kept_files) file.grows
 
-  line_laid : LaysOut (length p.conditions.keys) (length p.files.keys) (item.line n m ∷ []) (conditions.lines ++ (file.lines ++ item.line n m ∷ [])) (length u.conditions.keys) (length u.files.keys)
-  line_laid =
-      shows (length p.conditions.keys) (length p.files.keys) (item.line n m) [] conditions.lines file.lines [] (length u.conditions.keys) (length u.files.keys) (length u.conditions.keys) (length u.files.keys)
-      (subst (λ ns. Introduces (length p.conditions.keys) ns conditions.lines (length u.conditions.keys)) (sym conditions_are)
-      (subst (λ ks. Introduces (length p.conditions.keys) (n ∷ []) conditions.lines (length ks)) (sym keys) conditions.introduces))
-      (subst (λ ms. IntroducesFiles (length p.files.keys) ms file.lines (length u.files.keys)) (sym files_are)
-      (subst (λ fs. IntroducesFiles (length p.files.keys) (m ∷ []) file.lines (length fs)) (sym kept_files)
-      (subst (λ fs. IntroducesFiles (length fs) (m ∷ []) file.lines (length r.files.keys)) conditions.same_files file.introduces)))
-      (done (length u.conditions.keys) (length u.files.keys))
+  counted : counts_of r ≡ counts_of u
+  counted =
+      let conditions_are = ap length (sym kept) in
+      let files_are = ap length (sym kept_files) in
+      λ i. record { conditions = conditions_are i; files = files_are i }
+
+  introduced : Introduces (counts_of p) (needs (item.line n m)) (conditions.lines ++ file.lines) (counts_of u)
+  introduced = subst (λ needed. Introduces (counts_of p) needed (conditions.lines ++ file.lines) (counts_of u)) (sym needs_are)
+      (subst (Introduces (counts_of p) (condition_numbered n ∷ file_numbered m ∷ []) (conditions.lines ++ file.lines)) counted (Introduces-append conditions.introduces file.introduces))
 
   pub LaidOut-one : LaidOut space old s files p u (item ∷ [])
   LaidOut-one = record {
-    lines = conditions.lines ++ (file.lines ++ item.line n m ∷ []);
+    lines = (conditions.lines ++ file.lines) ++ item.line n m ∷ [];
     shown = item.line n m ∷ [];
-    laid = line_laid;
+    laid = shows (counts_of p) (counts_of u) (counts_of u) (item.line n m) [] (conditions.lines ++ file.lines) [] introduced (done (counts_of u));
     are = λ t ks fs keeps grows files_grow.
         line_of item n m [] [] (some_number item.cond n conditions.table numbered some) (Extends-keeps _ _ (ap (λ ls. slice_get ls n) keys ∙ numbered) grows)
-        (Extends-keeps _ _ (ap (λ gs. slice_get gs m) kept_files ∙ file_numbered) files_grow) no_line;
+        (Extends-keeps _ _ (ap (λ gs. slice_get gs m) kept_files ∙ file_found) files_grow) no_line;
     ordered = λ t ks keeps grows.
-        All-append (HasOrder space (tests_of t ks)) conditions.lines (file.lines ++ item.line n m ∷ []) (conditions.ordered t ks keeps (subst (λ ls. Extends ls ks) keys grows))
-        (All-append (HasOrder space (tests_of t ks)) file.lines (item.line n m ∷ []) (files_have_order space (tests_of t ks) file.introduces) (All-one (HasOrder space (tests_of t ks)) (item.line n m) (no_order space (tests_of t ks))));
+        All-append (HasOrder space (tests_of t ks)) (conditions.lines ++ file.lines) (item.line n m ∷ [])
+        (All-append (HasOrder space (tests_of t ks)) conditions.lines file.lines (conditions.ordered t ks keeps (subst (λ ls. Extends ls ks) keys grows)) (file.ordered space (tests_of t ks)))
+        (All-one (HasOrder space (tests_of t ks)) (item.line n m) (no_order space (tests_of t ks)));
     table = subst (IsTable s) (sym keys) conditions.table;
     grows = subst (Extends p.conditions.keys) (sym keys) conditions.grows;
     files_grow = subst (λ fs. Extends fs u.files.keys) conditions.same_files longer_files;
     prints = λ before was.
-        subst (Prints space s files u) (append_assoc (before ++ conditions.lines) file.lines (item.line n m ∷ []) ∙ append_assoc before conditions.lines (file.lines ++ item.line n m ∷ []))
+        subst (Prints space s files u) (ap (λ ls. ls ++ item.line n m ∷ []) (append_assoc before conditions.lines file.lines) ∙ append_assoc before (conditions.lines ++ file.lines) (item.line n m ∷ []))
         (prints ((before ++ conditions.lines) ++ file.lines) (file.prints space s (before ++ conditions.lines) (conditions.prints files before was)));
   }
 

@@ -10,23 +10,23 @@ use Rattle.sc_model.specs.declared.variable_option.VariableOption.{VariableOptio
 use Rattle.sc_model.specs.Bytes.{same_bytes}
 use Rattle.sc_model.specs.Growth.{IsOneToOne}
 use Rattle.sc_model.specs.Space.{Variable, Space, option_text}
-use Rattle.sc_text.specs.Text.{Reading, TextLine, line_text, read_lines, read_line, is_clear, variable_from, are_options}
+use Rattle.sc_text.specs.Text.{BodyKind, Reading, TextLine, line_text, read_lines, read_line, is_clear, variable_from, are_options}
 use Rattle.sc_model.proofs.ByteLemmas.{same_bytes-refl, same_bytes-true}
 use Rattle.sc_show.specs.Prints.{choices_of}
 use Rattle.sc_show.proofs.Choices.{both}
 
 -- the last line is read at what was read before it
-pub read_lines-push : (space : Space) (lines : List TextLine) (r t u : Reading) (line : TextLine) → read_lines space r lines ≡ Some t → t.ended ≡ false
+pub read_lines-push : {kind : BodyKind} (space : Space) (lines : List TextLine) (r t u : Reading kind) (line : TextLine) → read_lines space r lines ≡ Some t → t.ended ≡ false
     → read_line space t line ≡ Some u → read_lines space r (lines ++ line ∷ []) ≡ Some u
-read_lines-push space [] r t u line before unended now =
+read_lines-push {kind = kind} space [] r t u line before unended now =
     subst (λ x. read_lines space x (line ∷ []) ≡ Some u) (sym (same_Some r t before)) (by t.ended (read_line space t line) unended now)
   where
-    by : (b : Bool) (o : Option Reading) → b ≡ false → o ≡ Some u → (if b then None else option_and_then (λ s. Some s) o) ≡ Some u
+    by : (b : Bool) (o : Option (Reading kind)) → b ≡ false → o ≡ Some u → (if b then None else option_and_then (λ s. Some s) o) ≡ Some u
     by b o p q = rw (p, q) refl
-read_lines-push space (l ∷ ls) r t u line before unended now =
+read_lines-push {kind = kind} space (l ∷ ls) r t u line before unended now =
     by r.ended (read_line space r l) (λ s h. read_lines-push space ls s t u line h unended now) before
   where
-    by : (b : Bool) (o : Option Reading) → ((s : Reading) → read_lines space s ls ≡ Some t → read_lines space s (ls ++ line ∷ []) ≡ Some u)
+    by : (b : Bool) (o : Option (Reading kind)) → ((s : Reading kind) → read_lines space s ls ≡ Some t → read_lines space s (ls ++ line ∷ []) ≡ Some u)
         → (if b then None else option_and_then (λ s. read_lines space s ls) o) ≡ Some t
         → (if b then None else option_and_then (λ s. read_lines space s (ls ++ line ∷ [])) o) ≡ Some u
     by true o ih h = absurd (cc)

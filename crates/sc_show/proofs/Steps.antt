@@ -13,7 +13,7 @@ use Rattle.sc_model.specs.declared.cause.Cause.{Cause}
 use Rattle.sc_model.specs.Fault.{Fault}
 use Rattle.sc_model.specs.Sets.{Sets, IsConfig, IsCond, HasOptions, Denotes, Keeps}
 use Rattle.sc_model.specs.Space.{Space, Variable, arities_of}
-use Rattle.sc_text.specs.Text.{Condition, Reading, TextLine, condition_line, file_line, token_line, fault_line, line_text, is_clear, is_word, read_line, condition_at, chosen, read_condition, variable_from, with_condition, with_file, with_token, with_fault, place_of, nothing_read}
+use Rattle.sc_text.specs.Text.{Condition, token_list, Reading, TextLine, condition_line, file_line, token_line, fault_line, line_text, is_clear, is_word, read_line, condition_at, chosen, read_condition, variable_from, with_condition, with_file, with_token, with_fault, place_of, nothing_read}
 use Rattle.sc_model.specs.Bytes.{has_no_newline}
 use Rattle.sc_model.specs.Token.{Place, Shown}
 use Rattle.sc_model.proofs.ListLemmas.{slice_get-front, slice_get-seam}
@@ -30,7 +30,7 @@ use Rattle.sc_show.proofs.Reading.{read_lines-push, written-push, clear-push, va
 use Rattle.sc_show.proofs.Numbers.{owned_at}
 
 -- one line more
-Prints-push : {space : Space} {s : Sets} {files : List (List ℕ)} {p q : Printer} {before : List TextLine} (was : Prints space s files p before) (line : TextLine) (reading : Reading)
+Prints-push : {space : Space} {s : Sets} {files : List (List ℕ)} {p q : Printer} {before : List TextLine} (was : Prints space s files p before) (line : TextLine) (reading : Reading token_list)
     → is_clear line ≡ true → q.text.items ≡ p.text.items ++ line_text line → read_line space was.reading line ≡ Some reading → reading.ended ≡ false
     → Agrees s q.conditions.keys reading.conditions → reading.files ≡ map (λ (f : FileId). text_at files f.0) q.files.keys → Prints space s files q (before ++ line ∷ [])
 Prints-push {space} {before = before} was line reading clear written read unended conditions names = record {
@@ -166,7 +166,7 @@ Prints-file {space} {s} {files} {p} {q} file name number plain named at keys sam
     Prints-push was (file_line number name) (with_file was.reading name) clear written read was.unended (subst (λ ks. Agrees s ks was.reading.conditions) (sym same) was.conditions) names
 
 -- the place that is read is the one that was printed
-place_of-printed : (files : List (List ℕ)) (keys : List FileId) (r : Reading) (m : ℕ) (place : declared_place.Place) → r.files ≡ map (λ (f : FileId). text_at files f.0) keys
+place_of-printed : (files : List (List ℕ)) (keys : List FileId) (r : Reading token_list) (m : ℕ) (place : declared_place.Place) → r.files ≡ map (λ (f : FileId). text_at files f.0) keys
     → slice_get keys m ≡ Some place.file → place_of r (printed_place m place) ≡ Some (seen_place files place)
 place_of-printed files keys r m place names at =
     ap (option_map (λ (name : List ℕ). let x : Place = record { file = name; position = position_of place } in x))
@@ -215,7 +215,7 @@ Prints-nothing {space} {s} {files} {p} never always none all keys no_files no_te
   names = sym (ap (map (λ (f : FileId). text_at files f.0)) no_files);
 }
   where
-    by : (n : ℕ) (cond : Cond) → slice_get (never ∷ always ∷ []) n ≡ Some cond → (c : List ℕ) → IsConfig s.arities c → condition_at nothing_read.conditions n c ≡ s.has cond.0 c
+    by : (n : ℕ) (cond : Cond) → slice_get (never ∷ always ∷ []) n ≡ Some cond → (c : List ℕ) → IsConfig s.arities c → condition_at (nothing_read {kind = token_list}).conditions n c ≡ s.has cond.0 c
     by zero cond at c listed = sym (none.at c listed) ∙ ap (λ (k : Cond). s.has k.0 c) (same_Some never cond at)
     by (suc zero) cond at c listed = sym (all.at c listed) ∙ ap (λ (k : Cond). s.has k.0 c) (same_Some always cond at)
     by (suc (suc n)) cond at c listed = absurd (cc)

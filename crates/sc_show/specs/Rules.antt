@@ -11,7 +11,7 @@ use Rattle.sc_guarded.specs.Items.{faults_at, seen_fault}
 use Rattle.sc_base.specs.declared.token.Token.{Token}
 use Rattle.sc_base.specs.Seen.{text_at}
 use Rattle.sc_model.specs.Growth.{Extends}
-use Rattle.sc_text.specs.Layout.{Introduces, IntroducesFiles, LaysOut, HasOrder, IsAscending}
+use Rattle.sc_text.specs.Layout.{condition_numbered, file_numbered, Counts, Introduces, LaysOut, HasOrder, IsAscending}
 use Rattle.sc_model.specs.Sets.{Sets, IsConfig, IsNever, Keeps, DependsFrom}
 use Rattle.sc_model.specs.Space.{Space}
 use Rattle.sc_text.specs.Text.{Condition, TextLine, token_line, fault_line}
@@ -45,6 +45,10 @@ pub data AreLinesOf (s : Sets) (conditions : List Cond) (files : List FileId) : 
   line_of : (item : Item) (number file : ℕ) (items : List Item) (lines : List TextLine) → 0 < number → slice_get conditions number ≡ Some item.cond → slice_get files file ≡ Some item.file
       → AreLinesOf s conditions files items lines → AreLinesOf s conditions files (item ∷ items) (item.line number file ∷ lines)
 
+-- how many conditions and files have a number
+abbrev pub counts_of : Printer → Counts
+counts_of printer = record { conditions = length printer.conditions.keys; files = length printer.files.keys }
+
 -- each condition that got a number depends on no variable before this one
 pub record AreFrom (s : Sets) (old new : List Cond) (from : ℕ) : Type 0 where
   pub each : (n : ℕ) (a : Cond) → length old ≤ n → slice_get new n ≡ Some a → DependsFrom s a.0 from
@@ -52,7 +56,7 @@ pub record AreFrom (s : Sets) (old new : List Cond) (from : ℕ) : Type 0 where
 -- conditions got these numbers, after the lines that they need, which keep their order as the store and the numbers grow
 pub record Introduced (space : Space) (old new : Sets) (p q : Printer) (numbers : List ℕ) : Type 0 where
   pub lines : List TextLine
-  pub introduces : Introduces (length p.conditions.keys) numbers lines (length q.conditions.keys)
+  pub introduces : Introduces (counts_of p) (map condition_numbered numbers) lines (counts_of q)
   pub ordered : (s : Sets) (conditions : List Cond) → Keeps new s → Extends q.conditions.keys conditions → All (HasOrder space (tests_of s conditions)) lines
   pub table : IsTable new q.conditions.keys
   pub grows : Extends p.conditions.keys q.conditions.keys
@@ -62,7 +66,8 @@ pub record Introduced (space : Space) (old new : Sets) (p q : Printer) (numbers 
 -- a file got its number, after the line that it needs
 pub record IntroducedFile (files : List (List ℕ)) (p q : Printer) (number : ℕ) : Type 0 where
   pub lines : List TextLine
-  pub introduces : IntroducesFiles (length p.files.keys) (number ∷ []) lines (length q.files.keys)
+  pub introduces : Introduces (counts_of p) (file_numbered number ∷ []) lines (counts_of q)
+  pub ordered : (space : Space) (tests : List Condition) → All (HasOrder space tests) lines
   pub grows : Extends p.files.keys q.files.keys
   pub same_conditions : q.conditions.keys ≡ p.conditions.keys
   pub prints : (space : Space) (s : Sets) (before : List TextLine) → Prints space s files p before → Prints space s files q (before ++ lines)
@@ -71,7 +76,7 @@ pub record IntroducedFile (files : List (List ℕ)) (p q : Printer) (number : �
 pub record LaidOut (space : Space) (old new : Sets) (files : List (List ℕ)) (p q : Printer) (items : List Item) : Type 0 where
   pub lines : List TextLine
   pub shown : List TextLine
-  pub laid : LaysOut (length p.conditions.keys) (length p.files.keys) shown lines (length q.conditions.keys) (length q.files.keys)
+  pub laid : LaysOut (counts_of p) shown lines (counts_of q)
   pub are : (s : Sets) (conditions : List Cond) (names : List FileId) → Keeps new s → Extends q.conditions.keys conditions → Extends q.files.keys names → AreLinesOf s conditions names items shown
   pub ordered : (s : Sets) (conditions : List Cond) → Keeps new s → Extends q.conditions.keys conditions → All (HasOrder space (tests_of s conditions)) lines
   pub table : IsTable new q.conditions.keys

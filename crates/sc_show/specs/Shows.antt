@@ -9,7 +9,7 @@ use Rattle.sc_base.specs.Seen.{IsHeld, seen, text_at}
 use Rattle.sc_text.specs.Layout.{IsTextOf, AreAlike}
 use Rattle.sc_model.specs.Sets.{Sets, IsConfig, IsCond}
 use Rattle.sc_model.specs.Space.{Space}
-use Rattle.sc_text.specs.Text.{Condition, Answer, project}
+use Rattle.sc_text.specs.Text.{Condition, token_list, Answer, project}
 use Rattle.sc_model.specs.Bytes.{has_no_newline}
 use Rattle.sc_model.specs.Token.{Shown, shown}
 use Rattle.sc_show.specs.Pieces.{split_lines_after}
@@ -36,9 +36,9 @@ shown_items s names files list = map (λ item. (s.has item.0.0, shown (seen name
 -- The text is that of an answer with the tokens of the list under their conditions and, at each configuration, its fault.
 pub record Shows (space : Space) (s : Sets) (names files : List (List ℕ)) (list : List (Cond × Token)) (faults : List base.Fault) (text : List ℕ) : Type 0 where
   pub pieces : List (List ℕ)
-  pub answer : Answer
+  pub answer : Answer token_list
   pub whole : text ≡ concat pieces
   pub cut : split_lines_after text ≡ pieces
   pub text_of : IsTextOf space pieces answer
-  pub tokens : AreAlike space (shown_items s names files list) answer.tokens
+  pub tokens : AreAlike space (shown_items s names files list) answer.body
   pub faults_are : (c : List ℕ) → IsConfig s.arities c → project answer.faults c ≡ map (seen_fault files) (faults_at s faults c)

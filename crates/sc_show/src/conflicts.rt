@@ -6,10 +6,10 @@ ghost use Rattle.sc_show.specs.Conflicts.{IsNamed, action_text, conflict_text, c
 ghost use Rattle.sc_show.specs.Pieces.{split_lines_after};
 
 use crate::lines::{write_end, write_number};
+use lr_tables::{Action, Conflict};
 use sc_base::OutOfMemory;
 use sc_grammar::terminal_name;
 use sc_lalr::Tables;
-use lr_tables::{Action, Conflict};
 use std::alloc::Global;
 
 fn write_action(text: &mut Vec<u8>, action: Action) -> Result<(), OutOfMemory>

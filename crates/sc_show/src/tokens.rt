@@ -9,9 +9,8 @@ ghost use Rattle.sc_show.specs.Shows.{IsShowable, IsShowableFault, AreApart, Sho
 
 use crate::merge::merged;
 use crate::printer::Printer;
-use sc_base::{Fault, Files, Names, OutOfMemory};
+use sc_base::{Fault, Files, Names, OutOfMemory, Token};
 use sc_guarded::Guarded;
-use sc_base::Token;
 use sc_presence::Conditions;
 use sc_space::Space;
 use std::alloc::Global;

@@ -1,11 +1,12 @@
 -- Lists of the same items.
 use Rattle.std.proofs.Common.{◌≡◌, ℕ, List, ◌∷◌, ◌++◌, refl, sym, ap, ◌∙◌, if◌then◌else◌}
 use Rattle.sc_text.specs.Layout.{AreAlike, no_item, left_out, left_out_there, both}
-use Rattle.sc_model.specs.Space.{Space, IsListed}
+use Rattle.sc_model.specs.Sets.{IsConfig}
+use Rattle.sc_model.specs.Space.{Space, arities_of}
 use Rattle.sc_text.specs.Text.{Condition, project}
 
 -- the same items give each configuration the same list
-pub AreAlike-project : {T : Type 0} {space : Space} {xs ys : List (Condition × T)} (config : List ℕ) → IsListed space config → AreAlike space xs ys → project xs config ≡ project ys config
+pub AreAlike-project : {T : Type 0} {space : Space} {xs ys : List (Condition × T)} (config : List ℕ) → IsConfig (arities_of space) config → AreAlike space xs ys → project xs config ≡ project ys config
 AreAlike-project config listed no_item = refl
 AreAlike-project config listed (left_out f item xs ys empty rest) =
     ap (λ b. if b then item ∷ project xs config else project xs config) (empty.none config listed) ∙ AreAlike-project config listed rest

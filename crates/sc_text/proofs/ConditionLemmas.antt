@@ -1,6 +1,6 @@
 -- Conditions by their numbersand the options of one.
-use Rattle.std.proofs.Common.{◌≡◌, ℕ, zero, suc, ◌<◌, ◌≤◌, ◌==◌, ◌&&◌, nat_lt, true, List, [], ◌∷◌, ◌++◌, length, map, slice_index, refl, sym, ap, arith}
-use Rattle.std.proofs.lemmas.Bool.{eq-eqb, eqb-true, ltb-true, true≢false, and_parts}
+use Rattle.std.proofs.Common.{◌≡◌, ℕ, zero, suc, ◌<◌, ◌≤◌, ◌&&◌, nat_lt, true, List, [], ◌∷◌, ◌++◌, length, map, slice_index, refl, sym, ap, arith}
+use Rattle.std.proofs.lemmas.Bool.{ltb-true, true≢false, and_parts}
 use Rattle.sc_model.proofs.ByteLemmas.{same_bytes-true}
 use Rattle.sc_model.specs.Bytes.{same_bytes}
 use Rattle.sc_text.specs.Text.{Condition, condition_at, are_options, chosen}

@@ -2,9 +2,9 @@
 use Rattle.std.proofs.Common.{◌≡◌, ℕ, nat_lt, true, List, [], ◌∷◌, ◌++◌, refl, sym, ◌∙◌, append-nil}
 use Rattle.std.specs.List.{list_all}
 use Rattle.std.proofs.lemmas.Bool.{and_parts, true≢false}
-use Rattle.sc_text.specs.Layout.{LaysOut, is_token, is_fault}
+use Rattle.sc_text.specs.Layout.{Counts, LaysOut, is_token, is_fault}
 use Rattle.sc_model.specs.Space.{Space}
-use Rattle.sc_text.specs.Text.{Condition, TextLine, token_line, fault_line, end_line, Reading, nothing_read}
+use Rattle.sc_text.specs.Text.{Condition, TextLine, token_line, fault_line, end_line, Reading, token_list, nothing_read}
 use Rattle.sc_text.proofs.LayoutReading.{tokens_read, faults_read, HasRead, laid-tokens, laid-faults, tokens_read-append, faults_read-append}
 
 module _ (conditions : List Condition) (files : List (List ℕ)) where
@@ -19,9 +19,9 @@ module _ (conditions : List Condition) (files : List (List ℕ)) where
   no_fault (token_line cond place spelling ∷ tokens) are = no_fault tokens (and_parts (nat_lt 0 cond) (list_all is_token tokens) are).1
   no_fault (line ∷ tokens) are = absurd (true≢false (sym are))
 
-module _ {space : Space} {lines : List TextLine} {reading : Reading} {n m i j : ℕ} (tokens faults : List TextLine) (told : HasRead space nothing_read reading lines)
-    (laid : LaysOut n m (tokens ++ (faults ++ end_line ∷ [])) lines i j) where
-  pub tokens_are : list_all is_fault faults ≡ true → reading.answer.tokens ≡ tokens_read reading.conditions reading.files tokens
+module _ {space : Space} {lines : List TextLine} {reading : Reading token_list} {n m : Counts} (tokens faults : List TextLine) (told : HasRead space nothing_read reading lines)
+    (laid : LaysOut n (tokens ++ (faults ++ end_line ∷ [])) lines m) where
+  pub tokens_are : list_all is_fault faults ≡ true → reading.answer.body ≡ tokens_read reading.conditions reading.files tokens
   tokens_are are =
       told.tokens ∙ laid-tokens reading.conditions reading.files laid ∙ tokens_read-append reading.conditions reading.files tokens (faults ++ end_line ∷ [])
       ∙ rw (tokens_read-append reading.conditions reading.files faults (end_line ∷ []), no_token reading.conditions reading.files faults are)

@@ -1,40 +1,59 @@
 -- Laid-out lines: one list after another, what each file's number stands in, and what the order of the nodes rests on.
 use Rattle.std.proofs.Common.{◌≡◌, ℕ, ◌<◌, ◌≤◌, inl, inr, List, [], ◌∷◌, ◌++◌, All, refl, sym, subst, arith, append_assoc}
-use Rattle.std.proofs.lemmas.Bool.{cases_eq, cases_lt}
-use Rattle.std.proofs.lemmas.List.Elements.{All-head, All-tail}
-use Rattle.sc_text.specs.Layout.{nothing, IntroducesFiles, no_file, known_file, new_file, LaysOut, done, shows, files_of, HasOrder}
-use Rattle.sc_model.specs.Space.{Space, IsListed}
+use Rattle.std.proofs.lemmas.Bool.{cases_lt}
+use Rattle.std.proofs.lemmas.List.Elements.{All-nil, All-map, All-head, All-tail}
+use Rattle.sc_text.specs.Layout.{Need, condition_numbered, file_numbered, needs, Counts, Gives, next_condition, next_file, Introduces, nothing, known, new, LaysOut, done, shows, HasOrder}
+use Rattle.sc_model.specs.Sets.{IsConfig}
+use Rattle.sc_model.specs.Space.{Space, arities_of}
 use Rattle.sc_text.specs.Text.{Condition, TextLine, condition_line, end_line, condition_at}
 use Rattle.sc_model.proofs.SetLemmas.{DependsFrom-same}
 
-pub LaysOut-append : {n m k l i j : ℕ} {items others lines more : List TextLine} → LaysOut n m items lines k l → LaysOut k l others more i j → LaysOut n m (items ++ others) (lines ++ more) i j
-LaysOut-append (done n m) later = later
-LaysOut-append {n} {m} {i = i} {j = j} {others = others} {more = more} (shows n1 m1 item items condition_lines file_lines rest k l k1 l1 conditions files laid) later =
-    subst (λ t. LaysOut n m (item ∷ (items ++ others)) t i j) (simp append_assoc)
-    (shows n m item (items ++ others) condition_lines file_lines (rest ++ more) k l i j conditions files (LaysOut-append laid later))
+pub LaysOut-append : {n m k : Counts} {items others lines more : List TextLine} → LaysOut n items lines m → LaysOut m others more k → LaysOut n (items ++ others) (lines ++ more) k
+LaysOut-append (done n) later = later
+LaysOut-append {n} {k = k} {others = others} {more = more} (shows n1 after m item items first rest introduced laid) later =
+    subst (λ t. LaysOut n (item ∷ (items ++ others)) t k) (sym (append_assoc first (item ∷ rest) more)) (shows n after k item (items ++ others) first (rest ++ more) introduced (LaysOut-append laid later))
 
 -- the last line needs no other
-pub LaysOut-end : {n m i j : ℕ} {items lines : List TextLine} → LaysOut n m items lines i j → LaysOut n m (items ++ end_line ∷ []) (lines ++ end_line ∷ []) i j
-LaysOut-end {i = i} {j = j} laid = LaysOut-append laid (shows i j end_line [] [] [] [] i j i j (nothing i) (no_file j) (done i j))
+pub LaysOut-end : {n m : Counts} {items lines : List TextLine} → LaysOut n items lines m → LaysOut n (items ++ end_line ∷ []) (lines ++ end_line ∷ []) m
+LaysOut-end {m = m} laid = LaysOut-append laid (shows m m m end_line [] [] [] (nothing m) (done m))
 
--- what holds of the numbers of files that items name holds of all that have a line
-IntroducesFiles-each : {n m : ℕ} {named : List ℕ} {lines : List TextLine} (P : ℕ → Type 0) → All P named → IntroducesFiles n named lines m → (k : ℕ) → n ≤ k → k < m → P k
-IntroducesFiles-each P holds (no_file n) k above below = absurd (omega arith)
-IntroducesFiles-each P holds (known_file n number named lines m known rest) k above below = IntroducesFiles-each P (All-tail P number named holds) rest k above below
-IntroducesFiles-each P holds (new_file n name named lines m rest) k above below = elim (cases_eq k n) [
-  | inl same ↦ subst P (sym same) (All-head P n named holds)
-  | inr other ↦ IntroducesFiles-each P (All-tail P n named holds) rest k (omega (arith, other)) below
+-- of what is needed, the files
+abbrev pub OfFiles : (ℕ → Type 0) → Need → Type 0
+OfFiles P (condition_numbered number) = Unit {0}
+OfFiles P (file_numbered number) = P number
+
+-- a line that gives a number needs no file
+no_file : {before after : Counts} {line : TextLine} {need : Need} (P : ℕ → Type 0) → Gives before line need after → All (OfFiles P) (needs line)
+no_file P (next_condition before variable options) = All-map (OfFiles P) (λ (option : List ℕ × ℕ). condition_numbered option.1) options (λ k d below. tt)
+no_file P (next_file before name) = All-nil (OfFiles P)
+
+-- the file that it gives is the one that is needed
+given_file : {before after : Counts} {line : TextLine} {need : Need} (P : ℕ → Type 0) → OfFiles P need → Gives before line need after → (k : ℕ) → before.files ≤ k → k < after.files → P k
+given_file P holds (next_condition before variable options) k above below = absurd (omega arith)
+given_file P holds (next_file before name) k above below = let same : before.files ≡ k = omega arith in subst P same holds
+
+-- what holds of the numbers of files that items need holds of all that have a line
+introduced_file : {n m : Counts} {others : List Need} {lines : List TextLine} (P : ℕ → Type 0) → All (OfFiles P) others → Introduces n others lines m → (k : ℕ) → n.files ≤ k → k < m.files → P k
+introduced_file P holds (nothing n) k above below = absurd (omega arith)
+introduced_file P holds (known n m need others lines stands rest) k above below = introduced_file P (All-tail (OfFiles P) need others holds) rest k above below
+introduced_file P holds (new n before after m line need others lines more introduced gives rest) k above below = elim (cases_lt k before.files) [
+  | inl sooner ↦ introduced_file P (no_file P gives) introduced k above sooner
+  | inr not_sooner ↦
+      elim (cases_lt k after.files) [
+        | inl here ↦ given_file P (All-head (OfFiles P) need others holds) gives k not_sooner here
+        | inr later ↦ introduced_file P (All-tail (OfFiles P) need others holds) rest k later below
+      ]
 ]
 
-pub LaysOut-each_file : {n m i j : ℕ} {items lines : List TextLine} (P : ℕ → Type 0) → All (λ (item : TextLine). All P (files_of item)) items → LaysOut n m items lines i j → (k : ℕ) → m ≤ k → k < j → P k
-LaysOut-each_file P holds (done n m) k above below = absurd (omega arith)
-LaysOut-each_file {j = j} P holds (shows n m item items condition_lines file_lines more n_then m_then i1 j1 conditions files rest) k above below = elim (cases_lt k m_then) [
-  | inl before ↦ IntroducesFiles-each P (All-head (λ (line : TextLine). All P (files_of line)) item items holds) files k above before
-  | inr later ↦ LaysOut-each_file P (All-tail (λ (line : TextLine). All P (files_of line)) item items holds) rest k later below
+pub LaysOut-each_file : {n m : Counts} {items lines : List TextLine} (P : ℕ → Type 0) → All (λ (item : TextLine). All (OfFiles P) (needs item)) items → LaysOut n items lines m → (k : ℕ) → n.files ≤ k → k < m.files → P k
+LaysOut-each_file P holds (done n) k above below = absurd (omega arith)
+LaysOut-each_file P holds (shows n after m item items first more introduced rest) k above below = elim (cases_lt k after.files) [
+  | inl sooner ↦ introduced_file P (All-head (λ (line : TextLine). All (OfFiles P) (needs line)) item items holds) introduced k above sooner
+  | inr later ↦ LaysOut-each_file P (All-tail (λ (line : TextLine). All (OfFiles P) (needs line)) item items holds) rest k later below
 ]
 
 -- numbers that stand for the same sets have one order
-pub HasOrder-same : (space : Space) (tests others : List Condition) → ((n : ℕ) (config : List ℕ) → IsListed space config → condition_at others n config ≡ condition_at tests n config)
+pub HasOrder-same : (space : Space) (tests others : List Condition) → ((n : ℕ) (config : List ℕ) → IsConfig (arities_of space) config → condition_at others n config ≡ condition_at tests n config)
     → (line : TextLine) → HasOrder space tests line → HasOrder space others line
 HasOrder-same space tests others same (condition_line id name options) ordered = record {
   later = λ place variable found k d h. DependsFrom-same refl (λ config listed. same _ config listed) (ordered.later place variable found k d h);

@@ -5,10 +5,10 @@ use Rattle.std.proofs.lemmas.Bool.{and_parts, eqb-true, ltb-true}
 use Rattle.std.proofs.lemmas.List.{length-append}
 use Rattle.std.proofs.lemmas.List.Elements.{All-nil, All-cons, All-head}
 use Rattle.std.proofs.lemmas.Option.{cond_some, get_or_from_slice_get, same_Some, slice_get_within, unwrap_or-slice_get}
-use Rattle.sc_text.specs.Layout.{Introduces, nothing, known, node, IntroducesFiles, no_file, known_file, new_file, LaysOut, done, shows}
+use Rattle.sc_text.specs.Layout.{Need, Counts, Gives, next_condition, next_file, Introduces, nothing, known, new, LaysOut, done, shows}
 use Rattle.sc_model.specs.Fault.{Fault}
 use Rattle.sc_model.specs.Space.{Variable, Space, option_text}
-use Rattle.sc_text.specs.Text.{Condition, Answer, Printed, TextLine, condition_line, file_line, token_line, fault_line, end_line, Reading, condition_at, variable_from, are_options, chosen, with_condition, with_file, with_token, with_fault, with_end, place_of, read_condition, read_line, read_lines}
+use Rattle.sc_text.specs.Text.{Condition, Answer, Printed, TextLine, condition_line, file_line, token_line, fault_line, end_line, token_list, Reading, condition_at, variable_from, are_options, chosen, with_condition, with_file, with_token, with_fault, with_end, place_of, read_condition, read_line, read_lines}
 use Rattle.sc_model.specs.Token.{Place, Shown}
 use Rattle.sc_text.proofs.ConditionLemmas.{condition_at-push, condition_at-last, chosen-kept}
 use Rattle.sc_model.proofs.ListLemmas.{slice_get-front, slice_get-seam}
@@ -43,13 +43,13 @@ Holds space conditions files (token_line cond place spelling) = (cond < length c
 Holds space conditions files (fault_line cond cause place) = (cond < length conditions) × (place.file < length files)
 Holds space conditions files end_line = Unit {0}
 
-pub record HasRead (space : Space) (r s : Reading) (lines : List TextLine) : Type 0 where
+pub record HasRead (space : Space) (r s : Reading token_list) (lines : List TextLine) : Type 0 where
   pub grows : length r.conditions ≤ length s.conditions
   pub kept : (n : ℕ) → n < length r.conditions → condition_at s.conditions n ≡ condition_at r.conditions n
   pub files_grow : length r.files ≤ length s.files
   pub files_kept : (n : ℕ) → n < length r.files → slice_get s.files n ≡ slice_get r.files n
   pub holds : All (Holds space s.conditions s.files) lines
-  pub tokens : s.answer.tokens ≡ r.answer.tokens ++ tokens_read s.conditions s.files lines
+  pub tokens : s.answer.body ≡ r.answer.body ++ tokens_read s.conditions s.files lines
   pub faults : s.answer.faults ≡ r.answer.faults ++ faults_read s.conditions s.files lines
 
 pub tokens_read-append : (conditions : List Condition) (files : List (List ℕ)) (xs ys : List TextLine)
@@ -68,29 +68,26 @@ faults_read-append conditions files (line ∷ xs) ys = faults_read-append condit
 
 -- what is read line by line, and of no line of a condition or of a file, is read of the items alone
 module _ {T : Type 0} (read : List TextLine → List T) (of_none : read [] ≡ []) (append : (xs ys : List TextLine) → read (xs ++ ys) ≡ read xs ++ read ys) (of_node : (id : ℕ) (name : List ℕ) (options : List (List ℕ × ℕ)) → read (condition_line id name options ∷ []) ≡ []) (of_file : (id : ℕ) (name : List ℕ) → read (file_line id name ∷ []) ≡ []) where
-  of_nodes : {n m : ℕ} {named : List ℕ} {lines : List TextLine} → Introduces n named lines m → read lines ≡ []
-  of_nodes (nothing count) = of_none
-  of_nodes (known count number named lines now within rest) = of_nodes rest
-  of_nodes (node count number name options named lines more now children rest) =
-      append lines (condition_line number name options ∷ more)
-      ∙ rw (of_nodes children, append (condition_line number name options ∷ []) more, of_node number name options) (of_nodes rest)
+  of_given : {n m : Counts} {line : TextLine} {need : Need} → Gives n line need m → read (line ∷ []) ≡ []
+  of_given (next_condition counts variable options) = of_node counts.conditions variable options
+  of_given (next_file counts name) = of_file counts.files name
 
-  of_files : {n m : ℕ} {named : List ℕ} {lines : List TextLine} → IntroducesFiles n named lines m → read lines ≡ []
-  of_files (no_file count) = of_none
-  of_files (known_file count number named lines now within rest) = of_files rest
-  of_files (new_file count name named lines now rest) = append (file_line count name ∷ []) lines ∙ rw (of_file count name) (of_files rest)
+  of_introduced : {n m : Counts} {others : List Need} {lines : List TextLine} → Introduces n others lines m → read lines ≡ []
+  of_introduced (nothing counts) = of_none
+  of_introduced (known counts now need others lines stands rest) = of_introduced rest
+  of_introduced (new counts before after now line need others lines more introduced gives rest) =
+      append lines (line ∷ more) ∙ rw (of_introduced introduced, append (line ∷ []) more, of_given gives) (of_introduced rest)
 
-  of_items : {n m i j : ℕ} {items lines : List TextLine} → LaysOut n m items lines i j → read lines ≡ read items
-  of_items (done conditions files) = refl
-  of_items (shows conditions files item items nodes names more conditions_then files_then conditions_now files_now introduced introduced_files rest) =
-      append nodes (names ++ item ∷ more)
-      ∙ rw (of_nodes introduced, append names (item ∷ more), of_files introduced_files, append (item ∷ []) more, append (item ∷ []) items, of_items rest) refl
+  of_items : {n m : Counts} {items lines : List TextLine} → LaysOut n items lines m → read lines ≡ read items
+  of_items (done counts) = refl
+  of_items (shows counts after now item items first more introduced rest) =
+      append first (item ∷ more) ∙ rw (of_introduced introduced, append (item ∷ []) more, append (item ∷ []) items, of_items rest) refl
 
 -- the lines of conditions and of files show no item
-pub laid-tokens : {n m i j : ℕ} {items lines : List TextLine} (conditions : List Condition) (files : List (List ℕ)) → LaysOut n m items lines i j → tokens_read conditions files lines ≡ tokens_read conditions files items
+pub laid-tokens : {n m : Counts} {items lines : List TextLine} (conditions : List Condition) (files : List (List ℕ)) → LaysOut n items lines m → tokens_read conditions files lines ≡ tokens_read conditions files items
 laid-tokens conditions files laid = of_items (tokens_read conditions files) refl (tokens_read-append conditions files) (λ id name options. refl) (λ id name. refl) laid
 
-pub laid-faults : {n m i j : ℕ} {items lines : List TextLine} (conditions : List Condition) (files : List (List ℕ)) → LaysOut n m items lines i j → faults_read conditions files lines ≡ faults_read conditions files items
+pub laid-faults : {n m : Counts} {items lines : List TextLine} (conditions : List Condition) (files : List (List ℕ)) → LaysOut n items lines m → faults_read conditions files lines ≡ faults_read conditions files items
 laid-faults conditions files laid = of_items (faults_read conditions files) refl (faults_read-append conditions files) (λ id name options. refl) (λ id name. refl) laid
 
 -- ---- what stays as lines are read
@@ -108,7 +105,7 @@ IsNode-kept {conditions} {more} {id} {options} begun grows kept was = record {
       ∙ sym (chosen-kept conditions more _ options was.place config begun (omega (arith, was.below)) was.fits kept);
 }
 
-module _ {space : Space} {s t : Reading} {lines : List TextLine} (later : HasRead space s t lines) where
+module _ {space : Space} {s t : Reading token_list} {lines : List TextLine} (later : HasRead space s t lines) where
   Holds-kept : (line : TextLine) → 0 < length s.conditions → Holds space s.conditions s.files line → Holds space t.conditions t.files line
   Holds-kept (condition_line id name options) begun holds = IsNode-kept begun later.grows later.kept holds
   Holds-kept (file_line id name) begun holds = later.files_kept id (slice_get_within s.files id name holds) ∙ holds
@@ -140,7 +137,7 @@ after-append : {T : Type 0} (xs ys zs : List T) {more now : List T} → now ≡ 
 after-append xs ys zs e f = e ∙ ap (λ items. items ++ zs) f ∙ append_assoc xs ys zs
 
 -- one line, and then others
-HasRead-cons : {space : Space} {r s t : Reading} {line : TextLine} {lines : List TextLine} → 0 < length r.conditions → HasRead space r s (line ∷ []) → HasRead space s t lines → HasRead space r t (line ∷ lines)
+HasRead-cons : {space : Space} {r s t : Reading token_list} {line : TextLine} {lines : List TextLine} → 0 < length r.conditions → HasRead space r s (line ∷ []) → HasRead space s t lines → HasRead space r t (line ∷ lines)
 HasRead-cons {space} {r} {s} {t} {line} {lines} begun first later =
     let here = All-head (Holds space s.conditions s.files) line [] first.holds in
     record {
@@ -149,7 +146,7 @@ HasRead-cons {space} {r} {s} {t} {line} {lines} begun first later =
       files_grow = omega (arith, first.files_grow, later.files_grow);
       files_kept = λ n below. later.files_kept n (omega (arith, first.files_grow, below)) ∙ first.files_kept n below;
       holds = All-cons (Holds space t.conditions t.files) line lines (Holds-kept later line (omega (arith, first.grows, begun)) here) later.holds;
-      tokens = after-append r.answer.tokens (tokens_read s.conditions s.files (line ∷ [])) _ later.tokens first.tokens
+      tokens = after-append r.answer.body (tokens_read s.conditions s.files (line ∷ [])) _ later.tokens first.tokens
           ∙ rw (← tokens-kept later line here, ← tokens_read-append t.conditions t.files (line ∷ []) lines) refl;
       faults = after-append r.answer.faults (faults_read s.conditions s.files (line ∷ [])) _ later.faults first.faults
           ∙ rw (← faults-kept later line here, ← faults_read-append t.conditions t.files (line ∷ []) lines) refl;
@@ -164,10 +161,10 @@ if_some : {T : Type 0} {o : Option T} {x : T} (b : Bool) → (if b then o else N
 if_some true e = (refl, e)
 if_some false e = absurd (cc)
 
-module _ (space : Space) (r : Reading) where
+module _ (space : Space) (r : Reading token_list) where
   -- lines of items alone
-  only_items : (answer : Answer) (ended : Bool) (lines : List TextLine) → All (Holds space r.conditions r.files) lines
-      → answer.tokens ≡ r.answer.tokens ++ tokens_read r.conditions r.files lines → answer.faults ≡ r.answer.faults ++ faults_read r.conditions r.files lines
+  only_items : (answer : Answer token_list) (ended : Bool) (lines : List TextLine) → All (Holds space r.conditions r.files) lines
+      → answer.body ≡ r.answer.body ++ tokens_read r.conditions r.files lines → answer.faults ≡ r.answer.faults ++ faults_read r.conditions r.files lines
       → HasRead space r (record { conditions = r.conditions; files = r.files; answer = answer; ended = ended }) lines
   only_items answer ended lines holds tokens faults = record {
     grows = omega arith;
@@ -204,12 +201,12 @@ module _ (space : Space) (r : Reading) where
         files_grow = omega arith;
         files_kept = λ n below. refl;
         holds = holds_alone space more r.files (condition_line id name options) holds;
-        tokens = sym (append-nil r.answer.tokens);
+        tokens = sym (append-nil r.answer.body);
         faults = sym (append-nil r.answer.faults);
       }
 
   -- what is made of a place that was read
-  from_place : {s : Reading} (place : Printed) (make : Place → Reading) → option_map make (place_of r place) ≡ Some s
+  from_place : {s : Reading token_list} (place : Printed) (make : Place → Reading token_list) → option_map make (place_of r place) ≡ Some s
       → (name : List ℕ) × (slice_get r.files place.file ≡ Some name) × (make (record { file = name; position = place.position }) ≡ s)
   from_place {s} place make read = by (slice_get r.files place.file) refl read
     where
@@ -219,7 +216,7 @@ module _ (space : Space) (r : Reading) where
       by (Some name) found read = (name, found, same_Some _ _ read)
 
   -- a line says what it reads as
-  adds_line : (line : TextLine) (s : Reading) → 0 < length r.conditions → read_line space r line ≡ Some s → HasRead space r s (line ∷ [])
+  adds_line : (line : TextLine) (s : Reading token_list) → 0 < length r.conditions → read_line space r line ≡ Some s → HasRead space r s (line ∷ [])
   adds_line (condition_line id name options) s begun read = by (variable_from 0 space.variables name) refl read
     where
       by : (o : Option (ℕ × Variable)) → variable_from 0 space.variables name ≡ o → read_condition r id options o ≡ Some s → HasRead space r s (condition_line id name options ∷ [])
@@ -237,7 +234,7 @@ module _ (space : Space) (r : Reading) where
         files_grow = omega (arith, long);
         files_kept = slice_get-front r.files (name ∷ []);
         holds = holds_alone space r.conditions (r.files ++ name ∷ []) (file_line id name) (ap (slice_get (r.files ++ name ∷ [])) (eqb-true id _ told.0) ∙ slice_get-seam r.files name []);
-        tokens = sym (append-nil r.answer.tokens);
+        tokens = sym (append-nil r.answer.body);
         faults = sym (append-nil r.answer.faults);
       })
   adds_line (token_line cond place spelling) s begun read =
@@ -246,7 +243,7 @@ module _ (space : Space) (r : Reading) where
       let file = sym (get_or_from_slice_get r.files place.file at.0 [] at.1) in
       subst (λ s. HasRead space r s (token_line cond place spelling ∷ [])) at.2 (only_items _ r.ended _
       (holds_alone space r.conditions r.files (token_line cond place spelling) (ltb-true cond _ told.0, slice_get_within r.files place.file at.0 at.1))
-      (λ i. r.answer.tokens ++ (condition_at r.conditions cond, record { place = record { file = file i; position = place.position }; spelling = spelling }) ∷ [])
+      (λ i. r.answer.body ++ (condition_at r.conditions cond, record { place = record { file = file i; position = place.position }; spelling = spelling }) ∷ [])
       (sym (append-nil r.answer.faults)))
   adds_line (fault_line cond cause place) s begun read =
       let told = if_some (nat_lt cond (length r.conditions)) read in
@@ -254,21 +251,21 @@ module _ (space : Space) (r : Reading) where
       let file = sym (get_or_from_slice_get r.files place.file at.0 [] at.1) in
       subst (λ s. HasRead space r s (fault_line cond cause place ∷ [])) at.2 (only_items _ r.ended _
       (holds_alone space r.conditions r.files (fault_line cond cause place) (ltb-true cond _ told.0, slice_get_within r.files place.file at.0 at.1))
-      (sym (append-nil r.answer.tokens))
+      (sym (append-nil r.answer.body))
       (λ i. r.answer.faults ++ (condition_at r.conditions cond, record { cause = cause; place = record { file = file i; position = place.position } }) ∷ []))
   adds_line end_line s begun read =
       subst (λ s. HasRead space r s (end_line ∷ [])) (same_Some (with_end r) s read)
-      (only_items r.answer true _ (holds_alone space r.conditions r.files end_line tt) (sym (append-nil r.answer.tokens)) (sym (append-nil r.answer.faults)))
+      (only_items r.answer true _ (holds_alone space r.conditions r.files end_line tt) (sym (append-nil r.answer.body)) (sym (append-nil r.answer.faults)))
 
 -- whatever lines are read after others
-pub read-HasRead : (space : Space) (lines : List TextLine) (r s : Reading) → 0 < length r.conditions → read_lines space r lines ≡ Some s → HasRead space r s lines
+pub read-HasRead : (space : Space) (lines : List TextLine) (r s : Reading token_list) → 0 < length r.conditions → read_lines space r lines ≡ Some s → HasRead space r s lines
 read-HasRead space [] r s begun read =
     subst (λ s. HasRead space r s []) (same_Some r s read)
-    (only_items space r r.answer r.ended [] (All-nil _) (sym (append-nil r.answer.tokens)) (sym (append-nil r.answer.faults)))
+    (only_items space r r.answer r.ended [] (All-nil _) (sym (append-nil r.answer.body)) (sym (append-nil r.answer.faults)))
 read-HasRead space (line ∷ lines) r t begun read = by r.ended (read_line space r line) refl read (λ s before. read-HasRead space lines s t before)
   where
-    by : (ended : Bool) (o : Option Reading) → read_line space r line ≡ o → (if ended then None else option_and_then (λ s. read_lines space s lines) o) ≡ Some t
-        → ((s : Reading) → 0 < length s.conditions → read_lines space s lines ≡ Some t → HasRead space s t lines) → HasRead space r t (line ∷ lines)
+    by : (ended : Bool) (o : Option (Reading token_list)) → read_line space r line ≡ o → (if ended then None else option_and_then (λ s. read_lines space s lines) o) ≡ Some t
+        → ((s : Reading token_list) → 0 < length s.conditions → read_lines space s lines ≡ Some t → HasRead space s t lines) → HasRead space r t (line ∷ lines)
     by true o here read others = absurd (cc)
     by false None here read others = absurd (cc)
     by false (Some s) here read others =

@@ -6,6 +6,7 @@ pub mod FaultOrder
 pub mod ItemsRead
 pub mod LayoutLemmas
 pub mod LayoutReading
+pub mod ListLemmas
 pub mod Nodes
 pub mod Numerals
 pub mod OneAnswer

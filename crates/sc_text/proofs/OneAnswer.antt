@@ -8,7 +8,8 @@ use Rattle.std.specs.declared.cmp.Ordering.{Ordering}
 use Rattle.std.specs.declared.cmp.Ordering.TheVariants.{Less, Equal, Greater}
 use Rattle.sc_text.specs.Layout.{fault_order, IsAscending, AreSame, IsEmpty, AreAlike, no_item, left_out, left_out_there, both}
 use Rattle.sc_model.specs.Fault.{Fault}
-use Rattle.sc_model.specs.Space.{Space, IsListed}
+use Rattle.sc_model.specs.Sets.{IsConfig}
+use Rattle.sc_model.specs.Space.{Space, arities_of}
 use Rattle.sc_text.specs.Text.{Condition, project}
 use Rattle.sc_text.proofs.Ascending.{IsBefore, All-before, IsAscending-tail, IsAscending-head, fault_total}
 use Rattle.sc_text.proofs.FaultOrder.{faults_equal}
@@ -67,7 +68,7 @@ alike_first x y xs ys config one before before_too e = by (x.0 config) (y.0 conf
     by false true e = absurd (not_among x.1 xs config before (ap (λ f. f ∷ project ys config) one ∙ sym e))
 
 pub pairs_from_projections : {space : Space} (xs ys : List (Condition × Fault)) → IsAscending (faults_of xs) → IsAscending (faults_of ys)
-    → All (IsShown space) xs → All (IsShown space) ys → ((config : List ℕ) → IsListed space config → project xs config ≡ project ys config) → AllZip (IsSamePair space) xs ys
+    → All (IsShown space) xs → All (IsShown space) ys → ((config : List ℕ) → IsConfig (arities_of space) config → project xs config ≡ project ys config) → AllZip (IsSamePair space) xs ys
 pairs_from_projections [] [] ascending ascending_too shown shown_too same = tt
 pairs_from_projections {space} [] (y ∷ ys) ascending ascending_too shown shown_too same =
     absurd (All-head (IsShown space) y ys shown_too (record { none = λ config listed. absent y ys [] config (All-nil (IsBefore y.1)) (sym (same config listed)) }))
@@ -78,7 +79,7 @@ pairs_from_projections {space} (x ∷ xs) (y ∷ ys) ascending ascending_too sho
     (pairs_from_projections xs ys (IsAscending-tail ascending) (IsAscending-tail ascending_too)
     (All-tail (IsShown space) x xs shown) (All-tail (IsShown space) y ys shown_too))
   where
-    by : (o : Ordering) → fault_order x.1 y.1 ≡ o → (((config : List ℕ) → IsListed space config → project xs config ≡ project ys config) → AllZip (IsSamePair space) xs ys)
+    by : (o : Ordering) → fault_order x.1 y.1 ≡ o → (((config : List ℕ) → IsConfig (arities_of space) config → project xs config ≡ project ys config) → AllZip (IsSamePair space) xs ys)
         → AllZip (IsSamePair space) (x ∷ xs) (y ∷ ys)
     by Less less later =
         absurd (All-head (IsShown space) x xs shown (record { none = λ config listed. absent x xs (y ∷ ys) config (All-before x.1 y.1 (faults_of ys) less (IsAscending-head y.1 (faults_of ys) ascending_too)) (same config listed) }))
@@ -87,5 +88,5 @@ pairs_from_projections {space} (x ∷ xs) (y ∷ ys) ascending ascending_too sho
         absurd (All-head (IsShown space) y ys shown_too (record { none = λ config listed. absent y ys (x ∷ xs) config (All-before y.1 x.1 (faults_of xs) less (IsAscending-head x.1 (faults_of xs) ascending)) (sym (same config listed)) }))
     by Equal equal later =
         let one = faults_equal x.1 y.1 equal in
-        let each = λ (config : List ℕ) (listed : IsListed space config). alike_first x y xs ys config one (IsAscending-head x.1 (faults_of xs) ascending) (IsAscending-head y.1 (faults_of ys) ascending_too) (same config listed) in
+        let each = λ (config : List ℕ) (listed : IsConfig (arities_of space) config). alike_first x y xs ys config one (IsAscending-head x.1 (faults_of xs) ascending) (IsAscending-head y.1 (faults_of ys) ascending_too) (same config listed) in
         (record { cond = record { at = λ config listed. (each config listed).0 }; item = one }, later (λ config listed. (each config listed).1))

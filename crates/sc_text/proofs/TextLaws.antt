@@ -1,5 +1,5 @@
 -- A text reads as one answer.
-use Rattle.std.proofs.Common.{◌≡◌, ℕ, ◌-◌, not, ◌&&◌, Bool, true, false, List, [], ◌∷◌, ◌++◌, map, codes, get_or, Some, refl, sym, ap, ◌∙◌, append_assoc}
+use Rattle.std.proofs.Common.{◌≡◌, ℕ, ◌-◌, not, ◌&&◌, Bool, true, false, List, [], ◌∷◌, ◌++◌, map, codes, get_or, Result, Err, Some, refl, sym, ap, ◌∙◌, append_assoc}
 use Rattle.std.proofs.lemmas.List.{append_cancel_left}
 use Rattle.std.proofs.lemmas.Bool.{true≢false, and_parts, or_parts, not-true}
 use Rattle.std.specs.List.{concat, flat_map, list_all, list_any}
@@ -7,8 +7,9 @@ use Rattle.std.specs.Prelude.{◌==◌}
 use Rattle.sc_model.specs.declared.cause.Cause.{Cause}
 use Rattle.sc_model.specs.declared.cause.Cause.TheVariants.{NotFound, FileTooLarge, UnterminatedComment, BadNesting, BadDirective, BadDefine, Redefined, ProtectedName, BadIf, IfDivision, IfOverflow, IfShift, DefinedFromMacro, BadInclude, IncludeDepth, ErrorDirective, UnterminatedCall, WrongArguments, BadPaste, BadStringize, BadToken, Syntax}
 use Rattle.sc_model.specs.Cause.{code_of, name_of}
+use Rattle.sc_model.specs.Fault.{Fault}
 use Rattle.sc_model.specs.Space.{Space}
-use Rattle.sc_text.specs.Text.{Answer, Printed, TextLine, condition_line, file_line, token_line, fault_line, end_line, numeral, place_text, choice_text, line_text, Reading, nothing_read, read_lines, is_wordless, is_word, is_clear, Reads}
+use Rattle.sc_text.specs.Text.{BodyKind, BodyAt, At, accepted, refused, Answer, Printed, TextLine, condition_line, file_line, token_line, fault_line, end_line, numeral, place_text, choice_text, line_text, Reading, nothing_read, read_lines, is_wordless, is_word, is_clear, Reads}
 use Rattle.sc_model.specs.Bytes.{has_no_newline}
 use Rattle.sc_text.proofs.Numerals.{numeral-injective, numeral-digits, is_no_digit}
 
@@ -193,9 +194,19 @@ same_lines (x ∷ xs) (y ∷ ys) h k e =
     let others = same_lines xs ys a.1 b.1 first.rest in
     cc
 
-pub reads-unique : {space : Space} {p q : List (List ℕ)} {a b : Answer} → concat p ≡ concat q → Reads space p a → Reads space q b → a ≡ b
-reads-unique {space} {p} {q} e x y =
+pub reads-unique : {kind : BodyKind} {space : Space} {p q : List (List ℕ)} {a b : Answer kind} → concat p ≡ concat q → Reads space p a → Reads space q b → a ≡ b
+reads-unique {kind} {space} {p} {q} e x y =
     let lines : x.lines ≡ y.lines = same_lines x.lines y.lines x.clear y.clear (ap concat (sym x.written) ∙ (e ∙ ap concat y.written)) in
     let readings : Some x.reading ≡ Some y.reading = sym x.read ∙ (ap (read_lines space nothing_read) lines ∙ y.read) in
     let reading : x.reading ≡ y.reading = cc in
-    x.answer_is ∙ (ap (λ (r : Reading). r.answer) reading ∙ sym y.answer_is)
+    x.answer_is ∙ (ap (λ (r : Reading kind). r.answer) reading ∙ sym y.answer_is)
+
+-- no fault, or one, but not both, and not two
+pub result-unique : {kind : BodyKind} (answer : Answer kind) (config : List ℕ) (r s : Result (BodyAt kind) Fault) → At answer config r → At answer config s → r ≡ s
+result-unique answer config r s (accepted none) (accepted none_too) = refl
+result-unique answer config r s (accepted none) (refused fault one) = let no : [] ≡ fault ∷ [] = sym none ∙ one in cc
+result-unique answer config r s (refused fault one) (accepted none) = let no : [] ≡ fault ∷ [] = sym none ∙ one in cc
+result-unique answer config r s (refused fault one) (refused other one_too) =
+    let faults : fault ∷ [] ≡ other ∷ [] = sym one ∙ one_too in
+    let same : fault ≡ other = cc in
+    ap Err same

@@ -1,14 +1,13 @@
 -- The text of an answer, computed on an example.
-use Rattle.std.proofs.Common.{◌≡◌, ℕ, refl, arith, codes, List, [], ◌∷◌, Option, Some, Result, Ok}
+use Rattle.std.proofs.Common.{◌≡◌, ℕ, refl, arith, codes, List, [], ◌∷◌, Some, Result, Ok}
 use Rattle.std.specs.List.{flat_map}
-use Rattle.std.specs.Option.{option_map}
 use Rattle.std.specs.Fmt.{digits}
 use Rattle.sc_model.specs.declared.variable_option.VariableOption.TheVariants.{Undefined, Number}
-use Rattle.sc_text.specs.Layout.{nothing, known, node, no_file, known_file, new_file, LaysOut, done, shows}
+use Rattle.sc_text.specs.Layout.{condition_numbered, file_numbered, Counts, at_start, next_condition, next_file, nothing, known, new, LaysOut, done, shows}
 use Rattle.sc_model.specs.Fault.{Fault}
 use Rattle.sc_model.specs.Space.{Space}
 use Rattle.sc_model.specs.Token.{Shown}
-use Rattle.sc_text.specs.Text.{TextLine, condition_line, file_line, token_line, end_line, line_text, Printed, nothing_read, read_lines, at, numeral}
+use Rattle.sc_text.specs.Text.{TextLine, condition_line, file_line, token_line, end_line, line_text, Printed, token_list, Reading, At, accepted, nothing_read, read_lines, numeral}
 
 abbrev space : Space
 space = record { variables = record { name = codes "A"; options = Undefined ∷ Number 1 ∷ [] } ∷ []; include = []; branches = 4096; include_depth = 64; date = []; time = [] }
@@ -31,26 +30,36 @@ example-text = refl
 abbrev shown_at : ℕ → List ℕ → Shown
 shown_at line spelling = record { place = record { file = codes "m.c"; position = record { line = line; column = 1 } }; spelling = spelling }
 
-abbrev answer_at : List ℕ → Option (Result (List Shown) Fault)
-answer_at config = option_map (λ r. at r.answer config) (read_lines space nothing_read example)
+-- what is read of the lines, and what that is at a configuration
+record IsAt (config : List ℕ) (result : Result (List Shown) Fault) : Type 0 where
+  reading : Reading token_list
+  read : read_lines space nothing_read example ≡ Some reading
+  at : At reading.answer config result
 
-example-defined : answer_at (1 ∷ []) ≡ Some (Ok (shown_at 2 (codes "x") ∷ []))
+example-defined : IsAt (1 ∷ []) (Ok (shown_at 2 (codes "x") ∷ []))
 unfolding digits numeral
-example-defined = refl
+example-defined = record { reading = _; read = refl; at = accepted refl }
 
-example-undefined : answer_at (0 ∷ []) ≡ Some (Ok (shown_at 4 (codes "y") ∷ []))
+example-undefined : IsAt (0 ∷ []) (Ok (shown_at 4 (codes "y") ∷ []))
 unfolding digits numeral
-example-undefined = refl
+example-undefined = record { reading = _; read = refl; at = accepted refl }
 
 -- the lines of the example stand where the rules want them
-example-laid : LaysOut 2 0 (token_line 2 (place 2) (codes "x") ∷ token_line 3 (place 4) (codes "y") ∷ end_line ∷ []) example 4 1
+abbrev counts : ℕ → ℕ → Counts
+counts conditions files = record { conditions = conditions; files = files }
+
+example-laid : LaysOut at_start (token_line 2 (place 2) (codes "x") ∷ token_line 3 (place 4) (codes "y") ∷ end_line ∷ []) example (counts 4 1)
 example-laid =
     let undefined : List (List ℕ × ℕ) = (codes "undef", 0) ∷ (codes "1", 1) ∷ [] in
     let defined : List (List ℕ × ℕ) = (codes "undef", 1) ∷ (codes "1", 0) ∷ [] in
-    shows 2 0 _ _ (condition_line 2 (codes "A") undefined ∷ []) (file_line 0 (codes "m.c") ∷ []) _ 3 1 4 1
-    (node 2 2 (codes "A") undefined [] [] [] 3 (known 2 0 (1 ∷ []) [] 2 (omega arith) (known 2 1 [] [] 2 (omega arith) (nothing 2))) (nothing 3))
-    (new_file 0 (codes "m.c") [] [] 1 (no_file 1))
-    (shows 3 1 _ _ (condition_line 3 (codes "A") defined ∷ []) [] _ 4 1 4 1
-    (node 3 3 (codes "A") defined [] [] [] 4 (known 3 1 (0 ∷ []) [] 3 (omega arith) (known 3 0 [] [] 3 (omega arith) (nothing 3))) (nothing 4))
-    (known_file 1 0 [] [] 1 (omega arith) (no_file 1))
-    (shows 4 1 end_line [] [] [] [] 4 1 4 1 (nothing 4) (no_file 1) (done 4 1)))
+    shows at_start (counts 3 1) (counts 4 1) _ _ (condition_line 2 (codes "A") undefined ∷ file_line 0 (codes "m.c") ∷ []) _
+    (new at_start (counts 2 0) (counts 3 0) (counts 3 1) (condition_line 2 (codes "A") undefined) (condition_numbered 2) (file_numbered 0 ∷ []) [] (file_line 0 (codes "m.c") ∷ [])
+    (known at_start (counts 2 0) (condition_numbered 0) (condition_numbered 1 ∷ []) [] (omega arith) (known at_start (counts 2 0) (condition_numbered 1) [] [] (omega arith) (nothing (counts 2 0))))
+    (next_condition (counts 2 0) (codes "A") undefined)
+    (new (counts 3 0) (counts 3 0) (counts 3 1) (counts 3 1) (file_line 0 (codes "m.c")) (file_numbered 0) [] [] [] (nothing (counts 3 0)) (next_file (counts 3 0) (codes "m.c")) (nothing (counts 3 1))))
+    (shows (counts 3 1) (counts 4 1) (counts 4 1) _ _ (condition_line 3 (codes "A") defined ∷ []) _
+    (new (counts 3 1) (counts 3 1) (counts 4 1) (counts 4 1) (condition_line 3 (codes "A") defined) (condition_numbered 3) (file_numbered 0 ∷ []) [] []
+    (known (counts 3 1) (counts 3 1) (condition_numbered 1) (condition_numbered 0 ∷ []) [] (omega arith) (known (counts 3 1) (counts 3 1) (condition_numbered 0) [] [] (omega arith) (nothing (counts 3 1))))
+    (next_condition (counts 3 1) (codes "A") defined)
+    (known (counts 4 1) (counts 4 1) (file_numbered 0) [] [] (omega arith) (nothing (counts 4 1))))
+    (shows (counts 4 1) (counts 4 1) (counts 4 1) end_line [] [] [] (nothing (counts 4 1)) (done (counts 4 1))))

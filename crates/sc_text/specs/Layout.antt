@@ -11,49 +11,57 @@ use Rattle.std.specs.declared.cmp.Ordering.TheVariants.{Less}
 use Rattle.sc_model.specs.Cause.{code_of}
 use Rattle.sc_model.specs.Growth.{IsOneToOne}
 use Rattle.sc_model.specs.Fault.{Fault}
-use Rattle.sc_model.specs.Sets.{Sets, IsCanonical, DependsFrom}
-use Rattle.sc_model.specs.Space.{Space, Variable, arities_of, IsListed}
-use Rattle.sc_text.specs.Text.{Condition, Answer, TextLine, condition_line, file_line, token_line, fault_line, end_line, Reading, condition_at, variable_from, project, Reads}
+use Rattle.sc_model.specs.Sets.{Sets, IsConfig, IsCanonical, DependsFrom}
+use Rattle.sc_model.specs.Space.{Space, Variable, arities_of}
+use Rattle.sc_text.specs.Text.{Condition, BodyKind, token_list, Body, Answer, TextLine, condition_line, file_line, token_line, fault_line, end_line, Reading, condition_at, variable_from, project, Reads}
 
 -- ---- the order of the lines
 
--- the numbers of the conditions that a line names
-abbrev pub conditions_of : TextLine → List ℕ
-conditions_of (condition_line id variable options) = map (λ option. option.1) options
-conditions_of (token_line cond place spelling) = cond ∷ []
-conditions_of (fault_line cond cause place) = cond ∷ []
-conditions_of line = []
+-- a line that another needs before it: that of a condition, or of a file, with this number
+pub data Need : Type 0 where
+  condition_numbered : ℕ → Need
+  file_numbered : ℕ → Need
 
--- the numbers of the files that a line names
-abbrev pub files_of : TextLine → List ℕ
-files_of (token_line cond place spelling) = place.file ∷ []
-files_of (fault_line cond cause place) = place.file ∷ []
-files_of line = []
+-- what a line needs before it, in order
+abbrev pub needs : TextLine → List Need
+needs (condition_line id variable options) = map (λ (option : List ℕ × ℕ). condition_numbered option.1) options
+needs (token_line cond place spelling) = condition_numbered cond ∷ file_numbered place.file ∷ []
+needs (fault_line cond cause place) = condition_numbered cond ∷ file_numbered place.file ∷ []
+needs line = []
 
--- The lines of conditions before a line that names these: none for one below the count of those that stand before, else those
--- that its children need, in the order of the options, and then its own. The last number is the count afterwards.
-pub data Introduces : ℕ → List ℕ → List TextLine → ℕ → Type 0 where
-  nothing : (count : ℕ) → Introduces count [] [] count
-  known : (count number : ℕ) (named : List ℕ) (lines : List TextLine) (now : ℕ) → number < count → Introduces count named lines now → Introduces count (number ∷ named) lines now
-  node : (count number : ℕ) (variable : List ℕ) (options : List (List ℕ × ℕ)) (named : List ℕ) (lines more : List TextLine) (now : ℕ)
-      → Introduces count (map (λ option. option.1) options) lines number → Introduces (number + 1) named more now
-      → Introduces count (number ∷ named) (lines ++ condition_line number variable options ∷ more) now
+-- how many conditions and files have a number
+pub record Counts : Type 0 where
+  pub conditions : ℕ
+  pub files : ℕ
 
--- the lines of files before a line that names these, likewise
-pub data IntroducesFiles : ℕ → List ℕ → List TextLine → ℕ → Type 0 where
-  no_file : (count : ℕ) → IntroducesFiles count [] [] count
-  known_file : (count number : ℕ) (named : List ℕ) (lines : List TextLine) (now : ℕ) → number < count → IntroducesFiles count named lines now → IntroducesFiles count (number ∷ named) lines now
-  new_file : (count : ℕ) (name : List ℕ) (named : List ℕ) (lines : List TextLine) (now : ℕ) → IntroducesFiles (count + 1) named lines now
-      → IntroducesFiles count (count ∷ named) (file_line count name ∷ lines) now
+-- The numbers of never and always stand before the first line.
+abbrev pub at_start : Counts
+at_start = record { conditions = 2; files = 0 }
 
--- Items in their order, each directly after the lines that it needs: first those of conditions, then those of files. The
--- numbers count the conditions and the files that have a line, before and afterwards.
-pub data LaysOut : ℕ → ℕ → List TextLine → List TextLine → ℕ → ℕ → Type 0 where
-  done : (conditions files : ℕ) → LaysOut conditions files [] [] conditions files
-  shows : (conditions files : ℕ) (item : TextLine) (items condition_lines file_lines more : List TextLine) (conditions_then files_then conditions_now files_now : ℕ)
-      → Introduces conditions (conditions_of item) condition_lines conditions_then → IntroducesFiles files (files_of item) file_lines files_then
-      → LaysOut conditions_then files_then items more conditions_now files_now
-      → LaysOut conditions files (item ∷ items) (condition_lines ++ (file_lines ++ item ∷ more)) conditions_now files_now
+-- the line that is needed stands already
+abbrev pub IsKnown : Counts → Need → Type 0
+IsKnown counts (condition_numbered number) = number < counts.conditions
+IsKnown counts (file_numbered number) = number < counts.files
+
+-- The line is the one that is needed: it gives the next number. The last counts are those afterwards.
+pub data Gives : Counts → TextLine → Need → Counts → Type 0 where
+  next_condition : (counts : Counts) (variable : List ℕ) (options : List (List ℕ × ℕ))
+      → Gives counts (condition_line counts.conditions variable options) (condition_numbered counts.conditions) (record { conditions = counts.conditions + 1; files = counts.files })
+  next_file : (counts : Counts) (name : List ℕ) → Gives counts (file_line counts.files name) (file_numbered counts.files) (record { conditions = counts.conditions; files = counts.files + 1 })
+
+-- The lines before a line that needs these: none for one that stands already, else those that it needs itself, in their order,
+-- and then its own.
+pub data Introduces : Counts → List Need → List TextLine → Counts → Type 0 where
+  nothing : (counts : Counts) → Introduces counts [] [] counts
+  known : (counts now : Counts) (need : Need) (others : List Need) (lines : List TextLine) → IsKnown counts need → Introduces counts others lines now → Introduces counts (need ∷ others) lines now
+  new : (counts before after now : Counts) (line : TextLine) (need : Need) (others : List Need) (lines more : List TextLine)
+      → Introduces counts (needs line) lines before → Gives before line need after → Introduces after others more now → Introduces counts (need ∷ others) (lines ++ line ∷ more) now
+
+-- items in their order, each directly after the lines that it needs
+pub data LaysOut : Counts → List TextLine → List TextLine → Counts → Type 0 where
+  done : (counts : Counts) → LaysOut counts [] [] counts
+  shows : (counts after now : Counts) (item : TextLine) (items first more : List TextLine)
+      → Introduces counts (needs item) first after → LaysOut after items more now → LaysOut counts (item ∷ items) (first ++ item ∷ more) now
 
 -- ---- the conditions and the faults
 
@@ -92,34 +100,39 @@ abbrev pub is_fault : TextLine → Bool
 is_fault (fault_line cond cause place) = nat_lt 0 cond
 is_fault line = false
 
--- The lines of a text that were read so keep the rules. The numbers of never and always stand before the first line.
-pub record KeepsRules (space : Space) (lines : List TextLine) (reading : Reading) : Type 0 where
-  pub tokens : List TextLine
+-- the lines of a body
+abbrev pub are_body : BodyKind → List TextLine → Bool
+are_body token_list lines = list_all is_token lines
+
+-- The lines of a text that were read so keep the rules.
+pub record KeepsRules {kind : BodyKind} (space : Space) (lines : List TextLine) (reading : Reading kind) : Type 0 where
+  pub body : List TextLine
   pub faults : List TextLine
-  pub conditions : ℕ
-  pub files : ℕ
-  pub are_tokens : list_all is_token tokens ≡ true
-  pub are_faults : list_all is_fault faults ≡ true
-  pub laid : LaysOut 2 0 (tokens ++ (faults ++ end_line ∷ [])) lines conditions files
+  pub now : Counts
+  pub right_body : are_body kind body ≡ true
+  pub right_faults : list_all is_fault faults ≡ true
+  pub laid : LaysOut at_start (body ++ (faults ++ end_line ∷ [])) lines now
   pub reduced : IsCanonical (sets_of space reading.conditions)
   pub ordered : All (HasOrder space reading.conditions) lines
   pub named_once : IsOneToOne reading.files
   pub ascending : IsAscending (map (λ fault. fault.1) reading.answer.faults)
 
 -- The pieces are the lines of a text that keeps the rules and reads as this answer.
-pub record IsTextOf (space : Space) (pieces : List (List ℕ)) (answer : Answer) : Type 0 where
+pub record IsTextOf {kind : BodyKind} (space : Space) (pieces : List (List ℕ)) (answer : Answer kind) : Type 0 where
   pub reads : Reads space pieces answer
   pub rules : KeepsRules space reads.lines reads.reading
 
 -- ---- what has one text
 
+-- Conditions are compared at all well-formed configurations, as their diagrams have a branch for each of them.
+
 -- both have the same configurations
 pub record AreSame (space : Space) (f g : Condition) : Type 0 where
-  pub at : (config : List ℕ) → IsListed space config → f config ≡ g config
+  pub at : (config : List ℕ) → IsConfig (arities_of space) config → f config ≡ g config
 
 -- no configuration has it
 pub record IsEmpty (space : Space) (f : Condition) : Type 0 where
-  pub none : (config : List ℕ) → IsListed space config → f config ≡ false
+  pub none : (config : List ℕ) → IsConfig (arities_of space) config → f config ≡ false
 
 -- the same items under the same conditions, but for those that no configuration has
 pub data AreAlike {T : Type 0} (space : Space) : List (Condition × T) → List (Condition × T) → Type 0 where
@@ -128,7 +141,11 @@ pub data AreAlike {T : Type 0} (space : Space) : List (Condition × T) → List 
   left_out_there : (f : Condition) (item : T) (xs ys : List (Condition × T)) → IsEmpty space f → AreAlike space xs ys → AreAlike space xs ((f, item) ∷ ys)
   both : (f g : Condition) (item : T) (xs ys : List (Condition × T)) → AreSame space f g → AreAlike space xs ys → AreAlike space ((f, item) ∷ xs) ((g, item) ∷ ys)
 
--- the same tokens under the same conditions, and at each configuration the same faults
-pub record IsSameAnswer (space : Space) (a b : Answer) : Type 0 where
-  pub tokens : AreAlike space a.tokens b.tokens
-  pub faults : (config : List ℕ) → IsListed space config → project a.faults config ≡ project b.faults config
+-- the same bodies, in these terms
+abbrev pub AreAlikeBodies : (kind : BodyKind) → Space → Body kind → Body kind → Type 0
+AreAlikeBodies token_list space items others = AreAlike space items others
+
+-- bodies of the same items under the same conditions, and at each configuration the same faults
+pub record IsSameAnswer {kind : BodyKind} (space : Space) (a b : Answer kind) : Type 0 where
+  pub body : AreAlikeBodies kind space a.body b.body
+  pub faults : (config : List ℕ) → IsConfig (arities_of space) config → project a.faults config ≡ project b.faults config

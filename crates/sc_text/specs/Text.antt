@@ -14,9 +14,18 @@ use Rattle.sc_model.specs.Token.{Position, Place, Shown}
 abbrev pub Condition : Type 0
 Condition = List ℕ → Bool
 
--- what a text shows: each token and each fault with its condition
-pub record Answer : Type 0 where
-  pub tokens : List (Condition × Shown)
+-- What a text shows before its faults.
+pub data BodyKind : Type 0 where
+  -- tokens, each with its condition
+  token_list : BodyKind
+
+-- what is read of its lines
+abbrev pub Body : BodyKind → Type 0
+Body token_list = List (Condition × Shown)
+
+-- what a text shows: its body, and each fault with its condition
+pub record Answer (kind : BodyKind) : Type 0 where
+  pub body : Body kind
   pub faults : List (Condition × Fault)
 
 -- the items whose condition has the configuration, in order
@@ -24,13 +33,17 @@ abbrev pub project : {T : Type 0} → List (Condition × T) → List ℕ → Lis
 project [] config = []
 project (pair ∷ pairs) config = if pair.0 config then pair.1 ∷ project pairs config else project pairs config
 
-abbrev pub unless_refused : List Fault → List Shown → Result (List Shown) Fault
-unless_refused [] tokens = Ok tokens
-unless_refused (fault ∷ faults) tokens = Err fault
+-- what a body is at one configuration
+abbrev pub BodyAt : BodyKind → Type 0
+BodyAt token_list = List Shown
 
--- what the answer is at one configuration: the first fault that it has there, else its tokens
-abbrev pub at : Answer → List ℕ → Result (List Shown) Fault
-at answer config = unless_refused (project answer.faults config) (project answer.tokens config)
+abbrev pub body_at : (kind : BodyKind) → Body kind → List ℕ → BodyAt kind
+body_at token_list items config = project items config
+
+-- What the answer is at one configuration: its body there, where it has no fault, or the one fault that it has.
+pub data At {kind : BodyKind} (answer : Answer kind) (config : List ℕ) : Result (BodyAt kind) Fault → Type 0 where
+  accepted : project answer.faults config ≡ [] → At answer config (Ok (body_at kind answer.body config))
+  refused : (fault : Fault) → project answer.faults config ≡ fault ∷ [] → At answer config (Err fault)
 
 -- A place as it is printed: the number of a file, and a line and a column.
 pub record Printed : Type 0 where
@@ -65,17 +78,21 @@ line_text (fault_line cond cause place) =
 line_text end_line = codes "end\n"
 
 -- What the lines so far say. Condition 0 has no configuration and 1 has all.
-pub record Reading : Type 0 where
+pub record Reading (kind : BodyKind) : Type 0 where
   pub conditions : List Condition
   pub files : List (List ℕ)
-  pub answer : Answer
+  pub answer : Answer kind
   pub ended : Bool
 
-abbrev pub nothing_read : Reading
-nothing_read = record {
+-- the body before its first line
+abbrev pub no_body : (kind : BodyKind) → Body kind
+no_body token_list = []
+
+abbrev pub nothing_read : {kind : BodyKind} → Reading kind
+nothing_read {kind} = record {
   conditions = (λ _. false) ∷ (λ _. true) ∷ [];
   files = [];
-  answer = record { tokens = []; faults = [] };
+  answer = record { body = no_body kind; faults = [] };
   ended = false;
 }
 
@@ -101,43 +118,47 @@ are_options id (text ∷ texts) (choice ∷ choices) = same_bytes choice.0 text 
 abbrev pub chosen : List Condition → ℕ → List (List ℕ × ℕ) → Condition
 chosen conditions variable choices config = condition_at conditions (slice_index (map (λ choice. choice.1) choices) (slice_index config variable)) config
 
-abbrev pub with_condition : Reading → Condition → Reading
+abbrev pub with_condition : {kind : BodyKind} → Reading kind → Condition → Reading kind
 with_condition r test = record { conditions = r.conditions ++ test ∷ []; files = r.files; answer = r.answer; ended = r.ended }
 
-abbrev pub with_file : Reading → List ℕ → Reading
+abbrev pub with_file : {kind : BodyKind} → Reading kind → List ℕ → Reading kind
 with_file r name = record { conditions = r.conditions; files = r.files ++ name ∷ []; answer = r.answer; ended = r.ended }
 
-abbrev pub with_token : Reading → Condition → Shown → Reading
-with_token r test shown = record {
+-- a body and one token more
+abbrev pub token_more : (kind : BodyKind) → Body kind → Condition → Shown → Body kind
+token_more token_list items test shown = items ++ (test, shown) ∷ []
+
+abbrev pub with_token : {kind : BodyKind} → Reading kind → Condition → Shown → Reading kind
+with_token {kind} r test shown = record {
   conditions = r.conditions;
   files = r.files;
   ended = r.ended;
-  answer = record { tokens = r.answer.tokens ++ (test, shown) ∷ []; faults = r.answer.faults };
+  answer = record { body = token_more kind r.answer.body test shown; faults = r.answer.faults };
 }
 
-abbrev pub with_fault : Reading → Condition → Fault → Reading
+abbrev pub with_fault : {kind : BodyKind} → Reading kind → Condition → Fault → Reading kind
 with_fault r test fault = record {
   conditions = r.conditions;
   files = r.files;
   ended = r.ended;
-  answer = record { tokens = r.answer.tokens; faults = r.answer.faults ++ (test, fault) ∷ [] };
+  answer = record { body = r.answer.body; faults = r.answer.faults ++ (test, fault) ∷ [] };
 }
 
-abbrev pub with_end : Reading → Reading
+abbrev pub with_end : {kind : BodyKind} → Reading kind → Reading kind
 with_end r = record { conditions = r.conditions; files = r.files; answer = r.answer; ended = true }
 
 -- the place that is printed so
-abbrev pub place_of : Reading → Printed → Option Place
+abbrev pub place_of : {kind : BodyKind} → Reading kind → Printed → Option Place
 place_of r p = option_map (λ name. record { file = name; position = p.position }) (slice_get r.files p.file)
 
 -- one line more, unless it says what can't be
-abbrev pub read_condition : Reading → ℕ → List (List ℕ × ℕ) → Option (ℕ × Variable) → Option Reading
+abbrev pub read_condition : {kind : BodyKind} → Reading kind → ℕ → List (List ℕ × ℕ) → Option (ℕ × Variable) → Option (Reading kind)
 read_condition r id choices None = None
 read_condition r id choices (Some found) =
     if (id == length r.conditions) && are_options id (map option_text found.1.options) choices
     then Some (with_condition r (chosen r.conditions found.0 choices)) else None
 
-abbrev pub read_line : Space → Reading → TextLine → Option Reading
+abbrev pub read_line : {kind : BodyKind} → Space → Reading kind → TextLine → Option (Reading kind)
 read_line space r (condition_line id variable choices) = read_condition r id choices (variable_from 0 space.variables variable)
 read_line space r (file_line id name) = if id == length r.files then Some (with_file r name) else None
 read_line space r (token_line cond place spelling) =
@@ -149,7 +170,7 @@ read_line space r (fault_line cond cause place) =
 read_line space r end_line = Some (with_end r)
 
 -- the lines from first to last; nothing stands after the end
-abbrev pub read_lines : Space → Reading → List TextLine → Option Reading
+abbrev pub read_lines : {kind : BodyKind} → Space → Reading kind → List TextLine → Option (Reading kind)
 read_lines space r [] = Some r
 read_lines space r (line ∷ lines) = if r.ended then None else option_and_then (λ s. read_lines space s lines) (read_line space r line)
 
@@ -168,11 +189,11 @@ is_clear (fault_line cond cause place) = true
 is_clear end_line = true
 
 -- The pieces are the lines of a text, whole ones, that read as this answer.
-pub record Reads (space : Space) (pieces : List (List ℕ)) (answer : Answer) : Type 0 where
+pub record Reads {kind : BodyKind} (space : Space) (pieces : List (List ℕ)) (answer : Answer kind) : Type 0 where
   pub lines : List TextLine
   pub clear : list_all is_clear lines ≡ true
   pub written : pieces ≡ map line_text lines
-  pub reading : Reading
+  pub reading : Reading kind
   pub read : read_lines space nothing_read lines ≡ Some reading
   pub ended : reading.ended ≡ true
   pub answer_is : answer ≡ reading.answer

@@ -3,4 +3,4 @@
 
 mod laws;
 
-pub use laws::{result_has_one_text, text_has_one_answer};
+pub use laws::{answer_has_one_result, result_has_one_text, text_has_one_answer};

@@ -2,4 +2,4 @@ use Rattle.sc_text.proofs.OneText.{one_text}
 use Rattle.sc_text.proofs.laws.result_has_one_text.Goals as goal
 
 pub returns : goal.returns
-returns c = λ space p q a b. one_text
+returns c = λ kind space p q a b. one_text

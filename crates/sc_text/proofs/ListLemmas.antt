@@ -1,0 +1,19 @@
+-- Lists, element by element.
+use Rattle.std.proofs.Common.{◌+◌, List, [], ◌∷◌, ◌++◌, length, All, subst, arith, length-append}
+use Rattle.std.proofs.lemmas.List.{get_or-append-add}
+use Rattle.std.proofs.Math.ListN.{get_or-append}
+use Rattle.std.specs.List.{AllZip}
+
+-- the parts of a list of which each element is so
+pub All-front : {X : Type 0} (P : X → Type 0) (xs ys : List X) → All P (xs ++ ys) → All P xs
+All-front P xs ys all = λ k d below. subst P (get_or-append xs ys d k below) (all k d (omega (arith, length-append xs ys)))
+
+pub All-back : {X : Type 0} (P : X → Type 0) (xs ys : List X) → All P (xs ++ ys) → All P ys
+All-back P xs ys all = λ k d below. subst P (get_or-append-add xs ys k d) (all (length xs + k) d (omega (arith, length-append xs ys)))
+
+-- lists that are related place by place
+pub AllZip-append : {A B : Type 0} (R : A → B → Type 0) (xs zs : List A) (ys ws : List B) → AllZip R xs ys → AllZip R zs ws → AllZip R (xs ++ zs) (ys ++ ws)
+AllZip-append R [] zs [] ws first later = later
+AllZip-append R [] zs (y ∷ ys) ws first later = absurd first
+AllZip-append R (x ∷ xs) zs [] ws first later = absurd first
+AllZip-append R (x ∷ xs) zs (y ∷ ys) ws first later = (first.0, AllZip-append R xs zs ys ws first.1 later)
