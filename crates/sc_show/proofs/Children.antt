@@ -15,7 +15,7 @@ use Rattle.sc_model.specs.Sets.{Sets, IsConfig, IsCond, Keeps, DependsFrom}
 use Rattle.sc_model.specs.Space.{Space, Variable, arities_of, option_text}
 use Rattle.sc_text.specs.Text.{condition_line, condition_at}
 use Rattle.sc_model.proofs.SetLemmas.{IsConfig-kept, DependsFrom-same, DependsFrom-Keeps}
-use Rattle.sc_show.specs.Prints.{HasPlainNames, choices_of}
+use Rattle.sc_show.specs.Prints.{HasWordNames, choices_of}
 use Rattle.sc_show.specs.Rules.{tests_of}
 use Rattle.sc_show.proofs.Reading.{variable_from-found}
 
@@ -71,11 +71,11 @@ All-choices P (o ∷ os) (n ∷ ns) all =
     All-cons (λ (choice : List ℕ × ℕ). P choice.1) (option_text o, n) (choices_of os ns) (all 0 n (omega arith)) (All-choices P os ns (λ k d h. all (suc k) d (omega arith)))
 
 -- a condition's line has the order
-pub HasOrder-node : {space : Space} {s : Sets} {ks : List Cond} {a : Cond} {v : ℕ} {ns : List ℕ} (number : ℕ) (variable : Variable) → HasPlainNames space → s.arities ≡ arities_of space
+pub HasOrder-node : {space : Space} {s : Sets} {ks : List Cond} {a : Cond} {v : ℕ} {ns : List ℕ} (number : ℕ) (variable : Variable) → HasWordNames space → s.arities ≡ arities_of space
     → slice_get space.variables v ≡ Some variable → HasChildren s ks a v ns → HasOrder space (tests_of s ks) (condition_line number variable.name (choices_of variable.options ns))
-HasOrder-node {space} {s} {ks} {a} {v} {ns} number variable plain arities named has = record {
+HasOrder-node {space} {s} {ks} {a} {v} {ns} number variable words arities named has = record {
   later = λ place other found.
-      let placed = same_Some (0 + v, variable) (place, other) (sym (variable_from-found 0 space.variables v variable plain.differ named) ∙ found) in
+      let placed = same_Some (0 + v, variable) (place, other) (sym (variable_from-found 0 space.variables v variable words.differ named) ∙ found) in
       let here : v ≡ place = let e : 0 + v ≡ place = ap (λ at. at.0) placed in omega arith in
       All-choices (λ n. DependsFrom (sets_of space (tests_of s ks)) n (place + 1)) variable.options ns
       (subst (λ u. All (λ n. DependsFrom (sets_of space (tests_of s ks)) n (u + 1)) ns) here later);

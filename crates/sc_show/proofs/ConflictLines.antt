@@ -17,7 +17,7 @@ use Rattle.sc_text.specs.Text.{numeral, line_text, end_line}
 use Rattle.sc_model.specs.Bytes.{has_no_newline}
 use Rattle.sc_show.specs.Conflicts.{IsNamed, action_text, conflict_text, conflict_pieces}
 use Rattle.sc_show.specs.Pieces.{IsLine}
-use Rattle.sc_show.proofs.Pieces.{has_newline, is_line, newline-append, numeral_plain, line_text_is_line}
+use Rattle.sc_show.proofs.Pieces.{has_newline, is_line, newline-append, numeral_one_line, line_text_is_line}
 
 -- the conflicts of the tables of a grammar with no more terminals than have names
 pub are_named : {g : Grammar} {tables : Tables} → AreTables g tables → g.terminals ≤ 96 → All IsNamed (conflicts_of tables)
@@ -26,23 +26,23 @@ are_named {g} {tables} are few = λ k d h.
     record { terminal = let t = is.terminal in omega arith }
 
 -- no newline stands in the fields
-names_plain : list_all has_no_newline terminal_names ≡ true
+names_one_line : list_all has_no_newline terminal_names ≡ true
 unfolding terminal_names
-names_plain = refl
+names_one_line = refl
 
-text_at_plain : (texts : List (List ℕ)) (k : ℕ) → list_all has_no_newline texts ≡ true → has_newline (text_at texts k) ≡ false
-text_at_plain [] k h = refl
-text_at_plain (x ∷ xs) zero h = not-true (has_newline x) (and_parts (has_no_newline x) (list_all has_no_newline xs) h).0
-text_at_plain (x ∷ xs) (suc k) h = text_at_plain xs k (and_parts (has_no_newline x) (list_all has_no_newline xs) h).1
+text_at_one_line : (texts : List (List ℕ)) (k : ℕ) → list_all has_no_newline texts ≡ true → has_newline (text_at texts k) ≡ false
+text_at_one_line [] k h = refl
+text_at_one_line (x ∷ xs) zero h = not-true (has_newline x) (and_parts (has_no_newline x) (list_all has_no_newline xs) h).0
+text_at_one_line (x ∷ xs) (suc k) h = text_at_one_line xs k (and_parts (has_no_newline x) (list_all has_no_newline xs) h).1
 
-action_plain : (action : Action) → has_newline (action_text action) ≡ false
-action_plain (Shift state) = refl
-action_plain (Reduce production) = numeral_plain production
+action_one_line : (action : Action) → has_newline (action_text action) ≡ false
+action_one_line (Shift state) = refl
+action_one_line (Reduce production) = numeral_one_line production
 
 conflict_text_is_line : (c : Conflict) → IsLine (conflict_text c)
 conflict_text_is_line c =
     is_line (codes "k " ++ numeral c.state ++ codes " " ++ text_at terminal_names c.terminal.0 ++ codes " " ++ action_text c.kept ++ codes " " ++ action_text (Reduce c.lost))
-    (simp (newline-append, numeral_plain, text_at_plain terminal_names c.terminal.0 names_plain, action_plain c.kept))
+    (simp (newline-append, numeral_one_line, text_at_one_line terminal_names c.terminal.0 names_one_line, action_one_line c.kept))
 
 pub conflict_lines : (conflicts : List Conflict) → All IsLine (conflict_pieces conflicts)
 conflict_lines [] = All-cons IsLine (line_text end_line) [] (line_text_is_line end_line refl) (λ k d h. absurd (omega arith))

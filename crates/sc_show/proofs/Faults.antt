@@ -2,29 +2,18 @@
 use Rattle.std.proofs.Common.{◌≡◌, ℕ, zero, suc, ◌+◌, ◌<◌, ◌≤◌, ◌⊎◌, inl, inr, ◌||◌, Bool, true, false, List, [], ◌∷◌, ◌++◌, length, map, take, slice_get, get_or, Some, All, Contains, refl, sym, ap, subst, ◌∙◌, arith, append-nil, length-append, if◌then◌else◌}
 use Rattle.std.specs.List.Sorted.{IsPermutation}
 use Rattle.std.specs.List.{sum_by}
-use Rattle.std.proofs.Math.Seq.{get_or-append_seam}
 use Rattle.std.proofs.lemmas.List.{map-append, length-map}
 use Rattle.std.proofs.lemmas.List.Sorted.{Contains-permutation, IsPermutation-sym, sum_by-IsPermutation}
 use Rattle.std.proofs.lemmas.List.Sums.{sum_by-cons}
 use Rattle.sc_base.specs.declared.fault.Fault.{Fault}
 use Rattle.sc_base.specs.declared.id.Cond.{Cond}
 use Rattle.sc_guarded.specs.Items.{faults_at, seen_fault}
-use Rattle.sc_guarded.proofs.ItemLemmas.{faults_at-append, faults_at-Keeps}
+use Rattle.sc_guarded.proofs.ItemLemmas.{map-one, faults_at-append, faults_at-Keeps}
 use Rattle.sc_model.specs.Fault as model
 use Rattle.sc_model.specs.Sets.{Sets, IsConfig, IsCond, Denotes, Keeps}
 use Rattle.sc_model.proofs.SetLemmas.{IsConfig-kept, IsConfig-Keeps}
 use Rattle.sc_show.specs.Shows.{AreApart}
-use Rattle.sc_show.proofs.Shows.{when, faults_more, map-when}
-
-pub All-last : {X : Type 0} (P : X → Type 0) (xs : List X) (x : X) → All P (xs ++ x ∷ []) → P x
-All-last P xs x all = subst P (get_or-append_seam xs x [] x) (all (length xs) x (omega (arith, length-append xs (x ∷ []))))
-
-pub All-one : {X : Type 0} (P : X → Type 0) (x : X) → P x → All P (x ∷ [])
-All-one {X} P x p = by
-  where
-    by : (k : ℕ) (d : X) → k < length (x ∷ []) → P (get_or (x ∷ []) k d)
-    by zero d h = p
-    by (suc k) d h = absurd (omega arith)
+use Rattle.sc_show.proofs.Shows.{when, faults_more}
 
 -- an item stands in a list
 In : {X : Type 0} → X → List X → Type 0
@@ -131,7 +120,7 @@ module _ {old now : Sets} (files : List (List ℕ)) (sorted merged : List Fault)
   pub same_more : (c : List ℕ) → IsConfig old.arities c → map (seen_fault files) (faults_at now (merged ++ fault ∷ []) c) ≡ map (seen_fault files) (faults_at old (take (i + 1) sorted) c)
   same_more c listed =
       ap (map (seen_fault files)) (faults_at-append now merged (fault ∷ []) c) ∙ map-append (seen_fault files) (faults_at now merged c) (when (now.has fault.cond.0 c) fault)
-      ∙ ap (λ r. map (seen_fault files) (faults_at now merged c) ++ r) (map-when (seen_fault files) (now.has fault.cond.0 c) fault)
+      ∙ ap (λ r. map (seen_fault files) (faults_at now merged c) ++ r) (map-one (seen_fault files) (now.has fault.cond.0 c) fault)
       ∙ ap (λ r. r ++ when (now.has fault.cond.0 c) (seen_fault files fault)) (same c listed)
       ∙ faults_more (seen_fault files) old now sorted i fault c keeps own listed at
 
@@ -163,14 +152,14 @@ same_merged {old} {now} files rest last fault cond pair own apart keeps means c 
     let other : f fault ≡ shown = sym pair in
     let now_is : map f (faults_at now (rest ++ it ∷ []) c) ≡ map f (faults_at old rest c) ++ when (a || b) shown =
     ap (map f) (faults_at-append now rest (it ∷ []) c) ∙ map-append f (faults_at now rest c) (when (now.has cond.0 c) it)
-    ∙ ap (λ r. map f (faults_at now rest c) ++ r) (map-when f (now.has cond.0 c) it)
+    ∙ ap (λ r. map f (faults_at now rest c) ++ r) (map-one f (now.has cond.0 c) it)
     ∙ ap (λ r. map f r ++ when (now.has cond.0 c) shown) (faults_at-Keeps rest c keeps own listed)
     ∙ ap (λ h. map f (faults_at old rest c) ++ when h shown) (means.at c (IsConfig-Keeps keeps listed)) in
     let was_is : map f (faults_at old ((rest ++ last ∷ []) ++ fault ∷ []) c) ≡ (map f (faults_at old rest c) ++ when a shown) ++ when b shown =
     ap (map f) (faults_at-append old (rest ++ last ∷ []) (fault ∷ []) c ∙ ap (λ r. r ++ when b fault) (faults_at-append old rest (last ∷ []) c))
     ∙ map-append f (faults_at old rest c ++ when a last) (when b fault)
-    ∙ ap (λ r. r ++ map f (when b fault)) (map-append f (faults_at old rest c) (when a last) ∙ ap (λ r. map f (faults_at old rest c) ++ r) (map-when f a last))
-    ∙ ap (λ r. (map f (faults_at old rest c) ++ when a shown) ++ r) (map-when f b fault ∙ ap (when b) other) in
+    ∙ ap (λ r. r ++ map f (when b fault)) (map-append f (faults_at old rest c) (when a last) ∙ ap (λ r. map f (faults_at old rest c) ++ r) (map-one f a last))
+    ∙ ap (λ r. (map f (faults_at old rest c) ++ when a shown) ++ r) (map-one f b fault ∙ ap (when b) other) in
     let few : length ((map f (faults_at old rest c) ++ when a shown) ++ when b shown) ≤ 1 =
     omega (arith, ap length was_is, length-map (faults_at old ((rest ++ last ∷ []) ++ fault ∷ []) c) f, apart.few c listed) in
     now_is ∙ once (map f (faults_at old rest c)) a b shown few ∙ sym was_is

@@ -20,13 +20,13 @@ use Rattle.sc_model.specs.Bytes.{has_no_newline}
 use Rattle.sc_model.proofs.ListLemmas.{slice_get-front, slice_get-seam}
 use Rattle.sc_model.proofs.SetLemmas.{Keeps-trans, DependsFrom-Keeps}
 use Rattle.sc_show.specs.declared.printer.Printer.{Printer}
-use Rattle.sc_show.specs.Prints.{HasPlainNames, IsTable, Prints, choices_of}
+use Rattle.sc_show.specs.Prints.{HasWordNames, IsTable, Prints, choices_of}
 use Rattle.sc_show.specs.Rules.{AreFrom, Introduced, IntroducedFile, counts_of, tests_of}
 use Rattle.sc_show.proofs.Children.{HasChildren, HasChildren-grows, HasOrder-node}
 use Rattle.sc_show.proofs.Choices.{numbers-choices_of}
 use Rattle.sc_show.proofs.Numbers.{IsTable-Keeps, IsTable-push, owned_at}
 use Rattle.sc_show.proofs.Steps.{Prints-Keeps, Prints-printer, Prints-condition, Prints-file}
-use Rattle.sc_show.proofs.Faults.{All-one}
+use Rattle.sc_text.proofs.ListLemmas.{All-one}
 
 -- ---- which conditions got a number
 
@@ -110,22 +110,22 @@ Introduced-known {space} {s} {p} a n table at = record {
 }
 
 -- a condition's line after those of its children
-pub Introduced-node : {space : Space} {old s : Sets} {p q r : Printer} {ns : List ℕ} (a : Cond) (variable : Variable) (v number : ℕ) (shown : List ℕ) → HasPlainNames space → s.arities ≡ arities_of space
+pub Introduced-node : {space : Space} {old s : Sets} {p q r : Printer} {ns : List ℕ} (a : Cond) (variable : Variable) (v number : ℕ) (shown : List ℕ) → HasWordNames space → s.arities ≡ arities_of space
     → slice_get space.variables v ≡ Some variable → v < length s.arities → IsCond s a.0 → Introduced space old s p q ns → HasChildren s q.conditions.keys a v ns → length ns ≡ length variable.options
     → number ≡ length q.conditions.keys → r.conditions.keys ≡ q.conditions.keys ++ a ∷ [] → r.files.keys ≡ q.files.keys → shown ≡ ns
     → r.text.items ≡ q.text.items ++ line_text (condition_line number variable.name (choices_of variable.options shown)) → Introduced space old s p r (number ∷ [])
-Introduced-node {space} {old} {s} {p} {q} {r} {ns} a variable v number shown plain arities named within own parts has count at keys same_files same written = record {
+Introduced-node {space} {old} {s} {p} {q} {r} {ns} a variable v number shown words arities named within own parts has count at keys same_files same written = record {
   lines = parts.lines ++ line ∷ [];
   introduces = placed;
   ordered = λ t ks kept grows.
       All-append (HasOrder space (tests_of t ks)) parts.lines (line ∷ []) (parts.ordered t ks kept (Extends-trans longer grows))
-      (All-one (HasOrder space (tests_of t ks)) line (HasOrder-node number variable plain (kept.arities ∙ arities) named (HasChildren-grows kept own (Extends-trans longer grows) has)));
+      (All-one (HasOrder space (tests_of t ks)) line (HasOrder-node number variable words (kept.arities ∙ arities) named (HasChildren-grows kept own (Extends-trans longer grows) has)));
   table = subst (IsTable s) (sym keys) (IsTable-push a own parts.table);
   grows = Extends-trans parts.grows longer;
   same_files = same_files ∙ parts.same_files;
   prints = λ files before was.
       subst (Prints space s files r) (append_assoc before parts.lines (line ∷ []))
-      (Prints-condition a variable v number ns plain arities named within has count at keys same_files
+      (Prints-condition a variable v number ns words arities named within has count at keys same_files
       (written ∙ ap (λ ms. q.text.items ++ line_text (condition_line number variable.name (choices_of variable.options ms))) same) (parts.prints files before was));
 }
   where
@@ -163,12 +163,15 @@ same_set key a test canonical means own at =
     ap (λ (n : ℕ). let x : Cond = record { 0 = n } in x)
     (canonical.one key.0 a.0 means.own own (record { at = λ c listed. means.at c listed ∙ sym (at c listed) }))
 
-pub numbered_never : {s : Sets} {ks : List Cond} (a : Cond) → IsCanonical s → IsTable s ks → IsCond s a.0 → IsNever s a.0 → slice_get ks 0 ≡ Some a
-numbered_never a canonical table own never = table.never.found ∙ ap Some (same_set table.never.cond a (λ _. false) canonical table.never.means own never.none)
+pub numbered : {s : Sets} {ks : List Cond} (a : Cond) → IsCanonical s → IsTable s ks → IsCond s a.0 → IsNever s a.0 ⊎ IsAlways s a.0 → Contains ks a
+numbered {s} {ks} a canonical table own either = by either
+  where
+    at : (n : ℕ) → slice_get ks n ≡ Some a → Contains ks a
+    at n found = (n, slice_get_within ks n a found, get_or_from_slice_get ks n a a found)
 
-pub numbered_always : {s : Sets} {ks : List Cond} (a : Cond) → IsCanonical s → IsTable s ks → IsCond s a.0 → (IsNever s a.0 → ⊥) → IsNever s a.0 ⊎ IsAlways s a.0 → slice_get ks 1 ≡ Some a
-numbered_always a canonical table own some (inl never) = absurd (some never)
-numbered_always a canonical table own some (inr always) = table.always.found ∙ ap Some (same_set table.always.cond a (λ _. true) canonical table.always.means own always.all)
+    by : IsNever s a.0 ⊎ IsAlways s a.0 → Contains ks a
+    by (inl never) = at 0 (table.never.found ∙ ap Some (same_set table.never.cond a (λ _. false) canonical table.never.means own never.none))
+    by (inr always) = at 1 (table.always.found ∙ ap Some (same_set table.always.cond a (λ _. true) canonical table.always.means own always.all))
 
 pub absent_cond : (ks : List Cond) (a : Cond) → false ≡ list_any (λ (k : Cond). a.0 == k.0) ks → Contains ks a → ⊥
 absent_cond ks a none has = true≢false (sym (list_any-from_Contains (on_equiv (λ (k : Cond). k.0) nat_eq_equiv) a ks has) ∙ sym none)
@@ -195,7 +198,7 @@ IntroducedFile-known {files} {p} {q} number within keys same same_text = record 
 pub IntroducedFile-new : {files : List (List ℕ)} {p q : Printer} (file : FileId) (name : List ℕ) (number : ℕ) → All (λ (name : List ℕ). has_no_newline name ≡ true) files → slice_get files file.0 ≡ Some name
     → number ≡ length p.files.keys → q.files.keys ≡ p.files.keys ++ file ∷ [] → q.conditions.keys ≡ p.conditions.keys → q.text.items ≡ p.text.items ++ line_text (file_line number name)
     → IntroducedFile files p q number
-IntroducedFile-new {files} {p} {q} file name number plain named at keys same written =
+IntroducedFile-new {files} {p} {q} file name number one_line named at keys same written =
     let after : Counts = record { conditions = length p.conditions.keys; files = length p.files.keys + 1 } in
     let conditions = ap length (sym same) in
     let files_are = sym (ap length keys ∙ length-append p.files.keys (file ∷ [])) in
@@ -208,5 +211,5 @@ IntroducedFile-new {files} {p} {q} file name number plain named at keys same wri
       ordered = λ space tests. All-one (HasOrder space tests) (file_line number name) tt;
       grows = subst (Extends p.files.keys) (sym keys) (Extends-push p.files.keys file);
       same_conditions = same;
-      prints = λ space s before was. Prints-file file name number plain named at keys same written was;
+      prints = λ space s before was. Prints-file file name number one_line named at keys same written was;
     }

@@ -1,5 +1,5 @@
 -- The lines of items, after one another.
-use Rattle.std.proofs.Common.{◌≡◌, ℕ, zero, suc, ◌+◌, ◌<◌, List, [], ◌∷◌, ◌++◌, length, map, take, slice_get, Some, sym, ap, subst, ◌∙◌, arith, append-nil, append_assoc}
+use Rattle.std.proofs.Common.{◌≡◌, ℕ, zero, suc, ◌+◌, ◌<◌, List, [], ◌∷◌, ◌++◌, length, map, take, slice_get, Some, refl, sym, ap, subst, ◌∙◌, arith, append-nil, append_assoc}
 use Rattle.std.proofs.lemmas.List.{map-append, take_more}
 use Rattle.std.proofs.lemmas.List.Elements.{All-nil, All-append}
 use Rattle.std.proofs.lemmas.Option.{same_Some, slice_get_within, get_or_from_slice_get}
@@ -7,17 +7,19 @@ use Rattle.sc_base.specs.declared.id.Cond.{Cond}
 use Rattle.sc_base.specs.declared.id.FileId.{FileId}
 use Rattle.sc_base.proofs.Growth.{Extends-refl, Extends-trans, Extends-keeps}
 use Rattle.sc_model.specs.Growth.{Extends}
-use Rattle.sc_text.specs.Layout.{condition_numbered, file_numbered, needs, Introduces, done, shows, HasOrder}
-use Rattle.sc_model.specs.Sets.{Sets, IsCond, Keeps, IsNever}
+use Rattle.sc_text.specs.Layout.{Need, condition_numbered, file_numbered, needs, Counts, Gives, next_condition, next_file, Introduces, nothing, known, new, LaysOut, done, shows, HasOrder}
+use Rattle.sc_model.specs.Sets.{Sets, Keeps, IsNever}
 use Rattle.sc_model.specs.Space.{Space}
 use Rattle.sc_text.specs.Text.{Condition, TextLine}
 use Rattle.sc_text.proofs.LayoutLemmas.{LaysOut-append}
-use Rattle.sc_model.proofs.SetLemmas.{Keeps-trans, IsConfig-Keeps, IsNever-Keeps}
+use Rattle.sc_text.proofs.OneLayout.{IsKnown-Introduces}
+use Rattle.sc_model.proofs.SetLemmas.{Keeps-trans, IsNever-Keeps}
 use Rattle.sc_show.specs.declared.printer.Printer.{Printer}
 use Rattle.sc_show.specs.Prints.{IsTable, Prints}
 use Rattle.sc_show.specs.Rules.{Introduced, IntroducedFile, Item, AreLinesOf, no_line, without_line, line_of, LaidOut, counts_of, tests_of}
-use Rattle.sc_show.proofs.Faults.{All-one}
+use Rattle.sc_text.proofs.ListLemmas.{All-one}
 use Rattle.sc_show.proofs.Introducing.{Introduces-append}
+use Rattle.sc_show.proofs.Numbers.{owned_at}
 
 AreLinesOf-append : {s : Sets} {ks : List Cond} {fs : List FileId} {items others : List Item} {lines more : List TextLine} → AreLinesOf s ks fs items lines → AreLinesOf s ks fs others more
     → AreLinesOf s ks fs (items ++ others) (lines ++ more)
@@ -59,20 +61,47 @@ LaidOut-without {space} {s} {files} {p} items without table = record {
 pub LaidOut-nothing : {space : Space} {s : Sets} {files : List (List ℕ)} {p : Printer} → IsTable s p.conditions.keys → LaidOut space s s files p p []
 LaidOut-nothing table = LaidOut-without [] (λ t ks fs kept. no_line) table
 
+-- what never has has no number but 0, and nothing is printed for it
+nothing_needed : {n m : Counts} {lines : List TextLine} → Introduces n [] lines m → (lines ≡ []) × (m ≡ n)
+nothing_needed (nothing n) = (refl, refl)
+
+given_number : {n m : Counts} {line : TextLine} {need : Need} → Gives n line need m → 0 < n.conditions → need ≡ condition_numbered 0 → ⊥
+given_number (next_condition n variable options) some is = let none : n.conditions ≡ 0 = cc in omega arith
+given_number (next_file n name) some is = cc
+
+introduced_never : {n m : Counts} {needed : List Need} {lines : List TextLine} → Introduces n needed lines m → 0 < n.conditions → needed ≡ condition_numbered 0 ∷ [] → (lines ≡ []) × (m ≡ n)
+introduced_never (nothing n) some is = cc
+introduced_never (known n m need others lines stands rest) some is = by others rest (cc)
+  where
+    by : (others : List Need) → Introduces n others lines m → others ≡ [] → (lines ≡ []) × (m ≡ n)
+    by [] rest none = nothing_needed rest
+    by (need ∷ others) rest none = cc
+introduced_never (new n before after m line need others lines more introduced gives rest) some is =
+    absurd (given_number gives (IsKnown-Introduces (condition_numbered 0) introduced some) (cc))
+
 -- no configuration has the item
-pub LaidOut-never : {space : Space} {s : Sets} {files : List (List ℕ)} {p : Printer} (item : Item) → IsTable s p.conditions.keys → IsCond s item.cond.0 → IsNever s item.cond.0
-    → LaidOut space s s files p p (item ∷ [])
-LaidOut-never item table own none = LaidOut-without (item ∷ []) (λ t ks fs kept. without_line item [] [] (IsNever-Keeps kept own none) no_line) table
+pub LaidOut-never : {space : Space} {old s : Sets} {files : List (List ℕ)} {p q : Printer} (item : Item) (n : ℕ) → n ≡ 0 → IsTable old p.conditions.keys → Introduced space old s p q (n ∷ []) → slice_get q.conditions.keys n ≡ Some item.cond
+    → LaidOut space old s files p q (item ∷ [])
+LaidOut-never {space} {old} {s} {files} {p} {q} item n is table introduced numbered =
+    let some : 0 < length p.conditions.keys = slice_get_within p.conditions.keys 0 table.never.cond table.never.found in
+    let none = introduced_never introduced.introduces some (λ i. condition_numbered (is i) ∷ []) in
+    let never = same_Some introduced.table.never.cond item.cond (sym introduced.table.never.found ∙ ap (slice_get q.conditions.keys) (sym is) ∙ numbered) in
+    let empty : IsNever s item.cond.0 = record { none = λ c listed. ap (λ (k : Cond). s.has k.0 c) (sym never) ∙ introduced.table.never.means.at c listed } in
+    record {
+      lines = introduced.lines;
+      shown = [];
+      laid = subst (λ lines. LaysOut (counts_of p) [] lines (counts_of q)) (sym none.0) (subst (LaysOut (counts_of p) [] []) (sym none.1) (done (counts_of p)));
+      are = λ t ks fs kept grows files_grow. without_line item [] [] (IsNever-Keeps kept (owned_at n item.cond introduced.table numbered) empty) no_line;
+      ordered = introduced.ordered;
+      table = introduced.table;
+      grows = introduced.grows;
+      files_grow = subst (Extends p.files.keys) (sym introduced.same_files) (Extends-refl p.files.keys);
+      prints = introduced.prints files;
+    }
 
--- a condition that some configuration has isn't number 0
-some_number : {s : Sets} {ks : List Cond} (a : Cond) (n : ℕ) → IsTable s ks → slice_get ks n ≡ Some a → (IsNever s a.0 → ⊥) → 0 < n
-some_number {s} a zero table at some =
-    let same = same_Some table.never.cond a (sym table.never.found ∙ at) in
-    absurd (some (record { none = λ c listed. ap (λ (k : Cond). s.has k.0 c) (sym same) ∙ table.never.means.at c listed }))
-some_number a (suc n) table at some = omega arith
-
-pub IsNever-kept : {old new : Sets} {a : ℕ} → Keeps old new → IsCond old a → IsNever new a → IsNever old a
-IsNever-kept {old} {new} {a} keeps own none = record { none = λ c listed. sym (keeps.at a c own listed) ∙ none.none c (IsConfig-Keeps keeps listed) }
+pub not_zero : (n : ℕ) → (n ≡ 0 → ⊥) → 0 < n
+not_zero zero other = absurd (other refl)
+not_zero (suc n) other = omega arith
 
 -- a file's line changes no number of a condition
 pub numbered_still : {files : List (List ℕ)} {p q : Printer} {m : ℕ} {a : Cond} (n : ℕ) → IntroducedFile files p q m → slice_get p.conditions.keys n ≡ Some a → slice_get q.conditions.keys n ≡ Some a
@@ -80,7 +109,7 @@ numbered_still n file at = ap (λ ks. slice_get ks n) file.same_conditions ∙ a
 
 -- an item's line, after those of its condition and of its file
 module _ {space : Space} {old s : Sets} {files : List (List ℕ)} {p q r u : Printer} (item : Item) (n m : ℕ) (needs_are : needs (item.line n m) ≡ condition_numbered n ∷ file_numbered m ∷ [])
-    (no_order : (space : Space) (tests : List Condition) → HasOrder space tests (item.line n m)) (some : IsNever s item.cond.0 → ⊥)
+    (no_order : (space : Space) (tests : List Condition) → HasOrder space tests (item.line n m)) (some : 0 < n)
     (conditions : Introduced space old s p q (n ∷ [])) (file : IntroducedFile files q r m) (numbered : slice_get q.conditions.keys n ≡ Some item.cond) (file_found : slice_get r.files.keys m ≡ Some item.file)
     (kept : u.conditions.keys ≡ r.conditions.keys) (kept_files : u.files.keys ≡ r.files.keys)
     (prints : (before : List TextLine) → Prints space s files r before → Prints space s files u (before ++ item.line n m ∷ [])) where
@@ -106,7 +135,7 @@ module _ {space : Space} {old s : Sets} {files : List (List ℕ)} {p q r u : Pri
     shown = item.line n m ∷ [];
     laid = shows (counts_of p) (counts_of u) (counts_of u) (item.line n m) [] (conditions.lines ++ file.lines) [] introduced (done (counts_of u));
     are = λ t ks fs keeps grows files_grow.
-        line_of item n m [] [] (some_number item.cond n conditions.table numbered some) (Extends-keeps _ _ (ap (λ ls. slice_get ls n) keys ∙ numbered) grows)
+        line_of item n m [] [] some (Extends-keeps _ _ (ap (λ ls. slice_get ls n) keys ∙ numbered) grows)
         (Extends-keeps _ _ (ap (λ gs. slice_get gs m) kept_files ∙ file_found) files_grow) no_line;
     ordered = λ t ks keeps grows.
         All-append (HasOrder space (tests_of t ks)) (conditions.lines ++ file.lines) (item.line n m ∷ [])

@@ -30,7 +30,7 @@ split_lines [] all = refl
 split_lines (piece ∷ pieces) all =
     let first = all 0 piece (omega arith) in
     ap (λ t. split_lines_after (t ++ concat pieces)) first.whole ∙ ap split_lines_after (append_assoc first.front (10 ∷ []) (concat pieces))
-    ∙ split_front first.front (concat pieces) (not-true _ first.plain) ∙ ap (λ p. p ∷ split_lines_after (concat pieces)) (sym first.whole)
+    ∙ split_front first.front (concat pieces) (not-true _ first.one_line) ∙ ap (λ p. p ∷ split_lines_after (concat pieces)) (sym first.whole)
     ∙ ap (λ ps. piece ∷ ps) (split_lines pieces (λ k d h. all (suc k) d (omega arith)))
 
 -- texts without a newline
@@ -45,39 +45,39 @@ without stops stop (x ∷ xs) h = let parts = or_parts (stops x) (list_any stops
     by true e h = absurd (true≢false (sym stop ∙ (ap stops (sym (eqb-true x 10 e)) ∙ h)))
     by false e h = refl
 
-pub numeral_plain : (n : ℕ) → has_newline (numeral n) ≡ false
-numeral_plain n = without is_no_digit refl (numeral n) (numeral-digits n)
+pub numeral_one_line : (n : ℕ) → has_newline (numeral n) ≡ false
+numeral_one_line n = without is_no_digit refl (numeral n) (numeral-digits n)
 
-word_plain : (xs : List ℕ) → is_word xs ≡ true → has_newline xs ≡ false
-word_plain xs h = without is_wordless refl xs (not-true _ h)
+word_one_line : (xs : List ℕ) → is_word xs ≡ true → has_newline xs ≡ false
+word_one_line xs h = without is_wordless refl xs (not-true _ h)
 
-name_plain : (cause : Cause) → has_newline (name_of cause) ≡ false
-name_plain NotFound = refl
-name_plain _ = refl
+name_one_line : (cause : Cause) → has_newline (name_of cause) ≡ false
+name_one_line NotFound = refl
+name_one_line _ = refl
 
-choices_plain : (os : List (List ℕ × ℕ)) → list_all (λ choice. is_word choice.0 && not (list_any (λ b. b == 58) choice.0)) os ≡ true → has_newline (flat_map choice_text os) ≡ false
-choices_plain [] h = refl
-choices_plain (o ∷ os) h =
+choices_one_line : (os : List (List ℕ × ℕ)) → list_all (λ choice. is_word choice.0 && not (list_any (λ b. b == 58) choice.0)) os ≡ true → has_newline (flat_map choice_text os) ≡ false
+choices_one_line [] h = refl
+choices_one_line (o ∷ os) h =
     let parts = and_parts (is_word o.0 && not (list_any (λ b. b == 58) o.0)) (list_all (λ choice. is_word choice.0 && not (list_any (λ b. b == 58) choice.0)) os) h in
-    let word = word_plain o.0 (and_parts (is_word o.0) _ parts.0).0 in
-    simp (newline-append, numeral_plain, word, choices_plain os parts.1)
+    let word = word_one_line o.0 (and_parts (is_word o.0) _ parts.0).0 in
+    simp (newline-append, numeral_one_line, word, choices_one_line os parts.1)
 
 -- a text without a newline, and one behind it
 pub is_line : (front : List ℕ) → has_newline front ≡ false → IsLine (front ++ codes "\n")
-is_line front h = record { front = front; plain = not_from_false (has_newline front) h; whole = refl }
+is_line front h = record { front = front; one_line = not_from_false (has_newline front) h; whole = refl }
 
 pub line_text_is_line : (line : TextLine) → is_clear line ≡ true → IsLine (line_text line)
 line_text_is_line (condition_line id variable options) h =
     let parts = and_parts (is_word variable) _ h in
     is_line (codes "c " ++ numeral id ++ codes " " ++ variable ++ flat_map choice_text options)
-    (simp (newline-append, numeral_plain, word_plain variable parts.0, choices_plain options parts.1))
-line_text_is_line (file_line id name) h = is_line (codes "s " ++ numeral id ++ codes " " ++ name) (simp (newline-append, numeral_plain, not-true (has_newline name) h))
+    (simp (newline-append, numeral_one_line, word_one_line variable parts.0, choices_one_line options parts.1))
+line_text_is_line (file_line id name) h = is_line (codes "s " ++ numeral id ++ codes " " ++ name) (simp (newline-append, numeral_one_line, not-true (has_newline name) h))
 line_text_is_line (token_line cond place spelling) h =
     is_line (codes "t " ++ numeral cond ++ codes " " ++ place_text place ++ codes " " ++ spelling)
-    (simp (newline-append, numeral_plain, not-true (has_newline spelling) h))
+    (simp (newline-append, numeral_one_line, not-true (has_newline spelling) h))
 line_text_is_line (fault_line cond cause place) h =
     is_line (codes "f " ++ numeral cond ++ codes " " ++ numeral (code_of cause) ++ codes " " ++ name_of cause ++ codes " " ++ place_text place)
-    (simp (newline-append, numeral_plain, name_plain cause))
+    (simp (newline-append, numeral_one_line, name_one_line cause))
 line_text_is_line end_line h = is_line (codes "end") refl
 
 -- the lines of a text

@@ -1,9 +1,10 @@
 -- What is shown of a list.
-use Rattle.std.proofs.Common.{◌≡◌, ℕ, zero, suc, ◌+◌, Bool, true, false, List, [], ◌∷◌, ◌++◌, map, take, slice_get, Some, unwrap_or, All, refl, sym, ap, subst, ◌∙◌, add-one, if◌then◌else◌}
+use Rattle.std.proofs.Common.{◌≡◌, ℕ, zero, suc, ◌+◌, Bool, true, false, List, [], ◌∷◌, ◌++◌, map, take, slice_get, Some, unwrap_or, All, sym, ap, subst, ◌∙◌, add-one, if◌then◌else◌}
 use Rattle.std.proofs.lemmas.List.{map-append}
 use Rattle.std.proofs.lemmas.Option.{same_Some, slice_get_within, get_or_from_slice_get}
 use Rattle.sc_base.specs.declared.fault.Fault as base
 use Rattle.sc_base.specs.declared.id.Cond.{Cond}
+use Rattle.sc_guarded.proofs.ItemLemmas.{map-one}
 use Rattle.sc_guarded.specs.Items.{faults_at}
 use Rattle.sc_base.specs.declared.token.Token.{Token}
 use Rattle.sc_base.specs.Seen.{text_at}
@@ -32,16 +33,12 @@ faults_at-more s (x ∷ xs) (suc i) fault c at = by (s.has x.cond.0 c) (faults_a
     by true ih = ap (λ r. x ∷ r) ih
     by false ih = ih
 
-pub map-when : {T U : Type 0} (f : T → U) (b : Bool) (x : T) → map f (when b x) ≡ when b (f x)
-map-when f true x = refl
-map-when f false x = refl
-
 -- the seen faults with one more
 pub faults_more : {U : Type 0} (f : base.Fault → U) (old now : Sets) (faults : List base.Fault) (i : ℕ) (fault : base.Fault) (c : List ℕ) → Keeps old now → IsCond old fault.cond.0 → IsConfig old.arities c
     → slice_get faults i ≡ Some fault → map f (faults_at old (take i faults) c) ++ when (now.has fault.cond.0 c) (f fault) ≡ map f (faults_at old (take (i + 1) faults) c)
 faults_more f old now faults i fault c keeps own listed at =
     let more = ap (map f) (faults_at-more old faults i fault c at) ∙ map-append f (faults_at old (take i faults) c) (when (old.has fault.cond.0 c) fault)
-    ∙ ap (λ r. map f (faults_at old (take i faults) c) ++ r) (map-when f (old.has fault.cond.0 c) fault) in
+    ∙ ap (λ r. map f (faults_at old (take i faults) c) ++ r) (map-one f (old.has fault.cond.0 c) fault) in
     rw add-one (ap (λ b. map f (faults_at old (take i faults) c) ++ when b (f fault)) (keeps.at fault.cond.0 c own listed) ∙ sym more)
 
 -- what can be shown still can

@@ -23,7 +23,7 @@ use Rattle.sc_space.specs.Seen.{seen_space, seen_variable}
 use Rattle.sc_space.specs.declared.space.Space as declared_space
 use Rattle.sc_space.specs.declared.space.Variable as declared_variable
 use Rattle.sc_show.specs.declared.printer.Printer.{Printer}
-use Rattle.sc_show.specs.Prints.{HasPlainNames, Prints, Agrees, IsTable, choices_of, printed_place}
+use Rattle.sc_show.specs.Prints.{HasWordNames, Prints, Agrees, IsTable, choices_of, printed_place}
 use Rattle.sc_show.proofs.Children.{HasChildren}
 use Rattle.sc_show.proofs.Choices.{both, clear_choices, numbers-choices_of}
 use Rattle.sc_show.proofs.Reading.{read_lines-push, written-push, clear-push, variable_from-found, are_options-choices_of}
@@ -115,12 +115,12 @@ Agrees-push {s} {ks} {tests} cond test agrees means = record {
 
 -- a condition's line
 pub Prints-condition : {space : Space} {s : Sets} {files : List (List ℕ)} {p q : Printer} {before : List TextLine} (a : Cond) (variable : Variable) (v number : ℕ) (children : List ℕ)
-    → HasPlainNames space → s.arities ≡ arities_of space → slice_get space.variables v ≡ Some variable → v < length s.arities
+    → HasWordNames space → s.arities ≡ arities_of space → slice_get space.variables v ≡ Some variable → v < length s.arities
     → HasChildren s p.conditions.keys a v children → length children ≡ length variable.options
     → number ≡ length p.conditions.keys → q.conditions.keys ≡ p.conditions.keys ++ a ∷ [] → q.files.keys ≡ p.files.keys
     → q.text.items ≡ p.text.items ++ line_text (condition_line number variable.name (choices_of variable.options children)) → Prints space s files p before
     → Prints space s files q (before ++ condition_line number variable.name (choices_of variable.options children) ∷ [])
-Prints-condition {space} {s} {files} {p} {q} a variable v number children plain arities found within has count at keys same_files written was =
+Prints-condition {space} {s} {files} {p} {q} a variable v number children words arities found within has count at keys same_files written was =
     let options = choices_of variable.options children in
     Prints-push was (condition_line number variable.name options) (with_condition was.reading (chosen was.reading.conditions v options)) clear written read was.unended
     (subst (λ ks. Agrees s ks (was.reading.conditions ++ chosen was.reading.conditions v options ∷ [])) (sym keys) (Agrees-push a (chosen was.reading.conditions v options) was.conditions means))
@@ -129,13 +129,13 @@ Prints-condition {space} {s} {files} {p} {q} a variable v number children plain 
     clear : is_clear (condition_line number variable.name (choices_of variable.options children)) ≡ true
     clear =
         let here : (get_or space.variables v variable).name ≡ variable.name = ap (λ (x : Variable). x.name) (get_or_from_slice_get space.variables v variable variable found) in
-        both (subst (λ name. is_word name ≡ true) here (plain.words v variable (slice_get_within space.variables v variable found))) (clear_choices variable.options children)
+        both (subst (λ name. is_word name ≡ true) here (words.words v variable (slice_get_within space.variables v variable found))) (clear_choices variable.options children)
 
     read : read_line space was.reading (condition_line number variable.name (choices_of variable.options children))
         ≡ Some (with_condition was.reading (chosen was.reading.conditions v (choices_of variable.options children)))
     read =
         let placed : variable_from 0 space.variables variable.name ≡ Some (v, variable) =
-        variable_from-found 0 space.variables v variable plain.differ found ∙ ap (λ k. Some (k, variable)) (let e : 0 + v ≡ v = omega arith in e) in
+        variable_from-found 0 space.variables v variable words.differ found ∙ ap (λ k. Some (k, variable)) (let e : 0 + v ≡ v = omega arith in e) in
         let next : number ≡ length was.reading.conditions = at ∙ sym was.conditions.long in
         let lower = λ (k : ℕ) (h : k < length children). let is = has.each k h in subst (λ m. slice_index children k < m) (sym at) (slice_get_within p.conditions.keys (slice_index children k) is.child is.found) in
         ap (read_condition was.reading number (choices_of variable.options children)) placed
@@ -155,8 +155,8 @@ Prints-condition {space} {s} {files} {p} {q} a variable v number children plain 
 pub Prints-file : {space : Space} {s : Sets} {files : List (List ℕ)} {p q : Printer} {before : List TextLine} (file : FileId) (name : List ℕ) (number : ℕ) → All (λ (name : List ℕ). has_no_newline name ≡ true) files
     → slice_get files file.0 ≡ Some name → number ≡ length p.files.keys → q.files.keys ≡ p.files.keys ++ file ∷ [] → q.conditions.keys ≡ p.conditions.keys
     → q.text.items ≡ p.text.items ++ line_text (file_line number name) → Prints space s files p before → Prints space s files q (before ++ file_line number name ∷ [])
-Prints-file {space} {s} {files} {p} {q} file name number plain named at keys same written was =
-    let clear = subst (λ (text : List ℕ). has_no_newline text ≡ true) (get_or_from_slice_get files file.0 name name named) (plain file.0 name (slice_get_within files file.0 name named)) in
+Prints-file {space} {s} {files} {p} {q} file name number one_line named at keys same written was =
+    let clear = subst (λ (text : List ℕ). has_no_newline text ≡ true) (get_or_from_slice_get files file.0 name name named) (one_line file.0 name (slice_get_within files file.0 name named)) in
     let next : number ≡ length was.reading.files = at ∙ sym (ap length was.names ∙ length-map p.files.keys (λ (f : FileId). text_at files f.0)) in
     let read = ap (λ b. if b then Some (with_file was.reading name) else None) (eq-eqb number (length was.reading.files) next) in
     let named_so : text_at files file.0 ≡ name = ap (λ o. unwrap_or o []) named in
@@ -186,12 +186,12 @@ module _ {space : Space} {s : Sets} {files : List (List ℕ)} {p : Printer} {con
   -- a token's line
   pub Prints-token : (spelling : List ℕ) → has_no_newline spelling ≡ true → q.text.items ≡ p.text.items ++ line_text (token_line n (printed_place m place) spelling)
       → Prints space s files q (before ++ token_line n (printed_place m place) spelling ∷ [])
-  Prints-token spelling plain written =
+  Prints-token spelling one_line written =
       let it : Shown = record { place = seen_place files place; spelling = spelling } in
       let read =
       ap (λ b. if b then option_map (λ at. with_token was.reading (condition_at was.reading.conditions n) (record { place = at; spelling = spelling })) (place_of was.reading (printed_place m place)) else None) below
       ∙ ap (option_map (λ at. with_token was.reading (condition_at was.reading.conditions n) (record { place = at; spelling = spelling }))) (place_of-printed files p.files.keys was.reading m place was.names file) in
-      Prints-push was (token_line n (printed_place m place) spelling) (with_token was.reading (condition_at was.reading.conditions n) it) plain written read was.unended agrees_still named_still
+      Prints-push was (token_line n (printed_place m place) spelling) (with_token was.reading (condition_at was.reading.conditions n) it) one_line written read was.unended agrees_still named_still
 
   -- a fault's line
   pub Prints-fault : (cause : Cause) → q.text.items ≡ p.text.items ++ line_text (fault_line n cause (printed_place m place)) → Prints space s files q (before ++ fault_line n cause (printed_place m place) ∷ [])

@@ -5,7 +5,7 @@ use Rattle.sc_model.specs.Bytes.{has_no_newline}
 -- a newline ends the piece, and no other one stands in it
 pub record IsLine (piece : List ℕ) : Type 0 where
   pub front : List ℕ
-  pub plain : has_no_newline front ≡ true
+  pub one_line : has_no_newline front ≡ true
   pub whole : piece ≡ front ++ 10 ∷ []
 
 -- the byte at the front of the first piece

@@ -14,7 +14,7 @@ use Rattle.sc_text.specs.Text.{Condition, Printed, token_list, Reading, TextLine
 use Rattle.sc_show.specs.declared.printer.Printer.{Printer}
 
 -- each name can stand in a line, and names one variable
-pub record HasPlainNames (space : Space) : Type 0 where
+pub record HasWordNames (space : Space) : Type 0 where
   pub words : All (λ (v : Variable). is_word v.name ≡ true) space.variables
   pub differ : IsOneToOne (map (λ (v : Variable). v.name) space.variables)
 

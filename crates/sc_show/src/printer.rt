@@ -7,7 +7,7 @@ ghost use Rattle.sc_model.specs.Bytes.{has_no_newline};
 ghost use Rattle.sc_text.specs.Text.{line_text, end_line};
 ghost use Rattle.sc_space.specs.Seen.{seen_space};
 ghost use Rattle.sc_show.specs.Rules.{token_item, fault_item, AreFrom, Introduced, IntroducedFile, LaidOut};
-ghost use Rattle.sc_show.specs.Prints.{HasPlainNames, IsTable, Prints};
+ghost use Rattle.sc_show.specs.Prints.{HasWordNames, IsTable, Prints};
 
 use crate::lines;
 use indexmap::IndexSet;
@@ -18,8 +18,6 @@ use std::alloc::Global;
 
 /// The number under which no configuration is printed.
 const NEVER: usize = 0;
-/// The number under which every configuration is printed.
-const ALWAYS: usize = 1;
 
 /// The lines printed so far, and what they gave a number.
 #[derive(Drop)]
@@ -60,7 +58,7 @@ impl Printer {
         requires own { IsCond (C.sets conds.old) cond.0 }
         requires from { DependsFrom (C.sets conds.old) cond.0 from }
         requires arities { (C.sets conds.old).arities ≡ arities_of (seen_space space.now) }
-        requires names { HasPlainNames (seen_space space.now) }
+        requires names { HasWordNames (seen_space space.now) }
         requires table { IsTable (C.sets conds.old) self.old.conditions.keys }
         ensures number { IfOk result (λ n. slice_get self.new.conditions.keys n ≡ Some cond) }
         ensures lines { IfOk result (λ n. Introduced (seen_space space.now) (C.sets conds.old) (C.sets conds.new) self.old self.new (n ∷ [])) }
@@ -69,13 +67,13 @@ impl Printer {
         // at every outcome
         ensures keeps { Keeps (C.sets conds.old) (C.sets conds.new) }
     {
-        let Some(variable) = conds.top(cond) else {
-            conds.canonical();
-            return Ok(if conds.is_never(cond) { NEVER } else { ALWAYS });
-        };
         if let Some(known) = self.conditions.get_index_of(&cond) {
             return Ok(known);
         }
+        conds.canonical();
+        let Some(variable) = conds.top(cond) else {
+            unreachable!()
+        };
         let named = &space.variables[variable];
         let mut children = Vec::new(*self.text.allocator());
         for option in 0..named.options.len() {
@@ -94,7 +92,7 @@ impl Printer {
     /// The number of a file, after the line that it needs.
     fn file_number(&mut self, files: &Files, file: FileId) -> Result<usize, OutOfMemory>
         requires file { file.0 < length files.now }
-        requires plain { All (λ name. has_no_newline name ≡ true) files.now }
+        requires one_line { All (λ name. has_no_newline name ≡ true) files.now }
         ensures number { IfOk result (λ n. slice_get self.new.files.keys n ≡ Some file) }
         ensures lines { IfOk result (IntroducedFile files.now self.old self.new) }
     {
@@ -119,18 +117,18 @@ impl Printer {
         requires file { place.file.0 < length files.now }
         requires spelling { has_no_newline spelling.now ≡ true }
         requires arities { (C.sets conds.old).arities ≡ arities_of (seen_space space.now) }
-        requires names { HasPlainNames (seen_space space.now) }
-        requires plain { All (λ name. has_no_newline name ≡ true) files.now }
+        requires names { HasWordNames (seen_space space.now) }
+        requires one_line { All (λ name. has_no_newline name ≡ true) files.now }
         requires table { IsTable (C.sets conds.old) self.old.conditions.keys }
         ensures lines { OnOk result (LaidOut (seen_space space.now) (C.sets conds.old) (C.sets conds.new) files.now self.old self.new (token_item cond place spelling.now ∷ [])) }
 
         // at every outcome
         ensures keeps { Keeps (C.sets conds.old) (C.sets conds.new) }
     {
-        if conds.is_never(cond) {
+        let condition = self.condition_number(conds, space, cond, 0)?;
+        if condition == NEVER {
             return Ok(());
         }
-        let condition = self.condition_number(conds, space, cond, 0)?;
         let file = self.file_number(files, place.file)?;
         lines::write_token(&mut self.text, condition, file, place, spelling)?;
         Ok(())
@@ -146,18 +144,18 @@ impl Printer {
         requires own { IsCond (C.sets conds.old) fault.cond.0 }
         requires file { fault.place.file.0 < length files.now }
         requires arities { (C.sets conds.old).arities ≡ arities_of (seen_space space.now) }
-        requires names { HasPlainNames (seen_space space.now) }
-        requires plain { All (λ name. has_no_newline name ≡ true) files.now }
+        requires names { HasWordNames (seen_space space.now) }
+        requires one_line { All (λ name. has_no_newline name ≡ true) files.now }
         requires table { IsTable (C.sets conds.old) self.old.conditions.keys }
         ensures lines { OnOk result (LaidOut (seen_space space.now) (C.sets conds.old) (C.sets conds.new) files.now self.old self.new (fault_item fault ∷ [])) }
 
         // at every outcome
         ensures keeps { Keeps (C.sets conds.old) (C.sets conds.new) }
     {
-        if conds.is_never(fault.cond) {
+        let condition = self.condition_number(conds, space, fault.cond, 0)?;
+        if condition == NEVER {
             return Ok(());
         }
-        let condition = self.condition_number(conds, space, fault.cond, 0)?;
         let file = self.file_number(files, fault.place.file)?;
         lines::write_fault(&mut self.text, condition, fault.cause, file, fault.place)?;
         Ok(())

@@ -3,7 +3,7 @@ ghost use Rattle.sc_model.specs.Sets.{Keeps};
 ghost use Rattle.sc_model.specs.Space.{arities_of};
 ghost use Rattle.sc_model.specs.Bytes.{has_no_newline};
 ghost use Rattle.sc_space.specs.Seen.{seen_space};
-ghost use Rattle.sc_show.specs.Prints.{HasPlainNames, IsTable};
+ghost use Rattle.sc_show.specs.Prints.{HasWordNames, IsTable};
 ghost use Rattle.sc_show.specs.Rules.{list_item, fault_item, LaidOut};
 ghost use Rattle.sc_show.specs.Shows.{IsShowable, IsShowableFault, AreApart, Shows};
 
@@ -24,8 +24,8 @@ fn print_list<C: Conditions>(
     list: &Guarded<Token>,
 ) -> Result<(), OutOfMemory>
     requires arities { (C.sets conds.old).arities ≡ arities_of (seen_space space.now) }
-    requires names { HasPlainNames (seen_space space.now) }
-    requires plain { All (λ name. has_no_newline name ≡ true) files.now }
+    requires names { HasWordNames (seen_space space.now) }
+    requires one_line { All (λ name. has_no_newline name ≡ true) files.now }
     requires list { All (IsShowable (C.sets conds.old) names.now files.now) list.now }
     requires table { IsTable (C.sets conds.old) printer.old.conditions.keys }
     ensures lines { OnOk result (LaidOut (seen_space space.now) (C.sets conds.old) (C.sets conds.new) files.now printer.old printer.new (map (list_item names.now) list.now)) }
@@ -49,8 +49,8 @@ fn print_faults<C: Conditions>(
     faults: &[Fault],
 ) -> Result<(), OutOfMemory>
     requires arities { (C.sets conds.old).arities ≡ arities_of (seen_space space.now) }
-    requires names { HasPlainNames (seen_space space.now) }
-    requires plain { All (λ name. has_no_newline name ≡ true) files.now }
+    requires names { HasWordNames (seen_space space.now) }
+    requires one_line { All (λ name. has_no_newline name ≡ true) files.now }
     requires faults { All (IsShowableFault (C.sets conds.old) files.now) faults.now }
     requires table { IsTable (C.sets conds.old) printer.old.conditions.keys }
     ensures lines { OnOk result (LaidOut (seen_space space.now) (C.sets conds.old) (C.sets conds.new) files.now printer.old printer.new (map fault_item faults.now)) }
@@ -75,7 +75,7 @@ pub fn show_tokens<C: Conditions>(
     faults: &[Fault],
 ) -> Result<Vec<u8>, OutOfMemory>
     requires space { (C.sets conds.old).arities ≡ arities_of (seen_space space.now) }
-    requires sound { HasPlainNames (seen_space space.now) }
+    requires sound { HasWordNames (seen_space space.now) }
     requires files { All (λ name. has_no_newline name ≡ true) files.now }
     requires list { All (IsShowable (C.sets conds.old) names.now files.now) list.now }
     requires faults { All (IsShowableFault (C.sets conds.old) files.now) faults.now }

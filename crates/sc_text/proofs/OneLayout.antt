@@ -49,7 +49,7 @@ IsKnown-Gives (file_numbered u) (next_condition n variable options) below = belo
 IsKnown-Gives (condition_numbered u) (next_file n name) below = below
 IsKnown-Gives (file_numbered u) (next_file n name) below = omega arith
 
-IsKnown-Introduces : {n m : Counts} {us : List Need} {lines : List TextLine} (other : Need) → Introduces n us lines m → IsKnown n other → IsKnown m other
+pub IsKnown-Introduces : {n m : Counts} {us : List Need} {lines : List TextLine} (other : Need) → Introduces n us lines m → IsKnown n other → IsKnown m other
 IsKnown-Introduces other (nothing n) below = below
 IsKnown-Introduces other (known n m u us lines stands rest) below = IsKnown-Introduces other rest below
 IsKnown-Introduces other (new n before after m line u us lines more introduced gives rest) below =

@@ -1,5 +1,5 @@
 -- A result has one text.
-use Rattle.std.proofs.Common.{◌≡◌, ℕ, ◌<◌, nat_lt, true, List, [], ◌∷◌, ◌++◌, length, map, get_or, All, Some, refl, sym, ap, subst, ◌∙◌, arith}
+use Rattle.std.proofs.Common.{◌≡◌, ℕ, ◌<◌, nat_lt, Bool, true, false, List, [], ◌∷◌, ◌++◌, length, map, get_or, All, Some, refl, sym, ap, subst, ◌∙◌, arith, if◌then◌else◌}
 use Rattle.std.proofs.lemmas.Bool.{and_parts, ltb-true, true≢false}
 use Rattle.std.proofs.lemmas.List.Elements.{All-nil, All-cons, All-head, All-tail}
 use Rattle.std.proofs.lemmas.Option.{slice_get-get_or}
@@ -7,9 +7,9 @@ use Rattle.std.specs.List.{AllZip, list_all}
 use Rattle.sc_model.specs.declared.cause.Cause.{Cause}
 use Rattle.sc_text.specs.Layout.{Need, condition_numbered, file_numbered, Counts, at_start, IsKnown, LaysOut, done, shows, sets_of, is_token, is_fault, KeepsRules, IsTextOf, IsSameAnswer, IsEmpty}
 use Rattle.sc_model.specs.Fault.{Fault}
-use Rattle.sc_model.specs.Sets.{IsCanonical}
-use Rattle.sc_model.specs.Space.{Space}
-use Rattle.sc_text.specs.Text.{Condition, BodyKind, token_list, Answer, TextLine, token_line, fault_line, end_line, Printed, Reading, nothing_read, condition_at, line_text}
+use Rattle.sc_model.specs.Sets.{IsConfig, IsCanonical}
+use Rattle.sc_model.specs.Space.{Space, arities_of}
+use Rattle.sc_text.specs.Text.{Condition, BodyKind, token_list, Answer, TextLine, token_line, fault_line, end_line, Printed, Reading, nothing_read, condition_at, line_text, project}
 use Rattle.sc_model.specs.Token.{Shown}
 use Rattle.sc_text.proofs.ItemsRead.{tokens_are, faults_are}
 use Rattle.sc_text.proofs.LayoutReading.{tokens_read, faults_read, Holds, HasRead, read-HasRead}
@@ -184,3 +184,20 @@ one_text {kind = token_list} {space} {p} {q} {a} {b} x y answers =
     let same = subst (λ answer. IsSameAnswer space answer y.reads.reading.answer) x.reads.answer_is (subst (λ answer. IsSameAnswer space a answer) y.reads.answer_is answers) in
     let lines = one_lines told told_too x.rules y.rules same in
     x.reads.written ∙ ap (map line_text) lines ∙ sym y.reads.written
+
+hidden_by : {T : Type 0} (b : Bool) (item : T) (items : List T) → (if b then item ∷ items else items) ≡ [] → b ≡ false
+hidden_by true item items e = cc
+hidden_by false item items e = refl
+
+nothing_shown : {T : Type 0} {space : Space} (xs : List (Condition × T)) → All (IsShown space) xs → ((config : List ℕ) → IsConfig (arities_of space) config → project xs config ≡ []) → xs ≡ []
+nothing_shown [] shown none = refl
+nothing_shown {T} {space} (x ∷ xs) shown none =
+    absurd (All-head (IsShown space) x xs shown (record { none = λ config listed. hidden_by (x.0 config) x.1 (project xs config) (none config listed) }))
+
+-- a text whose faults no configuration has is one without faults
+pub no-faults : {kind : BodyKind} {space : Space} {pieces : List (List ℕ)} {answer : Answer kind} → IsTextOf space pieces answer
+    → ((config : List ℕ) → IsConfig (arities_of space) config → project answer.faults config ≡ []) → answer.faults ≡ []
+no-faults {kind = token_list} {space} x none =
+    let told = read-HasRead space x.reads.lines nothing_read x.reads.reading (omega arith) x.reads.read in
+    ap (λ (answer : Answer token_list). answer.faults) x.reads.answer_is
+    ∙ nothing_shown x.reads.reading.answer.faults (text_faults_shown told x.rules) (λ config listed. ap (λ (answer : Answer token_list). project answer.faults config) (sym x.reads.answer_is) ∙ none config listed)

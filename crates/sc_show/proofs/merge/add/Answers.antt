@@ -8,8 +8,8 @@ use Rattle.sc_model.proofs.SetLemmas.{Denotes-self}
 use Rattle.sc_show.specs.Shows.{AreApart}
 use Rattle.sc_text.proofs.FaultOrder.{faults_equal}
 use Rattle.sc_show.proofs.Ordering.{ascending_pushed, ascending_merged, ends_with}
-use Rattle.sc_text.proofs.ListLemmas.{All-front}
-use Rattle.sc_show.proofs.Faults.{All-last, All-one, same_merged}
+use Rattle.sc_text.proofs.ListLemmas.{All-front, All-last, All-one}
+use Rattle.sc_show.proofs.Faults.{same_merged}
 use Rattle.sc_show.proofs.merge.add.Goals as goal
 
 pub apply_or-requires : goal.apply_or-requires

@@ -12,7 +12,8 @@ use Rattle.sc_text.specs.Layout.{IsAscending}
 use Rattle.sc_show.proofs.Ordering.{MayFollow-none, MayFollow-next}
 use Rattle.sc_show.specs.Shows.{IsShowableFault}
 use Rattle.sc_show.proofs.Shows.{no_fault}
-use Rattle.sc_show.proofs.Faults.{All-one, AreApart-permutation, faults_at-permutation, same_more, apart_more}
+use Rattle.sc_text.proofs.ListLemmas.{All-one}
+use Rattle.sc_show.proofs.Faults.{AreApart-permutation, faults_at-permutation, same_more, apart_more}
 use Rattle.sc_show.proofs.merge.merged.Goals as goal
 
 pub loop-fault-init : goal.loop-fault-init

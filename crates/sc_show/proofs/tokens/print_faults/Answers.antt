@@ -28,7 +28,7 @@ print_fault-requires g c =
       file = can.file;
       arities = was.keeps.arities ∙ c.requires.arities;
       names = c.requires.names;
-      plain = c.requires.plain;
+      one_line = c.requires.one_line;
       table = was.lines.table;
     }
 

@@ -34,7 +34,7 @@ print_token-requires g c =
       spelling = subst (λ (text : List ℕ). has_no_newline text ≡ true) (sym (text_at-slice_get c.args.names.now _ c.text-spelling.result.now c.text-spelling.ensures)) can.plain;
       arities = was.keeps.arities ∙ c.requires.arities;
       names = c.requires.names;
-      plain = c.requires.plain;
+      one_line = c.requires.one_line;
       table = was.lines.table;
     }
 

@@ -1,20 +1,18 @@
-use Rattle.std.proofs.Common.{◌≡◌, ◌⊎◌, ◌+◌, ◌<◌, ◌≤◌, ◌==◌, ◌∙◌, ap, sym, refl, subst, length, length-append, rules, arith}
-use Rattle.std.proofs.lemmas.Bool.{true≢false}
+use Rattle.std.proofs.Common.{◌≡◌, ◌+◌, ◌<◌, ◌≤◌, ◌==◌, ◌∙◌, ap, sym, refl, subst, length, length-append, rules, arith}
 use Rattle.indexmap.proofs.CallerLemmas.{Contains-list_any}
 use Rattle.sc_base.specs.declared.id.Cond.{Cond}
-use Rattle.sc_model.specs.Sets.{IsNever, IsAlways}
 use Rattle.sc_model.proofs.SetLemmas.{Keeps-refl, Keeps-trans, DependsFrom-Keeps, IsConfig-kept, le-IsTop, IsTop-Keeps}
 use Rattle.sc_space.specs.Seen.{seen_space, seen_variable}
 use Rattle.sc_show.specs.Rules.{AreFrom, Introduced}
 use Rattle.sc_show.proofs.Children.{HasChildren, HasChildren-none, HasChildren-grows, HasChildren-push}
 use Rattle.sc_show.proofs.Numbers.{same_cond, present, slice_get-position, IsTable-Keeps, pushed, pushed_at}
-use Rattle.sc_show.proofs.Introducing.{AreFrom-none, AreFrom-before, AreFrom-push, AreFrom-trans, AreFrom-absent, Introduced-trans, Introduced-nothing, Introduced-known, Introduced-node, numbered_never, numbered_always, absent_cond}
+use Rattle.sc_show.proofs.Introducing.{AreFrom-none, AreFrom-before, AreFrom-push, AreFrom-trans, AreFrom-absent, Introduced-trans, Introduced-nothing, Introduced-known, Introduced-node, numbered, absent_cond}
 use Rattle.sc_show.proofs.Steps.{variable_within, variable_at, arity_at}
 use Rattle.sc_show.proofs.printer.Printer.+condition_number.Goals as goal
 
 pub part-requires-clause-option : goal.part-requires-clause-option
 part-requires-clause-option g t c =
-    let below = variable_within c.args.space.now _ c.in-Some.variable c.requires.arities c.in-Some.ensures.some.depends.within in
+    let below = variable_within c.args.space.now _ c.in-Some-top.variable c.requires.arities c.in-Some-top.ensures.some.depends.within in
     let arity = arity_at (seen_space c.args.space.now) _ _ (seen_variable c.index-named.result.now) (c.loop-option.invariant.keeps.arities ∙ c.requires.arities) (variable_at c.args.space.now _ _ c.index-named.ensures below) in
     omega (arith, arity)
 
@@ -23,8 +21,8 @@ returns-in_err-part-clause-keeps g t c = Keeps-trans c.loop-option.invariant.kee
 
 pub condition_number-requires : goal.condition_number-requires
 condition_number-requires g t c κs within =
-    let ahead : c.args.from ≤ c.in-Some.variable = le-IsTop c.in-Some.ensures.some c.requires.from in
-    let below = variable_within c.args.space.now _ c.in-Some.variable c.requires.arities c.in-Some.ensures.some.depends.within in
+    let ahead : c.args.from ≤ c.in-Some-top.variable = le-IsTop c.in-Some-top.ensures.some c.requires.from in
+    let below = variable_within c.args.space.now _ c.in-Some-top.variable c.requires.arities c.in-Some-top.ensures.some.depends.within in
     let arities = c.part.ensures.keeps.arities ∙ c.loop-option.invariant.keeps.arities ∙ c.requires.arities in
     let table = IsTable-Keeps c.part.ensures.keeps c.loop-option.invariant.lines.table in (
       search rules,
@@ -40,7 +38,7 @@ returns-in_err-push-clause-keeps g t c = Keeps-trans c.loop-option.invariant.kee
 pub loop-option-init : goal.loop-option-init
 loop-option-init g t c = record {
   own = c.requires.own;
-  later = c.in-Some.ensures.some.first;
+  later = c.in-Some-top.ensures.some.first;
   keeps = Keeps-refl _;
   lines = subst (Introduced (seen_space c.args.space.now) _ _ c.args.self.now c.args.self.now) (sym c.new-children.ensures.items) (Introduced-nothing (Keeps-refl _) c.requires.table);
   from = AreFrom-none;
@@ -76,24 +74,16 @@ loop-option-preserved g t c =
       count = longer ∙ ap (λ n. n + 1) was.count;
     }
 
+-- never and always have numbers from the start
+pub unreachable-requires : goal.unreachable-requires
+unreachable-requires g t c =
+    absent_cond c.args.self.now.conditions.keys c.args.cond c.in_default.ensures.found
+    (numbered c.args.cond c.canonical.ensures c.requires.table c.requires.own (c.in_default-top.ensures.none.0 (search rules)))
+
 -- a condition that has a number prints nothing
-pub returns-then-is_never : goal.returns-then-is_never
-returns-then-is_never g t c =
-    let never : IsNever (g.C.Conditions.sets c.args.conds.now) c.args.cond.0 = c.is_never.ensures.0 (search rules) in
-    let number = numbered_never c.args.cond c.canonical.ensures c.requires.table c.requires.own never in
-    record { number = number; lines = Introduced-known c.args.cond 0 c.requires.table number; later = AreFrom-none; keeps = Keeps-refl _ }
-
-pub returns-else-is_never : goal.returns-else-is_never
-returns-else-is_never g t c =
-    let sets = g.C.Conditions.sets c.args.conds.now in
-    let some : IsNever sets c.args.cond.0 → ⊥ = λ never. absurd (true≢false (sym (c.is_never.ensures.1 never) ∙ c.if-is_never.false)) in
-    let either : IsNever sets c.args.cond.0 ⊎ IsAlways sets c.args.cond.0 = c.in_default.ensures.none.0 (search rules) in
-    let number = numbered_always c.args.cond c.canonical.ensures c.requires.table c.requires.own some either in
-    record { number = number; lines = Introduced-known c.args.cond 1 c.requires.table number; later = AreFrom-none; keeps = Keeps-refl _ }
-
-pub returns-in-Some-get_index_of : goal.returns-in-Some-get_index_of
-returns-in-Some-get_index_of g t c =
-    let number = slice_get-position _ _ _ c.in-Some-get_index_of.ensures.index in
+pub returns-in-Some : goal.returns-in-Some
+returns-in-Some g t c =
+    let number = slice_get-position _ _ _ c.in-Some.ensures.index in
     record { number = number; lines = Introduced-known c.args.cond _ c.requires.table number; later = AreFrom-none; keeps = Keeps-refl _ }
 
 pub returns-then-not-is_new : goal.returns-then-not-is_new
@@ -101,17 +91,17 @@ returns-then-not-is_new g t c =
     let was = c.loop-option.invariant in
     let has = Contains-list_any (λ (a b : Cond). a.0 == b.0) same_cond c.loop-option.self.conditions.keys c.args.cond
     (present (λ (a b : Cond). a.0 == b.0) c.args.cond c.loop-option.self.conditions.keys c.insert_full.new.self.keys c.in_ok-number.number (sym c.if-not-is_new.true ∙ c.in_ok-number.ensures.added)) in
-    absurd (AreFrom-absent c.args.cond was.lines.grows was.from (IsTop-Keeps was.keeps c.requires.own c.in-Some.ensures.some)
-    (absent_cond c.args.self.now.conditions.keys c.args.cond c.in_default-get_index_of.ensures.found) has)
+    absurd (AreFrom-absent c.args.cond was.lines.grows was.from (IsTop-Keeps was.keeps c.requires.own c.in-Some-top.ensures.some)
+    (absent_cond c.args.self.now.conditions.keys c.args.cond c.in_default.ensures.found) has)
 
 pub returns-clause-lines : goal.returns-clause-lines
 returns-clause-lines g t c =
     let was = c.loop-option.invariant in
-    let below = variable_within c.args.space.now _ c.in-Some.variable c.requires.arities c.in-Some.ensures.some.depends.within in
+    let below = variable_within c.args.space.now _ c.in-Some-top.variable c.requires.arities c.in-Some-top.ensures.some.depends.within in
     let arities = was.keeps.arities ∙ c.requires.arities in
-    let placed = subst (λ ns. c.in-Some.variable < length ns) (sym was.keeps.arities) c.in-Some.ensures.some.depends.within in
+    let placed = subst (λ ns. c.in-Some-top.variable < length ns) (sym was.keeps.arities) c.in-Some-top.ensures.some.depends.within in
     let fresh = sym c.if-not-is_new.false ∙ c.in_ok-number.ensures.added in
-    Introduced-node c.args.cond (seen_variable c.index-named.result.now) c.in-Some.variable c.in_ok-number.number c.deref.result.now c.requires.names arities
+    Introduced-node c.args.cond (seen_variable c.index-named.result.now) c.in-Some-top.variable c.in_ok-number.number c.deref.result.now c.requires.names arities
     (variable_at c.args.space.now _ _ c.index-named.ensures below) placed was.own was.lines was.children (omega arith)
     (pushed_at (λ (a b : Cond). a.0 == b.0) _ _ c.insert_full.new.self.keys _ fresh c.in_ok-number.ensures.index) (pushed (λ (a b : Cond). a.0 == b.0) _ _ _ c.in_ok-number.number fresh c.in_ok-number.ensures.keys)
     refl c.deref.ensures.value c.in_ok-write_condition.ensures
@@ -120,7 +110,7 @@ pub returns-clause-later : goal.returns-clause-later
 returns-clause-later g t c =
     let was = c.loop-option.invariant in
     let fresh = sym c.if-not-is_new.false ∙ c.in_ok-number.ensures.added in
-    let ahead : c.args.from ≤ c.in-Some.variable = le-IsTop c.in-Some.ensures.some c.requires.from in
+    let ahead : c.args.from ≤ c.in-Some-top.variable = le-IsTop c.in-Some-top.ensures.some c.requires.from in
     subst (λ ks. AreFrom (g.C.Conditions.sets c.loop-option.conds) c.args.self.now.conditions.keys ks c.args.from)
     (sym (pushed (λ (a b : Cond). a.0 == b.0) _ _ _ c.in_ok-number.number fresh c.in_ok-number.ensures.keys))
     (AreFrom-push c.args.cond (DependsFrom-Keeps was.keeps c.requires.own c.requires.from) (AreFrom-before (omega arith) was.from))
