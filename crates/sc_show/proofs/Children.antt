@@ -19,7 +19,8 @@ use Rattle.sc_show.specs.Prints.{HasWordNames, choices_of}
 use Rattle.sc_show.specs.Rules.{tests_of}
 use Rattle.sc_show.proofs.Reading.{variable_from-found}
 
--- the condition of this number is what remains of another for an option of a variable, and depends on later variables alone
+-- the condition of this number is what remains of another for an option of a variable, and depends
+-- on later variables alone
 pub record IsChild (s : Sets) (conditions : List Cond) (a : Cond) (variable option number : ℕ) : Type 0 where
   pub child : Cond
   pub found : slice_get conditions number ≡ Some child

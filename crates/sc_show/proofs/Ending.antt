@@ -75,7 +75,8 @@ names_differ fs files apart differ held = record { same = λ i j name at at_too.
         let same : g ≡ f = ap (λ (n : ℕ). let x : FileId = record { 0 = n } in x) (sym one) in
         differ.same i j f at (at_too ∙ ap Some same)
 
--- What was laid out from an empty printer, with the last line. The list and the merged faults could be shown in earlier stores.
+-- What was laid out from an empty printer, with the last line. The list and the merged faults could
+-- be shown in earlier stores.
 pub Shows-end : {space : Space} {old made merging s : Sets} {texts files : List (List ℕ)} {p q : Printer} (list : List (Cond × Token)) (faults merged : List base.Fault) (text : List ℕ)
     → s.arities ≡ arities_of space → IsOneToOne files → All (IsShowable made texts files) list → All (IsShowableFault merging files) merged → IsCanonical s → AreMerged s files faults merged
     → length p.conditions.keys ≡ 2 → p.files.keys ≡ [] → Prints space old files p [] → LaidOut space old s files p q (map (list_item texts) list ++ map fault_item merged)

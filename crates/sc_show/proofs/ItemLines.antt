@@ -49,7 +49,8 @@ parts_of (item ∷ items) (line_of it number file more lines some numbered filed
 pub record IsFileOf (names : List FileId) (files : List (List ℕ)) (number : ℕ) : Type 0 where
   pub each : (id : FileId) → slice_get names number ≡ Some id → id.0 < length files
 
--- A list whose elements are shown as items: the line of each reads as what it shows, under the set of its condition's number.
+-- A list whose elements are shown as items: the line of each reads as what it shows, under the set
+-- of its condition's number.
 module _ {X T : Type 0} (s : Sets) (ks : List Cond) (fs : List FileId) (tests : List Condition) (item : X → Item) (what : X → T) (read : List TextLine → List (Condition × T)) (none_read : read [] ≡ [])
     (one_read : (x : X) (number file : ℕ) (lines : List TextLine) → slice_get fs file ≡ Some (item x).file → read ((item x).line number file ∷ lines) ≡ (condition_at tests number, what x) ∷ read lines) where
   pub read-AreAlike : {space : Space} (xs : List X) (lines : List TextLine) → s.arities ≡ arities_of space → Agrees s ks tests → AreLinesOf s ks fs (map item xs) lines

@@ -44,7 +44,8 @@ pub record Agrees (s : Sets) (conditions : List Cond) (tests : List Condition) :
   pub long : length tests ≡ length conditions
   pub each : (n : ℕ) (cond : Cond) → slice_get conditions n ≡ Some cond → (c : List ℕ) → IsConfig s.arities c → condition_at tests n c ≡ s.has cond.0 c
 
--- These lines are the text so far, and read from the first to the last they give the conditions and the files their numbers.
+-- These lines are the text so far, and read from the first to the last they give the conditions and
+-- the files their numbers.
 pub record Prints (space : Space) (s : Sets) (files : List (List ℕ)) (printer : Printer) (lines : List TextLine) : Type 0 where
   pub clear : list_all is_clear lines ≡ true
   pub written : printer.text.items ≡ concat (map line_text lines)

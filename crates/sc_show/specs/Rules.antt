@@ -1,7 +1,7 @@
 -- What a printer adds to its text, and the lines of the items that it prints.
 --
--- Conditions of a store with the same configurations are one, so a condition goes by its id. Its number in the text is its
--- place in the list of those that have a number, and likewise for files.
+-- Conditions of a store with the same configurations are one, so a condition goes by its id. Its
+-- number in the text is its place in the list of those that have a number, and likewise for files.
 use Rattle.std.specs.Prelude.{◌≡◌, ℕ, ◌<◌, ◌≤◌, List, [], ◌∷◌, ◌++◌, length, map, All, Some, slice_get}
 use Rattle.sc_base.specs.declared.fault.Fault as base
 use Rattle.sc_base.specs.declared.id.Cond.{Cond}
@@ -22,7 +22,8 @@ use Rattle.sc_show.specs.Prints.{IsTable, Prints, printed_place}
 abbrev pub tests_of : Sets → List Cond → List Condition
 tests_of s conditions = map (λ (a : Cond). s.has a.0) conditions
 
--- what a line says under a condition at a place of a file: the line, once the condition and the file have numbers
+-- what a line says under a condition at a place of a file: the line, once the condition and the
+-- file have numbers
 pub record Item : Type 0 where
   pub cond : Cond
   pub file : FileId
@@ -37,7 +38,8 @@ list_item names item = token_item item.0 item.1.place (text_at names item.1.spel
 abbrev pub fault_item : base.Fault → Item
 fault_item f = record { cond = f.cond; file = f.place.file; line = λ number file. fault_line number f.cause (printed_place file f.place) }
 
--- the lines of items by the numbers of their conditions and files, none for one that no configuration has
+-- the lines of items by the numbers of their conditions and files, none for one that no
+-- configuration has
 pub data AreLinesOf (s : Sets) (conditions : List Cond) (files : List FileId) : List Item → List TextLine → Type 0 where
   no_line : AreLinesOf s conditions files [] []
   without_line : (item : Item) (items : List Item) (lines : List TextLine) → IsNever s item.cond.0 → AreLinesOf s conditions files items lines
@@ -53,7 +55,8 @@ counts_of printer = record { conditions = length printer.conditions.keys; files 
 pub record AreFrom (s : Sets) (old new : List Cond) (from : ℕ) : Type 0 where
   pub each : (n : ℕ) (a : Cond) → length old ≤ n → slice_get new n ≡ Some a → DependsFrom s a.0 from
 
--- conditions got these numbers, after the lines that they need, which keep their order as the store and the numbers grow
+-- conditions got these numbers, after the lines that they need, which keep their order as the store
+-- and the numbers grow
 pub record Introduced (space : Space) (old new : Sets) (p q : Printer) (numbers : List ℕ) : Type 0 where
   pub lines : List TextLine
   pub introduces : Introduces (counts_of p) (map condition_numbered numbers) lines (counts_of q)
@@ -72,7 +75,8 @@ pub record IntroducedFile (files : List (List ℕ)) (p q : Printer) (number : �
   pub same_conditions : q.conditions.keys ≡ p.conditions.keys
   pub prints : (space : Space) (s : Sets) (before : List TextLine) → Prints space s files p before → Prints space s files q (before ++ lines)
 
--- the items were printed, each after the lines that it needs; the lines say the same as the store and the numbers grow
+-- the items were printed, each after the lines that it needs; the lines say the same as the store
+-- and the numbers grow
 pub record LaidOut (space : Space) (old new : Sets) (files : List (List ℕ)) (p q : Printer) (items : List Item) : Type 0 where
   pub lines : List TextLine
   pub shown : List TextLine
@@ -84,8 +88,8 @@ pub record LaidOut (space : Space) (old new : Sets) (files : List (List ℕ)) (p
   pub files_grow : Extends p.files.keys q.files.keys
   pub prints : (before : List TextLine) → Prints space old files p before → Prints space new files q (before ++ lines)
 
--- The faults as they are printed: ordered by the bytes of the name of the file, line, column and code, one for each pair of
--- cause and place, so that its condition is the whole set.
+-- The faults as they are printed: ordered by the bytes of the name of the file, line, column and
+-- code, one for each pair of cause and place, so that its condition is the whole set.
 pub record AreMerged (s : Sets) (files : List (List ℕ)) (faults merged : List base.Fault) : Type 0 where
   pub ascending : IsAscending (map (seen_fault files) merged)
   pub same : (c : List ℕ) → IsConfig s.arities c → map (seen_fault files) (faults_at s merged c) ≡ map (seen_fault files) (faults_at s faults c)

@@ -14,7 +14,8 @@ use Rattle.sc_model.specs.Bytes.{has_no_newline}
 use Rattle.sc_model.specs.Token.{Shown, shown}
 use Rattle.sc_show.specs.Pieces.{split_lines_after}
 
--- an item that can be shown: its condition was made, its token is held, and its spelling and file are of one line
+-- an item that can be shown: its condition was made, its token is held, and its spelling and file
+-- are of one line
 pub record IsShowable (s : Sets) (names files : List (List ℕ)) (item : Cond × Token) : Type 0 where
   pub own : IsCond s item.0.0
   pub held : IsHeld names item.1
@@ -33,7 +34,8 @@ pub record AreApart (s : Sets) (faults : List base.Fault) : Type 0 where
 abbrev pub shown_items : Sets → List (List ℕ) → List (List ℕ) → List (Cond × Token) → List (Condition × Shown)
 shown_items s names files list = map (λ item. (s.has item.0.0, shown (seen names files item.1))) list
 
--- The text is that of an answer with the tokens of the list under their conditions and, at each configuration, its fault.
+-- The text is that of an answer with the tokens of the list under their conditions and, at each
+-- configuration, its fault.
 pub record Shows (space : Space) (s : Sets) (names files : List (List ℕ)) (list : List (Cond × Token)) (faults : List base.Fault) (text : List ℕ) : Type 0 where
   pub pieces : List (List ℕ)
   pub answer : Answer token_list

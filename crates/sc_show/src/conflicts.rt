@@ -41,7 +41,8 @@ fn write_conflict(text: &mut Vec<u8>, conflict: &Conflict) -> Result<(), OutOfMe
     Ok(())
 }
 
-/// The conflicts of tables, a line for each in their order, as a state, a terminal, what was kept and what was lost.
+/// The conflicts of tables, a line for each in their order, as a state, a terminal, what was kept
+/// and what was lost.
 pub fn show_conflicts(alloc: Global, tables: &Tables) -> Result<Vec<u8>, OutOfMemory>
     requires { All IsNamed (conflicts_of tables.now) }
     ensures text { IfOk result (λ text. text.items ≡ concat (conflict_pieces (conflicts_of tables.now))) }

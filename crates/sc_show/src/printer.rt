@@ -47,7 +47,8 @@ impl Printer {
         })
     }
 
-    /// The number of a condition that depends on no variable before `from`, after the lines that it needs.
+    /// The number of a condition that depends on no variable before `from`, after the lines that it
+    /// needs.
     fn condition_number<C: Conditions>(
         &mut self,
         conds: &mut C,

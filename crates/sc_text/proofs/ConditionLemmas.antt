@@ -1,4 +1,4 @@
--- Conditions by their numbersand the options of one.
+-- Conditions by their numbers, and the options of one.
 use Rattle.std.proofs.Common.{◌≡◌, ℕ, zero, suc, ◌<◌, ◌≤◌, ◌&&◌, nat_lt, true, List, [], ◌∷◌, ◌++◌, length, map, slice_index, refl, sym, ap, arith}
 use Rattle.std.proofs.lemmas.Bool.{ltb-true, true≢false, and_parts}
 use Rattle.sc_model.proofs.ByteLemmas.{same_bytes-true}
@@ -23,7 +23,8 @@ are_options-cons {id} text texts option options fits =
     let first = and_parts (same_bytes option.0 text) (nat_lt option.1 id) parts.0 in
     (same_bytes-true option.0 text first.0, ltb-true option.1 id first.1, parts.1)
 
--- an option has the number of a condition before this one; past the options stands that of the first
+-- an option has the number of a condition before this one; past the options stands that of the
+-- first
 option_below : {n id : ℕ} (texts : List (List ℕ)) (options : List (List ℕ × ℕ)) (k : ℕ) → 0 < n → id ≤ n → are_options id texts options ≡ true
     → slice_index (map (λ option. option.1) options) k < n
 option_below texts [] k begun below fits = begun

@@ -10,7 +10,8 @@ use Rattle.sc_model.specs.Space.{Space, arities_of}
 use Rattle.sc_text.specs.Text.{Condition, condition_at}
 use Rattle.sc_model.proofs.SetLemmas.{IsConfig-set, has-DependsFrom, DependsFrom-same}
 
--- each option of the variable has a condition of a smaller number, which depends on later variables alone
+-- each option of the variable has a condition of a smaller number, which depends on later variables
+-- alone
 pub record IsExpansion (s : Sets) (a v : ℕ) (parts : List ℕ) : Type 0 where
   pub own : IsCond s a
   pub within : v < length s.arities

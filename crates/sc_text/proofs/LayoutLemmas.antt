@@ -1,4 +1,5 @@
--- Laid-out lines: one list after another, what each file's number stands in, and what the order of the nodes rests on.
+-- Laid-out lines: one list after another, what each file's number stands in, and what the order of
+-- the nodes rests on.
 use Rattle.std.proofs.Common.{◌≡◌, ℕ, ◌<◌, ◌≤◌, inl, inr, List, [], ◌∷◌, ◌++◌, All, refl, sym, subst, arith, append_assoc}
 use Rattle.std.proofs.lemmas.Bool.{cases_lt}
 use Rattle.std.proofs.lemmas.List.Elements.{All-nil, All-map, All-head, All-tail}

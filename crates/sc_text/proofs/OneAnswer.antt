@@ -1,4 +1,5 @@
--- Items in order, none of them without a configuration, are told by what each configuration has of them.
+-- Items in order, none of them without a configuration, are told by what each configuration has of
+-- them.
 use Rattle.std.proofs.Common.{◌≡◌, ℕ, Bool, true, false, List, [], ◌∷◌, map, All, refl, sym, ap, ◌∙◌, if◌then◌else◌}
 use Rattle.std.proofs.lemmas.Cmp.{tied_itself}
 use Rattle.std.proofs.lemmas.List.Elements.{All-nil, All-head, All-tail}

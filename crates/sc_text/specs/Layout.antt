@@ -1,7 +1,8 @@
 -- The rules of a text: which lines it has, and in which order.
 --
--- A condition is printed as its reduced ordered decision diagram (Bryant): conditions with the same configurations have one
--- number, and what remains of one for an option of its variable depends on later variables alone.
+-- A condition is printed as its reduced ordered decision diagram (Bryant): conditions with the same
+-- configurations have one number, and what remains of one for an option of its variable depends on
+-- later variables alone.
 use Rattle.std.specs.Prelude.{◌≡◌, ℕ, ◌+◌, ◌<◌, nat_lt, Bool, true, false, List, [], ◌∷◌, ◌++◌, length, map, All, Some, slice_get}
 use Rattle.std.specs.Cmp.Lexicographic.{slice_cmp}
 use Rattle.std.specs.List.{list_all}
@@ -43,14 +44,15 @@ abbrev pub IsKnown : Counts → Need → Type 0
 IsKnown counts (condition_numbered number) = number < counts.conditions
 IsKnown counts (file_numbered number) = number < counts.files
 
--- The line is the one that is needed: it gives the next number. The last counts are those afterwards.
+-- The line is the one that is needed: it gives the next number. The last counts are those
+-- afterwards.
 pub data Gives : Counts → TextLine → Need → Counts → Type 0 where
   next_condition : (counts : Counts) (variable : List ℕ) (options : List (List ℕ × ℕ))
       → Gives counts (condition_line counts.conditions variable options) (condition_numbered counts.conditions) (record { conditions = counts.conditions + 1; files = counts.files })
   next_file : (counts : Counts) (name : List ℕ) → Gives counts (file_line counts.files name) (file_numbered counts.files) (record { conditions = counts.conditions; files = counts.files + 1 })
 
--- The lines before a line that needs these: none for one that stands already, else those that it needs itself, in their order,
--- and then its own.
+-- The lines before a line that needs these: none for one that stands already, else those that it
+-- needs itself, in their order, and then its own.
 pub data Introduces : Counts → List Need → List TextLine → Counts → Type 0 where
   nothing : (counts : Counts) → Introduces counts [] [] counts
   known : (counts now : Counts) (need : Need) (others : List Need) (lines : List TextLine) → IsKnown counts need → Introduces counts others lines now → Introduces counts (need ∷ others) lines now
@@ -124,7 +126,8 @@ pub record IsTextOf {kind : BodyKind} (space : Space) (pieces : List (List ℕ))
 
 -- ---- what has one text
 
--- Conditions are compared at all well-formed configurations, as their diagrams have a branch for each of them.
+-- Conditions are compared at all well-formed configurations, as their diagrams have a branch for
+-- each of them.
 
 -- both have the same configurations
 pub record AreSame (space : Space) (f g : Condition) : Type 0 where

@@ -40,7 +40,8 @@ BodyAt token_list = List Shown
 abbrev pub body_at : (kind : BodyKind) → Body kind → List ℕ → BodyAt kind
 body_at token_list items config = project items config
 
--- What the answer is at one configuration: its body there, where it has no fault, or the one fault that it has.
+-- What the answer is at one configuration: its body there, where it has no fault, or the one fault
+-- that it has.
 pub data At {kind : BodyKind} (answer : Answer kind) (config : List ℕ) : Result (BodyAt kind) Fault → Type 0 where
   accepted : project answer.faults config ≡ [] → At answer config (Ok (body_at kind answer.body config))
   refused : (fault : Fault) → project answer.faults config ≡ fault ∷ [] → At answer config (Err fault)
@@ -51,7 +52,8 @@ pub record Printed : Type 0 where
   pub position : Position
 
 pub data TextLine : Type 0 where
-  -- a node of a decision diagram: its number, its variable, and for each option its text and the number of what remains
+  -- a node of a decision diagram: its number, its variable, and for each option its text and the
+  -- number of what remains
   condition_line : (id : ℕ) (variable : List ℕ) (options : List (List ℕ × ℕ)) → TextLine
   file_line : (id : ℕ) (name : List ℕ) → TextLine
   token_line : (condition : ℕ) (place : Printed) (spelling : List ℕ) → TextLine

@@ -11,7 +11,8 @@ pub fn text_has_one_answer()
     ensures { (kind : BodyKind) (space : Space) (p q : List (List ℕ)) (a b : Answer kind) → concat p ≡ concat q → Reads space p a → Reads space q b → a ≡ b }
 {}
 
-/// A result has one text: two texts that keep the rules and read as the same tokens and faults are one.
+/// A result has one text: two texts that keep the rules and read as the same tokens and faults are
+/// one.
 pub fn result_has_one_text()
     ensures { (kind : BodyKind) (space : Space) (p q : List (List ℕ)) (a b : Answer kind) → IsTextOf space p a → IsTextOf space q b → IsSameAnswer space a b → p ≡ q }
 {}
