@@ -1,5 +1,5 @@
 use Rattle.std.proofs.Common.{◌++◌, ap, ◌∙◌, arith, take, take_all, ◌≡◌}
-use Rattle.sc_show.proofs.Choices.{choices_text-nil, choices_text-take, joined}
+use Rattle.sc_show.proofs.LinesChoices.{choices_text-nil, choices_text-take, joined}
 use Rattle.sc_show.proofs.lines.write_condition.Goals as goal
 
 pub loop-index-init : goal.loop-index-init

@@ -7,9 +7,9 @@ use Rattle.sc_model.specs.Sets.{IsCond}
 use Rattle.sc_model.proofs.SetLemmas.{Denotes-self}
 use Rattle.sc_show.specs.Shows.{AreApart}
 use Rattle.sc_text.proofs.FaultOrder.{faults_equal}
-use Rattle.sc_show.proofs.Ordering.{ascending_pushed, ascending_merged, ends_with}
+use Rattle.sc_show.proofs.MergeOrdering.{ascending_pushed, ascending_merged, ends_with}
 use Rattle.sc_text.proofs.ListLemmas.{All-front, All-last, All-one}
-use Rattle.sc_show.proofs.Faults.{same_merged}
+use Rattle.sc_show.proofs.MergeFaults.{same_merged}
 use Rattle.sc_show.proofs.merge.add.Goals as goal
 
 pub apply_or-requires : goal.apply_or-requires

@@ -4,7 +4,7 @@ use Rattle.std.proofs.lemmas.List.Sorted.{IsPermutation-map, All-permutation, an
 use Rattle.sc_base.specs.declared.fault.Fault.{Fault}
 use Rattle.sc_guarded.specs.Items.{seen_fault}
 use Rattle.sc_show.specs.Order.{IsKeyOf, IsInOrder}
-use Rattle.sc_show.proofs.Ordering.{Key, in_order_from_sort, keyed_faults, keyed_keys}
+use Rattle.sc_show.proofs.MergeOrdering.{Key, in_order_from_sort, keyed_faults, keyed_keys}
 use Rattle.sc_show.proofs.merge.sorted.Goals as goal
 
 pub returns : goal.returns

@@ -2,7 +2,7 @@ use Rattle.std.proofs.Common.{◌≡◌, All, map, take}
 use Rattle.sc_guarded.specs.Items.{seen_fault}
 use Rattle.sc_base.specs.declared.fault.Fault.{Fault}
 use Rattle.sc_show.specs.Order.{IsKeyOf}
-use Rattle.sc_show.proofs.Ordering.{Key}
+use Rattle.sc_show.proofs.MergeOrdering.{Key}
 use Rattle.sc_show.proofs.merge.sorted.Given as goal
 
 abbrev pub invariant-loop-fault : goal.invariant-loop-fault

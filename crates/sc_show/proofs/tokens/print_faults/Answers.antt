@@ -3,8 +3,8 @@ use Rattle.std.proofs.lemmas.Option.{slice_get-get_or}
 use Rattle.sc_model.proofs.SetLemmas.{Keeps-refl, Keeps-trans}
 use Rattle.sc_space.specs.Seen.{seen_space}
 use Rattle.sc_show.specs.Rules.{fault_item, LaidOut}
-use Rattle.sc_show.proofs.Laying.{LaidOut-nothing, LaidOut-more}
-use Rattle.sc_show.proofs.Shows.{no_fault}
+use Rattle.sc_show.proofs.PrinterLaying.{LaidOut-nothing, LaidOut-more}
+use Rattle.sc_show.proofs.TokensShows.{no_fault}
 use Rattle.sc_show.proofs.tokens.print_faults.Goals as goal
 
 pub loop-fault-init : goal.loop-fault-init

@@ -3,8 +3,8 @@ use Rattle.sc_model.specs.Bytes.{has_no_newline}
 use Rattle.sc_model.proofs.SetLemmas.{Keeps-refl, Keeps-trans}
 use Rattle.sc_space.specs.Seen.{seen_space}
 use Rattle.sc_show.specs.Rules.{list_item, token_item, LaidOut}
-use Rattle.sc_show.proofs.Laying.{LaidOut-nothing, LaidOut-more}
-use Rattle.sc_show.proofs.Shows.{showable_at, text_at-slice_get}
+use Rattle.sc_show.proofs.PrinterLaying.{LaidOut-nothing, LaidOut-more}
+use Rattle.sc_show.proofs.TokensShows.{showable_at, text_at-slice_get}
 use Rattle.sc_show.proofs.tokens.print_list.Goals as goal
 
 pub loop-index-init : goal.loop-index-init

@@ -6,9 +6,9 @@ use Rattle.sc_model.proofs.SetLemmas.{Keeps-trans, IsConfig-kept}
 use Rattle.sc_space.specs.Seen.{seen_space}
 use Rattle.sc_show.specs.Rules.{list_item, fault_item, LaidOut}
 use Rattle.sc_show.specs.Shows.{IsShowableFault}
-use Rattle.sc_show.proofs.Ending.{Shows-end}
-use Rattle.sc_show.proofs.Laying.{LaidOut-trans}
-use Rattle.sc_show.proofs.Shows.{IsShowable-Keeps, IsShowableFault-Keeps}
+use Rattle.sc_show.proofs.TokensEnding.{Shows-end}
+use Rattle.sc_show.proofs.PrinterLaying.{LaidOut-trans}
+use Rattle.sc_show.proofs.TokensShows.{IsShowable-Keeps, IsShowableFault-Keeps}
 use Rattle.sc_show.proofs.tokens.show_tokens.Goals as goal
 
 pub print_list-requires-clause-list : goal.print_list-requires-clause-list

@@ -4,10 +4,10 @@ use Rattle.sc_base.specs.declared.id.Cond.{Cond}
 use Rattle.sc_model.proofs.SetLemmas.{Keeps-refl, Keeps-trans, DependsFrom-Keeps, IsConfig-kept, le-IsTop, IsTop-Keeps}
 use Rattle.sc_space.specs.Seen.{seen_space, seen_variable}
 use Rattle.sc_show.specs.Rules.{AreFrom, Introduced}
-use Rattle.sc_show.proofs.Children.{HasChildren, HasChildren-none, HasChildren-grows, HasChildren-push}
-use Rattle.sc_show.proofs.Numbers.{same_cond, present, slice_get-position, IsTable-Keeps, pushed, pushed_at}
-use Rattle.sc_show.proofs.Introducing.{AreFrom-none, AreFrom-before, AreFrom-push, AreFrom-trans, AreFrom-absent, Introduced-trans, Introduced-nothing, Introduced-known, Introduced-node, numbered, absent_cond}
-use Rattle.sc_show.proofs.Steps.{variable_within, variable_at, arity_at}
+use Rattle.sc_show.proofs.PrinterChildren.{HasChildren, HasChildren-none, HasChildren-grows, HasChildren-push}
+use Rattle.sc_show.proofs.PrinterNumbers.{same_cond, present, slice_get-position, IsTable-Keeps, pushed, pushed_at}
+use Rattle.sc_show.proofs.PrinterIntroducing.{AreFrom-none, AreFrom-before, AreFrom-push, AreFrom-trans, AreFrom-absent, Introduced-trans, Introduced-nothing, Introduced-known, Introduced-node, numbered, absent_cond}
+use Rattle.sc_show.proofs.PrinterSteps.{variable_within, variable_at, arity_at}
 use Rattle.sc_show.proofs.printer.Printer.+condition_number.Goals as goal
 
 pub part-requires-clause-option : goal.part-requires-clause-option

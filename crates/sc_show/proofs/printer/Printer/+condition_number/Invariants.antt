@@ -2,7 +2,7 @@ use Rattle.std.proofs.Common.{◌≡◌, ◌+◌, ◌-◌, length}
 use Rattle.sc_model.specs.Sets.{IsCond, Keeps, DependsFrom}
 use Rattle.sc_space.specs.Seen.{seen_space}
 use Rattle.sc_show.specs.Rules.{AreFrom, Introduced}
-use Rattle.sc_show.proofs.Children.{HasChildren}
+use Rattle.sc_show.proofs.PrinterChildren.{HasChildren}
 use Rattle.sc_show.proofs.printer.Printer.+condition_number.Given as goal
 
 abbrev pub decreases-condition_number : goal.decreases-condition_number

@@ -1,7 +1,7 @@
 use Rattle.std.proofs.Common.{◌==◌, sym, ◌∙◌, refl}
 use Rattle.sc_base.specs.declared.id.FileId.{FileId}
-use Rattle.sc_show.proofs.Numbers.{pushed, pushed_at, stays}
-use Rattle.sc_show.proofs.Introducing.{IntroducedFile-new, IntroducedFile-known}
+use Rattle.sc_show.proofs.PrinterNumbers.{pushed, pushed_at, stays}
+use Rattle.sc_show.proofs.PrinterIntroducing.{IntroducedFile-new, IntroducedFile-known}
 use Rattle.sc_show.proofs.printer.Printer.file_number.Goals as goal
 
 pub returns-clause-lines : goal.returns-clause-lines

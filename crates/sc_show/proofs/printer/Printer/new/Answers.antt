@@ -1,7 +1,7 @@
 use Rattle.std.proofs.Common.{◌==◌, ap, ◌∙◌, length}
 use Rattle.indexmap.specs.IndexSet.{insert_key}
 use Rattle.sc_base.specs.declared.id.Cond.{Cond}
-use Rattle.sc_show.proofs.Steps.{IsTable-first, Prints-nothing, never_always, two_keys}
+use Rattle.sc_show.proofs.PrinterSteps.{IsTable-first, Prints-nothing, never_always, two_keys}
 use Rattle.sc_show.proofs.printer.Printer.new.Goals as goal
 
 pub returns : goal.returns

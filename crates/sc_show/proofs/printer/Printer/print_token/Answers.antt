@@ -1,7 +1,7 @@
 use Rattle.std.proofs.Common.{refl}
 use Rattle.sc_show.specs.Rules.{token_item}
-use Rattle.sc_show.proofs.Laying.{LaidOut-one, LaidOut-never, not_zero, numbered_still}
-use Rattle.sc_show.proofs.Steps.{Prints-token}
+use Rattle.sc_show.proofs.PrinterLaying.{LaidOut-one, LaidOut-never, not_zero, numbered_still}
+use Rattle.sc_show.proofs.PrinterSteps.{Prints-token}
 use Rattle.sc_show.proofs.printer.Printer.print_token.Goals as goal
 
 pub returns-clause-lines : goal.returns-clause-lines

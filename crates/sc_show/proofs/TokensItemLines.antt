@@ -20,7 +20,7 @@ use Rattle.sc_text.proofs.LayoutLemmas.{OfFiles}
 use Rattle.sc_text.proofs.LayoutReading.{tokens_read, faults_read}
 use Rattle.sc_show.specs.Prints.{Agrees}
 use Rattle.sc_show.specs.Rules.{Item, list_item, fault_item, AreLinesOf, no_line, without_line, line_of}
-use Rattle.sc_show.proofs.Choices.{both}
+use Rattle.sc_show.proofs.LinesChoices.{both}
 
 -- the lines of the items of two lists
 pub record Parts (s : Sets) (conditions : List Cond) (names : List FileId) (items others : List Item) (lines : List TextLine) : Type 0 where

@@ -18,8 +18,8 @@ use Rattle.sc_show.specs.declared.printer.Printer.{Printer}
 use Rattle.sc_show.specs.Prints.{IsTable, Prints}
 use Rattle.sc_show.specs.Rules.{Introduced, IntroducedFile, Item, AreLinesOf, no_line, without_line, line_of, LaidOut, counts_of, tests_of}
 use Rattle.sc_text.proofs.ListLemmas.{All-one}
-use Rattle.sc_show.proofs.Introducing.{Introduces-append}
-use Rattle.sc_show.proofs.Numbers.{owned_at}
+use Rattle.sc_show.proofs.PrinterIntroducing.{Introduces-append}
+use Rattle.sc_show.proofs.PrinterNumbers.{owned_at}
 
 AreLinesOf-append : {s : Sets} {ks : List Cond} {fs : List FileId} {items others : List Item} {lines more : List TextLine} → AreLinesOf s ks fs items lines → AreLinesOf s ks fs others more
     → AreLinesOf s ks fs (items ++ others) (lines ++ more)

@@ -13,7 +13,7 @@ use Rattle.sc_model.specs.Fault as model
 use Rattle.sc_model.specs.Sets.{Sets, IsConfig, IsCond, Denotes, Keeps}
 use Rattle.sc_model.proofs.SetLemmas.{IsConfig-kept, IsConfig-Keeps}
 use Rattle.sc_show.specs.Shows.{AreApart}
-use Rattle.sc_show.proofs.Shows.{when, faults_more}
+use Rattle.sc_show.proofs.TokensShows.{when, faults_more}
 
 -- an item stands in a list
 In : {X : Type 0} → X → List X → Type 0

@@ -17,7 +17,7 @@ use Rattle.sc_text.specs.Text.{condition_line, condition_at}
 use Rattle.sc_model.proofs.SetLemmas.{IsConfig-kept, DependsFrom-same, DependsFrom-Keeps}
 use Rattle.sc_show.specs.Prints.{HasWordNames, choices_of}
 use Rattle.sc_show.specs.Rules.{tests_of}
-use Rattle.sc_show.proofs.Reading.{variable_from-found}
+use Rattle.sc_show.proofs.PrinterReading.{variable_from-found}
 
 -- the condition of this number is what remains of another for an option of a variable, and depends
 -- on later variables alone

@@ -13,7 +13,7 @@ use Rattle.sc_model.specs.Space.{Variable, Space, option_text}
 use Rattle.sc_text.specs.Text.{BodyKind, Reading, TextLine, line_text, read_lines, read_line, is_clear, variable_from, are_options}
 use Rattle.sc_model.proofs.ByteLemmas.{same_bytes-refl, same_bytes-true}
 use Rattle.sc_show.specs.Prints.{choices_of}
-use Rattle.sc_show.proofs.Choices.{both}
+use Rattle.sc_show.proofs.LinesChoices.{both}
 
 -- the last line is read at what was read before it
 pub read_lines-push : {kind : BodyKind} (space : Space) (lines : List TextLine) (r t u : Reading kind) (line : TextLine) → read_lines space r lines ≡ Some t → t.ended ≡ false

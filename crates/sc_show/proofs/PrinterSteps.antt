@@ -24,10 +24,10 @@ use Rattle.sc_space.specs.declared.space.Space as declared_space
 use Rattle.sc_space.specs.declared.space.Variable as declared_variable
 use Rattle.sc_show.specs.declared.printer.Printer.{Printer}
 use Rattle.sc_show.specs.Prints.{HasWordNames, Prints, Agrees, IsTable, choices_of, printed_place}
-use Rattle.sc_show.proofs.Children.{HasChildren}
-use Rattle.sc_show.proofs.Choices.{both, clear_choices, numbers-choices_of}
-use Rattle.sc_show.proofs.Reading.{read_lines-push, written-push, clear-push, variable_from-found, are_options-choices_of}
-use Rattle.sc_show.proofs.Numbers.{owned_at}
+use Rattle.sc_show.proofs.PrinterChildren.{HasChildren}
+use Rattle.sc_show.proofs.LinesChoices.{both, clear_choices, numbers-choices_of}
+use Rattle.sc_show.proofs.PrinterReading.{read_lines-push, written-push, clear-push, variable_from-found, are_options-choices_of}
+use Rattle.sc_show.proofs.PrinterNumbers.{owned_at}
 
 -- one line more
 Prints-push : {space : Space} {s : Sets} {files : List (List ℕ)} {p q : Printer} {before : List TextLine} (was : Prints space s files p before) (line : TextLine) (reading : Reading token_list)

@@ -29,8 +29,8 @@ use Rattle.sc_show.specs.Prints.{IsTable, Agrees, Prints}
 use Rattle.sc_show.specs.Rules.{counts_of, tests_of, list_item, fault_item, LaidOut, AreMerged}
 use Rattle.sc_show.specs.Shows.{IsShowable, IsShowableFault, shown_items, Shows}
 use Rattle.sc_show.proofs.Pieces.{split_lines, text_lines}
-use Rattle.sc_show.proofs.Reading.{read_lines-push, written-push, clear-push}
-use Rattle.sc_show.proofs.ItemLines.{parts_of, IsFileOf, read-AreAlike, lines_pass, lines_files, token_read, fault_read, faults_ascend, project-seen}
+use Rattle.sc_show.proofs.PrinterReading.{read_lines-push, written-push, clear-push}
+use Rattle.sc_show.proofs.TokensItemLines.{parts_of, IsFileOf, read-AreAlike, lines_pass, lines_files, token_read, fault_read, faults_ascend, project-seen}
 
 -- the sets of the numbers are those of their conditions
 agrees_tests : (s : Sets) (ks : List Cond) (tests : List Condition) (n : ℕ) (c : List ℕ) → Agrees s ks tests → IsConfig s.arities c → condition_at tests n c ≡ condition_at (tests_of s ks) n c

@@ -22,10 +22,10 @@ use Rattle.sc_model.proofs.SetLemmas.{Keeps-trans, DependsFrom-Keeps}
 use Rattle.sc_show.specs.declared.printer.Printer.{Printer}
 use Rattle.sc_show.specs.Prints.{HasWordNames, IsTable, Prints, choices_of}
 use Rattle.sc_show.specs.Rules.{AreFrom, Introduced, IntroducedFile, counts_of, tests_of}
-use Rattle.sc_show.proofs.Children.{HasChildren, HasChildren-grows, HasOrder-node}
-use Rattle.sc_show.proofs.Choices.{numbers-choices_of}
-use Rattle.sc_show.proofs.Numbers.{IsTable-Keeps, IsTable-push, owned_at}
-use Rattle.sc_show.proofs.Steps.{Prints-Keeps, Prints-printer, Prints-condition, Prints-file}
+use Rattle.sc_show.proofs.PrinterChildren.{HasChildren, HasChildren-grows, HasOrder-node}
+use Rattle.sc_show.proofs.LinesChoices.{numbers-choices_of}
+use Rattle.sc_show.proofs.PrinterNumbers.{IsTable-Keeps, IsTable-push, owned_at}
+use Rattle.sc_show.proofs.PrinterSteps.{Prints-Keeps, Prints-printer, Prints-condition, Prints-file}
 use Rattle.sc_text.proofs.ListLemmas.{All-one}
 
 -- ---- which conditions got a number
