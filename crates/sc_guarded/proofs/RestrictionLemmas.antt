@@ -75,15 +75,22 @@ module _ {T : Type 0} where
         same_pairs (take from xs) (take from ys) (sym (take-map f from xs) ∙ (ap (take from) conds ∙ (take_at (take from (map f ys)) met from front_long ∙ take-map f from ys)))
         (sym (take-map g from xs) ∙ (ap (take from) items ∙ take-map g from ys))
 
-    -- the others stand where they stood and the test holds
-    pub rest_met : (old new : Sets) (b : Bool) (c : List ℕ) → map (λ (cond : Cond). new.has cond.0 c) met ≡ map (λ (item : Cond × T). old.has item.0.0 c && b) (drop from ys)
-        → items_at new (drop from xs) c ≡ (if b then items_at old (drop from ys) c else [])
-    rest_met old new b c meaning =
+    -- the conditions of the others are the met ones
+    rest_conds : map (λ (item : Cond × T). item.0) (drop from xs) ≡ met
+    rest_conds =
         let f : Cond × T → Cond = λ item. item.0 in
-        let g : Cond × T → T = λ item. item.1 in
-        let rest : map f (drop from xs) ≡ met = sym (drop-map f from xs) ∙ (ap (drop from) conds ∙ drop_at (take from (map f ys)) met from front_long) in
-        items_at-met old new b c (drop from xs) (drop from ys) (sym (drop-map g from xs) ∙ (ap (drop from) items ∙ drop-map g from ys))
-        (map-condition (λ (cond : Cond). new.has cond.0 c) (drop from xs) met rest ∙ meaning)
+        sym (drop-map f from xs) ∙ (ap (drop from) conds ∙ drop_at (take from (map f ys)) met from front_long)
+
+    module _ (old new : Sets) (b : Bool) (c : List ℕ) (meaning : map (λ (cond : Cond). new.has cond.0 c) met ≡ map (λ (item : Cond × T). old.has item.0.0 c && b) (drop from ys)) where
+      -- each of the others has what it had where the test holds
+      pub each_met : map (λ (item : Cond × T). new.has item.0.0 c) (drop from xs) ≡ map (λ (item : Cond × T). old.has item.0.0 c && b) (drop from ys)
+      each_met = map-condition (λ (cond : Cond). new.has cond.0 c) (drop from xs) met rest_conds ∙ meaning
+
+      -- the others stand where they stood and the test holds
+      pub rest_met : items_at new (drop from xs) c ≡ (if b then items_at old (drop from ys) c else [])
+      rest_met =
+          let g : Cond × T → T = λ item. item.1 in
+          items_at-met old new b c (drop from xs) (drop from ys) (sym (drop-map g from xs) ∙ (ap (drop from) items ∙ drop-map g from ys)) each_met
 
     -- all conditions are the store's
     pub all_own : (s : Sets) → All (λ (item : Cond × T). IsCond s item.0.0) ys → All (λ (cond : Cond). IsCond s cond.0) met → All (λ (item : Cond × T). IsCond s item.0.0) xs

@@ -1,6 +1,5 @@
 use crate::Guarded;
-use sc_base::Fault;
-use sc_base::Token;
+use sc_base::{Fault, Token};
 
 /// What a file or a list of tokens becomes under all configurations. A configuration with a fault is refused, and its tokens then don't count.
 #[derive(Drop)]

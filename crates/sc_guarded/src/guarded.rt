@@ -1,4 +1,4 @@
-ghost use Rattle.std.specs.Prelude.{◌≡◌, ℕ, ◌+◌, ◌<◌, ◌≤◌, List, [], ◌∷◌, ◌++◌, Some, All, AllPairs, map, take, drop, length, slice_get, if◌then◌else◌, IfOk, IfErr, OnOk, OnErr};
+ghost use Rattle.std.specs.Prelude.{◌≡◌, ℕ, ◌+◌, ◌<◌, ◌≤◌, List, [], ◌∷◌, ◌++◌, ◌&&◌, Some, All, AllPairs, map, take, drop, length, slice_get, if◌then◌else◌, IfOk, IfErr, OnOk, OnErr};
 ghost use Rattle.sc_model.specs.Sets.{IsConfig, IsCond, Keeps, IsNever};
 ghost use Rattle.sc_guarded.specs.Items.{items_at};
 ghost use Rattle.sc_guarded.specs.Next.{next_at};
@@ -6,8 +6,7 @@ ghost use Rattle.sc_guarded.specs.Next.{next_at};
 use crate::parts::next_parts;
 use crate::projection::tokens_at;
 use crate::restriction::{meets, set_conditions};
-use sc_base::{Cond, OutOfMemory, Stop};
-use sc_base::{HasToken, Token};
+use sc_base::{Cond, HasToken, OutOfMemory, Stop, Token};
 use sc_presence::Conditions;
 use std::alloc::Global;
 use std::marker::Model;
@@ -74,6 +73,9 @@ impl<T> Guarded<T> {
         requires own { All (λ item. IsCond (C.sets conds.old) item.0.0) self.old }
         requires by_own { IsCond (C.sets conds.old) by.0 }
         ensures front { OnOk result (take from self.new ≡ take from self.old) }
+        ensures each { OnOk result ((c : List ℕ) → IsConfig (C.sets conds.old).arities c
+            → map (λ item. (C.sets conds.new).has item.0.0 c) (drop from self.new)
+            ≡ map (λ item. (C.sets conds.old).has item.0.0 c && (C.sets conds.old).has by.0 c) (drop from self.old)) }
         ensures rest { OnOk result ((c : List ℕ) → IsConfig (C.sets conds.old).arities c
             → items_at (C.sets conds.new) (drop from self.new) c
             ≡ (if (C.sets conds.old).has by.0 c then items_at (C.sets conds.old) (drop from self.old) c else [])) }

@@ -2,8 +2,7 @@ ghost use Rattle.std.specs.Prelude.{◌≡◌, All, map, IfOk};
 ghost use Rattle.sc_model.specs.Sets.{IsConfig, IsCond};
 ghost use Rattle.sc_guarded.specs.Items.{items_at};
 
-use sc_base::{Cond, OutOfMemory};
-use sc_base::{HasToken, Token};
+use sc_base::{Cond, HasToken, OutOfMemory, Token};
 use sc_presence::Conditions;
 use std::alloc::Global;
 
