@@ -15,7 +15,7 @@ pub use bytes::is_same;
 pub use fault::Fault;
 pub use files::Files;
 pub use id::{Cond, FileId, Name, TreeId};
-pub use limits::Limits;
+pub use limits::{LARGEST_FILE, Limits};
 pub use names::Names;
 pub use place::Place;
 pub use sc_model::{Cause, Kind};

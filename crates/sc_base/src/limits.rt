@@ -1,3 +1,6 @@
+/// The most bytes that a file may have.
+pub const LARGEST_FILE: usize = 16 * 1024 * 1024;
+
 /// Bounds on what one run may take.
 #[derive(Clone, Copy, Debug, PartialEq, Eq)]
 pub struct Limits {

@@ -1,20 +1,21 @@
-use Rattle.std.proofs.Common.{sym}
+use Rattle.std.proofs.Common.{Some, sym, ap, ◌∙◌}
 use Rattle.std.specs.Prelude.{string_bytes}
-use Rattle.sc_base.proofs.InternLemmas.{known_at, stored_at, Interns-known, Interns-fresh, Extends-Interns, IsOneToOne-Interns}
+use Rattle.std.specs.Str.{bytes_eq}
+use Rattle.std.proofs.lemmas.Slice.Eq.{bytes_eq-Decides}
+use Rattle.sc_base.proofs.InternLemmas.{known_at, stored_at, Interns-known, Interns-insert, Extends-Interns, IsOneToOne-Interns}
 use Rattle.sc_base.proofs.files.Files.intern.Goals as goal
 
 pub returns-in-Some-clause-named : goal.returns-in-Some-clause-named
-returns-in-Some-clause-named c = rw (← c.self.view_is) (known_at string_bytes c.args.name.now c.self.inside.names.keys c.in-Some.known (sym c.in-Some.ensures.index))
+returns-in-Some-clause-named c = rw (← c.self.view_is) (known_at string_bytes bytes_eq bytes_eq-Decides c.args.name.now c.self.inside.names.keys c.in-Some.known (sym c.in-Some.ensures.index))
 
 pub returns-in-Some-clause-adds : goal.returns-in-Some-clause-adds
 returns-in-Some-clause-adds c = Interns-known _ _ c.in-Some.known (returns-in-Some-clause-named c)
 
 pub returns-clause-named : goal.returns-clause-named
-returns-clause-named c = stored_at string_bytes c.args.name.now c.insert_full.new.self.keys c.in_ok-index.index c.in_ok-name.name c.in_ok-name.ensures.ok c.in_ok-index.ensures.stored
+returns-clause-named c = stored_at string_bytes bytes_eq bytes_eq-Decides c.insert_full.new.self.keys c.in_ok-index.index c.in_ok-name.name c.in_ok-index.ensures.stored ∙ ap Some c.in_ok-name.ensures.ok
 
 pub returns-clause-adds : goal.returns-clause-adds
-returns-clause-adds c =
-    rw (← c.self.view_is) (Interns-fresh string_bytes c.args.name.now c.self.inside.names.keys c.insert_full.new.self.keys _ (sym c.in_default.ensures.found) c.in_ok-name.ensures.ok c.in_ok-index.ensures.keys)
+returns-clause-adds c = rw (← c.self.view_is, ← c.in_ok-name.ensures.ok) (Interns-insert string_bytes bytes_eq bytes_eq-Decides c.self.inside.names.keys c.insert_full.new.self.keys c.in_ok-name.name c.in_ok-index.ensures.keys)
 
 pub returns-clause-grows : goal.returns-clause-grows
 returns-clause-grows c = Extends-Interns (returns-clause-adds c)
