@@ -1,14 +1,10 @@
 -- Rows that are kept once each, and the sets that they make.
-use Rattle.std.proofs.Common.{◌≡◌, ℕ, zero, suc, ◌<◌, Bool, true, false, ◌||◌, List, [], ◌∷◌, ◌++◌, map, length, slice_get, get_or, replicate, Some, Contains, inl, inr, if◌then◌else◌, refl, sym, ap, subst, ◌∙◌, arith}
+use Rattle.std.proofs.Common.{◌≡◌, ℕ, zero, suc, ◌<◌, Bool, true, false, List, [], ◌∷◌, ◌++◌, map, length, slice_get, get_or, replicate, Some, Contains, inl, inr, refl, sym, ap, subst, ◌∙◌, arith}
 use Rattle.std.specs.Bool.{Decides, beq}
 use Rattle.std.specs.Cmp.Lexicographic.{pointwise}
-use Rattle.std.specs.List.{list_any}
-use Rattle.std.specs.Option.{option_map}
 use Rattle.std.specs.Prelude.{slice_index}
-use Rattle.std.proofs.lemmas.Bool.{cases_Bool, cases_lt, true≢false, false≢true}
-use Rattle.std.proofs.lemmas.Option.{slice_get-map}
-use Rattle.std.proofs.lemmas.List.Folds.{list_any_at}
-use Rattle.std.proofs.lemmas.List.{get_or_read, map-append, length-map, get_or-map, length_push, get_or_push, get_or_append_left, length-replicate, get_or-replicate}
+use Rattle.std.proofs.lemmas.Bool.{cases_lt, true≢false, false≢true}
+use Rattle.std.proofs.lemmas.List.{get_or_read, length-map, get_or-map, length_push, get_or_push, get_or_append_left, length-replicate, get_or-replicate}
 use Rattle.std.proofs.lemmas.Slice.Eq.{slice_eq-Decides}
 use Rattle.sc_model.specs.Sets.{HasOptions, config_count}
 use Rattle.sc_base.specs.Interns.{Interns, known, fresh}
@@ -28,37 +24,8 @@ beq-Decides false true = (λ e. absurd (false≢true e), λ e. absurd (false≢t
 abbrev pub rows_eq : List Bool → List Bool → Bool
 rows_eq = pointwise beq
 
-rows_eq-Decides : (xs ys : List Bool) → Decides (rows_eq xs ys) (xs ≡ ys)
+pub rows_eq-Decides : (xs ys : List Bool) → Decides (rows_eq xs ys) (xs ≡ ys)
 rows_eq-Decides xs ys = slice_eq-Decides beq-Decides xs ys _ refl
-
-module _ {X : Type 0} (view : X → List Bool) where
-  -- a row that some key has, and one that none has
-  there : (row : List Bool) (keys : List X) → list_any (λ k. rows_eq row (view k)) keys ≡ true → Contains (map view keys) row
-  there row [] h = absurd (false≢true h)
-  there row (x ∷ xs) h = elim (cases_Bool (rows_eq row (view x))) [
-    | inl same ↦ (0, omega arith, sym ((rows_eq-Decides row (view x)).0 same))
-    | inr other ↦ (let rest = there row xs (sym (ap (λ b. b || list_any (λ k. rows_eq row (view k)) xs) other) ∙ h) in (suc rest.0, omega (arith, rest.1), rest.2))
-  ]
-
-  absent : (row : List Bool) (keys : List X) → list_any (λ k. rows_eq row (view k)) keys ≡ false → Contains (map view keys) row → ⊥
-  absent row [] h has = absurd (omega (arith, has.1))
-  absent row (x ∷ xs) h has =
-      let within : has.0 < length (x ∷ xs) = omega (arith, has.1, length-map (x ∷ xs) view) in
-      let same = sym (get_or-map view (x ∷ xs) has.0 x row within) ∙ has.2 in
-      true≢false (sym (list_any_at (λ k. rows_eq row (view k)) (x ∷ xs) has.0 x within ((rows_eq-Decides _ _).1 (sym same))) ∙ h)
-
-  -- an insertion adds the row once
-  pub Interns-insert : (keys new : List X) (v : X) → new ≡ (if list_any (λ k. rows_eq (view v) (view k)) keys then keys else keys ++ v ∷ []) → Interns (map view keys) (map view new) (view v)
-  Interns-insert keys new v inserted =
-      let after : Bool → List X = λ b. if b then keys else keys ++ v ∷ [] in
-      elim (cases_Bool (list_any (λ k. rows_eq (view v) (view k)) keys)) [
-        | inl old ↦ known (there (view v) keys old) (ap (map view) (inserted ∙ ap after old))
-        | inr new ↦ fresh (absent (view v) keys new) (ap (map view) (inserted ∙ ap after new) ∙ map-append view keys (v ∷ []))
-      ]
-
-  -- and answers its place
-  pub stored_at : (new : List X) (i : ℕ) (v : X) → (k : X) × (slice_get new i ≡ Some k) × (rows_eq (view v) (view k) ≡ true) → slice_get (map view new) i ≡ Some (view v)
-  stored_at new i v at = slice_get-map view new i ∙ ap (option_map view) at.1 ∙ ap Some (sym ((rows_eq-Decides _ _).0 at.2))
 
 -- a row of no configuration is not one of all
 never_not_always : (n k : ℕ) → 0 < n → k < 1 → get_or (replicate n false ∷ []) k (replicate n true) ≡ replicate n true → ⊥
