@@ -3,13 +3,14 @@ ghost use Rattle.sc_model.specs.Outside.{Rose};
 
 use crate::fault_plan::next_count;
 use crate::{Source, SourceStop};
+use sc_base::LARGEST_FILE;
 use std::alloc::Global;
 use std::fs::File;
 use std::io::{ErrorKind, Read};
 use std::rt::Files;
 
 /// The most bytes that are read of one file: one more than a file may have.
-pub const MOST_READ: usize = 16 * 1024 * 1024 + 1;
+pub const MOST_READ: usize = LARGEST_FILE + 1;
 
 /// The files of the system. What they hold no contract can tell, so it tells nothing.
 ///
@@ -42,6 +43,7 @@ impl<R: Files> Source for FileSource<R> {
     fn read(&mut self, alloc: Global, name: &str) -> Result<Option<Vec<u8>>, SourceStop>
         ensures counted { faults_of self.old ≤ faults_of self.new }
         ensures failed { IsErrOf result SourceStop.Failed → Rose (faults_of self.old) (faults_of self.new) }
+        ensures stays { (IsErrOf result SourceStop.Failed → ⊥) → faults_of self.new ≡ faults_of self.old }
         ensures bounded { IfOk result (λ text. IfSome text (λ bytes. vec_len bytes ≤ MOST_READ)) }
         ensures zero_byte { Contains name.now 0 → result ≡ Ok None }
     {

@@ -2,7 +2,7 @@ ghost use Rattle.std.specs.Prelude.{◌≡◌, ◌≤◌, [], ◌∷◌, ◌++�
 ghost use Rattle.std.specs.List.{flat_map};
 ghost use Rattle.sc_model.specs.Outside.{Rose, Writes, whole_write};
 ghost use Rattle.sc_source.specs.MemorySink.{log_of, plan_of, write_of};
-ghost use Rattle.sc_source.specs.Plan.{Advances};
+ghost use Rattle.sc_source.specs.Plan.{Advances, next};
 ghost use Rattle.sc_source.specs.Sink.{WritesCut};
 
 use crate::fault_plan::FaultPlan;
@@ -93,7 +93,13 @@ impl Sink for MemorySink {
         ensures err { OnErr result (WritesCut (Some (log_of self.old)) (Some (log_of self.new)) piece.now) }
         ensures counted { (plan_of self.old).faults ≤ (plan_of self.new).faults }
         ensures failed { OnErr result (Rose (plan_of self.old).faults (plan_of self.new).faults) }
+        ensures stays { OnOk result ((plan_of self.new).faults ≡ (plan_of self.old).faults) }
+        ensures rises { OnErr result ((plan_of self.new).faults ≡ next (plan_of self.old).faults) }
+
+        // Where none was planned, only want of memory makes it fail, and then nothing is noted.
         ensures planned { Contains (plan_of self.old).failing (plan_of self.old).calls → IsErr result }
+        ensures unplanned { (Contains (plan_of self.old).failing (plan_of self.old).calls → ⊥)
+            → OnErr result (log_of self.new ≡ log_of self.old) }
         ensures advances { Advances (plan_of self.old) (plan_of self.new) }
     {
         if self.plan.next_call_fails() {

@@ -1,7 +1,7 @@
 ghost use Rattle.std.specs.Prelude.{◌≡◌, ℕ, ◌≤◌, List, [], ◌∷◌, ◌++◌, ◌↔◌, None, Some, Contains, IfOk, IsErrOf, OnOk, OnErr};
 ghost use Rattle.std.specs.Option.{option_map};
 ghost use Rattle.sc_model.specs.Outside.{Rose};
-ghost use Rattle.sc_source.specs.Plan.{Advances};
+ghost use Rattle.sc_source.specs.Plan.{Advances, next};
 
 use crate::fault_plan::FaultPlan;
 use crate::{Source, SourceStop};
@@ -65,6 +65,8 @@ impl Source for MemorySource {
         ensures kept { files_of self.new ≡ files_of self.old }
         ensures counted { (plan_of self.old).faults ≤ (plan_of self.new).faults }
         ensures failed { IsErrOf result SourceStop.Failed → Rose (plan_of self.old).faults (plan_of self.new).faults }
+        ensures stays { (IsErrOf result SourceStop.Failed → ⊥) → (plan_of self.new).faults ≡ (plan_of self.old).faults }
+        ensures rises { IsErrOf result SourceStop.Failed → (plan_of self.new).faults ≡ next (plan_of self.old).faults }
         ensures planned { IsErrOf result SourceStop.Failed ↔ Contains (plan_of self.old).failing (plan_of self.old).calls }
         ensures advances { Advances (plan_of self.old) (plan_of self.new) }
     {

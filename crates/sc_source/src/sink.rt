@@ -1,4 +1,4 @@
-ghost use Rattle.std.specs.Prelude.{ℕ, ◌≤◌, List, [], ◌∷◌, Option, OnOk, OnErr};
+ghost use Rattle.std.specs.Prelude.{◌≡◌, ℕ, ◌≤◌, List, [], ◌∷◌, Option, OnOk, OnErr};
 ghost use Rattle.sc_model.specs.Outside.{Write, Writes, Rose, whole_write};
 ghost use Rattle.sc_source.specs.Sink.{WritesCut};
 
@@ -22,5 +22,6 @@ pub trait Sink {
         ensures ok { OnOk result (Writes (log self.old) (log self.new) (whole_write piece.now ∷ [])) }
         ensures err { OnErr result (WritesCut (log self.old) (log self.new) piece.now) }
         ensures counted { faults self.old ≤ faults self.new }
-        ensures failed { OnErr result (Rose (faults self.old) (faults self.new)) };
+        ensures failed { OnErr result (Rose (faults self.old) (faults self.new)) }
+        ensures stays { OnOk result (faults self.new ≡ faults self.old) };
 }

@@ -60,5 +60,6 @@ pub trait Source {
             → IfOk result (λ text. option_map (λ bytes. bytes.items) text ≡ files name.now) }
         ensures kept { holds self.new ≡ holds self.old }
         ensures counted { faults self.old ≤ faults self.new }
-        ensures failed { IsErrOf result SourceStop.Failed → Rose (faults self.old) (faults self.new) };
+        ensures failed { IsErrOf result SourceStop.Failed → Rose (faults self.old) (faults self.new) }
+        ensures stays { (IsErrOf result SourceStop.Failed → ⊥) → faults self.new ≡ faults self.old };
 }

@@ -38,6 +38,7 @@ impl<W: Write> Sink for StdSink<W> {
     fn write(&mut self, piece: &[u8]) -> Result<(), Failed>
         ensures counted { faults_of self.old ≤ faults_of self.new }
         ensures failed { OnErr result (Rose (faults_of self.old) (faults_of self.new)) }
+        ensures stays { OnOk result (faults_of self.new ≡ faults_of self.old) }
         ensures written { OnOk result (Appends (contents_of W.contents self.old) (contents_of W.contents self.new) piece.now) }
     {
         match write_and_flush(&mut self.to, piece) {

@@ -13,4 +13,5 @@ write-tells g c = record {
   err = (on_either c.result (WritesCut-None c.args.piece.now)).1;
   counted = c.ensures.counted;
   failed = c.ensures.failed;
+  stays = c.ensures.stays;
 }
