@@ -5,6 +5,10 @@ use Rattle.std.specs.Prelude.{◌≡◌, ℕ, ◌-◌, ◌^◌, ◌<◌, ◌⊎�
 abbrev pub Files : Type 0
 Files = List ℕ → Option (List ℕ)
 
+-- the most bytes that a file may have: 16 MiB
+abbrev pub largest_file : ℕ
+largest_file = 16777216
+
 -- a count of faults rose, or stands at its last value
 abbrev pub Rose : ℕ → ℕ → Type 0
 Rose old new = (old < new) ⊎ (new ≡ 2 ^ 64 - 1)
