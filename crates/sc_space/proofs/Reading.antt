@@ -11,13 +11,14 @@ use Rattle.std.specs.Option.{ok_or}
 use Rattle.std.specs.Str.{IsUtf8, bytes_eq}
 use Rattle.sc_model.specs.declared.variable_option.VariableOption.TheVariants.{Undefined}
 use Rattle.sc_model.specs.Bytes.{same_bytes}
+use Rattle.sc_model.specs.Outside.{largest_file}
 use Rattle.sc_model.specs.Sets.{config_count}
 use Rattle.sc_model.specs.Space.{Variable}
 use Rattle.sc_space.specs.declared.fault.SpaceStop.{SpaceStop}
 use Rattle.sc_space.specs.declared.fault.SpaceStop.TheVariants as stop
 use Rattle.sc_space.specs.declared.space.Variable.{Variable as ReadVariable}
 use Rattle.sc_space.specs.Seen.{seen_variable, seen_fault, Refuses}
-use Rattle.sc_space.specs.SpaceFile.{Fault, not_toml, unknown_key, no_variables, too_many, ◌>>=◌, most_bytes, read_document, check_keys, variables_table, read_option, read_variable, read_variables, is_small, with_defaults, read_space}
+use Rattle.sc_space.specs.SpaceFile.{Fault, not_toml, unknown_key, no_variables, too_many, ◌>>=◌, read_document, check_keys, variables_table, read_option, read_variable, read_variables, is_small, with_defaults, read_space}
 use Rattle.toml.specs.Data.{Data, string, Members, member, as_table, get_member}
 use Rattle.toml.specs.Parse.{parse_document}
 
@@ -31,14 +32,14 @@ same_bytes-bytes_eq xs ys = same_from_decides (same_bytes xs ys) (bytes_eq xs ys
 pub same_bytes-differ : (xs ys : List ℕ) → (xs ≡ ys → ⊥) → same_bytes xs ys ≡ false
 same_bytes-differ xs ys differ = false_from_ne_true _ (λ same. differ ((same_bytes-Decides xs ys).0 same))
 
-pub read_document-text : (bytes : List ℕ) → length bytes ≤ 16777216 → IsUtf8 bytes → read_document bytes ≡ ok_or (parse_document bytes) not_toml
+pub read_document-text : (bytes : List ℕ) → length bytes ≤ largest_file → IsUtf8 bytes → read_document bytes ≡ ok_or (parse_document bytes) not_toml
 unfolding read_document
-read_document-text bytes fits text = rw (le-ltb most_bytes (length bytes) fits, is_utf8-from_IsUtf8 bytes text)
+read_document-text bytes fits text = rw (le-ltb largest_file (length bytes) fits, is_utf8-from_IsUtf8 bytes text)
 
-pub read_document-no_text : (bytes : List ℕ) → length bytes ≤ 16777216 → (IsUtf8 bytes → ⊥) → read_document bytes ≡ Err not_toml
+pub read_document-no_text : (bytes : List ℕ) → length bytes ≤ largest_file → (IsUtf8 bytes → ⊥) → read_document bytes ≡ Err not_toml
 unfolding read_document
 read_document-no_text bytes fits no_text =
-    rw (le-ltb most_bytes (length bytes) fits, false_from_ne_true _ (λ text. no_text (IsUtf8-from_is_utf8 bytes text)))
+    rw (le-ltb largest_file (length bytes) fits, false_from_ne_true _ (λ text. no_text (IsUtf8-from_is_utf8 bytes text)))
 
 pub check_keys-refused : (ms rest : Members) (key : List ℕ) (value : Data) → check_keys ms ≡ check_keys (member key value rest) → bytes_eq key (codes "variables") ≡ false → check_keys ms ≡ Err (unknown_key key)
 unfolding check_keys

@@ -6,6 +6,7 @@ use Rattle.std.specs.Str.{is_utf8}
 use Rattle.sc_model.specs.declared.variable_option.VariableOption.{VariableOption}
 use Rattle.sc_model.specs.declared.variable_option.VariableOption.TheVariants.{Undefined, Number}
 use Rattle.sc_model.specs.Bytes.{same_bytes, is_between, is_digit}
+use Rattle.sc_model.specs.Outside.{largest_file}
 use Rattle.sc_model.specs.Sets.{config_count}
 use Rattle.sc_model.specs.Space.{Variable, Space}
 use Rattle.c11_macros.specs.Macros.{predefined_names}
@@ -29,14 +30,10 @@ abbrev pub ◌>>=◌ : {A B : Type 0} → Result A Fault → (A → Result B Fau
 Ok a >>= f = f a
 Err fault >>= f = Err fault
 
--- 16 MiB
-abbrev pub most_bytes : ℕ
-most_bytes = 16777216
-
 -- The table that the file is: text in UTF-8, by the grammar of TOML 1.1. Its members are in the order of their keys' bytes.
 unfoldable pub read_document : List ℕ → Result Members Fault
 read_document bytes =
-    if nat_lt most_bytes (length bytes) then Err too_large
+    if nat_lt largest_file (length bytes) then Err too_large
     else if is_utf8 bytes then ok_or (parse_document bytes) not_toml else Err not_toml
 
 -- the keys that a space file may have

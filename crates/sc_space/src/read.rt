@@ -8,12 +8,9 @@ ghost use Rattle.sc_space.specs.SpaceFile.{read_document, check_keys, variables_
 ghost use Rattle.toml.specs.View.{view, items_view, table_view};
 
 use crate::{SpaceFault, SpaceStop, Variable, VariableOption};
-use sc_base::OutOfMemory;
+use sc_base::{LARGEST_FILE, OutOfMemory};
 use std::alloc::Global;
 use toml::{Table, Value};
-
-/// The most bytes that a space file may have.
-const MOST_BYTES: usize = 16 * 1024 * 1024;
 
 /// The most options that a variable may have.
 const MOST_OPTIONS: usize = 64;
@@ -29,7 +26,7 @@ const MOST_CONFIGS: usize = 4096;
 pub(crate) fn read_document(alloc: Global, bytes: &[u8]) -> Result<Table, SpaceStop>
     ensures { Answers table_view result (read_document bytes.now) }
 {
-    if bytes.len() > MOST_BYTES {
+    if bytes.len() > LARGEST_FILE {
         return Err(SpaceStop::Fault(SpaceFault::TooLarge));
     }
     let Ok(text) = std::str::from_utf8(bytes) else {
