@@ -4,38 +4,38 @@ use Rattle.std.proofs.lemmas.Bool.{cases_order}
 use Rattle.sc_model.specs.declared.kind.Kind.{Kind}
 use Rattle.sc_model.specs.declared.kind.Kind.TheVariants.{Identifier, Number, Character, Text, Header, Punctuator, Other, Newline}
 use Rattle.sc_model.specs.Token.{Position, Lexeme}
-use Rattle.c11_tokens.specs.Lex.{Row, blank, comment, token, rank, fits_here, IsLongest, Marked, bytes_of, with_first, lexeme, line_after, is_newline, Lexes, nothing, white, piece, unended, is_white}
+use Rattle.c11_tokens.specs.Lex.{PieceKind, blank, comment, token, rank, fits_here, IsLongest, Marked, bytes_of, with_first, lexeme, line_after, is_newline, Lexes, nothing, white, piece, unended, is_white}
 
--- the row of a rank
-row_at : ℕ → Row
-row_at zero = token Header
-row_at (suc zero) = blank
-row_at (suc (suc zero)) = comment
-row_at (suc (suc (suc zero))) = token Newline
-row_at (suc (suc (suc (suc zero)))) = token Identifier
-row_at (suc (suc (suc (suc (suc zero))))) = token Number
-row_at (suc (suc (suc (suc (suc (suc zero)))))) = token Character
-row_at (suc (suc (suc (suc (suc (suc (suc zero))))))) = token Text
-row_at (suc (suc (suc (suc (suc (suc (suc (suc zero)))))))) = token Punctuator
-row_at (suc (suc (suc (suc (suc (suc (suc (suc (suc n))))))))) = token Other
+-- the kind of a rank
+kind_at : ℕ → PieceKind
+kind_at zero = token Header
+kind_at (suc zero) = blank
+kind_at (suc (suc zero)) = comment
+kind_at (suc (suc (suc zero))) = token Newline
+kind_at (suc (suc (suc (suc zero)))) = token Identifier
+kind_at (suc (suc (suc (suc (suc zero))))) = token Number
+kind_at (suc (suc (suc (suc (suc (suc zero)))))) = token Character
+kind_at (suc (suc (suc (suc (suc (suc (suc zero))))))) = token Text
+kind_at (suc (suc (suc (suc (suc (suc (suc (suc zero)))))))) = token Punctuator
+kind_at (suc (suc (suc (suc (suc (suc (suc (suc (suc n))))))))) = token Other
 
-row_at-rank : (r : Row) → row_at (rank r) ≡ r
-unfolding row_at
-row_at-rank blank = refl
-row_at-rank comment = refl
-row_at-rank (token Identifier) = refl
-row_at-rank (token Number) = refl
-row_at-rank (token Character) = refl
-row_at-rank (token Text) = refl
-row_at-rank (token Header) = refl
-row_at-rank (token Punctuator) = refl
-row_at-rank (token Other) = refl
-row_at-rank (token Newline) = refl
+kind_at-rank : (r : PieceKind) → kind_at (rank r) ≡ r
+unfolding kind_at
+kind_at-rank blank = refl
+kind_at-rank comment = refl
+kind_at-rank (token Identifier) = refl
+kind_at-rank (token Number) = refl
+kind_at-rank (token Character) = refl
+kind_at-rank (token Text) = refl
+kind_at-rank (token Header) = refl
+kind_at-rank (token Punctuator) = refl
+kind_at-rank (token Other) = refl
+kind_at-rank (token Newline) = refl
 
-pub same_rank : (r s : Row) → rank r ≡ rank s → r ≡ s
-same_rank r s e = sym (row_at-rank r) ∙ (ap row_at e ∙ row_at-rank s)
+pub same_rank : (r s : PieceKind) → rank r ≡ rank s → r ≡ s
+same_rank r s e = sym (kind_at-rank r) ∙ (ap kind_at e ∙ kind_at-rank s)
 
-pub same_length : {line : List (List ℕ)} {bytes : List ℕ} {r s : Row} {n m : ℕ} → IsLongest line bytes r n → IsLongest line bytes s m → n ≡ m
+pub same_length : {line : List (List ℕ)} {bytes : List ℕ} {r s : PieceKind} {n m : ℕ} → IsLongest line bytes r n → IsLongest line bytes s m → n ≡ m
 same_length {line} {bytes} {r} {s} {n} {m} a b =
     elim (cases_order n m) [
       | inl e ↦ e
@@ -45,8 +45,8 @@ same_length {line} {bytes} {r} {s} {n} {m} a b =
       ]
     ]
 
-pub same_row : {line : List (List ℕ)} {bytes : List ℕ} {r s : Row} {n : ℕ} → IsLongest line bytes r n → IsLongest line bytes s n → r ≡ s
-same_row {line} {bytes} {r} {s} {n} a b =
+pub same_kind : {line : List (List ℕ)} {bytes : List ℕ} {r s : PieceKind} {n : ℕ} → IsLongest line bytes r n → IsLongest line bytes s n → r ≡ s
+same_kind {line} {bytes} {r} {s} {n} a b =
     elim (cases_order (rank r) (rank s)) [
       | inl e ↦ same_rank r s e
       | inr h ↦ elim h [
@@ -55,15 +55,15 @@ same_row {line} {bytes} {r} {s} {n} a b =
       ]
     ]
 
--- one front and one row
-record Same (r s : Row) (n m : ℕ) : Type 0 where
-  row : r ≡ s
+-- one front and one kind
+record Same (r s : PieceKind) (n m : ℕ) : Type 0 where
+  kind : r ≡ s
   length : n ≡ m
 
-same : {line : List (List ℕ)} {bytes : List ℕ} {r s : Row} {n m : ℕ} → IsLongest line bytes r n → IsLongest line bytes s m → Same r s n m
+same : {line : List (List ℕ)} {bytes : List ℕ} {r s : PieceKind} {n m : ℕ} → IsLongest line bytes r n → IsLongest line bytes s m → Same r s n m
 same {line} {bytes} {r} {s} {n} {m} a b =
     let e : n ≡ m = same_length a b in
-    record { row = same_row a (subst (λ k. IsLongest line bytes s k) (sym e) b); length = e }
+    record { kind = same_kind a (subst (λ k. IsLongest line bytes s k) (sym e) b); length = e }
 
 -- the rest after the same piece
 moved : (line : List (List ℕ)) (m : Marked) (ms : List Marked) {rest : Result (List Lexeme) Position} {kind kind' : Kind} {n n' : ℕ} → kind ≡ kind' → n ≡ n'
@@ -75,21 +75,21 @@ moved line m ms {rest} {kind} {kind'} {n} {n'} e f d =
 
 pub lexes-unique : {line : List (List ℕ)} {space : Bool} {ms : List Marked} {r s : Result (List Lexeme) Position} → Lexes line space ms r → Lexes line space ms s → r ≡ s
 lexes-unique nothing nothing = refl
-lexes-unique (white {line} {space} {m} {ms} n row w p d) (white {r = s} n' row' w' p' d') =
+lexes-unique (white {line} {space} {m} {ms} n kind w p d) (white {r = s} n' kind' w' p' d') =
     lexes-unique d (subst (λ k. Lexes line true (drop k (m ∷ ms)) s) (sym (same p p').length) d')
-lexes-unique (white n row w p d) (piece n' kind' p' d' e') =
-    let e : is_white row ≡ false = ap is_white (same p p').row in cc
-lexes-unique (white n row w p d) (unended u') = absurd (p.ended u')
-lexes-unique (piece n kind p d e) (white n' row' w' p' d') =
-    let f : false ≡ is_white row' = ap is_white (same p p').row in cc
+lexes-unique (white n kind w p d) (piece n' kind' p' d' e') =
+    let e : is_white kind ≡ false = ap is_white (same p p').kind in cc
+lexes-unique (white n kind w p d) (unended u') = absurd (p.ended u')
+lexes-unique (piece n kind p d e) (white n' kind' w' p' d') =
+    let f : false ≡ is_white kind' = ap is_white (same p p').kind in cc
 lexes-unique (piece {line} {space} {m} {ms} {rest = rest} n kind p d e) (piece n' kind' p' d' e') =
-    let t : token kind ≡ token kind' = (same p p').row in
+    let t : token kind ≡ token kind' = (same p p').kind in
     let k : kind ≡ kind' = cc in
     let l : n ≡ n' = (same p p').length in
     let rests = lexes-unique d (moved line m ms k l d') in
     let first : lexeme space m (take n (bytes_of (m ∷ ms))) kind ≡ lexeme space m (take n' (bytes_of (m ∷ ms))) kind' = cc in
     e ∙ (ap (λ t. with_first t rest) first ∙ (ap (with_first (lexeme space m (take n' (bytes_of (m ∷ ms))) kind')) rests ∙ sym e'))
 lexes-unique (piece n kind p d e) (unended u') = absurd (p.ended u')
-lexes-unique (unended u) (white n' row' w' p' d') = absurd (p'.ended u)
+lexes-unique (unended u) (white n' kind' w' p' d') = absurd (p'.ended u)
 lexes-unique (unended u) (piece n' kind' p' d' e') = absurd (p'.ended u)
 lexes-unique (unended u) (unended u') = refl

@@ -7,7 +7,7 @@ use Rattle.sc_model.specs.declared.kind.Kind.{Kind}
 use Rattle.sc_model.specs.declared.kind.Kind.TheVariants.{Identifier, Number, Character, Text, Header, Punctuator, Other, Newline}
 use Rattle.sc_model.specs.Bytes.{same_bytes, begins_with, is_digit, is_hex_digit, is_letter}
 use Rattle.sc_model.specs.Token.{Position, Lexeme}
-use Rattle.c11_tokens.specs.Lex.{token, rank, fits, fits_here, expects_header, is_header_row, IsLongest, Marked, bytes_of, with_first, lexeme, is_newline, Lexed, Lexes, nothing, white, piece, unended, goes_on, is_named, is_identifier, is_exponent, begins_with_digit, number_goes_on, number_is_named, is_number, closes, escapes, is_quoted, is_prefixed, header_closes, is_delimited, is_header, punctuators, is_one_byte}
+use Rattle.c11_tokens.specs.Lex.{token, rank, fits, fits_here, expects_header, is_header_name, IsLongest, Marked, bytes_of, with_first, lexeme, is_newline, Lexed, Lexes, nothing, white, piece, unended, goes_on, is_named, is_identifier, is_exponent, begins_with_digit, number_goes_on, number_is_named, is_number, closes, escapes, is_quoted, is_prefixed, header_closes, is_delimited, is_header, punctuators, is_one_byte}
 use Rattle.sc_model.specs.Bytes.{has_no_newline}
 use Rattle.sc_model.proofs.ByteLemmas.{same_bytes-true}
 
@@ -186,7 +186,7 @@ with_first-one_line : (t : Lexeme) (r : Result (List Lexeme) Position) → is_on
 with_first-one_line t (Ok ts) h rest = and_from _ _ h rest
 with_first-one_line t (Err e) h rest = refl
 
--- the first row that a front fits isn't one after the newline's
+-- the first kind that a front fits isn't one after the newline's
 first-newline : (line : List (List ℕ)) (bs : List ℕ) → fits_here line (token Newline) bs ≡ false → same_bytes bs (10 ∷ []) ≡ false
 first-newline line bs h = elim (and_cases (same_bytes bs (10 ∷ [])) (expects_header line || true) h) [
   | inl e ↦ e
@@ -195,12 +195,12 @@ first-newline line bs h = elim (and_cases (same_bytes bs (10 ∷ [])) (expects_h
 
 longest-plain : {line : List (List ℕ)} {bytes : List ℕ} {kind : Kind} {n : ℕ} → IsLongest line bytes (token kind) n → (is_newline kind || has_no_newline (take n bytes)) ≡ true
 longest-plain {line} {bytes} {kind} {n} longest =
-    let fit = and_parts (fits (token kind) (take n bytes)) (expects_header line || not (is_header_row (token kind))) longest.fit in
+    let fit = and_parts (fits (token kind) (take n bytes)) (expects_header line || not (is_header_name (token kind))) longest.fit in
     fits-plain kind (take n bytes) fit.0 (λ later. first-newline line (take n bytes) (longest.first (token Newline) later))
 
 lexes-plain : {line : List (List ℕ)} {space : Bool} {ms : List Marked} {r : Result (List Lexeme) Position} → Lexes line space ms r → are_one_line r ≡ true
 lexes-plain nothing = refl
-lexes-plain (white n row w p d) = lexes-plain d
+lexes-plain (white n kind w p d) = lexes-plain d
 lexes-plain (piece {space = space} {m = m} {ms = ms} {rest = rest} n kind p d e) =
     subst (λ s. are_one_line s ≡ true) (sym e)
     (with_first-one_line (lexeme space m (take n (bytes_of (m ∷ ms))) kind) rest (longest-plain p) (lexes-plain d))

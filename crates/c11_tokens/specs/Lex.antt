@@ -1,6 +1,6 @@
 -- From the bytes of a file to its tokens (C11 5.1.1.2, 6.4).
 use Rattle.std.specs.Prelude.{◌≡◌, ℕ, zero, suc, ◌+◌, ◌<◌, ◌≤◌, ◌==◌, ◌&&◌, ◌||◌, not, Bool, true, false, List, [], ◌∷◌, ◌++◌, length, map, take, drop, codes, Result, Ok, Err, if◌then◌else◌}
-use Rattle.std.specs.List.{list_any}
+use Rattle.std.specs.List.{list_all, list_any}
 use Rattle.sc_model.specs.declared.kind.Kind.{Kind}
 use Rattle.sc_model.specs.declared.kind.Kind.TheVariants.{Identifier, Number, Character, Text, Header, Punctuator, Other, Newline}
 use Rattle.sc_model.specs.Bytes.{same_bytes, begins_with, is_digit, is_hex_digit, is_letter, has_no_newline}
@@ -42,10 +42,10 @@ abbrev pub phase_1 : List ℕ → List Marked
 phase_1 bytes = with_last_newline (without_returns (without_order_mark (marked_from 1 1 bytes)))
 
 -- Phase 3. What a piece of the text can be: white space (6.4p3), or a token.
-pub data Row : Type 0 where
-  blank : Row
-  comment : Row
-  token : Kind → Row
+pub data PieceKind : Type 0 where
+  blank : PieceKind
+  comment : PieceKind
+  token : Kind → PieceKind
 
 abbrev pub is_blank : ℕ → Bool
 is_blank b = b == 9 || b == 11 || b == 12 || b == 13 || b == 32
@@ -160,17 +160,18 @@ is_comment bs =
     (begins_with (47 ∷ 42 ∷ []) bs && comment_closes (drop 2 bs))
     || (begins_with (47 ∷ 47 ∷ []) bs && has_no_newline bs)
 
-abbrev pub is_white_byte : List ℕ → Bool
-is_white_byte [] = false
-is_white_byte (b ∷ bs) = is_blank b && same_bytes bs []
+-- white-space characters other than newlines, which go together (5.1.1.2p1, phase 3)
+abbrev pub is_white_space : List ℕ → Bool
+is_white_space [] = false
+is_white_space (b ∷ bs) = is_blank b && list_all is_blank bs
 
--- any single byte (6.4p1, the last form of a preprocessing token), where no row above fits
+-- any single byte (6.4p1, the last form of a preprocessing token), where no kind above fits
 abbrev pub is_one_byte : List ℕ → Bool
 is_one_byte [] = false
 is_one_byte (b ∷ bs) = same_bytes bs []
 
-abbrev pub fits : Row → List ℕ → Bool
-fits blank bs = is_white_byte bs
+abbrev pub fits : PieceKind → List ℕ → Bool
+fits blank bs = is_white_space bs
 fits comment bs = is_comment bs
 fits (token Identifier) bs = is_identifier bs
 fits (token Number) bs = is_number bs
@@ -187,12 +188,12 @@ abbrev pub expects_header : List (List ℕ) → Bool
 expects_header (hash ∷ word ∷ []) = same_bytes (name_of hash) (codes "#") && same_bytes word (codes "include")
 expects_header _ = false
 
-abbrev pub is_header_row : Row → Bool
-is_header_row (token Header) = true
-is_header_row _ = false
+abbrev pub is_header_name : PieceKind → Bool
+is_header_name (token Header) = true
+is_header_name _ = false
 
--- The rows in order. Where two fit the same bytes the first counts, so a header name goes before a string literal.
-abbrev pub rank : Row → ℕ
+-- The kinds in order. Where two fit the same bytes the first counts, so a header name goes before a string literal.
+abbrev pub rank : PieceKind → ℕ
 rank (token Header) = 0
 rank blank = 1
 rank comment = 2
@@ -204,26 +205,26 @@ rank (token Text) = 7
 rank (token Punctuator) = 8
 rank (token Other) = 9
 
--- the row can fit where the line so far has these spellings
-abbrev pub fits_here : List (List ℕ) → Row → List ℕ → Bool
-fits_here line row bs = fits row bs && (expects_header line || not (is_header_row row))
+-- the kind can fit where the line so far has these spellings
+abbrev pub fits_here : List (List ℕ) → PieceKind → List ℕ → Bool
+fits_here line kind bs = fits kind bs && (expects_header line || not (is_header_name kind))
 
 -- a comment begins that has no end
 pub record IsUnended (bytes : List ℕ) : Type 0 where
   pub begins : begins_with (47 ∷ 42 ∷ []) bytes ≡ true
   pub no_end : (n : ℕ) → is_comment (take n bytes) ≡ false
 
--- The first n bytes are the longest front that fits a row, this is the first row that they fit, and no comment without an end begins here.
-pub record IsLongest (line : List (List ℕ)) (bytes : List ℕ) (row : Row) (n : ℕ) : Type 0 where
+-- The first n bytes are the longest front that fits a kind, this is the first kind that they fit, and no comment without an end begins here.
+pub record IsLongest (line : List (List ℕ)) (bytes : List ℕ) (kind : PieceKind) (n : ℕ) : Type 0 where
   pub positive : 0 < n
   pub within : n ≤ length bytes
-  pub fit : fits_here line row (take n bytes) ≡ true
-  pub longest : (m : ℕ) (other : Row) → n < m → m ≤ length bytes → fits_here line other (take m bytes) ≡ false
-  pub first : (other : Row) → rank other < rank row → fits_here line other (take n bytes) ≡ false
+  pub fit : fits_here line kind (take n bytes) ≡ true
+  pub longest : (m : ℕ) (other : PieceKind) → n < m → m ≤ length bytes → fits_here line other (take m bytes) ≡ false
+  pub first : (other : PieceKind) → rank other < rank kind → fits_here line other (take n bytes) ≡ false
   pub ended : IsUnended bytes → ⊥
 
 -- what is dropped
-abbrev pub is_white : Row → Bool
+abbrev pub is_white : PieceKind → Bool
 is_white blank = true
 is_white comment = true
 is_white (token kind) = false
@@ -247,8 +248,8 @@ lexeme space m spelling kind = record { kind = kind; spelling = spelling; space 
 -- the text from here on is these tokens, or has its first comment without an end at this position
 pub data Lexes : List (List ℕ) → Bool → List Marked → Result (List Lexeme) Position → Type 0 where
   nothing : {line : List (List ℕ)} {space : Bool} → Lexes line space [] (Ok [])
-  white : {line : List (List ℕ)} {space : Bool} {m : Marked} {ms : List Marked} {r : Result (List Lexeme) Position} (n : ℕ) (row : Row)
-      → is_white row ≡ true → IsLongest line (bytes_of (m ∷ ms)) row n
+  white : {line : List (List ℕ)} {space : Bool} {m : Marked} {ms : List Marked} {r : Result (List Lexeme) Position} (n : ℕ) (kind : PieceKind)
+      → is_white kind ≡ true → IsLongest line (bytes_of (m ∷ ms)) kind n
       → Lexes line true (drop n (m ∷ ms)) r → Lexes line space (m ∷ ms) r
   piece : {line : List (List ℕ)} {space : Bool} {m : Marked} {ms : List Marked} {r rest : Result (List Lexeme) Position} (n : ℕ) (kind : Kind)
       → IsLongest line (bytes_of (m ∷ ms)) (token kind) n

@@ -3,6 +3,8 @@ use Rattle.std.proofs.Common.{◌≡◌, ℕ, zero, suc, ◌+◌, ◌-◌, max, 
 use Rattle.std.proofs.Math.Seq.{take-add}
 use Rattle.std.proofs.lemmas.Bool.{cases_lt, or_left, or_right, or_from}
 use Rattle.std.proofs.lemmas.List.{take_all, drop_more}
+use Rattle.c11_tokens.specs.Lex.{is_blank, is_white_space}
+use Rattle.std.specs.List.{list_all}
 use Rattle.sc_model.specs.Bytes.{same_bytes}
 use Rattle.sc_lex.specs.Scan.{IsLongestFront}
 
@@ -80,6 +82,26 @@ IsLongestFront-same f g bytes n same front = record {
   fit = λ positive. same n positive ∙ front.fit positive;
   longest = λ m longer within. same m (omega arith) ∙ front.longest m longer within;
 }
+
+-- white space is blanks, and not none
+pub blanks-front : (bytes : List ℕ) (n : ℕ) → IsLongestFront (list_all is_blank) bytes n → IsLongestFront is_white_space bytes n
+blanks-front bytes n front = record {
+  within = front.within;
+  fit = λ positive. by bytes n positive front.within ∙ front.fit positive;
+  longest = λ m longer within. by bytes m (omega arith) within ∙ front.longest m longer within;
+}
+  where
+    by : (bs : List ℕ) (m : ℕ) → 0 < m → m ≤ length bs → is_white_space (take m bs) ≡ list_all is_blank (take m bs)
+    by bs zero positive within = absurd (omega arith)
+    by [] (suc m) positive within = absurd (omega arith)
+    by (b ∷ bs) (suc m) positive within = refl
+
+pub blanks-stop : (b : ℕ) (bs : List ℕ) → is_blank b ≡ false → IsStuck (list_all is_blank) (b ∷ bs)
+blanks-stop b bs other = record { fails = by }
+  where
+    by : (m : ℕ) → 0 < m → m ≤ length (b ∷ bs) → list_all is_blank (take m (b ∷ bs)) ≡ false
+    by zero positive within = absurd (omega arith)
+    by (suc m) positive within = ap (λ t. t && list_all is_blank (take m bs)) other
 
 -- the longest front of the rest makes the longest front of all
 pub longest_after : {f g : List ℕ → Bool} {bytes : List ℕ} {n : ℕ} (k : ℕ) → Becomes f g bytes n → IsLongestFront g (drop n bytes) k → (k ≡ 0 → g [] ≡ true) → IsLongestFront f bytes (n + k)

@@ -7,7 +7,7 @@ use Rattle.sc_base.specs.declared.place.Place.{Place}
 use Rattle.sc_model.specs.declared.kind.Kind.{Kind}
 use Rattle.sc_model.specs.Growth.{Extends}
 use Rattle.sc_model.specs.Token.{Position, Lexeme, name_of}
-use Rattle.c11_tokens.specs.Lex.{Row, token, Marked, bytes_of, IsLongest, IsUnended, is_white, is_newline, line_after, with_first, Lexes, nothing, white, piece, unended, Lexed, phase_1}
+use Rattle.c11_tokens.specs.Lex.{PieceKind, token, Marked, bytes_of, IsLongest, IsUnended, is_white, is_newline, line_after, with_first, Lexes, nothing, white, piece, unended, Lexed, phase_1}
 use Rattle.sc_base.specs.declared.token.Token.{Token}
 use Rattle.sc_lex.specs.declared.line.LineFront.{LineFront}
 use Rattle.sc_lex.specs.Line.{front_of}
@@ -39,10 +39,10 @@ with_all-push ls l (Err e) = refl
 
 -- the rules, where the bytes that are left are known
 module _ (line : List (List ℕ)) (space : Bool) (bs : List ℕ) (some : 0 < length bs) where
-  white-lexes : (left : List Marked) (n : ℕ) (row : Row) (r : Result (List Lexeme) Position) → bytes_of left ≡ bs → is_white row ≡ true → IsLongest line bs row n
+  white-lexes : (left : List Marked) (n : ℕ) (kind : PieceKind) (r : Result (List Lexeme) Position) → bytes_of left ≡ bs → is_white kind ≡ true → IsLongest line bs kind n
       → Lexes line true (drop n left) r → Lexes line space left r
-  white-lexes [] n row r is w longest rest = let none = ap length is in absurd (omega arith)
-  white-lexes (m ∷ ms) n row r is w longest rest = white n row w (subst (λ xs. IsLongest line xs row n) (sym is) longest) rest
+  white-lexes [] n kind r is w longest rest = let none = ap length is in absurd (omega arith)
+  white-lexes (m ∷ ms) n kind r is w longest rest = white n kind w (subst (λ xs. IsLongest line xs kind n) (sym is) longest) rest
 
   piece-lexes : (left : List Marked) (n : ℕ) (kind : Kind) (p : Position) (r : Result (List Lexeme) Position) → bytes_of left ≡ bs
       → ((m : Marked) (ms : List Marked) → left ≡ m ∷ ms → m.position ≡ p) → IsLongest line bs (token kind) n
@@ -79,15 +79,15 @@ module _ {names : List (List ℕ)} {file : FileId} {bytes text : List ℕ} {fron
   some_left : offset < length text → 0 < length (drop offset text)
   some_left within = omega (arith, length-drop offset text)
 
-  pub after_white : (row : Row) (n : ℕ) (next : List Marked) → offset < length text → is_white row ≡ true → ((line : List (List ℕ)) → front_of line ≡ front → IsLongest line (drop offset text) row n)
+  pub after_white : (kind : PieceKind) (n : ℕ) (next : List Marked) → offset < length text → is_white kind ≡ true → ((line : List (List ℕ)) → front_of line ≡ front → IsLongest line (drop offset text) kind n)
       → next ≡ drop n left → LexedSoFar names file bytes text front true next (offset + n) ts
-  after_white row n next within w longest is = record {
+  after_white kind n next within w longest is = record {
     lexemes = so.lexemes;
     line = so.line;
     spell = so.spell;
     front_is = so.front_is;
     left_is = rest_is n next is;
-    completes = λ r lexes. so.completes r (white-lexes so.line space (drop offset text) (some_left within) left n row r so.left_is w (longest so.line so.front_is) (subst (λ ms. Lexes so.line true ms r) is lexes));
+    completes = λ r lexes. so.completes r (white-lexes so.line space (drop offset text) (some_left within) left n kind r so.left_is w (longest so.line so.front_is) (subst (λ ms. Lexes so.line true ms r) is lexes));
   }
 
   pub after_token : (new : List (List ℕ)) (t : Token) (kind : Kind) (n : ℕ) (p : Place) (next : List Marked) (front' : LineFront) → offset < length text

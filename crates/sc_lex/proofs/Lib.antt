@@ -6,6 +6,6 @@ pub mod Names
 pub mod Punctuators
 pub mod Quotes
 pub mod SeenLemmas
-pub mod Sources
+pub mod CursorLemmas
 pub mod Spells
 pub mod UnclosedLemmas

@@ -1,16 +1,15 @@
 -- Tokens and places, seen through the tables of texts and of files.
 use Rattle.std.proofs.Common.{◌≡◌, ℕ, List, [], ◌∷◌, map, Option, Some, None, refl, ap, ◌∙◌}
-use Rattle.std.proofs.lemmas.List.Elements.{All-head, All-tail, All-nil, All-cons}
+use Rattle.std.proofs.lemmas.List.Elements.{All-head, All-tail}
 use Rattle.std.specs.Option.{option_map}
 use Rattle.std.specs.Prelude.{All, slice_get, unwrap_or}
 use Rattle.sc_base.specs.declared.id.FileId.{FileId}
 use Rattle.sc_base.specs.declared.place.Place as declared_place
 use Rattle.sc_base.specs.declared.token.Token as declared_token
-use Rattle.sc_base.specs.Seen.{text_at, seen, seen_place, IsHeld}
-use Rattle.sc_lex.specs.Spell as spell
+use Rattle.sc_base.specs.Seen.{text_at, seen, seen_place}
 use Rattle.sc_base.specs.Seen.{position_of}
 use Rattle.sc_lex.specs.Spell.{lexeme_at, AreTokensOf}
-use Rattle.sc_model.specs.Token.{Lexeme, in_file, name_of}
+use Rattle.sc_model.specs.Token.{Lexeme, in_file}
 
 -- a place of the file
 pub place-seen : (files : List (List ℕ)) (file : FileId) (main : List ℕ) (place : declared_place.Place) → slice_get files file.0 ≡ Some main → place.file ≡ file
@@ -45,22 +44,3 @@ module _ (names files : List (List ℕ)) (file : FileId) (main : List ℕ) (name
 pub tokens-seen : (names files : List (List ℕ)) (file : FileId) (main bytes : List ℕ) (ts : List declared_token.Token) (are : AreTokensOf names file bytes ts)
     → slice_get files file.0 ≡ Some main → map (seen names files) ts ≡ map (in_file main) are.lexemes
 tokens-seen names files file main bytes ts are named = seen_all names files file main named are.lexemes ts are.spell.each are.spell.placed
-
-named_by : (s n : Option (List ℕ)) → n ≡ option_map name_of s → unwrap_or n [] ≡ name_of (unwrap_or s [])
-named_by None n e = ap (λ (o : Option (List ℕ)). unwrap_or o []) e
-named_by (Some s) n e = ap (λ (o : Option (List ℕ)). unwrap_or o []) e
-
--- the tokens of a file are held
-pub held : (names : List (List ℕ)) (ts : List declared_token.Token) → All (spell.IsHeld names) ts
-    → All (λ (t : declared_token.Token). slice_get names t.name.0 ≡ option_map name_of (slice_get names t.spelling.0)) ts → All (IsHeld names) ts
-held names [] own named = All-nil (IsHeld names)
-held names (t ∷ ts) own named =
-    let IsNamed : declared_token.Token → Type 0 = λ t. slice_get names t.name.0 ≡ option_map name_of (slice_get names t.spelling.0) in
-    let here = All-head (spell.IsHeld names) t ts own in
-    All-cons (IsHeld names) t ts
-    (record {
-      spelling = here.spelling;
-      name = here.name;
-      stands_for = named_by (slice_get names t.spelling.0) (slice_get names t.name.0) (All-head IsNamed t ts named);
-    })
-    (held names ts (All-tail (spell.IsHeld names) t ts own) (All-tail IsNamed t ts named))

@@ -1,6 +1,6 @@
 -- Tokens spell the same in a table that has grown.
 use Rattle.std.proofs.Common.{◌≡◌, ℕ, List, [], ◌∷◌, ◌++◌, map, Option, Some, None, slice_get, refl, sym, ap, ◌∙◌}
-use Rattle.std.specs.Prelude.{All}
+use Rattle.std.specs.Prelude.{All, unwrap_or}
 use Rattle.std.proofs.lemmas.Option.{slice_get_within}
 use Rattle.std.specs.Option.{option_map}
 use Rattle.std.specs.List.{AllByRecursion}
@@ -11,8 +11,8 @@ use Rattle.sc_model.specs.Token.{Lexeme, name_of}
 use Rattle.sc_model.specs.Growth.{Extends}
 use Rattle.sc_base.proofs.Growth.{Extends-keeps}
 use Rattle.sc_base.specs.declared.token.Token.{Token}
-use Rattle.sc_base.specs.Seen.{position_of}
-use Rattle.sc_lex.specs.Spell.{lexeme_at, Spell, IsHeld}
+use Rattle.sc_base.specs.Seen.{IsHeld, position_of}
+use Rattle.sc_lex.specs.Spell.{lexeme_at, Spell}
 
 -- what one token is
 abbrev lexeme_of : Token → List ℕ → Lexeme
@@ -80,10 +80,12 @@ held names (t ∷ ts) [] e all = cc
 held names (t ∷ ts) (l ∷ ls) e all =
     let head : lexeme_at names t ≡ Some l = cc in
     let tail : map (lexeme_at names) ts ≡ map (λ x. Some x) ls = cc in
-    let s = some_spelling names t (slice_get names t.spelling.0) l head in (
+    let s = some_spelling names t (slice_get names t.spelling.0) l head in
+    let text : Option (List ℕ) → List ℕ = λ o. unwrap_or o [] in (
       record {
         name = slice_get_within names t.name.0 (name_of s.0) (all.0 ∙ ap (option_map name_of) s.1);
         spelling = slice_get_within names t.spelling.0 s.0 s.1;
+        stands_for = ap text (all.0 ∙ ap (option_map name_of) s.1) ∙ ap name_of (sym (ap text s.1));
       },
       held names ts ls tail all.1,
     )

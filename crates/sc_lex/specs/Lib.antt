@@ -2,6 +2,6 @@ pub mod Line
 pub mod Logical
 pub mod Piece
 pub mod Scan
-pub mod Source
+pub mod Cursor
 pub mod Spell
 pub mod Unclosed

@@ -1,5 +1,5 @@
 -- What tokens say of a file, through the table that holds their texts.
-use Rattle.std.specs.Prelude.{◌≡◌, ℕ, ◌<◌, List, length, map, Some, Option, slice_get, All, Ok, Err}
+use Rattle.std.specs.Prelude.{◌≡◌, ℕ, List, map, Some, Option, slice_get, All, Ok, Err}
 use Rattle.std.specs.Option.{option_map}
 use Rattle.sc_base.specs.declared.id.FileId.{FileId}
 use Rattle.sc_base.specs.declared.place.Place.{Place}
@@ -20,11 +20,6 @@ pub record Spell (names : List (List ℕ)) (file : FileId) (ls : List Lexeme) (t
   pub each : map (lexeme_at names) ts ≡ map Some ls
   pub named : All (λ t. slice_get names t.name.0 ≡ option_map name_of (slice_get names t.spelling.0)) ts
   pub placed : All (λ t. t.place.file ≡ file) ts
-
--- the table holds the token's texts
-pub record IsHeld (names : List (List ℕ)) (t : Token) : Type 0 where
-  pub name : t.name.0 < length names
-  pub spelling : t.spelling.0 < length names
 
 -- the file has these tokens
 pub record AreTokensOf (names : List (List ℕ)) (file : FileId) (bytes : List ℕ) (ts : List Token) : Type 0 where

@@ -2,12 +2,12 @@ ghost use Rattle.std.specs.Prelude.{◌≡◌, Some, slice_get, All, IfOk, IfErr
 ghost use Rattle.sc_model.specs.Growth.{Extends, IsOneToOne};
 ghost use Rattle.c11_tokens.specs.Lex.{is_newline};
 ghost use Rattle.sc_model.specs.Token.{name_of};
-ghost use Rattle.sc_base.specs.Seen.{position_of};
-ghost use Rattle.sc_lex.specs.Spell.{lexeme_at, IsHeld, AreTokensOf, Refuses};
+ghost use Rattle.sc_base.specs.Seen.{IsHeld, position_of};
+ghost use Rattle.sc_lex.specs.Spell.{lexeme_at, AreTokensOf, Refuses};
 
 use crate::line::{LineFront, digraph};
-use crate::piece::{Row, longest};
-use crate::source::Source;
+use crate::piece::{PieceKind, longest};
+use crate::cursor::Cursor;
 use crate::unclosed::UnclosedQuotes;
 use crate::{Kind, LexStop, Token};
 use sc_base::{FileId, Names, OutOfMemory, Place};
@@ -28,22 +28,22 @@ pub fn tokens(
     ensures grows { Extends names.old names.new }
     ensures one_to_one { IsOneToOne names.old → IsOneToOne names.new }
 {
-    let text = Source::new(bytes).text(alloc)?;
-    let mut source = Source::new(bytes);
+    let text = Cursor::new(bytes).text(alloc)?;
+    let mut cursor = Cursor::new(bytes);
     let mut tokens = Vec::new(alloc);
     let mut front = LineFront::Start;
     let mut unclosed = UnclosedQuotes::NONE;
     let mut space = false;
     let mut offset = 0;
     while offset < text.len() {
-        let place = source.place(file);
+        let place = cursor.place(file);
         let rest = &text[offset..];
         let Some(piece) = longest(rest, front.expects_header(), unclosed) else {
             return Err(LexStop::Comment(place));
         };
-        match piece.row {
-            Row::Blank | Row::Comment => space = true,
-            Row::Token(kind) => {
+        match piece.kind {
+            PieceKind::Blank | PieceKind::Comment => space = true,
+            PieceKind::Token(kind) => {
                 let spelling = &rest[..piece.length];
                 tokens.push(token(names, kind, spelling, space, place)?)?;
                 front = front.after(kind, spelling);
@@ -51,7 +51,7 @@ pub fn tokens(
             }
         }
         unclosed = unclosed.after(rest, piece.length);
-        source.advance(piece.length);
+        cursor.advance(piece.length);
         offset += piece.length;
     }
     Ok(tokens)

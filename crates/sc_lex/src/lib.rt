@@ -5,7 +5,7 @@ mod lexer;
 mod line;
 mod piece;
 mod scan;
-mod source;
+mod cursor;
 mod stop;
 mod unclosed;
 

@@ -1,8 +1,8 @@
 ghost use Rattle.std.specs.Prelude.{◌≡◌, ◌+◌, ◌<◌, ℕ, List, length, IfSome, IfNone};
 ghost use Rattle.c11_tokens.specs.Lex.{token, rank, fits_here, expects_header, IsLongest, IsUnended};
-ghost use Rattle.sc_model.specs.declared.kind.Kind.TheVariants as kind;
+ghost use Rattle.sc_model.specs.declared.kind.Kind.TheVariants as token_kind;
 ghost use Rattle.sc_lex.specs.Scan.{IsLongestFront};
-ghost use Rattle.sc_lex.specs.Piece.{row_of, IsBestBefore};
+ghost use Rattle.sc_lex.specs.Piece.{kind_of, IsBestBefore};
 ghost use Rattle.sc_lex.specs.Unclosed.{AreUnclosed};
 
 use crate::scan;
@@ -11,7 +11,7 @@ use sc_model::Kind;
 
 /// What a piece of a text can be: white space, or a token.
 #[derive(Clone, Copy, Debug, PartialEq, Eq)]
-pub enum Row {
+pub enum PieceKind {
     Blank,
     Comment,
     Token(Kind),
@@ -20,20 +20,20 @@ pub enum Row {
 /// So many bytes at the front of a text, and what they are.
 #[derive(Clone, Copy, Debug, PartialEq, Eq)]
 pub struct Piece {
-    pub row: Row,
+    pub kind: PieceKind,
     pub length: usize,
 }
 
 impl Piece {
     /// The longer one, and of two just as long this one.
-    fn or_longer(self, row: Row, length: usize) -> Piece
+    fn or_longer(self, kind: PieceKind, length: usize) -> Piece
         ensures { (line : List (List ℕ)) (bytes : List ℕ) (bound : ℕ)
-            → IsBestBefore bound line bytes (row_of self.row) self.length → rank (row_of row) ≡ bound
-            → IsLongestFront (fits_here line (row_of row)) bytes length
-            → IsBestBefore (bound + 1) line bytes (row_of result.row) result.length }
+            → IsBestBefore bound line bytes (kind_of self.kind) self.length → rank (kind_of kind) ≡ bound
+            → IsLongestFront (fits_here line (kind_of kind)) bytes length
+            → IsBestBefore (bound + 1) line bytes (kind_of result.kind) result.length }
     {
         if self.length < length {
-            Piece { row, length }
+            Piece { kind, length }
         } else {
             self
         }
@@ -45,34 +45,34 @@ pub fn longest(text: &[u8], expects: bool, unclosed: UnclosedQuotes) -> Option<P
     requires some { 0 < length text.now }
     requires unclosed { AreUnclosed text.now unclosed }
     ensures some { IfSome result (λ piece. (line : List (List ℕ)) → expects_header line ≡ expects
-        → IsLongest line text.now (row_of piece.row) piece.length) }
+        → IsLongest line text.now (kind_of piece.kind) piece.length) }
     ensures none { IfNone result (IsUnended text.now) }
 {
     let comment = scan::comment(text)?;
     let best = Piece {
-        row: Row::Token(Kind::Header),
+        kind: PieceKind::Token(Kind::Header),
         length: header(text, expects),
     };
     Some(
-        best.or_longer(Row::Blank, scan::blank(text))
-            .or_longer(Row::Comment, comment)
-            .or_longer(Row::Token(Kind::Newline), scan::newline(text))
-            .or_longer(Row::Token(Kind::Identifier), scan::identifier(text))
-            .or_longer(Row::Token(Kind::Number), scan::number(text))
+        best.or_longer(PieceKind::Blank, scan::blanks(text))
+            .or_longer(PieceKind::Comment, comment)
+            .or_longer(PieceKind::Token(Kind::Newline), scan::newline(text))
+            .or_longer(PieceKind::Token(Kind::Identifier), scan::identifier(text))
+            .or_longer(PieceKind::Token(Kind::Number), scan::number(text))
             .or_longer(
-                Row::Token(Kind::Character),
+                PieceKind::Token(Kind::Character),
                 scan::character(text, unclosed.single),
             )
-            .or_longer(Row::Token(Kind::Text), scan::string(text, unclosed.double))
-            .or_longer(Row::Token(Kind::Punctuator), scan::punctuator(text))
-            .or_longer(Row::Token(Kind::Other), 1),
+            .or_longer(PieceKind::Token(Kind::Text), scan::string(text, unclosed.double))
+            .or_longer(PieceKind::Token(Kind::Punctuator), scan::punctuator(text))
+            .or_longer(PieceKind::Token(Kind::Other), 1),
     )
 }
 
 /// A header name, where one may stand.
 fn header(text: &[u8], expects: bool) -> usize
     ensures { (line : List (List ℕ)) → expects_header line ≡ expects
-        → IsLongestFront (fits_here line (token kind.Header)) text.now result }
+        → IsLongestFront (fits_here line (token token_kind.Header)) text.now result }
 {
     if expects { scan::header(text) } else { 0 }
 }

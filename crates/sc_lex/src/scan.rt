@@ -2,7 +2,7 @@
 ghost use Rattle.std.specs.Prelude.{◌≡◌, ◌<◌, ◌&&◌, ℕ, false, [], ◌∷◌, length, take, drop, IfSome, OnSome, IfNone};
 ghost use Rattle.std.specs.List.{list_all};
 ghost use Rattle.sc_model.specs.Bytes.{begins_with, is_letter, is_digit, is_hex_digit};
-ghost use Rattle.c11_tokens.specs.Lex.{is_blank, is_white_byte, fits, token};
+ghost use Rattle.c11_tokens.specs.Lex.{is_blank, is_white_space, fits, token};
 ghost use Rattle.c11_tokens.specs.Lex.{is_comment, IsUnended, comment_closes};
 ghost use Rattle.sc_model.specs.Bytes.{has_no_newline};
 ghost use Rattle.c11_tokens.specs.Lex.{is_identifier, goes_on, is_number, is_exponent, number_goes_on};
@@ -12,14 +12,16 @@ ghost use Rattle.sc_model.specs.declared.kind.Kind.TheVariants as kind;
 ghost use Rattle.sc_lex.specs.Scan.{IsLongestFront, hex_front, universal_length, letter_length, number_letter_length, begins_name, begins_number, quoted_length, opens, has_punctuator};
 ghost use Rattle.sc_lex.specs.Unclosed.{IsUnclosed};
 
-pub fn blank(text: &[u8]) -> usize
-    ensures { IsLongestFront is_white_byte text.now result }
+/// The white space of the line that comes first.
+pub fn blanks(text: &[u8]) -> usize
+    ensures { IsLongestFront is_white_space text.now result }
 {
-    if !text.is_empty() && is_blank(text[0]) {
-        1
-    } else {
-        0
+    for (i, b) in text.iter().enumerate() {
+        if !is_blank(*b) {
+            return i;
+        }
     }
+    text.len()
 }
 
 pub fn newline(text: &[u8]) -> usize

@@ -1,8 +1,8 @@
 use Rattle.std.proofs.Common.{◌≡◌, ℕ, ◌-◌, ◌+◌, ◌<◌, List, [], ◌∷◌, ◌++◌, Some, length, take, drop, ◌⊎◌, inl, inr, true, false, refl, sym, ap, ◌∙◌, subst, arith}
 use Rattle.std.proofs.lemmas.List.{take_rest, drop-drop}
 use Rattle.c11_tokens.specs.Lex.{bytes_of, is_newline, line_after, IsLongest, IsUnended, is_white}
-use Rattle.sc_lex.specs.declared.piece.Row.{Row}
-use Rattle.sc_lex.specs.declared.piece.Row.TheVariants.{Blank, Comment}
+use Rattle.sc_lex.specs.declared.piece.PieceKind.{PieceKind}
+use Rattle.sc_lex.specs.declared.piece.PieceKind.TheVariants.{Blank, Comment}
 use Rattle.sc_lex.specs.declared.line.LineFront.TheVariants.{Start}
 use Rattle.sc_base.proofs.Growth.{Extends-refl, Extends-trans}
 use Rattle.sc_lex.specs.Line.{front_of}
@@ -10,7 +10,7 @@ use Rattle.sc_lex.specs.Logical.{logical_of}
 use Rattle.std.specs.Option.{option_map}
 use Rattle.sc_model.specs.Token.{name_of}
 use Rattle.sc_base.specs.Seen.{position_of}
-use Rattle.sc_lex.specs.Piece.{row_of}
+use Rattle.sc_lex.specs.Piece.{kind_of}
 use Rattle.sc_lex.specs.Unclosed.{AreUnclosed}
 use Rattle.sc_lex.proofs.UnclosedLemmas.{IsUnclosed-none}
 use Rattle.sc_lex.proofs.Lexing.{LexedSoFar, nothing_yet, after_white, after_token, unended_here, all_lexed}
@@ -26,14 +26,14 @@ some_left c = let len = c.len.ensures in let all = c.in_ok-text.text.ok.0 in ome
 rest_is : (c : After-longest) → take (length c.deref.result.now - c.loop-offset.offset) (drop c.loop-offset.offset c.deref.result.now) ≡ drop c.loop-offset.offset c.in_ok-text.text.items
 rest_is c = take_rest c.deref.result.now c.loop-offset.offset ∙ ap (drop c.loop-offset.offset) c.deref.ensures.value
 
-is_white_piece : (row : Row) → (row ≡ Blank) ⊎ (row ≡ Comment) → is_white (row_of row) ≡ true
-is_white_piece row (inl e) = ap (λ r. is_white (row_of r)) e
-is_white_piece row (inr e) = ap (λ r. is_white (row_of r)) e
+is_white_piece : (kind : PieceKind) → (kind ≡ Blank) ⊎ (kind ≡ Comment) → is_white (kind_of kind) ≡ true
+is_white_piece kind (inl e) = ap (λ r. is_white (kind_of r)) e
+is_white_piece kind (inr e) = ap (λ r. is_white (kind_of r)) e
 
 pub loop-offset-init : goal.loop-offset-init
 loop-offset-init c = record {
-  so_far = subst (λ ts. LexedSoFar c.args.names.now c.args.file c.args.bytes.now c.in_ok-text.text.items Start false (logical_of c.new-source.result) 0 ts) (sym c.new-tokens.ensures.items)
-      (nothing_yet c.args.names.now c.args.file c.args.bytes.now c.in_ok-text.text.items Start (logical_of c.new-source.result) refl c.new-source.ensures (c.in_ok-text.ensures ∙ ap bytes_of c.new.ensures));
+  so_far = subst (λ ts. LexedSoFar c.args.names.now c.args.file c.args.bytes.now c.in_ok-text.text.items Start false (logical_of c.new-cursor.result) 0 ts) (sym c.new-tokens.ensures.items)
+      (nothing_yet c.args.names.now c.args.file c.args.bytes.now c.in_ok-text.text.items Start (logical_of c.new-cursor.result) refl c.new-cursor.ensures (c.in_ok-text.ensures ∙ ap bytes_of c.new.ensures));
   unclosed = record { single = IsUnclosed-none 39 c.in_ok-text.text.items; double = IsUnclosed-none 34 c.in_ok-text.text.items };
   grows = Extends-refl c.args.names.now;
   one_to_one = λ one. one;
@@ -56,10 +56,10 @@ loop-offset-preserved c =
     let text = c.in_ok-text.text.items in
     let known : AreUnclosed (drop (c.loop-offset.offset + c.in-Some.piece.length) text) c.after-unclosed.result =
     subst (λ bs. AreUnclosed bs c.after-unclosed.result) (ap (drop c.in-Some.piece.length) (rest_is d) ∙ drop-drop c.in-Some.piece.length c.loop-offset.offset text) c.after-unclosed.ensures in
-    let longest = λ (line : List (List ℕ)) (f : front_of line ≡ c.loop-offset.front). subst (λ bs. IsLongest line bs (row_of c.in-Some.piece.row) c.in-Some.piece.length) (rest_is d) (c.in-Some.ensures.some line (c.expects_header.ensures line f)) in
+    let longest = λ (line : List (List ℕ)) (f : front_of line ≡ c.loop-offset.front). subst (λ bs. IsLongest line bs (kind_of c.in-Some.piece.kind) c.in-Some.piece.length) (rest_is d) (c.in-Some.ensures.some line (c.expects_header.ensures line f)) in
     elim c.match-piece.branch [
       | in-Blank w ↦ record {
-        so_far = rw (w.names-is, w.tokens-is, w.front-is, w.space-is) (after_white so (row_of c.in-Some.piece.row) c.in-Some.piece.length _ (some_left d) (is_white_piece c.in-Some.piece.row w.in-Blank.is) longest next);
+        so_far = rw (w.names-is, w.tokens-is, w.front-is, w.space-is) (after_white so (kind_of c.in-Some.piece.kind) c.in-Some.piece.length _ (some_left d) (is_white_piece c.in-Some.piece.kind w.in-Blank.is) longest next);
         unclosed = known;
         grows = rw w.names-is c.loop-offset.invariant.grows;
         one_to_one = rw w.names-is c.loop-offset.invariant.one_to_one;
@@ -74,7 +74,7 @@ loop-offset-preserved c =
             let space : c.match-piece.space ≡ is_newline kind = w.space-is ∙ w.is_newline-space.ensures in
             rw (w.names-is, items, w.front-is, space)
             (after_token so w.token.new.names t kind n c.place-place.result _ w.after-front.result (some_left d)
-            (λ line f. subst (λ row. IsLongest line (drop c.loop-offset.offset c.in_ok-text.text.items) (row_of row) n) w.in-Token.is (longest line f))
+            (λ line f. subst (λ kind. IsLongest line (drop c.loop-offset.offset c.in_ok-text.text.items) (kind_of kind) n) w.in-Token.is (longest line f))
             (λ line f. subst (λ bs. front_of (line_after line kind (take n bs)) ≡ w.after-front.result) (rest_is d) (w.after-front.ensures line f))
             c.place-place.ensures.first next w.token.ensures.grows
             (made.spelled ∙ ap (λ bs. Some (record { kind = kind; spelling = take n bs; space = c.loop-offset.space; position = position_of c.place-place.result })) (rest_is d))

@@ -1,5 +1,5 @@
 use Rattle.std.proofs.Common.{◌≡◌, ℕ, false, refl}
-use Rattle.c11_tokens.specs.Lex.{Row, blank, comment, token, fits, is_header_row}
+use Rattle.c11_tokens.specs.Lex.{PieceKind, blank, comment, token, fits, is_header_name}
 use Rattle.sc_model.specs.declared.kind.Kind.TheVariants.{Identifier, Number, Character, Text, Punctuator, Other, Newline}
 use Rattle.sc_lex.specs.Scan.{IsLongestFront}
 use Rattle.sc_lex.proofs.Best.{best_of_first, front_here, longest_of_best, one_byte_fits, some_byte}
@@ -8,9 +8,9 @@ use Rattle.sc_lex.proofs.piece.longest.Goals as goal
 pub returns-clause-some : goal.returns-clause-some
 returns-clause-some c = λ line is.
     let bs = c.args.text.now in
-    let here = λ (row : Row) (n : ℕ) (off : is_header_row row ≡ false) (front : IsLongestFront (fits row) bs n). front_here line row bs n off front in
+    let here = λ (kind : PieceKind) (n : ℕ) (off : is_header_name kind ≡ false) (front : IsLongestFront (fits kind) bs n). front_here line kind bs n off front in
     let b1 = best_of_first line bs _ (c.header.ensures line is) in
-    let b2 = c.or_longer.ensures line bs 1 b1 refl (here blank _ refl c.blank.ensures) in
+    let b2 = c.or_longer.ensures line bs 1 b1 refl (here blank _ refl c.blanks.ensures) in
     let b3 = c.or_longer-2.ensures line bs 2 b2 refl (here comment _ refl c.in_ok-comment.ensures.some) in
     let b4 = c.or_longer-3.ensures line bs 3 b3 refl (here (token Newline) _ refl c.newline.ensures) in
     let b5 = c.or_longer-4.ensures line bs 4 b4 refl (here (token Identifier) _ refl c.identifier.ensures) in

@@ -1,9 +1,9 @@
--- A source steps through the text that phase 1 makes of a file.
+-- A cursor steps through the text that phase 1 makes of a file.
 use Rattle.std.proofs.Common.{◌≡◌, ℕ, ◌+◌, ◌==◌, ◌&&◌, not, Bool, true, false, cond, List, [], ◌∷◌, drop, Option, Some, None, refl, sym, ap, ◌∙◌, subst, arith}
 use Rattle.std.proofs.lemmas.Bool.{and_parts, eqb-true}
 use Rattle.sc_model.specs.Bytes.{begins_with}
 use Rattle.c11_tokens.specs.Lex.{Marked, marked_from, bytes_of, without_returns, with_last_newline, phase_1}
-use Rattle.sc_lex.specs.Source.{logical, Takes}
+use Rattle.sc_lex.specs.Cursor.{logical, Takes}
 use Rattle.sc_lex.proofs.Quotes.{eqb_comm}
 
 bytes_of-marked_from : (line column : ℕ) (bs : List ℕ) → bytes_of (marked_from line column bs) ≡ bs

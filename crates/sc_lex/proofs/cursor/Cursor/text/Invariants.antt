@@ -1,7 +1,7 @@
 use Rattle.std.proofs.Common.{◌≡◌, ◌++◌, length}
 use Rattle.c11_tokens.specs.Lex.{bytes_of}
 use Rattle.sc_lex.specs.Logical.{logical_of}
-use Rattle.sc_lex.proofs.source.Source.text.Given as goal
+use Rattle.sc_lex.proofs.cursor.Cursor.text.Given as goal
 
 abbrev pub invariant-loop-b : goal.invariant-loop-b
 invariant-loop-b l = l.text.items ++ bytes_of (logical_of l.self) ≡ bytes_of (logical_of l.fn.self)

@@ -1,7 +1,7 @@
 ghost use Rattle.std.specs.Prelude.{◌≡◌, ◌+◌, ◌^◌, ◌<◌, [], ◌∷◌, false, List, length, drop, IfOk};
 ghost use Rattle.sc_model.specs.Bytes.{begins_with};
 ghost use Rattle.c11_tokens.specs.Lex.{Marked, phase_1, bytes_of};
-ghost use Rattle.sc_lex.specs.Source.{Takes};
+ghost use Rattle.sc_lex.specs.Cursor.{Takes};
 
 use sc_base::{FileId, OutOfMemory, Place};
 use std::alloc::Global;
@@ -9,7 +9,7 @@ use std::alloc::Global;
 /// A file from some byte on, as the later phases of translation see it: without an order mark, without a carriage
 /// return before a newline, and with a newline at its end.
 #[derive(Clone, Copy)]
-pub struct Source<'a> {
+pub struct Cursor<'a> {
     rest: &'a [u8],
     line: usize,
     column: usize,
@@ -19,23 +19,23 @@ pub struct Source<'a> {
     ghost columns: { column + length rest.now < 2 ^ 64 },
 }
 
-impl<'a> Source<'a> {
+impl<'a> Cursor<'a> {
     ghost use Rattle.sc_lex.specs.Logical.{logical_of};
     ghost use Rattle.sc_base.specs.Seen.{position_of};
 
     /// A whole file.
-    pub fn new(bytes: &'a [u8]) -> Source<'a>
+    pub fn new(bytes: &'a [u8]) -> Cursor<'a>
         ensures { logical_of result ≡ phase_1 bytes.now }
     {
         if bytes.starts_with(b"\xef\xbb\xbf") {
-            return Source {
+            return Cursor {
                 rest: &bytes[3..],
                 line: 1,
                 column: 4,
                 wanted: false,
             };
         }
-        Source {
+        Cursor {
             rest: bytes,
             line: 1,
             column: 1,

@@ -1,8 +1,8 @@
 use Rattle.std.proofs.Common.{drop, ap, ◌∙◌}
 use Rattle.std.proofs.lemmas.List.{drop-drop}
 use Rattle.sc_lex.specs.Logical.{logical_of}
-use Rattle.sc_lex.proofs.Sources.{Takes-drop}
-use Rattle.sc_lex.proofs.source.Source.advance.Goals as goal
+use Rattle.sc_lex.proofs.CursorLemmas.{Takes-drop}
+use Rattle.sc_lex.proofs.cursor.Cursor.advance.Goals as goal
 
 pub loop-preserved : goal.loop-preserved
 loop-preserved c =

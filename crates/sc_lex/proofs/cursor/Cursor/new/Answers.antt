@@ -1,9 +1,9 @@
 use Rattle.std.proofs.Common.{[], ◌∷◌, false, ap, sym, ◌∙◌}
 use Rattle.std.proofs.lemmas.List.{take_rest}
-use Rattle.sc_lex.specs.Source.{logical}
+use Rattle.sc_lex.specs.Cursor.{logical}
 use Rattle.sc_lex.proofs.Quotes.{starts_with-is}
-use Rattle.sc_lex.proofs.Sources.{phase_1-plain, phase_1-marked}
-use Rattle.sc_lex.proofs.source.Source.new.Goals as goal
+use Rattle.sc_lex.proofs.CursorLemmas.{phase_1-plain, phase_1-marked}
+use Rattle.sc_lex.proofs.cursor.Cursor.new.Goals as goal
 
 pub returns-then-starts_with : goal.returns-then-starts_with
 returns-then-starts_with c =
