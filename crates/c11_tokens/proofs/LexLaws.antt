@@ -7,7 +7,7 @@ use Rattle.sc_model.specs.Token.{Position, Lexeme}
 use Rattle.c11_tokens.specs.Lex.{PieceKind, blank, comment, token, rank, fits_here, IsLongest, Marked, bytes_of, with_first, lexeme, line_after, is_newline, Lexes, nothing, white, piece, unended, is_white}
 
 -- the kind of a rank
-kind_at : ℕ → PieceKind
+abbrev pub kind_at : ℕ → PieceKind
 kind_at zero = token Header
 kind_at (suc zero) = blank
 kind_at (suc (suc zero)) = comment
@@ -19,8 +19,7 @@ kind_at (suc (suc (suc (suc (suc (suc (suc zero))))))) = token Text
 kind_at (suc (suc (suc (suc (suc (suc (suc (suc zero)))))))) = token Punctuator
 kind_at (suc (suc (suc (suc (suc (suc (suc (suc (suc n))))))))) = token Other
 
-kind_at-rank : (r : PieceKind) → kind_at (rank r) ≡ r
-unfolding kind_at
+pub kind_at-rank : (r : PieceKind) → kind_at (rank r) ≡ r
 kind_at-rank blank = refl
 kind_at-rank comment = refl
 kind_at-rank (token Identifier) = refl

@@ -75,7 +75,7 @@ no_header_here line bytes off = record {
   longest = λ m longer within. and_right (fits (token Header) (take m bytes)) _ (ap (λ t. t || false) off);
 }
 
-rank-below : (kind : PieceKind) → rank kind < 10
+pub rank-below : (kind : PieceKind) → rank kind < 10
 rank-below blank = omega arith
 rank-below comment = omega arith
 rank-below (token Identifier) = omega arith

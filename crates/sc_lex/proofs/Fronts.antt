@@ -53,7 +53,7 @@ longest_where_stuck {f} {g} {bytes} {n} b ends stuck = record {
 pub none_where_stuck : (f : List ℕ → Bool) (bytes : List ℕ) → IsStuck f bytes → IsLongestFront f bytes 0
 none_where_stuck f bytes stuck = record { within = omega arith; fit = λ positive. absurd (omega arith); longest = stuck.fails }
 
-nothing_more : (bs : List ℕ) (m : ℕ) → 0 < m → m ≤ length bs → same_bytes (take m bs) [] ≡ false
+pub nothing_more : (bs : List ℕ) (m : ℕ) → 0 < m → m ≤ length bs → same_bytes (take m bs) [] ≡ false
 nothing_more bs zero positive within = absurd (omega arith)
 nothing_more [] (suc m) positive within = absurd (omega arith)
 nothing_more (c ∷ cs) (suc m) positive within = refl

@@ -1,4 +1,6 @@
 pub mod Best
+pub mod CursorLemmas
+pub mod FirstBytes
 pub mod Fronts
 pub mod Lexing
 pub mod Lines
@@ -6,6 +8,5 @@ pub mod Names
 pub mod Punctuators
 pub mod Quotes
 pub mod SeenLemmas
-pub mod CursorLemmas
 pub mod Spells
 pub mod UnclosedLemmas

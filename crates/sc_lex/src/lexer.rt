@@ -5,9 +5,9 @@ ghost use Rattle.sc_model.specs.Token.{name_of};
 ghost use Rattle.sc_base.specs.Seen.{IsHeld, position_of};
 ghost use Rattle.sc_lex.specs.Spell.{lexeme_at, AreTokensOf, Refuses};
 
+use crate::cursor::Cursor;
 use crate::line::{LineFront, digraph};
 use crate::piece::{PieceKind, longest};
-use crate::cursor::Cursor;
 use crate::unclosed::UnclosedQuotes;
 use crate::{Kind, LexStop, Token};
 use sc_base::{FileId, Names, OutOfMemory, Place};

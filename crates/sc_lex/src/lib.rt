@@ -1,11 +1,11 @@
 //! From the bytes of a file to its tokens (C11 5.1.1.2 phases 1 and 3, and 6.4).
 #![tactic(auto, using(sc_base::proofs::Growth::growth))]
 
+mod cursor;
 mod lexer;
 mod line;
 mod piece;
 mod scan;
-mod cursor;
 mod stop;
 mod unclosed;
 

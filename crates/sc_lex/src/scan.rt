@@ -423,19 +423,19 @@ fn is_two(a: u8, b: u8) -> bool
     }
 }
 
-fn is_blank(b: u8) -> bool
+pub fn is_blank(b: u8) -> bool
     ensures { result ≡ is_blank b }
 {
     matches!(b, b'\t' | 0x0b | 0x0c | b'\r' | b' ')
 }
 
-fn is_letter(b: u8) -> bool
+pub fn is_letter(b: u8) -> bool
     ensures { result ≡ is_letter b }
 {
     b.is_ascii_alphabetic() || b == b'_' || b >= 0x80
 }
 
-fn is_digit(b: u8) -> bool
+pub fn is_digit(b: u8) -> bool
     ensures { result ≡ is_digit b }
 {
     b.is_ascii_digit()

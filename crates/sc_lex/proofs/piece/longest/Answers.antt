@@ -3,7 +3,11 @@ use Rattle.c11_tokens.specs.Lex.{PieceKind, blank, comment, token, fits, is_head
 use Rattle.sc_model.specs.declared.kind.Kind.TheVariants.{Identifier, Number, Character, Text, Punctuator, Other, Newline}
 use Rattle.sc_lex.specs.Scan.{IsLongestFront}
 use Rattle.sc_lex.proofs.Best.{best_of_first, front_here, longest_of_best, one_byte_fits, some_byte}
+use Rattle.sc_lex.proofs.FirstBytes.{longest_where_only}
 use Rattle.sc_lex.proofs.piece.longest.Goals as goal
+
+pub returns-in-Some-clause-some : goal.returns-in-Some-clause-some
+returns-in-Some-clause-some c = λ line is. longest_where_only line c.args.text.now _ _ c.requires.some c.in-Some.ensures.only c.in-Some.ensures.longest
 
 pub returns-clause-some : goal.returns-clause-some
 returns-clause-some c = λ line is.
