@@ -50,7 +50,8 @@ pub data PieceKind : Type 0 where
 abbrev pub is_blank : ℕ → Bool
 is_blank b = b == 9 || b == 11 || b == 12 || b == 13 || b == 32
 
--- Letters, digits and universal character names (6.4.2, 6.4.3), as many hexadecimal digits first as a name that began still wants.
+-- Letters, digits and universal character names (6.4.2, 6.4.3), as many hexadecimal digits first as
+-- a name that began still wants.
 abbrev mutual
   pub goes_on : ℕ → List ℕ → Bool
   goes_on zero [] = true
@@ -94,7 +95,8 @@ abbrev pub is_number : List ℕ → Bool
 is_number [] = false
 is_number (b ∷ bs) = (is_digit b || (b == 46 && begins_with_digit bs)) && number_goes_on false 0 bs
 
--- Up to the closing quote, which is the last byte (6.4.4.4, 6.4.5); a backslash takes the byte after it along.
+-- Up to the closing quote, which is the last byte (6.4.4.4, 6.4.5); a backslash takes the byte
+-- after it along.
 abbrev mutual
   pub closes : ℕ → List ℕ → Bool
   closes quote [] = false
@@ -192,7 +194,8 @@ abbrev pub is_header_name : PieceKind → Bool
 is_header_name (token Header) = true
 is_header_name _ = false
 
--- The kinds in order. Where two fit the same bytes the first counts, so a header name goes before a string literal.
+-- The kinds in order. Where two fit the same bytes the first counts, so a header name goes before a
+-- string literal.
 abbrev pub rank : PieceKind → ℕ
 rank (token Header) = 0
 rank blank = 1
@@ -214,7 +217,8 @@ pub record IsUnended (bytes : List ℕ) : Type 0 where
   pub begins : begins_with (47 ∷ 42 ∷ []) bytes ≡ true
   pub no_end : (n : ℕ) → is_comment (take n bytes) ≡ false
 
--- The first n bytes are the longest front that fits a kind, this is the first kind that they fit, and no comment without an end begins here.
+-- The first n bytes are the longest front that fits a kind, this is the first kind that they fit,
+-- and no comment without an end begins here.
 pub record IsLongest (line : List (List ℕ)) (bytes : List ℕ) (kind : PieceKind) (n : ℕ) : Type 0 where
   pub positive : 0 < n
   pub within : n ≤ length bytes

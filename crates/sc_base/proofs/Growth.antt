@@ -1,4 +1,5 @@
--- Lists that only gain items at their end, as the tables of ids do. `growth` is the set of lemmas for a `using`.
+-- Lists that only gain items at their end, as the tables of ids do. `growth` is the set of lemmas
+-- for a `using`.
 use Rattle.std.proofs.Common.{◌≡◌, ℕ, zero, suc, ◌<◌, ◌≤◌, ◌⊎◌, inl, inr, Bool, true, List, [], ◌∷◌, ◌++◌, length, length-append, slice_get, Some, Contains, refl, ap, sym, ◌∙◌, arith}
 use Rattle.std.specs.List.{IsDistinct}
 use Rattle.std.proofs.lemmas.Bool.{cases_order, true≢false}

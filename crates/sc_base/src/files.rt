@@ -7,7 +7,8 @@ use indexmap::IndexSet;
 use std::alloc::Global;
 use std::marker::Model;
 
-/// The names of the files that were met, each kept once, in the order of their ids. A name keeps its id for good.
+/// The names of the files that were met, each kept once, in the order of their ids. A name keeps
+/// its id for good.
 #[derive(Drop)]
 pub struct Files {
     names: IndexSet<String>,

@@ -7,7 +7,8 @@ use indexmap::IndexSet;
 use std::alloc::Global;
 use std::marker::Model;
 
-/// The texts of tokens, each kept once, in the order of their names. A text keeps its name for good.
+/// The texts of tokens, each kept once, in the order of their names. A text keeps its name for
+/// good.
 #[derive(Drop)]
 pub struct Names {
     texts: IndexSet<Vec<u8>>,

@@ -24,7 +24,8 @@ impl<T: Drop> From<AllocFailed<T>> for OutOfMemory {
 /// Why a whole run ends without an answer.
 #[derive(Clone, Copy, Debug, PartialEq, Eq, Error)]
 pub enum Stop {
-    /// More branches than the limit would be needed at one place, and `count` is the limit and one more.
+    /// More branches than the limit would be needed at one place, and `count` is the limit and one
+    /// more.
     #[error("branches full: {count}")]
     BranchesFull { count: usize },
     /// A file could not be read.

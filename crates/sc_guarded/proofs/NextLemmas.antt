@@ -72,7 +72,8 @@ and-not_none false b none = refl
 pub next_at-cons : {T : Type 0} (s : Sets) (x : Cond × T) (xs : List (Cond × T)) (c : List ℕ) → next_at s (x ∷ xs) c ≡ (if s.has x.0.0 c then 0 else 1 + next_at s xs c)
 next_at-cons s x xs c = elim (s.has x.0.0 c) as (λ b. (if not b then 1 + next_at s xs c else 0) ≡ (if b then 0 else 1 + next_at s xs c)) [ true ↦ refl | false ↦ refl ]
 
--- one item: where it takes the configuration its index is the answer, and elsewhere the answer is that of the rest
+-- one item: where it takes the configuration its index is the answer, and elsewhere the answer is
+-- that of the rest
 pub next_step : (left here : Bool) (found found' answer : List ℕ) (i n n' : ℕ) → found ++ (if left then (i + n) ∷ [] else []) ≡ answer → n ≡ (if here then 0 else 1 + n')
     → found' ≡ found ++ (if left && here then i ∷ [] else []) → found' ++ (if left && not here then (i + 1 + n') ∷ [] else []) ≡ answer
 next_step true true found found' answer i n n' was next more =

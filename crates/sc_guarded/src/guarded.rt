@@ -11,7 +11,8 @@ use sc_presence::Conditions;
 use std::alloc::Global;
 use std::marker::Model;
 
-/// Items in order, each with the condition under which it stands. At one configuration the list is that of the items whose condition has it.
+/// Items in order, each with the condition under which it stands. At one configuration the list is
+/// that of the items whose condition has it.
 #[derive(Drop)]
 pub struct Guarded<T> {
     items: Vec<(Cond, T)>,
@@ -91,8 +92,9 @@ impl<T> Guarded<T> {
         Ok(())
     }
 
-    /// Parts the configurations of `cond` by which item of index `from` on comes next for them: disjoint conditions, each with the index of
-    /// such an item, or with `len()` for the configurations that have none.
+    /// Parts the configurations of `cond` by which item of index `from` on comes next for them:
+    /// disjoint conditions, each with the index of such an item, or with `len()` for the
+    /// configurations that have none.
     pub fn follow<C: Conditions>(
         &self,
         alloc: Global,

@@ -7,7 +7,8 @@ use sc_base::{Cond, OutOfMemory};
 use sc_presence::Conditions;
 use std::alloc::Global;
 
-/// The parts of a condition by the next item of index `from` on, each with the item's index, and with the length where there is none.
+/// The parts of a condition by the next item of index `from` on, each with the item's index, and
+/// with the length where there is none.
 #[tactic(auto, using(sc_model::proofs::SetLemmas::conditions))]
 pub fn next_parts<C: Conditions, T>(
     alloc: Global,
@@ -43,7 +44,8 @@ pub fn next_parts<C: Conditions, T>(
     Ok(parts)
 }
 
-/// Adds the part of `left` that the item of an index takes, and gives the configurations of `left` that it doesn't take.
+/// Adds the part of `left` that the item of an index takes, and gives the configurations of `left`
+/// that it doesn't take.
 #[tactic(auto, using(sc_model::proofs::SetLemmas::conditions))]
 fn take_part<C: Conditions>(
     conds: &mut C,

@@ -1,4 +1,5 @@
--- Identifiers and preprocessing numbers: what each letter, digit, sign or universal character name at the front asks of the rest.
+-- Identifiers and preprocessing numbers: what each letter, digit, sign or universal character name
+-- at the front asks of the rest.
 use Rattle.std.proofs.Common.{◌≡◌, ℕ, zero, suc, ◌+◌, ◌<◌, ◌≤◌, ◌==◌, ◌&&◌, ◌||◌, inl, inr, Bool, true, false, cond, nat_le, List, [], ◌∷◌, ◌++◌, length, take, drop, get_or, refl, sym, ap, ◌∙◌, subst, arith}
 use Rattle.std.proofs.lemmas.Bool.{cases_Bool, and_parts, and_cases, and_left, and_right, or_from, or_parts, or_cases, or_right, eqb-true, leb-true, leb-false, le-leb, lt-leb, true≢false}
 use Rattle.std.specs.List.{list_all}

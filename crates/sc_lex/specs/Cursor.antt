@@ -3,8 +3,8 @@ use Rattle.std.specs.Prelude.{◌≡◌, ℕ, ◌+◌, ◌==◌, ◌&&◌, Bool,
 use Rattle.sc_model.specs.Bytes.{begins_with}
 use Rattle.c11_tokens.specs.Lex.{Marked}
 
--- The bytes that are left, the first of them at this line and column. A newline is wanted at the end where the byte before it is
--- another.
+-- The bytes that are left, the first of them at this line and column. A newline is wanted at the
+-- end where the byte before it is another.
 abbrev pub logical : Bool → ℕ → ℕ → List ℕ → List Marked
 logical wanted line column [] =
     if wanted then record { byte = 10; position = record { line = line; column = column } } ∷ [] else []

@@ -47,7 +47,8 @@ quoted_length bs =
     if slice_index bs 0 == 10 then 0
     else (if slice_index bs 0 == 92 then (if nat_lt (length bs) 2 || slice_index bs 1 == 10 then 0 else 2) else 1)
 
--- the opening byte comes first, and then something other than the closing one where that is asked for
+-- the opening byte comes first, and then something other than the closing one where that is asked
+-- for
 abbrev pub opens : ℕ → ℕ → Bool → List ℕ → Bool
 opens start end filled bs =
     nat_le 2 (length bs) && (slice_index bs 0 == start && not (filled && slice_index bs 1 == end))

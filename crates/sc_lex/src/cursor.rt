@@ -6,8 +6,8 @@ ghost use Rattle.sc_lex.specs.Cursor.{Takes};
 use sc_base::{FileId, OutOfMemory, Place};
 use std::alloc::Global;
 
-/// A file from some byte on, as the later phases of translation see it: without an order mark, without a carriage
-/// return before a newline, and with a newline at its end.
+/// A file from some byte on, as the later phases of translation see it: without an order mark,
+/// without a carriage return before a newline, and with a newline at its end.
 #[derive(Clone, Copy)]
 pub struct Cursor<'a> {
     rest: &'a [u8],

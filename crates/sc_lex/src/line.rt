@@ -5,7 +5,8 @@ ghost use Rattle.sc_model.specs.Token.{name_of};
 
 use sc_model::Kind;
 
-/// How much stands on a line of what a header name may follow: `#` and `include` at its start (C11 6.4p4).
+/// How much stands on a line of what a header name may follow: `#` and `include` at its start (C11
+/// 6.4p4).
 #[derive(Clone, Copy, Debug, PartialEq, Eq)]
 pub enum LineFront {
     Start,

@@ -40,7 +40,8 @@ impl Piece {
     }
 }
 
-/// The longest piece at the front of a text whose first byte begins pieces of one kind, and nothing else.
+/// The longest piece at the front of a text whose first byte begins pieces of one kind, and nothing
+/// else.
 fn piece_of_one_kind(text: &[u8]) -> Option<Piece>
     requires { 0 < length text.now }
     ensures only { IfSome result (λ piece. BeginsOnly (slice_index text.now 0) (kind_of piece.kind)) }

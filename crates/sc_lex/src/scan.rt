@@ -1,4 +1,5 @@
-//! For each kind of piece the length of the longest front of a text that is one, and 0 where none is.
+//! For each kind of piece the length of the longest front of a text that is one, and 0 where none
+//! is.
 ghost use Rattle.std.specs.Prelude.{◌≡◌, ◌<◌, ◌&&◌, ℕ, false, [], ◌∷◌, length, take, drop, IfSome, OnSome, IfNone};
 ghost use Rattle.std.specs.List.{list_all};
 ghost use Rattle.sc_model.specs.Bytes.{begins_with, is_letter, is_digit, is_hex_digit};
@@ -182,7 +183,8 @@ fn number_letters(text: &[u8]) -> usize
     length
 }
 
-/// The length of the letter, digit, point, universal character name or, after an exponent letter, sign at the front.
+/// The length of the letter, digit, point, universal character name or, after an exponent letter,
+/// sign at the front.
 fn number_letter(text: &[u8], exponent: bool) -> usize
     requires { 0 < length text.now }
     ensures { result ≡ number_letter_length exponent text.now }
@@ -248,7 +250,8 @@ fn quoted(text: &[u8], quote: u8, filled: bool) -> usize
     }
 }
 
-/// The opening byte comes first, and then something other than the closing one where that is asked for.
+/// The opening byte comes first, and then something other than the closing one where that is asked
+/// for.
 fn opens(text: &[u8], start: u8, end: u8, filled: bool) -> bool
     ensures { result ≡ opens start end filled text.now }
 {

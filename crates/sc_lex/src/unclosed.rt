@@ -3,9 +3,11 @@ ghost use Rattle.sc_lex.specs.Unclosed.{IsUnclosed, AreUnclosed};
 
 use crate::scan::quoted_part;
 
-/// For each kind of quote, the length of a front of the text in which each such quote is known not to be closed on its line.
+/// For each kind of quote, the length of a front of the text in which each such quote is known not
+/// to be closed on its line.
 ///
-/// For these no end is looked for again: that would take time in the square of the length of the line.
+/// For these no end is looked for again: that would take time in the square of the length of the
+/// line.
 #[derive(Clone, Copy, Debug, PartialEq, Eq)]
 pub struct UnclosedQuotes {
     pub single: usize,
@@ -42,7 +44,8 @@ fn unclosed_after(text: &[u8], quote: u8, known: usize, count: usize) -> usize
     known.saturating_sub(count)
 }
 
-/// How many bytes are left of the line if it doesn't close the quote before the text, and 0 if it does.
+/// How many bytes are left of the line if it doesn't close the quote before the text, and 0 if it
+/// does.
 fn unclosed_front(text: &[u8], quote: u8) -> usize
     ensures { IsUnclosed quote text.now result }
 {

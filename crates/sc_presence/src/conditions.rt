@@ -6,8 +6,9 @@ use sc_base::{Cond, OutOfMemory};
 
 /// A store of presence conditions over the configurations of some variables.
 ///
-/// A configuration is one option index for each variable. Conditions are made by the store, and each means one set of configurations for
-/// good: the store only grows, also where a call finds no memory. Two conditions of one store that mean the same set are the same id.
+/// A configuration is one option index for each variable. Conditions are made by the store, and
+/// each means one set of configurations for good: the store only grows, also where a call finds no
+/// memory. Two conditions of one store that mean the same set are the same id.
 pub trait Conditions {
     ghost sets: { Self → Sets };
 
@@ -63,8 +64,9 @@ pub trait Conditions {
         // at every outcome
         ensures keeps { Keeps (sets self.old) (sets self.new) };
 
-    /// What remains of the condition where the variable has this option: it has each configuration that the condition has once the
-    /// variable is set to the option, and so it does not depend on the variable.
+    /// What remains of the condition where the variable has this option: it has each configuration
+    /// that the condition has once the variable is set to the option, and so it does not depend on
+    /// the variable.
     fn part(&mut self, a: Cond, variable: usize, option: usize) -> Result<Cond, OutOfMemory>
         requires own { IsCond (sets self.old) a.0 }
         requires variable { variable < length (sets self.old).arities }
@@ -73,7 +75,8 @@ pub trait Conditions {
         ensures meaning { IfOk result (λ r. (f : List ℕ → Bool) → Denotes (sets self.old) a.0 f
             → Denotes (sets self.new) r.0 (λ c. f (slice_set c variable option))) }
 
-        // the children of a node depend on later variables alone, and the one for a configuration's option says what the node says
+        // the children of a node depend on later variables alone, and the one for a configuration's
+        // option says what the node says
         ensures later { IfOk result (λ r. DependsFrom (sets self.old) a.0 variable
             → DependsFrom (sets self.new) r.0 (variable + 1)) }
         ensures chosen { IfOk result (λ r. (c : List ℕ) → IsConfig (sets self.old).arities c
@@ -112,11 +115,13 @@ pub trait Conditions {
         ensures has { OnTrue result ((sets self.now).has a.0 into.new ≡ true) }
         ensures untouched { OnFalse result (into.new ≡ into.old) };
 
-    /// Conditions of this store that mean the same are the same id. This takes no time: it tells a proof.
+    /// Conditions of this store that mean the same are the same id. This takes no time: it tells a
+    /// proof.
     fn canonical(&self)
         ensures { IsCanonical (sets self.now) };
 
-    /// Each variable has an option, so `always` is not `never`. This takes no time: it tells a proof.
+    /// Each variable has an option, so `always` is not `never`. This takes no time: it tells a
+    /// proof.
     fn has_options(&self)
         ensures { HasOptions (sets self.now).arities };
 }

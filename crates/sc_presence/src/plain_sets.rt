@@ -13,7 +13,8 @@ use std::marker::Model;
 /// The most configurations for which a `PlainSets` is made.
 pub const MAX_CONFIGS: usize = 4096;
 
-/// Conditions as truth lists: each condition is a row with one truth value for each configuration, and equal rows are kept once.
+/// Conditions as truth lists: each condition is a row with one truth value for each configuration,
+/// and equal rows are kept once.
 ///
 /// An operation takes time in the number of configurations, at most `MAX_CONFIGS`.
 #[derive(Drop)]
@@ -38,7 +39,8 @@ impl Model for PlainSets {
 }
 
 impl PlainSets {
-    /// The conditions `never` and `always` over variables with these numbers of options. `alloc` serves all that are made later.
+    /// The conditions `never` and `always` over variables with these numbers of options. `alloc`
+    /// serves all that are made later.
     pub fn new(alloc: Global, arities: &[usize]) -> Result<PlainSets, OutOfMemory>
         requires options { HasOptions arities.now }
         requires small { config_count arities.now ≤ MAX_CONFIGS }
@@ -99,7 +101,8 @@ impl PlainSets {
     }
 }
 
-// The ids of the first two rows. Where a method has no other use of `rows`, it borrows them for what is known of them.
+// The ids of the first two rows. Where a method has no other use of `rows`, it borrows them for
+// what is known of them.
 const NEVER: Cond = Cond(0);
 
 const ALWAYS: Cond = Cond(1);

@@ -1,4 +1,5 @@
-//! Configurations and their ranks: how many configurations come before one, by the first variable, then by the second, and so on.
+//! Configurations and their ranks: how many configurations come before one, by the first variable,
+//! then by the second, and so on.
 ghost use Rattle.std.specs.Prelude.{◌≡◌, ℕ, ◌+◌, ◌*◌, ◌<◌, ◌≤◌, ◌^◌, length, IfOk};
 ghost use Rattle.sc_model.specs.Sets.{HasOptions, config_count};
 ghost use Rattle.sc_presence.specs.Rank.{digit, moved, rank, strides_of, config_at};
@@ -18,7 +19,8 @@ pub fn count_configs(arities: &[usize]) -> usize
     count
 }
 
-/// For each variable, how many configurations the variables after it have. `count` is how many there are of all.
+/// For each variable, how many configurations the variables after it have. `count` is how many
+/// there are of all.
 pub fn strides(alloc: Global, arities: &[usize], count: usize) -> Result<Vec<usize>, AllocError>
     requires options { HasOptions arities.now }
     requires count { count ≡ config_count arities.now }
@@ -42,7 +44,8 @@ pub fn option_at(rank: usize, stride: usize, arity: usize) -> usize
     rank / stride % arity
 }
 
-/// The rank of the configuration that has this option of a variable, and else the options of the one with rank `rank`.
+/// The rank of the configuration that has this option of a variable, and else the options of the
+/// one with rank `rank`.
 pub fn with_option(rank: usize, stride: usize, arity: usize, option: usize) -> usize
     requires stride { 0 < stride }
     requires arity { 0 < arity }

@@ -14,7 +14,8 @@ pub const MOST_READ: usize = LARGEST_FILE + 1;
 
 /// The files of the system. What they hold no contract can tell, so it tells nothing.
 ///
-/// A file that is missing, or whose name has a zero byte, is `None`; every other error fails. Of a long file the first
+/// A file that is missing, or whose name has a zero byte, is `None`; every other error fails. Of a
+/// long file the first
 /// `MOST_READ` bytes are read.
 #[derive(Drop)]
 pub struct FileSource<R> {

@@ -1,4 +1,5 @@
-//! Where files come from and where text goes: a trait for each, one of each over memory, and one of each over the system.
+//! Where files come from and where text goes: a trait for each, one of each over memory, and one of
+//! each over the system.
 #![tactic(auto)]
 
 mod fault_plan;

@@ -20,8 +20,8 @@ pub struct Written {
 
 /// A log of writes in memory. It tells what was written, and writes that are to fail can be named.
 ///
-/// A write that is to fail leaves the first half of its piece. Where no memory is left to note a piece, the write fails and is
-/// counted as a fault, and nothing is noted.
+/// A write that is to fail leaves the first half of its piece. Where no memory is left to note a
+/// piece, the write fails and is counted as a fault, and nothing is noted.
 #[derive(Drop)]
 pub struct MemorySink {
     writes: Vec<Written>,

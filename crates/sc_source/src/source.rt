@@ -54,7 +54,8 @@ pub trait Source {
     // How many reads failed, up to the last value of the count.
     ghost faults: { Self → ℕ };
 
-    /// The bytes of the file with this name, or `None` where there is none. Want of memory may come at any read.
+    /// The bytes of the file with this name, or `None` where there is none. Want of memory may come
+    /// at any read.
     fn read(&mut self, alloc: Global, name: &str) -> Result<Option<Vec<u8>>, SourceStop>
         ensures answer { (files : Files) → holds self.old ≡ Some files
             → IfOk result (λ text. option_map (λ bytes. bytes.items) text ≡ files name.now) }

@@ -7,9 +7,11 @@ use crate::{Failed, Sink};
 use std::io;
 use std::io::Write;
 
-/// A writer as a sink, as the program's output. What it takes no contract can tell, so it tells nothing.
+/// A writer as a sink, as the program's output. What it takes no contract can tell, so it tells
+/// nothing.
 ///
-/// Each piece is written and flushed by its call. A writer that takes nothing of a piece that is not empty has failed.
+/// Each piece is written and flushed by its call. A writer that takes nothing of a piece that is
+/// not empty has failed.
 #[derive(Drop)]
 pub struct StdSink<W> {
     to: W,

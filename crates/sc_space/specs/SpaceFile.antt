@@ -30,7 +30,8 @@ abbrev pub ◌>>=◌ : {A B : Type 0} → Result A Fault → (A → Result B Fau
 Ok a >>= f = f a
 Err fault >>= f = Err fault
 
--- The table that the file is: text in UTF-8, by the grammar of TOML 1.1. Its members are in the order of their keys' bytes.
+-- The table that the file is: text in UTF-8, by the grammar of TOML 1.1. Its members are in the
+-- order of their keys' bytes.
 unfoldable pub read_document : List ℕ → Result Members Fault
 read_document bytes =
     if nat_lt largest_file (length bytes) then Err too_large

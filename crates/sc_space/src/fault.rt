@@ -5,7 +5,8 @@ use sc_base::OutOfMemory;
 use std::alloc::{AllocError, AllocFailed};
 use thiserror::Error;
 
-/// Why a space file is refused: the first reason that applies, in this order. What is at fault is told where it has a name.
+/// Why a space file is refused: the first reason that applies, in this order. What is at fault is
+/// told where it has a name.
 #[derive(Debug, Drop, Error)]
 pub enum SpaceFault {
     /// The file has more than 16,777,216 bytes.

@@ -30,8 +30,8 @@ impl Space {
     ghost use Rattle.sc_space.specs.Sound.{IsSound};
     ghost use Rattle.sc_space.specs.SpaceFile.{read_space};
 
-    /// Reads a space file, which is TOML 1.1: the table `variables` gives each variable the list of its options, each the
-    /// text `undef` or a whole number from 0.
+    /// Reads a space file, which is TOML 1.1: the table `variables` gives each variable the list of
+    /// its options, each the text `undef` or a whole number from 0.
     pub fn read(alloc: Global, bytes: &[u8]) -> Result<Space, SpaceStop>
         ensures answer { Answers seen_space result (read_space bytes.now) }
         ensures sound { IfOk result (λ s. IsSound (seen_space s)) }
