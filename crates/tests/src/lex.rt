@@ -1,4 +1,4 @@
-ghost use Rattle.sc_lex.specs.Spell.{IsHeld};
+ghost use Rattle.sc_base.specs.Seen.{IsHeld};
 
 use sc_base::Token;
 use sc_lex::{LexStop, tokens};

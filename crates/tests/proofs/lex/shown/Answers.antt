@@ -1,6 +1,6 @@
 use Rattle.std.proofs.Common.{sym, subst}
 use Rattle.std.specs.Prelude.{All}
-use Rattle.sc_lex.specs.Spell.{IsHeld}
+use Rattle.sc_base.specs.Seen.{IsHeld}
 use Rattle.tests.proofs.lex.shown.Goals as goal
 
 pub show-requires : goal.show-requires
