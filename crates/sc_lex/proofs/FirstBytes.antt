@@ -1,10 +1,10 @@
 -- Which kinds of pieces begin with a byte.
-use Rattle.std.proofs.Common.{◌≡◌, ℕ, zero, suc, ◌+◌, ◌<◌, ◌≤◌, ◌==◌, ◌&&◌, ◌||◌, not, inl, inr, Bool, true, false, List, [], ◌∷◌, length, take, get_or, refl, sym, ap, ◌∙◌, subst, arith, eq-eqb}
+use Rattle.std.proofs.Common.{◌≡◌, ℕ, zero, suc, ◌<◌, ◌≤◌, ◌==◌, ◌&&◌, ◌||◌, not, inl, inr, Bool, true, false, List, [], ◌∷◌, length, take, get_or, refl, sym, ap, ◌∙◌, arith, eq-eqb}
 use Rattle.std.specs.List.{list_any, list_all}
-use Rattle.std.proofs.lemmas.Bool.{cases_lt, cases_order, cases_Bool, and_parts, or_parts, or_from, eqb-true, true≢false}
+use Rattle.std.proofs.lemmas.Bool.{cases_lt, cases_Bool, and_parts, or_parts, or_from, eqb-true, true≢false}
 use Rattle.sc_model.specs.declared.kind.Kind.TheVariants.{Identifier, Number, Character, Text, Header, Punctuator, Other, Newline}
 use Rattle.sc_model.specs.Bytes.{same_bytes, begins_with, is_letter, is_digit, has_no_newline}
-use Rattle.c11_tokens.specs.Lex.{PieceKind, blank, comment, token, rank, fits, fits_here, expects_header, is_header_name, is_blank, comment_closes, goes_on, number_goes_on, begins_with_digit, punctuators, IsLongest, IsUnended}
+use Rattle.c11_tokens.specs.Lex.{PieceKind, blank, comment, token, rank, fits, fits_here, expects_header, is_header_name, is_blank, goes_on, number_goes_on, begins_with_digit, punctuators, IsLongest}
 use Rattle.c11_tokens.proofs.LexLaws.{kind_at, kind_at-rank, same_rank}
 use Rattle.sc_lex.specs.Piece.{BeginsOnly, begins_identifier, begins_punctuator}
 use Rattle.sc_lex.specs.Scan.{IsLongestFront}
@@ -101,14 +101,6 @@ BeginsOnly-alone kind b is =
 -- of the 256 bytes, those of a class
 begins_only : (is : ℕ → Bool) (kind : PieceKind) → all_below 256 (λ b. not (is b) || is_alone kind b) ≡ true → (b : ℕ) → b < 256 → is b ≡ true → BeginsOnly b kind
 begins_only is kind all b byte holds = BeginsOnly-alone kind b (ap (λ t. not t || is_alone kind b) (sym holds) ∙ all_below-at 256 (λ b. not (is b) || is_alone kind b) all b byte)
-
-pub blank_begins : (b : ℕ) → b < 256 → is_blank b ≡ true → BeginsOnly b blank
-unfolding first_is
-blank_begins = begins_only is_blank blank refl
-
-pub newline_begins : (b : ℕ) → b < 256 → (b == 10) ≡ true → BeginsOnly b (token Newline)
-unfolding first_is
-newline_begins = begins_only (λ b. b == 10) (token Newline) refl
 
 pub identifier_begins : (b : ℕ) → b < 256 → begins_identifier b ≡ true → BeginsOnly b (token Identifier)
 unfolding first_is

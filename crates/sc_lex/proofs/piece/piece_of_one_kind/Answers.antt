@@ -1,5 +1,5 @@
 use Rattle.std.proofs.Common.{sym, ◌∙◌, arith}
-use Rattle.sc_lex.proofs.FirstBytes.{blank_begins, newline_begins, identifier_begins, number_begins, punctuator_begins}
+use Rattle.sc_lex.proofs.FirstBytes.{identifier_begins, number_begins, punctuator_begins}
 use Rattle.sc_lex.proofs.piece.piece_of_one_kind.Goals as goal
 
 pub returns-then-begins_identifier-clause-only : goal.returns-then-begins_identifier-clause-only
