@@ -109,6 +109,7 @@ fn letters(text: &[u8]) -> usize
 }
 
 /// The length of the letter, digit or universal character name at the front.
+#[inline(always)]
 fn letter(text: &[u8]) -> usize
     requires { 0 < length text.now }
     ensures { result ≡ letter_length text.now }
