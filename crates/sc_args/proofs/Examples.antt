@@ -24,7 +24,7 @@ pub help_flag : (program : List ℕ) → asked_of (program ∷ codes "tokens" �
 unfolding asked_of clap_on_literals
 help_flag program = refl
 
-help_word : (program : List ℕ) → asked_of (program ∷ codes "help" ∷ []) ≡ Err usage
+pub help_word : (program : List ℕ) → asked_of (program ∷ codes "help" ∷ []) ≡ Err usage
 unfolding asked_of clap_on_literals
 help_word program = refl
 

@@ -1,35 +1,40 @@
 -- What the words ask for has a main file's name.
-use Rattle.std.proofs.Common.{◌≡◌, ℕ, Bool, true, false, List, [], Option, Some, None, Result, Ok, Err, refl, sym, ap, ◌∙◌}
+use Rattle.std.proofs.Common.{◌≡◌, Bool, true, false, List, [], ◌∷◌, Option, Some, None, Result, Ok, Err, refl, subst}
 use Rattle.std.specs.Prelude.{codes, if◌then◌else◌}
 use Rattle.std.specs.Str.{bytes_eq}
-use Rattle.clap.specs.Words.{Row, subcommand_of, takes}
-use Rattle.sc_args.specs.Words.{Asked, tokens, conflicts, Misuse, bad_file, usage, is_file_name, asked_of, asked_by, asked_tokens, text_of, superc_app}
+use Rattle.clap.specs.Words.{Kinds, Row, Text, fault_of, first_of, subcommand_of}
+use Rattle.sc_args.specs.Words.{Asked, tokens, conflicts, Misuse, bad_file, usage, is_file_name, asked_of, asked_by, asked_tokens, asked_where, asked_with, superc_app}
 
-abbrev file_in : Asked → List ℕ
-file_in (tokens space file) = file
-file_in conflicts = []
+-- a main file that is asked for has such a name
+abbrev IsNamed : Result Asked Misuse → Type 0
+IsNamed (Ok (tokens space file)) = is_file_name file ≡ true
+IsNamed (Ok conflicts) = Unit {0}
+IsNamed (Err misuse) = Unit {0}
 
-abbrev file_of : Result Asked Misuse → List ℕ
-file_of (Ok asked) = file_in asked
-file_of (Err misuse) = []
-
-named-by : (b : Bool) (s f space file : List ℕ) → b ≡ is_file_name f → (if b then Ok (tokens s f) else Err bad_file) ≡ Ok (tokens space file) → is_file_name file ≡ true
-named-by true s f space file b e = ap is_file_name (sym (ap file_of e)) ∙ sym b
-named-by false s f space file b e = cc
-
-asked-named : (found : Option (List ℕ × List Row)) (space file : List ℕ) → asked_by found ≡ Ok (tokens space file) → is_file_name file ≡ true
-asked-named None space file e = cc
-asked-named (Some p) space file e = by (bytes_eq p.0 (codes "tokens")) e
+tokens-named : (space file : Option Text) → IsNamed (asked_with space file)
+tokens-named (Some space) (Some file) = by (is_file_name file) refl
   where
-    by : (b : Bool) → (if b then asked_tokens p.1 else Ok conflicts) ≡ Ok (tokens space file) → is_file_name file ≡ true
-    by true e = named-by (is_file_name (text_of (codes "file") p.1)) (text_of (codes "space") p.1) (text_of (codes "file") p.1) space file refl e
-    by false e = cc
+    by : (b : Bool) → is_file_name file ≡ b → IsNamed (if b then Ok (tokens space file) else Err bad_file)
+    by true e = e
+    by false e = tt
+tokens-named (Some space) None = tt
+tokens-named None file = tt
+
+command-named : (is_tokens is_conflicts : Bool) (rows : List Row)
+    → IsNamed (if is_tokens then asked_tokens rows else if is_conflicts then Ok conflicts else Err usage)
+command-named true is_conflicts rows = tokens-named (first_of (codes "space") rows) (first_of (codes "file") rows)
+command-named false true rows = tt
+command-named false false rows = tt
+
+asked-named : (found : Option (Text × List Row)) → IsNamed (asked_by found)
+asked-named None = tt
+asked-named (Some p) = command-named (bytes_eq p.0 (codes "tokens")) (bytes_eq p.0 (codes "conflicts")) p.1
+
+words-named : (faults : Kinds) (words : List Text) → IsNamed (asked_where faults words)
+words-named [] words = asked-named (subcommand_of superc_app words)
+words-named (fault ∷ faults) words = tt
 
 -- what is asked for has a main file's name
-pub file-named : (words : List (List ℕ)) (space file : List ℕ) → asked_of words ≡ Ok (tokens space file) → is_file_name file ≡ true
+pub file-named : (words : List Text) (space file : Text) → asked_of words ≡ Ok (tokens space file) → is_file_name file ≡ true
 unfolding asked_of
-file-named words space file e = by (takes superc_app words) e
-  where
-    by : (b : Bool) → (if b then asked_by (subcommand_of superc_app words) else Err usage) ≡ Ok (tokens space file) → is_file_name file ≡ true
-    by true e = asked-named (subcommand_of superc_app words) space file e
-    by false e = cc
+file-named words space file e = subst IsNamed e (words-named (fault_of superc_app words) words)

@@ -1,25 +1,31 @@
--- Words that are taken name `tokens` with both its words, or `conflicts`.
+-- Words without a fault name `tokens` with both its words, or `conflicts`.
 use Rattle.std.proofs.Common.{◌≡◌, ◌∙◌, ap, sym, subst, refl, [], ◌∷◌, ◌++◌, codes, ℕ, List, length, true, false, ◌&&◌, ◌||◌, inl, inr}
-use Rattle.std.specs.Prelude.{◌⊎◌, Option, Some, None, if◌then◌else◌, Bool, is_some, not, fold, option_map, find, cond, unwrap_or}
+use Rattle.std.specs.Prelude.{◌⊎◌, ◌≢◌, Option, Some, None, Result, Ok, Err, if◌then◌else◌, Bool, is_some, not, fold, option_map, find, cond, unwrap_or}
 use Rattle.std.specs.Option.{option_map_or}
 use Rattle.std.specs.Str.{bytes_eq}
 use Rattle.std.proofs.Math.Bool.{or-false}
-use Rattle.std.proofs.lemmas.Bool.{both_ways}
+use Rattle.std.proofs.lemmas.Bool.{both_ways, false≢true}
 use Rattle.std.proofs.lemmas.Option.{none-some}
 use Rattle.std.proofs.lemmas.Slice.Eq.{bytes_eq-Decides}
 use Rattle.clap.specs.Kinds.{Kinds, or_else, range_kinds}
 use Rattle.clap.specs.Faults.{entered_fault, fault_of, check_fault, level_fault, other_fault, step_fault, turn_fault, walk_fault, word_fault}
 use Rattle.clap.specs.Simple.{App, Shape, argument_words, built, built_leaf, entered, filled, help_rule, help_shape, inherited, label_of, names_of, rows_at, subcommand_of, with_index}
-use Rattle.clap.specs.Walk.{Held, Names, Outcome, Row, Rule, Step, Text, Waiting, Walk, after_flag, after_step, arg_by_index, arg_by_long, answers_to, bundle, finished, rows_after, done, idle, long_met, long_or_other, next, nothing_held, option, plain, plain_word, positional, reading_by, refused, short_or_plain, subcommand, subcommand_met, subcommand_or_other, to_positional, trailing, value, waits, walk, walk_from, walked, walked_from, word_met}
+use Rattle.clap.specs.Walk.{Held, Names, Outcome, Row, Rule, Step, Text, Waiting, Walk, after_flag, after_step, arg_by_index, arg_by_long, answers_to, bundle, finished, rows_after, done, idle, long_met, long_or_other, next, nothing_held, option, plain, plain_word, positional, first_of, reading_by, refused, short_or_plain, subcommand, subcommand_met, subcommand_or_other, to_positional, trailing, value, waits, walk, walk_from, walked, walked_from, word_met}
 use Rattle.clap.specs.Lexer.{long_of, short_of}
 use Rattle.clap.specs.declared.error.ErrorKind.TheVariants as kind
-use Rattle.sc_args.proofs.Faultless.{taken_is_fault_free}
 use Rattle.sc_args.proofs.Steps.{IsFaultless, both, level_steps, not_empty}
-use Rattle.clap.specs.Takes.{is_given, takes}
+use Rattle.clap.specs.Takes.{is_given}
 use Rattle.clap.specs.declared.parser.matches.ValueSource.TheVariants.{CommandLine}
 use Rattle.sc_args.proofs.Values.{AllUsable, IsUsable, finished_is_full, is_full, text_of_given, used_is_full, walk_is_full}
-use Rattle.sc_args.specs.Laws.{NamesCommand, has_text}
-use Rattle.sc_args.specs.Words.{conflicts_app, required_rule, superc_app, tokens_app}
+use Rattle.sc_args.specs.Words.{Asked, Misuse, asked_by, asked_of, asked_where, asked_with, bad_file, conflicts, conflicts_app, is_file_name, required_rule, superc_app, tokens, tokens_app, usage}
+
+abbrev has_text : Text → List Row → Bool
+has_text id rows = is_some (first_of id rows)
+
+-- A command is named: `tokens` with both its words, or `conflicts`.
+abbrev NamesCommand : Option (Text × List Row) → Type 0
+NamesCommand None = ⊥
+NamesCommand (Some p) = ((p.0 ≡ codes "tokens") × (has_text (codes "space") p.1 ≡ true) × (has_text (codes "file") p.1 ≡ true)) ⊎ (p.0 ≡ codes "conflicts")
 
 -- ---- the subcommand that a step names
 
@@ -259,5 +265,26 @@ faultless_words_name_a_command words e = go (stop_in (argument_words superc_app 
     go (Some p) stops below is_entered = entered_command p below
         (one_of_two p (walk_names_no_help whole.top (names_of whole) (argument_words superc_app words) (walk_from nothing_held) p refl refl steps.walks stops) is_entered)
 
-pub taken_words_name_a_command : (words : List Text) → takes superc_app words ≡ true → NamesCommand (subcommand_of superc_app words)
-taken_words_name_a_command words e = faultless_words_name_a_command words (taken_is_fault_free superc_app words refl refl e)
+-- what is asked for by a command that is named
+asked_no_misuse : (asked : Asked) → Ok asked ≢ Err usage
+asked_no_misuse asked e = cc
+
+both_asked : (space file : Option Text) → is_some space ≡ true → is_some file ≡ true → asked_with space file ≢ Err usage
+both_asked (Some space) (Some file) p q = by (is_file_name file)
+  where
+    by : (b : Bool) → (if b then Ok (tokens space file) else Err bad_file) ≢ Err usage
+    by true e = cc
+    by false e = cc
+both_asked None file p q = absurd (false≢true p)
+both_asked (Some space) None p q = absurd (false≢true q)
+
+named_is_asked : (found : Option (Text × List Row)) → NamesCommand found → asked_by found ≢ Err usage
+named_is_asked None never = absurd never
+named_is_asked (Some p) (inl t) = subst (λ name. asked_by (Some (name, p.1)) ≢ Err usage) (sym t.0)
+    (both_asked (first_of (codes "space") p.1) (first_of (codes "file") p.1) t.1 t.2)
+named_is_asked (Some p) (inr t) = subst (λ name. asked_by (Some (name, p.1)) ≢ Err usage) (sym t) (λ e. asked_no_misuse conflicts e)
+
+pub faultless_words_are_asked : (words : List Text) → fault_of superc_app words ≡ [] → asked_of words ≢ Err usage
+unfolding asked_of
+faultless_words_are_asked words e = subst (λ kinds. asked_where kinds words ≢ Err usage) (sym e)
+    (named_is_asked (subcommand_of superc_app words) (faultless_words_name_a_command words e))

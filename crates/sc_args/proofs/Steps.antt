@@ -15,10 +15,6 @@ pub both : (a b : Kinds) → or_else a b ≡ [] → (a ≡ []) × (b ≡ [])
 both [] b e = (refl, e)
 both (k ∷ ks) b e = absurd (not_empty k ks e)
 
--- where neither fails, both don't
-pub neither : (a b : Kinds) → a ≡ [] → b ≡ [] → or_else a b ≡ []
-neither a b e f = ap (λ x. or_else x b) e ∙ f
-
 -- a level of a parse where no step fails
 pub record IsFaultless (s : Shape) (names : Names) (h : Held) (words : List Text) (has : Bool) (below : Kinds) : Type 0 where
   pub walks : walk_fault s names (walk_from h) words ≡ []

@@ -1,8 +1,8 @@
--- What the words of a call ask for. `clap` says which words the command takes, and what it finds in them.
-use Rattle.std.specs.Prelude.{◌&&◌, ◌==◌, ℕ, Bool, true, not, List, [], length, Option, Some, None, Result, Ok, Err, if◌then◌else◌, codes, nat_le, unwrap_or}
+-- What the words of a call ask for. `clap` says which faults words have, and what it finds in them.
+use Rattle.std.specs.Prelude.{◌&&◌, ◌==◌, ℕ, Bool, true, not, List, [], ◌∷◌, length, Option, Some, None, Result, Ok, Err, if◌then◌else◌, codes, nat_le}
 use Rattle.std.specs.List.{list_all}
 use Rattle.std.specs.Str.{bytes_eq}
-use Rattle.clap.specs.Words.{App, Row, Rule, Text, first_of, new_app, new_rule, subcommand_of, takes, with_rule, with_subcommand}
+use Rattle.clap.specs.Words.{App, Kinds, Row, Rule, Text, fault_of, first_of, new_app, new_rule, subcommand_of, with_rule, with_subcommand}
 
 pub data Asked : Type 0 where
   tokens : (space file : List ℕ) → Asked
@@ -19,7 +19,7 @@ is_file_name name = not (length name == 0) && list_all (nat_le 32) name
 -- ---- the command: `superc tokens SPACE FILE` and `superc conflicts`
 
 abbrev pub required_rule : Text → Rule
-required_rule id = record (new_rule id) { required = true }
+required_rule id = record (new_rule id) { value_names = 1; required = true }
 
 abbrev pub tokens_app : App
 tokens_app = with_rule (with_rule (new_app (codes "tokens")) (required_rule (codes "space"))) (required_rule (codes "file"))
@@ -36,20 +36,26 @@ superc_app = with_subcommand (with_subcommand bare_app tokens_app.top) conflicts
 
 -- ---- what is found in the words
 
--- The text of an argument. In words that are taken each that is required has one.
-abbrev pub text_of : Text → List Row → Text
-text_of id rows = unwrap_or (first_of id rows) []
+-- `tokens` with the texts of its two arguments, each of which is required.
+abbrev pub asked_with : Option Text → Option Text → Result Asked Misuse
+asked_with (Some space) (Some file) = if is_file_name file then Ok (tokens space file) else Err bad_file
+asked_with _ _ = Err usage
 
 abbrev pub asked_tokens : List Row → Result Asked Misuse
-asked_tokens rows =
-    if is_file_name (text_of (codes "file") rows) then Ok (tokens (text_of (codes "space") rows) (text_of (codes "file") rows)) else Err bad_file
+asked_tokens rows = asked_with (first_of (codes "space") rows) (first_of (codes "file") rows)
 
--- What the subcommand that was named asks for, by its matches. Words that are taken name `tokens` or else `conflicts`.
+-- What the command that was named asks for, with what was found after it.
 abbrev pub asked_by : Option (Text × List Row) → Result Asked Misuse
-asked_by None = Ok conflicts
-asked_by (Some p) = if bytes_eq p.0 (codes "tokens") then asked_tokens p.1 else Ok conflicts
+asked_by None = Err usage
+asked_by (Some p) =
+    if bytes_eq p.0 (codes "tokens") then asked_tokens p.1
+    else if bytes_eq p.0 (codes "conflicts") then Ok conflicts else Err usage
 
--- What the words ask for, of which the first is the program's name. Words that the command doesn't take, as those that ask for
--- help, are no use of it.
+-- What the words ask for, given their faults. Words with a fault, as those that ask for help, are no use of the command.
+abbrev pub asked_where : Kinds → List Text → Result Asked Misuse
+asked_where [] words = asked_by (subcommand_of superc_app words)
+asked_where (fault ∷ faults) words = Err usage
+
+-- What the words ask for, of which the first is the program's name.
 unfoldable pub asked_of : List Text → Result Asked Misuse
-asked_of words = if takes superc_app words then asked_by (subcommand_of superc_app words) else Err usage
+asked_of words = asked_where (fault_of superc_app words) words

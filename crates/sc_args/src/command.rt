@@ -1,7 +1,7 @@
 ghost use Rattle.std.specs.Prelude.{◌≡◌, nat_le};
 ghost use Rattle.std.specs.List.{list_all};
 ghost use Rattle.clap.specs.Words.{found_of, rows_of, subcommand_rows_of};
-ghost use Rattle.sc_args.specs.Words.{is_file_name, text_of};
+ghost use Rattle.sc_args.specs.Words.{is_file_name};
 
 use crate::{ArgsStop, command_line};
 use clap::ArgMatches;
@@ -17,8 +17,8 @@ pub enum Command {
 }
 
 impl Command {
-    ghost use Rattle.std.specs.Prelude.{map, string_bytes};
-    ghost use Rattle.sc_args.specs.Words.{asked_by, asked_of, asked_tokens};
+    ghost use Rattle.std.specs.Prelude.{map, option_map, string_bytes};
+    ghost use Rattle.sc_args.specs.Words.{asked_by, asked_of, asked_tokens, asked_with};
     ghost use Rattle.sc_args.specs.Seen.{Answers};
 
     /// Reads the words of a call, of which the first is the program's name.
@@ -35,18 +35,31 @@ impl Command {
     fn named(alloc: Global, matches: &ArgMatches<'_>) -> Result<Command, ArgsStop>
         ensures { Answers result (asked_by (subcommand_rows_of matches.now)) }
     {
-        match matches.subcommand_matches("tokens") {
-            Some(found) => Command::tokens(alloc, found),
-            // A subcommand is required, and there is one other.
-            None => Ok(Command::Conflicts),
+        if let Some(found) = matches.subcommand_matches("tokens") {
+            return Command::tokens(alloc, found);
         }
+        if matches.subcommand_matches("conflicts").is_some() {
+            return Ok(Command::Conflicts);
+        }
+        Err(ArgsStop::no_command(alloc))
     }
 
     fn tokens(alloc: Global, found: &ArgMatches<'_>) -> Result<Command, ArgsStop>
         ensures { Answers result (asked_tokens (rows_of (found_of found.now))) }
     {
-        let space = text_of(found, "space");
-        let file = text_of(found, "file");
+        Command::tokens_with(alloc, found.get_str("space"), found.get_str("file"))
+    }
+
+    fn tokens_with(
+        alloc: Global,
+        space: Option<&str>,
+        file: Option<&str>,
+    ) -> Result<Command, ArgsStop>
+        ensures { Answers result (asked_with (option_map (λ s. s.now) space.entry) (option_map (λ s. s.now) file.entry)) }
+    {
+        let (Some(space), Some(file)) = (space, file) else {
+            return Err(ArgsStop::no_command(alloc));
+        };
         if !is_file_name(file.as_bytes()) {
             return Err(ArgsStop::BadFile);
         }
@@ -54,16 +67,6 @@ impl Command {
             space: String::from_str(alloc, space)?,
             file: String::from_str(alloc, file)?,
         })
-    }
-}
-
-/// The text of an argument that is required, and so is there.
-fn text_of<'a>(found: &ArgMatches<'a>, id: &str) -> &'a str
-    ensures { result.now ≡ text_of id.now (rows_of (found_of found.now)) }
-{
-    match found.get_str(id) {
-        Some(text) => text,
-        None => "",
     }
 }
 

@@ -1,7 +1,7 @@
 //! The command line as `clap` reads it.
-ghost use Rattle.std.specs.Prelude.{◌≡◌, IfOk};
-ghost use Rattle.clap.specs.Words.{app_of, kind_of};
-ghost use Rattle.sc_args.specs.Words.{superc_app};
+ghost use Rattle.std.specs.Prelude.{◌≡◌, false, IfOk};
+ghost use Rattle.clap.specs.Words.{app_of, kind_of, rule_of};
+ghost use Rattle.sc_args.specs.Words.{required_rule, superc_app};
 ghost use Rattle.sc_args.specs.Refusal.{RefusesFor};
 
 use crate::ArgsStop;
@@ -9,14 +9,26 @@ use clap::error::ErrorKind;
 use clap::{Arg, Command, Error};
 use std::alloc::{AllocError, Global};
 
+const STATUSES: &str = "Status:
+  0  each configuration is accepted
+  1  a configuration is refused: the text says which and why
+  2  the words name no command with its words, or FILE is no file name
+  3  SPACE is absent or refused
+  6  a file could not be read
+  7  the text could not be written whole
+  8  no memory was left";
+
 /// The command `superc` with its subcommands.
 pub(crate) fn superc<'a>(alloc: Global) -> Result<Command<'a>, AllocError>
     ensures { IfOk result (λ c. app_of c ≡ superc_app) }
 {
-    let space = Arg::new(alloc, "space")
-        .required(true)
-        .help("The space file: the variables and their options");
-    let file = Arg::new(alloc, "file").required(true).help("The main file");
+    let space = required(
+        alloc,
+        "space",
+        "SPACE",
+        "The space file: the variables and their options",
+    );
+    let file = required(alloc, "file", "FILE", "The main file");
     let tokens = Command::new(alloc, "tokens")
         .about("Show the preprocessed tokens of a file under all configurations")
         .arg(space)?
@@ -26,9 +38,21 @@ pub(crate) fn superc<'a>(alloc: Global) -> Result<Command<'a>, AllocError>
     );
     Command::new(alloc, "superc")
         .about("Preprocess C11 under all configurations")
+        .after_help(STATUSES)
         .subcommand_required(true)
         .subcommand(tokens)?
         .subcommand(conflicts)
+}
+
+/// An argument that is required, with the name that help has for its value.
+fn required<'a>(alloc: Global, id: &'a str, value_name: &'a str, help: &'a str) -> Arg<'a>
+    ensures rule { rule_of result ≡ required_rule id.entry.now }
+    ensures local { result.global ≡ false }
+{
+    Arg::new(alloc, id)
+        .required(true)
+        .value_name(value_name)
+        .help(help)
 }
 
 /// What the call answers where `clap` gives no matches.

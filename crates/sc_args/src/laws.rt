@@ -1,7 +1,7 @@
 //! Laws about what words ask for, each the contract of a function without code.
-ghost use Rattle.std.specs.Prelude.{◌≡◌, ℕ, List, [], ◌∷◌, Ok, Err, codes, true, if◌then◌else◌};
-ghost use Rattle.clap.specs.Words.{subcommand_of, takes};
-ghost use Rattle.sc_args.specs.Laws.{IsPlainWord, NamesCommand};
+ghost use Rattle.std.specs.Prelude.{◌≡◌, ◌≢◌, ℕ, List, [], ◌∷◌, Ok, Err, codes, if◌then◌else◌};
+ghost use Rattle.clap.specs.Words.{fault_of};
+ghost use Rattle.sc_args.specs.Laws.{IsPlainWord};
 ghost use Rattle.sc_args.specs.Words.{asked_of, bad_file, conflicts, is_file_name, superc_app, tokens, usage};
 
 /// Both commands are taken, whatever the program's name is. A word that begins with a hyphen may be a flag.
@@ -12,16 +12,17 @@ pub fn commands_are_taken()
     ensures conflicts { (program : List ℕ) → asked_of (program ∷ codes "conflicts" ∷ []) ≡ Ok conflicts }
 {}
 
-/// Words that are taken name one of the two commands, with all that it requires.
-pub fn taken_words_name_a_command()
-    ensures { (words : List (List ℕ)) → takes superc_app words ≡ true → NamesCommand (subcommand_of superc_app words) }
+/// Words in which `clap` finds no fault name one of the two commands, with all that it requires.
+pub fn faultless_words_name_a_command()
+    ensures { (words : List (List ℕ)) → fault_of superc_app words ≡ [] → asked_of words ≢ Err usage }
 {}
 
-/// No word, an unknown word, a word too few, a word too many and a request for help are misuse.
+/// No word, an unknown word, a word too few, a word too many and requests for help are misuse.
 pub fn misuse_is_refused()
     ensures none { (program : List ℕ) → asked_of (program ∷ []) ≡ Err usage }
     ensures unknown { (program : List ℕ) → asked_of (program ∷ codes "frob" ∷ []) ≡ Err usage }
     ensures few { (program : List ℕ) → asked_of (program ∷ codes "tokens" ∷ codes "a" ∷ []) ≡ Err usage }
     ensures many { (program : List ℕ) → asked_of (program ∷ codes "conflicts" ∷ codes "x" ∷ []) ≡ Err usage }
     ensures help { (program : List ℕ) → asked_of (program ∷ codes "tokens" ∷ codes "--help" ∷ []) ≡ Err usage }
+    ensures help_command { (program : List ℕ) → asked_of (program ∷ codes "help" ∷ []) ≡ Err usage }
 {}

@@ -1,7 +1,9 @@
-ghost use Rattle.std.specs.Prelude.{◌≡◌};
+ghost use Rattle.std.specs.Prelude.{◌≡◌, Err};
+ghost use Rattle.sc_args.specs.Seen.{Refuses};
+ghost use Rattle.sc_args.specs.Words.{usage};
 ghost use Rattle.sc_args.specs.declared.stop.ArgsStop.TheVariants as stop;
 
-use std::alloc::{AllocError, AllocFailed};
+use std::alloc::{AllocError, AllocFailed, Global};
 use thiserror::Error;
 
 /// Why the words ask for nothing.
@@ -16,6 +18,18 @@ pub enum ArgsStop {
     /// No memory was left.
     #[error("out of memory")]
     OutOfMemory,
+}
+
+impl ArgsStop {
+    /// The words name no command, or not all that it requires.
+    pub(crate) fn no_command(alloc: Global) -> ArgsStop
+        ensures { Refuses result (Err usage) }
+    {
+        match String::from_str(alloc, "error: no command is named with its words\n") {
+            Ok(text) => ArgsStop::Usage(text),
+            Err(_) => ArgsStop::OutOfMemory,
+        }
+    }
 }
 
 impl From<AllocError> for ArgsStop {

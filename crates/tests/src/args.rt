@@ -36,7 +36,7 @@ fn reads_the_words(rt: HostRuntime) -> Result<(), Fail> {
 fn tells_how_the_command_is_used(rt: HostRuntime) -> Result<(), Fail> {
     assert!(rt; answer(&rt, &[])?.contains("tokens"));
     assert!(rt; answer(&rt, &["frob"])?.contains("unrecognized subcommand 'frob'"));
-    assert!(rt; answer(&rt, &["tokens", "a"])?.contains("tokens <space> <file>"));
+    assert!(rt; answer(&rt, &["tokens", "a"])?.contains("tokens <SPACE> <FILE>"));
     assert!(rt; answer(&rt, &["tokens", "--help"])?.contains("Usage: superc tokens"));
     assert!(rt; answer(&rt, &["conflicts", "x"])?.contains("unexpected argument 'x'"));
     Ok(())

@@ -1,24 +1,17 @@
 use Rattle.std.proofs.Common.{◌≡◌, ◌∙◌, rules, ap, ap₂, codes, true}
 use Rattle.std.proofs.lemmas.Result.{IfOk-weaker}
-use Rattle.clap.specs.Words.{App, Rule, app_of, rule_of, new_app, with_rule, with_subcommand}
+use Rattle.clap.specs.Words.{App, app_of, new_app, with_rule, with_subcommand}
 use Rattle.clap.specs.Simple.{app_of_fields}
-use Rattle.sc_args.specs.Words.{bare_app, conflicts_app, required_rule, tokens_app}
+use Rattle.sc_args.specs.Words.{bare_app, conflicts_app, tokens_app}
 use Rattle.sc_args.proofs.command_line.superc.Goals as goal
-
-abbrev as_required : Rule → Rule
-as_required rule = record rule { required = true }
 
 pub returns : goal.returns
 returns c =
-    let space_is : rule_of c.help-space.result ≡ required_rule (codes "space") =
-    ap rule_of c.help-space.ensures ∙ ap rule_of c.required.ensures ∙ ap as_required c.new.ensures.rule in
-    let file_is : rule_of c.help-file.result ≡ required_rule (codes "file") =
-    ap rule_of c.help-file.ensures ∙ ap rule_of c.required-2.ensures ∙ ap as_required c.new-2.ensures.rule in
-    let bare_tokens : app_of c.about.result ≡ new_app (codes "tokens") = ap app_of_fields c.about.ensures ∙ c.new-3.ensures.app in
+    let bare_tokens : app_of c.about.result ≡ new_app (codes "tokens") = ap app_of_fields c.about.ensures ∙ c.new.ensures.app in
     let tokens_is : app_of c.in_ok-tokens.tokens ≡ tokens_app = c.in_ok-tokens.ensures.shape (search rules)
-    ∙ ap₂ with_rule (c.in_ok-arg.ensures.shape (search rules) ∙ ap₂ with_rule bare_tokens space_is) file_is in
-    let conflicts_is : app_of c.about-conflicts.result ≡ conflicts_app = ap app_of_fields c.about-conflicts.ensures ∙ c.new-4.ensures.app in
-    let named : app_of c.about-2.result ≡ new_app (codes "superc") = ap app_of_fields c.about-2.ensures ∙ c.new-5.ensures.app in
+    ∙ ap₂ with_rule (c.in_ok-arg.ensures.shape (search rules) ∙ ap₂ with_rule bare_tokens c.required-space.ensures.rule) c.required-file.ensures.rule in
+    let conflicts_is : app_of c.about-conflicts.result ≡ conflicts_app = ap app_of_fields c.about-conflicts.ensures ∙ c.new-2.ensures.app in
+    let named : app_of c.after_help.result ≡ new_app (codes "superc") = ap app_of_fields c.after_help.ensures ∙ ap app_of_fields c.about-2.ensures ∙ c.new-3.ensures.app in
     let bare_is : app_of c.subcommand_required.result ≡ bare_app =
     ap app_of_fields c.subcommand_required.ensures ∙ ap (λ (a : App). record a { top = record a.top { subcommand_required = true } }) named in
     let first_is = c.in_ok-subcommand.ensures.shape (search rules) ∙ ap₂ with_subcommand bare_is (ap (λ (a : App). a.top) tokens_is) in
