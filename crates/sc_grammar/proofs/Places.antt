@@ -90,8 +90,3 @@ rule_same p left right mark e f =
 
     marks : (a b : Nonterminal) (m n : Option Mark) → Left a m ≡ Left b n → m ≡ n
     marks a b m n h = cc
-
-pub some_rule : (ps : List Rule) (k : ℕ) → k < length ps → (p : Rule) × (slice_get ps k ≡ Some p)
-some_rule [] k h = absurd (omega (arith, h))
-some_rule (p ∷ ps) zero h = (p, refl)
-some_rule (p ∷ ps) (suc k) h = some_rule ps k (omega (arith, h))

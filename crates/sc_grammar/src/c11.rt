@@ -1,5 +1,5 @@
 //! The grammar of C11.
-use crate::{nonterminal, terminal};
+use crate::{NONTERMINALS, TERMINALS, nonterminal, terminal};
 use lr_tables::{Entry, Grammar, Mark, Symbol};
 
 macro_rules! symbol {
@@ -32,8 +32,8 @@ macro_rules! productions {
 /// The productions, each alternative one, with what its reduction does to the scopes. The number before a nonterminal is
 /// that of its first alternative. A terminal stands after `t`, a nonterminal after `n`.
 pub const C11: Grammar = Grammar {
-    terminals: 96,
-    nonterminals: 100,
+    terminals: TERMINALS,
+    nonterminals: NONTERMINALS,
     entries: productions! {
         // 1
         UNIT: n TRANSLATION_UNIT t END | t END;

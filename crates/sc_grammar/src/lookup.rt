@@ -4,12 +4,12 @@ ghost use Rattle.lr_tables.specs.Grammar.{entries_of};
 ghost use Rattle.sc_grammar.specs.C11.{productions};
 ghost use Rattle.sc_grammar.specs.Production.{production_of, IsLeftAt, places_from};
 
-use crate::Production;
+use crate::{PRODUCTIONS, Production};
 use crate::c11::C11;
 use lr_tables::Entry;
 
 /// Where each production begins among the entries of the grammar, and where the last one ends.
-static PLACES: [usize; 289] = [
+static PLACES: [usize; PRODUCTIONS + 1] = [
     0, 3, 5, 7, 10, 12, 14, 17, 21, 24, 26, 29, 32, 36, 38, 41, 43, 45, 48, 52, 55, 59, 61, 63, 67,
     69, 73, 75, 79, 81, 83, 85, 87, 89, 91, 93, 97, 102, 106, 109, 113, 115, 117, 120, 126, 134,
     140, 142, 144, 150, 158, 165, 173, 180, 188, 190, 192, 194, 198, 201, 204, 207, 211, 213, 217,
@@ -30,7 +30,7 @@ static PLACES: [usize; 289] = [
 /// The production of this number, from 1.
 pub fn production(number: usize) -> Production
     requires first { 1 ≤ number }
-    requires last { number ≤ 288 }
+    requires last { number ≤ PRODUCTIONS }
     ensures { slice_get productions (number - 1) ≡ Some (production_of result) }
 {
     read(entries(), place(number - 1), place(number))
@@ -45,7 +45,7 @@ fn entries() -> &'static [Entry]
 
 /// Where the production after so many begins.
 fn place(count: usize) -> usize
-    requires { count ≤ 288 }
+    requires { count ≤ PRODUCTIONS }
     ensures { slice_get (places_from 0 productions) count ≡ Some result }
 {
     PLACES[count]

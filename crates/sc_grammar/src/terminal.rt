@@ -5,6 +5,7 @@ ghost use Rattle.std.specs.Prelude.{◌≡◌, ◌<◌, map, slice_get, Some};
 ghost use Rattle.std.specs.List.{range_with_len};
 ghost use Rattle.sc_grammar.specs.Terminals.{terminal_names};
 
+use crate::TERMINALS;
 use lr_tables::Terminal;
 
 pub const NAME: Terminal = Terminal(0);
@@ -199,7 +200,7 @@ pub const COMMA: Terminal = Terminal(94);
 
 pub const END: Terminal = Terminal(95);
 
-static NAMES: [(Terminal, &str); 96] = [
+static NAMES: [(Terminal, &str); TERMINALS] = [
     (NAME, "NAME"),
     (TYPE, "TYPE"),
     (VARIABLE, "VARIABLE"),
@@ -301,14 +302,14 @@ static NAMES: [(Terminal, &str); 96] = [
 /// The terminals, each with how it is written, in the order of their numbers.
 fn names() -> &'static [(Terminal, &'static str)]
     ensures names { map (λ entry. entry.1.now) result.now ≡ terminal_names }
-    ensures in_order { map (λ entry. entry.0.0) result.now ≡ range_with_len 0 96 }
+    ensures in_order { map (λ entry. entry.0.0) result.now ≡ range_with_len 0 TERMINALS }
 {
     &NAMES
 }
 
 /// How a terminal is written. A terminal that has no spelling of its own goes by its name.
 pub fn terminal_name(terminal: Terminal) -> &'static str
-    requires { terminal.0 < 96 }
+    requires { terminal.0 < TERMINALS }
     ensures { slice_get terminal_names terminal.0 ≡ Some result.now }
 {
     names()[terminal.0].1

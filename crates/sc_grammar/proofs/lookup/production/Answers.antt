@@ -3,18 +3,20 @@ use Rattle.std.proofs.lemmas.Option.{same_Some}
 use Rattle.lr_tables.specs.Grammar.{Production as Rule, entries_of}
 use Rattle.lr_tables.specs.declared.grammar.Entry.{Entry}
 use Rattle.lr_tables.specs.declared.grammar.Entry.TheVariants.{Left}
+use Rattle.lr_tables.proofs.Members.{slice_some}
+use Rattle.sc_grammar.specs.declared.TheConstants.{PRODUCTIONS}
 use Rattle.sc_grammar.specs.C11.{productions}
 use Rattle.sc_grammar.specs.Production.{places_from, symbols_of}
-use Rattle.sc_grammar.proofs.Places.{reads, rule_same, some_rule}
+use Rattle.sc_grammar.proofs.Places.{reads, rule_same}
 use Rattle.sc_grammar.proofs.lookup.production.Goals as goal
 
 -- the production of a number stands between its two places
-module _ (number begin end : ℕ) (entries : List Entry) (first : 1 ≤ number) (last : number ≤ 288) (begins : slice_get (places_from 0 productions) (number - 1) ≡ Some begin) (ends : slice_get (places_from 0 productions) number ≡ Some end) (are : entries ≡ entries_of productions) where
+module _ (number begin end : ℕ) (entries : List Entry) (first : 1 ≤ number) (last : number ≤ PRODUCTIONS) (begins : slice_get (places_from 0 productions) (number - 1) ≡ Some begin) (ends : slice_get (places_from 0 productions) number ≡ Some end) (are : entries ≡ entries_of productions) where
   ends_next : slice_get (places_from 0 productions) (suc (number - 1)) ≡ Some end
   ends_next = let e : number ≡ suc (number - 1) = omega arith in subst (λ k. slice_get (places_from 0 productions) k ≡ Some end) e ends
 
   its_rule : (p : Rule) × (slice_get productions (number - 1) ≡ Some p)
-  its_rule = some_rule productions (number - 1) (omega arith)
+  its_rule = slice_some productions (number - 1) (omega arith)
 
 pub read-requires : goal.read-requires
 read-requires c =
