@@ -2,7 +2,7 @@
 --
 -- Symbols go by their places in the order of the symbols, items by theirs among the entries of the grammar. A state is
 -- given by its kernel, the items that its closure does not add, as a rising list.
-use Rattle.std.specs.Prelude.{◌≡◌, ◌↔◌, ◌⊎◌, ℕ, ◌+◌, ◌<◌, ◌≤◌, List, length, slice_get, Option, Some, None}
+use Rattle.std.specs.Prelude.{◌≡◌, ◌↔◌, ◌⊎◌, ℕ, ◌+◌, ◌<◌, ◌≤◌, List, length, slice_get, Option, Some, None, MatchOption}
 use Rattle.std.specs.List.{Contains}
 use Rattle.std.specs.List.Sorted.{IsStrictlyIncreasing}
 use Rattle.sc_model.specs.Growth.{IsOneToOne}
@@ -32,6 +32,10 @@ pub record IsGoto (g : Grammar) (states : List (List ℕ)) (s x t : ℕ) : Type 
   pub target_at : slice_get states t ≡ Some target
   pub some : 0 < length target
   pub moved : (m : ℕ) → Contains target m ↔ Moved g source x m
+
+-- the symbol leads nowhere from the state
+pub record NoGoto (g : Grammar) (states : List (List ℕ)) (s x : ℕ) : Type 0 where
+  pub none : (t : ℕ) → IsGoto g states s x t → ⊥
 
 -- the order of the pairs of a state and a symbol
 abbrev pub Before : ℕ → ℕ → ℕ → ℕ → Type 0
@@ -94,3 +98,34 @@ pub record IsConflict (g : Grammar) (states : List (List ℕ)) (c : Conflict) : 
 abbrev pub ConflictBefore : Conflict → Conflict → Type 0
 ConflictBefore c d =
     Before c.state c.terminal.0 d.state d.terminal.0 ⊎ ((c.state ≡ d.state) × (c.terminal.0 ≡ d.terminal.0) × (c.lost < d.lost))
+
+-- each item is before all later ones
+pub record IsOrderedBy {A : Type 0} (precedes : A → A → Type 0) (xs : List A) : Type 0 where
+  pub before : (i j : ℕ) (x y : A) → i < j → slice_get xs i ≡ Some x → slice_get xs j ≡ Some y → precedes x y
+
+abbrev pub InOrder : List Conflict → Type 0
+InOrder conflicts = IsOrderedBy ConflictBefore conflicts
+
+-- tables as values: the states, the action in a state at a terminal, the goto of a state by a nonterminal, the conflicts
+pub record Tables : Type 0 where
+  pub states : List (List ℕ)
+  pub action : ℕ → ℕ → Option Action
+  pub goto : ℕ → ℕ → Option ℕ
+  pub conflicts : List Conflict
+
+-- These are the LALR(1) tables of the grammar: with its states, numbered as they are found, each action, goto and
+-- conflict of theirs and no other, the conflicts in order.
+pub record AreTables (g : Grammar) (tables : Tables) : Type 0 where
+  pub are_states : IsStates g tables.states
+  pub action : (s t : ℕ) → t < g.terminals → IsAction g tables.states s t (tables.action s t)
+  pub goto : (s n : ℕ) → n < g.nonterminals
+      → MatchOption (tables.goto s n) (NoGoto g tables.states s (g.terminals + n)) (IsGoto g tables.states s (g.terminals + n))
+  pub conflict : (c : Conflict) → Contains tables.conflicts c ↔ IsConflict g tables.states c
+  pub in_order : InOrder tables.conflicts
+
+-- the same tables, at all symbols of the grammar
+pub record AreSame (g : Grammar) (a b : Tables) : Type 0 where
+  pub states : a.states ≡ b.states
+  pub actions : (s t : ℕ) → t < g.terminals → a.action s t ≡ b.action s t
+  pub gotos : (s n : ℕ) → n < g.nonterminals → a.goto s n ≡ b.goto s n
+  pub conflicts : a.conflicts ≡ b.conflicts

@@ -2,5 +2,7 @@
 #![tactic(auto)]
 
 mod grammar;
+mod laws;
 
 pub use grammar::{Action, Conflict, Entry, Grammar, Mark, Nonterminal, Symbol, Terminal};
+pub use laws::tables_are_determined;

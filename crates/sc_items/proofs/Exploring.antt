@@ -4,7 +4,7 @@ use Rattle.std.specs.List.{Contains, list_all}
 use Rattle.std.specs.declared.alloc.Global.{Global}
 use Rattle.std.proofs.lemmas.List.{length_push, get_or_past}
 use Rattle.std.proofs.lemmas.Option.{same_Some, none-some, option_and_then_some}
-use Rattle.std.proofs.lemmas.Bool.{cases_lt, false≢true}
+use Rattle.std.proofs.lemmas.Bool.{and_parts, cases_lt, false≢true}
 use Rattle.std.proofs.lemmas.Bool.Decides.{nat_tests}
 use Rattle.lr_tables.specs.Grammar.{IsGrammar, after, begun, right_in, left_in, is_known}
 use Rattle.lr_tables.specs.Tables.{Closure, given, opened, Moved, IsGoto}
@@ -19,10 +19,6 @@ use Rattle.sc_items.proofs.Finding.{Found-new, Found-old, Found-skip}
 use Rattle.sc_items.proofs.Opening.{after_within, slice_get-push_old, slice_get-push_cases}
 
 -- ---- the symbols of a grammar are in range
-and_parts : (a b : Bool) → (a && b) ≡ true → (a ≡ true) × (b ≡ true)
-and_parts true b h = (refl, h)
-and_parts false b h = absurd (false≢true h)
-
 list_all_at : {A : Type 0} (p : A → Bool) (xs : List A) (i : ℕ) (x : A) → list_all p xs ≡ true → slice_get xs i ≡ Some x → p x ≡ true
 list_all_at p [] i x h at = absurd (none-some x at)
 list_all_at p (y ∷ ys) zero x h at = subst (λ z. p z ≡ true) (same_Some y x at) (and_parts (p y) (list_all p ys) h).0

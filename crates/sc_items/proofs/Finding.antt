@@ -13,43 +13,10 @@ use Rattle.lr_tables.specs.Tables.{Moved, IsGoto, IsLeastPair, IsStates, Before}
 use Rattle.lr_tables.specs.declared.grammar.Grammar.{Grammar}
 use Rattle.sc_model.proofs.ListLemmas.{slice_get-seam}
 use Rattle.sc_items.specs.Found.{Found, FoundAt}
-use Rattle.sc_items.proofs.Listing.{no_member}
+use Rattle.lr_tables.proofs.Determined.{goto_member}
+use Rattle.lr_tables.proofs.Members.{rising_same}
+use Rattle.lr_tables.proofs.Pairs.{before_from_least, before_or_not}
 use Rattle.sc_items.proofs.Opening.{slice_get-push_old, slice_get-push_cases}
-
--- ---- two rising lists with the same members are one
-pub cons_cases : (x v : ℕ) (xs : List ℕ) → Contains (x ∷ xs) v → (x ≡ v) ⊎ Contains xs v
-cons_cases x v xs (zero, h, e) = inl e
-cons_cases x v xs (suc k, h, e) = inr (k, omega (arith, h), e)
-
-pub cons_head : (x : ℕ) (xs : List ℕ) → Contains (x ∷ xs) x
-cons_head x xs = (0, omega arith, refl)
-
-pub cons_tail : (x v : ℕ) (xs : List ℕ) → Contains xs v → Contains (x ∷ xs) v
-cons_tail x v xs h = (suc h.0, omega (arith, h.1), h.2)
-
-pub head_below : (x v : ℕ) (xs : List ℕ) → IsStrictlySortedBy nat_cmp (x ∷ xs) → Contains xs v → x < v
-head_below x v xs sorted h = subst (λ y. x < y) h.2 (below_from_sorted (x ∷ xs) 0 (suc h.0) v sorted (omega arith) (omega (arith, h.1)))
-
-sorted_same : (xs ys : List ℕ) → IsStrictlySortedBy nat_cmp xs → IsStrictlySortedBy nat_cmp ys → ((v : ℕ) → Contains xs v → Contains ys v) → ((v : ℕ) → Contains ys v → Contains xs v) → xs ≡ ys
-sorted_same [] [] p q f h = refl
-sorted_same [] (y ∷ ys) p q f h = absurd (no_member y (h y (cons_head y ys)))
-sorted_same (x ∷ xs) [] p q f h = absurd (no_member x (f x (cons_head x xs)))
-sorted_same (x ∷ xs) (y ∷ ys) p q f h =
-    let heads : x ≡ y = same_heads (cons_cases y x ys (f x (cons_head x xs))) (cons_cases x y xs (h y (cons_head y ys))) in
-    let there : (v : ℕ) → Contains xs v → Contains ys v = λ v w. only_tail y v ys (omega (arith, heads, head_below x v xs p w)) (f v (cons_tail x v xs w)) in
-    let back : (v : ℕ) → Contains ys v → Contains xs v = λ v w. only_tail x v xs (omega (arith, heads, head_below y v ys q w)) (h v (cons_tail y v ys w)) in
-    ap (λ z. z ∷ xs) heads ∙ ap (λ zs. y ∷ zs) (sorted_same xs ys (sorted_tail nat_cmp x xs p) (sorted_tail nat_cmp y ys q) there back)
-  where
-    same_heads : (y ≡ x) ⊎ Contains ys x → (x ≡ y) ⊎ Contains xs y → x ≡ y
-    same_heads (inl e) other = sym e
-    same_heads (inr a) (inl e) = e
-    same_heads (inr a) (inr b) = absurd (omega (arith, head_below y x ys q a, head_below x y xs p b))
-
-    only_tail : (z v : ℕ) (zs : List ℕ) → z < v → Contains (z ∷ zs) v → Contains zs v
-    only_tail z v zs below w = elim (cons_cases z v zs w) [ inl e ↦ absurd (omega arith) | inr a ↦ a ]
-
-pub rising_same : (xs ys : List ℕ) → IsStrictlyIncreasing xs → IsStrictlyIncreasing ys → ((v : ℕ) → Contains xs v → Contains ys v) → ((v : ℕ) → Contains ys v → Contains xs v) → xs ≡ ys
-rising_same xs ys p q f h = sorted_same xs ys (sorted_from_strictly_increasing xs p) (sorted_from_strictly_increasing ys q) f h
 
 -- ---- the order of pairs
 before_next : (r y s x : ℕ) → Before r y s (x + 1) → Before r y s x ⊎ ((r ≡ s) × (y ≡ x))
@@ -68,29 +35,6 @@ before_trans r y s x p z (inl a) (inl b) = inl (omega arith)
 before_trans r y s x p z (inl a) (inr b) = inl (omega (arith, b.0))
 before_trans r y s x p z (inr a) (inl b) = inl (omega (arith, a.0))
 before_trans r y s x p z (inr a) (inr b) = inr (a.0 ∙ b.0, omega (arith, a.1, b.1))
-
--- what is not after a pair is before each pair that this one is before
-pub before_from_least : (r y s x p z : ℕ) → (Before s x r y → ⊥) → Before s x p z → Before r y p z
-before_from_least r y s x p z not b = go (cases_lt s r) (cases_lt r s) (cases_lt x y) b
-  where
-    go : (s < r) ⊎ (r ≤ s) → (r < s) ⊎ (s ≤ r) → (x < y) ⊎ (y ≤ x) → Before s x p z → Before r y p z
-    go (inl a) other third b = absurd (not (inl a))
-    go (inr a) (inl c) third (inl b) = inl (omega arith)
-    go (inr a) (inl c) third (inr b) = inl (omega (arith, b.0))
-    go (inr a) (inr c) (inl d) b = absurd (not (inr (omega arith, d)))
-    go (inr a) (inr c) (inr d) (inl b) = inl (omega arith)
-    go (inr a) (inr c) (inr d) (inr b) = inr (omega (arith, b.0), omega (arith, b.1))
-
-pub before_or_not : (s x p z : ℕ) → (Before p z s x → ⊥) → (r y : ℕ) → Before r y s x → Before r y p z
-before_or_not s x p z not r y b = go (cases_lt p s) (cases_lt s p) (cases_lt z x) b
-  where
-    go : (p < s) ⊎ (s ≤ p) → (s < p) ⊎ (p ≤ s) → (z < x) ⊎ (x ≤ z) → Before r y s x → Before r y p z
-    go (inl a) other third b = absurd (not (inl a))
-    go (inr a) (inl c) third (inl b) = inl (omega arith)
-    go (inr a) (inl c) third (inr b) = inl (omega (arith, b.0))
-    go (inr a) (inr c) (inl d) b = absurd (not (inr (omega arith, d)))
-    go (inr a) (inr c) (inr d) (inl b) = inl (omega arith)
-    go (inr a) (inr c) (inr d) (inr b) = inr (omega (arith, b.0), omega (arith, b.1))
 
 before_within : (r y s x : ℕ) → Before r y s x → r ≤ s
 before_within r y s x (inl a) = omega arith
@@ -134,10 +78,6 @@ module _ (g : Grammar) (states : List (List ℕ)) (k : List ℕ) where
     earlier = h.earlier;
     least = λ r y goto lower before. h.least r y (goto_old r y t (omega arith) within goto) lower before;
   }
-
--- a goto has a member
-pub goto_member : (g : Grammar) (states : List (List ℕ)) (s x t : ℕ) (h : IsGoto g states s x t) → Moved g h.source x (get_or h.target 0 0)
-goto_member g states s x t h = (h.moved (get_or h.target 0 0)).0 (Contains-get_or h.target 0 0 h.some)
 
 pub goto_source : (g : Grammar) (states : List (List ℕ)) (s x t : ℕ) (kernel : List ℕ) (h : IsGoto g states s x t) → slice_get states s ≡ Some kernel → h.source ≡ kernel
 goto_source g states s x t kernel h at = same_Some h.source kernel (sym h.source_at ∙ at)

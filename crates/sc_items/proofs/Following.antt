@@ -4,9 +4,10 @@ use Rattle.std.proofs.lemmas.Option.{same_Some}
 use Rattle.std.proofs.lemmas.List.{length-set, length-replicate}
 use Rattle.lr_tables.specs.Grammar.{after}
 use Rattle.lr_tables.specs.declared.grammar.Grammar.{Grammar}
+use Rattle.lr_tables.proofs.Members.{no_member}
 use Rattle.sc_items.specs.Reach.{marked}
 use Rattle.sc_items.specs.Kernel.{IsNext, AreNext}
-use Rattle.sc_items.proofs.Listing.{no_member, take-more_cases, take-more_old, take-more_new}
+use Rattle.sc_items.proofs.Listing.{take-more_cases, take-more_old, take-more_new}
 use Rattle.sc_items.proofs.Reaching.{marked_other, marked_same, marked_kept, none_marked}
 
 pub AreNext-none : (g : Grammar) (marks : List Bool) → marks ≡ replicate (g.terminals + g.nonterminals) false → AreNext g [] marks

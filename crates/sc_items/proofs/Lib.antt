@@ -7,4 +7,3 @@ pub mod Exploring
 pub mod Following
 pub mod Searching
 pub mod Reading
-pub mod Determined

@@ -6,10 +6,8 @@ use Rattle.std.proofs.lemmas.List.{get_or_append_left, get_or_push, length_push,
 use Rattle.std.proofs.lemmas.List.Elements.{Contains-push, Contains-append_left, Contains-push_cases, Contains-get_or}
 use Rattle.std.proofs.lemmas.Map.Keys.{below_from_sorted, sorted_from_strictly_increasing}
 use Rattle.std.proofs.lemmas.Bool.{cases_lt}
+use Rattle.lr_tables.proofs.Members.{no_member}
 use Rattle.sc_items.specs.Kernel.{IsListOf}
-
-pub no_member : (v : ℕ) → Contains [] v → ⊥
-no_member v h = omega (arith, h.1)
 
 -- a greater number goes to the end
 pub rising-push : (xs : List ℕ) (z : ℕ) → IsStrictlyIncreasing xs → ((y : ℕ) → Contains xs y → y < z) → IsStrictlyIncreasing (xs ++ z ∷ [])

@@ -9,9 +9,10 @@ use Rattle.std.proofs.lemmas.Option.{same_Some, slice_get_within, slice_get-get_
 use Rattle.lr_tables.specs.Grammar.{after, begun, left_in, right_in}
 use Rattle.lr_tables.specs.declared.grammar.Grammar.{Grammar}
 use Rattle.sc_model.proofs.ListLemmas.{slice_get-front}
+use Rattle.lr_tables.proofs.Members.{no_member, slice_some}
 use Rattle.sc_items.specs.Reach.{Edge, EdgesWithin}
 use Rattle.sc_items.specs.Kernel.{IsListOf, Opens, IsOpened, MovedIn}
-use Rattle.sc_items.proofs.Listing.{no_member, rising-push, rising-none, take-more_cases, take-more_old, take-more_new, take-below}
+use Rattle.sc_items.proofs.Listing.{rising-push, rising-none, take-more_cases, take-more_old, take-more_new, take-below}
 
 -- ---- an entry of a list that has grown
 pub slice_get-push_old : {A : Type 0} (xs : List A) (y x : A) (i : ℕ) → slice_get xs i ≡ Some x → slice_get (xs ++ y ∷ []) i ≡ Some x
@@ -23,10 +24,13 @@ slice_get-push_cases [] y x (suc i) h = absurd (none-some x h)
 slice_get-push_cases (z ∷ zs) y x zero h = inl h
 slice_get-push_cases (z ∷ zs) y x (suc i) h = ⊎_elim (λ a. inl a) (λ a. inr (ap suc a.0, a.1)) (slice_get-push_cases zs y x i h)
 
-pub slice_some : {A : Type 0} (xs : List A) (i : ℕ) → i < length xs → (x : A) × (slice_get xs i ≡ Some x)
-slice_some [] i h = absurd (omega (arith, h))
-slice_some (x ∷ xs) zero h = (x, refl)
-slice_some (x ∷ xs) (suc i) h = slice_some xs i (omega (arith, h))
+-- what holds of each entry at its place, with one entry more
+pub each-push : {A : Type 0} (P : ℕ → A → Type 0) (xs : List A) (y : A) (n : ℕ) → length xs ≡ n → ((i : ℕ) (x : A) → slice_get xs i ≡ Some x → P i x) → P n y
+    → (i : ℕ) (x : A) → slice_get (xs ++ y ∷ []) i ≡ Some x → P i x
+each-push P xs y n long each one i x at = elim (slice_get-push_cases xs y x i at) [
+  | inl a ↦ each i x a
+  | inr e ↦ subst (P i) e.1 (subst (λ k. P k y) (sym (e.0 ∙ long)) one)
+]
 
 -- ---- what each item opens
 pub record IsOpenedBelow (g : Grammar) (n : ℕ) (rows : List (Vec ℕ Global)) : Type 0 where
@@ -36,10 +40,7 @@ pub record IsOpenedBelow (g : Grammar) (n : ℕ) (rows : List (Vec ℕ Global)) 
 pub IsOpenedBelow-push : (g : Grammar) (n : ℕ) (rows : List (Vec ℕ Global)) (row : Vec ℕ Global) → IsOpenedBelow g n rows → IsListOf (length g.entries.now) (Opens g n) row.items → IsOpenedBelow g (n + 1) (rows ++ row ∷ [])
 IsOpenedBelow-push g n rows row h one = record {
   long = length_push rows row ∙ ap (λ k. k + 1) h.long;
-  each = λ i other at. elim (slice_get-push_cases rows row other i at) [
-    | inl a ↦ h.each i other a
-    | inr a ↦ subst (λ (r : Vec ℕ Global). IsListOf (length g.entries.now) (Opens g i) r.items) a.1 (subst (λ k. IsListOf (length g.entries.now) (Opens g k) row.items) (sym (a.0 ∙ h.long)) one)
-  ];
+  each = each-push (λ i (r : Vec ℕ Global). IsListOf (length g.entries.now) (Opens g i) r.items) rows row n h.long h.each one;
 }
 
 -- an item with something after its dot or its dot at the beginning is one of the entries

@@ -7,10 +7,8 @@ use Rattle.std.proofs.lemmas.Bool.{cases_eq, cases_lt, false≢true}
 use Rattle.std.proofs.lemmas.Grind.{common_steps}
 use Rattle.std.proofs.lemmas.Option.{same_Some}
 use Rattle.std.proofs.lemmas.List.{get_or-set_same, get_or-set_other, get_or-replicate, get_or_past, length-set, length-append, length-replicate, take_more}
+use Rattle.lr_tables.proofs.Members.{no_member}
 use Rattle.sc_items.specs.Reach.{marked, Edge, Reaches, start, step, IsReached, Marks}
-
-no_member : (v : ℕ) → Contains [] v → ⊥
-no_member v h = omega (arith, h.1)
 
 pub Marks-none : (marks : List Bool) (waiting : List ℕ) → Marks marks marks waiting waiting []
 Marks-none marks waiting = record {

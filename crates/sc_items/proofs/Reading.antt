@@ -6,15 +6,16 @@ use Rattle.std.specs.Borrow.{Bor}
 use Rattle.std.proofs.lemmas.Option.{same_Some, slice_get_within, slice_get_past, slice_get_read, none-some}
 use Rattle.std.proofs.lemmas.Bool.{false≢true}
 use Rattle.lr_tables.specs.Grammar.{IsGrammar}
-use Rattle.lr_tables.specs.Tables.{Closure, Moved, IsGoto}
+use Rattle.lr_tables.specs.Tables.{Closure, Moved, IsGoto, NoGoto}
 use Rattle.lr_tables.specs.declared.grammar.Grammar.{Grammar}
 use Rattle.sc_items.specs.declared.automaton.State.{State}
 use Rattle.sc_items.specs.declared.automaton.States.{States}
 use Rattle.sc_items.specs.Reach.{marked}
-use Rattle.sc_items.specs.States.{IsState, AreStates, HasItem, NoGoto, kernels_of, has_item, goto_of}
-use Rattle.sc_items.proofs.Finding.{goto_member, goto_source}
+use Rattle.sc_items.specs.States.{IsState, AreStates, HasItem, kernels_of, has_item, goto_of}
+use Rattle.lr_tables.proofs.Determined.{goto_member}
+use Rattle.lr_tables.proofs.Members.{slice_some}
+use Rattle.sc_items.proofs.Finding.{goto_source}
 use Rattle.sc_items.proofs.Exploring.{after_small}
-use Rattle.sc_items.proofs.Opening.{slice_some}
 
 has_at : (g : Grammar) (states : States) (s i : ℕ) (o : Option State) → slice_get states.rows.items s ≡ o → AreStates g states → IsTrue (option_map_or (λ (state : State). marked state.items.items i) o false) ↔ HasItem g (kernels_of states) s i
 has_at g states s i None e h = (λ m. absurd (false≢true m), λ w. absurd (none-some (slice_some states.rows.items s (omega (arith, h.long, slice_get_within (kernels_of states) s w.kernel w.kernel_at))).0 (sym e ∙ (slice_some states.rows.items s (omega (arith, h.long, slice_get_within (kernels_of states) s w.kernel w.kernel_at))).1)))

@@ -12,7 +12,7 @@ use Rattle.sc_items.specs.Found.{Found, Keeps}
 use Rattle.sc_items.specs.States.{IsState, AreStates, kernels_of}
 use Rattle.sc_items.proofs.Finding.{Found-begin, IsStates-done}
 use Rattle.sc_items.proofs.Exploring.{goto_keeps}
-use Rattle.sc_items.proofs.Opening.{slice_get-push_cases, begun_within}
+use Rattle.sc_items.proofs.Opening.{each-push, begun_within}
 
 pub record Searched (g : Grammar) (states : List (List ℕ)) (rows : List State) : Type 0 where
   pub found : Found g states (length rows) 0
@@ -45,10 +45,7 @@ Searched-begin g old new first number rows e f h n =
 pub Searched-step : (g : Grammar) (old new : List (List ℕ)) (rows : List State) (state : State) (number : ℕ) → number ≡ length rows → length rows < length old → Searched g old rows → Found g new (number + 1) 0 → Keeps old new → IsState g new number state → Searched g new (rows ++ state ∷ [])
 Searched-step g old new rows state number e within h found keeps one = record {
   found = subst (λ n. Found g new n 0) (ap (λ n. n + 1) e ∙ sym (length_push rows state)) found;
-  each = λ s other at. elim (slice_get-push_cases rows state other s at) [
-    | inl a ↦ state_keeps g old new s other keeps (h.each s other a)
-    | inr a ↦ subst (λ n. IsState g new n other) (e ∙ sym a.0) (subst (IsState g new number) a.1 one)
-  ];
+  each = each-push (IsState g new) rows state number (sym e) (λ s other at. state_keeps g old new s other keeps (h.each s other at)) one;
   within = omega (arith, length_push rows state, keeps.longer);
 }
 

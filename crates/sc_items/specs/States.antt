@@ -1,7 +1,7 @@
 -- The states as the code keeps them.
 use Rattle.std.specs.Prelude.{◌≡◌, ◌↔◌, ◌+◌, ℕ, Bool, false, List, length, slice_get, Option, Some, option_and_then, IsTrue}
 use Rattle.std.specs.Option.{option_map_or}
-use Rattle.lr_tables.specs.Tables.{Closure, IsGoto, IsStates}
+use Rattle.lr_tables.specs.Tables.{Closure, IsStates}
 use Rattle.lr_tables.specs.declared.grammar.Grammar.{Grammar}
 use Rattle.sc_items.specs.declared.automaton.State.{State}
 use Rattle.sc_items.specs.declared.automaton.States.{States}
@@ -32,10 +32,6 @@ pub record HasItem (g : Grammar) (states : List (List ℕ)) (s i : ℕ) : Type 0
   pub kernel : List ℕ
   pub kernel_at : slice_get states s ≡ Some kernel
   pub within : Closure g kernel i
-
--- the symbol leads nowhere from the state
-pub record NoGoto (g : Grammar) (states : List (List ℕ)) (s x : ℕ) : Type 0 where
-  pub none : (t : ℕ) → IsGoto g states s x t → ⊥
 
 -- whether the state is kept with the item
 abbrev pub has_item : States → ℕ → ℕ → Bool

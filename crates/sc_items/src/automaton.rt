@@ -20,10 +20,10 @@ pub struct States {
 
 impl States {
     ghost use Rattle.std.specs.Prelude.{◌≡◌, ◌↔◌, length, IsTrue, MatchOption};
-    ghost use Rattle.lr_tables.specs.Tables.{IsGoto};
+    ghost use Rattle.lr_tables.specs.Tables.{IsGoto, NoGoto};
     ghost use Rattle.lr_tables.specs.Grammar.{IsGrammar};
     ghost use Rattle.lr_tables.specs.declared.grammar.Grammar.{Grammar};
-    ghost use Rattle.sc_items.specs.States.{AreStates, HasItem, NoGoto, kernels_of, has_item, goto_of};
+    ghost use Rattle.sc_items.specs.States.{AreStates, HasItem, kernels_of, has_item, goto_of};
 
     /// How many there are.
     pub fn len(&self) -> usize

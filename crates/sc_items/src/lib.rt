@@ -4,13 +4,11 @@
 mod automaton;
 mod item;
 mod kernel;
-mod laws;
 mod reach;
 mod search;
 
 pub use automaton::{State, States};
 pub use item::{after, begun, production_at};
 pub use kernel::opened;
-pub use laws::states_are_determined;
 pub use reach::reachable;
 pub use search::states;

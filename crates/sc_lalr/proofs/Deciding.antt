@@ -10,23 +10,22 @@ use Rattle.std.proofs.lemmas.List.Elements.{Contains-append_left, Contains-appen
 use Rattle.std.proofs.lemmas.Map.Keys.{below_from_sorted, sorted_from_strictly_increasing, sorted_tail}
 use Rattle.std.proofs.lemmas.Option.{same_Some, slice_get_within, slice_get-map, get_or_from_slice_get, none-some}
 use Rattle.std.proofs.lemmas.Bool.{cases_lt}
-use Rattle.lr_tables.specs.Tables.{IsStates, IsGoto, Lookahead, CanReduce, IsAction, shifts, reduces, none, IsConflict, Before, ConflictBefore}
+use Rattle.lr_tables.specs.Tables.{IsStates, IsGoto, Lookahead, CanReduce, IsAction, shifts, reduces, none, IsConflict, Before, ConflictBefore, InOrder, NoGoto}
 use Rattle.lr_tables.specs.declared.grammar.Grammar.{Grammar}
 use Rattle.lr_tables.specs.declared.grammar.Action.{Action}
 use Rattle.lr_tables.specs.declared.grammar.Action.TheVariants.{Shift, Reduce}
 use Rattle.lr_tables.specs.declared.grammar.Conflict.{Conflict}
 use Rattle.sc_items.specs.Kernel.{IsListOf}
 use Rattle.sc_items.specs.Reach.{marked}
-use Rattle.sc_items.specs.States.{HasItem, NoGoto}
-use Rattle.sc_items.proofs.Listing.{no_member}
-use Rattle.sc_items.proofs.Finding.{cons_cases, cons_head, cons_tail, head_below}
-use Rattle.sc_items.proofs.Opening.{slice_get-push_cases}
+use Rattle.sc_items.specs.States.{HasItem}
+use Rattle.lr_tables.proofs.Determined.{action_unique}
+use Rattle.lr_tables.proofs.Members.{cons_cases, cons_head, cons_tail, head_below, map_has, map_member, no_member}
+use Rattle.sc_items.proofs.Opening.{each-push}
 use Rattle.sc_lalr.specs.Propagation.{AreNodes, AreLookaheads}
 use Rattle.sc_lalr.specs.declared.nodes.Nodes.{Nodes}
 use Rattle.sc_lalr.proofs.Placing.{node_of}
-use Rattle.sc_lalr.specs.Tables.{EndsIn, IsMarkedEnd, InOrder, kept_of, conflict_at, conflicts_at}
+use Rattle.sc_lalr.specs.Tables.{EndsIn, IsMarkedEnd, kept_of, conflict_at, conflicts_at}
 use Rattle.sc_lalr.specs.Building.{AreActions, AreConflicts}
-use Rattle.sc_lalr.proofs.Passing.{goto_unique}
 use Rattle.sc_lalr.proofs.Looking.{lookahead_has}
 
 -- ---- what can be reduced
@@ -50,37 +49,15 @@ can_reduce g states nodes s t rows row ends are ahead at list p = (
 
 -- ---- one action
 module _ (g : Grammar) (states : List (List ℕ)) (s t : ℕ) (are : IsStates g states) where
-  -- it is the only one
-  action_unique : (a b : Option Action) → IsAction g states s t a → IsAction g states s t b → a ≡ b
-  action_unique a b (shifts r h) (shifts q k) = ap (λ z. Some (Shift z)) (goto_unique g states s t r q are h k)
-  action_unique a b (shifts r h) (reduces p stay can least) = absurd (stay r h)
-  action_unique a b (shifts r h) (none stay never) = absurd (stay r h)
-  action_unique a b (reduces p stay can least) (shifts q k) = absurd (stay q k)
-  action_unique a b (reduces p stay can least) (reduces q stay2 can' least') = let x = least q can' in let y = least' p can in let e : p ≡ q = omega arith in ap (λ z. Some (Reduce z)) e
-  action_unique a b (reduces p stay can least) (none stay2 never) = absurd (never p can)
-  action_unique a b (none stay never) (shifts q k) = absurd (stay q k)
-  action_unique a b (none stay never) (reduces q stay2 can' least') = absurd (never q can')
-  action_unique a b (none stay never) (none stay2 never') = refl
-
   pub kept_is : (shift : Option ℕ) (ps : List ℕ) → MatchOption shift (NoGoto g states s t) (IsGoto g states s t) → IsStrictlyIncreasing ps → ((p : ℕ) → Contains ps p ↔ CanReduce g states s t p) → IsAction g states s t (kept_of shift ps)
   kept_is (Some r) ps m inc can = shifts r m
   kept_is None [] m inc can = none m.none (λ p c. no_member p ((can p).1 c))
   kept_is None (p ∷ ps) m inc can = reduces p m.none ((can p).0 (cons_head p ps)) least
     where
       least : (q : ℕ) → CanReduce g states s t q → p ≤ q
-      least q c = elim (cons_cases p q ps ((can q).1 c)) [ inl e ↦ omega arith | inr w ↦ omega (arith, head_below p q ps (sorted_from_strictly_increasing (p ∷ ps) inc) w) ]
+      least q c = elim (cons_cases p q ps ((can q).1 c)) [ inl e ↦ omega arith | inr w ↦ omega (arith, head_below p q ps inc w) ]
 
 -- ---- the conflicts of one state at one terminal
-map_member : (f : ℕ → Conflict) (c : Conflict) (ps : List ℕ) → Contains (map f ps) c → (p : ℕ) × Contains ps p × (f p ≡ c)
-map_member f c [] (k, a, b) = absurd (omega (arith, a))
-map_member f c (p ∷ ps) (zero, a, b) = (p, cons_head p ps, b)
-map_member f c (p ∷ ps) (suc k, a, b) = let m = map_member f c ps (k, omega (arith, a), b) in (m.0, cons_tail p m.0 ps m.1, m.2)
-
-map_has : (f : ℕ → Conflict) (p : ℕ) (ps : List ℕ) → Contains ps p → Contains (map f ps) (f p)
-map_has f p [] h = absurd (no_member p h)
-map_has f p (q ∷ ps) (zero, a, b) = (0, omega arith, ap f b)
-map_has f p (q ∷ ps) (suc k, a, b) = let m = map_has f p ps (k, omega (arith, a), b) in (suc m.0, omega (arith, m.1), m.2)
-
 -- a conflict of this state at this terminal
 pub record IsHere (s t : ℕ) (shift : Option ℕ) (ps : List ℕ) (c : Conflict) : Type 0 where
   pub state : c.state ≡ s
@@ -102,7 +79,7 @@ here_of s t (Some r) ps c inc w =
 here_of s t None [] c inc (k, a, b) = absurd (omega (arith, a))
 here_of s t None (p ∷ ps) c inc w =
     let m = map_member (conflict_at s t (Reduce p)) c ps w in
-    let less = head_below p m.0 ps (sorted_from_strictly_increasing (p ∷ ps) inc) m.1 in
+    let less = head_below p m.0 ps inc m.1 in
     subst (IsHere s t None (p ∷ ps)) m.2 (record { state = refl; terminal = refl; kept = refl; lost = cons_tail p m.0 ps m.1; apart = λ e. omega (arith, less, reduce_same p m.0 e) })
 
 conflict_same : (s t : ℕ) (k : Action) (c : Conflict) → c.state ≡ s → c.terminal.0 ≡ t → k ≡ c.kept → conflict_at s t k c.lost ≡ c
@@ -172,10 +149,7 @@ pub RowSoFar-step : (g : Grammar) (states : List (List ℕ)) (s t : ℕ) (row : 
 RowSoFar-step g states s t row conflicts shift ps are s_in t_in goto inc can h = record {
   actions = record {
     long = length_push row (kept_of shift ps) ∙ ap (λ n. n + 1) h.actions.long;
-    each = λ u a at. elim (slice_get-push_cases row (kept_of shift ps) a u at) [
-      | inl b ↦ h.actions.each u a b
-      | inr e ↦ subst (λ z. IsAction g states s z a) (sym (e.0 ∙ h.actions.long)) (subst (IsAction g states s t) e.1 kept)
-    ];
+    each = each-push (IsAction g states s) row (kept_of shift ps) t h.actions.long h.actions.each kept;
   };
   conflicts_are = record { sound = sound; earlier = earlier; complete = complete; in_order = order_append conflicts (conflicts_at s t shift ps) h.conflicts_are.in_order (here_order s t shift ps inc) across };
 }
@@ -196,7 +170,7 @@ RowSoFar-step g states s t row conflicts shift ps are s_in t_in goto inc can h =
     here_conflict c k e f =
         let action : IsAction g states s t (Some c.kept) = subst (λ a. IsAction g states a t (Some c.kept)) e (subst (λ b. IsAction g states c.state b (Some c.kept)) f k.kept) in
         let possible : CanReduce g states s t c.lost = subst (λ a. CanReduce g states a t c.lost) e (subst (λ b. CanReduce g states c.state b c.lost) f k.possible) in
-        record { state = e; terminal = f; kept = action_unique g states s t are (kept_of shift ps) (Some c.kept) kept action; lost = (can c.lost).1 possible; apart = k.lost }
+        record { state = e; terminal = f; kept = action_unique g states s t (kept_of shift ps) (Some c.kept) are kept action; lost = (can c.lost).1 possible; apart = k.lost }
 
     sound : (c : Conflict) → Contains (conflicts ++ conflicts_at s t shift ps) c → IsConflict g states c
     sound c w = elim (Contains-append_cases conflicts (conflicts_at s t shift ps) c w) [ inl a ↦ h.conflicts_are.sound c a | inr a ↦ conflict_here c (here_of s t shift ps c inc a) ]

@@ -10,8 +10,8 @@ use Rattle.lr_tables.specs.Grammar.{IsGrammar, after, begun}
 use Rattle.lr_tables.specs.Tables.{First, itself, derived}
 use Rattle.lr_tables.specs.declared.grammar.Grammar.{Grammar}
 use Rattle.sc_items.specs.Reach.{EdgesWithin, Reaches, start, step, IsReached, marked}
-use Rattle.sc_items.proofs.Listing.{no_member}
-use Rattle.sc_items.proofs.Opening.{slice_get-push_cases, slice_some}
+use Rattle.lr_tables.proofs.Members.{no_member, slice_some}
+use Rattle.sc_items.proofs.Opening.{each-push}
 use Rattle.sc_items.proofs.Exploring.{after_small, begun_small}
 use Rattle.sc_lalr.specs.First.{Leads, IsLeading}
 
@@ -58,10 +58,7 @@ pub record IsLeadingBelow (g : Grammar) (n : ℕ) (rows : List (Vec ℕ Global))
 pub IsLeadingBelow-push : (g : Grammar) (n : ℕ) (rows : List (Vec ℕ Global)) (row : Vec ℕ Global) → IsLeadingBelow g n rows → ((x : ℕ) → Contains row.items x ↔ Leads g x n) → IsLeadingBelow g (n + 1) (rows ++ row ∷ [])
 IsLeadingBelow-push g n rows row h one = record {
   long = length_push rows row ∙ ap (λ k. k + 1) h.long;
-  each = λ y other at x. elim (slice_get-push_cases rows row other y at) [
-    | inl a ↦ h.each y other a x
-    | inr a ↦ subst (λ (r : Vec ℕ Global). Contains r.items x ↔ Leads g x y) a.1 (subst (λ k. Contains row.items x ↔ Leads g x k) (sym (a.0 ∙ h.long)) (one x))
-  ];
+  each = each-push (λ y (r : Vec ℕ Global). (x : ℕ) → Contains r.items x ↔ Leads g x y) rows row n h.long h.each one;
 }
 
 pub IsLeading-done : (g : Grammar) (n : ℕ) (rows : List (Vec ℕ Global)) → IsGrammar g → n ≡ g.terminals + g.nonterminals → IsLeadingBelow g n rows → IsLeading g rows

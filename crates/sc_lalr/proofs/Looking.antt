@@ -10,15 +10,16 @@ use Rattle.std.proofs.lemmas.Nat.{div_below}
 use Rattle.lr_tables.specs.Grammar.{after, begun}
 use Rattle.lr_tables.specs.Tables.{opened as closure_opened, First, Lookahead, spontaneous, opened, moved}
 use Rattle.lr_tables.specs.declared.grammar.Grammar.{Grammar}
+use Rattle.lr_tables.proofs.Members.{map_has, map_member, no_member, slice_some}
 use Rattle.sc_items.specs.Reach.{Edge, Reaches, start, step, IsReached, marked}
 use Rattle.sc_items.specs.Kernel.{IsOpened, Opens}
 use Rattle.sc_items.specs.States.{HasItem}
-use Rattle.sc_items.proofs.Listing.{no_member, take-more_cases}
-use Rattle.sc_items.proofs.Opening.{slice_get-push_cases, slice_some, begun_within, after_within}
+use Rattle.sc_items.proofs.Listing.{take-more_cases}
+use Rattle.sc_items.proofs.Opening.{each-push, begun_within, after_within}
 use Rattle.sc_lalr.specs.Propagation.{AreNodes, IsNode, Passes, along, into, PassesTo, IsPropagation, HasPlace, IsFollowed, IsSource, AreSources, IsSpontaneous, PlaceFits, numbers_at, row_at, seed_part}
 use Rattle.sc_lalr.specs.declared.nodes.Nodes.{Nodes}
 use Rattle.sc_lalr.proofs.Placing.{some_entries, place_same, place_at, place_in, has_at, node_same, node_in, node_number, node_of}
-use Rattle.sc_lalr.proofs.Passing.{map_to, map_from, flat_to, flat_from, row_opens, passes_has}
+use Rattle.sc_lalr.proofs.Passing.{flat_to, flat_from, row_opens, passes_has}
 
 -- ---- what one place seeds
 pub row_at_is : (rows : List (Vec ℕ Global)) (i : ℕ) (row : Vec ℕ Global) → slice_get rows i ≡ Some row → row_at rows i ≡ row.items
@@ -48,7 +49,7 @@ unfolding seed_at
 seeds_of g numbers rows begin p v w = go (after g (p % length g.entries.now + 1)) refl w
   where
     inner : (y : ℕ) → after g (p % length g.entries.now + 1) ≡ Some y → (b : Bool) → marked begin y ≡ b → Contains (cond b (numbers_at numbers (p / length g.entries.now * length g.entries.now) (row_at rows (p % length g.entries.now))) []) v → Seeds g numbers rows begin p v
-    inner y e true m x = let j = map_to (λ j. slice_index numbers (p / length g.entries.now * length g.entries.now + j)) v (row_at rows (p % length g.entries.now)) x in record { next = y; next_is = e; begins = m; item = j.0; in_row = j.1; number = j.2 }
+    inner y e true m x = let j = map_member (λ j. slice_index numbers (p / length g.entries.now * length g.entries.now + j)) v (row_at rows (p % length g.entries.now)) x in record { next = y; next_is = e; begins = m; item = j.0; in_row = j.1; number = sym j.2 }
     inner y e false m x = absurd (no_member v x)
 
     go : (o : Option ℕ) → after g (p % length g.entries.now + 1) ≡ o → Contains (option_map_or (seed_at g numbers rows begin p) o []) v → Seeds g numbers rows begin p v
@@ -105,7 +106,7 @@ module _ (g : Grammar) (states : List (List ℕ)) (nodes : Nodes) (t : ℕ) (row
       let in_row = (row_opens g rows (p % length g.entries.now) row.0 row.0.items rows_are row.1 refl h.j).1 opens in
       let part = seed_is g nodes.numbers.items rows begin p source.followed.y row.0 row.0.items (subst (λ z. after g (z + 1) ≡ Some source.followed.y) same.1 source.followed.next) ((begin_is source.followed.y).1 h.first) row.1 refl in
       let here : v ≡ slice_index nodes.numbers.items (p / length g.entries.now * length g.entries.now + h.j) = node_number g states nodes nodes_are v source.s h.j h.to ∙ ap (λ z. slice_index nodes.numbers.items (z * length g.entries.now + h.j)) same.0 in
-      let seeded : Contains (seed_part g nodes.numbers.items rows begin p) v = rw (part, here) (map_from (λ j. slice_index nodes.numbers.items (p / length g.entries.now * length g.entries.now + j)) h.j row.0.items in_row) in
+      let seeded : Contains (seed_part g nodes.numbers.items rows begin p) v = rw (part, here) (map_has (λ j. slice_index nodes.numbers.items (p / length g.entries.now * length g.entries.now + j)) h.j row.0.items in_row) in
       subst (λ zs. Contains zs v) (sym starts_are) (flat_from (seed_part g nodes.numbers.items rows begin) v p sources (sources_are.complete p source) seeded)
 
   lookahead_to : (v : ℕ) → Reaches edges starts v → (s i : ℕ) → IsNode (length g.entries.now) nodes v s i → Lookahead g states t s i
@@ -187,11 +188,8 @@ pub record AreLookaheadsBelow (g : Grammar) (states : List (List ℕ)) (nodes : 
 pub AreLookaheadsBelow-push : (g : Grammar) (states : List (List ℕ)) (nodes : Nodes) (n : ℕ) (rows : List (Vec Bool Global)) (row : Vec Bool Global) → AreLookaheadsBelow g states nodes n rows → length row.items ≡ length nodes.places.items → ((u s i : ℕ) → IsNode (length g.entries.now) nodes u s i → IsTrue (marked row.items u) ↔ Lookahead g states n s i) → AreLookaheadsBelow g states nodes (n + 1) (rows ++ row ∷ [])
 AreLookaheadsBelow-push g states nodes n rows row h long exact = record {
   long = length_push rows row ∙ ap (λ k. k + 1) h.long;
-  each = λ t other at. elim (slice_get-push_cases rows row other t at) [ inl a ↦ h.each t other a | inr a ↦ subst (λ (r : Vec Bool Global). length r.items ≡ length nodes.places.items) a.1 long ];
-  exact = λ t other at u s i node. elim (slice_get-push_cases rows row other t at) [
-    | inl a ↦ h.exact t other a u s i node
-    | inr a ↦ subst (λ (r : Vec Bool Global). IsTrue (marked r.items u) ↔ Lookahead g states t s i) a.1 (subst (λ k. IsTrue (marked row.items u) ↔ Lookahead g states k s i) (sym (a.0 ∙ h.long)) (exact u s i node))
-  ];
+  each = each-push (λ t (r : Vec Bool Global). length r.items ≡ length nodes.places.items) rows row n h.long h.each long;
+  exact = each-push (λ t (r : Vec Bool Global). (u s i : ℕ) → IsNode (length g.entries.now) nodes u s i → IsTrue (marked r.items u) ↔ Lookahead g states t s i) rows row n h.long h.exact exact;
 }
 
 -- ---- each item of the state of a place has a number

@@ -6,69 +6,34 @@ use Rattle.std.proofs.lemmas.List.{length_push}
 use Rattle.std.proofs.lemmas.List.Elements.{Contains-append_left, Contains-append_right, Contains-append_cases, Contains-get_or}
 use Rattle.std.proofs.lemmas.Option.{same_Some, slice_get-get_or, none-some}
 use Rattle.lr_tables.specs.Grammar.{after, begun}
-use Rattle.lr_tables.specs.Tables.{Closure, opened as closure_opened, given as closure_given, Moved, IsGoto, IsStates}
+use Rattle.lr_tables.specs.Tables.{Closure, opened as closure_opened, given as closure_given, IsGoto, IsStates, NoGoto}
 use Rattle.lr_tables.specs.declared.grammar.Grammar.{Grammar}
 use Rattle.sc_items.specs.Reach.{EdgesWithin}
 use Rattle.sc_items.specs.Kernel.{IsOpened, Opens}
-use Rattle.sc_items.specs.States.{HasItem, NoGoto}
-use Rattle.sc_items.proofs.Listing.{no_member}
-use Rattle.sc_items.proofs.Finding.{rising_same}
-use Rattle.sc_items.proofs.Opening.{slice_get-push_cases, begun_within, after_within}
+use Rattle.lr_tables.proofs.Determined.{goto_unique}
+use Rattle.lr_tables.proofs.Members.{cons_cases, cons_head, cons_tail, map_has, map_member, no_member}
+use Rattle.sc_items.specs.States.{HasItem}
+use Rattle.sc_items.proofs.Opening.{each-push, begun_within, after_within}
 use Rattle.sc_lalr.specs.Propagation.{AreNodes, IsNode, Passes, along, into, PassesTo, IsPropagation, along_part, numbers_at, into_part}
 use Rattle.sc_lalr.specs.declared.nodes.Nodes.{Nodes}
 use Rattle.sc_lalr.proofs.Placing.{node_same, node_in, node_number, node_has, node_of}
 
--- ---- a state has one goto by a symbol
-pub goto_unique : (g : Grammar) (states : List (List ℕ)) (s x r t : ℕ) → IsStates g states → IsGoto g states s x r → IsGoto g states s x t → r ≡ t
-goto_unique g states s x r t h a b =
-    let same_source : a.source ≡ b.source = same_Some a.source b.source (sym a.source_at ∙ b.source_at) in
-    let to : (v : ℕ) → Contains a.target v → Contains b.target v = λ v w. (b.moved v).1 (subst (λ zs. Moved g zs x v) same_source ((a.moved v).0 w)) in
-    let back : (v : ℕ) → Contains b.target v → Contains a.target v = λ v w. (a.moved v).1 (subst (λ zs. Moved g zs x v) (sym same_source) ((b.moved v).0 w)) in
-    let same : a.target ≡ b.target = rising_same a.target b.target (h.rising r a.target a.target_at) (h.rising t b.target b.target_at) to back in
-    h.different.same r t b.target (a.target_at ∙ ap (λ zs. Some zs) same) b.target_at
-
 -- ---- membership in lists that are made of others
-contains_head : (x v : ℕ) (xs : List ℕ) → x ≡ v → Contains (x ∷ xs) v
-contains_head x v xs e = (0, omega arith, e)
-
 contains_only : (x v : ℕ) → Contains (x ∷ []) v → x ≡ v
 contains_only x v (zero, a, b) = b
 contains_only x v (suc k, a, b) = absurd (omega (arith, a))
-
-contains_tail : (x v : ℕ) (xs : List ℕ) → Contains xs v → Contains (x ∷ xs) v
-contains_tail x v xs h = (suc h.0, omega (arith, h.1), h.2)
-
-contains_cases : (x v : ℕ) (xs : List ℕ) → Contains (x ∷ xs) v → (x ≡ v) ⊎ Contains xs v
-contains_cases x v xs (zero, a, b) = inl b
-contains_cases x v xs (suc k, a, b) = inr (k, omega (arith, a), b)
-
-pub map_to : (f : ℕ → ℕ) (v : ℕ) (xs : List ℕ) → Contains (map f xs) v → (j : ℕ) × Contains xs j × (v ≡ f j)
-map_to f v [] h = absurd (no_member v h)
-map_to f v (x ∷ xs) h = go (map_to f v xs) (contains_cases (f x) v (map f xs) h)
-  where
-    go : (Contains (map f xs) v → (j : ℕ) × Contains xs j × (v ≡ f j)) → (f x ≡ v) ⊎ Contains (map f xs) v → (j : ℕ) × Contains (x ∷ xs) j × (v ≡ f j)
-    go more (inl e) = (x, contains_head x x xs refl, sym e)
-    go more (inr a) = let m = more a in (m.0, contains_tail x m.0 xs m.1, m.2)
-
-pub map_from : (f : ℕ → ℕ) (j : ℕ) (xs : List ℕ) → Contains xs j → Contains (map f xs) (f j)
-map_from f j [] h = absurd (no_member j h)
-map_from f j (x ∷ xs) h = go (map_from f j xs) (contains_cases x j xs h)
-  where
-    go : (Contains xs j → Contains (map f xs) (f j)) → (x ≡ j) ⊎ Contains xs j → Contains (f x ∷ map f xs) (f j)
-    go more (inl e) = contains_head (f x) (f j) (map f xs) (ap f e)
-    go more (inr a) = contains_tail (f x) (f j) (map f xs) (more a)
 
 pub flat_to : (f : ℕ → List ℕ) (v : ℕ) (us : List ℕ) → Contains (flat_map f us) v → (u : ℕ) × Contains us u × Contains (f u) v
 flat_to f v [] h = absurd (no_member v h)
 flat_to f v (u ∷ us) h = go (flat_to f v us) (Contains-append_cases (f u) (flat_map f us) v h)
   where
     go : (Contains (flat_map f us) v → (w : ℕ) × Contains us w × Contains (f w) v) → Contains (f u) v ⊎ Contains (flat_map f us) v → (w : ℕ) × Contains (u ∷ us) w × Contains (f w) v
-    go more (inl a) = (u, contains_head u u us refl, a)
-    go more (inr a) = let m = more a in (m.0, contains_tail u m.0 us m.1, m.2)
+    go more (inl a) = (u, cons_head u us, a)
+    go more (inr a) = let m = more a in (m.0, cons_tail u m.0 us m.1, m.2)
 
 pub flat_from : (f : ℕ → List ℕ) (v w : ℕ) (us : List ℕ) → Contains us w → Contains (f w) v → Contains (flat_map f us) v
 flat_from f v w [] h k = absurd (no_member w h)
-flat_from f v w (u ∷ us) h k = go (λ a. flat_from f v w us a k) (contains_cases u w us h)
+flat_from f v w (u ∷ us) h k = go (λ a. flat_from f v w us a k) (cons_cases u w us h)
   where
     go : (Contains us w → Contains (flat_map f us) v) → (u ≡ w) ⊎ Contains us w → Contains (f u ++ flat_map f us) v
     go more (inl e) = Contains-append_left (f u) (flat_map f us) v (subst (λ z. Contains (f z) v) (sym e) k)
@@ -114,9 +79,9 @@ module _ (g : Grammar) (states : List (List ℕ)) (nodes : Nodes) (u s i x : ℕ
 
   from_into : (v : ℕ) (o : Option ℕ) → o ≡ after g (i + 1) → Contains (into_part nodes.numbers.items (s * length g.entries.now) o row) v → PassesTo g states nodes u v
   from_into v None f w =
-      let m = map_to (λ j. slice_index nodes.numbers.items (s * length g.entries.now + j)) v row w in
+      let m = map_member (λ j. slice_index nodes.numbers.items (s * length g.entries.now + j)) v row w in
       let opens = (row_is m.0).0 m.1 in
-      passed_to v s m.0 (into opens.symbol m.0 has opens.over (sym f) opens.begins) (begun_within g m.0 opens.symbol opens.begins) m.2
+      passed_to v s m.0 (into opens.symbol m.0 has opens.over (sym f) opens.begins) (begun_within g m.0 opens.symbol opens.begins) (sym m.2)
   from_into v (Some y) f w = absurd (no_member v w)
 
   forward : (v : ℕ) → Contains (along_part nodes.numbers.items (length g.entries.now) i to) v ⊎ Contains (into_part nodes.numbers.items (s * length g.entries.now) next row) v → PassesTo g states nodes u v
@@ -125,10 +90,10 @@ module _ (g : Grammar) (states : List (List ℕ)) (nodes : Nodes) (u s i x : ℕ
 
   to_along : (v : ℕ) (o : Option ℕ) → MatchOption o (NoGoto g states s x) (IsGoto g states s x) → (r : ℕ) → IsGoto g states s x r → v ≡ slice_index nodes.numbers.items (r * length g.entries.now + (i + 1)) → Contains (along_part nodes.numbers.items (length g.entries.now) i o) v
   to_along v None m r w f = absurd (m.none r w)
-  to_along v (Some t) m r w f = contains_head (slice_index nodes.numbers.items (t * length g.entries.now + (i + 1))) v [] (ap (λ z. slice_index nodes.numbers.items (z * length g.entries.now + (i + 1))) (goto_unique g states s x t r h m w) ∙ sym f)
+  to_along v (Some t) m r w f = (0, omega arith, ap (λ z. slice_index nodes.numbers.items (z * length g.entries.now + (i + 1))) (goto_unique g states s x t r h m w) ∙ sym f)
 
   to_into : (v : ℕ) (o : Option ℕ) → o ≡ after g (i + 1) → (j : ℕ) → after g (i + 1) ≡ None → begun g j ≡ Some x → v ≡ slice_index nodes.numbers.items (s * length g.entries.now + j) → Contains (into_part nodes.numbers.items (s * length g.entries.now) o row) v
-  to_into v None f j end begins k = subst (λ z. Contains (numbers_at nodes.numbers.items (s * length g.entries.now) row) z) (sym k) (map_from (λ i. slice_index nodes.numbers.items (s * length g.entries.now + i)) j row ((row_is j).1 (record { symbol = x; over = over; begins = begins })))
+  to_into v None f j end begins k = subst (λ z. Contains (numbers_at nodes.numbers.items (s * length g.entries.now) row) z) (sym k) (map_has (λ i. slice_index nodes.numbers.items (s * length g.entries.now + i)) j row ((row_is j).1 (record { symbol = x; over = over; begins = begins })))
   to_into v (Some y) f j end begins k = absurd (none-some y (sym (f ∙ end)))
 
   backward : (v : ℕ) → PassesTo g states nodes u v → Contains (along_part nodes.numbers.items (length g.entries.now) i to ++ into_part nodes.numbers.items (s * length g.entries.now) next row) v
@@ -163,10 +128,7 @@ pub record IsPropagationBelow (g : Grammar) (states : List (List ℕ)) (nodes : 
 pub IsPropagationBelow-push : (g : Grammar) (states : List (List ℕ)) (nodes : Nodes) (n : ℕ) (rows : List (Vec ℕ Global)) (row : Vec ℕ Global) → IsPropagationBelow g states nodes n rows → ((v : ℕ) → Contains row.items v ↔ PassesTo g states nodes n v) → IsPropagationBelow g states nodes (n + 1) (rows ++ row ∷ [])
 IsPropagationBelow-push g states nodes n rows row h one = record {
   long = length_push rows row ∙ ap (λ k. k + 1) h.long;
-  each = λ u other at v. elim (slice_get-push_cases rows row other u at) [
-    | inl a ↦ h.each u other a v
-    | inr a ↦ subst (λ (r : Vec ℕ Global). Contains r.items v ↔ PassesTo g states nodes u v) a.1 (subst (λ k. Contains row.items v ↔ PassesTo g states nodes k v) (sym (a.0 ∙ h.long)) (one v))
-  ];
+  each = each-push (λ u (r : Vec ℕ Global). (v : ℕ) → Contains r.items v ↔ PassesTo g states nodes u v) rows row n h.long h.each one;
 }
 
 pub IsPropagation-done : (g : Grammar) (states : List (List ℕ)) (nodes : Nodes) (n : ℕ) (rows : List (Vec ℕ Global)) → n ≡ length nodes.places.items → IsPropagationBelow g states nodes n rows → IsPropagation g states nodes rows

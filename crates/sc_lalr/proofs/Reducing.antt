@@ -11,8 +11,8 @@ use Rattle.lr_tables.specs.declared.grammar.Grammar.{Grammar}
 use Rattle.lr_tables.specs.declared.grammar.Entry.{Entry}
 use Rattle.lr_tables.specs.declared.grammar.Entry.TheVariants.{Left, Right}
 use Rattle.sc_items.specs.Reach.{marked}
-use Rattle.sc_items.proofs.Opening.{slice_some}
-use Rattle.sc_items.proofs.Listing.{no_member, rising-push, rising-none, take-more_cases, take-more_old, take-more_new, take-below}
+use Rattle.lr_tables.proofs.Members.{no_member, slice_some}
+use Rattle.sc_items.proofs.Listing.{rising-push, rising-none, take-more_cases, take-more_old, take-more_new, take-below}
 use Rattle.sc_lalr.specs.Tables.{IsMarkedEnd, IsAtEnd}
 
 -- ---- a later item has a later production

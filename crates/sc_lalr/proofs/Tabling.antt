@@ -3,12 +3,12 @@ use Rattle.std.proofs.Common.{◌≡◌, ◌<◌, ◌+◌, ℕ, List, [], ◌∷
 use Rattle.std.specs.declared.alloc.Global.{Global}
 use Rattle.std.proofs.lemmas.List.{length_push}
 use Rattle.std.proofs.lemmas.Option.{slice_get_within, none-some}
-use Rattle.lr_tables.specs.Tables.{IsStates, IsGoto, IsAction, none, CanReduce, Before}
+use Rattle.lr_tables.specs.Tables.{IsStates, IsGoto, IsAction, none, CanReduce, Before, NoGoto}
 use Rattle.lr_tables.specs.declared.grammar.Grammar.{Grammar}
 use Rattle.lr_tables.specs.declared.grammar.Action.{Action}
 use Rattle.lr_tables.specs.declared.grammar.Conflict.{Conflict}
-use Rattle.sc_items.specs.States.{NoGoto}
-use Rattle.sc_items.proofs.Opening.{slice_get-push_cases, slice_some}
+use Rattle.lr_tables.proofs.Members.{slice_some}
+use Rattle.sc_items.proofs.Opening.{each-push}
 use Rattle.sc_lalr.specs.Tables.{AreTables, entry, action_of, goto_of}
 use Rattle.sc_lalr.specs.Building.{AreActions, AreGotos, AreConflicts}
 use Rattle.sc_lalr.specs.declared.tables.Tables.{Tables}
@@ -43,14 +43,8 @@ pub TablesSoFar-step : (g : Grammar) (states : List (List ℕ)) (n : ℕ) (actio
 TablesSoFar-step g states n actions gotos old new row gotos_row h a b k = record {
   actions_long = length_push actions row ∙ ap (λ z. z + 1) h.actions_long;
   gotos_long = length_push gotos gotos_row ∙ ap (λ z. z + 1) h.gotos_long;
-  actions_are = λ s other at. elim (slice_get-push_cases actions row other s at) [
-    | inl x ↦ h.actions_are s other x
-    | inr e ↦ subst (λ (r : Vec (Option Action) Global). AreActions g states s g.terminals r.items) e.1 (subst (λ z. AreActions g states z g.terminals row.items) (sym (e.0 ∙ h.actions_long)) a)
-  ];
-  gotos_are = λ s other at. elim (slice_get-push_cases gotos gotos_row other s at) [
-    | inl x ↦ h.gotos_are s other x
-    | inr e ↦ subst (λ (r : Vec (Option ℕ) Global). AreGotos g states s g.nonterminals r.items) e.1 (subst (λ z. AreGotos g states z g.nonterminals gotos_row.items) (sym (e.0 ∙ h.gotos_long)) b)
-  ];
+  actions_are = each-push (λ s (r : Vec (Option Action) Global). AreActions g states s g.terminals r.items) actions row n h.actions_long h.actions_are a;
+  gotos_are = each-push (λ s (r : Vec (Option ℕ) Global). AreGotos g states s g.nonterminals r.items) gotos gotos_row n h.gotos_long h.gotos_are b;
   conflicts_are = k;
 }
 
@@ -68,11 +62,13 @@ module _ {A : Type 0} (rows : List (Vec (Option A) Global)) (s x : ℕ) where
 pub AreTables-done : (g : Grammar) (states : List (List ℕ)) (tables : Tables) → IsStates g states → TablesSoFar g states (length states) tables.actions.items tables.gotos.items tables.conflicts.items → AreTables g tables
 AreTables-done g states tables are h = record {
   states = states;
-  are_states = are;
-  action = action;
-  goto = goto;
-  conflict = λ c. (h.conflicts_are.sound c, λ k. h.conflicts_are.complete c k (inl k.state));
-  in_order = h.conflicts_are.in_order;
+  exact = record {
+    are_states = are;
+    action = action;
+    goto = goto;
+    conflict = λ c. (h.conflicts_are.sound c, λ k. h.conflicts_are.complete c k (inl k.state));
+    in_order = h.conflicts_are.in_order;
+  };
 }
   where
     goto_in : (s x r : ℕ) → IsGoto g states s x r → s < length states

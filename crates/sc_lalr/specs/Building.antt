@@ -1,12 +1,10 @@
 -- The tables so far.
 use Rattle.std.specs.Prelude.{◌≡◌, ◌+◌, ℕ, List, length, slice_get, Option, Some, MatchOption}
 use Rattle.std.specs.List.{Contains}
-use Rattle.lr_tables.specs.Tables.{IsGoto, IsAction, IsConflict, Before}
+use Rattle.lr_tables.specs.Tables.{IsGoto, IsAction, IsConflict, Before, InOrder, NoGoto}
 use Rattle.lr_tables.specs.declared.grammar.Grammar.{Grammar}
 use Rattle.lr_tables.specs.declared.grammar.Action.{Action}
 use Rattle.lr_tables.specs.declared.grammar.Conflict.{Conflict}
-use Rattle.sc_items.specs.States.{NoGoto}
-use Rattle.sc_lalr.specs.Tables.{InOrder}
 
 -- the actions of a state at the first terminals
 pub record AreActions (g : Grammar) (states : List (List ℕ)) (s n : ℕ) (row : List (Option Action)) : Type 0 where

@@ -3,13 +3,13 @@ use Rattle.std.specs.Prelude.{◌≡◌, ◌↔◌, ◌<◌, ◌+◌, ℕ, Bool,
 use Rattle.std.specs.List.{Contains}
 use Rattle.std.specs.declared.alloc.Global.{Global}
 use Rattle.lr_tables.specs.Grammar.{after, production_at}
-use Rattle.lr_tables.specs.Tables.{IsStates, IsGoto, IsAction, IsConflict, ConflictBefore}
+use Rattle.lr_tables.specs.Tables as lr
 use Rattle.lr_tables.specs.declared.grammar.Grammar.{Grammar}
 use Rattle.lr_tables.specs.declared.grammar.Action.{Action}
 use Rattle.lr_tables.specs.declared.grammar.Action.TheVariants.{Shift, Reduce}
 use Rattle.lr_tables.specs.declared.grammar.Conflict.{Conflict}
 use Rattle.sc_items.specs.Reach.{marked}
-use Rattle.sc_items.specs.States.{HasItem, NoGoto}
+use Rattle.sc_items.specs.States.{HasItem}
 use Rattle.sc_lalr.specs.declared.tables.Tables.{Tables}
 
 -- the entry of a row, where there is one
@@ -25,19 +25,14 @@ goto_of tables s n = entry tables.gotos.items s n
 abbrev pub conflicts_of : Tables → List Conflict
 conflicts_of tables = tables.conflicts.items
 
--- each conflict is before all later ones
-pub record InOrder (conflicts : List Conflict) : Type 0 where
-  pub before : (i j : ℕ) (c d : Conflict) → i < j → slice_get conflicts i ≡ Some c → slice_get conflicts j ≡ Some d → ConflictBefore c d
+-- the tables as values, with these states
+abbrev pub tables_of : List (List ℕ) → Tables → lr.Tables
+tables_of states tables = record { states = states; action = action_of tables; goto = goto_of tables; conflicts = conflicts_of tables }
 
--- These are the LALR(1) tables of the grammar: with its states, numbered as they are found, each action, goto and
--- conflict of theirs and no other, the conflicts in order.
+-- these are the LALR(1) tables of the grammar
 pub record AreTables (g : Grammar) (tables : Tables) : Type 0 where
   pub states : List (List ℕ)
-  pub are_states : IsStates g states
-  pub action : (s t : ℕ) → t < g.terminals → IsAction g states s t (action_of tables s t)
-  pub goto : (s n : ℕ) → n < g.nonterminals → MatchOption (goto_of tables s n) (NoGoto g states s (g.terminals + n)) (IsGoto g states s (g.terminals + n))
-  pub conflict : (c : Conflict) → Contains (conflicts_of tables) c ↔ IsConflict g states c
-  pub in_order : InOrder (conflicts_of tables)
+  pub exact : lr.AreTables g (tables_of states tables)
 
 -- the item stands in the state, its dot at the end
 pub record EndsIn (g : Grammar) (states : List (List ℕ)) (s i : ℕ) : Type 0 where

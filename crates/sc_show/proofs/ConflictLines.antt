@@ -22,7 +22,7 @@ use Rattle.sc_show.proofs.Pieces.{has_newline, is_line, newline-append, numeral_
 -- the conflicts of the tables of a grammar with no more terminals than have names
 pub are_named : {g : Grammar} {tables : Tables} → AreTables g tables → g.terminals ≤ 96 → All IsNamed (conflicts_of tables)
 are_named {g} {tables} are few = λ k d h.
-    let is = (are.conflict (get_or (conflicts_of tables) k d)).0 (Contains-get_or (conflicts_of tables) k d h) in
+    let is = (are.exact.conflict (get_or (conflicts_of tables) k d)).0 (Contains-get_or (conflicts_of tables) k d h) in
     record { terminal = let t = is.terminal in omega arith }
 
 -- no newline stands in the fields

@@ -1,20 +1,17 @@
 use Rattle.std.proofs.Common.{◌≡◌, ◌+◌, ◌++◌, ◌∷◌, [], ℕ, List, Option, MatchOption, inl, inr, refl, sym, ap, ◌∙◌, subst, arith}
 use Rattle.std.proofs.lemmas.List.{length_push}
 use Rattle.std.proofs.lemmas.Option.{none-some}
-use Rattle.lr_tables.specs.Tables.{IsGoto}
+use Rattle.lr_tables.specs.Tables.{IsGoto, NoGoto}
 use Rattle.lr_tables.specs.declared.grammar.Grammar.{Grammar}
-use Rattle.sc_items.specs.States.{kernels_of, NoGoto}
-use Rattle.sc_items.proofs.Opening.{slice_get-push_cases}
+use Rattle.sc_items.specs.States.{kernels_of}
+use Rattle.sc_items.proofs.Opening.{each-push}
 use Rattle.sc_lalr.specs.Building.{AreGotos}
 use Rattle.sc_lalr.proofs.construction.goto_row.Goals as goal
 
 gotos_more : (g : Grammar) (states : List (List ℕ)) (s n : ℕ) (row : List (Option ℕ)) (to : Option ℕ) → AreGotos g states s n row → MatchOption to (NoGoto g states s (g.terminals + n)) (IsGoto g states s (g.terminals + n)) → AreGotos g states s (n + 1) (row ++ to ∷ [])
 gotos_more g states s n row to h one = record {
   long = length_push row to ∙ ap (λ k. k + 1) h.long;
-  each = λ x other at. elim (slice_get-push_cases row to other x at) [
-    | inl a ↦ h.each x other a
-    | inr e ↦ subst (λ z. MatchOption other (NoGoto g states s (g.terminals + z)) (IsGoto g states s (g.terminals + z))) (sym (e.0 ∙ h.long)) (subst (λ o. MatchOption o (NoGoto g states s (g.terminals + n)) (IsGoto g states s (g.terminals + n))) e.1 one)
-  ];
+  each = each-push (λ x other. MatchOption other (NoGoto g states s (g.terminals + x)) (IsGoto g states s (g.terminals + x))) row to n h.long h.each one;
 }
 
 pub loop-nonterminal-init : goal.loop-nonterminal-init

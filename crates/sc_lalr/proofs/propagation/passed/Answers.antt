@@ -5,11 +5,11 @@ use Rattle.std.proofs.lemmas.Option.{none-some, slice_get_read, slice_get_within
 use Rattle.std.proofs.lemmas.Nat.{div_below}
 use Rattle.std.proofs.lemmas.List.Elements.{Contains-get_or}
 use Rattle.lr_tables.specs.Grammar.{after}
-use Rattle.lr_tables.specs.Tables.{IsGoto}
+use Rattle.lr_tables.specs.Tables.{IsGoto, NoGoto}
 use Rattle.lr_tables.specs.declared.grammar.Grammar.{Grammar}
 use Rattle.sc_items.specs.Kernel.{IsOpened}
-use Rattle.sc_items.specs.States.{kernels_of, NoGoto}
-use Rattle.sc_items.proofs.Listing.{no_member}
+use Rattle.lr_tables.proofs.Members.{no_member}
+use Rattle.sc_items.specs.States.{kernels_of}
 use Rattle.sc_items.proofs.Opening.{begun_within, after_within}
 use Rattle.sc_lalr.specs.Propagation.{AreNodes, along_part, into_part}
 use Rattle.sc_lalr.specs.declared.nodes.Nodes.{Nodes}
