@@ -14,8 +14,8 @@ pub mod terminal;
 
 use c11::C11;
 pub use lookup::production;
-pub use rule::Production;
 use lr_tables::Grammar;
+pub use rule::Production;
 pub use terminal::terminal_name;
 
 /// How many terminals there are.

@@ -4,8 +4,8 @@ ghost use Rattle.lr_tables.specs.Grammar.{entries_of};
 ghost use Rattle.sc_grammar.specs.C11.{productions};
 ghost use Rattle.sc_grammar.specs.Production.{production_of, IsLeftAt, places_from};
 
-use crate::{PRODUCTIONS, Production};
 use crate::c11::C11;
+use crate::{PRODUCTIONS, Production};
 use lr_tables::Entry;
 
 /// Where each production begins among the entries of the grammar, and where the last one ends.

@@ -8,8 +8,8 @@ ghost use Rattle.sc_items.specs.Reach.{marked, EdgesWithin};
 
 use crate::{after, begun, production_at};
 use indexmap::IndexSet;
-use sc_base::OutOfMemory;
 use lr_tables::Grammar;
+use sc_base::OutOfMemory;
 use std::alloc::Global;
 
 /// For each item those that begin a production of the symbol after its dot.

@@ -10,8 +10,8 @@ ghost use Rattle.sc_items.specs.States.{IsState, AreStates};
 use crate::kernel::{members, moved, next_symbols, number, opened, start};
 use crate::{State, States, reachable};
 use indexmap::IndexSet;
-use sc_base::OutOfMemory;
 use lr_tables::Grammar;
+use sc_base::OutOfMemory;
 use std::alloc::Global;
 
 /// The LR(0) states of a grammar.

@@ -2,8 +2,8 @@
 ghost use Rattle.std.specs.Prelude.{◌≡◌, ◌++◌, map, OnOk};
 ghost use Rattle.sc_lalr.specs.Tables.{kept_of, conflicts_at, conflict_at};
 
-use sc_base::OutOfMemory;
 use lr_tables::{Action, Conflict, Terminal};
+use sc_base::OutOfMemory;
 
 /// A shift is preferred to a reduction, and a lower production to a higher one.
 pub fn kept(shift: Option<usize>, productions: &[usize]) -> Option<Action>

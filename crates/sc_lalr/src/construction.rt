@@ -11,9 +11,9 @@ use crate::conflict::{kept, note_conflicts};
 use crate::lookahead::lookaheads;
 use crate::nodes::{Nodes, nodes_of};
 use crate::reduction::{ends, productions};
+use lr_tables::{Action, Conflict, Grammar, Terminal};
 use sc_base::OutOfMemory;
 use sc_items::States;
-use lr_tables::{Action, Conflict, Grammar, Terminal};
 use std::alloc::Global;
 
 /// The LALR(1) tables of a grammar with these states.

@@ -7,9 +7,9 @@ ghost use Rattle.sc_items.specs.Reach.{EdgesWithin, marked};
 ghost use Rattle.lr_tables.specs.declared.grammar.Grammar.{Grammar};
 ghost use Rattle.sc_lalr.specs.First.{Leads, IsLeading};
 
+use lr_tables::Grammar;
 use sc_base::OutOfMemory;
 use sc_items::{after, begun, reachable};
-use lr_tables::Grammar;
 use std::alloc::Global;
 
 /// The symbols from which a text can be derived that begins with the terminal, as marks.

@@ -9,9 +9,9 @@ ghost use Rattle.sc_lalr.specs.Propagation.{AreNodes, HavePlaces, AreSources, Ar
 use crate::first::{beginners, leading};
 use crate::nodes::Nodes;
 use crate::propagation::{numbered, propagation};
+use lr_tables::Grammar;
 use sc_base::OutOfMemory;
 use sc_items::{States, after, opened, reachable};
-use lr_tables::Grammar;
 use std::alloc::Global;
 
 /// For each terminal the nodes of which it is a lookahead, as marks.

@@ -5,9 +5,9 @@ ghost use Rattle.std.specs.Prelude.{◌<◌, ◌*◌, ◌^◌, length, IfOk};
 ghost use Rattle.sc_items.specs.States.{AreStates, kernels_of};
 ghost use Rattle.sc_lalr.specs.Propagation.{AreNodes};
 
+use lr_tables::Grammar;
 use sc_base::OutOfMemory;
 use sc_items::States;
-use lr_tables::Grammar;
 use std::alloc::Global;
 
 /// The items that stand in the states.

@@ -8,9 +8,9 @@ ghost use Rattle.sc_items.specs.States.{AreStates, kernels_of};
 ghost use Rattle.sc_lalr.specs.Propagation.{AreNodes, PassesTo, IsPropagation, along_part, into_part, numbers_at};
 
 use crate::nodes::Nodes;
+use lr_tables::Grammar;
 use sc_base::OutOfMemory;
 use sc_items::{States, after};
-use lr_tables::Grammar;
 use std::alloc::Global;
 
 /// For each node those to which its lookaheads are passed on.

@@ -7,9 +7,9 @@ ghost use Rattle.sc_items.specs.Kernel.{IsListOf};
 ghost use Rattle.sc_items.specs.States.{AreStates, kernels_of};
 ghost use Rattle.sc_lalr.specs.Tables.{EndsIn, IsAtEnd, IsMarkedEnd};
 
+use lr_tables::Grammar;
 use sc_base::OutOfMemory;
 use sc_items::{States, after, production_at};
-use lr_tables::Grammar;
 use std::alloc::Global;
 
 /// The items of the state whose dot stands at the end.
