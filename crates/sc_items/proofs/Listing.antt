@@ -2,7 +2,7 @@
 use Rattle.std.proofs.Common.{◌≡◌, ◌<◌, ◌≤◌, ◌+◌, ◌⊎◌, ℕ, List, [], ◌∷◌, ◌++◌, length, get_or, take, inl, inr, sym, ◌∙◌, subst, arith}
 use Rattle.std.specs.List.{Contains}
 use Rattle.std.specs.List.Sorted.{IsStrictlyIncreasing}
-use Rattle.std.proofs.lemmas.List.{get_or_append_left, get_or_push, length_push, take_more, get_or-take, length-take-le, get_or_default}
+use Rattle.std.proofs.lemmas.List.{get_or_append_left, get_or_push, length_push, take_more, get_or-take, length-take-le, get_or_default, take_all}
 use Rattle.std.proofs.lemmas.List.Elements.{Contains-push, Contains-append_left, Contains-push_cases, Contains-get_or}
 use Rattle.std.proofs.lemmas.Map.Keys.{below_from_sorted, sorted_from_strictly_increasing}
 use Rattle.std.proofs.lemmas.Bool.{cases_lt}
@@ -87,3 +87,40 @@ take-below xs k v inc within h =
     let e : get_or xs h.0 v ≡ v = sym (get_or-take k xs h.0 v (omega (arith, h.1, long))) ∙ h.2 in
     let f : get_or xs h.0 0 ≡ v = get_or_default xs h.0 0 v (omega (arith, h.1, long)) ∙ e in
     subst (λ y. y < get_or xs k 0) f (below_from_sorted xs h.0 k 0 (sorted_from_strictly_increasing xs inc) (omega (arith, h.1, long)) within)
+
+-- ---- what a loop collects: the values to which the first items of a list are related
+pub record IsCollected (relates : ℕ → ℕ → Type 0) (items found : List ℕ) : Type 0 where
+  pub sound : (v : ℕ) → Contains found v → (i : ℕ) × Contains items i × relates i v
+  pub complete : (i v : ℕ) → Contains items i → relates i v → Contains found v
+
+pub IsCollected-none : (relates : ℕ → ℕ → Type 0) → IsCollected relates [] []
+IsCollected-none relates = record { sound = λ v w. absurd (no_member v w); complete = λ i v w r. absurd (no_member i w) }
+
+pub IsCollected-left : (relates : ℕ → ℕ → Type 0) (items found : List ℕ) (k : ℕ) → k < length items → IsCollected relates (take k items) found
+    → ((v : ℕ) → relates (get_or items k 0) v → ⊥) → IsCollected relates (take (k + 1) items) found
+IsCollected-left relates items found k k_in h not = record {
+  sound = λ v w. let o = h.sound v w in (o.0, take-more_old items k o.0 k_in o.1, o.2);
+  complete = λ i v w r. elim (take-more_cases items k i k_in w) [ inl a ↦ h.complete i v a r | inr e ↦ absurd (not v (subst (λ j. relates j v) (sym e) r)) ];
+}
+
+pub IsCollected-kept : (relates : ℕ → ℕ → Type 0) (items found : List ℕ) (k x : ℕ) → k < length items → IsCollected relates (take k items) found
+    → relates (get_or items k 0) x → ((v : ℕ) → relates (get_or items k 0) v → x ≡ v) → IsCollected relates (take (k + 1) items) (found ++ x ∷ [])
+IsCollected-kept relates items found k x k_in h one only = record {
+  sound = λ v w. elim (Contains-push_cases found x v w) [
+    | inl a ↦ (let o = h.sound v a in (o.0, take-more_old items k o.0 k_in o.1, o.2))
+    | inr e ↦ (get_or items k 0, take-more_new items k k_in, subst (relates (get_or items k 0)) e one)
+  ];
+  complete = λ i v w r. elim (take-more_cases items k i k_in w) [
+    | inl a ↦ Contains-append_left found (x ∷ []) v (h.complete i v a r)
+    | inr e ↦ subst (Contains (found ++ x ∷ [])) (only v (subst (λ j. relates j v) (sym e) r)) (Contains-push found x)
+  ];
+}
+
+pub IsCollected-done : (relates : ℕ → ℕ → Type 0) (items found : List ℕ) (k : ℕ) → length items ≤ k → IsCollected relates (take k items) found → IsCollected relates items found
+IsCollected-done relates items found k all h = subst (λ xs. IsCollected relates xs found) (take_all k items all) h
+
+-- they rise where those of later items are greater
+pub rising-collected : (relates : ℕ → ℕ → Type 0) (items found : List ℕ) (k x : ℕ) → IsStrictlyIncreasing items → k < length items → IsCollected relates (take k items) found
+    → IsStrictlyIncreasing found → ((i v : ℕ) → Contains (take k items) i → i < get_or items k 0 → relates i v → v < x) → IsStrictlyIncreasing (found ++ x ∷ [])
+rising-collected relates items found k x inc k_in h rising below =
+    rising-push found x rising (λ v w. let o = h.sound v w in below o.0 v o.1 (take-below items k o.0 inc k_in o.1) o.2)

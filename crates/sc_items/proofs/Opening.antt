@@ -12,7 +12,7 @@ use Rattle.sc_model.proofs.ListLemmas.{slice_get-front}
 use Rattle.lr_tables.proofs.Members.{no_member, slice_some}
 use Rattle.sc_items.specs.Reach.{Edge, EdgesWithin}
 use Rattle.sc_items.specs.Kernel.{IsListOf, Opens, IsOpened, MovedIn}
-use Rattle.sc_items.proofs.Listing.{rising-push, rising-none, take-more_cases, take-more_old, take-more_new, take-below}
+use Rattle.sc_items.proofs.Listing.{IsCollected, IsCollected-kept, IsCollected-left, IsCollected-none, rising-collected, rising-none}
 
 -- ---- an entry of a list that has grown
 pub slice_get-push_old : {A : Type 0} (xs : List A) (y x : A) (i : ℕ) → slice_get xs i ≡ Some x → slice_get (xs ++ y ∷ []) i ≡ Some x
@@ -73,46 +73,22 @@ EdgesWithin-done g n rows e h = record {
 }
 
 -- ---- what is moved over a symbol
+abbrev pub MovesTo : Grammar → ℕ → ℕ → ℕ → Type 0
+MovesTo g x i m = (after g i ≡ Some x) × (m ≡ i + 1)
+
 pub record MovedSoFar (g : Grammar) (items : List ℕ) (x : ℕ) (kernel : List ℕ) : Type 0 where
   pub rising : IsStrictlyIncreasing kernel
-  pub sound : (m : ℕ) → Contains kernel m → MovedIn g items x m
-  pub complete : (m : ℕ) → MovedIn g items x m → Contains kernel m
+  pub collected : IsCollected (MovesTo g x) items kernel
 
 pub MovedSoFar-none : (g : Grammar) (x : ℕ) → MovedSoFar g [] x []
-MovedSoFar-none g x = record {
-  rising = rising-none;
-  sound = λ m h. absurd (no_member m h);
-  complete = λ m h. absurd (no_member h.from h.within);
-}
+MovedSoFar-none g x = record { rising = rising-none; collected = IsCollected-none (MovesTo g x) }
 
 pub MovedSoFar-left : (g : Grammar) (items : List ℕ) (x k : ℕ) (kernel : List ℕ) → k < length items → MovedSoFar g (take k items) x kernel → (after g (get_or items k 0) ≡ Some x → ⊥) → MovedSoFar g (take (k + 1) items) x kernel
-MovedSoFar-left g items x k kernel k_in h not = record {
-  rising = h.rising;
-  sound = λ m w. let o = h.sound m w in record { from = o.from; within = take-more_old items k o.from k_in o.within; over = o.over; to = o.to };
-  complete = complete;
-}
-  where
-    complete : (m : ℕ) → MovedIn g (take (k + 1) items) x m → Contains kernel m
-    complete m o = elim (take-more_cases items k o.from k_in o.within) [
-      | inl a ↦ h.complete m (record { from = o.from; within = a; over = o.over; to = o.to })
-      | inr e ↦ absurd (not (subst (λ i. after g i ≡ Some x) (sym e) o.over))
-    ]
+MovedSoFar-left g items x k kernel k_in h not =
+    record { rising = h.rising; collected = IsCollected-left (MovesTo g x) items kernel k k_in h.collected (λ m r. not r.0) }
 
 pub MovedSoFar-kept : (g : Grammar) (items : List ℕ) (x k : ℕ) (kernel : List ℕ) → IsStrictlyIncreasing items → k < length items → MovedSoFar g (take k items) x kernel → after g (get_or items k 0) ≡ Some x → MovedSoFar g (take (k + 1) items) x (kernel ++ (get_or items k 0 + 1) ∷ [])
 MovedSoFar-kept g items x k kernel inc k_in h over = record {
-  rising = rising-push kernel (get_or items k 0 + 1) h.rising (λ m w. let o = h.sound m w in omega (arith, o.to, take-below items k o.from inc k_in o.within));
-  sound = sound;
-  complete = complete;
+  rising = rising-collected (MovesTo g x) items kernel k (get_or items k 0 + 1) inc k_in h.collected h.rising (λ i m w lower r. omega (arith, r.1, lower));
+  collected = IsCollected-kept (MovesTo g x) items kernel k (get_or items k 0 + 1) k_in h.collected (over, refl) (λ m r. sym r.1);
 }
-  where
-    sound : (m : ℕ) → Contains (kernel ++ (get_or items k 0 + 1) ∷ []) m → MovedIn g (take (k + 1) items) x m
-    sound m w = elim (Contains-push_cases kernel (get_or items k 0 + 1) m w) [
-      | inl a ↦ (let o = h.sound m a in record { from = o.from; within = take-more_old items k o.from k_in o.within; over = o.over; to = o.to })
-      | inr e ↦ record { from = get_or items k 0; within = take-more_new items k k_in; over = over; to = sym e }
-    ]
-
-    complete : (m : ℕ) → MovedIn g (take (k + 1) items) x m → Contains (kernel ++ (get_or items k 0 + 1) ∷ []) m
-    complete m o = elim (take-more_cases items k o.from k_in o.within) [
-      | inl a ↦ Contains-append_left kernel ((get_or items k 0 + 1) ∷ []) m (h.complete m (record { from = o.from; within = a; over = o.over; to = o.to }))
-      | inr e ↦ subst (Contains (kernel ++ (get_or items k 0 + 1) ∷ [])) (ap (λ i. i + 1) e ∙ sym o.to) (Contains-push kernel (get_or items k 0 + 1))
-    ]

@@ -14,7 +14,7 @@ use Rattle.lr_tables.proofs.Members.{map_has, map_member, no_member, slice_some}
 use Rattle.sc_items.specs.Reach.{Edge, Reaches, start, step, IsReached, marked}
 use Rattle.sc_items.specs.Kernel.{IsOpened, Opens}
 use Rattle.sc_items.specs.States.{HasItem}
-use Rattle.sc_items.proofs.Listing.{take-more_cases}
+use Rattle.sc_items.proofs.Listing.{IsCollected}
 use Rattle.sc_items.proofs.Opening.{each-push, begun_within, after_within}
 use Rattle.sc_lalr.specs.Propagation.{AreNodes, IsNode, Passes, along, into, PassesTo, IsPropagation, HasPlace, IsFollowed, IsSource, AreSources, IsSpontaneous, PlaceFits, numbers_at, row_at, seed_part}
 use Rattle.sc_lalr.specs.declared.nodes.Nodes.{Nodes}
@@ -200,27 +200,11 @@ place_fits k n p within =
     record { positive = positive; fits = omega (arith, mul-le-mul_left n row) }
 
 -- ---- the sources among the first places
-pub record SourcesSoFar (g : Grammar) (states : List (List ℕ)) (places sources : List ℕ) : Type 0 where
-  pub sound : (p : ℕ) → Contains sources p → IsSource g states p
-  pub complete : (p : ℕ) → Contains places p → IsSource g states p → Contains sources p
+abbrev pub IsSourceAt : Grammar → List (List ℕ) → ℕ → ℕ → Type 0
+IsSourceAt g states p q = IsSource g states p × (p ≡ q)
 
-pub SourcesSoFar-none : (g : Grammar) (states : List (List ℕ)) → SourcesSoFar g states [] []
-SourcesSoFar-none g states = record { sound = λ p w. absurd (no_member p w); complete = λ p w h. absurd (no_member p w) }
-
-pub SourcesSoFar-left : (g : Grammar) (states : List (List ℕ)) (k : ℕ) (places sources : List ℕ) → k < length places → SourcesSoFar g states (take k places) sources → (IsSource g states (get_or places k 0) → ⊥) → SourcesSoFar g states (take (k + 1) places) sources
-SourcesSoFar-left g states k places sources k_in h not = record {
-  sound = h.sound;
-  complete = λ p w s. elim (take-more_cases places k p k_in w) [ inl a ↦ h.complete p a s | inr e ↦ absurd (not (subst (IsSource g states) (sym e) s)) ];
-}
-
-pub SourcesSoFar-kept : (g : Grammar) (states : List (List ℕ)) (k : ℕ) (places sources : List ℕ) → k < length places → SourcesSoFar g states (take k places) sources → IsSource g states (get_or places k 0) → SourcesSoFar g states (take (k + 1) places) (sources ++ get_or places k 0 ∷ [])
-SourcesSoFar-kept g states k places sources k_in h one = record {
-  sound = λ p w. elim (Contains-push_cases sources (get_or places k 0) p w) [ inl a ↦ h.sound p a | inr e ↦ subst (IsSource g states) e one ];
-  complete = λ p w s. elim (take-more_cases places k p k_in w) [
-    | inl a ↦ Contains-append_left sources (get_or places k 0 ∷ []) p (h.complete p a s)
-    | inr e ↦ subst (Contains (sources ++ get_or places k 0 ∷ [])) e (Contains-push sources (get_or places k 0))
-  ];
-}
+abbrev pub SourcesSoFar : Grammar → List (List ℕ) → List ℕ → List ℕ → Type 0
+SourcesSoFar g states places sources = IsCollected (IsSourceAt g states) places sources
 
 -- a place that is followed is a source
 pub source_of : (g : Grammar) (states : List (List ℕ)) (p : ℕ) → HasPlace g states p → IsFollowed g (p % length g.entries.now) → IsSource g states p
@@ -236,8 +220,8 @@ followed_of_source g states p h =
 
 pub AreSources-done : (g : Grammar) (states : List (List ℕ)) (nodes : Nodes) (sources : List ℕ) → AreNodes g states nodes → SourcesSoFar g states nodes.places.items sources → AreSources g states sources
 AreSources-done g states nodes sources are h = record {
-  sound = h.sound;
-  complete = λ p s. h.complete p (are.places.complete p (subst (λ z. z < length states * length g.entries.now) (sym s.at.is) (place_in g states s.s s.i s.has s.at.within)) (record { s = s.s; i = s.i; at = s.at; has = s.has })) s;
+  sound = λ p w. let o = h.sound p w in subst (IsSource g states) o.2.1 o.2.0;
+  complete = λ p s. h.complete p p (are.places.complete p (subst (λ z. z < length states * length g.entries.now) (sym s.at.is) (place_in g states s.s s.i s.has s.at.within)) (record { s = s.s; i = s.i; at = s.at; has = s.has })) (s, refl);
 }
 
 pub source_fits : (g : Grammar) (states : List (List ℕ)) (p : ℕ) → IsSource g states p → PlaceFits (length g.entries.now) (length states * length g.entries.now) p

@@ -12,7 +12,7 @@ use Rattle.lr_tables.specs.declared.grammar.Entry.{Entry}
 use Rattle.lr_tables.specs.declared.grammar.Entry.TheVariants.{Left, Right}
 use Rattle.sc_items.specs.Reach.{marked}
 use Rattle.lr_tables.proofs.Members.{no_member, slice_some}
-use Rattle.sc_items.proofs.Listing.{rising-push, rising-none, take-more_cases, take-more_old, take-more_new, take-below}
+use Rattle.sc_items.proofs.Listing.{IsCollected, IsCollected-kept, IsCollected-left, IsCollected-none, rising-collected, rising-none}
 use Rattle.sc_lalr.specs.Tables.{IsMarkedEnd, IsAtEnd}
 
 -- ---- a later item has a later production
@@ -46,53 +46,28 @@ take_member : (xs : List ℕ) (k v : ℕ) → Contains (take k xs) v → Contain
 take_member xs k v h = subst (λ zs. Contains zs v) (take-append-drop k xs) (Contains-append_left (take k xs) (drop k xs) v h)
 
 -- ---- the productions of the first items
+abbrev pub MarkedWith : Grammar → List Bool → List ℕ → ℕ → ℕ → ℕ → Type 0
+MarkedWith g marks numbers base i p = IsTrue (marked marks (slice_index numbers (base + i))) × (production_at g i ≡ p)
+
 pub record MarkedSoFar (g : Grammar) (marks : List Bool) (numbers : List ℕ) (base : ℕ) (items found : List ℕ) : Type 0 where
   pub rising : IsStrictlyIncreasing found
-  pub sound : (p : ℕ) → Contains found p → IsMarkedEnd g marks numbers base items p
-  pub complete : (p : ℕ) → IsMarkedEnd g marks numbers base items p → Contains found p
+  pub collected : IsCollected (MarkedWith g marks numbers base) items found
 
 pub MarkedSoFar-none : (g : Grammar) (marks : List Bool) (numbers : List ℕ) (base : ℕ) → MarkedSoFar g marks numbers base [] []
-MarkedSoFar-none g marks numbers base = record {
-  rising = rising-none;
-  sound = λ p h. absurd (no_member p h);
-  complete = λ p h. absurd (no_member h.item h.within);
-}
+MarkedSoFar-none g marks numbers base = record { rising = rising-none; collected = IsCollected-none (MarkedWith g marks numbers base) }
 
 pub MarkedSoFar-left : (g : Grammar) (marks : List Bool) (numbers : List ℕ) (base k : ℕ) (items found : List ℕ) → k < length items → MarkedSoFar g marks numbers base (take k items) found → (IsTrue (marked marks (slice_index numbers (base + get_or items k 0))) → ⊥) → MarkedSoFar g marks numbers base (take (k + 1) items) found
-MarkedSoFar-left g marks numbers base k items found k_in h not = record {
-  rising = h.rising;
-  sound = λ p w. let o = h.sound p w in record { item = o.item; within = take-more_old items k o.item k_in o.within; is_marked = o.is_marked; production = o.production };
-  complete = complete;
-}
-  where
-    complete : (p : ℕ) → IsMarkedEnd g marks numbers base (take (k + 1) items) p → Contains found p
-    complete p o = elim (take-more_cases items k o.item k_in o.within) [
-      | inl a ↦ h.complete p (record { item = o.item; within = a; is_marked = o.is_marked; production = o.production })
-      | inr e ↦ absurd (not (subst (λ i. IsTrue (marked marks (slice_index numbers (base + i)))) (sym e) o.is_marked))
-    ]
+MarkedSoFar-left g marks numbers base k items found k_in h not =
+    record { rising = h.rising; collected = IsCollected-left (MarkedWith g marks numbers base) items found k k_in h.collected (λ p r. not r.0) }
 
 pub MarkedSoFar-kept : (g : Grammar) (marks : List Bool) (numbers : List ℕ) (base k : ℕ) (items found : List ℕ) → IsStrictlyIncreasing items → All (λ i. i < length g.entries.now) items → All (IsAtEnd g) items → k < length items → MarkedSoFar g marks numbers base (take k items) found → IsTrue (marked marks (slice_index numbers (base + get_or items k 0))) → MarkedSoFar g marks numbers base (take (k + 1) items) (found ++ production_at g (get_or items k 0) ∷ [])
 MarkedSoFar-kept g marks numbers base k items found inc within ends k_in h is_marked = record {
-  rising = rising-push found (production_at g (get_or items k 0)) h.rising below;
-  sound = sound;
-  complete = complete;
+  rising = rising-collected (MarkedWith g marks numbers base) items found k (production_at g (get_or items k 0)) inc k_in h.collected h.rising below;
+  collected = IsCollected-kept (MarkedWith g marks numbers base) items found k (production_at g (get_or items k 0)) k_in h.collected (is_marked, refl) (λ p r. r.1);
 }
   where
-    below : (p : ℕ) → Contains found p → p < production_at g (get_or items k 0)
-    below p w =
-        let o = h.sound p w in
-        let end = All-contains (IsAtEnd g) items o.item ends (take_member items k o.item o.within) in
-        let less = production_less g o.item (get_or items k 0) end.none (take-below items k o.item inc k_in o.within) (within k 0 k_in) in
-        omega (arith, less, o.production)
-
-    sound : (p : ℕ) → Contains (found ++ production_at g (get_or items k 0) ∷ []) p → IsMarkedEnd g marks numbers base (take (k + 1) items) p
-    sound p w = elim (Contains-push_cases found (production_at g (get_or items k 0)) p w) [
-      | inl a ↦ (let o = h.sound p a in record { item = o.item; within = take-more_old items k o.item k_in o.within; is_marked = o.is_marked; production = o.production })
-      | inr e ↦ record { item = get_or items k 0; within = take-more_new items k k_in; is_marked = is_marked; production = e }
-    ]
-
-    complete : (p : ℕ) → IsMarkedEnd g marks numbers base (take (k + 1) items) p → Contains (found ++ production_at g (get_or items k 0) ∷ []) p
-    complete p o = elim (take-more_cases items k o.item k_in o.within) [
-      | inl a ↦ Contains-append_left found (production_at g (get_or items k 0) ∷ []) p (h.complete p (record { item = o.item; within = a; is_marked = o.is_marked; production = o.production }))
-      | inr e ↦ subst (Contains (found ++ production_at g (get_or items k 0) ∷ [])) (ap (production_at g) e ∙ o.production) (Contains-push found (production_at g (get_or items k 0)))
-    ]
+    below : (i p : ℕ) → Contains (take k items) i → i < get_or items k 0 → MarkedWith g marks numbers base i p → p < production_at g (get_or items k 0)
+    below i p w lower r =
+        let end = All-contains (IsAtEnd g) items i ends (take_member items k i w) in
+        let less = production_less g i (get_or items k 0) end.none lower (within k 0 k_in) in
+        omega (arith, less, r.1)

@@ -32,4 +32,7 @@ returns-clause-rising c = (all_moved c.args.grammar.now c.args.items.now c.args.
 pub returns-clause-moved : goal.returns-clause-moved
 returns-clause-moved c =
     let m = all_moved c.args.grammar.now c.args.items.now c.args.symbol c.loop-item.item-index c.loop-item.kernel.items c.loop-item-test.false c.loop-item.invariant in
-    λ y. (m.sound y, m.complete y)
+    λ y. (
+      λ w. let o = m.collected.sound y w in record { from = o.0; within = o.1; over = o.2.0; to = o.2.1 },
+      λ o. m.collected.complete o.from y o.within (o.over, o.to),
+    )

@@ -1,13 +1,13 @@
-use Rattle.std.proofs.Common.{◌≡◌, ◌<◌, ◌≤◌, ℕ, List, length, get_or, take, ap, ◌∙◌, sym, arith, subst}
+use Rattle.std.proofs.Common.{◌≡◌, ◌<◌, ◌≤◌, ℕ, List, length, get_or, refl, ap, ◌∙◌, sym, arith, subst}
 use Rattle.std.specs.List.{Contains}
 use Rattle.std.proofs.lemmas.Bool.{false≢true}
-use Rattle.std.proofs.lemmas.List.{take_all}
 use Rattle.std.proofs.lemmas.List.Elements.{Contains-get_or}
 use Rattle.lr_tables.specs.declared.grammar.Grammar.{Grammar}
 use Rattle.sc_lalr.specs.Propagation.{HasPlace, AreNodes}
 use Rattle.sc_lalr.specs.declared.nodes.Nodes.{Nodes}
+use Rattle.sc_items.proofs.Listing.{IsCollected-done, IsCollected-kept, IsCollected-left, IsCollected-none}
 use Rattle.sc_lalr.proofs.Placing.{place_at}
-use Rattle.sc_lalr.proofs.Looking.{SourcesSoFar, SourcesSoFar-none, SourcesSoFar-left, SourcesSoFar-kept, AreSources-done, source_of, followed_of_source}
+use Rattle.sc_lalr.proofs.Looking.{IsSourceAt, AreSources-done, source_of, followed_of_source}
 use Rattle.sc_lalr.proofs.lookahead.sources.Goals as goal
 use Rattle.sc_lalr.proofs.lookahead.sources.Goals.{then-is_followed+in_ok-push, else-is_followed}
 
@@ -29,7 +29,7 @@ is_followed-requires-clause-item c =
     (place_at (length g.entries.now) p (some_entries g states p (place_of g states c.args.nodes.now c.deref-place-items.result.now c.loop-place.place-index c.requires.nodes.are c.deref-place-items.ensures.value c.loop-place-test.true))).within
 
 pub loop-place-init : goal.loop-place-init
-loop-place-init c = λ states are. rw c.new-sources.ensures.items (SourcesSoFar-none c.args.grammar.now states)
+loop-place-init c = λ states are. rw c.new-sources.ensures.items (IsCollected-none (IsSourceAt c.args.grammar.now states))
 
 pub loop-place-preserved : goal.loop-place-preserved
 loop-place-preserved c = λ states are.
@@ -41,15 +41,12 @@ loop-place-preserved c = λ states are.
     let k_in : k < length places = omega (arith, ap length c.deref-place-items.ensures.value, c.loop-place-test.true) in
     let there = place_of g states c.args.nodes.now view k are c.deref-place-items.ensures.value c.loop-place-test.true in
     elim c.if-is_followed.branch [
-      | then-is_followed+in_ok-push w ↦ rw (ap (λ v. v.items) w.sources-is ∙ w.in_ok-push.ensures.items, same) (SourcesSoFar-kept g states k places c.loop-place.sources.items k_in (c.loop-place.invariant states are) (rw same at (source_of g states (get_or view k 0) there (c.is_followed.ensures.0 w.if-is_followed.true))))
-      | else-is_followed w ↦ rw (ap (λ v. v.items) w.sources-is) (SourcesSoFar-left g states k places c.loop-place.sources.items k_in (c.loop-place.invariant states are) (λ s. false≢true (sym w.if-is_followed.false ∙ c.is_followed.ensures.1 (followed_of_source g states (get_or view k 0) (rw same s)))))
+      | then-is_followed+in_ok-push w ↦ rw (ap (λ v. v.items) w.sources-is ∙ w.in_ok-push.ensures.items, same) (IsCollected-kept (IsSourceAt g states) places c.loop-place.sources.items k (get_or places k 0) k_in (c.loop-place.invariant states are) (rw same at (source_of g states (get_or view k 0) there (c.is_followed.ensures.0 w.if-is_followed.true)), refl) (λ q r. r.1))
+      | else-is_followed w ↦ rw (ap (λ v. v.items) w.sources-is) (IsCollected-left (IsSourceAt g states) places c.loop-place.sources.items k k_in (c.loop-place.invariant states are) (λ q s. false≢true (sym w.if-is_followed.false ∙ c.is_followed.ensures.1 (followed_of_source g states (get_or view k 0) (rw same s.0)))))
     ]
-
-all_sources : (g : Grammar) (states : List (List ℕ)) (k : ℕ) (places sources : List ℕ) → length places ≤ k → SourcesSoFar g states (take k places) sources → SourcesSoFar g states places sources
-all_sources g states k places sources h s = subst (λ zs. SourcesSoFar g states zs sources) (take_all k places h) s
 
 pub returns : goal.returns
 returns c = λ states are.
     let g = c.args.grammar.now in
     let all : length c.args.nodes.now.places.items ≤ c.loop-place.place-index = omega (arith, ap length c.deref-place-items.ensures.value, c.loop-place-test.false) in
-    AreSources-done g states c.args.nodes.now c.loop-place.sources.items are (all_sources g states c.loop-place.place-index c.args.nodes.now.places.items c.loop-place.sources.items all (c.loop-place.invariant states are))
+    AreSources-done g states c.args.nodes.now c.loop-place.sources.items are (IsCollected-done (IsSourceAt g states) c.args.nodes.now.places.items c.loop-place.sources.items c.loop-place.place-index all (c.loop-place.invariant states are))

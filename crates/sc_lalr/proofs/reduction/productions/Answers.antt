@@ -29,4 +29,7 @@ returns-clause-rising c = (all_marked c.args.grammar.now c.args.marks.now c.args
 pub returns-clause-exact : goal.returns-clause-exact
 returns-clause-exact c =
     let m = all_marked c.args.grammar.now c.args.marks.now c.args.numbers.now c.args.base c.loop-item.item-index c.args.items.now c.loop-item.found.items c.loop-item-test.false c.loop-item.invariant in
-    λ p. (m.sound p, m.complete p)
+    λ p. (
+      λ w. let o = m.collected.sound p w in record { item = o.0; within = o.1; is_marked = o.2.0; production = o.2.1 },
+      λ o. m.collected.complete o.item p o.within (o.is_marked, o.production),
+    )
