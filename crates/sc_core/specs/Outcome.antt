@@ -9,7 +9,6 @@ use Rattle.sc_core.specs.declared.status.Status.{Status}
 use Rattle.sc_core.specs.declared.status.Status.TheVariants.{Accepted, Refused, BadWords, BadSpace, ReadFault, WriteFault, OutOfMemory}
 use Rattle.sc_core.specs.Complaint.{line_of, status_of, space_line}
 use Rattle.sc_grammar.specs.C11.{productions}
-use Rattle.sc_lalr.specs.Tables.{InOrder}
 use Rattle.lr_tables.specs.declared.grammar.Conflict.{Conflict}
 use Rattle.lr_tables.specs.declared.grammar.Grammar.{Grammar}
 use Rattle.lr_tables.specs.Grammar.{entries_of}
@@ -18,7 +17,7 @@ use Rattle.sc_model.specs.Outside.{Files, Rose, Write, Writes, WritesPart, whole
 use Rattle.sc_model.specs.Fault.{Fault}
 use Rattle.c11_directives.specs.Pre.{Pre}
 use Rattle.sc_model.specs.Space.{Space, IsListed}
-use Rattle.lr_tables.specs.Tables.{IsStates, IsConflict}
+use Rattle.lr_tables.specs.Tables.{IsStates, IsConflict, InOrder}
 use Rattle.sc_text.specs.Text.{Answer, at}
 use Rattle.sc_model.specs.Token.{Shown, Token, shown}
 use Rattle.sc_show.specs.Conflicts.{conflict_pieces}

@@ -9,5 +9,21 @@ use Rattle.sc_show.specs.Pieces.{IsLine}
 pub show_conflicts-requires : goal.show_conflicts-requires
 show_conflicts-requires c = are_named c.in_ok-tables.ensures (omega (arith, c.grammar-grammar.ensures.terminals))
 
+pub returns-clause-text : goal.returns-clause-text
+returns-clause-text c =
+    let are = c.in_ok-tables.ensures.exact in
+    IfOk-weaker c.show_conflicts.result _ _ (λ text lines. record {
+      grammar = c.grammar-grammar.result;
+      entries = c.grammar-grammar.ensures.productions;
+      terminals = c.grammar-grammar.ensures.terminals;
+      nonterminals = c.grammar-grammar.ensures.nonterminals;
+      states = c.in_ok-tables.ensures.states;
+      are_states = are.are_states;
+      lost = conflicts_of c.in_ok-tables.tables;
+      exact = are.conflict;
+      in_order = are.in_order;
+      written = lines;
+    }) c.show_conflicts.ensures.lines
+
 pub returns-clause-lines : goal.returns-clause-lines
 returns-clause-lines c = IfOk-weaker c.show_conflicts.result _ _ (λ text lines. subst (All IsLine) (sym lines) (conflict_lines (conflicts_of c.in_ok-tables.tables))) c.show_conflicts.ensures.lines
