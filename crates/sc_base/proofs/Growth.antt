@@ -31,7 +31,7 @@ pub Extends-within : {A : Type 0} {xs ys : List A} (i : ℕ) → i < length xs �
 Extends-within {A} {xs} {ys} i h e = omega (arith, e.longer)
 
 -- an item that stands in a list with one more item stood there, or is that item at the end
-push_cases : {A : Type 0} (xs : List A) (y : A) (i : ℕ) (x : A) → slice_get (xs ++ y ∷ []) i ≡ Some x → (slice_get xs i ≡ Some x) ⊎ ((i ≡ length xs) × (y ≡ x))
+pub push_cases : {A : Type 0} (xs : List A) (y : A) (i : ℕ) (x : A) → slice_get (xs ++ y ∷ []) i ≡ Some x → (slice_get xs i ≡ Some x) ⊎ ((i ≡ length xs) × (y ≡ x))
 push_cases [] y zero x at = inr (refl, same_Some y x at)
 push_cases [] y (suc i) x at = cc
 push_cases (z ∷ xs) y zero x at = inl at

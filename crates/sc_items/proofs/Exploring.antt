@@ -1,5 +1,5 @@
 -- What one turn of the search adds.
-use Rattle.std.proofs.Common.{zero, suc, ◌≡◌, ◌↔◌, ◌<◌, ◌+◌, ◌⊎◌, ℕ, Bool, true, false, ◌&&◌, IsTrue, List, [], ◌∷◌, ◌++◌, length, slice_get, Option, Some, None, Vec, inl, inr, refl, sym, ap, ◌∙◌, subst, arith}
+use Rattle.std.proofs.Common.{zero, suc, ◌≡◌, ◌↔◌, ◌<◌, ◌+◌, ◌⊎◌, ℕ, Bool, true, false, IsTrue, List, [], ◌∷◌, ◌++◌, length, slice_get, Option, Some, None, Vec, inl, inr, refl, sym, ap, ◌∙◌, subst, arith}
 use Rattle.std.specs.List.{Contains, list_all}
 use Rattle.std.specs.declared.alloc.Global.{Global}
 use Rattle.std.proofs.lemmas.List.{length_push, get_or_past}
@@ -12,11 +12,13 @@ use Rattle.lr_tables.specs.declared.grammar.Grammar.{Grammar}
 use Rattle.lr_tables.specs.declared.grammar.Entry.{Entry}
 use Rattle.lr_tables.specs.declared.grammar.Entry.TheVariants.{Left, Right}
 use Rattle.lr_tables.specs.declared.grammar.Symbol.TheVariants.{Terminal, Nonterminal}
+use Rattle.sc_model.specs.Growth.{Extends}
+use Rattle.sc_base.proofs.Growth.{Extends-keeps, Extends-push, Extends-refl, Extends-trans, push_cases}
 use Rattle.sc_items.specs.Reach.{marked, Reaches, start, step, IsReached}
 use Rattle.sc_items.specs.Kernel.{MovedIn, IsListOf, IsOpened}
-use Rattle.sc_items.specs.Found.{Found, IsGotoRow, Keeps, IsStep, nothing, follows}
+use Rattle.sc_items.specs.Found.{Found, IsGotoRow, IsStep, nothing, follows}
 use Rattle.sc_items.proofs.Finding.{Found-new, Found-old, Found-skip}
-use Rattle.sc_items.proofs.Opening.{after_within, slice_get-push_old, slice_get-push_cases}
+use Rattle.sc_items.proofs.Opening.{after_within}
 
 -- ---- the symbols of a grammar are in range
 list_all_at : {A : Type 0} (p : A → Bool) (xs : List A) (i : ℕ) (x : A) → list_all p xs ≡ true → slice_get xs i ≡ Some x → p x ≡ true
@@ -77,26 +79,17 @@ moved_to g kernel items x m h o = record { from = o.from; within = h.complete o.
 -- ---- a state over its first symbols
 pub record Explored (g : Grammar) (old new : List (List ℕ)) (s x : ℕ) (row : List (Option ℕ)) : Type 0 where
   pub found : Found g new s x
-  pub keeps : Keeps old new
+  pub keeps : Extends old new
   pub kernel : List ℕ
   pub kernel_at : slice_get old s ≡ Some kernel
   pub row_is : IsGotoRow g new s kernel row x
 
-pub Keeps-refl : (states : List (List ℕ)) → Keeps states states
-Keeps-refl states = record { kept = λ t kernel h. h; longer = omega arith }
-
-pub Keeps-trans : (a b c : List (List ℕ)) → Keeps a b → Keeps b c → Keeps a c
-Keeps-trans a b c h k = record { kept = λ t kernel w. k.kept t kernel (h.kept t kernel w); longer = omega (arith, h.longer, k.longer) }
-
-pub Keeps-push : (states : List (List ℕ)) (k : List ℕ) → Keeps states (states ++ k ∷ [])
-Keeps-push states k = record { kept = λ t kernel h. slice_get-push_old states k kernel t h; longer = omega (arith, length_push states k) }
-
-pub goto_keeps : (g : Grammar) (old new : List (List ℕ)) (s x t : ℕ) → Keeps old new → IsGoto g old s x t → IsGoto g new s x t
+pub goto_keeps : (g : Grammar) (old new : List (List ℕ)) (s x t : ℕ) → Extends old new → IsGoto g old s x t → IsGoto g new s x t
 goto_keeps g old new s x t k h = record {
   source = h.source;
   target = h.target;
-  source_at = k.kept s h.source h.source_at;
-  target_at = k.kept t h.target h.target_at;
+  source_at = Extends-keeps s h.source h.source_at k;
+  target_at = Extends-keeps t h.target h.target_at k;
   some = h.some;
   moved = h.moved;
 }
@@ -104,24 +97,24 @@ goto_keeps g old new s x t k h = record {
 row_none : (g : Grammar) (new : List (List ℕ)) (s x : ℕ) (kernel : List ℕ) (row : List (Option ℕ)) → IsGotoRow g new s kernel row x → ((m : ℕ) → Moved g kernel x m → ⊥) → IsGotoRow g new s kernel (row ++ None ∷ []) (x + 1)
 row_none g new s x kernel row h none = record {
   long = length_push row None ∙ ap (λ n. n + 1) h.long;
-  some = λ y t at. elim (slice_get-push_cases row None (Some t) y at) [ inl a ↦ h.some y t a | inr e ↦ absurd (none-some t e.1) ];
-  none = λ y at m w. elim (slice_get-push_cases row None None y at) [ inl a ↦ h.none y a m w | inr e ↦ none m (subst (λ z. Moved g kernel z m) (e.0 ∙ h.long) w) ];
+  some = λ y t at. elim (push_cases row None y (Some t) at) [ inl a ↦ h.some y t a | inr e ↦ absurd (none-some t e.1) ];
+  none = λ y at m w. elim (push_cases row None y None at) [ inl a ↦ h.none y a m w | inr e ↦ none m (subst (λ z. Moved g kernel z m) (e.0 ∙ h.long) w) ];
 }
 
-row_some : (g : Grammar) (old new : List (List ℕ)) (s x u : ℕ) (kernel : List ℕ) (row : List (Option ℕ)) → Keeps old new → IsGotoRow g old s kernel row x → IsGoto g new s x u → IsGotoRow g new s kernel (row ++ Some u ∷ []) (x + 1)
+row_some : (g : Grammar) (old new : List (List ℕ)) (s x u : ℕ) (kernel : List ℕ) (row : List (Option ℕ)) → Extends old new → IsGotoRow g old s kernel row x → IsGoto g new s x u → IsGotoRow g new s kernel (row ++ Some u ∷ []) (x + 1)
 row_some g old new s x u kernel row k h goto = record {
   long = length_push row (Some u) ∙ ap (λ n. n + 1) h.long;
-  some = λ y t at. elim (slice_get-push_cases row (Some u) (Some t) y at) [
+  some = λ y t at. elim (push_cases row (Some u) y (Some t) at) [
     | inl a ↦ goto_keeps g old new s y t k (h.some y t a)
     | inr e ↦ subst (λ z. IsGoto g new s z t) (sym (e.0 ∙ h.long)) (subst (λ v. IsGoto g new s x v) (same_Some u t e.1) goto)
   ];
-  none = λ y at m w. elim (slice_get-push_cases row (Some u) None y at) [ inl a ↦ h.none y a m w | inr e ↦ absurd (none-some u (sym e.1)) ];
+  none = λ y at m w. elim (push_cases row (Some u) y None at) [ inl a ↦ h.none y a m w | inr e ↦ absurd (none-some u (sym e.1)) ];
 }
 
 pub Explored-begin : (g : Grammar) (old : List (List ℕ)) (s : ℕ) (kernel : List ℕ) → Found g old s 0 → slice_get old s ≡ Some kernel → Explored g old old s 0 []
 Explored-begin g old s kernel f at = record {
   found = f;
-  keeps = Keeps-refl old;
+  keeps = Extends-refl old;
   kernel = kernel;
   kernel_at = at;
   row_is = record { long = refl; some = λ y t w. absurd (none-some (Some t) w); none = λ y w. absurd (none-some None w) };
@@ -132,7 +125,7 @@ Explored-step g old now new s x row kernel items to at members within h (nothing
     let kernel_is : h.kernel ≡ kernel = same_Some h.kernel kernel (sym h.kernel_at ∙ at) in
     let empty : (m : ℕ) → Moved g kernel x m → ⊥ = λ m w. none m (moved_to g kernel items x m members w) in
     subst (λ states. Explored g old states s (x + 1) (row ++ None ∷ [])) (sym e) (record {
-      found = Found-skip g now s x kernel h.found (h.keeps.kept s kernel at) empty;
+      found = Found-skip g now s x kernel h.found (Extends-keeps s kernel at h.keeps) empty;
       keeps = h.keeps;
       kernel = kernel;
       kernel_at = at;
@@ -141,7 +134,7 @@ Explored-step g old now new s x row kernel items to at members within h (nothing
 Explored-step g old now new s x row kernel items to at members within h (follows k t inc some moved n) = go n.grown
   where
     now_at : slice_get now s ≡ Some kernel
-    now_at = h.keeps.kept s kernel at
+    now_at = Extends-keeps s kernel at h.keeps
 
     k_moved : (m : ℕ) → Contains k m ↔ Moved g kernel x m
     k_moved m = (λ w. moved_from g kernel items x m members ((moved m).0 w), λ w. (moved m).1 (moved_to g kernel items x m members w))
@@ -164,17 +157,17 @@ Explored-step g old now new s x row kernel items to at members within h (follows
           keeps = h.keeps;
           kernel = kernel;
           kernel_at = at;
-          row_is = row_some g now now s x t kernel row (Keeps-refl now) row_now goto;
+          row_is = row_some g now now s x t kernel row (Extends-refl now) row_now goto;
         })
     go (inr e) =
-        let grown : Keeps now (now ++ k ∷ []) = Keeps-push now k in
+        let grown : Extends now (now ++ k ∷ []) = Extends-push now k in
         let there : slice_get (now ++ k ∷ []) t ≡ Some k = subst (λ states. slice_get states t ≡ Some k) e.0 n.at in
         subst (λ states. Explored g old states s (x + 1) (row ++ Some t ∷ [])) (sym e.0) (record {
           found = Found-new g now k s x kernel h.found now_at inc k_within some k_moved e.2;
-          keeps = Keeps-trans old now (now ++ k ∷ []) h.keeps grown;
+          keeps = Extends-trans h.keeps grown;
           kernel = kernel;
           kernel_at = at;
-          row_is = row_some g now (now ++ k ∷ []) s x t kernel row grown row_now (goto_in (now ++ k ∷ []) (grown.kept s kernel now_at) there);
+          row_is = row_some g now (now ++ k ∷ []) s x t kernel row grown row_now (goto_in (now ++ k ∷ []) (Extends-keeps s kernel now_at grown) there);
         })
 
 -- ---- the same facts for values that are read through references

@@ -1,12 +1,9 @@
 -- The states are found in the order of their least pairs.
 use Rattle.std.proofs.Common.{zero, suc, ◌≡◌, ◌↔◌, ◌<◌, ◌≤◌, ◌+◌, ◌⊎◌, ℕ, List, [], ◌∷◌, ◌++◌, length, get_or, slice_get, Some, inl, inr, refl, sym, ap, ◌∙◌, subst, arith}
 use Rattle.std.specs.List.{Contains}
-use Rattle.std.specs.List.Sorted.{IsStrictlyIncreasing, IsStrictlySortedBy}
-use Rattle.std.specs.Ordering.{nat_cmp}
+use Rattle.std.specs.List.Sorted.{IsStrictlyIncreasing}
 use Rattle.std.proofs.lemmas.List.{length_push}
-use Rattle.std.proofs.lemmas.List.Elements.{Contains-get_or}
-use Rattle.std.proofs.lemmas.Map.Keys.{below_from_sorted, sorted_from_strictly_increasing, sorted_tail}
-use Rattle.std.proofs.lemmas.Option.{same_Some, slice_get_within, none-some}
+use Rattle.std.proofs.lemmas.Option.{same_Some, slice_get-get_or, slice_get_within, none-some}
 use Rattle.std.proofs.lemmas.Bool.{cases_lt}
 use Rattle.lr_tables.specs.Grammar.{IsStart, after}
 use Rattle.lr_tables.specs.Tables.{Moved, IsGoto, IsLeastPair, IsStates, Before}
@@ -16,7 +13,7 @@ use Rattle.sc_items.specs.Found.{Found, FoundAt}
 use Rattle.lr_tables.proofs.Determined.{goto_member}
 use Rattle.lr_tables.proofs.Members.{rising_same}
 use Rattle.lr_tables.proofs.Pairs.{before_from_least, before_or_not}
-use Rattle.sc_items.proofs.Opening.{slice_get-push_old, slice_get-push_cases}
+use Rattle.sc_base.proofs.Growth.{Extends-keeps, Extends-push, IsOneToOne-push, push_cases}
 
 -- ---- the order of pairs
 before_next : (r y s x : ℕ) → Before r y s (x + 1) → Before r y s x ⊎ ((r ≡ s) × (y ≡ x))
@@ -43,14 +40,14 @@ before_within r y s x (inr a) = omega (arith, a.0)
 -- ---- gotos and least pairs when a state is added
 module _ (g : Grammar) (states : List (List ℕ)) (k : List ℕ) where
   old_at : (i : ℕ) (kernel : List ℕ) → i < length states → slice_get (states ++ k ∷ []) i ≡ Some kernel → slice_get states i ≡ Some kernel
-  old_at i kernel within at = elim (slice_get-push_cases states k kernel i at) [ inl a ↦ a | inr b ↦ absurd (omega (arith, b.0)) ]
+  old_at i kernel within at = elim (push_cases states k i kernel at) [ inl a ↦ a | inr b ↦ absurd (omega (arith, b.0)) ]
 
   pub goto_push : (s x t : ℕ) → IsGoto g states s x t → IsGoto g (states ++ k ∷ []) s x t
   goto_push s x t h = record {
     source = h.source;
     target = h.target;
-    source_at = slice_get-push_old states k h.source s h.source_at;
-    target_at = slice_get-push_old states k h.target t h.target_at;
+    source_at = Extends-keeps s h.source h.source_at (Extends-push states k);
+    target_at = Extends-keeps t h.target h.target_at (Extends-push states k);
     some = h.some;
     moved = h.moved;
   }
@@ -145,11 +142,11 @@ Found-old g states s x t f goto = record { first = f.first; first_at = f.first_a
 pub Found-new : (g : Grammar) (states : List (List ℕ)) (k : List ℕ) (s x : ℕ) (source : List ℕ) → Found g states s x → slice_get states s ≡ Some source → IsStrictlyIncreasing k → ((i : ℕ) → Contains k i → i < length g.entries.now) → 0 < length k → ((m : ℕ) → Contains k m ↔ Moved g source x m) → ((t : ℕ) → slice_get states t ≡ Some k → ⊥) → Found g (states ++ k ∷ []) s (x + 1)
 Found-new g states k s x source f at inc within some moved new = record {
   first = f.first;
-  first_at = slice_get-push_old states k f.first 0 f.first_at;
+  first_at = Extends-keeps 0 f.first f.first_at (Extends-push states k);
   starts = f.starts;
-  rising = λ r kernel kernel_at. elim (slice_get-push_cases states k kernel r kernel_at) [ inl a ↦ f.rising r kernel a | inr e ↦ subst IsStrictlyIncreasing e.1 inc ];
-  within = λ r i kernel kernel_at w. elim (slice_get-push_cases states k kernel r kernel_at) [ inl a ↦ f.within r i kernel a w | inr e ↦ within i (subst (λ zs. Contains zs i) (sym e.1) w) ];
-  different = record { same = same };
+  rising = λ r kernel kernel_at. elim (push_cases states k r kernel kernel_at) [ inl a ↦ f.rising r kernel a | inr e ↦ subst IsStrictlyIncreasing e.1 inc ];
+  within = λ r i kernel kernel_at w. elim (push_cases states k r kernel kernel_at) [ inl a ↦ f.within r i kernel a w | inr e ↦ within i (subst (λ zs. Contains zs i) (sym e.1) w) ];
+  different = IsOneToOne-push states k f.different (λ h. new h.0 (slice_get-get_or states h.0 k h.1 ∙ ap (λ zs. Some zs) h.2));
   closed = closed;
   found = found;
   in_order = in_order;
@@ -165,20 +162,11 @@ Found-new g states k s x source f at inc within some moved new = record {
     here = record {
       source = source;
       target = k;
-      source_at = slice_get-push_old states k source s at;
+      source_at = Extends-keeps s source at (Extends-push states k);
       target_at = slice_get-seam states k [];
       some = some;
       moved = moved;
     }
-
-    same : (i j : ℕ) (z : List ℕ) → slice_get (states ++ k ∷ []) i ≡ Some z → slice_get (states ++ k ∷ []) j ≡ Some z → i ≡ j
-    same i j z a b = go (slice_get-push_cases states k z i a) (slice_get-push_cases states k z j b)
-      where
-        go : (slice_get states i ≡ Some z) ⊎ ((i ≡ length states) × (k ≡ z)) → (slice_get states j ≡ Some z) ⊎ ((j ≡ length states) × (k ≡ z)) → i ≡ j
-        go (inl p) (inl q) = f.different.same i j z p q
-        go (inl p) (inr q) = absurd (new i (p ∙ ap (λ zs. Some zs) (sym q.1)))
-        go (inr p) (inl q) = absurd (new j (q ∙ ap (λ zs. Some zs) (sym p.1)))
-        go (inr p) (inr q) = p.0 ∙ sym q.0
 
     closed : (r y m : ℕ) (kernel : List ℕ) → Before r y s (x + 1) → slice_get (states ++ k ∷ []) r ≡ Some kernel → Moved g kernel y m → (t : ℕ) × IsGoto g (states ++ k ∷ []) r y t
     closed r y m kernel before kernel_at w = elim (before_next r y s x before) [

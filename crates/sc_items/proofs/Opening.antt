@@ -1,33 +1,22 @@
 -- The rows of what each item opens, what is moved over a symbol, and the numbers of kernels.
-use Rattle.std.proofs.Common.{zero, suc, ⊎_elim, ◌≡◌, ◌<◌, ◌+◌, ◌⊎◌, ℕ, List, [], ◌∷◌, ◌++◌, length, get_or, take, slice_get, Some, Vec, inl, inr, refl, sym, ap, ◌∙◌, subst, arith}
-use Rattle.std.specs.List.{Contains}
+use Rattle.std.proofs.Common.{◌≡◌, ◌<◌, ◌+◌, ℕ, List, [], ◌∷◌, ◌++◌, length, get_or, take, slice_get, Some, Vec, inl, inr, refl, sym, ap, ◌∙◌, subst, arith}
 use Rattle.std.specs.List.Sorted.{IsStrictlyIncreasing}
 use Rattle.std.specs.declared.alloc.Global.{Global}
 use Rattle.std.proofs.lemmas.List.{length_push}
-use Rattle.std.proofs.lemmas.List.Elements.{Contains-push, Contains-append_left, Contains-push_cases, Contains-get_or}
-use Rattle.std.proofs.lemmas.Option.{same_Some, slice_get_within, slice_get-get_or, option_and_then_some, none-some}
+use Rattle.std.proofs.lemmas.List.Elements.{Contains-get_or}
+use Rattle.std.proofs.lemmas.Option.{slice_get_within, slice_get-get_or, option_and_then_some}
 use Rattle.lr_tables.specs.Grammar.{after, begun, left_in, right_in}
 use Rattle.lr_tables.specs.declared.grammar.Grammar.{Grammar}
-use Rattle.sc_model.proofs.ListLemmas.{slice_get-front}
-use Rattle.lr_tables.proofs.Members.{no_member, slice_some}
+use Rattle.sc_base.proofs.Growth.{push_cases}
+use Rattle.lr_tables.proofs.Members.{slice_some}
 use Rattle.sc_items.specs.Reach.{Edge, EdgesWithin}
-use Rattle.sc_items.specs.Kernel.{IsListOf, Opens, IsOpened, MovedIn}
+use Rattle.sc_items.specs.Kernel.{IsListOf, Opens, IsOpened}
 use Rattle.sc_items.proofs.Listing.{IsCollected, IsCollected-kept, IsCollected-left, IsCollected-none, rising-collected, rising-none}
-
--- ---- an entry of a list that has grown
-pub slice_get-push_old : {A : Type 0} (xs : List A) (y x : A) (i : ℕ) → slice_get xs i ≡ Some x → slice_get (xs ++ y ∷ []) i ≡ Some x
-slice_get-push_old xs y x i h = slice_get-front xs (y ∷ []) i (slice_get_within xs i x h) ∙ h
-
-pub slice_get-push_cases : {A : Type 0} (xs : List A) (y x : A) (i : ℕ) → slice_get (xs ++ y ∷ []) i ≡ Some x → (slice_get xs i ≡ Some x) ⊎ ((i ≡ length xs) × (y ≡ x))
-slice_get-push_cases [] y x zero h = inr (refl, same_Some y x h)
-slice_get-push_cases [] y x (suc i) h = absurd (none-some x h)
-slice_get-push_cases (z ∷ zs) y x zero h = inl h
-slice_get-push_cases (z ∷ zs) y x (suc i) h = ⊎_elim (λ a. inl a) (λ a. inr (ap suc a.0, a.1)) (slice_get-push_cases zs y x i h)
 
 -- what holds of each entry at its place, with one entry more
 pub each-push : {A : Type 0} (P : ℕ → A → Type 0) (xs : List A) (y : A) (n : ℕ) → length xs ≡ n → ((i : ℕ) (x : A) → slice_get xs i ≡ Some x → P i x) → P n y
     → (i : ℕ) (x : A) → slice_get (xs ++ y ∷ []) i ≡ Some x → P i x
-each-push P xs y n long each one i x at = elim (slice_get-push_cases xs y x i at) [
+each-push P xs y n long each one i x at = elim (push_cases xs y i x at) [
   | inl a ↦ each i x a
   | inr e ↦ subst (P i) e.1 (subst (λ k. P k y) (sym (e.0 ∙ long)) one)
 ]

@@ -7,8 +7,10 @@ use Rattle.lr_tables.specs.Grammar.{IsStart}
 use Rattle.lr_tables.specs.declared.grammar.Grammar.{Grammar}
 use Rattle.sc_items.specs.declared.automaton.State.{State}
 use Rattle.sc_items.specs.declared.automaton.States.{States}
+use Rattle.sc_model.specs.Growth.{Extends}
+use Rattle.sc_base.proofs.Growth.{Extends-keeps}
 use Rattle.sc_items.specs.Kernel.{IsListOf, IsNumbered, lists}
-use Rattle.sc_items.specs.Found.{Found, Keeps}
+use Rattle.sc_items.specs.Found.{Found}
 use Rattle.sc_items.specs.States.{IsState, AreStates, kernels_of}
 use Rattle.sc_items.proofs.Finding.{Found-begin, IsStates-done}
 use Rattle.sc_items.proofs.Exploring.{goto_keeps}
@@ -19,10 +21,10 @@ pub record Searched (g : Grammar) (states : List (List ℕ)) (rows : List State)
   pub each : (s : ℕ) (state : State) → slice_get rows s ≡ Some state → IsState g states s state
   pub within : length rows ≤ length states
 
-state_keeps : (g : Grammar) (old new : List (List ℕ)) (s : ℕ) (state : State) → Keeps old new → IsState g old s state → IsState g new s state
+state_keeps : (g : Grammar) (old new : List (List ℕ)) (s : ℕ) (state : State) → Extends old new → IsState g old s state → IsState g new s state
 state_keeps g old new s state k h = record {
   kernel = h.kernel;
-  kernel_at = k.kept s h.kernel h.kernel_at;
+  kernel_at = Extends-keeps s h.kernel h.kernel_at k;
   long = h.long;
   items = h.items;
   gotos = record { long = h.gotos.long; some = λ y t at. goto_keeps g old new s y t k (h.gotos.some y t at); none = h.gotos.none };
@@ -42,7 +44,7 @@ Searched-begin g old new first number rows e f h n =
     is_only (inl a) empty = absurd (none-some first (subst (λ zs. slice_get zs number ≡ Some first) (a ∙ empty) n.at))
     is_only (inr a) empty = a.0 ∙ ap (λ zs. zs ++ first ∷ []) empty
 
-pub Searched-step : (g : Grammar) (old new : List (List ℕ)) (rows : List State) (state : State) (number : ℕ) → number ≡ length rows → length rows < length old → Searched g old rows → Found g new (number + 1) 0 → Keeps old new → IsState g new number state → Searched g new (rows ++ state ∷ [])
+pub Searched-step : (g : Grammar) (old new : List (List ℕ)) (rows : List State) (state : State) (number : ℕ) → number ≡ length rows → length rows < length old → Searched g old rows → Found g new (number + 1) 0 → Extends old new → IsState g new number state → Searched g new (rows ++ state ∷ [])
 Searched-step g old new rows state number e within h found keeps one = record {
   found = subst (λ n. Found g new n 0) (ap (λ n. n + 1) e ∙ sym (length_push rows state)) found;
   each = each-push (IsState g new) rows state number (sym e) (λ s other at. state_keeps g old new s other keeps (h.each s other at)) one;

@@ -1,5 +1,5 @@
 -- The states that a search has found so far.
-use Rattle.std.specs.Prelude.{◌≡◌, ◌↔◌, ◌<◌, ◌≤◌, ℕ, List, length, slice_get, Option, Some, None}
+use Rattle.std.specs.Prelude.{◌≡◌, ◌↔◌, ◌<◌, ℕ, List, length, slice_get, Option, Some, None}
 use Rattle.std.specs.List.{Contains}
 use Rattle.std.specs.List.Sorted.{IsStrictlyIncreasing}
 use Rattle.sc_model.specs.Growth.{IsOneToOne}
@@ -32,11 +32,6 @@ pub record IsGotoRow (g : Grammar) (states : List (List ℕ)) (s : ℕ) (kernel 
   pub long : length row ≡ n
   pub some : (y t : ℕ) → slice_get row y ≡ Some (Some t) → IsGoto g states s y t
   pub none : (y : ℕ) → slice_get row y ≡ Some None → (m : ℕ) → Moved g kernel y m → ⊥
-
--- each state has kept its number
-pub record Keeps (old new : List (List ℕ)) : Type 0 where
-  pub kept : (t : ℕ) (kernel : List ℕ) → slice_get old t ≡ Some kernel → slice_get new t ≡ Some kernel
-  pub longer : length old ≤ length new
 
 -- what follows after a symbol got its number, or nothing follows
 pub data IsStep (g : Grammar) (items : List ℕ) (x : ℕ) (old new : List (List ℕ)) : Option ℕ → Type 0 where

@@ -4,7 +4,8 @@ ghost use Rattle.std.specs.List.Sorted.{IsStrictlyIncreasing};
 ghost use Rattle.lr_tables.specs.Grammar.{IsGrammar};
 ghost use Rattle.sc_items.specs.Reach.{EdgesWithin};
 ghost use Rattle.sc_items.specs.Kernel.{AreNext, IsOpened, lists};
-ghost use Rattle.sc_items.specs.Found.{Found, Keeps, IsStep};
+ghost use Rattle.sc_model.specs.Growth.{Extends};
+ghost use Rattle.sc_items.specs.Found.{Found, IsStep};
 ghost use Rattle.sc_items.specs.States.{IsState, AreStates};
 
 use crate::kernel::{members, moved, next_symbols, number, opened, start};
@@ -44,7 +45,7 @@ fn explored(
     requires found { Found grammar.now (lists kernels.old.keys) state 0 }
     requires state { state < length kernels.old.keys }
     ensures found { OnOk result (Found grammar.now (lists kernels.new.keys) (state + 1) 0) }
-    ensures keeps { OnOk result (Keeps (lists kernels.old.keys) (lists kernels.new.keys)) }
+    ensures keeps { OnOk result (Extends (lists kernels.old.keys) (lists kernels.new.keys)) }
     ensures state { IfOk result (IsState grammar.now (lists kernels.new.keys) state) }
 {
     let items = reachable(alloc, opened, &kernels[state])?;

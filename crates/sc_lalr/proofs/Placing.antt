@@ -8,7 +8,7 @@ use Rattle.lr_tables.specs.declared.grammar.Grammar.{Grammar}
 use Rattle.sc_items.specs.Kernel.{IsListOf}
 use Rattle.sc_items.specs.States.{HasItem}
 use Rattle.sc_items.proofs.Listing.{IsListOf-push, IsListOf-skip, IsListOf-none}
-use Rattle.sc_items.proofs.Opening.{slice_get-push_cases}
+use Rattle.sc_base.proofs.Growth.{push_cases}
 use Rattle.sc_lalr.specs.Propagation.{IsPlace, HasPlace, AreNodes, IsNode}
 use Rattle.sc_lalr.specs.declared.nodes.Nodes.{Nodes}
 
@@ -98,7 +98,7 @@ pub NodesBelow-kept : (g : Grammar) (states : List (List ℕ)) (k c : ℕ) (plac
 NodesBelow-kept g states k c places numbers h e one = record {
   long = length_push numbers c ∙ ap (λ z. z + 1) h.long;
   places_are = IsListOf-push (HasPlace g states) k places h.places_are one;
-  numbers_are = λ u p at. elim (slice_get-push_cases places k p u at) [
+  numbers_are = λ u p at. elim (push_cases places k u p at) [
     | inl a ↦ numbers_more places numbers k c u p h.long h.places_are.below h.numbers_are a
     | inr a ↦ get_or_push numbers c 0 p (h.long ∙ a.1) ∙ e ∙ sym a.0
   ];

@@ -1,9 +1,9 @@
 -- The productions that can be reduced, in rising order.
-use Rattle.std.proofs.Common.{◌≡◌, ◌<◌, ◌≤◌, ◌+◌, ℕ, Bool, true, cond, IsTrue, List, [], ◌∷◌, ◌++◌, length, get_or, slice_index, take, drop, count_by, option_and_then, None, All, inl, inr, refl, sym, ap, ◌∙◌, subst, arith}
+use Rattle.std.proofs.Common.{◌≡◌, ◌<◌, ◌≤◌, ◌+◌, ℕ, Bool, true, cond, IsTrue, List, [], ◌∷◌, ◌++◌, length, get_or, slice_index, take, drop, count_by, option_and_then, None, All, refl, sym, ap, ◌∙◌, subst, arith}
 use Rattle.std.specs.List.{Contains}
 use Rattle.std.specs.List.Sorted.{IsStrictlyIncreasing}
 use Rattle.std.proofs.lemmas.List.{take-append-drop, take-take}
-use Rattle.std.proofs.lemmas.List.Elements.{Contains-push, Contains-append_left, Contains-push_cases, All-contains}
+use Rattle.std.proofs.lemmas.List.Elements.{Contains-append_left, All-contains}
 use Rattle.std.proofs.lemmas.List.Sums.{count_by_more_yes, sum_by-append}
 use Rattle.std.proofs.lemmas.Option.{slice_get-get_or, none-some}
 use Rattle.lr_tables.specs.Grammar.{after, right_in, is_left, production_at, symbol_number}
@@ -11,9 +11,9 @@ use Rattle.lr_tables.specs.declared.grammar.Grammar.{Grammar}
 use Rattle.lr_tables.specs.declared.grammar.Entry.{Entry}
 use Rattle.lr_tables.specs.declared.grammar.Entry.TheVariants.{Left, Right}
 use Rattle.sc_items.specs.Reach.{marked}
-use Rattle.lr_tables.proofs.Members.{no_member, slice_some}
+use Rattle.lr_tables.proofs.Members.{slice_some}
 use Rattle.sc_items.proofs.Listing.{IsCollected, IsCollected-kept, IsCollected-left, IsCollected-none, rising-collected, rising-none}
-use Rattle.sc_lalr.specs.Tables.{IsMarkedEnd, IsAtEnd}
+use Rattle.sc_lalr.specs.Tables.{IsAtEnd}
 
 -- ---- a later item has a later production
 count_take_le : {A : Type 0} (p : A → Bool) (xs : List A) (m n : ℕ) → m ≤ n → count_by p (take m xs) ≤ count_by p (take n xs)

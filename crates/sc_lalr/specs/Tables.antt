@@ -1,5 +1,5 @@
 -- The tables as the code keeps them.
-use Rattle.std.specs.Prelude.{◌≡◌, ◌↔◌, ◌<◌, ◌+◌, ℕ, Bool, IsTrue, List, [], ◌∷◌, slice_get, slice_index, map, Option, Some, None, MatchOption, option_and_then, Vec}
+use Rattle.std.specs.Prelude.{◌≡◌, ◌+◌, ℕ, Bool, IsTrue, List, [], ◌∷◌, slice_get, slice_index, map, Option, Some, None, option_and_then, Vec}
 use Rattle.std.specs.List.{Contains}
 use Rattle.std.specs.declared.alloc.Global.{Global}
 use Rattle.lr_tables.specs.Grammar.{after, production_at}

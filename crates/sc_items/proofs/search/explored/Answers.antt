@@ -5,6 +5,7 @@ use Rattle.std.specs.declared.alloc.Global.{Global}
 use Rattle.std.proofs.lemmas.Option.{slice_get-map, same_Some}
 use Rattle.std.proofs.lemmas.List.Elements.{Contains-get_or}
 use Rattle.lr_tables.specs.declared.grammar.Grammar.{Grammar}
+use Rattle.sc_base.proofs.Growth.{Extends-keeps}
 use Rattle.sc_items.specs.Kernel.{AreNext, lists}
 use Rattle.sc_items.specs.Found.{IsStep, IsGotoRow}
 use Rattle.sc_items.proofs.Finding.{Found-next}
@@ -70,7 +71,7 @@ returns-clause-state c =
     let n : c.loop-symbol.symbol ≡ g.terminals + g.nonterminals = omega arith in
     record {
       kernel = kernel;
-      kernel_at = h.keeps.kept c.args.state kernel at;
+      kernel_at = Extends-keeps c.args.state kernel at h.keeps;
       long = sym c.in_ok-items.items.ok.0 ∙ c.in_ok-items.ensures.len ∙ c.requires.opened.long;
       items = closure_of g c.args.opened.now kernel c.deref.result.now c.in_ok-items.items.items c.requires.opened c.deref.ensures.value c.in_ok-items.ensures.exact;
       gotos = subst (λ k. IsGotoRow g (lists c.loop-symbol.kernels.keys) c.args.state kernel c.loop-symbol.gotos.items k) n (subst (λ zs. IsGotoRow g (lists c.loop-symbol.kernels.keys) c.args.state zs c.loop-symbol.gotos.items c.loop-symbol.symbol) same h.row_is);
