@@ -1,4 +1,5 @@
--- Grammars: their symbols in order, their productions, their items, and the rules that a grammar keeps.
+-- Grammars: their symbols in order, their productions, their items, and the rules that a grammar
+-- keeps.
 use Rattle.std.specs.Prelude.{◌≡◌, ℕ, ◌+◌, ◌^◌, ◌<◌, nat_lt, Bool, true, false, List, [], ◌∷◌, ◌++◌, take, length, slice_get, count_by, Option, Some, None, option_and_then, IsTrue}
 use Rattle.std.specs.List.{list_all}
 use Rattle.lr_tables.specs.declared.grammar.Symbol.{Symbol}
@@ -42,9 +43,9 @@ abbrev pub is_left : Entry → Bool
 is_left (Left n mark) = true
 is_left (Right x) = false
 
--- An item is a production with a dot in its right side. It goes by the place of the entry before the dot, so that the
--- item whose dot was moved over one symbol more is the next one. This is the symbol after its dot, which an item with
--- the dot at the end has not.
+-- An item is a production with a dot in its right side. It goes by the place of the entry before
+-- the dot, so that the item whose dot was moved over one symbol more is the next one. This is the
+-- symbol after its dot, which an item with the dot at the end has not.
 abbrev pub after : Grammar → ℕ → Option ℕ
 after g i = option_and_then (right_in g.terminals) (slice_get g.entries.now (i + 1))
 

@@ -1,7 +1,8 @@
 -- The tables of a grammar: LR(0) states, LALR(1) lookaheads, actions and conflicts.
 --
--- Symbols go by their places in the order of the symbols, items by theirs among the entries of the grammar. A state is
--- given by its kernel, the items that its closure does not add, as a rising list.
+-- Symbols go by their places in the order of the symbols, items by theirs among the entries of the
+-- grammar. A state is given by its kernel, the items that its closure does not add, as a rising
+-- list.
 use Rattle.std.specs.Prelude.{◌≡◌, ◌↔◌, ◌⊎◌, ℕ, ◌+◌, ◌<◌, ◌≤◌, List, length, slice_get, Option, Some, None, MatchOption}
 use Rattle.std.specs.List.{Contains}
 use Rattle.std.specs.List.Sorted.{IsStrictlyIncreasing}
@@ -12,12 +13,14 @@ use Rattle.lr_tables.specs.declared.grammar.Action.{Action}
 use Rattle.lr_tables.specs.declared.grammar.Action.TheVariants.{Shift, Reduce}
 use Rattle.lr_tables.specs.declared.grammar.Conflict.{Conflict}
 
--- an item of the item set with this kernel: one of the kernel, or one that begins a production of a symbol after a dot
+-- an item of the item set with this kernel: one of the kernel, or one that begins a production of a
+-- symbol after a dot
 pub data Closure (g : Grammar) (kernel : List ℕ) : ℕ → Type 0 where
   given : (i : ℕ) → Contains kernel i → Closure g kernel i
   opened : (i j x : ℕ) → Closure g kernel i → after g i ≡ Some x → begun g j ≡ Some x → Closure g kernel j
 
--- an item that follows in the goto of the item set: one of the set, with its dot moved over the symbol
+-- an item that follows in the goto of the item set: one of the set, with its dot moved over the
+-- symbol
 pub record Moved (g : Grammar) (kernel : List ℕ) (x m : ℕ) : Type 0 where
   pub from : ℕ
   pub within : Closure g kernel from
@@ -47,8 +50,9 @@ pub record IsLeastPair (g : Grammar) (states : List (List ℕ)) (t s x : ℕ) : 
   pub earlier : s < t
   pub least : (r y : ℕ) → IsGoto g states r y t → r < t → Before r y s x → ⊥
 
--- The LR(0) states: different item sets, the first that of productions 1 and 2 at their beginning, closed under goto.
--- Each later one has a least pair of an earlier state and a symbol of which it is the goto, and these pairs rise.
+-- The LR(0) states: different item sets, the first that of productions 1 and 2 at their beginning,
+-- closed under goto. Each later one has a least pair of an earlier state and a symbol of which it
+-- is the goto, and these pairs rise.
 pub record IsStates (g : Grammar) (states : List (List ℕ)) : Type 0 where
   pub first : List ℕ
   pub first_at : slice_get states 0 ≡ Some first
@@ -64,7 +68,8 @@ pub data First (g : Grammar) (t : ℕ) : ℕ → Type 0 where
   itself : First g t t
   derived : (x i y : ℕ) → begun g i ≡ Some x → after g i ≡ Some y → First g t y → First g t x
 
--- The terminal t is a lookahead of the item in the state: a chain of propagations leads to it from a spontaneous one.
+-- The terminal t is a lookahead of the item in the state: a chain of propagations leads to it from
+-- a spontaneous one.
 pub data Lookahead (g : Grammar) (states : List (List ℕ)) (t : ℕ) : ℕ → ℕ → Type 0 where
   spontaneous : (s i j x y : ℕ) (kernel : List ℕ) → slice_get states s ≡ Some kernel → Closure g kernel i
       → after g i ≡ Some x → after g (i + 1) ≡ Some y → First g t y → begun g j ≡ Some x → Lookahead g states t s j
@@ -79,7 +84,8 @@ pub record CanReduce (g : Grammar) (states : List (List ℕ)) (s t p : ℕ) : Ty
   pub ends : Ends g item p
   pub ahead : Lookahead g states t s item
 
--- What is done in state s at terminal t: a shift is preferred to a reduction, and a lower production to a higher one.
+-- What is done in state s at terminal t: a shift is preferred to a reduction, and a lower
+-- production to a higher one.
 pub data IsAction (g : Grammar) (states : List (List ℕ)) (s t : ℕ) : Option Action → Type 0 where
   shifts : (r : ℕ) → IsGoto g states s t r → IsAction g states s t (Some (Shift r))
   reduces : (p : ℕ) → ((r : ℕ) → IsGoto g states s t r → ⊥) → CanReduce g states s t p
@@ -106,15 +112,16 @@ pub record IsOrderedBy {A : Type 0} (precedes : A → A → Type 0) (xs : List A
 abbrev pub InOrder : List Conflict → Type 0
 InOrder conflicts = IsOrderedBy ConflictBefore conflicts
 
--- tables as values: the states, the action in a state at a terminal, the goto of a state by a nonterminal, the conflicts
+-- tables as values: the states, the action in a state at a terminal, the goto of a state by a
+-- nonterminal, the conflicts
 pub record Tables : Type 0 where
   pub states : List (List ℕ)
   pub action : ℕ → ℕ → Option Action
   pub goto : ℕ → ℕ → Option ℕ
   pub conflicts : List Conflict
 
--- These are the LALR(1) tables of the grammar: with its states, numbered as they are found, each action, goto and
--- conflict of theirs and no other, the conflicts in order.
+-- These are the LALR(1) tables of the grammar: with its states, numbered as they are found, each
+-- action, goto and conflict of theirs and no other, the conflicts in order.
 pub record AreTables (g : Grammar) (tables : Tables) : Type 0 where
   pub are_states : IsStates g tables.states
   pub action : (s t : ℕ) → t < g.terminals → IsAction g tables.states s t (tables.action s t)

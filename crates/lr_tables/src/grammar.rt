@@ -32,7 +32,8 @@ pub enum Mark {
     BindTypedef,
 }
 
-/// One entry of a grammar: the left side of a production, or the next symbol of the right side that follows it.
+/// One entry of a grammar: the left side of a production, or the next symbol of the right side that
+/// follows it.
 #[derive(Clone, Copy, Debug, PartialEq, Eq)]
 pub enum Entry {
     /// A production begins. Its reduction may do something to the scopes.
@@ -40,8 +41,8 @@ pub enum Entry {
     Right(Symbol),
 }
 
-/// A grammar, its productions one after the other. They are numbered from 1, and 1 and 2 are those of the symbol that a
-/// whole text is derived from.
+/// A grammar, its productions one after the other. They are numbered from 1, and 1 and 2 are those
+/// of the symbol that a whole text is derived from.
 #[derive(Clone, Copy, Debug)]
 pub struct Grammar {
     pub terminals: usize,

@@ -51,7 +51,8 @@ asked_by (Some p) =
     if bytes_eq p.0 (codes "tokens") then asked_tokens p.1
     else if bytes_eq p.0 (codes "conflicts") then Ok conflicts else Err usage
 
--- What the words ask for, given their faults. Words with a fault, as those that ask for help, are no use of the command.
+-- What the words ask for, given their faults. Words with a fault, as those that ask for help, are
+-- no use of the command.
 abbrev pub asked_where : Kinds → List Text → Result Asked Misuse
 asked_where [] words = asked_by (subcommand_of superc_app words)
 asked_where (fault ∷ faults) words = Err usage

@@ -4,7 +4,8 @@ ghost use Rattle.clap.specs.Words.{fault_of};
 ghost use Rattle.sc_args.specs.Laws.{IsPlainWord};
 ghost use Rattle.sc_args.specs.Words.{asked_of, bad_file, conflicts, is_file_name, superc_app, tokens, usage};
 
-/// Both commands are taken, whatever the program's name is. A word that begins with a hyphen may be a flag.
+/// Both commands are taken, whatever the program's name is. A word that begins with a hyphen may be
+/// a flag.
 pub fn commands_are_taken()
     ensures tokens { (program space file : List ℕ) → IsPlainWord space → IsPlainWord file
         → asked_of (program ∷ codes "tokens" ∷ space ∷ file ∷ [])

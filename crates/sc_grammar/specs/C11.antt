@@ -1,5 +1,6 @@
--- The grammar of C11 (annex A.2): its terminals and nonterminals in order, and its productions with what each reduction
--- does to the scopes. An empty right side is never used: each optional part is written out.
+-- The grammar of C11 (annex A.2): its terminals and nonterminals in order, and its productions with
+-- what each reduction does to the scopes. An empty right side is never used: each optional part is
+-- written out.
 use Rattle.std.specs.Prelude.{ℕ, List, [], ◌∷◌, Some, None}
 use Rattle.lr_tables.specs.Grammar.{Production}
 use Rattle.lr_tables.specs.declared.grammar.Symbol.{Symbol}

@@ -9,7 +9,8 @@ abbrev pub rises_at : ℕ → List Symbol → Bool
 rises_at left (Nonterminal n ∷ []) = nat_lt left n.0
 rises_at left rest = true
 
--- where one nonterminal is the whole right side, it stands later in the order of the nonterminals than the left side
+-- where one nonterminal is the whole right side, it stands later in the order of the nonterminals
+-- than the left side
 abbrev pub rises_along_units : List Production → Bool
 rises_along_units ps = list_all (λ (p : Production). rises_at p.left p.right) ps
 

@@ -1,5 +1,5 @@
--- How the terminals are written, in the order of their numbers: keywords (6.4.1) and punctuators (6.4.6) as they are spelled,
--- and by their names those that have no spelling of their own.
+-- How the terminals are written, in the order of their numbers: keywords (6.4.1) and punctuators
+-- (6.4.6) as they are spelled, and by their names those that have no spelling of their own.
 use Rattle.std.specs.Prelude.{ℕ, List, [], ◌∷◌, codes}
 
 unfoldable pub terminal_names : List (List ℕ)

@@ -29,8 +29,9 @@ macro_rules! productions {
     };
 }
 
-/// The productions, each alternative one, with what its reduction does to the scopes. The number before a nonterminal is
-/// that of its first alternative. A terminal stands after `t`, a nonterminal after `n`.
+/// The productions, each alternative one, with what its reduction does to the scopes. The number
+/// before a nonterminal is that of its first alternative. A terminal stands after `t`, a
+/// nonterminal after `n`.
 pub const C11: Grammar = Grammar {
     terminals: TERMINALS,
     nonterminals: NONTERMINALS,

@@ -1,6 +1,6 @@
-//! The terminals of C11, in the order of their numbers: names and constants, the keywords (6.4.1), the punctuators
-//! (6.4.6) without `#` and `##`, and the end of the text. An identifier is NAME, followed by TYPE where it is a typedef
-//! name and by VARIABLE where it isn't.
+//! The terminals of C11, in the order of their numbers: names and constants, the keywords (6.4.1),
+//! the punctuators (6.4.6) without `#` and `##`, and the end of the text. An identifier is NAME,
+//! followed by TYPE where it is a typedef name and by VARIABLE where it isn't.
 ghost use Rattle.std.specs.Prelude.{◌≡◌, ◌<◌, map, slice_get, Some};
 ghost use Rattle.std.specs.List.{range_with_len};
 ghost use Rattle.sc_grammar.specs.Terminals.{terminal_names};

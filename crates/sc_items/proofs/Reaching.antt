@@ -67,7 +67,8 @@ pub Marks-more_mark : (old new new' : List Bool) (waiting now now' xs : List ℕ
 Marks-more_mark old new new' waiting now now' xs k h within e f node_in is =
     rw (e, f, take_more xs k 0 within) (Marks-mark old new waiting now (take k xs) (get_or xs k 0) h node_in is)
 
--- The marks of a search: the nodes that wait are marked, and each other marked node has its neighbours marked.
+-- The marks of a search: the nodes that wait are marked, and each other marked node has its
+-- neighbours marked.
 pub record Progress (edges : List (Vec ℕ Global)) (starts : List ℕ) (marks : List Bool) (waiting : List ℕ) : Type 0 where
   pub long : length marks ≡ length edges
   pub sound : (v : ℕ) → IsTrue (marked marks v) → Reaches edges starts v

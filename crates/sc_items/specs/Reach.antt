@@ -27,7 +27,8 @@ pub record IsReached (edges : List (Vec ℕ Global)) (starts : List ℕ) (marks 
 pub record EdgesWithin (edges : List (Vec ℕ Global)) : Type 0 where
   pub within : All (λ row. All (λ node. node < length edges) row.items) edges
 
--- The nodes were marked, and those that were not marked before now wait behind the ones that waited.
+-- The nodes were marked, and those that were not marked before now wait behind the ones that
+-- waited.
 pub record Marks (old new : List Bool) (waiting now nodes : List ℕ) : Type 0 where
   pub long : length new ≡ length old
   pub kept : (v : ℕ) → IsTrue (marked old v) → IsTrue (marked new v)

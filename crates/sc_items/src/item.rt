@@ -1,4 +1,5 @@
-//! Items. An item is a production with a dot in its right side, and goes by the place of the entry before the dot.
+//! Items. An item is a production with a dot in its right side, and goes by the place of the entry
+//! before the dot.
 ghost use Rattle.std.specs.Prelude.{◌≡◌, ◌<◌, ◌≤◌, ◌+◌, length, IfSome, true};
 ghost use Rattle.lr_tables.specs.Grammar.{IsGrammar, after, begun, symbol_number, is_known, is_left, production_at};
 

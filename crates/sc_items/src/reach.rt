@@ -5,7 +5,8 @@ ghost use Rattle.sc_items.specs.Reach.{EdgesWithin, IsReached, Marks};
 use sc_base::OutOfMemory;
 use std::alloc::Global;
 
-/// Which nodes can be reached from the starts. Row `u` of `edges` has the nodes to which an edge leads from node `u`.
+/// Which nodes can be reached from the starts. Row `u` of `edges` has the nodes to which an edge
+/// leads from node `u`.
 pub fn reachable(
     alloc: Global,
     edges: &[Vec<usize>],

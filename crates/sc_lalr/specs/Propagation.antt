@@ -1,5 +1,5 @@
--- Lookaheads as nodes of a graph. Item i of state s has the place s * n + i, where n is the number of the items. The nodes
--- are the places whose items stand in the states, numbered from the least.
+-- Lookaheads as nodes of a graph. Item i of state s has the place s * n + i, where n is the number
+-- of the items. The nodes are the places whose items stand in the states, numbered from the least.
 use Rattle.std.specs.Prelude.{◌≡◌, ◌↔◌, ◌<◌, ◌≤◌, ◌+◌, ◌*◌, ◌/◌, ◌%◌, if◌then◌else◌, ℕ, Bool, IsTrue, List, [], ◌∷◌, length, slice_get, slice_index, map, Option, Some, None, Vec}
 use Rattle.std.specs.List.{Contains}
 use Rattle.std.specs.Option.{option_map_or}
@@ -23,7 +23,8 @@ pub record HasPlace (g : Grammar) (states : List (List ℕ)) (p : ℕ) : Type 0 
   pub at : IsPlace (length g.entries.now) p s i
   pub has : HasItem g states s i
 
--- the nodes are the places of the items that stand in the states, and each place has the number of its node
+-- the nodes are the places of the items that stand in the states, and each place has the number of
+-- its node
 pub record AreNodes (g : Grammar) (states : List (List ℕ)) (nodes : Nodes) : Type 0 where
   pub long : length nodes.numbers.items ≡ length states * length g.entries.now
   pub places : IsListOf (length states * length g.entries.now) (HasPlace g states) nodes.places.items
@@ -115,7 +116,8 @@ pub record AreLookaheads (g : Grammar) (states : List (List ℕ)) (nodes : Nodes
 abbrev pub row_at : List (Vec ℕ Global) → ℕ → List ℕ
 row_at rows i = option_map_or (λ (row : Vec ℕ Global). row.items) (slice_get rows i) []
 
--- the items that the item with this place opens, where a text that may follow there begins with the terminal of these marks
+-- the items that the item with this place opens, where a text that may follow there begins with the
+-- terminal of these marks
 abbrev pub seed_part : Grammar → List ℕ → List (Vec ℕ Global) → List Bool → ℕ → List ℕ
 seed_part g numbers opened begin p =
     option_map_or

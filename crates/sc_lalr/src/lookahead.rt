@@ -66,8 +66,8 @@ fn is_followed(grammar: &Grammar, item: usize) -> bool
     after(grammar, item + 1).is_some()
 }
 
-/// The nodes that get a terminal from the symbol behind the symbol after a dot. It is given by the symbols from which a text
-/// can be derived that begins with it.
+/// The nodes that get a terminal from the symbol behind the symbol after a dot. It is given by the
+/// symbols from which a text can be derived that begins with it.
 fn spontaneous(
     alloc: Global,
     grammar: &Grammar,
@@ -89,7 +89,8 @@ fn spontaneous(
     Ok(nodes)
 }
 
-/// Adds what the item with this place opens, where a text that may follow there begins with the terminal.
+/// Adds what the item with this place opens, where a text that may follow there begins with the
+/// terminal.
 fn seeded(
     nodes: &mut Vec<usize>,
     grammar: &Grammar,
