@@ -1,13 +1,11 @@
 -- Two tables of one grammar are equal.
 use Rattle.std.proofs.Common.{zero, suc, ◌≡◌, ◌<◌, ◌≤◌, ◌+◌, ◌⊎◌, ℕ, List, [], ◌∷◌, length, get_or, slice_get, Option, Some, None, MatchOption, inl, inr, refl, sym, ap, ◌∙◌, subst, arith}
-use Rattle.std.specs.List.{Contains}
 use Rattle.std.proofs.lemmas.List.Elements.{Contains-get_or}
 use Rattle.std.proofs.lemmas.Option.{same_Some, slice_get_within}
 use Rattle.std.proofs.lemmas.Bool.{cases_lt}
-use Rattle.lr_tables.specs.Tables.{AreSame, AreTables, CanReduce, ConflictBefore, IsAction, IsConflict, IsGoto, IsLeastPair, IsStates, Moved, NoGoto, Tables, Before, shifts, reduces, none}
+use Rattle.lr_tables.specs.Tables.{AreSame, AreTables, ConflictBefore, IsAction, IsConflict, IsGoto, IsLeastPair, IsStates, Moved, NoGoto, Tables, Before, shifts, reduces, none}
 use Rattle.lr_tables.specs.declared.grammar.Action.{Action}
 use Rattle.lr_tables.specs.declared.grammar.Action.TheVariants.{Shift, Reduce}
-use Rattle.lr_tables.specs.declared.grammar.Conflict.{Conflict}
 use Rattle.lr_tables.specs.declared.grammar.Grammar.{Grammar}
 use Rattle.lr_tables.proofs.Members.{ordered_same, rising_same, slice_some}
 use Rattle.lr_tables.proofs.Pairs.{before_cycle, before_or_not, conflict_cycle}

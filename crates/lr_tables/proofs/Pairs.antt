@@ -1,5 +1,5 @@
 -- The order of the pairs of a state and a symbol, and of conflicts.
-use Rattle.std.proofs.Common.{◌≡◌, ◌<◌, ◌≤◌, ◌⊎◌, ℕ, inl, inr, sym, ◌∙◌, arith}
+use Rattle.std.proofs.Common.{◌<◌, ◌≤◌, ◌⊎◌, ℕ, inl, inr, arith}
 use Rattle.std.proofs.lemmas.Bool.{cases_lt}
 use Rattle.lr_tables.specs.Tables.{Before, ConflictBefore}
 use Rattle.lr_tables.specs.declared.grammar.Conflict.{Conflict}

@@ -1,6 +1,6 @@
 -- Words without a fault name `tokens` with both its words, or `conflicts`.
 use Rattle.std.proofs.Common.{◌≡◌, ◌∙◌, ap, sym, subst, refl, [], ◌∷◌, ◌++◌, codes, ℕ, List, length, true, false, ◌&&◌, ◌||◌, inl, inr}
-use Rattle.std.specs.Prelude.{◌⊎◌, ◌≢◌, Option, Some, None, Result, Ok, Err, if◌then◌else◌, Bool, is_some, not, fold, option_map, find, cond, unwrap_or}
+use Rattle.std.specs.Prelude.{◌⊎◌, ◌≢◌, Option, Some, None, Ok, Err, if◌then◌else◌, Bool, is_some, not, fold, option_map, find, cond, unwrap_or}
 use Rattle.std.specs.Option.{option_map_or}
 use Rattle.std.specs.Str.{bytes_eq}
 use Rattle.std.proofs.Math.Bool.{or-false}
@@ -17,7 +17,7 @@ use Rattle.sc_args.proofs.Steps.{IsFaultless, both, level_steps, not_empty}
 use Rattle.clap.specs.Takes.{is_given}
 use Rattle.clap.specs.declared.parser.matches.ValueSource.TheVariants.{CommandLine}
 use Rattle.sc_args.proofs.Values.{AllUsable, IsUsable, finished_is_full, is_full, text_of_given, used_is_full, walk_is_full}
-use Rattle.sc_args.specs.Words.{Asked, Misuse, asked_by, asked_of, asked_where, asked_with, bad_file, conflicts, conflicts_app, is_file_name, required_rule, superc_app, tokens, tokens_app, usage}
+use Rattle.sc_args.specs.Words.{Asked, asked_by, asked_of, asked_where, asked_with, bad_file, conflicts, conflicts_app, is_file_name, required_rule, superc_app, tokens, tokens_app, usage}
 
 abbrev has_text : Text → List Row → Bool
 has_text id rows = is_some (first_of id rows)

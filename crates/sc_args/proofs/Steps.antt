@@ -1,5 +1,5 @@
 -- Steps that may fail, of which none does.
-use Rattle.std.proofs.Common.{◌≡◌, ◌∙◌, ap, refl, [], ◌∷◌, length, arith, List}
+use Rattle.std.proofs.Common.{◌≡◌, ap, refl, [], ◌∷◌, length, arith, List}
 use Rattle.std.specs.Prelude.{Bool}
 use Rattle.clap.specs.Faults.{check_fault, defaults_fault, level_fault, settle_fault, walk_fault}
 use Rattle.clap.specs.Simple.{Shape}
