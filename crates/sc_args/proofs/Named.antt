@@ -1,4 +1,4 @@
--- Words without a fault name `tokens` with both its words, or `conflicts`.
+-- Words without an error name `tokens` with both its words, or `conflicts`.
 use Rattle.std.proofs.Common.{◌≡◌, ◌∙◌, ap, sym, subst, refl, [], ◌∷◌, ◌++◌, codes, ℕ, List, length, true, false, ◌&&◌, ◌||◌, inl, inr}
 use Rattle.std.specs.Prelude.{◌⊎◌, ◌≢◌, Option, Some, None, Ok, Err, if◌then◌else◌, Bool, is_some, not, fold, option_map, find, cond, unwrap_or}
 use Rattle.std.specs.Option.{option_map_or}
@@ -284,7 +284,7 @@ named_is_asked (Some p) (inl t) = subst (λ name. asked_by (Some (name, p.1)) �
     (both_asked (first_of (codes "space") p.1) (first_of (codes "file") p.1) t.1 t.2)
 named_is_asked (Some p) (inr t) = subst (λ name. asked_by (Some (name, p.1)) ≢ Err usage) (sym t) (λ e. asked_no_misuse conflicts e)
 
-pub faultless_words_are_asked : (words : List Text) → fault_of superc_app words ≡ [] → asked_of words ≢ Err usage
+pub taken_words_are_no_misuse : (words : List Text) → fault_of superc_app words ≡ [] → asked_of words ≢ Err usage
 unfolding asked_of
-faultless_words_are_asked words e = subst (λ kinds. asked_where kinds words ≢ Err usage) (sym e)
+taken_words_are_no_misuse words e = subst (λ kinds. asked_where kinds words ≢ Err usage) (sym e)
     (named_is_asked (subcommand_of superc_app words) (faultless_words_name_a_command words e))

@@ -1,4 +1,4 @@
--- What the words of a call ask for. `clap` says which faults words have, and what it finds in them.
+-- What the words of a call ask for. `clap` says which errors words have, and what it finds in them.
 use Rattle.std.specs.Prelude.{◌&&◌, ◌==◌, ℕ, Bool, true, not, List, [], ◌∷◌, length, Option, Some, None, Result, Ok, Err, if◌then◌else◌, codes, nat_le}
 use Rattle.std.specs.List.{list_all}
 use Rattle.std.specs.Str.{bytes_eq}
@@ -51,11 +51,11 @@ asked_by (Some p) =
     if bytes_eq p.0 (codes "tokens") then asked_tokens p.1
     else if bytes_eq p.0 (codes "conflicts") then Ok conflicts else Err usage
 
--- What the words ask for, given their faults. Words with a fault, as those that ask for help, are
--- no use of the command.
+-- What the words ask for, given the kinds of their errors. Words with an error, as those that ask
+-- for help, are no use of the command.
 abbrev pub asked_where : Kinds → List Text → Result Asked Misuse
 asked_where [] words = asked_by (subcommand_of superc_app words)
-asked_where (fault ∷ faults) words = Err usage
+asked_where (k ∷ ks) words = Err usage
 
 -- What the words ask for, of which the first is the program's name.
 unfoldable pub asked_of : List Text → Result Asked Misuse

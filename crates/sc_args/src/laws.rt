@@ -13,8 +13,8 @@ pub fn commands_are_taken()
     ensures conflicts { (program : List ℕ) → asked_of (program ∷ codes "conflicts" ∷ []) ≡ Ok conflicts }
 {}
 
-/// Words in which `clap` finds no fault name one of the two commands, with all that it requires.
-pub fn faultless_words_name_a_command()
+/// Words in which `clap` finds no error name one of the two commands, with all that it requires.
+pub fn taken_words_name_a_command()
     ensures { (words : List (List ℕ)) → fault_of superc_app words ≡ [] → asked_of words ≢ Err usage }
 {}
 

@@ -7,5 +7,5 @@ mod laws;
 mod stop;
 
 pub use command::Command;
-pub use laws::{commands_are_taken, faultless_words_name_a_command, misuse_is_refused};
+pub use laws::{commands_are_taken, misuse_is_refused, taken_words_name_a_command};
 pub use stop::ArgsStop;
