@@ -5,6 +5,7 @@ use Rattle.std.proofs.lemmas.Bool.{and_parts, not-true}
 use Rattle.std.proofs.lemmas.List.{map-append, take_more}
 use Rattle.std.proofs.lemmas.List.Elements.{Contains-get_or, All-cons}
 use Rattle.std.proofs.lemmas.List.Folds.{concat-append}
+use Rattle.sc_grammar.specs.declared.TheConstants.{TERMINALS}
 use Rattle.sc_grammar.specs.Terminals.{terminal_names}
 use Rattle.sc_lalr.specs.declared.tables.Tables.{Tables}
 use Rattle.sc_lalr.specs.Tables.{AreTables, conflicts_of}
@@ -20,7 +21,7 @@ use Rattle.sc_show.specs.Pieces.{IsLine}
 use Rattle.sc_show.proofs.Pieces.{has_newline, is_line, newline-append, numeral_one_line, line_text_is_line}
 
 -- the conflicts of the tables of a grammar with no more terminals than have names
-pub are_named : {g : Grammar} {tables : Tables} → AreTables g tables → g.terminals ≤ 96 → All IsNamed (conflicts_of tables)
+pub are_named : {g : Grammar} {tables : Tables} → AreTables g tables → g.terminals ≤ TERMINALS → All IsNamed (conflicts_of tables)
 are_named {g} {tables} are few = λ k d h.
     let is = (are.exact.conflict (get_or (conflicts_of tables) k d)).0 (Contains-get_or (conflicts_of tables) k d h) in
     record { terminal = let t = is.terminal in omega arith }

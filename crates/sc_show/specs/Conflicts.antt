@@ -1,5 +1,6 @@
 -- The text of the conflicts of tables.
 use Rattle.std.specs.Prelude.{ℕ, ◌<◌, List, [], ◌∷◌, ◌++◌, map, codes}
+use Rattle.sc_grammar.specs.declared.TheConstants.{TERMINALS}
 use Rattle.sc_grammar.specs.Terminals.{terminal_names}
 use Rattle.sc_base.specs.Seen.{text_at}
 use Rattle.lr_tables.specs.declared.grammar.Action.{Action}
@@ -9,7 +10,7 @@ use Rattle.sc_text.specs.Text.{numeral, line_text, end_line}
 
 -- the terminal of the conflict has a name
 pub record IsNamed (c : Conflict) : Type 0 where
-  pub terminal : c.terminal.0 < 96
+  pub terminal : c.terminal.0 < TERMINALS
 
 -- what was kept: a shift, or the reduction by a production
 abbrev pub action_text : Action → List ℕ

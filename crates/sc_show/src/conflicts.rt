@@ -8,7 +8,7 @@ ghost use Rattle.sc_show.specs.Pieces.{split_lines_after};
 use crate::lines::{write_end, write_number};
 use lr_tables::{Action, Conflict};
 use sc_base::OutOfMemory;
-use sc_grammar::terminal_name;
+use sc_grammar::{TERMINALS, terminal_name};
 use sc_lalr::Tables;
 use std::alloc::Global;
 
@@ -26,7 +26,7 @@ fn write_action(text: &mut Vec<u8>, action: Action) -> Result<(), OutOfMemory>
 }
 
 fn write_conflict(text: &mut Vec<u8>, conflict: &Conflict) -> Result<(), OutOfMemory>
-    requires { conflict.now.terminal.0 < 96 }
+    requires { conflict.now.terminal.0 < TERMINALS }
     ensures { OnOk result (text.new.items ≡ text.old.items ++ conflict_text conflict.now) }
 {
     text.extend_from_slice(b"k ")?;
