@@ -2,13 +2,17 @@
 use Rattle.std.proofs.Common.{◌≡◌, inl, inr, ℕ, ◌<◌, not, Bool, true, false, List, [], ◌∷◌, ◌++◌, length, map, Option, Some, None, is_some, Result, Ok, Err, refl, sym, ap, ◌∙◌, subst, arith}
 use Rattle.std.proofs.lemmas.Bool.{cases_lt}
 use Rattle.sc_model.specs.declared.cause.Cause.TheVariants.{NotFound, FileTooLarge, UnterminatedComment, BadNesting, BadDirective}
-use Rattle.c11_directives.specs.declared.conditional.Conditional.{Conditional}
-use Rattle.c11_directives.specs.declared.conditional.Conditional.TheVariants.{Ifdef, Ifndef}
+use Rattle.c11_directives.specs.declared.directive.Conditional.{Conditional}
+use Rattle.c11_directives.specs.declared.directive.Conditional.TheVariants.{Ifdef, Ifndef}
+use Rattle.c11_directives.specs.declared.directive.Directive.{Directive}
+use Rattle.c11_directives.specs.declared.directive.Directive.TheVariants as directive
+use Rattle.std.specs.Option.{option_map}
+use Rattle.std.specs.Prelude.{◌||◌, unwrap_or}
 use Rattle.c11_tokens.specs.Lex.{Lexed}
-use Rattle.c11_directives.specs.Lines.{Line, lines_of, is_directive, conditional_of, Group, Branches, empty, plain, section, closing, otherwise, alternative, Tree}
+use Rattle.c11_directives.specs.Lines.{Line, lines_of, hash_of, conditional_of, Group, Branches, empty, plain, section, closing, otherwise, alternative, Tree}
 use Rattle.sc_model.specs.Outside.{Files}
 use Rattle.sc_model.specs.Fault.{Fault, first_place, fault_at}
-use Rattle.c11_directives.specs.Pre.{State, Becomes, unexpanded, Closes, closed, refused, RefusedAt, operand_of, Decides, if_defined, if_undefined, no_name, expression, is_null, is_named, ignored_names, Steps, text, null, stopped, ignored, unknown, Walks, done, line, line_stops, taken, taken_stops, passed, passed_stops, head_stops, WalksBranches, none_taken, last_taken, later_taken, later_passed, later_stops, largest_file, Enters, output_of, Pre}
+use Rattle.c11_directives.specs.Pre.{Context, context_of, State, place_in, put_out, Becomes, unexpanded, Closes, closed, refused, RefusedAt, operand_of, Decides, if_defined, if_undefined, no_name, expression, is_ignored, is_refused, Steps, text, null, stopped, ignored, unknown, Walks, done, line, line_stops, taken, taken_stops, passed, passed_stops, head_stops, WalksBranches, none_taken, last_taken, later_taken, later_passed, later_stops, largest_file, File, Searches, inside, file_lines, Enters, Includes, output_of, Pre}
 use Rattle.sc_model.specs.Space.{Space}
 use Rattle.c11_macros.specs.Macros.{Macros}
 use Rattle.sc_model.specs.Token.{Position, Place, Token, in_file}
@@ -49,169 +53,218 @@ same fault = fault
 becomes-is : {macros : Macros} {run : List Token} {r : Result (List Token) Fault} → Becomes macros run r → r ≡ Ok run
 becomes-is unexpanded = refl
 
--- the state after a barrier
-abbrev barred : State → List Token → State
-barred s output = record { macros = s.macros; run = []; output = s.output ++ output; depth = s.depth }
-
 closes-sole : {s : State} {r : Result State Fault} → Closes s r → Sole (Closes s) r
 closes-sole {s} (closed output b) _ (closed output' b') =
     let oks : Ok output ≡ Ok output' = becomes-is b ∙ sym (becomes-is b') in
     let one : output ≡ output' = cc in
-    ap (λ ts. Ok (barred s ts)) one
+    ap (λ ts. Ok (put_out s ts)) one
 closes-sole (closed output b) _ (refused fault b') = let first = becomes-is b in let second = becomes-is b' in cc
 closes-sole (refused fault b) _ (closed output b') = let first = becomes-is b in let second = becomes-is b' in cc
 closes-sole (refused fault b) _ (refused fault' b') = let first = becomes-is b in let second = becomes-is b' in cc
 
 -- the refusal of a directive, which has a first token
-abbrev refusal : Line → Fault
-refusal [] = fault_at BadDirective (first_place [])
-refusal (t ∷ ts) = fault_at BadDirective t.place
+abbrev refusal : State → Line → Fault
+refusal s l = fault_at BadDirective (unwrap_or (option_map (place_in s) (hash_of l)) (first_place []))
 
-refused-is : {l : Line} {fault : Fault} → RefusedAt l BadDirective fault → fault ≡ refusal l
-refused-is {l = []} at = let none = at.place_is in cc
-refused-is {l = t ∷ ts} {fault = fault} at =
-    let places : Some t.place ≡ Some fault.place = at.place_is in
-    let place : fault.place ≡ t.place = cc in
+refused-is : {s : State} {l : Line} {fault : Fault} → RefusedAt s l BadDirective fault → fault ≡ refusal s l
+refused-is {s} {l} {fault} at =
+    let place : fault.place ≡ (refusal s l).place = sym (ap (λ o. unwrap_or o (first_place [])) at.place_is) in
     λ i. record { cause = at.cause_is i; place = place i }
 
 -- what a conditional directive with an operand decides
-abbrev decision : Macros → Line → Option Conditional → Option (List ℕ) → Result Bool Fault
-decision macros l (Some Ifdef) (Some name) = Ok (is_some (macros name))
-decision macros l (Some Ifndef) (Some name) = Ok (not (is_some (macros name)))
-decision macros l _ _ = Err (refusal l)
-
-decides-is : {macros : Macros} {l : Line} {r : Result Bool Fault} → Decides macros l r → r ≡ decision macros l (conditional_of l) (operand_of l)
-decides-is (if_defined name named operand) = rw (named, operand) refl
-decides-is (if_undefined name named operand) = rw (named, operand) refl
-decides-is (no_name fault (inl named) operand at) = rw (named, operand) (ap Err (refused-is at))
-decides-is (no_name fault (inr named) operand at) = rw (named, operand) (ap Err (refused-is at))
-decides-is (expression fault (inl named) at) = rw named (ap Err (refused-is at))
-decides-is (expression fault (inr named) at) = rw named (ap Err (refused-is at))
-
-decides-sole : {macros : Macros} {l : Line} {r : Result Bool Fault} → Decides macros l r → Sole (Decides macros l) r
-decides-sole d s e = decides-is d ∙ sym (decides-is e)
+abbrev decision : State → Line → Option Conditional → Option (List ℕ) → Result Bool Fault
+decision s l (Some Ifdef) (Some name) = Ok (is_some (s.macros name))
+decision s l (Some Ifndef) (Some name) = Ok (not (is_some (s.macros name)))
+decision s l _ _ = Err (refusal s l)
 
 -- what an ignored directive, or another, is after its barrier
 abbrev after_barrier : Line → Bool → State → Result State Fault
 after_barrier l true s = Ok s
-after_barrier l false s = Err (refusal l)
+after_barrier l false s = Err (refusal s l)
 
--- what a line does that is a directive or not, and null or not
+-- a directive is null, ignored or refused, but for the conditional ones
+abbrev is_null : Directive → Bool
+is_null directive.Null = true
+is_null _ = false
+
+ignored-null : (d : Directive) → is_ignored d ≡ true → is_null d ≡ false
+ignored-null (directive.Conditional c) e = refl
+ignored-null directive.Include e = refl
+ignored-null directive.Define e = refl
+ignored-null directive.Undef e = refl
+ignored-null directive.Line e = refl
+ignored-null directive.Error e = refl
+ignored-null directive.Pragma e = refl
+ignored-null directive.Warning e = refl
+ignored-null directive.Null e = cc
+ignored-null directive.Unknown e = refl
+
+refused-null : (d : Directive) → is_refused d ≡ true → (is_null d ≡ false) × (is_ignored d ≡ false)
+refused-null (directive.Conditional c) e = cc
+refused-null directive.Include e = (refl, refl)
+refused-null directive.Define e = (refl, refl)
+refused-null directive.Undef e = (refl, refl)
+refused-null directive.Line e = (refl, refl)
+refused-null directive.Error e = (refl, refl)
+refused-null directive.Pragma e = cc
+refused-null directive.Warning e = cc
+refused-null directive.Null e = cc
+refused-null directive.Unknown e = (refl, refl)
+
+barrier-null : (d : Directive) → (b : Bool) → is_ignored d ≡ b → (b || is_refused d) ≡ true → is_null d ≡ false
+barrier-null d true i e = ignored-null d i
+barrier-null d false i e = (refused-null d e).0
+
+-- what a directive does that is null or not
 abbrev Does : Line → State → Bool → Bool → Result State Fault → Type 0
-Does l s false b r = r ≡ Ok (record { macros = s.macros; run = s.run ++ l; output = s.output; depth = s.depth })
-Does l s true true r = r ≡ Ok s
-Does l s true false r = Then same (Closes s) (λ t q. q ≡ after_barrier l (is_named ignored_names l) t) r
+Does l s true b r = r ≡ Ok s
+Does l s false b r = Then same (Closes s) (λ t q. q ≡ after_barrier l b t) r
+
+-- what a line does
+abbrev DoesLine : Line → State → Option Directive → Result State Fault → Type 0
+DoesLine l s None r = r ≡ Ok (record s { run = s.run ++ l.tokens })
+DoesLine l s (Some d) r = Does l s (is_null d) (is_ignored d) r
 
 does-sole : (l : Line) (s : State) (a b : Bool) (r : Result State Fault) → Does l s a b r → Sole (Does l s a b) r
-does-sole l s false b r d q e = d ∙ sym e
-does-sole l s true true r d q e = d ∙ sym e
-does-sole l s true false r d q e = then-unique (λ _. closes-sole) (λ _ _ f _ g. f ∙ sym g) d q e
+does-sole l s true b r d q e = d ∙ sym e
+does-sole l s false b r d q e = then-unique (λ _. closes-sole) (λ _ _ f _ g. f ∙ sym g) d q e
 
-steps-does : {l : Line} {s : State} {r : Result State Fault} → Steps l s r → Does l s (is_directive l) (is_null l) r
-steps-does (text e) = rw e refl
-steps-does (null e n) = rw (e, n) refl
-steps-does (stopped fault e n c) = rw (e, n) (stops fault c)
-steps-does {l} (ignored t e n named c) = rw (e, n) (goes t c (ap (λ b. after_barrier l b t) (sym named)))
-steps-does {l} (unknown t fault e n named c at) = rw (e, n) (goes t c (ap Err (refused-is at) ∙ ap (λ b. after_barrier l b t) (sym named)))
-
-steps-sole : {l : Line} {s : State} {r : Result State Fault} → Steps l s r → Sole (Steps l s) r
-steps-sole {l} {s} {r} d q e = does-sole l s (is_directive l) (is_null l) r (steps-does d) q (steps-does e)
+line-sole : (l : Line) (s : State) (d : Option Directive) (r : Result State Fault) → DoesLine l s d r → Sole (DoesLine l s d) r
+line-sole l s None r d q e = d ∙ sym e
+line-sole l s (Some d) r does q e = does-sole l s (is_null d) (is_ignored d) r does q e
 
 -- what is walked of a section whose first group is taken or not
-abbrev Taken : Group → Branches → State → Bool → Result State Fault → Type 0
-Taken g bs s true = Walks g s
-Taken g bs s false = WalksBranches bs s
+abbrev Taken : Context → Group → Branches → State → Bool → Result State Fault → Type 0
+Taken x g bs s true = Walks x g s
+Taken x g bs s false = WalksBranches x bs s
 
-walks-plain : {l : Line} {rest : Group} {s : State} {r : Result State Fault} → Walks (plain l rest) s r → Then same (Steps l s) (Walks rest) r
-walks-plain (line t d w) = goes t d w
-walks-plain (line_stops fault d) = stops fault d
+module _ {x : Context} where
+  decides-is : {s : State} {l : Line} {r : Result Bool Fault} → Decides x s l r → r ≡ decision s l (conditional_of l) (operand_of l)
+  decides-is (if_defined name named operand) = rw (named, operand) refl
+  decides-is (if_undefined name named operand) = rw (named, operand) refl
+  decides-is (no_name fault (inl named) operand at) = rw (named, operand) (ap Err (refused-is at))
+  decides-is (no_name fault (inr named) operand at) = rw (named, operand) (ap Err (refused-is at))
+  decides-is (expression fault (inl named) at) = rw named (ap Err (refused-is at))
+  decides-is (expression fault (inr named) at) = rw named (ap Err (refused-is at))
 
-walks-section : {head : Line} {g : Group} {bs : Branches} {rest : Group} {s : State} {r : Result State Fault}
-    → Walks (section head g bs rest) s r → Then same (Decides s.macros head) (λ b. Then same (Taken g bs s b) (Walks rest)) r
-walks-section (taken t d w v) = goes true d (goes t w v)
-walks-section (taken_stops fault d w) = goes true d (stops fault w)
-walks-section (passed t d w v) = goes false d (goes t w v)
-walks-section (passed_stops fault d w) = goes false d (stops fault w)
-walks-section (head_stops fault d) = stops fault d
+  decides-sole : {s : State} {l : Line} {r : Result Bool Fault} → Decides x s l r → Sole (Decides x s l) r
+  decides-sole d s e = decides-is d ∙ sym (decides-is e)
 
-walks-otherwise : {head end : Line} {g : Group} {s : State} {r : Result State Fault} → WalksBranches (otherwise head g end) s r → Walks g s r
-walks-otherwise (last_taken w) = w
+  steps-does : {l : Line} {s : State} {r : Result State Fault} → Steps x l s r → DoesLine l s l.directive r
+  steps-does (text e) = rw e refl
+  steps-does (null e) = rw e refl
+  steps-does {l} {s} (stopped d fault e b c) =
+      rw e (subst (λ n. Does l s n (is_ignored d) (Err fault)) (sym (barrier-null d (is_ignored d) refl b)) (stops fault c))
+  steps-does {l} {s} (ignored d t e i c) =
+      rw e (subst (λ n. Does l s n (is_ignored d) (Ok t)) (sym (ignored-null d i)) (goes t c (ap (λ b. after_barrier l b t) (sym i))))
+  steps-does {l} {s} (unknown d t fault e u c at) =
+      let no = refused-null d u in
+      rw e (subst (λ n. Does l s n (is_ignored d) (Err fault)) (sym no.0) (goes t c (ap Err (refused-is at) ∙ ap (λ b. after_barrier l b t) (sym no.1))))
 
-walks-alternative : {head : Line} {g : Group} {bs : Branches} {s : State} {r : Result State Fault}
-    → WalksBranches (alternative head g bs) s r → Then same (Decides s.macros head) (Taken g bs s) r
-walks-alternative (later_taken d w) = goes true d w
-walks-alternative (later_passed d w) = goes false d w
-walks-alternative (later_stops fault d) = stops fault d
+  steps-sole : {l : Line} {s : State} {r : Result State Fault} → Steps x l s r → Sole (Steps x l s) r
+  steps-sole {l} {s} {r} d q e = line-sole l s l.directive r (steps-does d) q (steps-does e)
 
-walks-empty : {s : State} {r : Result State Fault} → Walks empty s r → Ok s ≡ r
-walks-empty done = refl
+  walks-plain : {l : Line} {rest : Group} {s : State} {r : Result State Fault} → Walks x (plain l rest) s r → Then same (Steps x l s) (Walks x rest) r
+  walks-plain (line t d w) = goes t d w
+  walks-plain (line_stops fault d) = stops fault d
 
-walks-closing : {l : Line} {s : State} {r : Result State Fault} → WalksBranches (closing l) s r → Ok s ≡ r
-walks-closing none_taken = refl
+  walks-section : {head : Line} {g : Group} {bs : Branches} {rest : Group} {s : State} {r : Result State Fault}
+      → Walks x (section head g bs rest) s r → Then same (Decides x s head) (λ b. Then same (Taken x g bs s b) (Walks x rest)) r
+  walks-section (taken t d w v) = goes true d (goes t w v)
+  walks-section (taken_stops fault d w) = goes true d (stops fault w)
+  walks-section (passed t d w v) = goes false d (goes t w v)
+  walks-section (passed_stops fault d w) = goes false d (stops fault w)
+  walks-section (head_stops fault d) = stops fault d
 
-mutual
-  walks-sole : {g : Group} {s : State} {r : Result State Fault} → Walks g s r → Sole (Walks g s) r
-  walks-sole done s v = walks-empty v
-  walks-sole (line t d w) s v = goes-sole (steps-sole d) (walks-sole w) s (walks-plain v)
-  walks-sole (line_stops fault d) s v = stops-sole (steps-sole d) s (walks-plain v)
-  walks-sole (taken t d w u) s v = goes-sole (decides-sole d) (goes-sole (walks-sole w) (walks-sole u)) s (walks-section v)
-  walks-sole (taken_stops fault d w) s v = goes-sole (decides-sole d) (stops-sole (walks-sole w)) s (walks-section v)
-  walks-sole (passed t d w u) s v = goes-sole (decides-sole d) (goes-sole (branches-sole w) (walks-sole u)) s (walks-section v)
-  walks-sole (passed_stops fault d w) s v = goes-sole (decides-sole d) (stops-sole (branches-sole w)) s (walks-section v)
-  walks-sole (head_stops fault d) s v = stops-sole (decides-sole d) s (walks-section v)
+  walks-otherwise : {head end : Line} {g : Group} {s : State} {r : Result State Fault} → WalksBranches x (otherwise head g end) s r → Walks x g s r
+  walks-otherwise (last_taken w) = w
 
-  branches-sole : {bs : Branches} {s : State} {r : Result State Fault} → WalksBranches bs s r → Sole (WalksBranches bs s) r
-  branches-sole none_taken s v = walks-closing v
-  branches-sole (last_taken w) s v = walks-sole w s (walks-otherwise v)
-  branches-sole (later_taken d w) s v = goes-sole (decides-sole d) (walks-sole w) s (walks-alternative v)
-  branches-sole (later_passed d w) s v = goes-sole (decides-sole d) (branches-sole w) s (walks-alternative v)
-  branches-sole (later_stops fault d) s v = stops-sole (decides-sole d) s (walks-alternative v)
+  walks-alternative : {head : Line} {g : Group} {bs : Branches} {s : State} {r : Result State Fault}
+      → WalksBranches x (alternative head g bs) s r → Then same (Decides x s head) (Taken x g bs s) r
+  walks-alternative (later_taken d w) = goes true d w
+  walks-alternative (later_passed d w) = goes false d w
+  walks-alternative (later_stops fault d) = stops fault d
+
+  walks-empty : {s : State} {r : Result State Fault} → Walks x empty s r → Ok s ≡ r
+  walks-empty done = refl
+
+  walks-closing : {l : Line} {s : State} {r : Result State Fault} → WalksBranches x (closing l) s r → Ok s ≡ r
+  walks-closing none_taken = refl
+
+  mutual
+    walks-sole : {g : Group} {s : State} {r : Result State Fault} → Walks x g s r → Sole (Walks x g s) r
+    walks-sole done s v = walks-empty v
+    walks-sole (line t d w) s v = goes-sole (steps-sole d) (walks-sole w) s (walks-plain v)
+    walks-sole (line_stops fault d) s v = stops-sole (steps-sole d) s (walks-plain v)
+    walks-sole (taken t d w u) s v = goes-sole (decides-sole d) (goes-sole (walks-sole w) (walks-sole u)) s (walks-section v)
+    walks-sole (taken_stops fault d w) s v = goes-sole (decides-sole d) (stops-sole (walks-sole w)) s (walks-section v)
+    walks-sole (passed t d w u) s v = goes-sole (decides-sole d) (goes-sole (branches-sole w) (walks-sole u)) s (walks-section v)
+    walks-sole (passed_stops fault d w) s v = goes-sole (decides-sole d) (stops-sole (branches-sole w)) s (walks-section v)
+    walks-sole (head_stops fault d) s v = stops-sole (decides-sole d) s (walks-section v)
+
+    branches-sole : {bs : Branches} {s : State} {r : Result State Fault} → WalksBranches x bs s r → Sole (WalksBranches x bs s) r
+    branches-sole none_taken s v = walks-closing v
+    branches-sole (last_taken w) s v = walks-sole w s (walks-otherwise v)
+    branches-sole (later_taken d w) s v = goes-sole (decides-sole d) (walks-sole w) s (walks-alternative v)
+    branches-sole (later_passed d w) s v = goes-sole (decides-sole d) (branches-sole w) s (walks-alternative v)
+    branches-sole (later_stops fault d) s v = stops-sole (decides-sole d) s (walks-alternative v)
 
 -- a file that isn't too large
-abbrev comment_fault : List ℕ → Position → Fault
-comment_fault name position = fault_at UnterminatedComment (record { file = name; position = position })
+abbrev comment_fault : File → Position → Fault
+comment_fault file position = fault_at UnterminatedComment (record { file = file.name; position = position })
 
-abbrev Goes : List ℕ → State → List ℕ → Result State Fault → Type 0
-Goes name s bytes =
-    Then (comment_fault name) (Lexed bytes)
-    (λ tokens. Then (fault_at BadNesting) (Tree (lines_of (map (in_file name) tokens)))
-    (λ g. Then same (Walks g s) Closes))
+abbrev Goes : Context → File → State → Result State Fault → Type 0
+Goes x file s =
+    Then (comment_fault file) (Lexed file.bytes)
+    (λ tokens. Then (fault_at BadNesting) (Tree (file_lines x file tokens))
+    (λ g. Then same (Walks x g (inside file s)) Closes))
 
-goes-in-sole : (name : List ℕ) (s : State) (bytes : List ℕ) {r : Result State Fault} → Goes name s bytes r → Sole (Goes name s bytes) r
-goes-in-sole name s bytes d = then-unique (λ _ l _ l'. lexes-unique l l') (λ _ _ e. then-unique (λ _ t _ t'. tree-unique t t') (λ _ _ f. then-unique (λ _. walks-sole) (λ _ _. closes-sole) f) e) d
+goes-in-sole : (x : Context) (file : File) (s : State) {r : Result State Fault} → Goes x file s r → Sole (Goes x file s) r
+goes-in-sole x file s d = then-unique (λ _ l _ l'. lexes-unique l l') (λ _ _ e. then-unique (λ _ t _ t'. tree-unique t t') (λ _ _ f. then-unique (λ _. walks-sole) (λ _ _. closes-sole) f) e) d
 
 -- the bytes of a file, walked where they aren't too many
-record Reads (name : List ℕ) (s : State) (bytes : List ℕ) (r : Result State Fault) : Type 0 where
-  large : largest_file < length bytes → r ≡ Err (fault_at FileTooLarge (first_place name))
-  fits : (largest_file < length bytes → ⊥) → Goes name s bytes r
+record Reads (x : Context) (file : File) (s : State) (r : Result State Fault) : Type 0 where
+  large : largest_file < length file.bytes → r ≡ Err (fault_at FileTooLarge (first_place file.name))
+  fits : (largest_file < length file.bytes → ⊥) → Goes x file s r
 
-reads-sole : {name : List ℕ} {s : State} {bytes : List ℕ} {r : Result State Fault} → Reads name s bytes r → Sole (Reads name s bytes) r
-reads-sole {name} {s} {bytes} d q e = elim (cases_lt largest_file (length bytes)) [
+reads-sole : {x : Context} {file : File} {s : State} {r : Result State Fault} → Reads x file s r → Sole (Reads x file s) r
+reads-sole {x} {file} {s} {r} d q e = elim (cases_lt largest_file (length file.bytes)) [
   | inl large ↦ d.large large ∙ sym (e.large large)
-  | inr few ↦ (let not_large : largest_file < length bytes → ⊥ = omega arith in goes-in-sole name s bytes (d.fits not_large) q (e.fits not_large))
+  | inr few ↦ (let not_large : largest_file < length file.bytes → ⊥ = omega arith in goes-in-sole x file s (d.fits not_large) q (e.fits not_large))
 ]
 
-small : {name : List ℕ} {s : State} {bytes : List ℕ} {r : Result State Fault} → (largest_file < length bytes → ⊥) → Goes name s bytes r → Reads name s bytes r
+small : {x : Context} {file : File} {s : State} {r : Result State Fault} → (largest_file < length file.bytes → ⊥) → Goes x file s r → Reads x file s r
 small fits d = record { large = λ large. absurd (fits large); fits = λ _. d }
 
-abbrev Finds : List ℕ → Place → State → Option (List ℕ) → Result State Fault → Type 0
-Finds name asked s None r = r ≡ Err (fault_at NotFound asked)
-Finds name asked s (Some bytes) r = Reads name s bytes r
+enters-reads : {x : Context} {file : File} {s : State} {r : Result State Fault} → Enters x file s r → Reads x file s r
+enters-reads (Enters.too_large large) = record { large = λ _. refl; fits = λ fits. absurd (fits large) }
+enters-reads (Enters.unended position fits l) = small fits (stops position l)
+enters-reads (Enters.badly_nested tokens place fits l t) = small fits (goes tokens l (stops place t))
+enters-reads (Enters.stopped tokens g fault fits l t w) = small fits (goes tokens l (goes g t (stops fault w)))
+enters-reads (Enters.walked tokens g t fits l n w c) = small fits (goes tokens l (goes g n (goes t w c)))
 
-finds-sole : (name : List ℕ) (asked : Place) (s : State) (found : Option (List ℕ)) (r : Result State Fault) → Finds name asked s found r → Sole (Finds name asked s found) r
-finds-sole name asked s None r d q e = d ∙ sym e
-finds-sole name asked s (Some bytes) r d q e = reads-sole d q e
+enters-sole : {x : Context} {file : File} {s : State} {r : Result State Fault} → Enters x file s r → Sole (Enters x file s) r
+enters-sole d q e = reads-sole (enters-reads d) q (enters-reads e)
 
-enters-finds : {files : Files} {name : List ℕ} {asked : Place} {s : State} {r : Result State Fault} → Enters files name asked s r → Finds name asked s (files name) r
-enters-finds (Enters.absent e) = rw e refl
-enters-finds (Enters.too_large bytes e large) = rw e (record { large = λ _. refl; fits = λ fits. absurd (fits large) })
-enters-finds (Enters.unended bytes position e fits l) = rw e (small fits (stops position l))
-enters-finds (Enters.badly_nested bytes tokens place e fits l t) = rw e (small fits (goes tokens l (stops place t)))
-enters-finds (Enters.stopped bytes tokens g fault e fits l t w) = rw e (small fits (goes tokens l (goes g t (stops fault w))))
-enters-finds (Enters.walked bytes tokens g t e fits l n w c) = rw e (small fits (goes tokens l (goes g n (goes t w c))))
+-- what a search finds
+abbrev search : List ℕ → Place → Option (List ℕ) → Result File Fault
+search name asked None = Err (fault_at NotFound asked)
+search name asked (Some bytes) = Ok (record { name = name; bytes = bytes })
 
-enters-sole : {files : Files} {name : List ℕ} {asked : Place} {s : State} {r : Result State Fault} → Enters files name asked s r → Sole (Enters files name asked s) r
-enters-sole {files} {name} {asked} {s} {r} d q e = finds-sole name asked s (files name) r (enters-finds d) q (enters-finds e)
+searches-is : {x : Context} {name : List ℕ} {asked : Place} {r : Result File Fault} → Searches x name asked r → r ≡ search name asked (x.files name)
+searches-is (Searches.found bytes e) = rw e refl
+searches-is (Searches.absent e) = rw e refl
+
+searches-sole : {x : Context} {name : List ℕ} {asked : Place} {r : Result File Fault} → Searches x name asked r → Sole (Searches x name asked) r
+searches-sole d s e = searches-is d ∙ sym (searches-is e)
+
+includes-then : {x : Context} {name : List ℕ} {asked : Place} {s : State} {r : Result State Fault} → Includes x name asked s r
+    → Then same (Searches x name asked) (λ file. Enters x file s) r
+includes-then (Includes.missing fault d) = stops fault d
+includes-then (Includes.entered file d e) = goes file d e
+
+includes-sole : {x : Context} {name : List ℕ} {asked : Place} {s : State} {r : Result State Fault} → Includes x name asked s r → Sole (Includes x name asked s) r
+includes-sole d q e = then-unique (λ _. searches-sole) (λ _ _. enters-sole) (includes-then d) q (includes-then e)
 
 pub pre-unique : {space : Space} {files : Files} {main config : List ℕ} {r s : Result (List Token) Fault} → Pre space files main config r → Pre space files main config s → r ≡ s
-pre-unique p q = p.is ∙ (ap output_of (enters-sole p.entered q.end q.entered) ∙ sym q.is)
+pre-unique p q = p.is ∙ (ap output_of (includes-sole p.walked q.end q.walked) ∙ sym q.is)

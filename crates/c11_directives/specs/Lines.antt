@@ -1,13 +1,60 @@
--- The lines of a file and the groups that its conditional directives make of them (C11 6.10).
-use Rattle.std.specs.Prelude.{◌≡◌, ℕ, Bool, true, false, List, [], ◌∷◌, ◌++◌, codes, Option, Some, None, Result, Ok, Err, if◌then◌else◌}
-use Rattle.c11_directives.specs.declared.conditional.Conditional.{Conditional}
-use Rattle.c11_directives.specs.declared.conditional.Conditional.TheVariants.{If, Ifdef, Ifndef, Elif, Else, Endif}
+-- The lines of a file, the directives that they are, and the groups that its conditional directives make of them (C11 6.10).
+use Rattle.std.specs.Prelude.{◌≡◌, ℕ, Bool, true, false, List, [], ◌∷◌, ◌++◌, map, codes, Option, Some, None, Result, Ok, Err, if◌then◌else◌}
+use Rattle.std.specs.Option.{option_map}
+use Rattle.c11_directives.specs.declared.directive.Conditional.{Conditional}
+use Rattle.c11_directives.specs.declared.directive.Conditional.TheVariants.{If, Ifdef, Ifndef, Elif, Else, Endif}
+use Rattle.c11_directives.specs.declared.directive.Directive.{Directive}
+use Rattle.c11_directives.specs.declared.directive.Directive.TheVariants as directive
 use Rattle.sc_model.specs.Bytes.{same_bytes}
 use Rattle.c11_tokens.specs.Lex.{is_newline}
 use Rattle.sc_model.specs.Token.{Place, Token, name_of}
 
-abbrev pub Line : Type 0
-Line = List Token
+-- names of directives, and what each is
+abbrev pub DirectiveNames : Type 0
+DirectiveNames = List (List ℕ × Directive)
+
+-- those of C11, and #warning, which is none of them
+abbrev pub c11_directive_names : DirectiveNames
+c11_directive_names =
+    (codes "if", directive.Conditional If)
+    ∷ (codes "ifdef", directive.Conditional Ifdef)
+    ∷ (codes "ifndef", directive.Conditional Ifndef)
+    ∷ (codes "elif", directive.Conditional Elif)
+    ∷ (codes "else", directive.Conditional Else)
+    ∷ (codes "endif", directive.Conditional Endif)
+    ∷ (codes "include", directive.Include)
+    ∷ (codes "define", directive.Define)
+    ∷ (codes "undef", directive.Undef)
+    ∷ (codes "line", directive.Line)
+    ∷ (codes "error", directive.Error)
+    ∷ (codes "pragma", directive.Pragma)
+    ∷ (codes "warning", directive.Warning)
+    ∷ []
+
+abbrev pub directive_named : DirectiveNames → List ℕ → Directive
+directive_named [] word = directive.Unknown
+directive_named (n ∷ ns) word = if same_bytes word n.0 then n.1 else directive_named ns word
+
+abbrev pub is_hash : Token → Bool
+is_hash t = same_bytes (name_of t.spelling) (codes "#")
+
+-- # alone does nothing (6.10.7)
+abbrev pub directive_after_hash : DirectiveNames → List Token → Directive
+directive_after_hash names [] = directive.Null
+directive_after_hash names (word ∷ rest) = directive_named names word.spelling
+
+-- what directive the tokens of a line are: one whose first token is #
+abbrev pub directive_of : DirectiveNames → List Token → Option Directive
+directive_of names [] = None
+directive_of names (t ∷ ts) = if is_hash t then Some (directive_after_hash names ts) else None
+
+-- a line's tokens, without its newline, and the directive that it is
+pub record Line : Type 0 where
+  pub tokens : List Token
+  pub directive : Option Directive
+
+abbrev pub line_of : DirectiveNames → List Token → Line
+line_of names ts = record { tokens = ts; directive = directive_of names ts }
 
 abbrev pub onto_first : {T : Type 0} → T → List (List T) → List (List T)
 onto_first t [] = (t ∷ []) ∷ []
@@ -19,32 +66,16 @@ split_lines ends [] = []
 split_lines ends (t ∷ ts) = if ends t then [] ∷ split_lines ends ts else onto_first t (split_lines ends ts)
 
 -- the tokens up to each newline
-abbrev pub lines_of : List Token → List Line
-lines_of ts = split_lines (λ t. is_newline t.kind) ts
+abbrev pub lines_of : DirectiveNames → List Token → List Line
+lines_of names ts = map (line_of names) (split_lines (λ t. is_newline t.kind) ts)
 
-abbrev pub is_hash : Token → Bool
-is_hash t = same_bytes (name_of t.spelling) (codes "#")
-
--- a line whose first token is #
-abbrev pub is_directive : Line → Bool
-is_directive [] = false
-is_directive (t ∷ ts) = is_hash t
-
-abbrev pub conditional_named : List ℕ → Option Conditional
-conditional_named word =
-    if same_bytes word (codes "if") then Some If
-    else (if same_bytes word (codes "ifdef") then Some Ifdef
-    else (if same_bytes word (codes "ifndef") then Some Ifndef
-    else (if same_bytes word (codes "elif") then Some Elif
-    else (if same_bytes word (codes "else") then Some Else
-    else (if same_bytes word (codes "endif") then Some Endif
-    else None)))))
+abbrev pub conditional_in : Option Directive → Option Conditional
+conditional_in (Some (directive.Conditional c)) = Some c
+conditional_in _ = None
 
 -- which conditional directive the line is
 abbrev pub conditional_of : Line → Option Conditional
-conditional_of [] = None
-conditional_of (hash ∷ []) = None
-conditional_of (hash ∷ word ∷ rest) = if is_hash hash then conditional_named word.spelling else None
+conditional_of line = conditional_in line.directive
 
 -- the directive opens a section
 abbrev pub is_opening : Conditional → Bool
@@ -111,10 +142,16 @@ pub record GoesOn (lines : List Line) : Type 0 where
   pub grouped : IsGroup group
   pub begins : group_lines group ≡ lines ++ more
 
--- the place of the # of a directive
+abbrev pub first_of : List Token → Option Token
+first_of [] = None
+first_of (t ∷ ts) = Some t
+
+-- the # of a directive
+abbrev pub hash_of : Line → Option Token
+hash_of line = first_of line.tokens
+
 abbrev pub hash_place : Line → Option Place
-hash_place [] = None
-hash_place (t ∷ ts) = Some t.place
+hash_place line = option_map (λ t. t.place) (hash_of line)
 
 -- the first line after which nothing makes a group
 pub record IsMisplaced (lines : List Line) (place : Place) : Type 0 where

@@ -1,132 +1,203 @@
 -- Preprocessing of one configuration (C11 6.10): the walk of a file's groups.
-use Rattle.std.specs.Prelude.{◌≡◌, ℕ, ◌<◌, ◌⊎◌, Bool, true, false, not, List, [], ◌∷◌, ◌++◌, length, map, codes, Option, Some, None, is_some, Result, Ok, Err, if◌then◌else◌}
-use Rattle.std.specs.List.{list_any}
+use Rattle.std.specs.Prelude.{◌≡◌, ℕ, ◌<◌, ◌⊎◌, ◌||◌, Bool, true, false, not, List, [], ◌∷◌, ◌++◌, length, map, Option, Some, None, is_some, Result, Ok, Err, if◌then◌else◌}
+use Rattle.std.specs.Option.{option_map}
 use Rattle.sc_model.specs.declared.cause.Cause.{Cause}
 use Rattle.sc_model.specs.declared.cause.Cause.TheVariants.{NotFound, FileTooLarge, UnterminatedComment, BadNesting, BadDirective}
-use Rattle.c11_directives.specs.declared.conditional.Conditional.TheVariants.{If, Ifdef, Ifndef, Elif}
+use Rattle.c11_directives.specs.declared.directive.Conditional.TheVariants.{If, Ifdef, Ifndef, Elif}
+use Rattle.c11_directives.specs.declared.directive.Directive.{Directive}
+use Rattle.c11_directives.specs.declared.directive.Directive.TheVariants as directive
 use Rattle.sc_model.specs.declared.kind.Kind.{Kind}
 use Rattle.sc_model.specs.declared.kind.Kind.TheVariants.{Identifier}
-use Rattle.sc_model.specs.Bytes.{same_bytes}
 use Rattle.c11_tokens.specs.Lex.{Lexed}
-use Rattle.c11_directives.specs.Lines.{Line, lines_of, is_directive, conditional_of, hash_place, Group, Branches, empty, plain, section, closing, otherwise, alternative, Tree}
+use Rattle.c11_directives.specs.Lines.{DirectiveNames, c11_directive_names, Line, lines_of, conditional_of, hash_of, Group, Branches, empty, plain, section, closing, otherwise, alternative, Tree}
 use Rattle.sc_model.specs.Fault.{Fault, fault_at, first_place}
 use Rattle.sc_model.specs.Outside.{Files}
 use Rattle.sc_model.specs.Space.{Space}
 use Rattle.c11_macros.specs.Macros.{Macros, initial_macros}
 use Rattle.sc_model.specs.Token.{Position, Place, Lexeme, Token, in_file}
 
--- the macros that are defined, the text since the last barrier, what was put out, and how deep the files are nested
+-- what a standard says that others say otherwise
+pub record Standard : Type 0 where
+  pub directives : DirectiveNames
+
+abbrev pub c11 : Standard
+c11 = record { directives = c11_directive_names }
+
+-- what doesn't change during a run
+pub record Context : Type 0 where
+  pub files : Files
+  pub include : List (List ℕ)
+  pub include_depth : ℕ
+  pub date : List ℕ
+  pub time : List ℕ
+  pub standard : Standard
+
+-- the macros that are defined, the text since the last barrier, what was put out, how deep the files are nested, and the name of the innermost
 pub record State : Type 0 where
   pub macros : Macros
   pub run : List Token
   pub output : List Token
   pub depth : ℕ
+  pub file : List ℕ
+
+-- the place of a token
+abbrev pub place_in : State → Token → Place
+place_in s t = t.place
 
 -- What a run becomes. Its tokens stay as they are.
 pub data Becomes (macros : Macros) (run : List Token) : Result (List Token) Fault → Type 0 where
   unexpanded : Becomes macros run (Ok run)
 
+-- the run is put out as these tokens
+abbrev pub put_out : State → List Token → State
+put_out s output = record s { run = []; output = s.output ++ output }
+
 -- a barrier closes the run, which is put out as what it becomes
 pub data Closes (s : State) : Result State Fault → Type 0 where
-  closed : (output : List Token) → Becomes s.macros s.run (Ok output)
-      → Closes s (Ok (record { macros = s.macros; run = []; output = s.output ++ output; depth = s.depth }))
+  closed : (output : List Token) → Becomes s.macros s.run (Ok output) → Closes s (Ok (put_out s output))
   refused : (fault : Fault) → Becomes s.macros s.run (Err fault) → Closes s (Err fault)
 
 -- a refusal at the # of a directive
-pub record RefusedAt (line : Line) (cause : Cause) (fault : Fault) : Type 0 where
+pub record RefusedAt (s : State) (line : Line) (cause : Cause) (fault : Fault) : Type 0 where
   pub cause_is : fault.cause ≡ cause
-  pub place_is : hash_place line ≡ Some fault.place
+  pub place_is : option_map (place_in s) (hash_of line) ≡ Some fault.place
 
 abbrev pub is_identifier_kind : Kind → Bool
 is_identifier_kind Identifier = true
 is_identifier_kind _ = false
 
 -- the identifier after the directive's name
+abbrev pub operand_in : List Token → Option (List ℕ)
+operand_in (hash ∷ word ∷ name ∷ rest) = if is_identifier_kind name.kind then Some name.spelling else None
+operand_in _ = None
+
 abbrev pub operand_of : Line → Option (List ℕ)
-operand_of (hash ∷ word ∷ name ∷ rest) = if is_identifier_kind name.kind then Some name.spelling else None
-operand_of _ = None
+operand_of line = operand_in line.tokens
 
 -- Whether a conditional directive takes its group (6.10.1). Expressions are not decided.
-pub data Decides (macros : Macros) (line : Line) : Result Bool Fault → Type 0 where
-  if_defined : (name : List ℕ) → conditional_of line ≡ Some Ifdef → operand_of line ≡ Some name → Decides macros line (Ok (is_some (macros name)))
-  if_undefined : (name : List ℕ) → conditional_of line ≡ Some Ifndef → operand_of line ≡ Some name → Decides macros line (Ok (not (is_some (macros name))))
+pub data Decides (context : Context) (s : State) (line : Line) : Result Bool Fault → Type 0 where
+  if_defined : (name : List ℕ) → conditional_of line ≡ Some Ifdef → operand_of line ≡ Some name
+      → Decides context s line (Ok (is_some (s.macros name)))
+  if_undefined : (name : List ℕ) → conditional_of line ≡ Some Ifndef → operand_of line ≡ Some name
+      → Decides context s line (Ok (not (is_some (s.macros name))))
   no_name : (fault : Fault) → (conditional_of line ≡ Some Ifdef) ⊎ (conditional_of line ≡ Some Ifndef) → operand_of line ≡ None
-      → RefusedAt line BadDirective fault → Decides macros line (Err fault)
+      → RefusedAt s line BadDirective fault → Decides context s line (Err fault)
   expression : (fault : Fault) → (conditional_of line ≡ Some If) ⊎ (conditional_of line ≡ Some Elif)
-      → RefusedAt line BadDirective fault → Decides macros line (Err fault)
+      → RefusedAt s line BadDirective fault → Decides context s line (Err fault)
 
--- # alone, which does nothing (6.10.7)
-abbrev pub is_null : Line → Bool
-is_null (hash ∷ []) = true
-is_null _ = false
+-- the state that deciding a directive leaves
+abbrev pub decided : State → Line → State
+decided s line = s
 
--- the directive's name is one of these
-abbrev pub is_named : List (List ℕ) → Line → Bool
-is_named names (hash ∷ word ∷ rest) = list_any (same_bytes word.spelling) names
-is_named names _ = false
+-- the directive has no effect
+abbrev pub is_ignored : Directive → Bool
+is_ignored directive.Pragma = true
+is_ignored directive.Warning = true
+is_ignored _ = false
 
-abbrev pub ignored_names : List (List ℕ)
-ignored_names = codes "pragma" ∷ codes "warning" ∷ []
+-- the directive is not carried out
+abbrev pub is_refused : Directive → Bool
+is_refused directive.Include = true
+is_refused directive.Define = true
+is_refused directive.Undef = true
+is_refused directive.Line = true
+is_refused directive.Error = true
+is_refused directive.Unknown = true
+is_refused _ = false
 
 -- What a line that is no conditional directive does. Every directive but the null one is a barrier.
-pub data Steps (line : Line) (s : State) : Result State Fault → Type 0 where
-  text : is_directive line ≡ false → Steps line s (Ok (record { macros = s.macros; run = s.run ++ line; output = s.output; depth = s.depth }))
-  null : is_directive line ≡ true → is_null line ≡ true → Steps line s (Ok s)
-  stopped : (fault : Fault) → is_directive line ≡ true → is_null line ≡ false → Closes s (Err fault) → Steps line s (Err fault)
-  ignored : (t : State) → is_directive line ≡ true → is_null line ≡ false → is_named ignored_names line ≡ true → Closes s (Ok t) → Steps line s (Ok t)
-  unknown : (t : State) (fault : Fault) → is_directive line ≡ true → is_null line ≡ false → is_named ignored_names line ≡ false → Closes s (Ok t)
-      → RefusedAt line BadDirective fault → Steps line s (Err fault)
+pub data Steps (context : Context) (line : Line) (s : State) : Result State Fault → Type 0 where
+  text : line.directive ≡ None → Steps context line s (Ok (record s { run = s.run ++ line.tokens }))
+  null : line.directive ≡ Some directive.Null → Steps context line s (Ok s)
+  stopped : (d : Directive) (fault : Fault) → line.directive ≡ Some d → (is_ignored d || is_refused d) ≡ true → Closes s (Err fault)
+      → Steps context line s (Err fault)
+  ignored : (d : Directive) (t : State) → line.directive ≡ Some d → is_ignored d ≡ true → Closes s (Ok t) → Steps context line s (Ok t)
+  unknown : (d : Directive) (t : State) (fault : Fault) → line.directive ≡ Some d → is_refused d ≡ true → Closes s (Ok t)
+      → RefusedAt t line BadDirective fault → Steps context line s (Err fault)
 
 -- The walk of a group from a state, up to its end or its first fault. After a branch was taken, no later one is decided.
 mutual
-  pub data Walks : Group → State → Result State Fault → Type 0 where
-    done : {s : State} → Walks empty s (Ok s)
+  pub data Walks (context : Context) : Group → State → Result State Fault → Type 0 where
+    done : {s : State} → Walks context empty s (Ok s)
     line : {line : Line} {rest : Group} {s : State} {r : Result State Fault} (t : State)
-        → Steps line s (Ok t) → Walks rest t r → Walks (plain line rest) s r
+        → Steps context line s (Ok t) → Walks context rest t r → Walks context (plain line rest) s r
     line_stops : {line : Line} {rest : Group} {s : State} (fault : Fault)
-        → Steps line s (Err fault) → Walks (plain line rest) s (Err fault)
+        → Steps context line s (Err fault) → Walks context (plain line rest) s (Err fault)
     taken : {head : Line} {group : Group} {branches : Branches} {rest : Group} {s : State} {r : Result State Fault} (t : State)
-        → Decides s.macros head (Ok true) → Walks group s (Ok t) → Walks rest t r → Walks (section head group branches rest) s r
+        → Decides context s head (Ok true) → Walks context group (decided s head) (Ok t) → Walks context rest t r → Walks context (section head group branches rest) s r
     taken_stops : {head : Line} {group : Group} {branches : Branches} {rest : Group} {s : State} (fault : Fault)
-        → Decides s.macros head (Ok true) → Walks group s (Err fault) → Walks (section head group branches rest) s (Err fault)
+        → Decides context s head (Ok true) → Walks context group (decided s head) (Err fault) → Walks context (section head group branches rest) s (Err fault)
     passed : {head : Line} {group : Group} {branches : Branches} {rest : Group} {s : State} {r : Result State Fault} (t : State)
-        → Decides s.macros head (Ok false) → WalksBranches branches s (Ok t) → Walks rest t r → Walks (section head group branches rest) s r
+        → Decides context s head (Ok false) → WalksBranches context branches (decided s head) (Ok t) → Walks context rest t r → Walks context (section head group branches rest) s r
     passed_stops : {head : Line} {group : Group} {branches : Branches} {rest : Group} {s : State} (fault : Fault)
-        → Decides s.macros head (Ok false) → WalksBranches branches s (Err fault) → Walks (section head group branches rest) s (Err fault)
+        → Decides context s head (Ok false) → WalksBranches context branches (decided s head) (Err fault) → Walks context (section head group branches rest) s (Err fault)
     head_stops : {head : Line} {group : Group} {branches : Branches} {rest : Group} {s : State} (fault : Fault)
-        → Decides s.macros head (Err fault) → Walks (section head group branches rest) s (Err fault)
+        → Decides context s head (Err fault) → Walks context (section head group branches rest) s (Err fault)
 
-  pub data WalksBranches : Branches → State → Result State Fault → Type 0 where
-    none_taken : {line : Line} {s : State} → WalksBranches (closing line) s (Ok s)
+  pub data WalksBranches (context : Context) : Branches → State → Result State Fault → Type 0 where
+    none_taken : {line : Line} {s : State} → WalksBranches context (closing line) s (Ok s)
     last_taken : {head : Line} {group : Group} {line : Line} {s : State} {r : Result State Fault}
-        → Walks group s r → WalksBranches (otherwise head group line) s r
+        → Walks context group s r → WalksBranches context (otherwise head group line) s r
     later_taken : {head : Line} {group : Group} {branches : Branches} {s : State} {r : Result State Fault}
-        → Decides s.macros head (Ok true) → Walks group s r → WalksBranches (alternative head group branches) s r
+        → Decides context s head (Ok true) → Walks context group (decided s head) r → WalksBranches context (alternative head group branches) s r
     later_passed : {head : Line} {group : Group} {branches : Branches} {s : State} {r : Result State Fault}
-        → Decides s.macros head (Ok false) → WalksBranches branches s r → WalksBranches (alternative head group branches) s r
+        → Decides context s head (Ok false) → WalksBranches context branches (decided s head) r → WalksBranches context (alternative head group branches) s r
     later_stops : {head : Line} {group : Group} {branches : Branches} {s : State} (fault : Fault)
-        → Decides s.macros head (Err fault) → WalksBranches (alternative head group branches) s (Err fault)
+        → Decides context s head (Err fault) → WalksBranches context (alternative head group branches) s (Err fault)
 
 -- how large a file may be, in bytes
 abbrev pub largest_file : ℕ
 largest_file = 16777216
 
--- Entering a file. The order of the causes is that of the cases. Its nesting is decided on the whole file.
-pub data Enters (files : Files) (name : List ℕ) (asked : Place) (s : State) : Result State Fault → Type 0 where
-  absent : files name ≡ None → Enters files name asked s (Err (fault_at NotFound asked))
-  too_large : (bytes : List ℕ) → files name ≡ Some bytes → largest_file < length bytes
-      → Enters files name asked s (Err (fault_at FileTooLarge (first_place name)))
-  unended : (bytes : List ℕ) (position : Position) → files name ≡ Some bytes → (largest_file < length bytes → ⊥)
-      → Lexed bytes (Err position) → Enters files name asked s (Err (fault_at UnterminatedComment (record { file = name; position = position })))
-  badly_nested : (bytes : List ℕ) (tokens : List Lexeme) (place : Place) → files name ≡ Some bytes → (largest_file < length bytes → ⊥)
-      → Lexed bytes (Ok tokens) → Tree (lines_of (map (in_file name) tokens)) (Err place) → Enters files name asked s (Err (fault_at BadNesting place))
-  stopped : (bytes : List ℕ) (tokens : List Lexeme) (group : Group) (fault : Fault) → files name ≡ Some bytes → (largest_file < length bytes → ⊥)
-      → Lexed bytes (Ok tokens) → Tree (lines_of (map (in_file name) tokens)) (Ok group) → Walks group s (Err fault) → Enters files name asked s (Err fault)
-  walked : {r : Result State Fault} (bytes : List ℕ) (tokens : List Lexeme) (group : Group) (t : State) → files name ≡ Some bytes → (largest_file < length bytes → ⊥)
-      → Lexed bytes (Ok tokens) → Tree (lines_of (map (in_file name) tokens)) (Ok group) → Walks group s (Ok t) → Closes t r → Enters files name asked s r
+-- a file that was found: its name and its bytes
+pub record File : Type 0 where
+  pub name : List ℕ
+  pub bytes : List ℕ
 
-abbrev pub initial_state : Space → List ℕ → State
-initial_state space config = record { macros = initial_macros space config; run = []; output = []; depth = 0 }
+-- The search for a file that is asked for at this place. The main file is the one of its name.
+pub data Searches (context : Context) (name : List ℕ) (asked : Place) : Result File Fault → Type 0 where
+  found : (bytes : List ℕ) → context.files name ≡ Some bytes → Searches context name asked (Ok (record { name = name; bytes = bytes }))
+  absent : context.files name ≡ None → Searches context name asked (Err (fault_at NotFound asked))
+
+-- the state in which the walk of a file begins
+abbrev pub inside : File → State → State
+inside file s = record s { file = file.name }
+
+-- the lines of a file with these tokens
+abbrev pub file_lines : Context → File → List Lexeme → List Line
+file_lines context file tokens = lines_of context.standard.directives (map (in_file file.name) tokens)
+
+-- Entering a file. The order of the causes is that of the cases. Its nesting is decided on the whole file.
+pub data Enters (context : Context) (file : File) (s : State) : Result State Fault → Type 0 where
+  too_large : largest_file < length file.bytes → Enters context file s (Err (fault_at FileTooLarge (first_place file.name)))
+  unended : (position : Position) → (largest_file < length file.bytes → ⊥)
+      → Lexed file.bytes (Err position) → Enters context file s (Err (fault_at UnterminatedComment (record { file = file.name; position = position })))
+  badly_nested : (tokens : List Lexeme) (place : Place) → (largest_file < length file.bytes → ⊥)
+      → Lexed file.bytes (Ok tokens) → Tree (file_lines context file tokens) (Err place) → Enters context file s (Err (fault_at BadNesting place))
+  stopped : (tokens : List Lexeme) (group : Group) (fault : Fault) → (largest_file < length file.bytes → ⊥)
+      → Lexed file.bytes (Ok tokens) → Tree (file_lines context file tokens) (Ok group) → Walks context group (inside file s) (Err fault)
+      → Enters context file s (Err fault)
+  walked : {r : Result State Fault} (tokens : List Lexeme) (group : Group) (t : State) → (largest_file < length file.bytes → ⊥)
+      → Lexed file.bytes (Ok tokens) → Tree (file_lines context file tokens) (Ok group) → Walks context group (inside file s) (Ok t) → Closes t r
+      → Enters context file s r
+
+-- the file of a name is searched for, then entered
+pub data Includes (context : Context) (name : List ℕ) (asked : Place) (s : State) : Result State Fault → Type 0 where
+  missing : (fault : Fault) → Searches context name asked (Err fault) → Includes context name asked s (Err fault)
+  entered : {r : Result State Fault} (file : File) → Searches context name asked (Ok file) → Enters context file s r → Includes context name asked s r
+
+abbrev pub context_of : Space → Files → Context
+context_of space files = record {
+  files = files;
+  include = space.include;
+  include_depth = space.include_depth;
+  date = space.date;
+  time = space.time;
+  standard = c11;
+}
+
+abbrev pub initial_state : Space → (main config : List ℕ) → State
+initial_state space main config = record { macros = initial_macros space config; run = []; output = []; depth = 0; file = main }
 
 abbrev pub output_of : Result State Fault → Result (List Token) Fault
 output_of (Ok s) = Ok s.output
@@ -135,5 +206,5 @@ output_of (Err fault) = Err fault
 -- the tokens of a configuration, or its first fault
 pub record Pre (space : Space) (files : Files) (main config : List ℕ) (r : Result (List Token) Fault) : Type 0 where
   pub end : Result State Fault
-  pub entered : Enters files main (first_place main) (initial_state space config) end
+  pub walked : Includes (context_of space files) main (first_place main) (initial_state space main config) end
   pub is : r ≡ output_of end

@@ -1,8 +1,8 @@
 //! Directives of C11: lines, groups, conditional inclusion and the walk of files (6.10), as definitions.
 #![tactic(auto)]
 
-mod conditional;
+mod directive;
 mod laws;
 
-pub use conditional::Conditional;
+pub use directive::{Conditional, Directive};
 pub use laws::{nesting_has_one_answer, preprocessing_has_one_answer};

@@ -8,8 +8,8 @@ use Rattle.sc_lines.specs.declared.line.Branch.{Branch}
 use Rattle.sc_lines.specs.Judges.{line_at}
 use Rattle.sc_lines.specs.Sections.{nest_by}
 use Rattle.sc_lines.proofs.Nesting.{nest_all, nest_all-append, nest-group}
-use Rattle.c11_directives.specs.declared.conditional.Conditional.{Conditional}
-use Rattle.c11_directives.specs.declared.conditional.Conditional.TheVariants.{If, Ifdef, Ifndef, Elif, Else, Endif}
+use Rattle.c11_directives.specs.declared.directive.Conditional.{Conditional}
+use Rattle.c11_directives.specs.declared.directive.Conditional.TheVariants.{If, Ifdef, Ifndef, Elif, Else, Endif}
 use Rattle.c11_directives.specs.Lines.{Line, conditional_of, Group, group_lines}
 
 -- a longer front of a list has the shorter one, and what follows that

@@ -12,8 +12,8 @@ use Rattle.sc_lines.specs.declared.line.Line as declared_line
 use Rattle.sc_lines.specs.Judges.{line_at}
 use Rattle.sc_lines.specs.Split.{AreLines, tokens_of}
 use Rattle.sc_lines.specs.Unread.{branch_at, sections_at}
-use Rattle.c11_directives.specs.declared.conditional.Conditional.{Conditional}
-use Rattle.c11_directives.specs.declared.conditional.Conditional.TheVariants.{If, Ifdef, Ifndef, Elif, Else, Endif}
+use Rattle.c11_directives.specs.declared.directive.Conditional.{Conditional}
+use Rattle.c11_directives.specs.declared.directive.Conditional.TheVariants.{If, Ifdef, Ifndef, Elif, Else, Endif}
 use Rattle.c11_directives.specs.Lines.{Line, conditional_of, is_opening, Group, Branches, empty, plain, section, closing, otherwise, alternative, group_lines, branch_lines, IsGroup, AreBranches, IsTree}
 
 -- the sections that are open before the lines of these directives, from line i to the last

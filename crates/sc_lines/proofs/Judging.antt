@@ -9,8 +9,8 @@ use Rattle.sc_lines.specs.declared.section.Open.{Open}
 use Rattle.sc_lines.specs.Judges.{line_at, FailsAt}
 use Rattle.sc_lines.specs.Sections.{Sections, nest_by, sections_of}
 use Rattle.sc_lines.proofs.Nesting.{nest, nest_all, nest_all-append, accepted, misplaced_at, open_at_end, head_named}
-use Rattle.c11_directives.specs.declared.conditional.Conditional.{Conditional}
-use Rattle.c11_directives.specs.declared.conditional.Conditional.TheVariants.{If, Ifdef, Ifndef, Elif, Else, Endif}
+use Rattle.c11_directives.specs.declared.directive.Conditional.{Conditional}
+use Rattle.c11_directives.specs.declared.directive.Conditional.TheVariants.{If, Ifdef, Ifndef, Elif, Else, Endif}
 use Rattle.c11_directives.specs.Lines.{Line, Group, IsTree, conditional_of, Opens, Tree}
 
 -- the sections with their first lines in the place of their numbers

@@ -2,8 +2,8 @@
 use Rattle.std.proofs.Common.{◌≡◌, ℕ, Bool, true, false, List, [], ◌∷◌, ◌++◌, Option, Some, None, Err, codes, refl, sym, ap, ◌∙◌, subst, append_assoc, append-nil}
 use Rattle.std.proofs.lemmas.Option.{option_and_then_some}
 use Rattle.std.specs.Option.{option_and_then}
-use Rattle.c11_directives.specs.declared.conditional.Conditional.{Conditional}
-use Rattle.c11_directives.specs.declared.conditional.Conditional.TheVariants.{If, Ifdef, Ifndef, Elif, Else, Endif}
+use Rattle.c11_directives.specs.declared.directive.Conditional.{Conditional}
+use Rattle.c11_directives.specs.declared.directive.Conditional.TheVariants.{If, Ifdef, Ifndef, Elif, Else, Endif}
 use Rattle.sc_model.specs.declared.kind.Kind.TheVariants.{Identifier}
 use Rattle.c11_directives.specs.Lines.{Line, conditional_of, is_opening, Group, Branches, empty, plain, section, closing, otherwise, alternative, group_lines, branch_lines, Opens, IsGroup, AreBranches, IsTree, GoesOn, IsOpenAtEnd, Unclosed, first, more, last, hash_place, Tree, misplaced, unclosed}
 use Rattle.sc_model.specs.Fault.{first_place}

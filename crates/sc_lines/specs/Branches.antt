@@ -3,8 +3,8 @@ use Rattle.std.specs.Prelude.{◌≡◌, ℕ, ◌+◌, ◌<◌, Bool, true, fals
 use Rattle.sc_lines.specs.declared.line.Branch.{Branch}
 use Rattle.sc_lines.specs.declared.line.Line.{Line}
 use Rattle.sc_lines.specs.Judges.{line_at}
-use Rattle.c11_directives.specs.declared.conditional.Conditional.{Conditional}
-use Rattle.c11_directives.specs.declared.conditional.Conditional.TheVariants.{If, Ifdef, Ifndef, Elif, Else, Endif}
+use Rattle.c11_directives.specs.declared.directive.Conditional.{Conditional}
+use Rattle.c11_directives.specs.declared.directive.Conditional.TheVariants.{If, Ifdef, Ifndef, Elif, Else, Endif}
 use Rattle.c11_directives.specs.Lines as model
 
 -- the line of this directive begins a branch

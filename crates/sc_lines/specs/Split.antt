@@ -3,7 +3,7 @@ use Rattle.std.specs.Prelude.{◌≡◌, ℕ, ◌≤◌, List, [], map, Option, 
 use Rattle.sc_base.specs.declared.token.Token.{Token}
 use Rattle.sc_base.specs.Seen.{seen}
 use Rattle.sc_lines.specs.declared.line.Line.{Line}
-use Rattle.c11_directives.specs.declared.conditional.Conditional.{Conditional}
+use Rattle.c11_directives.specs.declared.directive.Conditional.{Conditional}
 use Rattle.c11_tokens.specs.Lex.{is_newline}
 use Rattle.c11_directives.specs.Lines.{split_lines, conditional_of}
 

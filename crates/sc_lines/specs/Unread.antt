@@ -1,8 +1,8 @@
 -- The sections that are open at a line of a file that is read from its end: for each the line of its next branch and the one that closes it, the innermost first.
 use Rattle.std.specs.Prelude.{ℕ, List, [], ◌∷◌, Option, Some, None}
 use Rattle.sc_lines.specs.declared.line.Branch.{Branch}
-use Rattle.c11_directives.specs.declared.conditional.Conditional.{Conditional}
-use Rattle.c11_directives.specs.declared.conditional.Conditional.TheVariants.{If, Ifdef, Ifndef, Elif, Else, Endif}
+use Rattle.c11_directives.specs.declared.directive.Conditional.{Conditional}
+use Rattle.c11_directives.specs.declared.directive.Conditional.TheVariants.{If, Ifdef, Ifndef, Elif, Else, Endif}
 
 abbrev pub innermost : List Branch → Option Branch
 innermost [] = None

@@ -10,7 +10,7 @@ use Rattle.sc_base.specs.Seen.{seen}
 use Rattle.sc_prep.proofs.Machine.{run-append}
 use Rattle.sc_lines.specs.Split.{conditional_at}
 use Rattle.sc_lines.proofs.SeenLines.{conditional-files}
-use Rattle.c11_directives.specs.declared.conditional.Conditional.{Conditional}
+use Rattle.c11_directives.specs.declared.directive.Conditional.{Conditional}
 use Rattle.c11_directives.specs.Lines.{Line}
 use Rattle.sc_model.specs.Space.{Space}
 use Rattle.c11_macros.specs.Macros.{Macros, initial_macros}

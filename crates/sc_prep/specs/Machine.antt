@@ -4,8 +4,8 @@ use Rattle.sc_prep.specs.declared.line_kind.LineKind.{LineKind}
 use Rattle.sc_prep.specs.declared.line_kind.LineKind.TheVariants.{Text, Idle, Unknown}
 use Rattle.sc_prep.specs.LineKind.{line_kind}
 use Rattle.sc_model.specs.declared.cause.Cause.TheVariants.{BadDirective}
-use Rattle.c11_directives.specs.declared.conditional.Conditional.{Conditional}
-use Rattle.c11_directives.specs.declared.conditional.Conditional.TheVariants.{If, Ifdef, Ifndef, Elif, Else, Endif}
+use Rattle.c11_directives.specs.declared.directive.Conditional.{Conditional}
+use Rattle.c11_directives.specs.declared.directive.Conditional.TheVariants.{If, Ifdef, Ifndef, Elif, Else, Endif}
 use Rattle.c11_directives.specs.Lines.{Line, conditional_of}
 use Rattle.sc_model.specs.Fault.{Fault, fault_at, first_place}
 use Rattle.c11_directives.specs.Pre.{operand_of}

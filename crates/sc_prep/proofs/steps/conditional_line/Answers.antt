@@ -1,7 +1,7 @@
 use Rattle.std.proofs.Common.{[], ap, map, Some, true, false}
 use Rattle.std.proofs.lemmas.Result.{on_ok_weaker}
 use Rattle.sc_base.specs.Seen.{seen}
-use Rattle.c11_directives.specs.declared.conditional.Conditional.TheVariants.{If, Ifdef, Ifndef, Elif, Else, Endif}
+use Rattle.c11_directives.specs.declared.directive.Conditional.TheVariants.{If, Ifdef, Ifndef, Elif, Else, Endif}
 use Rattle.c11_directives.specs.Pre.{operand_of}
 use Rattle.c11_macros.specs.Macros.{initial_macros}
 use Rattle.sc_space.specs.Seen.{seen_space}
