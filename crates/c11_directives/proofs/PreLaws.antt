@@ -1,5 +1,5 @@
 -- A configuration has one sequence of tokens, or one fault.
-use Rattle.std.proofs.Common.{◌≡◌, inl, inr, ℕ, ◌<◌, not, Bool, true, false, List, [], ◌∷◌, ◌++◌, length, map, Option, Some, None, is_some, Result, Ok, Err, refl, sym, ap, ◌∙◌, subst, arith}
+use Rattle.std.proofs.Common.{◌≡◌, inl, inr, ℕ, ◌<◌, not, Bool, true, false, List, [], ◌++◌, length, Option, Some, None, is_some, Result, Ok, Err, refl, sym, ap, ◌∙◌, subst, arith}
 use Rattle.std.proofs.lemmas.Bool.{cases_lt}
 use Rattle.sc_model.specs.declared.cause.Cause.TheVariants.{NotFound, FileTooLarge, UnterminatedComment, BadNesting, BadDirective}
 use Rattle.c11_directives.specs.declared.directive.Conditional.{Conditional}
@@ -9,13 +9,13 @@ use Rattle.c11_directives.specs.declared.directive.Directive.TheVariants as dire
 use Rattle.std.specs.Option.{option_map}
 use Rattle.std.specs.Prelude.{◌||◌, unwrap_or}
 use Rattle.c11_tokens.specs.Lex.{Lexed}
-use Rattle.c11_directives.specs.Lines.{Line, lines_of, hash_of, conditional_of, Group, Branches, empty, plain, section, closing, otherwise, alternative, Tree}
+use Rattle.c11_directives.specs.Lines.{Line, hash_of, conditional_of, Group, Branches, empty, plain, section, closing, otherwise, alternative, Tree}
 use Rattle.sc_model.specs.Outside.{Files}
 use Rattle.sc_model.specs.Fault.{Fault, first_place, fault_at}
-use Rattle.c11_directives.specs.Pre.{Context, context_of, State, place_in, put_out, Becomes, unexpanded, Closes, closed, refused, RefusedAt, operand_of, Decides, if_defined, if_undefined, no_name, expression, is_ignored, is_refused, Steps, text, null, stopped, ignored, unknown, Walks, done, line, line_stops, taken, taken_stops, passed, passed_stops, head_stops, WalksBranches, none_taken, last_taken, later_taken, later_passed, later_stops, largest_file, File, Searches, inside, file_lines, Enters, Includes, output_of, Pre}
+use Rattle.c11_directives.specs.Pre.{Context, State, place_in, put_out, Becomes, unexpanded, Closes, closed, refused, RefusedAt, operand_of, Decides, if_defined, if_undefined, no_name, expression, is_ignored, is_refused, Steps, text, null, stopped, ignored, unknown, Walks, done, line, line_stops, taken, taken_stops, passed, passed_stops, head_stops, WalksBranches, none_taken, last_taken, later_taken, later_passed, later_stops, largest_file, File, Searches, inside, file_lines, Enters, Includes, output_of, Pre}
 use Rattle.sc_model.specs.Space.{Space}
 use Rattle.c11_macros.specs.Macros.{Macros}
-use Rattle.sc_model.specs.Token.{Position, Place, Token, in_file}
+use Rattle.sc_model.specs.Token.{Position, Place, Token}
 use Rattle.c11_tokens.proofs.LexLaws.{lexes-unique}
 use Rattle.c11_directives.proofs.NestLaws.{tree-unique}
 

@@ -5,7 +5,7 @@ use Rattle.std.proofs.lemmas.List.{get_or-drop, get_or_past, length-drop}
 use Rattle.std.specs.Option.{option_and_then}
 use Rattle.sc_lines.specs.Branches.{begins_branch, ends_branch, IsNextBranch, ClosesAt, last_branch, more_branches, HasBranch}
 use Rattle.sc_lines.specs.declared.line.Branch.{Branch}
-use Rattle.sc_lines.specs.Judges.{line_at}
+use Rattle.sc_lines.specs.Judges.{no_line, line_at}
 use Rattle.sc_lines.specs.Sections.{nest_by}
 use Rattle.sc_lines.proofs.Nesting.{nest_all, nest_all-append, nest-group}
 use Rattle.c11_directives.specs.declared.directive.Conditional.{Conditional}
@@ -15,7 +15,7 @@ use Rattle.c11_directives.specs.Lines.{Line, conditional_of, Group, group_lines}
 -- a longer front of a list has the shorter one, and what follows that
 record HasFront (xs : List Line) (n m : ℕ) : Type 0 where
   rest : List Line
-  whole : take m xs ≡ take n xs ++ get_or xs n [] ∷ rest
+  whole : take m xs ≡ take n xs ++ get_or xs n no_line ∷ rest
 
 has-front : (xs : List Line) (n m : ℕ) → n < m → n < length xs → HasFront xs n m
 has-front [] n m longer within = absurd (omega arith)
@@ -46,7 +46,7 @@ module _ (ms : List Line) where
   ends-within j ends =
       elim (cases_lt j (length ms)) [
         | inl h ↦ h
-        | inr past ↦ (let nothing : ends_branch (conditional_of (line_at ms j)) ≡ false = ap (λ l. ends_branch (conditional_of l)) (get_or_past ms j [] past) in cc)
+        | inr past ↦ (let nothing : ends_branch (conditional_of (line_at ms j)) ≡ false = ap (λ l. ends_branch (conditional_of l)) (get_or_past ms j no_line past) in cc)
       ]
 
   not-before : {i j k : ℕ} → IsNextBranch ms i j → IsNextBranch ms i k → j < k → ⊥
@@ -58,14 +58,14 @@ module _ (ms : List Line) where
       let longer : n < k - (i + 1) = omega arith in
       let front = has-front lines n (k - (i + 1)) longer within in
       let here : (i + 1) + n ≡ j = omega arith in
-      let next : get_or lines n [] ≡ line_at ms j = get_or-drop (i + 1) ms n [] ∙ ap (λ m. get_or ms m []) here in
+      let next : get_or lines n no_line ≡ line_at ms j = get_or-drop (i + 1) ms n no_line ∙ ap (λ m. get_or ms m no_line) here in
       let shorter = a.between.1 in
       let whole = b.between.1 in
       let fine : nest_all (group_lines b.between.0) [] ≡ Some [] = nest-group b.between.0 whole.grouped [] in
       let fails : nest_all (group_lines b.between.0) [] ≡ None =
-      stuck a.between.0 (get_or lines n []) front.rest (group_lines b.between.0) (nest-group a.between.0 shorter.grouped [])
+      stuck a.between.0 (get_or lines n no_line) front.rest (group_lines b.between.0) (nest-group a.between.0 shorter.grouped [])
       (ap (λ l. ends_branch (conditional_of l)) next ∙ a.ends)
-      (whole.whole ∙ (front.whole ∙ ap (λ ls. ls ++ get_or lines n [] ∷ front.rest) (sym shorter.whole))) in
+      (whole.whole ∙ (front.whole ∙ ap (λ ls. ls ++ get_or lines n no_line ∷ front.rest) (sym shorter.whole))) in
       cc
 
   next-same : {i j k : ℕ} → IsNextBranch ms i j → IsNextBranch ms i k → j ≡ k

@@ -9,12 +9,12 @@ use Rattle.sc_base.specs.declared.token.Token.{Token}
 use Rattle.sc_lines.specs.Branches.{begins_branch, ends_branch, IsNextBranch, ClosesAt, last_branch, more_branches, IsBranchOf, HasBranch, HasBranches, without_branch}
 use Rattle.sc_lines.specs.declared.line.Branch.{Branch}
 use Rattle.sc_lines.specs.declared.line.Line as declared_line
-use Rattle.sc_lines.specs.Judges.{line_at}
-use Rattle.sc_lines.specs.Split.{AreLines, tokens_of}
+use Rattle.sc_lines.specs.Judges.{no_line, line_at}
+use Rattle.sc_lines.specs.Split.{FollowFrom, AreLines, tokens_of}
 use Rattle.sc_lines.specs.Unread.{branch_at, sections_at}
 use Rattle.c11_directives.specs.declared.directive.Conditional.{Conditional}
 use Rattle.c11_directives.specs.declared.directive.Conditional.TheVariants.{If, Ifdef, Ifndef, Elif, Else, Endif}
-use Rattle.c11_directives.specs.Lines.{Line, conditional_of, is_opening, Group, Branches, empty, plain, section, closing, otherwise, alternative, group_lines, branch_lines, IsGroup, AreBranches, IsTree}
+use Rattle.c11_directives.specs.Lines.{Line, conditional_in, conditional_of, is_opening, Group, Branches, empty, plain, section, closing, otherwise, alternative, group_lines, branch_lines, IsGroup, AreBranches, IsTree}
 
 -- the sections that are open before the lines of these directives, from line i to the last
 abbrev pub sections_from : ℕ → List (Option Conditional) → List Branch
@@ -53,7 +53,7 @@ module _ (ms : List Line) where
     pub branches : AllFrom i (branches_from i (map conditional_of lines))
 
   line-is : (i : ℕ) (line : Line) (lines : List Line) (c : Option Conditional) → drop i ms ≡ line ∷ lines → conditional_of line ≡ c → conditional_of (line_at ms i) ≡ c
-  line-is i line lines c placed e = ap conditional_of (first-at ms i [] line lines placed) ∙ e
+  line-is i line lines c placed e = ap conditional_of (first-at ms i no_line line lines placed) ∙ e
 
   -- one line more
   read-more : (i : ℕ) (line : Line) (lines : List Line) (c : Option Conditional) (ss : List Branch)
@@ -216,11 +216,11 @@ module _ (ms : List Line) where
 
 -- a step to the line in front
 pub record IsReadFrom (lines : List declared_line.Line) (i : ℕ) (ss : List Branch) : Type 0 where
-  pub sections : ss ≡ sections_from i (map (λ l. l.conditional) (drop i lines))
-  pub branches : map (λ l. l.branch) (drop i lines) ≡ branches_from i (map (λ l. l.conditional) (drop i lines))
+  pub sections : ss ≡ sections_from i (map (λ l. conditional_in l.directive) (drop i lines))
+  pub branches : map (λ l. l.branch) (drop i lines) ≡ branches_from i (map (λ l. conditional_in l.directive) (drop i lines))
 
 pub read-step : (lines : List declared_line.Line) (i j : ℕ) (d : declared_line.Line) (b : Option Branch) (ss next : List Branch) → i ≡ suc j → j < length lines
-    → b ≡ branch_at ss (get_or lines j d).conditional → next ≡ sections_at j ss (get_or lines j d).conditional → IsReadFrom lines i ss → IsReadFrom (set lines j (record (get_or lines j d) { branch = b })) j next
+    → b ≡ branch_at ss (conditional_in (get_or lines j d).directive) → next ≡ sections_at j ss (conditional_in (get_or lines j d).directive) → IsReadFrom lines i ss → IsReadFrom (set lines j (record (get_or lines j d) { branch = b })) j next
 read-step lines i j d b ss next at h is_b is_next r =
     let line = get_or lines j d in
     let rest = drop (suc j) lines in
@@ -228,12 +228,12 @@ read-step lines i j d b ss next at h is_b is_next r =
     let from : drop j (set lines j (record line { branch = b })) ≡ record line { branch = b } ∷ rest =
     drop-set lines j (record line { branch = b }) h ∙ ap (λ k. record line { branch = b } ∷ drop k lines) (add-one j) in
     record {
-      sections = is_next ∙ (ap (λ s. sections_at j s line.conditional) read.sections ∙ ap (λ ls. sections_from j (map (λ (l : declared_line.Line). l.conditional) ls)) (sym from));
+      sections = is_next ∙ (ap (λ s. sections_at j s (conditional_in line.directive)) read.sections ∙ ap (λ ls. sections_from j (map (λ (l : declared_line.Line). conditional_in l.directive) ls)) (sym from));
       branches =
           ap (map (λ (l : declared_line.Line). l.branch)) from
-          ∙ (ap (λ x. x ∷ map (λ (l : declared_line.Line). l.branch) rest) (is_b ∙ ap (λ s. branch_at s line.conditional) read.sections)
-          ∙ (ap (λ bs. branch_at (sections_from (suc j) (map (λ (l : declared_line.Line). l.conditional) rest)) line.conditional ∷ bs) read.branches
-          ∙ ap (λ ls. branches_from j (map (λ (l : declared_line.Line). l.conditional) ls)) (sym from)));
+          ∙ (ap (λ x. x ∷ map (λ (l : declared_line.Line). l.branch) rest) (is_b ∙ ap (λ s. branch_at s (conditional_in line.directive)) read.sections)
+          ∙ (ap (λ bs. branch_at (sections_from (suc j) (map (λ (l : declared_line.Line). conditional_in l.directive) rest)) (conditional_in line.directive) ∷ bs) read.branches
+          ∙ ap (λ ls. branches_from j (map (λ (l : declared_line.Line). conditional_in l.directive) ls)) (sym from)));
     }
 
 -- what doesn't depend on the branches of the lines
@@ -244,11 +244,24 @@ others-same f a b e = sym (map-map f without_branch a) ∙ (ap (map f) e ∙ map
 all-others : (P : declared_line.Line → Type 0) (ls : List declared_line.Line) → All P (map without_branch ls) → All (λ l. P (without_branch l)) ls
 all-others P ls all = λ k d h. subst P (get_or-map without_branch ls k d (without_branch d) h) (all k (without_branch d) (omega (arith, length-map ls without_branch, h)))
 
+-- where lines stand doesn't depend on their branches
+follow-without : (n : ℕ) (ls : List declared_line.Line) → FollowFrom n ls → FollowFrom n (map without_branch ls)
+follow-without n [] f = tt
+follow-without n (l ∷ ls) f = (f.0, follow-without (l.end + 1) ls f.1)
+
+follow-with : (n : ℕ) (ls : List declared_line.Line) → FollowFrom n (map without_branch ls) → FollowFrom n ls
+follow-with n [] f = tt
+follow-with n (l ∷ ls) f = (f.0, follow-with (l.end + 1) ls f.1)
+
+follow-others : (n : ℕ) (a b : List declared_line.Line) → map without_branch a ≡ map without_branch b → FollowFrom n b → FollowFrom n a
+follow-others n a b e f = follow-with n a (subst (FollowFrom n) (sym e) (follow-without n b f))
+
 pub lines-same : (names : List (List ℕ)) (tokens : List Token) (a b : List declared_line.Line) → map without_branch a ≡ map without_branch b → AreLines names tokens b → AreLines names tokens a
 lines-same names tokens a b e are = record {
   tokens_are = others-same (tokens_of tokens) a b e ∙ are.tokens_are;
-  conditionals = others-same (λ l. l.conditional) a b e ∙ are.conditionals;
+  directives = others-same (λ l. l.directive) a b e ∙ are.directives;
   within =
       let within = λ (l : declared_line.Line). (l.first ≤ l.end) × (l.end ≤ length tokens) in
       all-others within a (subst (All within) (sym e) (All-map within without_branch b are.within));
+  follow = follow-others 0 a b e are.follow;
 }

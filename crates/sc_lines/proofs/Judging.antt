@@ -6,7 +6,7 @@ use Rattle.std.proofs.lemmas.List.{take_more, get_or_past, reverse-append}
 use Rattle.std.specs.Prelude.{if◌then◌else◌}
 use Rattle.std.specs.Option.{option_map, option_and_then}
 use Rattle.sc_lines.specs.declared.section.Open.{Open}
-use Rattle.sc_lines.specs.Judges.{line_at, FailsAt}
+use Rattle.sc_lines.specs.Judges.{no_line, line_at, FailsAt}
 use Rattle.sc_lines.specs.Sections.{Sections, nest_by, sections_of}
 use Rattle.sc_lines.proofs.Nesting.{nest, nest_all, nest_all-append, accepted, misplaced_at, open_at_end, head_named}
 use Rattle.c11_directives.specs.declared.directive.Conditional.{Conditional}
@@ -57,7 +57,7 @@ module _ (lines : List Line) (i : ℕ) (ss : Sections ℕ) (c : Option Condition
   pub nests-more : i < length lines → conditional_of (line_at lines i) ≡ c → (next : Sections ℕ) → nest_by i ss c ≡ Some next → Nests lines i ss → Nests lines (i + 1) next
   nests-more h e next fits n = record {
     so_far =
-        ap (λ ls. nest_all ls []) (take_more lines i [] h)
+        ap (λ ls. nest_all ls []) (take_more lines i no_line h)
         ∙ (nest_all-append (take i lines) (line_at lines i ∷ []) []
         ∙ (ap (option_and_then (nest_all (line_at lines i ∷ []))) n.so_far
         ∙ ap (option_and_then (nest_all [])) (step-is e ∙ ap (option_map (with_lines lines)) fits)));
@@ -71,7 +71,7 @@ module _ (lines : List Line) (i : ℕ) (ss : Sections ℕ) (c : Option Condition
         within = h;
         directive = λ plain. let some : nest (line_at lines i) (with_lines lines ss) ≡ Some (with_lines lines ss) = ap (nest_by (line_at lines i) (with_lines lines ss)) plain in cc;
         fault = λ place at.
-            subst (λ ls. Tree ls (Err place)) (sym (split_at lines i [] h))
+            subst (λ ls. Tree ls (Err place)) (sym (split_at lines i no_line h))
             (misplaced_at (take i lines) (line_at lines i) (drop (suc i) lines) (with_lines lines ss) place n.so_far none at);
       }
 
@@ -86,7 +86,7 @@ named-within : (lines : List Line) (i : ℕ) → Opens (line_at lines i) → i <
 named-within lines i o =
     elim (cases_lt i (length lines)) [
       | inl h ↦ h
-      | inr past ↦ (let nothing : line_at lines i ≡ [] = get_or_past lines i [] past in let none : conditional_of (line_at lines i) ≡ None = ap conditional_of nothing in let some : conditional_of (line_at lines i) ≡ Some o.conditional = o.named in cc)
+      | inr past ↦ (let nothing : line_at lines i ≡ no_line = get_or_past lines i no_line past in let none : conditional_of (line_at lines i) ≡ None = ap conditional_of nothing in let some : conditional_of (line_at lines i) ≡ Some o.conditional = o.named in cc)
     ]
 
 pub nests-open : (lines : List Line) (s : ℕ × Bool) (ss rest : Sections ℕ) → ss ≡ s ∷ rest → nest_all lines [] ≡ Some (with_lines lines ss) → FailsAt lines s.0

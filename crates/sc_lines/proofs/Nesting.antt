@@ -1,13 +1,12 @@
 -- The nesting of conditional directives, line by line, and the groups that it makes.
-use Rattle.std.proofs.Common.{◌≡◌, ℕ, Bool, true, false, List, [], ◌∷◌, ◌++◌, Option, Some, None, Err, codes, refl, sym, ap, ◌∙◌, subst, append_assoc, append-nil}
+use Rattle.std.proofs.Common.{◌≡◌, Bool, true, false, List, [], ◌∷◌, ◌++◌, Option, Some, None, Err, refl, sym, ap, ◌∙◌, subst, append_assoc, append-nil}
 use Rattle.std.proofs.lemmas.Option.{option_and_then_some}
 use Rattle.std.specs.Option.{option_and_then}
 use Rattle.c11_directives.specs.declared.directive.Conditional.{Conditional}
 use Rattle.c11_directives.specs.declared.directive.Conditional.TheVariants.{If, Ifdef, Ifndef, Elif, Else, Endif}
-use Rattle.sc_model.specs.declared.kind.Kind.TheVariants.{Identifier}
+use Rattle.c11_directives.specs.declared.directive.Directive.TheVariants as directive
 use Rattle.c11_directives.specs.Lines.{Line, conditional_of, is_opening, Group, Branches, empty, plain, section, closing, otherwise, alternative, group_lines, branch_lines, Opens, IsGroup, AreBranches, IsTree, GoesOn, IsOpenAtEnd, Unclosed, first, more, last, hash_place, Tree, misplaced, unclosed}
-use Rattle.sc_model.specs.Fault.{first_place}
-use Rattle.sc_model.specs.Token.{Token, Place}
+use Rattle.sc_model.specs.Token.{Place}
 use Rattle.sc_lines.specs.Sections.{Sections, closes_section, next_branch, nest_by}
 
 abbrev pub nest : Line → Sections Line → Option (Sections Line)
@@ -168,15 +167,11 @@ pub nested-lines : (lines : List Line) → (ss : Sections Line) → nest_all lin
 nested-lines lines ss e = nested-all lines [] [] (outside empty tt) ss e
 
 -- a line that closes a section
-word : List ℕ → Token
-word spelling = record { kind = Identifier; spelling = spelling; space = false; place = first_place [] }
-
 endif : Line
-unfolding word
-endif = word (codes "#") ∷ word (codes "endif") ∷ []
+endif = record { tokens = []; directive = Some (directive.Conditional Endif) }
 
 endif-closes : conditional_of endif ≡ Some Endif
-unfolding word endif
+unfolding endif
 endif-closes = refl
 
 goes_on : (ss : Sections Line) {xs : List Line} → Nested ss xs → GoesOn xs

@@ -9,9 +9,9 @@ use Rattle.std.specs.Prelude.{slice_range, if◌then◌else◌}
 use Rattle.sc_base.specs.declared.token.Token.{Token}
 use Rattle.sc_base.specs.Seen.{seen, seen_place}
 use Rattle.sc_lines.specs.declared.line.Line.{Line}
-use Rattle.sc_lines.specs.Judges.{line_at, FailsAt, Judges, no_token}
+use Rattle.sc_lines.specs.Judges.{no_line, line_at, FailsAt, Judges, no_token}
 use Rattle.sc_lines.specs.Nests.{seen_lines}
-use Rattle.sc_lines.specs.Split.{AreLines, tokens_of, token_lines, conditional_at}
+use Rattle.sc_lines.specs.Split.{AreLines, tokens_of, token_lines, directive_at}
 use Rattle.sc_lines.proofs.Judging.{same_at, same_length}
 use Rattle.c11_tokens.specs.Lex.{is_newline}
 use Rattle.c11_directives.specs.Lines as model
@@ -34,79 +34,87 @@ map-same : {A B : Type 0} (f g : A → B) → ((x : A) → f x ≡ g x) → (xs 
 map-same f g same [] = refl
 map-same f g same (x ∷ xs) = ap (λ y. y ∷ map f xs) (same x) ∙ ap (λ ys. g x ∷ ys) (map-same f g same xs)
 
+-- a line of these tokens
+abbrev pub seen_line : List (List ℕ) → List (List ℕ) → List Token → model.Line
+seen_line names files line = model.line_of model.c11_directive_names (map (seen names files) line)
+
 -- which directive a line is doesn't depend on the names of files
-pub conditional-files : (names files : List (List ℕ)) (line : List Token) → model.conditional_of (map (seen names files) line) ≡ conditional_at names line
-conditional-files names files [] = refl
-conditional-files names files (hash ∷ []) = refl
-conditional-files names files (hash ∷ word ∷ rest) = refl
+pub directive-files : (names files : List (List ℕ)) (line : List Token) → (seen_line names files line).directive ≡ directive_at names line
+directive-files names files [] = refl
+directive-files names files (hash ∷ []) = refl
+directive-files names files (hash ∷ word ∷ rest) = refl
 
--- the directive of a line is that of its tokens
-pub directive-at : (names : List (List ℕ)) (tokens : List Token) (lines : List Line) → AreLines names tokens lines → (i : ℕ) (d : Line) → i < length lines
-    → (get_or lines i d).conditional ≡ conditional_at names (tokens_of tokens (get_or lines i d))
-directive-at names tokens lines are i d h =
-    same_at (λ l. l.conditional) (λ l. conditional_at names (tokens_of tokens l)) lines lines i d d
-    (are.conditionals ∙ (ap (map (conditional_at names)) (sym are.tokens_are) ∙ map-map (conditional_at names) (tokens_of tokens) lines)) h
+module _ (names : List (List ℕ)) (tokens : List Token) (lines : List Line) (are : AreLines names tokens lines) where
+  own-directives : map (λ l. l.directive) lines ≡ map (λ l. directive_at names (tokens_of tokens l)) lines
+  own-directives = are.directives ∙ (ap (map (directive_at names)) (sym are.tokens_are) ∙ map-map (directive_at names) (tokens_of tokens) lines)
 
-module _ (names files : List (List ℕ)) (tokens : List Token) (lines : List Line) (are : AreLines names tokens lines) where
-  pub lines-seen : seen_lines names files tokens ≡ map (λ l. map (seen names files) (tokens_of tokens l)) lines
-  lines-seen =
-      split_lines-map (seen names files) (λ t. is_newline t.kind) tokens
-      ∙ (ap (map (map (seen names files))) (sym are.tokens_are) ∙ map-map (map (seen names files)) (tokens_of tokens) lines)
+  -- the directive of a line is that of its tokens
+  pub directive-own : (i : ℕ) (d : Line) → i < length lines → (get_or lines i d).directive ≡ directive_at names (tokens_of tokens (get_or lines i d))
+  directive-own i d h = same_at (λ l. l.directive) (λ l. directive_at names (tokens_of tokens l)) lines lines i d d own-directives h
 
-  pub conditionals-seen : map model.conditional_of (seen_lines names files tokens) ≡ map (λ l. l.conditional) lines
-  conditionals-seen =
-      ap (map model.conditional_of) (split_lines-map (seen names files) (λ t. is_newline t.kind) tokens)
-      ∙ (map-map model.conditional_of (map (seen names files)) (token_lines tokens)
-      ∙ (map-same (λ line. model.conditional_of (map (seen names files) line)) (conditional_at names) (conditional-files names files) (token_lines tokens)
-      ∙ sym are.conditionals))
+  module _ (files : List (List ℕ)) where
+    pub lines-seen : seen_lines names files tokens ≡ map (λ l. seen_line names files (tokens_of tokens l)) lines
+    lines-seen =
+        ap (map (model.line_of model.c11_directive_names)) (split_lines-map (seen names files) (λ t. is_newline t.kind) tokens)
+        ∙ (map-map (model.line_of model.c11_directive_names) (map (seen names files)) (token_lines tokens)
+        ∙ (ap (map (seen_line names files)) (sym are.tokens_are) ∙ map-map (seen_line names files) (tokens_of tokens) lines))
+
+    pub conditionals-seen : map model.conditional_of (seen_lines names files tokens) ≡ map (λ l. model.conditional_in l.directive) lines
+    conditionals-seen =
+        ap (map model.conditional_of) lines-seen
+        ∙ (map-map model.conditional_of (λ l. seen_line names files (tokens_of tokens l)) lines
+        ∙ (map-same (λ l. model.conditional_of (seen_line names files (tokens_of tokens l))) (λ l. model.conditional_in (directive_at names (tokens_of tokens l)))
+        (λ l. ap model.conditional_in (directive-files names files (tokens_of tokens l))) lines
+        ∙ (sym (map-map model.conditional_in (λ l. directive_at names (tokens_of tokens l)) lines)
+        ∙ (ap (map model.conditional_in) (sym own-directives) ∙ map-map model.conditional_in (λ (l : Line). l.directive) lines))))
 
 -- the first token of a line that is a directive
 pub record FirstToken (names files : List (List ℕ)) (tokens : List Token) (first end : ℕ) (token : Token) : Type 0 where
   pub within : first < length tokens
-  pub place : model.hash_place (map (seen names files) (slice_range tokens first end)) ≡ Some (seen_place files token.place)
+  pub place : model.hash_place (seen_line names files (slice_range tokens first end)) ≡ Some (seen_place files token.place)
 
-taken_none : (names files : List (List ℕ)) (n : ℕ) → model.conditional_of (map (seen names files) (take n [])) ≡ None
+taken_none : (names files : List (List ℕ)) (n : ℕ) → model.conditional_of (seen_line names files (take n [])) ≡ None
 taken_none names files zero = refl
 taken_none names files (suc n) = refl
 
 -- a front of a list that isn't empty
-first_of : (names files : List (List ℕ)) (n : ℕ) (t : Token) (ts : List Token) → (model.conditional_of (map (seen names files) (take n (t ∷ ts))) ≡ None → ⊥)
-    → model.hash_place (map (seen names files) (take n (t ∷ ts))) ≡ Some (seen_place files t.place)
+first_of : (names files : List (List ℕ)) (n : ℕ) (t : Token) (ts : List Token) → (model.conditional_of (seen_line names files (take n (t ∷ ts))) ≡ None → ⊥)
+    → model.hash_place (seen_line names files (take n (t ∷ ts))) ≡ Some (seen_place files t.place)
 first_of names files zero t ts directive = absurd (directive refl)
 first_of names files (suc n) t ts directive = refl
 
 pub first_token : (names files : List (List ℕ)) (tokens : List Token) (first end : ℕ) (d : Token)
-    → (model.conditional_of (map (seen names files) (slice_range tokens first end)) ≡ None → ⊥) → FirstToken names files tokens first end (get_or tokens first d)
+    → (model.conditional_of (seen_line names files (slice_range tokens first end)) ≡ None → ⊥) → FirstToken names files tokens first end (get_or tokens first d)
 first_token names files tokens first end d directive =
     elim (cases_lt first (length tokens)) [
       | inl h ↦ (let whole : drop first tokens ≡ get_or tokens first d ∷ drop (suc first) tokens = drop-cons tokens first d h in
           record {
             within = h;
-            place = ap (λ ts. model.hash_place (map (seen names files) (take (end - first) ts))) whole
+            place = ap (λ ts. model.hash_place (seen_line names files (take (end - first) ts))) whole
                 ∙ first_of names files (end - first) (get_or tokens first d) (drop (suc first) tokens)
-                (λ e. directive (ap (λ ts. model.conditional_of (map (seen names files) (take (end - first) ts))) whole ∙ e));
+                (λ e. directive (ap (λ ts. model.conditional_of (seen_line names files (take (end - first) ts))) whole ∙ e));
           })
-      | inr past ↦ absurd (directive (ap (λ ts. model.conditional_of (map (seen names files) (take (end - first) ts))) (drop_of_length-le tokens past) ∙ taken_none names files (end - first)))
+      | inr past ↦ absurd (directive (ap (λ ts. model.conditional_of (seen_line names files (take (end - first) ts))) (drop_of_length-le tokens past) ∙ taken_none names files (end - first)))
     ]
 
 module _ (names files : List (List ℕ)) (tokens : List Token) (lines : List Line) (are : AreLines names tokens lines) where
   -- the line of a number
-  pub line-seen : (i : ℕ) (d : Line) → i < length lines → line_at (seen_lines names files tokens) i ≡ map (seen names files) (tokens_of tokens (get_or lines i d))
-  line-seen i d h = same_at (λ l. l) (λ l. map (seen names files) (tokens_of tokens l)) (seen_lines names files tokens) lines i [] d (map-id (seen_lines names files tokens) ∙ lines-seen names files tokens lines are) h
+  pub line-seen : (i : ℕ) (d : Line) → i < length lines → line_at (seen_lines names files tokens) i ≡ seen_line names files (tokens_of tokens (get_or lines i d))
+  line-seen i d h = same_at (λ l. l) (λ l. seen_line names files (tokens_of tokens l)) (seen_lines names files tokens) lines i no_line d (map-id (seen_lines names files tokens) ∙ lines-seen names tokens lines are files) h
 
 -- the line at which the nesting fails, whatever the names of files are
 pub fails : (names : List (List ℕ)) (tokens : List Token) (lines : List Line) (found : Option ℕ) (at : ℕ) → AreLines names tokens lines → found ≡ Some at
-    → ((ms : List model.Line) → map model.conditional_of ms ≡ map (λ l. l.conditional) lines → Judges ms found)
+    → ((ms : List model.Line) → map model.conditional_of ms ≡ map (λ l. model.conditional_in l.directive) lines → Judges ms found)
     → (files : List (List ℕ)) → FailsAt (seen_lines names files tokens) at
 fails names tokens lines found at are is judged files =
-    subst (Judges (seen_lines names files tokens)) is (judged (seen_lines names files tokens) (conditionals-seen names files tokens lines are))
+    subst (Judges (seen_lines names files tokens)) is (judged (seen_lines names files tokens) (conditionals-seen names tokens lines are files))
 
 module _ (names : List (List ℕ)) (tokens : List Token) (lines : List Line) (are : AreLines names tokens lines) (at : ℕ) (at_fault : (files : List (List ℕ)) → FailsAt (seen_lines names files tokens) at) where
   pub fault-within : at < length lines
-  fault-within = omega (arith, (at_fault []).within, same_length model.conditional_of (λ l. l.conditional) (seen_lines names [] tokens) lines (conditionals-seen names [] tokens lines are))
+  fault-within = omega (arith, (at_fault []).within, same_length model.conditional_of (λ l. model.conditional_in l.directive) (seen_lines names [] tokens) lines (conditionals-seen names tokens lines are []))
 
-  fault-line : (files : List (List ℕ)) (line : Line) → line ≡ get_or lines at line → line_at (seen_lines names files tokens) at ≡ map (seen names files) (tokens_of tokens line)
-  fault-line files line is = line-seen names files tokens lines are at line fault-within ∙ ap (λ l. map (seen names files) (tokens_of tokens l)) (sym is)
+  fault-line : (files : List (List ℕ)) (line : Line) → line ≡ get_or lines at line → line_at (seen_lines names files tokens) at ≡ seen_line names files (tokens_of tokens line)
+  fault-line files line is = line-seen names files tokens lines are at line fault-within ∙ ap (λ l. seen_line names files (tokens_of tokens l)) (sym is)
 
   fault-token : (files : List (List ℕ)) (line : Line) (d : Token) → line ≡ get_or lines at line → FirstToken names files tokens line.first line.end (get_or tokens line.first d)
   fault-token files line d is =

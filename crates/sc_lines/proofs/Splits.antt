@@ -1,10 +1,12 @@
--- The first line of a list, and the rest.
-use Rattle.std.proofs.Common.{◌≡◌, ℕ, suc, ◌+◌, ◌<◌, not, Bool, true, List, [], ◌∷◌, ◌++◌, length, take, drop, get_or, add-one, sym, ap, ◌∙◌, subst, arith}
+-- The first line of a list, and the rest; lines that stand one behind another.
+use Rattle.std.proofs.Common.{◌≡◌, ℕ, suc, ◌+◌, ◌<◌, not, Bool, true, List, [], ◌∷◌, ◌++◌, length, take, drop, get_or, add-one, refl, sym, ap, ◌∙◌, subst, arith}
 use Rattle.std.proofs.Math.Seq.{split_at, take-length}
 use Rattle.std.proofs.Math.ListN.{drop_of_length-le}
 use Rattle.std.proofs.lemmas.Bool.{and_parts, not-true}
 use Rattle.std.specs.List.{list_all}
 use Rattle.c11_directives.specs.Lines.{onto_first, split_lines}
+use Rattle.sc_lines.specs.declared.line.Line.{Line}
+use Rattle.sc_lines.specs.Split.{FollowFrom}
 
 module _ {T : Type 0} (ends : T → Bool) where
   -- no item ends a line
@@ -37,3 +39,16 @@ module _ {T : Type 0} (ends : T → Bool) where
       let all : take n (t ∷ ts) ≡ t ∷ ts = take-length (t ∷ ts) in
       let past : drop (n + 1) (t ∷ ts) ≡ [] = drop_of_length-le (t ∷ ts) (omega arith) in
       split-open t ts (subst (λ xs. is_open xs ≡ true) all o) ∙ sym (ap (λ xs. xs ∷ split_lines ends (drop (n + 1) (t ∷ ts))) all ∙ ap (λ xs. (t ∷ ts) ∷ split_lines ends xs) past)
+
+-- behind these lines, the first of which begins at a place
+abbrev pub behind : ℕ → List Line → ℕ
+behind n [] = n
+behind n (l ∷ ls) = behind (l.end + 1) ls
+
+pub follow-push : (n : ℕ) (ls : List Line) (l : Line) → FollowFrom n ls → l.first ≡ behind n ls → FollowFrom n (ls ++ l ∷ [])
+follow-push n [] l f e = (e, tt)
+follow-push n (x ∷ xs) l f e = (f.0, follow-push (x.end + 1) xs l f.1 e)
+
+pub behind-push : (n : ℕ) (ls : List Line) (l : Line) → behind n (ls ++ l ∷ []) ≡ l.end + 1
+behind-push n [] l = refl
+behind-push n (x ∷ xs) l = behind-push (x.end + 1) xs l

@@ -9,9 +9,12 @@ use Rattle.sc_base.specs.declared.token.Token as declared_token
 abbrev pub no_token : declared_token.Token
 no_token = record { kind = Newline; name = record { 0 = 0 }; spelling = record { 0 = 0 }; space = false; place = record { file = record { 0 = 0 }; line = 0; column = 0 } }
 
+abbrev pub no_line : Line
+no_line = record { tokens = []; directive = None }
+
 -- the line of a number
 abbrev pub line_at : List Line → ℕ → Line
-line_at lines i = slice_index_or lines i []
+line_at lines i = slice_index_or lines i no_line
 
 -- the lines are at fault at this one, which is a directive
 pub record FailsAt (lines : List Line) (i : ℕ) : Type 0 where

@@ -13,7 +13,7 @@ use Rattle.c11_directives.specs.Lines as model
 
 -- the lines of the tokens, with any names of files
 abbrev pub seen_lines : List (List ℕ) → List (List ℕ) → List Token → List model.Line
-seen_lines names files tokens = model.lines_of (map (seen names files) tokens)
+seen_lines names files tokens = model.lines_of model.c11_directive_names (map (seen names files) tokens)
 
 -- the tree has the lines of the tokens, which are nested, and their branches
 pub record IsTreeOf (names : List (List ℕ)) (tokens : List Token) (tree : FileTree) : Type 0 where

@@ -4,21 +4,21 @@ ghost use Rattle.sc_lines.specs.Branches.{HasBranches, without_branch};
 ghost use Rattle.sc_lines.specs.Unread.{branch_at, branch_here, innermost, sections_at};
 
 use crate::{Branch, Line};
-use sc_base::OutOfMemory;
 use c11_directives::Conditional;
+use sc_base::OutOfMemory;
 use std::alloc::Global;
 
 /// Gives each line the branch that it begins, where it begins one. The lines are nested.
 pub fn set_branches(alloc: Global, lines: &mut [Line]) -> Result<(), OutOfMemory>
     ensures branches { OnOk result ((ms : List model.Line) (group : model.Group)
-        → map model.conditional_of ms ≡ map (λ l. l.conditional) lines.old → model.IsTree ms group → HasBranches ms lines.new) }
+        → map model.conditional_of ms ≡ map (λ l. model.conditional_in l.directive) lines.old → model.IsTree ms group → HasBranches ms lines.new) }
 
     // at every outcome
     ensures others { map without_branch lines.new ≡ map without_branch lines.old }
 {
     let mut sections: Vec<Branch> = Vec::new(alloc);
     for i in (0..lines.len()).rev() {
-        lines[i].branch = branch(&mut sections, i, lines[i].conditional)?;
+        lines[i].branch = branch(&mut sections, i, lines[i].conditional())?;
     }
     Ok(())
 }

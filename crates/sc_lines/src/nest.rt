@@ -2,8 +2,8 @@ ghost use Rattle.std.specs.Prelude.{◌≡◌, None, Some, IfOk, MatchBool};
 ghost use Rattle.sc_lines.specs.Sections.{nest_by, next_branch, sections_of};
 
 use crate::section::Open;
-use sc_base::OutOfMemory;
 use c11_directives::Conditional;
+use sc_base::OutOfMemory;
 
 /// Whether a line may stand where these sections are open, which it opens, continues or closes.
 pub fn nest(

@@ -1,13 +1,12 @@
 ghost use Rattle.std.specs.Prelude.{◌≡◌, ◌+◌, ◌<◌, ◌≤◌, ◌∷◌, All, IfOk, length, take, drop};
 ghost use Rattle.sc_base.specs.Seen.{IsHeld};
 ghost use Rattle.c11_tokens.specs.Lex.{is_newline};
-ghost use Rattle.c11_directives.specs.Lines.{conditional_named};
-ghost use Rattle.sc_lines.specs.Split.{AreLines, conditional_at, token_lines};
+ghost use Rattle.c11_directives.specs.Lines.{c11_directive_names, directive_named};
+ghost use Rattle.sc_lines.specs.Split.{AreLines, directive_at, token_lines};
 
 use crate::Line;
-use sc_base::{Names, OutOfMemory, is_same};
-use sc_base::{Kind, Token};
-use c11_directives::Conditional;
+use c11_directives::{Conditional, Directive};
+use sc_base::{Kind, Names, OutOfMemory, Token, is_same};
 use std::alloc::Global;
 
 /// The lines of a file's tokens.
@@ -22,7 +21,7 @@ pub fn lines(alloc: Global, names: &Names, tokens: &[Token]) -> Result<Vec<Line>
         lines.push(Line {
             first,
             end,
-            conditional: conditional(names, &tokens[first..end]),
+            directive: directive(names, &tokens[first..end]),
             branch: None,
         })?;
         first = end + 1;
@@ -50,37 +49,50 @@ fn ends_line(token: &Token) -> bool
     matches!(token.kind, Kind::Newline)
 }
 
-/// The conditional directive that a line is.
-pub fn conditional(names: &Names, line: &[Token]) -> Option<Conditional>
+/// The directive that a line is.
+fn directive(names: &Names, line: &[Token]) -> Option<Directive>
     requires { All (IsHeld names.now) line.now }
-    ensures { result ≡ conditional_at names.now line.now }
+    ensures { result ≡ directive_at names.now line.now }
 {
-    let [hash, word, ..] = line else {
-        return None;
-    };
-    if !is_same(names.text(hash.name), b"#") {
-        return None;
+    match line {
+        [] => None,
+        [hash, ..] if !is_same(names.text(hash.name), b"#") => None,
+        [_] => Some(Directive::Null),
+        [_, word, ..] => Some(named(names.text(word.spelling))),
     }
-    named(names.text(word.spelling))
 }
 
-/// The conditional directive of a name.
-fn named(word: &[u8]) -> Option<Conditional>
-    ensures { result ≡ conditional_named word.now }
+/// The directive of a name.
+fn named(word: &[u8]) -> Directive
+    ensures { result ≡ directive_named c11_directive_names word.now }
 {
     if is_same(word, b"if") {
-        Some(Conditional::If)
+        Directive::Conditional(Conditional::If)
     } else if is_same(word, b"ifdef") {
-        Some(Conditional::Ifdef)
+        Directive::Conditional(Conditional::Ifdef)
     } else if is_same(word, b"ifndef") {
-        Some(Conditional::Ifndef)
+        Directive::Conditional(Conditional::Ifndef)
     } else if is_same(word, b"elif") {
-        Some(Conditional::Elif)
+        Directive::Conditional(Conditional::Elif)
     } else if is_same(word, b"else") {
-        Some(Conditional::Else)
+        Directive::Conditional(Conditional::Else)
     } else if is_same(word, b"endif") {
-        Some(Conditional::Endif)
+        Directive::Conditional(Conditional::Endif)
+    } else if is_same(word, b"include") {
+        Directive::Include
+    } else if is_same(word, b"define") {
+        Directive::Define
+    } else if is_same(word, b"undef") {
+        Directive::Undef
+    } else if is_same(word, b"line") {
+        Directive::Line
+    } else if is_same(word, b"error") {
+        Directive::Error
+    } else if is_same(word, b"pragma") {
+        Directive::Pragma
+    } else if is_same(word, b"warning") {
+        Directive::Warning
     } else {
-        None
+        Directive::Unknown
     }
 }

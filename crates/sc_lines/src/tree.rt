@@ -9,8 +9,7 @@ use crate::nest::nest;
 use crate::section::Open;
 use crate::split::lines;
 use crate::{FileTree, Line, NestStop};
-use sc_base::{Names, OutOfMemory, Place};
-use sc_base::Token;
+use sc_base::{Names, OutOfMemory, Place, Token};
 use std::alloc::Global;
 
 /// The lines of a file, whose conditional directives are nested.
@@ -40,11 +39,11 @@ fn place_of(tokens: &[Token], line: &Line) -> Place
 /// The line at which the nesting fails: one that may not stand where it does, or else the innermost that is open at the end.
 fn fault_line(alloc: Global, lines: &[Line]) -> Result<Option<usize>, OutOfMemory>
     ensures { IfOk result (λ found. (ms : List model.Line)
-        → map model.conditional_of ms ≡ map (λ l. l.conditional) lines.now → Judges ms found) }
+        → map model.conditional_of ms ≡ map (λ l. model.conditional_in l.directive) lines.now → Judges ms found) }
 {
     let mut sections: Vec<Open> = Vec::new(alloc);
     for (i, line) in lines.iter().enumerate() {
-        if !nest(&mut sections, i, line.conditional)? {
+        if !nest(&mut sections, i, line.conditional())? {
             return Ok(Some(i));
         }
     }

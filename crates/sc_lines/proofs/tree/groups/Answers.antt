@@ -17,7 +17,7 @@ use Rattle.sc_lines.proofs.tree.groups.Goals.{In-None, In-Some}
 
 failed : (c : In-Some) → (files : List (List ℕ)) → FailsAt (seen_lines c.args.names.now files c.args.tokens.now) c.in-Some.at
 failed c = fails c.args.names.now c.args.tokens.now c.in_ok-lines.lines.items c.in_ok-fault_line.field-0 c.in-Some.at c.in_ok-lines.ensures c.in-Some.is
-    (λ ms same. c.in_ok-fault_line.ensures ms (same ∙ ap (map (λ (l : Line). l.conditional)) (sym c.deref.ensures.value)))
+    (λ ms same. c.in_ok-fault_line.ensures ms (same ∙ ap (map (λ (l : Line). model.conditional_in l.directive)) (sym c.deref.ensures.value)))
 
 pub index-requires : goal.index-requires
 index-requires c =
@@ -32,7 +32,7 @@ nested c files =
     let seen = seen_lines c.args.names.now files c.args.tokens.now in
     subst (Judges seen) c.in-None.is
     (c.in_ok-fault_line.ensures seen
-    (conditionals-seen c.args.names.now files c.args.tokens.now c.in_ok-lines.lines.items c.in_ok-lines.ensures ∙ ap (map (λ (l : Line). l.conditional)) (sym c.deref.ensures.value)))
+    (conditionals-seen c.args.names.now c.args.tokens.now c.in_ok-lines.lines.items c.in_ok-lines.ensures files ∙ ap (map (λ (l : Line). model.conditional_in l.directive)) (sym c.deref.ensures.value)))
 
 pub returns-in_ok-set_branches-in-None-clause-ok : goal.returns-in_ok-set_branches-in-None-clause-ok
 returns-in_ok-set_branches-in-None-clause-ok c =
@@ -51,7 +51,7 @@ returns-in_ok-set_branches-in-None-clause-ok c =
       branches = λ files.
           subst (HasBranches (seen_lines names files tokens)) written
           (set.branches (seen_lines names files tokens) (tree files).0
-          (conditionals-seen names files tokens lines c.in_ok-lines.ensures ∙ ap (map (λ (l : Line). l.conditional)) (sym c.deref_mut.ensures.value)) (tree files).1);
+          (conditionals-seen names tokens lines c.in_ok-lines.ensures files ∙ ap (map (λ (l : Line). model.conditional_in l.directive)) (sym c.deref_mut.ensures.value)) (tree files).1);
     }
 
 pub returns-in-Some-clause-err : goal.returns-in-Some-clause-err
