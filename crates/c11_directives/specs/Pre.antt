@@ -48,6 +48,10 @@ place_in s t = t.place
 pub data Becomes (macros : Macros) (run : List Token) : Result (List Token) Fault → Type 0 where
   unexpanded : Becomes macros run (Ok run)
 
+-- the line is text
+abbrev pub with_text : State → Line → State
+with_text s line = record s { run = s.run ++ line.tokens }
+
 -- the run is put out as these tokens
 abbrev pub put_out : State → List Token → State
 put_out s output = record s { run = []; output = s.output ++ output }
@@ -107,7 +111,7 @@ is_refused _ = false
 
 -- What a line that is no conditional directive does. Every directive but the null one is a barrier.
 pub data Steps (context : Context) (line : Line) (s : State) : Result State Fault → Type 0 where
-  text : line.directive ≡ None → Steps context line s (Ok (record s { run = s.run ++ line.tokens }))
+  text : line.directive ≡ None → Steps context line s (Ok (with_text s line))
   null : line.directive ≡ Some directive.Null → Steps context line s (Ok s)
   stopped : (d : Directive) (fault : Fault) → line.directive ≡ Some d → (is_ignored d || is_refused d) ≡ true → Closes s (Err fault)
       → Steps context line s (Err fault)

@@ -1,79 +1,109 @@
 -- The walk of one configuration over the lines of a file as they come, and that it is the walk of their groups.
-use Rattle.std.proofs.Common.{◌≡◌, inl, inr, ℕ, ◌&&◌, not, Bool, true, false, List, [], ◌∷◌, ◌++◌, Option, Some, None, Result, Ok, Err, refl, sym, ap, ◌∙◌, subst, append_assoc, append-nil}
-use Rattle.std.specs.Prelude.{is_none, if◌then◌else◌}
+use Rattle.std.proofs.Common.{◌≡◌, inl, inr, ℕ, ◌&&◌, not, Bool, true, false, List, [], ◌∷◌, ◌++◌, map, Option, Some, None, Result, Ok, Err, refl, sym, ap, ◌∙◌, subst}
+use Rattle.std.specs.Option.{option_map}
+use Rattle.std.specs.Prelude.{is_none, unwrap_or, if◌then◌else◌}
 use Rattle.sc_model.specs.declared.cause.Cause.TheVariants.{BadDirective}
 use Rattle.c11_directives.specs.declared.directive.Conditional.{Conditional}
 use Rattle.c11_directives.specs.declared.directive.Conditional.TheVariants.{If, Ifdef, Ifndef, Elif, Else, Endif}
-use Rattle.c11_directives.specs.Lines.{Line, is_directive, conditional_of, Group, Branches, empty, plain, section, closing, otherwise, alternative, group_lines, branch_lines, IsGroup, AreBranches, Opens, is_opening}
-use Rattle.sc_model.specs.Fault.{Fault}
-use Rattle.c11_directives.specs.Pre.{State, unexpanded, Closes, closed, RefusedAt, operand_of, Decides, if_defined, if_undefined, no_name, expression, is_null, is_named, ignored_names, Steps, text, null, ignored, unknown, Walks, done, line, line_stops, taken, taken_stops, passed, passed_stops, head_stops, WalksBranches, none_taken, last_taken, later_stops}
-use Rattle.c11_macros.specs.Macros.{Macros}
+use Rattle.c11_directives.specs.declared.directive.Directive.{Directive}
+use Rattle.c11_directives.specs.declared.directive.Directive.TheVariants as directive
+use Rattle.c11_directives.specs.Lines.{Line, DirectiveNames, line_of, hash_of, conditional_in, conditional_of, Group, Branches, empty, plain, section, closing, otherwise, alternative, group_lines, branch_lines, IsGroup, AreBranches, Opens, is_opening}
+use Rattle.sc_model.specs.Fault.{Fault, first_place}
+use Rattle.c11_directives.specs.Pre.{Context, State, place_in, with_text, unexpanded, Closes, closed, RefusedAt, operand_of, Decides, if_defined, if_undefined, no_name, expression, is_ignored, is_refused, Steps, text, null, ignored, unknown, Walks, done, line, line_stops, taken, taken_stops, passed, passed_stops, head_stops, WalksBranches, none_taken, last_taken, later_stops}
 use Rattle.sc_model.specs.Token.{Token}
-use Rattle.sc_prep.specs.declared.line_kind.LineKind.{LineKind}
-use Rattle.sc_prep.specs.declared.line_kind.LineKind.TheVariants.{Text, Idle, Unknown}
-use Rattle.sc_prep.specs.LineKind.{line_kind}
-use Rattle.sc_prep.specs.Machine.{Machine, acts, refusal, refusing, turned, put_out, opened, opened_by_name, next_branch, ended, is_taken, step_of_kind, plain_step, step_by, step, run}
+use Rattle.sc_prep.specs.Machine.{Machine, acts, place_at, refusal, refusing, acting, turned, opened, opened_by_name, next_branch, ended, closing_run, is_taken, plain_by, plain_step, step_by, step, run}
 
-pub run-append : (macros : Macros) (m : Machine) (xs ys : List Line) → run macros m (xs ++ ys) ≡ run macros (run macros m xs) ys
-run-append macros m [] ys = refl
-run-append macros m (x ∷ xs) ys = run-append macros (step macros m x) xs ys
+pub run-append : (m : Machine) (xs ys : List Line) → run m (xs ++ ys) ≡ run (run m xs) ys
+run-append m [] ys = refl
+run-append m (x ∷ xs) ys = run-append (step m x) xs ys
 
 -- the machine after the first line of a section that is taken
 abbrev pub opened_as : Machine → Result Bool Fault → Machine
 opened_as m (Ok test) = opened m test
 opened_as m (Err fault) = opened (record m { fault = Some fault }) false
 
--- a machine that takes the lines, with no fault yet
-abbrev pub taking : List (Bool × Bool) → List Token → Machine
-taking sections output = record { active = true; sections = sections; output = output; fault = None }
+-- a machine that takes the lines, with no fault yet, or with one
+abbrev pub after : List (Bool × Bool) → State → Option Fault → Machine
+after ss s fault = record { active = true; sections = ss; state = s; fault = fault }
 
-step_is : (macros : Macros) (m : Machine) (l : Line) {c : Option Conditional} → conditional_of l ≡ c → step macros m l ≡ step_by macros m l c
-step_is macros m l e = ap (step_by macros m l) e
+abbrev pub taking : List (Bool × Bool) → State → Machine
+taking ss s = after ss s None
 
-refused_at : (l : Line) {c : Conditional} → conditional_of l ≡ Some c → RefusedAt l BadDirective (refusal l)
-refused_at [] e = cc
-refused_at (t ∷ ts) e = record { cause_is = refl; place_is = refl }
+step_is : (m : Machine) (l : Line) {c : Option Conditional} → conditional_of l ≡ c → step m l ≡ step_by m l c
+step_is m l e = ap (step_by m l) e
 
-refused_line : (l : Line) → is_directive l ≡ true → RefusedAt l BadDirective (refusal l)
-refused_line [] e = cc
-refused_line (t ∷ ts) e = record { cause_is = refl; place_is = refl }
+-- ---- the # of a directive
 
--- Lines that are not taken, or that follow a fault, do nothing.
+-- a directive has a first token
+abbrev pub HasHash : Line → Type 0
+HasHash l = (l.directive ≡ None → ⊥) → (t : Token) × (hash_of l ≡ Some t)
+
+abbrev pub HaveHashes : List Line → Type 0
+HaveHashes [] = Unit {0}
+HaveHashes (l ∷ ls) = HasHash l × HaveHashes ls
+
+line-hash : (names : DirectiveNames) (ts : List Token) → HasHash (line_of names ts)
+line-hash names [] = λ some. absurd (some refl)
+line-hash names (t ∷ ts) = λ some. (t, refl)
+
+pub lines-hashes : (names : DirectiveNames) (ls : List (List Token)) → HaveHashes (map (line_of names) ls)
+lines-hashes names [] = tt
+lines-hashes names (ts ∷ ls) = (line-hash names ts, lines-hashes names ls)
+
+hashes-parts : (xs ys : List Line) → HaveHashes (xs ++ ys) → HaveHashes xs × HaveHashes ys
+hashes-parts [] ys have = (tt, have)
+hashes-parts (x ∷ xs) ys have = let parts = hashes-parts xs ys have.1 in ((have.0, parts.0), parts.1)
+
+refused_at : (s : State) (l : Line) → HasHash l → (l.directive ≡ None → ⊥) → RefusedAt s l BadDirective (refusal s l)
+refused_at s l has some =
+    let hash = has some in
+    let at : option_map (place_in s) (hash_of l) ≡ Some (place_in s hash.0) = ap (option_map (place_in s)) hash.1 in
+    record { cause_is = refl; place_is = at ∙ sym (ap (λ o. Some (unwrap_or o (first_place []))) at) }
+
+conditional-some : (l : Line) {c : Conditional} → conditional_of l ≡ Some c → l.directive ≡ None → ⊥
+conditional-some l named none = let same = ap conditional_in none in cc
+
+-- ---- lines that are not taken, or that follow a fault, do nothing
+
 inert_refusing : (m : Machine) (l : Line) → acts m ≡ false → refusing m l ≡ m
-inert_refusing m l e = ap (λ b. record m { fault = if b then Some (refusal l) else m.fault }) e
+inert_refusing m l e = ap (λ b. record m { fault = if b then Some (refusal m.state l) else m.fault }) e
 
-inert_put_out : (m : Machine) (l : Line) → acts m ≡ false → put_out m l ≡ m
-inert_put_out m l e = ap (λ b. record m { output = if b then m.output ++ l else m.output }) e
+inert_acting : (m : Machine) (next : State → State) → acts m ≡ false → acting m next ≡ m
+inert_acting m next e = ap (λ b. record m { state = if b then next m.state else m.state }) e
 
 inert_plain : (m : Machine) (l : Line) → acts m ≡ false → plain_step m l ≡ m
-inert_plain m l e = by (line_kind l)
+inert_plain m l e = by l.directive
   where
-    by : (kind : LineKind) → step_of_kind m l kind ≡ m
-    by Text = inert_put_out m l e
-    by Idle = refl
-    by Unknown = inert_refusing m l e
+    chosen : (a b : Bool) → (if a then refusing m l else (if b then acting m closing_run else m)) ≡ m
+    chosen true b = inert_refusing m l e
+    chosen false true = inert_acting m closing_run e
+    chosen false false = refl
+
+    by : (d : Option Directive) → plain_by m l d ≡ m
+    by None = inert_acting m (λ s. with_text s l) e
+    by (Some d) = chosen (is_refused d) (is_ignored d)
 
 -- a section's first line that does nothing only opens the section
-record OpensInert (macros : Macros) (m : Machine) (l : Line) : Type 0 where
+record OpensInert (m : Machine) (l : Line) : Type 0 where
   test : Bool
-  opens : step macros m l ≡ opened m test
+  opens : step m l ≡ opened m test
 
 inert_by_name : (m : Machine) (l : Line) (test : List ℕ → Bool) (operand : Option (List ℕ)) → acts m ≡ false → (b : Bool) × (opened_by_name m l test operand ≡ opened m b)
 inert_by_name m l test None e = (false, ap (λ n. opened n false) (inert_refusing m l e))
 inert_by_name m l test (Some name) e = (test name, refl)
 
-inert_opens_by : (macros : Macros) (m : Machine) (l : Line) (c : Conditional) → is_opening c ≡ true → acts m ≡ false → (b : Bool) × (step_by macros m l (Some c) ≡ opened m b)
-inert_opens_by macros m l If o e = (false, ap (λ n. opened n false) (inert_refusing m l e))
-inert_opens_by macros m l Ifdef o e = inert_by_name m l (is_taken macros true) (operand_of l) e
-inert_opens_by macros m l Ifndef o e = inert_by_name m l (is_taken macros false) (operand_of l) e
-inert_opens_by macros m l Elif o e = cc
-inert_opens_by macros m l Else o e = cc
-inert_opens_by macros m l Endif o e = cc
+inert_opens_by : (m : Machine) (l : Line) (c : Conditional) → is_opening c ≡ true → acts m ≡ false → (b : Bool) × (step_by m l (Some c) ≡ opened m b)
+inert_opens_by m l If o e = (false, ap (λ n. opened n false) (inert_refusing m l e))
+inert_opens_by m l Ifdef o e = inert_by_name m l (is_taken m.state.macros true) (operand_of l) e
+inert_opens_by m l Ifndef o e = inert_by_name m l (is_taken m.state.macros false) (operand_of l) e
+inert_opens_by m l Elif o e = cc
+inert_opens_by m l Else o e = cc
+inert_opens_by m l Endif o e = cc
 
-inert_opens : (macros : Macros) (m : Machine) (l : Line) → Opens l → acts m ≡ false → OpensInert macros m l
-inert_opens macros m l o e =
-    let found = inert_opens_by macros m l o.conditional o.opening e in
-    record { test = found.0; opens = step_is macros m l o.named ∙ found.1 }
+inert_opens : (m : Machine) (l : Line) → Opens l → acts m ≡ false → OpensInert m l
+inert_opens m l o e =
+    let found = inert_opens_by m l o.conditional o.opening e in
+    record { test = found.0; opens = step_is m l o.named ∙ found.1 }
 
 and_false : (a t n : Bool) → (a && n) ≡ false → ((a && t) && n) ≡ false
 and_false true true n e = e
@@ -81,276 +111,247 @@ and_false true false n e = refl
 and_false false t n e = refl
 
 mutual
-  pub inert : (macros : Macros) (g : Group) → IsGroup g → (m : Machine) → acts m ≡ false → run macros m (group_lines g) ≡ m
-  inert macros empty w m e = refl
-  inert macros (plain l rest) w m e =
-      ap (λ n. run macros n (group_lines rest)) (step_is macros m l w.0 ∙ inert_plain m l e) ∙ inert macros rest w.1 m e
-  inert macros (section h g bs rest) w m e =
-      let o = inert_opens macros m h w.0 e in
-      ap (λ n. run macros n (group_lines g ++ branch_lines bs ++ group_lines rest)) o.opens
-      ∙ (run-append macros (opened m o.test) (group_lines g ++ branch_lines bs) (group_lines rest)
-      ∙ (ap (λ n. run macros n (group_lines rest))
-      (run-append macros (opened m o.test) (group_lines g) (branch_lines bs)
-      ∙ (ap (λ n. run macros n (branch_lines bs)) (inert macros g w.1 (opened m o.test) (and_false m.active o.test (is_none m.fault) e))
-      ∙ inert_branches macros bs w.2 m.active (m.active && not o.test) m.sections (opened m o.test) refl (and_false m.active (not o.test) (is_none m.fault) e)))
-      ∙ inert macros rest w.3 m e))
+  pub inert : (g : Group) → IsGroup g → (m : Machine) → acts m ≡ false → run m (group_lines g) ≡ m
+  inert empty w m e = refl
+  inert (plain l rest) w m e =
+      ap (λ n. run n (group_lines rest)) (step_is m l w.0 ∙ inert_plain m l e) ∙ inert rest w.1 m e
+  inert (section h g bs rest) w m e =
+      let o = inert_opens m h w.0 e in
+      ap (λ n. run n (group_lines g ++ branch_lines bs ++ group_lines rest)) o.opens
+      ∙ (run-append (opened m o.test) (group_lines g ++ branch_lines bs) (group_lines rest)
+      ∙ (ap (λ n. run n (group_lines rest))
+      (run-append (opened m o.test) (group_lines g) (branch_lines bs)
+      ∙ (ap (λ n. run n (branch_lines bs)) (inert g w.1 (opened m o.test) (and_false m.active o.test (is_none m.fault) e))
+      ∙ inert_branches bs w.2 m.active (m.active && not o.test) m.sections (opened m o.test) refl (and_false m.active (not o.test) (is_none m.fault) e)))
+      ∙ inert rest w.3 m e))
 
-  pub inert_branches : (macros : Macros) (bs : Branches) → AreBranches bs → (a u : Bool) (ss : List (Bool × Bool)) (m : Machine) → m.sections ≡ (a, u) ∷ ss → (u && is_none m.fault) ≡ false
-      → run macros m (branch_lines bs) ≡ turned m a ss
-  inert_branches macros (closing l) w a u ss m s e = step_is macros m l w ∙ ap (ended m) s
-  inert_branches macros (otherwise h g l) w a u ss m s e =
+  pub inert_branches : (bs : Branches) → AreBranches bs → (a u : Bool) (ss : List (Bool × Bool)) (m : Machine) → m.sections ≡ (a, u) ∷ ss → (u && is_none m.fault) ≡ false
+      → run m (branch_lines bs) ≡ turned m a ss
+  inert_branches (closing l) w a u ss m s e = step_is m l w ∙ ap (ended m) s
+  inert_branches (otherwise h g l) w a u ss m s e =
       let turn = turned m u ((a, false) ∷ ss) in
-      ap (λ n. run macros n (group_lines g ++ l ∷ [])) (step_is macros m h w.0 ∙ ap (next_branch m) s)
-      ∙ (run-append macros turn (group_lines g) (l ∷ [])
-      ∙ (ap (λ n. run macros n (l ∷ [])) (inert macros g w.1 turn e)
-      ∙ step_is macros turn l w.2))
-  inert_branches macros (alternative h g bs) w a u ss m s e =
+      ap (λ n. run n (group_lines g ++ l ∷ [])) (step_is m h w.0 ∙ ap (next_branch m) s)
+      ∙ (run-append turn (group_lines g) (l ∷ [])
+      ∙ (ap (λ n. run n (l ∷ [])) (inert g w.1 turn e)
+      ∙ step_is turn l w.2))
+  inert_branches (alternative h g bs) w a u ss m s e =
       let turn = turned m u ((a, false) ∷ ss) in
-      ap (λ n. run macros n (group_lines g ++ branch_lines bs)) (step_is macros m h w.0 ∙ (ap (λ n. refusing n h) (ap (next_branch m) s) ∙ inert_refusing turn h e))
-      ∙ (run-append macros turn (group_lines g) (branch_lines bs)
-      ∙ (ap (λ n. run macros n (branch_lines bs)) (inert macros g w.1 turn e)
-      ∙ inert_branches macros bs w.2 a false ss turn refl refl))
+      ap (λ n. run n (group_lines g ++ branch_lines bs)) (step_is m h w.0 ∙ (ap (λ n. refusing n h) (ap (next_branch m) s) ∙ inert_refusing turn h e))
+      ∙ (run-append turn (group_lines g) (branch_lines bs)
+      ∙ (ap (λ n. run n (branch_lines bs)) (inert g w.1 turn e)
+      ∙ inert_branches bs w.2 a false ss turn refl refl))
 
--- How a walk ends that puts out these tokens, or that stops at this fault.
-pub data Ends (walk : State → Result State Fault → Type 0) (macros : Macros) (tokens : List Token) : Option Fault → Type 0 where
-  finishes : ((s : State) → s.macros ≡ macros → (t : State) × walk s (Ok t) × (t.macros ≡ macros) × (t.output ++ t.run ≡ s.output ++ s.run ++ tokens) × (t.depth ≡ s.depth)) → Ends walk macros tokens None
-  stops : (fault : Fault) → ((s : State) → s.macros ≡ macros → walk s (Err fault)) → Ends walk macros tokens (Some fault)
+-- ---- the machine goes as the walk does
 
--- the machine after tokens were put out, and a fault where there is one
-abbrev pub after : List (Bool × Bool) → List Token → List Token → Option Fault → Machine
-after ss out tokens fault = record { active = true; sections = ss; output = out ++ tokens; fault = fault }
+-- what a walk gives that ends in this state, or stops at a fault
+abbrev pub given : State → Option Fault → Result State Fault
+given s None = Ok s
+given s (Some fault) = Err fault
 
--- The machine takes the lines as the walk goes.
-pub record Follows (macros : Macros) (lines : List Line) (walk : State → Result State Fault → Type 0) : Type 0 where
-  pub tokens : List Token
+-- From a state the machine takes the lines as the walk goes.
+pub record Follows (lines : List Line) (walk : State → Result State Fault → Type 0) (s : State) : Type 0 where
+  pub end : State
   pub fault : Option Fault
-  pub ends : Ends walk macros tokens fault
-  pub machine : (ss : List (Bool × Bool)) (out : List Token) → run macros (taking ss out) lines ≡ after ss out tokens fault
+  pub walks : walk s (given end fault)
+  pub machine : (ss : List (Bool × Bool)) → run (taking ss s) lines ≡ after ss end fault
+
+-- the machine in a section that took no branch yet
+abbrev untaken : Bool → List (Bool × Bool) → State → Machine
+untaken active ss s = record { active = active; sections = (true, true) ∷ ss; state = s; fault = None }
 
 -- the same of the branches after a first one that wasn't taken
-pub record FollowsBranches (macros : Macros) (lines : List Line) (walk : State → Result State Fault → Type 0) : Type 0 where
-  pub tokens : List Token
+pub record FollowsBranches (lines : List Line) (walk : State → Result State Fault → Type 0) (s : State) : Type 0 where
+  pub end : State
   pub fault : Option Fault
-  pub ends : Ends walk macros tokens fault
-  pub machine : (active : Bool) (ss : List (Bool × Bool)) (out : List Token)
-      → run macros (record { active = active; sections = (true, true) ∷ ss; output = out; fault = None }) lines ≡ after ss out tokens fault
+  pub walks : walk s (given end fault)
+  pub machine : (active : Bool) (ss : List (Bool × Bool)) → run (untaken active ss s) lines ≡ after ss end fault
 
--- what the first line of a section that is taken says
-record OpensTaken (macros : Macros) (l : Line) : Type 0 where
-  says : Result Bool Fault
-  decides : Decides macros l says
-  opens : (ss : List (Bool × Bool)) (out : List Token) → step macros (taking ss out) l ≡ opened_as (taking ss out) says
+module _ (context : Context) where
+  -- what the first line of a section that is taken says
+  record OpensTaken (l : Line) (s : State) : Type 0 where
+    says : Result Bool Fault
+    decides : Decides context s l says
+    opens : (ss : List (Bool × Bool)) → step (taking ss s) l ≡ opened_as (taking ss s) says
 
-opens_by_name : (macros : Macros) (l : Line) (test : List ℕ → Bool)
-    → ((name : List ℕ) → operand_of l ≡ Some name → Decides macros l (Ok (test name)))
-    → (operand_of l ≡ None → Decides macros l (Err (refusal l)))
-    → ((ss : List (Bool × Bool)) (out : List Token) → step macros (taking ss out) l ≡ opened_by_name (taking ss out) l test (operand_of l))
-    → (operand : Option (List ℕ)) → operand_of l ≡ operand → OpensTaken macros l
-opens_by_name macros l test some none steps None e = record {
-  says = Err (refusal l);
-  decides = none e;
-  opens = λ ss out. steps ss out ∙ ap (opened_by_name (taking ss out) l test) e;
-}
-opens_by_name macros l test some none steps (Some name) e = record {
-  says = Ok (test name);
-  decides = some name e;
-  opens = λ ss out. steps ss out ∙ ap (opened_by_name (taking ss out) l test) e;
-}
-
-opens_taken_by : (macros : Macros) (l : Line) (c : Conditional) → conditional_of l ≡ Some c → is_opening c ≡ true → OpensTaken macros l
-opens_taken_by macros l If n o = record {
-  says = Err (refusal l);
-  decides = expression (refusal l) (inl n) (refused_at l n);
-  opens = λ ss out. step_is macros (taking ss out) l n;
-}
-opens_taken_by macros l Ifdef n o =
-    opens_by_name macros l (is_taken macros true) (λ name e. if_defined name n e) (λ e. no_name (refusal l) (inl n) e (refused_at l n)) (λ ss out. step_is macros (taking ss out) l n) (operand_of l) refl
-opens_taken_by macros l Ifndef n o =
-    opens_by_name macros l (is_taken macros false) (λ name e. if_undefined name n e) (λ e. no_name (refusal l) (inr n) e (refused_at l n)) (λ ss out. step_is macros (taking ss out) l n) (operand_of l) refl
-opens_taken_by macros l Elif n o = cc
-opens_taken_by macros l Else n o = cc
-opens_taken_by macros l Endif n o = cc
-
-opens_taken : (macros : Macros) (l : Line) → Opens l → OpensTaken macros l
-opens_taken macros l o = opens_taken_by macros l o.conditional o.named o.opening
-
--- a walk that puts out tokens, and then one that goes on
-ends_then : {first second whole : State → Result State Fault → Type 0} {macros : Macros} (xs ys : List Token) (fault : Option Fault)
-    → Ends first macros xs None → Ends second macros ys fault
-    → ((s t : State) (r : Result State Fault) → s.macros ≡ macros → first s (Ok t) → second t r → whole s r)
-    → Ends whole macros (xs ++ ys) fault
-ends_then xs ys None (finishes f) (finishes g) join = finishes (λ s e.
-    let a = f s e in
-    let b = g a.0 a.2 in
-    (b.0, join s a.0 (Ok b.0) e a.1 b.1, b.2, b.3 ∙ (ap (λ (ts : List Token). ts ++ ys) a.3 ∙ append_assoc (s.output ++ s.run) xs ys), b.4 ∙ a.4))
-ends_then xs ys (Some fault) (finishes f) (stops _ g) join = stops fault (λ s e. let a = f s e in join s a.0 (Err fault) e a.1 (g a.0 a.2))
-
--- one walk as another
-ends_as : {first whole : State → Result State Fault → Type 0} {macros : Macros} {xs : List Token} (fault : Option Fault)
-    → Ends first macros xs fault → ((s : State) (r : Result State Fault) → s.macros ≡ macros → first s r → whole s r) → Ends whole macros xs fault
-ends_as None (finishes f) join = finishes (λ s e. let a = f s e in (a.0, join s (Ok a.0) e a.1, a.2, a.3, a.4))
-ends_as (Some fault) (stops _ g) join = stops fault (λ s e. join s (Err fault) e (g s e))
-
--- nothing is put out
-ends_nothing : {walk : State → Result State Fault → Type 0} {macros : Macros} → ((s : State) → s.macros ≡ macros → walk s (Ok s)) → Ends walk macros [] None
-ends_nothing stay = finishes (λ s e. (s, stay s e, e, sym (append-nil (s.output ++ s.run)), refl))
-
-after_nothing : (ss : List (Bool × Bool)) (out : List Token) (fault : Option Fault) → record { active = true; sections = ss; output = out; fault = fault } ≡ after ss out [] fault
-after_nothing ss out fault = ap (λ ts. record { active = true; sections = ss; output = ts; fault = fault }) (sym (append-nil out))
-
-module _ {macros : Macros} {first second whole : State → Result State Fault → Type 0} (xs ys : List Line) where
-  then_by : (tokens : List Token) (fault : Option Fault) → Ends first macros tokens fault
-      → ((ss : List (Bool × Bool)) (out : List Token) → run macros (taking ss out) xs ≡ after ss out tokens fault)
-      → Follows macros ys second
-      → ((m : Machine) → acts m ≡ false → run macros m ys ≡ m)
-      → ((s t : State) (r : Result State Fault) → s.macros ≡ macros → first s (Ok t) → second t r → whole s r)
-      → ((s : State) (f : Fault) → s.macros ≡ macros → first s (Err f) → whole s (Err f))
-      → Follows macros (xs ++ ys) whole
-  then_by tokens None ends machine rest still join stop = record {
-    tokens = tokens ++ rest.tokens;
-    fault = rest.fault;
-    ends = ends_then tokens rest.tokens rest.fault ends rest.ends join;
-    machine = λ ss out.
-        run-append macros (taking ss out) xs ys ∙ (ap (λ m. run macros m ys) (machine ss out)
-        ∙ (rest.machine ss (out ++ tokens) ∙ ap (λ ts. record { active = true; sections = ss; output = ts; fault = rest.fault }) (append_assoc out tokens rest.tokens)));
+  opens_by_name : (l : Line) (s : State) (test : List ℕ → Bool)
+      → ((name : List ℕ) → operand_of l ≡ Some name → Decides context s l (Ok (test name)))
+      → (operand_of l ≡ None → Decides context s l (Err (refusal s l)))
+      → ((ss : List (Bool × Bool)) → step (taking ss s) l ≡ opened_by_name (taking ss s) l test (operand_of l))
+      → (operand : Option (List ℕ)) → operand_of l ≡ operand → OpensTaken l s
+  opens_by_name l s test some none steps None e = record {
+    says = Err (refusal s l);
+    decides = none e;
+    opens = λ ss. steps ss ∙ ap (opened_by_name (taking ss s) l test) e;
   }
-  then_by tokens (Some fault) (stops _ f) machine rest still join stop = record {
-    tokens = tokens;
-    fault = Some fault;
-    ends = stops fault (λ s e. stop s fault e (f s e));
-    machine = λ ss out.
-        run-append macros (taking ss out) xs ys ∙ (ap (λ m. run macros m ys) (machine ss out) ∙ still (after ss out tokens (Some fault)) refl);
+  opens_by_name l s test some none steps (Some name) e = record {
+    says = Ok (test name);
+    decides = some name e;
+    opens = λ ss. steps ss ∙ ap (opened_by_name (taking ss s) l test) e;
   }
 
--- what a line that is no conditional directive does
-record PlainFollows (macros : Macros) (l : Line) : Type 0 where
-  tokens : List Token
-  fault : Option Fault
-  ends : Ends (Steps l) macros tokens fault
-  machine : (ss : List (Bool × Bool)) (out : List Token) → plain_step (taking ss out) l ≡ after ss out tokens fault
+  opens_taken_by : (l : Line) (s : State) → HasHash l → (c : Conditional) → conditional_of l ≡ Some c → is_opening c ≡ true → OpensTaken l s
+  opens_taken_by l s has If n o = record {
+    says = Err (refusal s l);
+    decides = expression (refusal s l) (inl n) (refused_at s l has (conditional-some l n));
+    opens = λ ss. step_is (taking ss s) l n;
+  }
+  opens_taken_by l s has Ifdef n o =
+      opens_by_name l s (is_taken s.macros true) (λ name e. if_defined name n e) (λ e. no_name (refusal s l) (inl n) e (refused_at s l has (conditional-some l n))) (λ ss. step_is (taking ss s) l n) (operand_of l) refl
+  opens_taken_by l s has Ifndef n o =
+      opens_by_name l s (is_taken s.macros false) (λ name e. if_undefined name n e) (λ e. no_name (refusal s l) (inr n) e (refused_at s l has (conditional-some l n))) (λ ss. step_is (taking ss s) l n) (operand_of l) refl
+  opens_taken_by l s has Elif n o = cc
+  opens_taken_by l s has Else n o = cc
+  opens_taken_by l s has Endif n o = cc
 
--- a run that is closed is put out
-closes : (s : State) → Closes s (Ok (record { macros = s.macros; run = []; output = s.output ++ s.run; depth = s.depth }))
-closes s = closed s.run unexpanded
+  opens_taken : (l : Line) (s : State) → HasHash l → Opens l → OpensTaken l s
+  opens_taken l s has o = opens_taken_by l s has o.conditional o.named o.opening
 
--- the kind of a line, by its tests
-abbrev kind_by : Bool → Bool → Bool → LineKind
-kind_by d n i = if d then (if n then Idle else (if i then Idle else Unknown)) else Text
+  -- one part of the lines, and then what follows
+  module _ (first : State → Result State Fault → Type 0) {second whole : State → Result State Fault → Type 0} (xs ys : List Line) (s : State) where
+    then_by : (end : State) (fault : Option Fault) → first s (given end fault)
+        → ((ss : List (Bool × Bool)) → run (taking ss s) xs ≡ after ss end fault)
+        → ((t : State) → Follows ys second t)
+        → ((m : Machine) → acts m ≡ false → run m ys ≡ m)
+        → ((t : State) (r : Result State Fault) → first s (Ok t) → second t r → whole s r)
+        → ((f : Fault) → first s (Err f) → whole s (Err f))
+        → Follows (xs ++ ys) whole s
+    then_by end None walks machine rest still join stop =
+        let more = rest end in
+        record {
+          end = more.end;
+          fault = more.fault;
+          walks = join end (given more.end more.fault) walks more.walks;
+          machine = λ ss. run-append (taking ss s) xs ys ∙ (ap (λ m. run m ys) (machine ss) ∙ more.machine ss);
+        }
+    then_by end (Some fault) walks machine rest still join stop = record {
+      end = end;
+      fault = Some fault;
+      walks = stop fault walks;
+      machine = λ ss. run-append (taking ss s) xs ys ∙ (ap (λ m. run m ys) (machine ss) ∙ still (after ss end (Some fault)) refl);
+    }
 
-kind_is : (l : Line) {d n i : Bool} → is_directive l ≡ d → is_null l ≡ n → is_named ignored_names l ≡ i → line_kind l ≡ kind_by d n i
-kind_is l {d} {n} {i} d_is n_is i_is =
-    ap (λ b. kind_by b (is_null l) (is_named ignored_names l)) d_is ∙ (ap (λ b. kind_by d b (is_named ignored_names l)) n_is ∙ ap (kind_by d n) i_is)
+  -- what a line that is no conditional directive does
+  record PlainFollows (l : Line) (s : State) : Type 0 where
+    end : State
+    fault : Option Fault
+    walks : Steps context l s (given end fault)
+    machine : (ss : List (Bool × Bool)) → plain_step (taking ss s) l ≡ after ss end fault
 
-plain_by : (macros : Macros) (l : Line) (d n i : Bool) → is_directive l ≡ d → is_null l ≡ n → is_named ignored_names l ≡ i → PlainFollows macros l
-plain_by macros l false n i d_is n_is i_is = record {
-  tokens = l;
-  fault = None;
-  ends = finishes (λ s e. (record { macros = s.macros; run = s.run ++ l; output = s.output; depth = s.depth }, text d_is, e, sym (append_assoc s.output s.run l), refl));
-  machine = λ ss out. ap (step_of_kind (taking ss out) l) (kind_is l d_is n_is i_is);
-}
-plain_by macros l true true i d_is n_is i_is = record {
-  tokens = [];
-  fault = None;
-  ends = ends_nothing (λ s e. null d_is n_is);
-  machine = λ ss out. ap (step_of_kind (taking ss out) l) (kind_is l d_is n_is i_is) ∙ after_nothing ss out None;
-}
-plain_by macros l true false true d_is n_is i_is = record {
-  tokens = [];
-  fault = None;
-  ends = finishes (λ s e. (record { macros = s.macros; run = []; output = s.output ++ s.run; depth = s.depth }, ignored _ d_is n_is i_is (closes s), e, refl, refl));
-  machine = λ ss out. ap (step_of_kind (taking ss out) l) (kind_is l d_is n_is i_is) ∙ after_nothing ss out None;
-}
-plain_by macros l true false false d_is n_is i_is = record {
-  tokens = [];
-  fault = Some (refusal l);
-  ends = stops (refusal l) (λ s e. unknown _ (refusal l) d_is n_is i_is (closes s) (refused_line l d_is));
-  machine = λ ss out. ap (step_of_kind (taking ss out) l) (kind_is l d_is n_is i_is) ∙ after_nothing ss out (Some (refusal l));
-}
+  -- a run that is closed is put out
+  closes : (s : State) → Closes s (Ok (closing_run s))
+  closes s = closed s.run unexpanded
 
-plain_follows : (macros : Macros) (l : Line) → PlainFollows macros l
-plain_follows macros l = plain_by macros l (is_directive l) (is_null l) (is_named ignored_names l) refl refl refl
+  plain_refused : (l : Line) (s : State) → HasHash l → (d : Directive) → l.directive ≡ Some d → is_refused d ≡ true → PlainFollows l s
+  plain_refused l s has d e r = record {
+    end = s;
+    fault = Some (refusal s l);
+    walks = unknown d (closing_run s) (refusal s l) e r (closes s) (refused_at (closing_run s) l has (λ none. let both = sym e ∙ none in cc));
+    machine = λ ss. ap (plain_by (taking ss s) l) e ∙ ap (λ b. if b then refusing (taking ss s) l else (if is_ignored d then acting (taking ss s) closing_run else taking ss s)) r;
+  }
 
-decides_at : {macros : Macros} (s : State) (l : Line) {r : Result Bool Fault} → s.macros ≡ macros → Decides macros l r → Decides s.macros l r
-decides_at s l {r} e d = subst (λ m. Decides m l r) (sym e) d
-
--- a section as its first line says
-section_follows : (macros : Macros) (h : Line) (g : Group) (bs : Branches) (rest : Group) → IsGroup (section h g bs rest) → (says : Result Bool Fault) → Decides macros h says
-    → ((ss : List (Bool × Bool)) (out : List Token) → step macros (taking ss out) h ≡ opened_as (taking ss out) says)
-    → Follows macros (group_lines g) (Walks g) → FollowsBranches macros (branch_lines bs) (WalksBranches bs) → Follows macros (group_lines rest) (Walks rest)
-    → Follows macros (group_lines (section h g bs rest)) (Walks (section h g bs rest))
-section_follows macros h g bs rest w (Ok true) d opens f fb fr =
-    then_by (h ∷ group_lines g ++ branch_lines bs) (group_lines rest) f.tokens f.fault f.ends
-    (λ ss out.
-    ap (λ m. run macros m (group_lines g ++ branch_lines bs)) (opens ss out)
-    ∙ (run-append macros (taking ((true, false) ∷ ss) out) (group_lines g) (branch_lines bs)
-    ∙ (ap (λ m. run macros m (branch_lines bs)) (f.machine ((true, false) ∷ ss) out)
-    ∙ inert_branches macros bs w.2 true false ss (after ((true, false) ∷ ss) out f.tokens f.fault) refl refl)))
-    fr (λ m. inert macros rest w.3 m)
-    (λ s t r e a b. taken t (decides_at s h e d) a b) (λ s x e a. taken_stops x (decides_at s h e d) a)
-section_follows macros h g bs rest w (Ok false) d opens f fb fr =
-    then_by (h ∷ group_lines g ++ branch_lines bs) (group_lines rest) fb.tokens fb.fault fb.ends
-    (λ ss out.
-    let passed : Machine = record { active = false; sections = (true, true) ∷ ss; output = out; fault = None } in
-    ap (λ m. run macros m (group_lines g ++ branch_lines bs)) (opens ss out)
-    ∙ (run-append macros passed (group_lines g) (branch_lines bs)
-    ∙ (ap (λ m. run macros m (branch_lines bs)) (inert macros g w.1 passed refl) ∙ fb.machine false ss out)))
-    fr (λ m. inert macros rest w.3 m)
-    (λ s t r e a b. passed t (decides_at s h e d) a b) (λ s x e a. passed_stops x (decides_at s h e d) a)
-section_follows macros h g bs rest w (Err fault) d opens f fb fr = record {
-  tokens = [];
-  fault = Some fault;
-  ends = stops fault (λ s e. head_stops fault (decides_at s h e d));
-  machine = λ ss out.
-      let told : Machine = record { active = false; sections = (true, true) ∷ ss; output = out; fault = Some fault } in
-      let left : Machine = record { active = true; sections = ss; output = out; fault = Some fault } in
-      run-append macros (taking ss out) (h ∷ group_lines g ++ branch_lines bs) (group_lines rest)
-      ∙ (ap (λ m. run macros m (group_lines rest))
-      (ap (λ m. run macros m (group_lines g ++ branch_lines bs)) (opens ss out)
-      ∙ (run-append macros told (group_lines g) (branch_lines bs)
-      ∙ (ap (λ m. run macros m (branch_lines bs)) (inert macros g w.1 told refl)
-      ∙ inert_branches macros bs w.2 true true ss told refl refl)))
-      ∙ (inert macros rest w.3 left refl ∙ after_nothing ss out (Some fault)));
-}
-
-mutual
-  pub follows : (macros : Macros) (g : Group) → IsGroup g → Follows macros (group_lines g) (Walks g)
-  follows macros empty w = record { tokens = []; fault = None; ends = ends_nothing (λ s e. done); machine = λ ss out. after_nothing ss out None }
-  follows macros (plain l rest) w =
-      let p = plain_follows macros l in
-      then_by (l ∷ []) (group_lines rest) p.tokens p.fault p.ends
-      (λ ss out. step_is macros (taking ss out) l w.0 ∙ p.machine ss out)
-      (follows macros rest w.1) (λ m. inert macros rest w.1 m)
-      (λ s t r e a b. line t a b) (λ s f e a. line_stops f a)
-  follows macros (section h g bs rest) w =
-      let o = opens_taken macros h w.0 in
-      section_follows macros h g bs rest w o.says o.decides o.opens (follows macros g w.1) (follows_branches macros bs w.2) (follows macros rest w.3)
-
-  pub follows_branches : (macros : Macros) (bs : Branches) → AreBranches bs → FollowsBranches macros (branch_lines bs) (WalksBranches bs)
-  follows_branches macros (closing l) w = record {
-    tokens = [];
+  plain_ignored : (l : Line) (s : State) (d : Directive) → l.directive ≡ Some d → is_refused d ≡ false → is_ignored d ≡ true → PlainFollows l s
+  plain_ignored l s d e r i = record {
+    end = closing_run s;
     fault = None;
-    ends = ends_nothing (λ s e. none_taken);
-    machine = λ active ss out. step_is macros _ l w ∙ after_nothing ss out None;
+    walks = ignored d (closing_run s) e i (closes s);
+    machine = λ ss.
+        ap (plain_by (taking ss s) l) e
+        ∙ (ap (λ b. if b then refusing (taking ss s) l else (if is_ignored d then acting (taking ss s) closing_run else taking ss s)) r
+        ∙ ap (λ b. if b then acting (taking ss s) closing_run else taking ss s) i);
   }
-  follows_branches macros (otherwise h g l) w =
-      let f = follows macros g w.1 in
-      record {
-        tokens = f.tokens;
-        fault = f.fault;
-        ends = ends_as f.fault f.ends (λ s r e a. last_taken a);
-        machine = λ active ss out.
-            ap (λ m. run macros m (group_lines g ++ l ∷ [])) (step_is macros (record { active = active; sections = (true, true) ∷ ss; output = out; fault = None }) h w.0)
-            ∙ (run-append macros (taking ((true, false) ∷ ss) out) (group_lines g) (l ∷ [])
-            ∙ (ap (λ m. run macros m (l ∷ [])) (f.machine ((true, false) ∷ ss) out) ∙ step_is macros (after ((true, false) ∷ ss) out f.tokens f.fault) l w.2));
-      }
-  follows_branches macros (alternative h g bs) w = record {
-    tokens = [];
-    fault = Some (refusal h);
-    ends = stops (refusal h) (λ s e. later_stops (refusal h) (expression (refusal h) (inr w.0) (refused_at h w.0)));
-    machine = λ active ss out.
-        let told : Machine = record { active = true; sections = (true, false) ∷ ss; output = out; fault = Some (refusal h) } in
-        ap (λ m. run macros m (group_lines g ++ branch_lines bs)) (step_is macros (record { active = active; sections = (true, true) ∷ ss; output = out; fault = None }) h w.0)
-        ∙ (run-append macros told (group_lines g) (branch_lines bs)
-        ∙ (ap (λ m. run macros m (branch_lines bs)) (inert macros g w.1 told refl)
-        ∙ (inert_branches macros bs w.2 true false ss told refl refl ∙ after_nothing ss out (Some (refusal h)))));
+
+  plain_follows_by : (l : Line) (s : State) → HasHash l → conditional_of l ≡ None → (d : Option Directive) → l.directive ≡ d → PlainFollows l s
+  plain_follows_by l s has none None e = record {
+    end = with_text s l;
+    fault = None;
+    walks = text e;
+    machine = λ ss. ap (plain_by (taking ss s) l) e;
   }
+  plain_follows_by l s has none (Some (directive.Conditional c)) e = let some = ap conditional_in e in cc
+  plain_follows_by l s has none (Some directive.Include) e = plain_refused l s has directive.Include e refl
+  plain_follows_by l s has none (Some directive.Define) e = plain_refused l s has directive.Define e refl
+  plain_follows_by l s has none (Some directive.Undef) e = plain_refused l s has directive.Undef e refl
+  plain_follows_by l s has none (Some directive.Line) e = plain_refused l s has directive.Line e refl
+  plain_follows_by l s has none (Some directive.Error) e = plain_refused l s has directive.Error e refl
+  plain_follows_by l s has none (Some directive.Pragma) e = plain_ignored l s directive.Pragma e refl refl
+  plain_follows_by l s has none (Some directive.Warning) e = plain_ignored l s directive.Warning e refl refl
+  plain_follows_by l s has none (Some directive.Null) e = record { end = s; fault = None; walks = null e; machine = λ ss. ap (plain_by (taking ss s) l) e }
+  plain_follows_by l s has none (Some directive.Unknown) e = plain_refused l s has directive.Unknown e refl
+
+  -- a section as its first line says
+  section_follows : (h : Line) (g : Group) (bs : Branches) (rest : Group) (s : State) → IsGroup (section h g bs rest) → (says : Result Bool Fault) → Decides context s h says
+      → ((ss : List (Bool × Bool)) → step (taking ss s) h ≡ opened_as (taking ss s) says)
+      → Follows (group_lines g) (Walks context g) s → FollowsBranches (branch_lines bs) (WalksBranches context bs) s
+      → ((t : State) → Follows (group_lines rest) (Walks context rest) t)
+      → Follows (group_lines (section h g bs rest)) (Walks context (section h g bs rest)) s
+  section_follows h g bs rest s w (Ok true) d opens f fb fr =
+      then_by (Walks context g) (h ∷ group_lines g ++ branch_lines bs) (group_lines rest) s f.end f.fault f.walks
+      (λ ss.
+      ap (λ m. run m (group_lines g ++ branch_lines bs)) (opens ss)
+      ∙ (run-append (taking ((true, false) ∷ ss) s) (group_lines g) (branch_lines bs)
+      ∙ (ap (λ m. run m (branch_lines bs)) (f.machine ((true, false) ∷ ss))
+      ∙ inert_branches bs w.2 true false ss (after ((true, false) ∷ ss) f.end f.fault) refl refl)))
+      fr (λ m. inert rest w.3 m)
+      (λ t r a b. taken t d a b) (λ x a. taken_stops x d a)
+  section_follows h g bs rest s w (Ok false) d opens f fb fr =
+      then_by (WalksBranches context bs) (h ∷ group_lines g ++ branch_lines bs) (group_lines rest) s fb.end fb.fault fb.walks
+      (λ ss.
+      ap (λ m. run m (group_lines g ++ branch_lines bs)) (opens ss)
+      ∙ (run-append (untaken false ss s) (group_lines g) (branch_lines bs)
+      ∙ (ap (λ m. run m (branch_lines bs)) (inert g w.1 (untaken false ss s) refl) ∙ fb.machine false ss)))
+      fr (λ m. inert rest w.3 m)
+      (λ t r a b. passed t d a b) (λ x a. passed_stops x d a)
+  section_follows h g bs rest s w (Err fault) d opens f fb fr = record {
+    end = s;
+    fault = Some fault;
+    walks = head_stops fault d;
+    machine = λ ss.
+        let told : Machine = record { active = false; sections = (true, true) ∷ ss; state = s; fault = Some fault } in
+        run-append (taking ss s) (h ∷ group_lines g ++ branch_lines bs) (group_lines rest)
+        ∙ (ap (λ m. run m (group_lines rest))
+        (ap (λ m. run m (group_lines g ++ branch_lines bs)) (opens ss)
+        ∙ (run-append told (group_lines g) (branch_lines bs)
+        ∙ (ap (λ m. run m (branch_lines bs)) (inert g w.1 told refl)
+        ∙ inert_branches bs w.2 true true ss told refl refl)))
+        ∙ inert rest w.3 (after ss s (Some fault)) refl);
+  }
+
+  mutual
+    pub follows : (g : Group) → IsGroup g → HaveHashes (group_lines g) → (s : State) → Follows (group_lines g) (Walks context g) s
+    follows empty w has s = record { end = s; fault = None; walks = done; machine = λ ss. refl }
+    follows (plain l rest) w has s =
+        let p = plain_follows_by l s has.0 w.0 l.directive refl in
+        then_by (Steps context l) (l ∷ []) (group_lines rest) s p.end p.fault p.walks
+        (λ ss. step_is (taking ss s) l w.0 ∙ p.machine ss)
+        (λ t. follows rest w.1 has.1 t) (λ m. inert rest w.1 m)
+        (λ t r a b. line t a b) (λ f a. line_stops f a)
+    follows (section h g bs rest) w has s =
+        let o = opens_taken h s has.0 w.0 in
+        let parts = hashes-parts (group_lines g ++ branch_lines bs) (group_lines rest) has.1 in
+        let inner = hashes-parts (group_lines g) (branch_lines bs) parts.0 in
+        section_follows h g bs rest s w o.says o.decides o.opens (follows g w.1 inner.0 s) (follows_branches bs w.2 inner.1 s) (λ t. follows rest w.3 parts.1 t)
+
+    pub follows_branches : (bs : Branches) → AreBranches bs → HaveHashes (branch_lines bs) → (s : State) → FollowsBranches (branch_lines bs) (WalksBranches context bs) s
+    follows_branches (closing l) w has s = record { end = s; fault = None; walks = none_taken; machine = λ active ss. step_is (untaken active ss s) l w }
+    follows_branches (otherwise h g l) w has s =
+        let f = follows g w.1 (hashes-parts (group_lines g) (l ∷ []) has.1).0 s in
+        record {
+          end = f.end;
+          fault = f.fault;
+          walks = last_taken f.walks;
+          machine = λ active ss.
+              ap (λ m. run m (group_lines g ++ l ∷ [])) (step_is (untaken active ss s) h w.0)
+              ∙ (run-append (taking ((true, false) ∷ ss) s) (group_lines g) (l ∷ [])
+              ∙ (ap (λ m. run m (l ∷ [])) (f.machine ((true, false) ∷ ss)) ∙ step_is (after ((true, false) ∷ ss) f.end f.fault) l w.2));
+        }
+    follows_branches (alternative h g bs) w has s = record {
+      end = s;
+      fault = Some (refusal s h);
+      walks = later_stops (refusal s h) (expression (refusal s h) (inr w.0) (refused_at s h has.0 (conditional-some h w.0)));
+      machine = λ active ss.
+          let told : Machine = record { active = true; sections = (true, false) ∷ ss; state = s; fault = Some (refusal s h) } in
+          ap (λ m. run m (group_lines g ++ branch_lines bs)) (step_is (untaken active ss s) h w.0)
+          ∙ (run-append told (group_lines g) (branch_lines bs)
+          ∙ (ap (λ m. run m (branch_lines bs)) (inert g w.1 told refl)
+          ∙ inert_branches bs w.2 true false ss told refl refl));
+    }

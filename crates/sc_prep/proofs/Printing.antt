@@ -12,7 +12,7 @@ use Rattle.sc_base.specs.declared.id.FileId.{FileId}
 use Rattle.sc_prep.specs.Preprocesses.{OwnsList}
 use Rattle.sc_prep.specs.Printable.{IsPrintable, IsOfFile, ArePrintable, CanBeShown}
 use Rattle.sc_guarded.proofs.ItemLemmas.{under}
-use Rattle.sc_guarded.specs.declared.expanded.Expanded.{Expanded}
+use Rattle.sc_prep.specs.declared.prepared.Prepared.{Prepared}
 use Rattle.sc_guarded.specs.Items.{faults_at, seen_fault}
 use Rattle.sc_base.specs.declared.token.Token.{Token}
 use Rattle.sc_base.specs.Seen.{IsHeld, text_at}
@@ -27,11 +27,11 @@ use Rattle.sc_model.specs.Fault.{Fault}
 use Rattle.sc_model.specs.Sets.{Sets, IsCond}
 use Rattle.sc_model.specs.Bytes.{has_no_newline}
 use Rattle.sc_model.specs.Token.{Lexeme}
-use Rattle.sc_show.specs.Shows.{IsShowable, IsShowableFault, AreApart}
+use Rattle.sc_guarded.specs.Printable.{IsShowable, IsShowableFault, AreApart}
 
 module _ (names : List (List ℕ)) (file : FileId) where
   -- a line that is put out
-  pub puts-printable : (p : Expanded) (live : Cond) (ts : List Token) → All (IsPrintable names file) ts
+  pub puts-printable : (p : Prepared) (live : Cond) (ts : List Token) → All (IsPrintable names file) ts
       → ArePrintable names file p → ArePrintable names file (record p { list = p.list ++ under live ts })
   puts-printable p live ts all old = record {
     tokens =
@@ -67,7 +67,7 @@ module _ (names : List (List ℕ)) (file : FileId) where
       (All-get_or (All (IsPrintable names file)) (map (tokens_of tokens) lines) i [] long
       (subst (All (All (IsPrintable names file))) (sym are.tokens_are) (lines-printable tokens all)))
 
-  pub none-printable : (p : Expanded) → p.list ≡ [] → p.faults.items ≡ [] → ArePrintable names file p
+  pub none-printable : (p : Prepared) → p.list ≡ [] → p.faults.items ≡ [] → ArePrintable names file p
   none-printable p no_list no_faults = record {
     tokens = subst (All (λ (item : Cond × Token). IsPrintable names file item.1)) (sym no_list) (All-nil (λ (item : Cond × Token). IsPrintable names file item.1));
     faults = subst (All (λ (f : base.Fault). f.place.file ≡ file)) (sym no_faults) (All-nil (λ (f : base.Fault). f.place.file ≡ file));
@@ -126,7 +126,7 @@ module _ (s : Sets) (names files : List (List ℕ)) (file : FileId) (there : fil
       (faults-showable fs (All-tail (λ (f : base.Fault). IsCond s f.cond.0) f fs own) (All-tail (λ (f : base.Fault). f.place.file ≡ file) f fs placed))
 
   -- all that stands in a file of the table can be shown
-  pub all-shown : (p : Expanded) → OwnsList s p → ArePrintable names file p → AreApart s p.faults.items → CanBeShown s names files p
+  pub all-shown : (p : Prepared) → OwnsList s p → ArePrintable names file p → AreApart s p.faults.items → CanBeShown s names files p
   all-shown p owns printable apart = record {
     list = tokens-showable p.list owns.list printable.tokens;
     faults = faults-showable p.faults.items owns.faults printable.faults;
@@ -138,8 +138,8 @@ few_of : (o : Option Fault) → length (option_to_list o) ≤ 1
 few_of None = omega arith
 few_of (Some f) = omega arith
 
-pub mirrors-few : (s : Sets) (files : List (List ℕ)) (faults : List base.Fault) (config : List ℕ) (o : Option Fault) → map (seen_fault files) (faults_at s faults config) ≡ option_to_list o
+pub faults-few : (s : Sets) (files : List (List ℕ)) (faults : List base.Fault) (config : List ℕ) (o : Option Fault) → map (seen_fault files) (faults_at s faults config) ≡ option_to_list o
     → length (faults_at s faults config) ≤ 1
-mirrors-few s files faults config o e =
+faults-few s files faults config o e =
     let same = ap (length {A = Fault}) e in
     omega (arith, few_of o, same, length-map (faults_at s faults config) (seen_fault files))

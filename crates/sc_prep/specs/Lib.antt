@@ -1,5 +1,4 @@
-pub mod LineKind
 pub mod Machine
-pub mod Mirrors
 pub mod Preprocesses
 pub mod Printable
+pub mod Simulates

@@ -1,10 +1,10 @@
 -- What a file gives under all configurations, seen at one.
-use Rattle.std.specs.Prelude.{◌≡◌, ℕ, List, [], ◌∷◌, map, All, Result, Ok, Err}
+use Rattle.std.specs.Prelude.{◌≡◌, ℕ, Bool, true, false, List, [], ◌∷◌, map, All, Result, Ok, Err}
 use Rattle.sc_base.specs.declared.fault.Fault as base
 use Rattle.sc_base.specs.declared.id.Cond.{Cond}
 use Rattle.sc_base.specs.declared.stop.Stop.{Stop}
 use Rattle.sc_base.specs.declared.stop.Stop.TheVariants.{BranchesFull, ReadFault, OutOfMemory}
-use Rattle.sc_guarded.specs.declared.expanded.Expanded.{Expanded}
+use Rattle.sc_prep.specs.declared.prepared.Prepared.{Prepared}
 use Rattle.sc_guarded.specs.Items.{items_at, faults_at, seen_fault}
 use Rattle.sc_base.specs.declared.token.Token as base_token
 use Rattle.sc_base.specs.Seen.{seen}
@@ -18,21 +18,28 @@ abbrev pub Stands : Result (List Token) Fault → List Token → List Fault → 
 Stands (Ok tokens) items faults = (items ≡ tokens) × (faults ≡ [])
 Stands (Err fault) items faults = faults ≡ fault ∷ []
 
--- At the configuration the lists are what ordinary preprocessing gives there.
-pub record IsOrdinary (s : Sets) (names files : List (List ℕ)) (p : Expanded) (preprocesses : Result (List Token) Fault → Type 0) (config : List ℕ) : Type 0 where
+abbrev pub is_accepted : Result (List Token) Fault → Bool
+is_accepted (Ok tokens) = true
+is_accepted (Err fault) = false
+
+-- At the configuration the lists are what ordinary preprocessing gives there, and it is live just if that has no fault.
+pub record IsOrdinary (s : Sets) (names files : List (List ℕ)) (p : Prepared) (preprocesses : Result (List Token) Fault → Type 0) (config : List ℕ) : Type 0 where
   pub answer : Result (List Token) Fault
   pub preprocessed : preprocesses answer
   pub stands : Stands answer (map (seen names files) (items_at s p.list config)) (map (seen_fault files) (faults_at s p.faults.items config))
+  pub live : s.has p.live.0 config ≡ is_accepted answer
 
 -- the configuration has this fault alone
-pub record IsRefused (s : Sets) (names files : List (List ℕ)) (p : Expanded) (fault : Fault) (config : List ℕ) : Type 0 where
+pub record IsRefused (s : Sets) (names files : List (List ℕ)) (p : Prepared) (fault : Fault) (config : List ℕ) : Type 0 where
   pub items : map (seen names files) (items_at s p.list config) ≡ []
   pub faults : map (seen_fault files) (faults_at s p.faults.items config) ≡ fault ∷ []
+  pub live : s.has p.live.0 config ≡ false
 
 -- the store made all conditions
-pub record OwnsList (s : Sets) (p : Expanded) : Type 0 where
+pub record OwnsList (s : Sets) (p : Prepared) : Type 0 where
   pub list : All (λ (item : Cond × base_token.Token). IsCond s item.0.0) p.list
   pub faults : All (λ (f : base.Fault). IsCond s f.cond.0) p.faults.items
+  pub live : IsCond s p.live.0
 
 -- why there is no answer, by the count of reads that failed
 abbrev pub Stops : ℕ → ℕ → Stop → Type 0

@@ -9,13 +9,14 @@ ghost use Rattle.sc_model.specs.Fault.{fault_at, first_place};
 ghost use Rattle.sc_model.specs.Sets.{IsConfig, Keeps};
 ghost use Rattle.sc_model.specs.Space.{arities_of};
 ghost use Rattle.sc_space.specs.Seen.{seen_space};
-ghost use Rattle.sc_show.specs.Shows.{AreApart};
+ghost use Rattle.sc_guarded.specs.Printable.{AreApart};
 ghost use Rattle.sc_prep.specs.Preprocesses.{IsOrdinary, OwnsList, IsRefused, Stops};
 ghost use Rattle.sc_prep.specs.Printable.{ArePrintable, CanBeShown};
 
+use crate::prepared::Prepared;
 use crate::walk_file::walk_file;
 use sc_base::{Cause, Fault, FileId, Files, Names, OutOfMemory, Place, Stop};
-use sc_guarded::{Expanded, Guarded};
+use sc_guarded::Guarded;
 use sc_lex::{LexStop, tokens};
 use sc_lines::{NestStop, groups};
 use sc_presence::Conditions;
@@ -31,12 +32,12 @@ const LARGEST_FILE: usize = 16_777_216;
 pub fn preprocess<C: Conditions, S: Source>(
     alloc: Global,
     src: &mut S,
-    conds: &mut C,
+    main: &str,
     space: &Space,
+    conds: &mut C,
     names: &mut Names,
     files: &mut Files,
-    main: &str,
-) -> Result<Expanded, Stop>
+) -> Result<Prepared, Stop>
     requires { (C.sets conds.old).arities ≡ arities_of (seen_space space.now) }
     ensures ordinary { (outside : Outside) → S.holds src.old ≡ Some outside → IfOk result (λ p. (config : List ℕ)
         → IsConfig (C.sets conds.old).arities config
@@ -69,7 +70,7 @@ fn preprocess_bytes<C: Conditions>(
     names: &mut Names,
     file: FileId,
     bytes: &[u8],
-) -> Result<Expanded, OutOfMemory>
+) -> Result<Prepared, OutOfMemory>
     requires { (C.sets conds.old).arities ≡ arities_of (seen_space space.now) }
     ensures ordinary { IfOk result (λ p. (files : List (List ℕ)) (outside : Outside) (main config : List ℕ)
         → slice_get files file.0 ≡ Some main → outside main ≡ Some bytes.now → IsConfig (C.sets conds.old).arities config
@@ -98,7 +99,7 @@ fn preprocess_bytes<C: Conditions>(
         Err(NestStop::OutOfMemory) => return Err(OutOfMemory),
     };
     let walk = walk_file(alloc, conds, space, names, &tokens, &tree.lines)?;
-    Ok(walk.expanded)
+    Ok(walk.prepared)
 }
 
 /// Every configuration is refused.
@@ -108,7 +109,7 @@ fn refused<C: Conditions>(
     conds: &C,
     cause: Cause,
     place: Place,
-) -> Result<Expanded, OutOfMemory>
+) -> Result<Prepared, OutOfMemory>
     ensures refused { IfOk result (λ p. (names files : List (List ℕ)) (config : List ℕ) → IsConfig (C.sets conds.now).arities config
         → IsRefused (C.sets conds.now) names files p (fault_at cause (seen_place files place)) config) }
     ensures owns { IfOk result (OwnsList (C.sets conds.now)) }
@@ -121,9 +122,10 @@ fn refused<C: Conditions>(
         cause,
         place,
     })?;
-    Ok(Expanded {
+    Ok(Prepared {
         list: Guarded::new(alloc)?,
         faults,
+        live: conds.never(),
     })
 }
 

@@ -1,48 +1,48 @@
-ghost use Rattle.std.specs.Prelude.{◌≡◌, ℕ, ◌<◌, false, List, All, Option, None, Some, map, length, OnOk, IfOk, IfSome};
+ghost use Rattle.std.specs.Prelude.{◌≡◌, ℕ, ◌<◌, false, List, All, None, Some, length, OnOk, IfOk, IfSome};
 ghost use Rattle.std.specs.Option.{option_map};
-ghost use Rattle.sc_base.specs.Seen.{IsHeld, seen, text_at};
-ghost use Rattle.sc_lines.specs.Split.{conditional_at};
+ghost use Rattle.sc_base.specs.Seen.{IsHeld, text_at};
+ghost use Rattle.sc_lines.specs.Split.{directive_at};
+ghost use Rattle.c11_directives.specs.Lines.{conditional_in};
+ghost use Rattle.c11_directives.specs.Pre as model;
 ghost use Rattle.c11_directives.specs.Pre.{operand_of};
 ghost use Rattle.sc_model.specs.Sets.{IsCond, Denotes, Keeps};
 ghost use Rattle.sc_model.specs.Space.{arities_of};
-ghost use Rattle.c11_macros.specs.Macros.{initial_macros};
+ghost use Rattle.c11_macros.specs.Macros.{Macros, initial_macros};
 ghost use Rattle.sc_space.specs.Seen.{seen_space};
-ghost use Rattle.sc_prep.specs.Machine.{is_taken, plain_step, opened_by_name, refusing, opened};
-ghost use Rattle.sc_prep.specs.Mirrors.{Owns, Advances, walks};
-ghost use Rattle.sc_prep.specs.LineKind.{line_kind};
+ghost use Rattle.sc_prep.specs.Machine.{is_taken, plain_by, opened_by_name, refusing, opened, step};
+ghost use Rattle.sc_prep.specs.Simulates.{Owns, SimulatesStep, seen_line};
 ghost use Rattle.sc_prep.specs.Printable.{StaysPrintable};
 
-use crate::line_kind::LineKind;
 use crate::moves::{begin_branch, begin_section, end_section, put, refuse};
 use crate::walk::Walk;
-use sc_base::{Cond, Name, Names, OutOfMemory, is_same};
-use sc_base::{Kind, Token};
-use c11_directives::Conditional;
+use c11_directives::{Conditional, Directive};
+use sc_base::{Cond, Kind, Name, Names, OutOfMemory, Token};
+use sc_lines::Line;
 use sc_presence::Conditions;
 use sc_space::Space;
 use sc_table::defined;
 
-/// What a line does.
+/// What a line of these tokens does.
 #[tactic(auto, using(sc_model::proofs::SetLemmas::conditions))]
 pub fn walk_line<C: Conditions>(
     conds: &mut C,
     space: &Space,
     names: &Names,
     walk: &mut Walk,
-    line: &[Token],
-    conditional: Option<Conditional>,
+    line: &Line,
+    tokens: &[Token],
 ) -> Result<(), OutOfMemory>
     requires space { (C.sets conds.old).arities ≡ arities_of (seen_space space.now) }
-    requires held { All (IsHeld names.now) line.now }
-    requires directive { conditional ≡ conditional_at names.now line.now }
+    requires held { All (IsHeld names.now) tokens.now }
+    requires directive { line.now.directive ≡ directive_at names.now tokens.now }
     requires owns { Owns (C.sets conds.old) walk.old }
-    ensures printable { OnOk result (StaysPrintable names.now line.now walk.old walk.new) }
-    ensures steps { OnOk result (Advances names.now (C.sets conds.old) walk.old (C.sets conds.new) walk.new (walks (seen_space space.now) names.now line.now)) }
+    ensures printable { OnOk result (StaysPrintable names.now tokens.now walk.old walk.new) }
+    ensures steps { OnOk result (SimulatesStep (initial_macros (seen_space space.now)) names.now (C.sets conds.old) walk.old (C.sets conds.new) walk.new (λ files config m. step m (seen_line names.now files tokens.now))) }
     ensures keeps { Keeps (C.sets conds.old) (C.sets conds.new) }
 {
-    match conditional {
-        None => plain_line(conds, names, walk, line),
-        Some(conditional) => conditional_line(conds, space, names, walk, line, conditional),
+    match line.conditional() {
+        None => plain_line(conds, walk, tokens, line.directive),
+        Some(conditional) => conditional_line(conds, space, names, walk, tokens, conditional),
     }
 }
 
@@ -58,10 +58,10 @@ fn conditional_line<C: Conditions>(
 ) -> Result<(), OutOfMemory>
     requires space { (C.sets conds.old).arities ≡ arities_of (seen_space space.now) }
     requires held { All (IsHeld names.now) line.now }
-    requires directive { Some conditional ≡ conditional_at names.now line.now }
+    requires directive { Some conditional ≡ conditional_in (directive_at names.now line.now) }
     requires owns { Owns (C.sets conds.old) walk.old }
     ensures printable { OnOk result (StaysPrintable names.now line.now walk.old walk.new) }
-    ensures steps { OnOk result (Advances names.now (C.sets conds.old) walk.old (C.sets conds.new) walk.new (walks (seen_space space.now) names.now line.now)) }
+    ensures steps { OnOk result (SimulatesStep (initial_macros (seen_space space.now)) names.now (C.sets conds.old) walk.old (C.sets conds.new) walk.new (λ files config m. step m (seen_line names.now files line.now))) }
     ensures keeps { Keeps (C.sets conds.old) (C.sets conds.new) }
 {
     match conditional {
@@ -87,8 +87,8 @@ fn refused_section<C: Conditions>(
     requires owns { Owns (C.sets conds.old) walk.old }
     requires line { 0 < length line.now }
     ensures printable { OnOk result ((names : List (List ℕ)) → StaysPrintable names line.now walk.old walk.new) }
-    ensures moved { OnOk result ((names : List (List ℕ)) → Advances names (C.sets conds.old) walk.old (C.sets conds.new) walk.new
-        (λ files config m. opened (refusing m (map (seen names files) line.now)) false)) }
+    ensures moved { OnOk result ((macros : List ℕ → Macros) (names : List (List ℕ)) → SimulatesStep macros names (C.sets conds.old) walk.old (C.sets conds.new) walk.new
+        (λ files config m. opened (refusing m (seen_line names files line.now)) false)) }
     ensures keeps { Keeps (C.sets conds.old) (C.sets conds.new) }
 {
     refuse(conds, walk, line)?;
@@ -111,8 +111,8 @@ fn named_section<C: Conditions>(
     requires owns { Owns (C.sets conds.old) walk.old }
     requires line { 0 < length line.now }
     ensures printable { OnOk result (StaysPrintable names.now line.now walk.old walk.new) }
-    ensures moved { OnOk result (Advances names.now (C.sets conds.old) walk.old (C.sets conds.new) walk.new
-        (λ files config m. opened_by_name m (map (seen names.now files) line.now) (is_taken (initial_macros (seen_space space.now) config) wanted) (operand_of (map (seen names.now files) line.now)))) }
+    ensures moved { OnOk result (SimulatesStep (initial_macros (seen_space space.now)) names.now (C.sets conds.old) walk.old (C.sets conds.new) walk.new
+        (λ files config m. opened_by_name m (seen_line names.now files line.now) (is_taken (initial_macros (seen_space space.now) config) wanted) (operand_of (seen_line names.now files line.now)))) }
     ensures keeps { Keeps (C.sets conds.old) (C.sets conds.new) }
 {
     match operand(names, line) {
@@ -148,7 +148,7 @@ fn taken<C: Conditions>(
 /// The identifier after the directive's name.
 fn operand(names: &Names, line: &[Token]) -> Option<Name>
     requires { All (IsHeld names.now) line.now }
-    ensures text { (files : List (List ℕ)) → option_map (λ n. text_at names.now n.0) result ≡ operand_of (map (seen names.now files) line.now) }
+    ensures text { (files : List (List ℕ)) → option_map (λ n. text_at names.now n.0) result ≡ operand_of (seen_line names.now files line.now) }
     ensures own { IfSome result (λ n. n.0 < length names.now) }
 {
     let _ = names;
@@ -162,39 +162,39 @@ fn operand(names: &Names, line: &[Token]) -> Option<Name>
 #[tactic(auto, using(sc_model::proofs::SetLemmas::conditions))]
 fn plain_line<C: Conditions>(
     conds: &mut C,
-    names: &Names,
     walk: &mut Walk,
     line: &[Token],
+    directive: Option<Directive>,
 ) -> Result<(), OutOfMemory>
-    requires held { All (IsHeld names.now) line.now }
     requires owns { Owns (C.sets conds.old) walk.old }
-    ensures printable { OnOk result (StaysPrintable names.now line.now walk.old walk.new) }
-    ensures moved { OnOk result (Advances names.now (C.sets conds.old) walk.old (C.sets conds.new) walk.new (λ files config m. plain_step m (map (seen names.now files) line.now))) }
+    requires line { (directive ≡ None → ⊥) → 0 < length line.now }
+    ensures printable { OnOk result ((names : List (List ℕ)) → StaysPrintable names line.now walk.old walk.new) }
+    ensures moved { OnOk result ((macros : List ℕ → Macros) (names : List (List ℕ)) → SimulatesStep macros names (C.sets conds.old) walk.old (C.sets conds.new) walk.new (λ files config m. plain_by m (seen_line names files line.now) directive)) }
     ensures keeps { Keeps (C.sets conds.old) (C.sets conds.new) }
 {
-    match kind_of(names, line) {
-        LineKind::Text => put(walk, line),
-        LineKind::Idle => Ok(()),
-        LineKind::Unknown => refuse(conds, walk, line),
-    }
-}
-
-/// What a line that is no conditional directive is.
-fn kind_of(names: &Names, line: &[Token]) -> LineKind
-    requires { All (IsHeld names.now) line.now }
-    ensures { (files : List (List ℕ)) → result ≡ line_kind (map (seen names.now files) line.now) }
-{
-    match line {
-        [] => LineKind::Text,
-        [hash, ..] if !is_same(names.text(hash.name), b"#") => LineKind::Text,
-        [_] => LineKind::Idle,
-        [_, word, ..] => {
-            let word = names.text(word.spelling);
-            if is_same(word, b"pragma") || is_same(word, b"warning") {
-                LineKind::Idle
+    match directive {
+        None => put(walk, line),
+        Some(directive) => {
+            if is_refused(directive) {
+                refuse(conds, walk, line)
             } else {
-                LineKind::Unknown
+                Ok(())
             }
         }
     }
+}
+
+/// Whether a directive is not carried out.
+fn is_refused(directive: Directive) -> bool
+    ensures { result ≡ model.is_refused directive }
+{
+    matches!(
+        directive,
+        Directive::Include
+            | Directive::Define
+            | Directive::Undef
+            | Directive::Line
+            | Directive::Error
+            | Directive::Unknown
+    )
 }

@@ -1,5 +1,5 @@
+use crate::prepared::Prepared;
 use sc_base::Cond;
-use sc_guarded::Expanded;
 
 /// A section that is open.
 #[derive(Clone, Copy)]
@@ -15,12 +15,10 @@ pub struct Section {
 pub struct Walk {
     /// The configurations that take the lines from here on, those refused among them.
     pub group: Cond,
-    /// The configurations that were not refused.
-    pub accepted: Cond,
-    /// Both.
-    pub live: Cond,
+    /// Those of them that were not refused: the lines do something there.
+    pub acting: Cond,
     /// The innermost last.
     pub sections: Vec<Section>,
     /// What was put out and refused so far.
-    pub expanded: Expanded,
+    pub prepared: Prepared,
 }

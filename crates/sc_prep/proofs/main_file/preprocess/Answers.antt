@@ -7,7 +7,7 @@ use Rattle.sc_prep.proofs.FileWalk.{refused-ordinary}
 use Rattle.sc_prep.proofs.main_file.preprocess.Goals as goal
 use Rattle.sc_model.specs.declared.cause.Cause.TheVariants.{NotFound}
 use Rattle.sc_model.specs.Fault.{fault_at, first_place}
-use Rattle.c11_directives.specs.Pre.{absent}
+use Rattle.c11_directives.specs.Pre.{absent, missing}
 use Rattle.sc_space.specs.Seen.{seen_space}
 
 pub returns-in_ok-refused-in-None-clause-ordinary : goal.returns-in_ok-refused-in-None-clause-ordinary
@@ -17,7 +17,7 @@ returns-in_ok-refused-in-None-clause-ordinary g c = λ outside holds config list
     let files = c.intern.new.self in
     let main = c.args.main.now in
     refused-ordinary s names files c.in_ok-refused-in-None.field-0 (seen_space c.args.space.now) outside main config (fault_at NotFound (first_place main))
-    (λ state. absent (sym (c.in_ok-read.ensures.answer outside holds) ∙ ap (option_map (λ bytes. bytes.items)) c.in-None.is))
+    (λ state. missing _ (absent (sym (c.in_ok-read.ensures.answer outside holds) ∙ ap (option_map (λ bytes. bytes.items)) c.in-None.is)))
     (subst (λ place. IsRefused s names files c.in_ok-refused-in-None.field-0 (fault_at NotFound place) config) (c.first.ensures.place files main c.in_ok-file.ensures.named)
     (c.in_ok-refused-in-None.ensures.refused names files config listed))
 

@@ -3,9 +3,10 @@ use Rattle.std.proofs.lemmas.Result.{IfOk-weaker}
 use Rattle.sc_prep.specs.Preprocesses.{IsRefused}
 use Rattle.std.specs.Prelude.{All}
 use Rattle.sc_prep.specs.Printable.{IsOfFile, ArePrintable}
-use Rattle.sc_prep.proofs.Printing.{tokens-of_file, mirrors-few}
+use Rattle.sc_prep.proofs.Printing.{tokens-of_file, faults-few}
 use Rattle.sc_model.proofs.SetLemmas.{IsConfig-kept}
-use Rattle.sc_prep.proofs.FileWalk.{refused-ordinary, walk-ordinary}
+use Rattle.sc_prep.proofs.FileWalk.{enters-main, refused-ordinary, walk-ordinary}
+use Rattle.sc_prep.proofs.Machine.{lines-hashes}
 use Rattle.sc_prep.proofs.main_file.preprocess_bytes.Goals as goal
 use Rattle.sc_lex.proofs.SeenLemmas.{held, tokens-seen, place-seen}
 use Rattle.sc_base.specs.declared.token.Token.{Token}
@@ -16,7 +17,7 @@ use Rattle.sc_lex.specs.Spell.{IsUnendedAt}
 use Rattle.sc_lines.specs.Nests as nests
 use Rattle.sc_lines.specs.Nests.{seen_lines}
 use Rattle.sc_model.specs.declared.cause.Cause.TheVariants.{FileTooLarge, UnterminatedComment, BadNesting}
-use Rattle.c11_directives.specs.Lines.{lines_of, IsTree, Tree, nested}
+use Rattle.c11_directives.specs.Lines.{c11_directive_names, lines_of, IsTree, Tree, nested}
 use Rattle.sc_model.specs.Fault.{fault_at, first_place}
 use Rattle.c11_directives.specs.Pre.{too_large, unended, badly_nested}
 use Rattle.sc_model.specs.Token.{in_file}
@@ -26,7 +27,7 @@ pub returns-then-bytes-gt-LARGEST_FILE-clause-ordinary : goal.returns-then-bytes
 returns-then-bytes-gt-LARGEST_FILE-clause-ordinary g c =
     IfOk-weaker c.refused.result _ _ (λ p refused. λ files outside main config named there listed.
     refused-ordinary (g.C.Conditions.sets c.args.conds.now) c.args.names.now files p (seen_space c.args.space.now) outside main config (fault_at FileTooLarge (first_place main))
-    (λ s. too_large c.args.bytes.now there c.if-bytes-gt-LARGEST_FILE.true)
+    (λ s. enters-main (seen_space c.args.space.now) outside main c.args.bytes.now there s (too_large c.if-bytes-gt-LARGEST_FILE.true))
     (subst (λ place. IsRefused (g.C.Conditions.sets c.args.conds.now) c.args.names.now files p (fault_at FileTooLarge place) config) (c.first.ensures.place files main named)
     (refused c.args.names.now files config listed)))
     c.refused.ensures.refused
@@ -38,7 +39,7 @@ returns-in-Err-Comment-clause-ordinary g c =
     let unended_at : IsUnendedAt c.args.file c.args.bytes.now place = subst (lex.Refuses c.args.file c.args.bytes.now) c.in-Err-Comment.field-0-is c.in-Err-Comment.ensures.err in
     refused-ordinary (g.C.Conditions.sets c.args.conds.now) c.tokens.new.names files p (seen_space c.args.space.now) outside main config
     (fault_at UnterminatedComment (record { file = main; position = position_of place }))
-    (λ s. unended c.args.bytes.now (position_of place) there (λ big. omega (arith, big)) unended_at.lexed)
+    (λ s. enters-main (seen_space c.args.space.now) outside main c.args.bytes.now there s (unended (position_of place) (λ big. omega (arith, big)) unended_at.lexed))
     (subst (λ place. IsRefused (g.C.Conditions.sets c.args.conds.now) c.tokens.new.names files p (fault_at UnterminatedComment place) config)
     (place-seen files c.args.file main place named unended_at.in_file)
     (refused c.tokens.new.names files config listed)))
@@ -51,13 +52,13 @@ returns-in-Err-Nesting-clause-ordinary g c =
     let are = c.in-Ok.ensures.ok in
     let place = seen_place files c.in-Err-Nesting.place in
     let refuses = subst (nests.Refuses names c.deref.result.now) c.in-Err-Nesting.field-0-is c.in-Err-Nesting.ensures.err in
-    let lines_are : seen_lines names files c.deref.result.now ≡ lines_of (map (in_file main) are.lexemes) =
+    let lines_are : seen_lines names files c.deref.result.now ≡ lines_of c11_directive_names (map (in_file main) are.lexemes) =
     ap (λ (ts : List Token). seen_lines names files ts) c.deref.ensures.value
-    ∙ ap lines_of (tokens-seen names files c.args.file main c.args.bytes.now c.in-Ok.tokens.items are named) in
+    ∙ ap (lines_of c11_directive_names) (tokens-seen names files c.args.file main c.args.bytes.now c.in-Ok.tokens.items are named) in
     refused-ordinary (g.C.Conditions.sets c.args.conds.now) names files p (seen_space c.args.space.now) outside main config
     (fault_at BadNesting place)
-    (λ s. badly_nested c.args.bytes.now are.lexemes place there (λ big. omega (arith, big)) are.lexed
-    (subst (λ ls. Tree ls (Err place)) lines_are (refuses.tree files)))
+    (λ s. enters-main (seen_space c.args.space.now) outside main c.args.bytes.now there s
+    (badly_nested are.lexemes place (λ big. omega (arith, big)) are.lexed (subst (λ ls. Tree ls (Err place)) lines_are (refuses.tree files))))
     (refused names files config listed))
     c.refused-in-Err-Nesting.ensures.refused
 
@@ -66,14 +67,14 @@ returns-clause-ordinary g c = λ files outside main config named there listed.
     let names = c.tokens.new.names in
     let are = c.in-Ok.ensures.ok in
     let group = c.in-Ok-groups.ensures.ok.nested files in
-    let lines_are : seen_lines names files c.deref.result.now ≡ lines_of (map (in_file main) are.lexemes) =
+    let lines_are : seen_lines names files c.deref.result.now ≡ lines_of c11_directive_names (map (in_file main) are.lexemes) =
     ap (λ (ts : List Token). seen_lines names files ts) c.deref.ensures.value
-    ∙ ap lines_of (tokens-seen names files c.args.file main c.args.bytes.now c.in-Ok.tokens.items are named) in
-    walk-ordinary (g.C.Conditions.sets c.walk_file.new.conds) names files (seen_space c.args.space.now) outside main config c.args.bytes.now are.lexemes group.0
-    there (λ big. omega (arith, big)) are.lexed (nested group.0 (subst (λ ls. IsTree ls group.0) lines_are group.1))
-    c.in_ok-walk.walk (seen_lines names files c.deref-2.result.now)
+    ∙ ap (lines_of c11_directive_names) (tokens-seen names files c.args.file main c.args.bytes.now c.in-Ok.tokens.items are named) in
+    walk-ordinary (seen_space c.args.space.now) outside main c.args.bytes.now there (g.C.Conditions.sets c.walk_file.new.conds) names files config are.lexemes group.0
+    (λ big. omega (arith, big)) are.lexed (nested group.0 (subst (λ ls. IsTree ls group.0) lines_are group.1))
+    c.in_ok-walk.walk (seen_lines names files c.deref-2.result.now) (lines-hashes c11_directive_names _)
     (subst (λ (ts : List Token). IsTree (seen_lines names files ts) group.0) (c.deref.ensures.value ∙ sym c.deref-2.ensures.value) group.1)
-    (c.in_ok-walk.ensures.walked files config listed)
+    (c.in_ok-walk.ensures.walked files main config listed)
 
 pub returns-in-Err-Comment-clause-printable : goal.returns-in-Err-Comment-clause-printable
 returns-in-Err-Comment-clause-printable g c =
@@ -104,6 +105,6 @@ returns-clause-printable g c =
 pub returns-clause-apart : goal.returns-clause-apart
 returns-clause-apart g c = record {
   few = λ config listed.
-      let mirrors = c.in_ok-walk.ensures.walked [] config (IsConfig-kept c.walk_file.ensures.keeps listed) in
-      mirrors-few (g.C.Conditions.sets c.walk_file.new.conds) [] c.in_ok-walk.walk.expanded.faults.items config _ mirrors.fault;
+      let simulates = c.in_ok-walk.ensures.walked [] [] config (IsConfig-kept c.walk_file.ensures.keeps listed) in
+      faults-few (g.C.Conditions.sets c.walk_file.new.conds) [] c.in_ok-walk.walk.prepared.faults.items config _ simulates.fault;
 }

@@ -1,0 +1,11 @@
+use sc_base::{Cond, Fault, Token};
+use sc_guarded::Guarded;
+
+/// What a file becomes under all configurations. A configuration with a fault is refused, and its tokens then don't count.
+#[derive(Drop)]
+pub struct Prepared {
+    pub list: Guarded<Token>,
+    pub faults: Vec<Fault>,
+    /// The configurations without a fault.
+    pub live: Cond,
+}
