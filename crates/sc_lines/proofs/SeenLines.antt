@@ -10,7 +10,7 @@ use Rattle.sc_base.specs.declared.token.Token.{Token}
 use Rattle.sc_base.specs.Seen.{seen, seen_place}
 use Rattle.sc_lines.specs.declared.line.Line.{Line}
 use Rattle.sc_lines.specs.Judges.{no_line, line_at, FailsAt, Judges, no_token}
-use Rattle.sc_lines.specs.Nests.{seen_lines}
+use Rattle.sc_lines.specs.Nests.{seen_line, seen_lines}
 use Rattle.sc_lines.specs.Split.{AreLines, tokens_of, token_lines, directive_at}
 use Rattle.sc_lines.proofs.Judging.{same_at, same_length}
 use Rattle.c11_tokens.specs.Lex.{is_newline}
@@ -33,10 +33,6 @@ split_lines-map f ends (t ∷ ts) =
 map-same : {A B : Type 0} (f g : A → B) → ((x : A) → f x ≡ g x) → (xs : List A) → map f xs ≡ map g xs
 map-same f g same [] = refl
 map-same f g same (x ∷ xs) = ap (λ y. y ∷ map f xs) (same x) ∙ ap (λ ys. g x ∷ ys) (map-same f g same xs)
-
--- a line of these tokens
-abbrev pub seen_line : List (List ℕ) → List (List ℕ) → List Token → model.Line
-seen_line names files line = model.line_of model.c11_directive_names (map (seen names files) line)
 
 -- which directive a line is doesn't depend on the names of files
 pub directive-files : (names files : List (List ℕ)) (line : List Token) → (seen_line names files line).directive ≡ directive_at names line

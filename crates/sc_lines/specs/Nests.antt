@@ -11,7 +11,11 @@ use Rattle.sc_lines.specs.Branches.{HasBranches}
 use Rattle.sc_lines.specs.Split.{AreLines}
 use Rattle.c11_directives.specs.Lines as model
 
--- the lines of the tokens, with any names of files
+-- the line of these tokens, with any names of files
+abbrev pub seen_line : List (List ℕ) → List (List ℕ) → List Token → model.Line
+seen_line names files line = model.line_of model.c11_directive_names (map (seen names files) line)
+
+-- the lines of the tokens
 abbrev pub seen_lines : List (List ℕ) → List (List ℕ) → List Token → List model.Line
 seen_lines names files tokens = model.lines_of model.c11_directive_names (map (seen names files) tokens)
 

@@ -18,7 +18,7 @@ use Rattle.c11_directives.specs.Pre.{State, Walks, closed, unexpanded, File, fou
 use Rattle.sc_model.specs.Sets.{Sets}
 use Rattle.sc_model.specs.Space.{Space}
 use Rattle.c11_macros.specs.Macros.{initial_macros}
-use Rattle.sc_model.specs.Token.{Lexeme, Token}
+use Rattle.sc_model.specs.Token.{Lexeme}
 
 -- what stands at a configuration that is refused
 pub refused-ordinary : (s : Sets) (names files : List (List ℕ)) (p : Prepared) (space : Space) (outside : Files) (main config : List ℕ) (fault : Fault)

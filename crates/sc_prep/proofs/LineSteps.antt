@@ -2,7 +2,7 @@
 use Rattle.std.proofs.Common.{◌≡◌, ℕ, ◌+◌, take, ◌<◌, List, [], ◌∷◌, length, map, Option, Some, None, get_or, sym, ap, ◌∙◌, arith}
 use Rattle.std.proofs.lemmas.List.{take_more, map-append}
 use Rattle.sc_prep.specs.Machine.{Machine, plain_by, step_by, step, run}
-use Rattle.sc_prep.specs.Simulates.{seen_line}
+use Rattle.sc_lines.specs.Nests.{seen_line}
 use Rattle.sc_base.specs.declared.token.Token.{Token}
 use Rattle.sc_prep.proofs.Machine.{run-append}
 use Rattle.sc_lines.specs.Split.{directive_at}

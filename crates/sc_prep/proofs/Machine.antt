@@ -1,5 +1,5 @@
 -- The walk of one configuration over the lines of a file as they come, and that it is the walk of their groups.
-use Rattle.std.proofs.Common.{◌≡◌, inl, inr, ℕ, ◌&&◌, not, Bool, true, false, List, [], ◌∷◌, ◌++◌, map, Option, Some, None, Result, Ok, Err, refl, sym, ap, ◌∙◌, subst}
+use Rattle.std.proofs.Common.{◌≡◌, inl, inr, ℕ, ◌&&◌, not, Bool, true, false, List, [], ◌∷◌, ◌++◌, map, Option, Some, None, Result, Ok, Err, refl, sym, ap, ◌∙◌}
 use Rattle.std.specs.Option.{option_map}
 use Rattle.std.specs.Prelude.{is_none, unwrap_or, if◌then◌else◌}
 use Rattle.sc_model.specs.declared.cause.Cause.TheVariants.{BadDirective}
@@ -11,7 +11,7 @@ use Rattle.c11_directives.specs.Lines.{Line, DirectiveNames, line_of, hash_of, c
 use Rattle.sc_model.specs.Fault.{Fault, first_place}
 use Rattle.c11_directives.specs.Pre.{Context, State, place_in, with_text, unexpanded, Closes, closed, RefusedAt, operand_of, Decides, if_defined, if_undefined, no_name, expression, is_ignored, is_refused, Steps, text, null, ignored, unknown, Walks, done, line, line_stops, taken, taken_stops, passed, passed_stops, head_stops, WalksBranches, none_taken, last_taken, later_stops}
 use Rattle.sc_model.specs.Token.{Token}
-use Rattle.sc_prep.specs.Machine.{Machine, acts, place_at, refusal, refusing, acting, turned, opened, opened_by_name, next_branch, ended, closing_run, is_taken, plain_by, plain_step, step_by, step, run}
+use Rattle.sc_prep.specs.Machine.{Machine, acts, refusal, refusing, acting, turned, opened, opened_by_name, next_branch, ended, closing_run, is_taken, plain_by, plain_step, step_by, step, run}
 
 pub run-append : (m : Machine) (xs ys : List Line) → run m (xs ++ ys) ≡ run (run m xs) ys
 run-append m [] ys = refl
@@ -68,7 +68,7 @@ conditional-some l named none = let same = ap conditional_in none in cc
 inert_refusing : (m : Machine) (l : Line) → acts m ≡ false → refusing m l ≡ m
 inert_refusing m l e = ap (λ b. record m { fault = if b then Some (refusal m.state l) else m.fault }) e
 
-inert_acting : (m : Machine) (next : State → State) → acts m ≡ false → acting m next ≡ m
+pub inert_acting : (m : Machine) (next : State → State) → acts m ≡ false → acting m next ≡ m
 inert_acting m next e = ap (λ b. record m { state = if b then next m.state else m.state }) e
 
 inert_plain : (m : Machine) (l : Line) → acts m ≡ false → plain_step m l ≡ m

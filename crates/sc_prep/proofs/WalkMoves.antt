@@ -10,7 +10,8 @@ use Rattle.sc_base.specs.declared.id.Cond.{Cond}
 use Rattle.sc_prep.specs.declared.walk.Section.{Section}
 use Rattle.sc_prep.specs.declared.walk.Walk.{Walk}
 use Rattle.sc_prep.specs.Machine.{Machine, acts, acting, opened, next_branch, ended, turned, refusing, refusal, closing_run, plain_by}
-use Rattle.sc_prep.specs.Simulates.{section_at, Simulates, OwnsSection, Owns, SimulatesStep, seen_line}
+use Rattle.sc_prep.specs.Simulates.{section_at, Simulates, OwnsSection, Owns, SimulatesStep}
+use Rattle.sc_lines.specs.Nests.{seen_line}
 use Rattle.c11_directives.specs.Pre.{State, with_text, is_ignored, is_refused}
 use Rattle.c11_directives.specs.declared.directive.Directive.{Directive}
 use Rattle.c11_macros.specs.Macros.{Macros}
@@ -20,7 +21,8 @@ use Rattle.sc_guarded.specs.Items.{items_at, faults_at, seen_fault}
 use Rattle.sc_base.specs.declared.token.Token.{Token}
 use Rattle.sc_base.specs.Seen.{seen}
 use Rattle.sc_model.proofs.SetLemmas.{IsConfig-Keeps}
-use Rattle.sc_model.specs.Sets.{Sets, IsConfig, IsCond, Denotes, Keeps}
+use Rattle.sc_model.specs.Sets.{Sets, IsConfig, IsCond, IsNever, Denotes, Keeps}
+use Rattle.sc_prep.proofs.Machine.{inert_acting}
 
 map-reverse : {A B : Type 0} (f : A → B) (xs : List A) → map f (reverse xs) ≡ reverse (map f xs)
 map-reverse f [] = refl
@@ -281,6 +283,16 @@ puts macros names s w owns tokens list is =
         macros_are = text_macros (acts m) m.state (seen_line names files tokens) ∙ simulates.macros_are;
       };
     }
+
+-- where no configuration takes the line, nothing is put out
+pub puts-none : (macros : List ℕ → Macros) (names : List (List ℕ)) (s : Sets) (w : Walk) → Owns s w → IsNever s w.acting.0 → (line : List Token)
+    → SimulatesStep macros names s w s w (λ files config m. acting m (λ state. with_text state (seen_line names files line)))
+puts-none macros names s w owns never line = record {
+  owns = owns;
+  at = λ files config m listed simulates.
+      subst (Simulates s macros names files w config)
+      (sym (inert_acting m (λ state. with_text state (seen_line names files line)) (sym simulates.acting ∙ never.none config listed))) simulates;
+}
 
 -- ---- a directive that has no effect
 

@@ -6,10 +6,7 @@ use Rattle.sc_prep.specs.declared.walk.Walk.{Walk}
 use Rattle.sc_prep.specs.Machine.{Machine, acts}
 use Rattle.sc_prep.specs.Preprocesses.{OwnsList}
 use Rattle.sc_guarded.specs.Items.{items_at, faults_at, seen_fault}
-use Rattle.sc_base.specs.declared.token.Token.{Token}
 use Rattle.sc_base.specs.Seen.{seen}
-use Rattle.c11_directives.specs.Lines.{Line, c11_directive_names, line_of}
-use Rattle.c11_directives.specs.Pre.{State}
 use Rattle.c11_macros.specs.Macros.{Macros}
 use Rattle.sc_model.specs.Sets.{Sets, IsConfig, IsCond}
 
@@ -43,7 +40,3 @@ pub record SimulatesStep (macros : List ℕ → Macros) (names : List (List ℕ)
   pub owns : Owns new next
   pub at : (files : List (List ℕ)) (config : List ℕ) (m : Machine) → IsConfig old.arities config
       → Simulates old macros names files walk config m → Simulates new macros names files next config (does files config m)
-
--- the line of these tokens
-abbrev pub seen_line : List (List ℕ) → List (List ℕ) → List Token → Line
-seen_line names files line = line_of c11_directive_names (map (seen names files) line)

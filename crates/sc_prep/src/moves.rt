@@ -1,10 +1,11 @@
-ghost use Rattle.std.specs.Prelude.{ℕ, ◌<◌, Bool, List, length, OnOk};
+ghost use Rattle.std.specs.Prelude.{◌≡◌, ℕ, ◌<◌, Bool, List, length, OnOk};
 ghost use Rattle.sc_base.specs.declared.token.Token as base;
-ghost use Rattle.sc_model.specs.Sets.{Sets, IsCond, Denotes, Keeps};
+ghost use Rattle.sc_model.specs.Sets.{IsCond, IsNever, Denotes, Keeps};
 ghost use Rattle.c11_directives.specs.Pre.{with_text};
 ghost use Rattle.c11_macros.specs.Macros.{Macros};
 ghost use Rattle.sc_prep.specs.Machine.{acting, opened, next_branch, ended, refusing};
-ghost use Rattle.sc_prep.specs.Simulates.{Owns, SimulatesStep, seen_line};
+ghost use Rattle.sc_prep.specs.Simulates.{Owns, SimulatesStep};
+ghost use Rattle.sc_lines.specs.Nests.{seen_line};
 ghost use Rattle.sc_prep.specs.Printable.{StaysPrintable};
 
 use crate::walk::{Section, Walk};
@@ -101,11 +102,16 @@ pub fn refuse<C: Conditions>(
     Ok(())
 }
 
-/// The tokens of a line are put out.
-pub fn put(walk: &mut Walk, line: &[Token]) -> Result<(), OutOfMemory>
+/// The tokens of a line are put out, where some configuration takes them.
+pub fn put<C: Conditions>(conds: &C, walk: &mut Walk, line: &[Token]) -> Result<(), OutOfMemory>
+    requires { Owns (C.sets conds.now) walk.old }
     ensures printable { OnOk result ((names : List (List ℕ)) → StaysPrintable names line.now walk.old walk.new) }
-    ensures moved { OnOk result ((macros : List ℕ → Macros) (names : List (List ℕ)) (s : Sets) → Owns s walk.old → SimulatesStep macros names s walk.old s walk.new (λ files config m. acting m (λ state. with_text state (seen_line names files line.now)))) }
+    ensures moved { OnOk result ((macros : List ℕ → Macros) (names : List (List ℕ)) → SimulatesStep macros names (C.sets conds.now) walk.old (C.sets conds.now) walk.new (λ files config m. acting m (λ state. with_text state (seen_line names files line.now)))) }
+    ensures none { IsNever (C.sets conds.now) walk.old.acting.0 → walk.new ≡ walk.old }
 {
+    if conds.is_never(walk.acting) {
+        return Ok(());
+    }
     for token in line {
         walk.prepared.list.push(walk.acting, *token)?;
     }

@@ -10,7 +10,8 @@ ghost use Rattle.sc_model.specs.Space.{arities_of};
 ghost use Rattle.c11_macros.specs.Macros.{Macros, initial_macros};
 ghost use Rattle.sc_space.specs.Seen.{seen_space};
 ghost use Rattle.sc_prep.specs.Machine.{is_taken, plain_by, opened_by_name, refusing, opened, step};
-ghost use Rattle.sc_prep.specs.Simulates.{Owns, SimulatesStep, seen_line};
+ghost use Rattle.sc_prep.specs.Simulates.{Owns, SimulatesStep};
+ghost use Rattle.sc_lines.specs.Nests.{seen_line};
 ghost use Rattle.sc_prep.specs.Printable.{StaysPrintable};
 
 use crate::moves::{begin_branch, begin_section, end_section, put, refuse};
@@ -173,7 +174,7 @@ fn plain_line<C: Conditions>(
     ensures keeps { Keeps (C.sets conds.old) (C.sets conds.new) }
 {
     match directive {
-        None => put(walk, line),
+        None => put(conds, walk, line),
         Some(directive) => {
             if is_refused(directive) {
                 refuse(conds, walk, line)

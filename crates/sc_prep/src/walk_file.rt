@@ -44,7 +44,14 @@ pub fn walk_file<C: Conditions>(
 {
     let mut walk = first_walk(alloc, conds)?;
     for line in lines {
-        walk_line(conds, space, names, &mut walk, line, &tokens[line.first..line.end])?;
+        walk_line(
+            conds,
+            space,
+            names,
+            &mut walk,
+            line,
+            &tokens[line.first..line.end],
+        )?;
     }
     Ok(walk)
 }

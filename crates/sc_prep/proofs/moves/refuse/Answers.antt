@@ -4,7 +4,8 @@ use Rattle.sc_base.specs.declared.token.Token.{Token}
 use Rattle.sc_model.specs.declared.kind.Kind.TheVariants.{Identifier}
 use Rattle.sc_model.proofs.SetLemmas.{Keeps-trans, Denotes-self, Denotes-Keeps}
 use Rattle.sc_prep.specs.Machine.{refusing}
-use Rattle.sc_prep.specs.Simulates.{SimulatesStep, seen_line}
+use Rattle.sc_prep.specs.Simulates.{SimulatesStep}
+use Rattle.sc_lines.specs.Nests.{seen_line}
 use Rattle.sc_prep.proofs.WalkMoves.{refuses}
 use Rattle.sc_prep.proofs.moves.refuse.Goals as goal
 

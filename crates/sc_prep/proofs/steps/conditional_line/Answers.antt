@@ -4,7 +4,7 @@ use Rattle.c11_directives.specs.Pre.{operand_of}
 use Rattle.c11_macros.specs.Macros.{initial_macros}
 use Rattle.sc_space.specs.Seen.{seen_space}
 use Rattle.sc_prep.specs.Machine.{is_taken, opened, opened_by_name, refusing, next_branch, ended, step}
-use Rattle.sc_prep.specs.Simulates.{seen_line}
+use Rattle.sc_lines.specs.Nests.{seen_line}
 use Rattle.sc_prep.proofs.LineSteps.{step-is}
 use Rattle.sc_prep.proofs.WalkMoves.{step-then, step-as}
 use Rattle.sc_prep.proofs.steps.conditional_line.Goals as goal

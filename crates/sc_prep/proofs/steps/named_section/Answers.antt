@@ -1,7 +1,7 @@
 use Rattle.std.proofs.Common.{[], ◌∙◌, false, sym, ap, ℕ, List, Option, Some}
 use Rattle.std.proofs.lemmas.Result.{on_ok_weaker}
 use Rattle.std.specs.Prelude.{unwrap_or}
-use Rattle.sc_prep.specs.Simulates.{seen_line}
+use Rattle.sc_lines.specs.Nests.{seen_line}
 use Rattle.sc_model.proofs.SetLemmas.{Keeps-trans}
 use Rattle.c11_directives.specs.Pre.{operand_of}
 use Rattle.c11_macros.specs.Macros.{initial_macros}

@@ -1,17 +1,17 @@
-use Rattle.std.proofs.Common.{sym, ap, ◌∙◌, Some, ◌≡◌, true, false}
+use Rattle.std.proofs.Common.{sym, ap, ◌∙◌, ◌≡◌, true}
 use Rattle.std.proofs.lemmas.Result.{on_ok_weaker}
 use Rattle.std.specs.Prelude.{if◌then◌else◌}
 use Rattle.c11_directives.specs.Pre.{with_text, is_ignored, is_refused}
 use Rattle.sc_prep.specs.Machine.{acting, closing_run, plain_by, refusing}
-use Rattle.sc_prep.specs.Simulates.{seen_line}
-use Rattle.sc_prep.proofs.WalkMoves.{stays, step-as}
+use Rattle.sc_lines.specs.Nests.{seen_line}
+use Rattle.sc_prep.proofs.WalkMoves.{step-as}
 use Rattle.sc_prep.proofs.steps.plain_line.Goals as goal
 
 pub returns-in-None-clause-moved : goal.returns-in-None-clause-moved
 returns-in-None-clause-moved g c = on_ok_weaker c.put.result (λ puts macros names.
     let line = c.args.line.now in
     step-as (λ files config m. acting m (λ s. with_text s (seen_line names files line))) (λ files config m. plain_by m (seen_line names files line) c.args.directive)
-    (λ files config m _. ap (plain_by m (seen_line names files line)) (sym c.in-None.is)) (puts macros names (g.C.Conditions.sets c.args.conds.now) c.requires.owns))
+    (λ files config m _. ap (plain_by m (seen_line names files line)) (sym c.in-None.is)) (puts macros names))
     c.put.ensures.moved
 
 pub returns-then-is_refused-clause-moved : goal.returns-then-is_refused-clause-moved

@@ -1,7 +1,7 @@
 use Rattle.std.proofs.Common.{[], false, None}
 use Rattle.std.proofs.lemmas.Result.{on_ok_weaker}
 use Rattle.sc_prep.specs.Machine.{opened, refusing}
-use Rattle.sc_prep.specs.Simulates.{seen_line}
+use Rattle.sc_lines.specs.Nests.{seen_line}
 use Rattle.sc_prep.proofs.WalkMoves.{step-then}
 use Rattle.sc_prep.proofs.steps.refused_section.Goals as goal
 

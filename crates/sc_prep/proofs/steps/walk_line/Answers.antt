@@ -4,7 +4,7 @@ use Rattle.c11_directives.specs.Lines.{conditional_in}
 use Rattle.c11_macros.specs.Macros.{initial_macros}
 use Rattle.sc_space.specs.Seen.{seen_space}
 use Rattle.sc_prep.specs.Machine.{plain_by, step}
-use Rattle.sc_prep.specs.Simulates.{seen_line}
+use Rattle.sc_lines.specs.Nests.{seen_line}
 use Rattle.sc_prep.proofs.LineSteps.{directive-long, plain-is}
 use Rattle.sc_prep.proofs.WalkMoves.{step-as}
 use Rattle.sc_prep.proofs.steps.walk_line.Goals as goal

@@ -7,7 +7,8 @@ use Rattle.sc_model.proofs.SetLemmas.{Keeps-refl, Keeps-trans, IsConfig-Keeps}
 use Rattle.c11_macros.specs.Macros.{initial_macros}
 use Rattle.sc_space.specs.Seen.{seen_space}
 use Rattle.sc_prep.specs.Machine.{run, start}
-use Rattle.sc_prep.specs.Simulates.{Simulates, seen_line}
+use Rattle.sc_prep.specs.Simulates.{Simulates}
+use Rattle.sc_lines.specs.Nests.{seen_line}
 use Rattle.c11_directives.specs.Pre.{initial_state}
 use Rattle.sc_prep.proofs.Printing.{line-printable, none-printable}
 use Rattle.sc_prep.proofs.LineSteps.{run-more}

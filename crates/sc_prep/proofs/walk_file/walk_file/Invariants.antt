@@ -4,7 +4,8 @@ use Rattle.sc_model.specs.Sets.{IsConfig, Keeps}
 use Rattle.c11_macros.specs.Macros.{initial_macros}
 use Rattle.sc_space.specs.Seen.{seen_space}
 use Rattle.sc_prep.specs.Machine.{run, start}
-use Rattle.sc_prep.specs.Simulates.{Owns, Simulates, seen_line}
+use Rattle.sc_prep.specs.Simulates.{Owns, Simulates}
+use Rattle.sc_lines.specs.Nests.{seen_line}
 use Rattle.c11_directives.specs.Pre.{initial_state}
 use Rattle.std.specs.Prelude.{All}
 use Rattle.sc_base.specs.declared.id.FileId.{FileId}
