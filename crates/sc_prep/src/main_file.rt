@@ -14,7 +14,7 @@ ghost use Rattle.sc_prep.specs.Preprocesses.{IsOrdinary, OwnsList, IsRefused, St
 ghost use Rattle.sc_prep.specs.Printable.{ArePrintable, CanBeShown};
 
 use crate::prepared::Prepared;
-use crate::walk_file::walk_file;
+use crate::walk::Walk;
 use sc_base::{Cause, Fault, FileId, Files, Names, OutOfMemory, Place, Stop};
 use sc_guarded::Guarded;
 use sc_lex::{LexStop, tokens};
@@ -98,7 +98,7 @@ fn preprocess_bytes<C: Conditions>(
         Err(NestStop::Nesting(place)) => return refused(alloc, conds, Cause::BadNesting, place),
         Err(NestStop::OutOfMemory) => return Err(OutOfMemory),
     };
-    let walk = walk_file(alloc, conds, space, names, &tokens, &tree.lines)?;
+    let walk = Walk::of_lines(alloc, conds, space, names, &tokens, &tree.lines)?;
     Ok(walk.prepared)
 }
 

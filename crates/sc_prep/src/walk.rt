@@ -1,5 +1,25 @@
+ghost use Rattle.std.specs.Prelude.{◌≡◌, ℕ, ◌<◌, Bool, List, length, OnOk, [], All, None, true, IfOk};
+ghost use Rattle.sc_base.specs.declared.token.Token as base;
+ghost use Rattle.sc_model.specs.Sets.{IsCond, IsNever, Denotes, Keeps, IsConfig};
+ghost use Rattle.c11_directives.specs.Pre.{with_text, initial_state};
+ghost use Rattle.c11_macros.specs.Macros.{Macros, initial_macros};
+ghost use Rattle.sc_prep.specs.Machine.{acting, opened, next_branch, ended, refusing, run, start};
+ghost use Rattle.sc_prep.specs.Simulates.{Owns, SimulatesStep, Simulates};
+ghost use Rattle.sc_lines.specs.Nests.{seen_line, seen_lines};
+ghost use Rattle.sc_prep.specs.Printable.{StaysPrintable, IsOfFile, ArePrintable};
+ghost use Rattle.sc_base.specs.declared.id.FileId.{FileId};
+ghost use Rattle.sc_base.specs.Seen.{IsHeld};
+ghost use Rattle.sc_lines.specs.Split.{AreLines};
+ghost use Rattle.sc_model.specs.Space.{Space as Model, arities_of};
+ghost use Rattle.sc_space.specs.Seen.{seen_space};
+
 use crate::prepared::Prepared;
-use sc_base::Cond;
+use sc_base::{Cause, Cond, Fault, Names, OutOfMemory, Token};
+use sc_guarded::Guarded;
+use sc_lines::Line;
+use sc_presence::Conditions;
+use sc_space::Space;
+use std::alloc::Global;
 
 /// A section that is open.
 #[derive(Clone, Copy)]
@@ -21,4 +41,158 @@ pub struct Walk {
     pub sections: Vec<Section>,
     /// What was put out and refused so far.
     pub prepared: Prepared,
+}
+
+impl Walk {
+    /// The walk of a file's lines under all configurations.
+    #[tactic(auto, using(sc_model::proofs::SetLemmas::conditions))]
+    pub fn of_lines<C: Conditions>(
+        alloc: Global,
+        conds: &mut C,
+        space: &Space,
+        names: &Names,
+        tokens: &[Token],
+        lines: &[Line],
+    ) -> Result<Walk, OutOfMemory>
+        requires space { (C.sets conds.old).arities ≡ arities_of (seen_space space.now) }
+        requires held { All (IsHeld names.now) tokens.now }
+        requires lines { AreLines names.now tokens.now lines.now }
+        ensures owns { IfOk result (λ walk. Owns (C.sets conds.new) walk) }
+        ensures printable { IfOk result (λ walk. (file : FileId) → All (IsOfFile names.now file) tokens.now → ArePrintable names.now file walk.prepared) }
+        ensures walked { IfOk result (λ walk. (files : List (List ℕ)) (main config : List ℕ) → IsConfig (C.sets conds.old).arities config
+            → Simulates (C.sets conds.new) (initial_macros (seen_space space.now)) names.now files walk config
+            (run (start (initial_state (seen_space space.now) main config)) (seen_lines names.now files tokens.now))) }
+        ensures keeps { Keeps (C.sets conds.old) (C.sets conds.new) }
+    {
+        let mut walk = Walk::new(alloc, conds)?;
+        for line in lines {
+            walk.take_line(conds, space, names, line, &tokens[line.first..line.end])?;
+        }
+        Ok(walk)
+    }
+
+    /// The walk before the first line.
+    fn new<C: Conditions>(alloc: Global, conds: &C) -> Result<Walk, OutOfMemory>
+        ensures owns { IfOk result (λ walk. Owns (C.sets conds.now) walk) }
+        ensures empty { IfOk result (λ walk. (walk.prepared.list ≡ []) × (walk.prepared.faults.items ≡ [])) }
+        ensures starts { IfOk result (λ walk. (space : Model) (names files : List (List ℕ)) (main config : List ℕ) → IsConfig (C.sets conds.now).arities config
+            → Simulates (C.sets conds.now) (initial_macros space) names files walk config (start (initial_state space main config))) }
+    {
+        Ok(Walk {
+            group: conds.always(),
+            acting: conds.always(),
+            sections: Vec::new(alloc),
+            prepared: Prepared {
+                list: Guarded::new(alloc)?,
+                faults: Vec::new(alloc),
+                live: conds.always(),
+            },
+        })
+    }
+
+    /// A section begins, whose first branch is taken under a condition.
+    #[tactic(auto, using(sc_model::proofs::SetLemmas::conditions))]
+    pub fn begin_section<C: Conditions>(
+        &mut self,
+        conds: &mut C,
+        test: Cond,
+    ) -> Result<(), OutOfMemory>
+        requires owns { Owns (C.sets conds.old) self.old }
+        requires own { IsCond (C.sets conds.old) test.0 }
+        ensures printable { OnOk result ((names : List (List ℕ)) (line : List base.Token) → StaysPrintable names line self.old self.new) }
+        ensures opened { OnOk result ((macros : List ℕ → Macros) (names : List (List ℕ)) (t : List ℕ → Bool) → Denotes (C.sets conds.old) test.0 t
+            → SimulatesStep macros names (C.sets conds.old) self.old (C.sets conds.new) self.new (λ files config m. opened m (t config))) }
+        ensures keeps { Keeps (C.sets conds.old) (C.sets conds.new) }
+    {
+        let others = conds.negate(test)?;
+        let untaken = conds.apply_and(self.group, others)?;
+        let group = conds.apply_and(self.group, test)?;
+        let acting = conds.apply_and(group, self.prepared.live)?;
+        self.sections.push(Section {
+            around: self.group,
+            untaken,
+        })?;
+        self.group = group;
+        self.acting = acting;
+        Ok(())
+    }
+
+    /// The next branch of the innermost section begins.
+    #[tactic(auto, using(sc_model::proofs::SetLemmas::conditions))]
+    pub fn begin_branch<C: Conditions>(&mut self, conds: &mut C) -> Result<(), OutOfMemory>
+        requires { Owns (C.sets conds.old) self.old }
+        ensures printable { OnOk result ((names : List (List ℕ)) (line : List base.Token) → StaysPrintable names line self.old self.new) }
+        ensures moved { OnOk result ((macros : List ℕ → Macros) (names : List (List ℕ)) → SimulatesStep macros names (C.sets conds.old) self.old (C.sets conds.new) self.new (λ files config m. next_branch m m.sections)) }
+        ensures keeps { Keeps (C.sets conds.old) (C.sets conds.new) }
+    {
+        let Some(section) = self.sections.pop() else {
+            return Ok(());
+        };
+        let acting = conds.apply_and(section.untaken, self.prepared.live)?;
+        self.sections.push_reserved(Section {
+            around: section.around,
+            untaken: conds.never(),
+        });
+        self.group = section.untaken;
+        self.acting = acting;
+        Ok(())
+    }
+
+    /// The innermost section ends.
+    #[tactic(auto, using(sc_model::proofs::SetLemmas::conditions))]
+    pub fn end_section<C: Conditions>(&mut self, conds: &mut C) -> Result<(), OutOfMemory>
+        requires { Owns (C.sets conds.old) self.old }
+        ensures printable { OnOk result ((names : List (List ℕ)) (line : List base.Token) → StaysPrintable names line self.old self.new) }
+        ensures moved { OnOk result ((macros : List ℕ → Macros) (names : List (List ℕ)) → SimulatesStep macros names (C.sets conds.old) self.old (C.sets conds.new) self.new (λ files config m. ended m m.sections)) }
+        ensures keeps { Keeps (C.sets conds.old) (C.sets conds.new) }
+    {
+        let Some(section) = self.sections.pop() else {
+            return Ok(());
+        };
+        let acting = conds.apply_and(section.around, self.prepared.live)?;
+        self.group = section.around;
+        self.acting = acting;
+        Ok(())
+    }
+
+    /// The configurations that take the line are refused at its first token.
+    #[tactic(auto, using(sc_model::proofs::SetLemmas::conditions))]
+    pub fn refuse<C: Conditions>(
+        &mut self,
+        conds: &mut C,
+        line: &[Token],
+    ) -> Result<(), OutOfMemory>
+        requires owns { Owns (C.sets conds.old) self.old }
+        requires line { 0 < length line.now }
+        ensures printable { OnOk result ((names : List (List ℕ)) → StaysPrintable names line.now self.old self.new) }
+        ensures moved { OnOk result ((macros : List ℕ → Macros) (names : List (List ℕ)) → SimulatesStep macros names (C.sets conds.old) self.old (C.sets conds.new) self.new (λ files config m. refusing m (seen_line names files line.now))) }
+        ensures keeps { Keeps (C.sets conds.old) (C.sets conds.new) }
+    {
+        self.prepared.faults.push(Fault {
+            cond: self.acting,
+            cause: Cause::BadDirective,
+            place: line[0].place,
+        })?;
+        let others = conds.negate(self.acting)?;
+        let live = conds.apply_and(self.prepared.live, others)?;
+        self.prepared.live = live;
+        self.acting = conds.never();
+        Ok(())
+    }
+
+    /// The tokens of a line are put out, where some configuration takes them.
+    pub fn put<C: Conditions>(&mut self, conds: &C, line: &[Token]) -> Result<(), OutOfMemory>
+        requires { Owns (C.sets conds.now) self.old }
+        ensures printable { OnOk result ((names : List (List ℕ)) → StaysPrintable names line.now self.old self.new) }
+        ensures moved { OnOk result ((macros : List ℕ → Macros) (names : List (List ℕ)) → SimulatesStep macros names (C.sets conds.now) self.old (C.sets conds.now) self.new (λ files config m. acting m (λ state. with_text state (seen_line names files line.now)))) }
+        ensures none { IsNever (C.sets conds.now) self.old.acting.0 → self.new ≡ self.old }
+    {
+        if conds.is_never(self.acting) {
+            return Ok(());
+        }
+        for token in line {
+            self.prepared.list.push(self.acting, *token)?;
+        }
+        Ok(())
+    }
 }

@@ -70,7 +70,7 @@ returns-clause-ordinary g c = λ files outside main config named there listed.
     let lines_are : seen_lines names files c.deref.result.now ≡ lines_of c11_directive_names (map (in_file main) are.lexemes) =
     ap (λ (ts : List Token). seen_lines names files ts) c.deref.ensures.value
     ∙ ap (lines_of c11_directive_names) (tokens-seen names files c.args.file main c.args.bytes.now c.in-Ok.tokens.items are named) in
-    walk-ordinary (seen_space c.args.space.now) outside main c.args.bytes.now there (g.C.Conditions.sets c.walk_file.new.conds) names files config are.lexemes group.0
+    walk-ordinary (seen_space c.args.space.now) outside main c.args.bytes.now there (g.C.Conditions.sets c.of_lines.new.conds) names files config are.lexemes group.0
     (λ big. omega (arith, big)) are.lexed (nested group.0 (subst (λ ls. IsTree ls group.0) lines_are group.1))
     c.in_ok-walk.walk (seen_lines names files c.deref-2.result.now) (lines-hashes c11_directive_names _)
     (subst (λ (ts : List Token). IsTree (seen_lines names files ts) group.0) (c.deref.ensures.value ∙ sym c.deref-2.ensures.value) group.1)
@@ -105,6 +105,6 @@ returns-clause-printable g c =
 pub returns-clause-apart : goal.returns-clause-apart
 returns-clause-apart g c = record {
   few = λ config listed.
-      let simulates = c.in_ok-walk.ensures.walked [] [] config (IsConfig-kept c.walk_file.ensures.keeps listed) in
-      faults-few (g.C.Conditions.sets c.walk_file.new.conds) [] c.in_ok-walk.walk.prepared.faults.items config _ simulates.fault;
+      let simulates = c.in_ok-walk.ensures.walked [] [] config (IsConfig-kept c.of_lines.ensures.keeps listed) in
+      faults-few (g.C.Conditions.sets c.of_lines.new.conds) [] c.in_ok-walk.walk.prepared.faults.items config _ simulates.fault;
 }

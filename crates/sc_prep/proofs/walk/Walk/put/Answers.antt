@@ -9,12 +9,12 @@ use Rattle.sc_prep.specs.Printable.{ArePrintable}
 use Rattle.sc_prep.proofs.Printing.{puts-printable}
 use Rattle.sc_prep.proofs.WalkMoves.{puts, puts-none}
 use Rattle.sc_guarded.proofs.ItemLemmas.{under}
-use Rattle.sc_prep.proofs.moves.put.Goals as goal
+use Rattle.sc_prep.proofs.walk.Walk.put.Goals as goal
 
 pub returns-clause-moved : goal.returns-clause-moved
 returns-clause-moved g c = λ macros names.
     let s = g.C.Conditions.sets c.args.conds.now in
-    let w = c.args.walk.now in
+    let w = c.args.self.now in
     let whole : c.loop-token.token-index ≡ length c.args.line.now = omega arith in
     let all = ap (λ n. w.prepared.list ++ under w.acting (take n c.args.line.now)) whole ∙ ap (λ ts. w.prepared.list ++ under w.acting ts) (take-length c.args.line.now) in
     subst (λ next. SimulatesStep macros names s w s next (λ files config m. acting m (λ state. with_text state (seen_line names files c.args.line.now)))) (sym c.loop-token.invariant)
@@ -22,7 +22,7 @@ returns-clause-moved g c = λ macros names.
 
 pub returns-clause-printable : goal.returns-clause-printable
 returns-clause-printable g c = λ names file all old.
-    let w = c.args.walk.now in
+    let w = c.args.self.now in
     let whole : c.loop-token.token-index ≡ length c.args.line.now = omega arith in
     let taken = ap (λ n. take n c.args.line.now) whole ∙ take-length c.args.line.now in
     subst (λ (next : Walk). ArePrintable names file next.prepared) (sym c.loop-token.invariant)
@@ -30,4 +30,4 @@ returns-clause-printable g c = λ names file all old.
 
 pub returns-then-is_never-clause-moved : goal.returns-then-is_never-clause-moved
 returns-then-is_never-clause-moved g c = λ macros names.
-    puts-none macros names (g.C.Conditions.sets c.args.conds.now) c.args.walk.now c.requires (c.is_never.ensures.0 c.if-is_never.true) c.args.line.now
+    puts-none macros names (g.C.Conditions.sets c.args.conds.now) c.args.self.now c.requires (c.is_never.ensures.0 c.if-is_never.true) c.args.line.now

@@ -1,6 +1,6 @@
 use Rattle.std.proofs.lemmas.Result.{IfOk-weaker}
 use Rattle.sc_model.proofs.SetLemmas.{Keeps-trans}
-use Rattle.sc_prep.proofs.steps.taken.Goals as goal
+use Rattle.sc_prep.proofs.directives.taken.Goals as goal
 
 pub returns-else-wanted-clause-keeps : goal.returns-else-wanted-clause-keeps
 returns-else-wanted-clause-keeps g c = Keeps-trans c.in_ok-found.ensures.keeps c.negate.ensures.keeps

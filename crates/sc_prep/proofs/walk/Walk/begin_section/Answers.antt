@@ -1,12 +1,12 @@
 use Rattle.std.proofs.Common.{◌&&◌, not}
 use Rattle.sc_model.proofs.SetLemmas.{Keeps-trans, Denotes-self, Denotes-Keeps}
 use Rattle.sc_prep.proofs.WalkMoves.{begins}
-use Rattle.sc_prep.proofs.moves.begin_section.Goals as goal
+use Rattle.sc_prep.proofs.walk.Walk.begin_section.Goals as goal
 
 pub returns-clause-opened : goal.returns-clause-opened
 returns-clause-opened g c = λ macros names t told.
     let old = g.C.Conditions.sets c.args.conds.now in
-    let w = c.args.walk.now in
+    let w = c.args.self.now in
     let k1 = c.in_ok-others.ensures.keeps in
     let k2 = Keeps-trans k1 c.in_ok-untaken.ensures.keeps in
     let k3 = Keeps-trans k2 c.in_ok-group.ensures.keeps in

@@ -3,7 +3,7 @@ use Rattle.std.proofs.lemmas.Result.{on_ok_weaker}
 use Rattle.sc_prep.specs.Machine.{opened, refusing}
 use Rattle.sc_lines.specs.Nests.{seen_line}
 use Rattle.sc_prep.proofs.WalkMoves.{step-then}
-use Rattle.sc_prep.proofs.steps.refused_section.Goals as goal
+use Rattle.sc_prep.proofs.walk.Walk.refused_section.Goals as goal
 
 pub begin_section-requires-clause-owns : goal.begin_section-requires-clause-owns
 begin_section-requires-clause-owns g c = (c.in_ok-refuse.ensures.moved (λ _ _. None) []).owns

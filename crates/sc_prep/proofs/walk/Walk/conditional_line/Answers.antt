@@ -7,7 +7,7 @@ use Rattle.sc_prep.specs.Machine.{is_taken, opened, opened_by_name, refusing, ne
 use Rattle.sc_lines.specs.Nests.{seen_line}
 use Rattle.sc_prep.proofs.LineSteps.{step-is}
 use Rattle.sc_prep.proofs.WalkMoves.{step-then, step-as}
-use Rattle.sc_prep.proofs.steps.conditional_line.Goals as goal
+use Rattle.sc_prep.proofs.walk.Walk.conditional_line.Goals as goal
 
 pub refuse-requires-clause-owns : goal.refuse-requires-clause-owns
 refuse-requires-clause-owns g c = (c.in_ok-begin_branch-in-Elif.ensures.moved (λ _ _. None) []).owns

@@ -7,7 +7,7 @@ use Rattle.sc_prep.specs.Machine.{plain_by, step}
 use Rattle.sc_lines.specs.Nests.{seen_line}
 use Rattle.sc_prep.proofs.LineSteps.{directive-long, plain-is}
 use Rattle.sc_prep.proofs.WalkMoves.{step-as}
-use Rattle.sc_prep.proofs.steps.walk_line.Goals as goal
+use Rattle.sc_prep.proofs.walk.Walk.take_line.Goals as goal
 
 pub plain_line-requires-clause-line : goal.plain_line-requires-clause-line
 plain_line-requires-clause-line g c = directive-long c.args.names.now c.args.tokens.now c.args.line.now.directive c.requires.directive

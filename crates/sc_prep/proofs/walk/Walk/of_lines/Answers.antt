@@ -12,7 +12,7 @@ use Rattle.sc_lines.specs.Nests.{seen_line}
 use Rattle.c11_directives.specs.Pre.{initial_state}
 use Rattle.sc_prep.proofs.Printing.{line-printable, none-printable}
 use Rattle.sc_prep.proofs.LineSteps.{run-more}
-use Rattle.sc_prep.proofs.walk_file.walk_file.Goals as goal
+use Rattle.sc_prep.proofs.walk.Walk.of_lines.Goals as goal
 
 pub loop-line-init : goal.loop-line-init
 loop-line-init g c = record {
@@ -22,27 +22,27 @@ loop-line-init g c = record {
   at = λ files main config listed. c.in_ok-walk.ensures.starts (seen_space c.args.space.now) c.args.names.now files main config listed;
 }
 
-pub walk_line-requires-clause-directive : goal.walk_line-requires-clause-directive
-walk_line-requires-clause-directive g c =
+pub take_line-requires-clause-directive : goal.take_line-requires-clause-directive
+take_line-requires-clause-directive g c =
     directive-own c.args.names.now c.args.tokens.now c.args.lines.now c.requires.lines c.loop-line.line-index (record { first = 0; end = 0; directive = None; branch = None }) c.loop-line-test.true
 
-pub returns-in_err-walk_line-clause-keeps : goal.returns-in_err-walk_line-clause-keeps
-returns-in_err-walk_line-clause-keeps g c = Keeps-trans c.loop-line.invariant.keeps c.walk_line.ensures.keeps
+pub returns-in_err-take_line-clause-keeps : goal.returns-in_err-take_line-clause-keeps
+returns-in_err-take_line-clause-keeps g c = Keeps-trans c.loop-line.invariant.keeps c.take_line.ensures.keeps
 
 pub loop-line-preserved : goal.loop-line-preserved
 loop-line-preserved g c = record {
-  owns = c.in_ok-walk_line.ensures.steps.owns;
-  keeps = Keeps-trans c.loop-line.invariant.keeps c.in_ok-walk_line.ensures.keeps;
+  owns = c.in_ok-take_line.ensures.steps.owns;
+  keeps = Keeps-trans c.loop-line.invariant.keeps c.in_ok-take_line.ensures.keeps;
   printable = λ file all.
-      c.in_ok-walk_line.ensures.printable file
+      c.in_ok-take_line.ensures.printable file
       (line-printable c.args.names.now file c.args.tokens.now c.args.lines.now c.requires.lines all c.loop-line.line-index (record { first = 0; end = 0; directive = None; branch = None }) c.loop-line-test.true)
       (c.loop-line.invariant.printable file all);
   at = λ files main config listed.
       let f = λ (line : Line). seen_line c.args.names.now files (tokens_of c.args.tokens.now line) in
       let first = start (initial_state (seen_space c.args.space.now) main config) in
-      subst (Simulates (g.C.Conditions.sets c.walk_line.new.conds) (initial_macros (seen_space c.args.space.now)) c.args.names.now files c.walk_line.new.walk config)
+      subst (Simulates (g.C.Conditions.sets c.take_line.new.conds) (initial_macros (seen_space c.args.space.now)) c.args.names.now files c.take_line.new.self config)
       (sym (run-more first f c.args.lines.now c.loop-line.line-index (record { first = 0; end = 0; directive = None; branch = None }) c.loop-line-test.true))
-      (c.in_ok-walk_line.ensures.steps.at files config (run first (map f (take c.loop-line.line-index c.args.lines.now)))
+      (c.in_ok-take_line.ensures.steps.at files config (run first (map f (take c.loop-line.line-index c.args.lines.now)))
       (IsConfig-Keeps c.loop-line.invariant.keeps listed) (c.loop-line.invariant.at files main config listed));
 }
 

@@ -5,7 +5,7 @@ use Rattle.c11_directives.specs.Pre.{with_text, is_ignored, is_refused}
 use Rattle.sc_prep.specs.Machine.{acting, closing_run, plain_by, refusing}
 use Rattle.sc_lines.specs.Nests.{seen_line}
 use Rattle.sc_prep.proofs.WalkMoves.{step-as}
-use Rattle.sc_prep.proofs.steps.plain_line.Goals as goal
+use Rattle.sc_prep.proofs.walk.Walk.plain_line.Goals as goal
 
 pub returns-in-None-clause-moved : goal.returns-in-None-clause-moved
 returns-in-None-clause-moved g c = on_ok_weaker c.put.result (λ puts macros names.

@@ -8,10 +8,10 @@ use Rattle.c11_macros.specs.Macros.{initial_macros}
 use Rattle.sc_space.specs.Seen.{seen_space}
 use Rattle.sc_prep.specs.Machine.{is_taken, opened, opened_by_name, refusing}
 use Rattle.sc_prep.proofs.WalkMoves.{owns-kept, step-as, step-kept}
-use Rattle.sc_prep.proofs.steps.named_section.Goals as goal
+use Rattle.sc_prep.proofs.walk.Walk.named_section.Goals as goal
 
 pub begin_section-requires-clause-owns : goal.begin_section-requires-clause-owns
-begin_section-requires-clause-owns g c = owns-kept c.in_ok-test-in-Some.ensures.keeps c.args.walk.now c.requires.owns
+begin_section-requires-clause-owns g c = owns-kept c.in_ok-test-in-Some.ensures.keeps c.args.self.now c.requires.owns
 
 pub returns-in-None-clause-moved : goal.returns-in-None-clause-moved
 returns-in-None-clause-moved g c = on_ok_weaker c.refused_section.result (λ moved.

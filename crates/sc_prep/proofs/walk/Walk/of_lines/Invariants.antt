@@ -10,7 +10,7 @@ use Rattle.c11_directives.specs.Pre.{initial_state}
 use Rattle.std.specs.Prelude.{All}
 use Rattle.sc_base.specs.declared.id.FileId.{FileId}
 use Rattle.sc_prep.specs.Printable.{IsOfFile, ArePrintable}
-use Rattle.sc_prep.proofs.walk_file.walk_file.Given as goal
+use Rattle.sc_prep.proofs.walk.Walk.of_lines.Given as goal
 
 -- at each configuration the walk is where the machine is after the lines so far
 abbrev pub invariant-loop-line : goal.invariant-loop-line

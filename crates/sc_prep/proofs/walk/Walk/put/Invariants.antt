@@ -1,0 +1,6 @@
+use Rattle.std.proofs.Common.{◌≡◌, ◌++◌, take}
+use Rattle.sc_guarded.proofs.ItemLemmas.{under}
+use Rattle.sc_prep.proofs.walk.Walk.put.Given as goal
+
+abbrev pub invariant-loop-token : goal.invariant-loop-token
+invariant-loop-token g l = l.self ≡ record l.fn.self { prepared = record l.fn.self.prepared { list = l.fn.self.prepared.list ++ under l.fn.self.acting (take l.token-index l.line) } }
