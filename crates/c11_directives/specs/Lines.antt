@@ -1,4 +1,5 @@
--- The lines of a file, the directives that they are, and the groups that its conditional directives make of them (C11 6.10).
+-- The lines of a file, the directives that they are, and the groups that its conditional directives
+-- make of them (C11 6.10).
 use Rattle.std.specs.Prelude.{◌≡◌, ℕ, Bool, true, false, List, [], ◌∷◌, ◌++◌, map, codes, Option, Some, None, Result, Ok, Err, if◌then◌else◌}
 use Rattle.std.specs.Option.{option_map}
 use Rattle.c11_directives.specs.declared.directive.Conditional.{Conditional}
@@ -163,7 +164,8 @@ pub record IsMisplaced (lines : List Line) (place : Place) : Type 0 where
   pub stuck : GoesOn (before ++ line ∷ []) → ⊥
   pub at : hash_place line ≡ Some place
 
--- What follows the first line of a section that isn't closed: its groups, parted by its #elif lines and its #else. Whether that has come is told.
+-- What follows the first line of a section that isn't closed: its groups, parted by its #elif lines
+-- and its #else. Whether that has come is told.
 pub data Unclosed : Bool → List Line → Type 0 where
   first : (group : Group) → IsGroup group → Unclosed false (group_lines group)
   more : {lines : List Line} (head : Line) (group : Group) → Unclosed false lines → conditional_of head ≡ Some Elif → IsGroup group

@@ -32,7 +32,8 @@ pub record Context : Type 0 where
   pub time : List ℕ
   pub standard : Standard
 
--- the macros that are defined, the text since the last barrier, what was put out, how deep the files are nested, and the name of the innermost
+-- the macros that are defined, the text since the last barrier, what was put out, how deep the
+-- files are nested, and the name of the innermost
 pub record State : Type 0 where
   pub macros : Macros
   pub run : List Token
@@ -119,7 +120,8 @@ pub data Steps (context : Context) (line : Line) (s : State) : Result State Faul
   unknown : (d : Directive) (t : State) (fault : Fault) → line.directive ≡ Some d → is_refused d ≡ true → Closes s (Ok t)
       → RefusedAt t line BadDirective fault → Steps context line s (Err fault)
 
--- The walk of a group from a state, up to its end or its first fault. After a branch was taken, no later one is decided.
+-- The walk of a group from a state, up to its end or its first fault. After a branch was taken, no
+-- later one is decided.
 mutual
   pub data Walks (context : Context) : Group → State → Result State Fault → Type 0 where
     done : {s : State} → Walks context empty s (Ok s)
@@ -171,7 +173,8 @@ inside file s = record s { file = file.name }
 abbrev pub file_lines : Context → File → List Lexeme → List Line
 file_lines context file tokens = lines_of context.standard.directives (map (in_file file.name) tokens)
 
--- Entering a file. The order of the causes is that of the cases. Its nesting is decided on the whole file.
+-- Entering a file. The order of the causes is that of the cases. Its nesting is decided on the
+-- whole file.
 pub data Enters (context : Context) (file : File) (s : State) : Result State Fault → Type 0 where
   too_large : largest_file < length file.bytes → Enters context file s (Err (fault_at FileTooLarge (first_place file.name)))
   unended : (position : Position) → (largest_file < length file.bytes → ⊥)

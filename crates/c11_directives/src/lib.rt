@@ -1,4 +1,5 @@
-//! Directives of C11: lines, groups, conditional inclusion and the walk of files (6.10), as definitions.
+//! Directives of C11: lines, groups, conditional inclusion and the walk of files (6.10), as
+//! definitions.
 #![tactic(auto)]
 
 mod directive;

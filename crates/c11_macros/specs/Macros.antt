@@ -1,4 +1,5 @@
--- Macros: what they are defined to be, and those with which a configuration starts (C11 6.10.3, 6.10.8).
+-- Macros: what they are defined to be, and those with which a configuration starts (C11 6.10.3,
+-- 6.10.8).
 use Rattle.std.specs.Prelude.{Bool, false, ℕ, ◌==◌, ◌||◌, List, [], ◌∷◌, ◌++◌, map, codes, decimal, Option, Some, None, slice_get, is_some, if◌then◌else◌}
 use Rattle.std.specs.Option.{option_and_then, option_or}
 use Rattle.sc_model.specs.declared.kind.Kind.{Kind}
@@ -22,7 +23,8 @@ pub data Form : Type 0 where
   -- variadic where the parameters end with ...
   function_like : (parameters : List (List ℕ)) → (variadic : Bool) → Form
 
--- a replacement list: that of the definition, or one that the place of the macro's name tells (6.10.8.1)
+-- a replacement list: that of the definition, or one that the place of the macro's name tells
+-- (6.10.8.1)
 pub data Replacement : Type 0 where
   items : (list : List Item) → Replacement
   file_name : Replacement

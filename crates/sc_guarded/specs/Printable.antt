@@ -1,4 +1,5 @@
--- What a text can show of a list: no more than that its items and its faults are held, and stand on one line.
+-- What a text can show of a list: no more than that its items and its faults are held, and stand on
+-- one line.
 use Rattle.std.specs.Prelude.{◌≡◌, ℕ, ◌<◌, ◌≤◌, List, length, true}
 use Rattle.sc_base.specs.declared.fault.Fault.{Fault}
 use Rattle.sc_base.specs.declared.id.Cond.{Cond}
@@ -8,7 +9,8 @@ use Rattle.sc_guarded.specs.Items.{faults_at}
 use Rattle.sc_model.specs.Bytes.{has_no_newline}
 use Rattle.sc_model.specs.Sets.{Sets, IsConfig, IsCond}
 
--- an item that can be shown: its condition was made, its token is held, and its spelling and file are of one line
+-- an item that can be shown: its condition was made, its token is held, and its spelling and file
+-- are of one line
 pub record IsShowable (s : Sets) (names files : List (List ℕ)) (item : Cond × Token) : Type 0 where
   pub own : IsCond s item.0.0
   pub held : IsHeld names item.1

@@ -4,7 +4,8 @@ use Rattle.sc_lines.specs.declared.section.Open.{Open}
 use Rattle.c11_directives.specs.declared.directive.Conditional.{Conditional}
 use Rattle.c11_directives.specs.declared.directive.Conditional.TheVariants.{If, Ifdef, Ifndef, Elif, Else, Endif}
 
--- the open sections, the innermost first: for each its first line, or a name of it, and whether its #else has come
+-- the open sections, the innermost first: for each its first line, or a name of it, and whether its
+-- #else has come
 abbrev pub Sections : Type 0 → Type 0
 Sections H = List (H × Bool)
 

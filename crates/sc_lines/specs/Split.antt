@@ -18,7 +18,8 @@ token_lines tokens = split_lines (λ t. is_newline t.kind) tokens
 abbrev pub directive_at : List (List ℕ) → List Token → Option Directive
 directive_at names line = directive_of c11_directive_names (map (seen names []) line)
 
--- the first of the lines begins at this token, and each other one behind the newline that ends the one before
+-- the first of the lines begins at this token, and each other one behind the newline that ends the
+-- one before
 abbrev pub FollowFrom : ℕ → List Line → Type 0
 FollowFrom first [] = Unit {0}
 FollowFrom first (line ∷ lines) = (line.first ≡ first) × FollowFrom (line.end + 1) lines

@@ -1,4 +1,5 @@
--- The sections that are open at a line of a file that is read from its end: for each the line of its next branch and the one that closes it, the innermost first.
+-- The sections that are open at a line of a file that is read from its end: for each the line of
+-- its next branch and the one that closes it, the innermost first.
 use Rattle.std.specs.Prelude.{ℕ, List, [], ◌∷◌, Option, Some, None}
 use Rattle.sc_lines.specs.declared.line.Branch.{Branch}
 use Rattle.c11_directives.specs.declared.directive.Conditional.{Conditional}

@@ -23,8 +23,9 @@ pub fn set_branches(alloc: Global, lines: &mut [Line]) -> Result<(), OutOfMemory
     Ok(())
 }
 
-/// The branch that a line begins. The lines are read from the last to the first: behind this one, the sections hold the next
-/// branch and the close of each section that is open there, the innermost last.
+/// The branch that a line begins. The lines are read from the last to the first: behind this one,
+/// the sections hold the next branch and the close of each section that is open there, the
+/// innermost last.
 fn branch(
     sections: &mut Vec<Branch>,
     line: usize,

@@ -10,7 +10,7 @@ mod split;
 mod stop;
 mod tree;
 
-pub use laws::a_line_begins_one_branch;
+pub use laws::{a_line_begins_one_branch, tokens_have_one_list_of_lines};
 pub use line::{Branch, FileTree, Line};
 pub use stop::NestStop;
 pub use tree::groups;

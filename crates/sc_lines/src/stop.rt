@@ -7,7 +7,8 @@ use thiserror::Error;
 /// Why a file has no lines to walk.
 #[derive(Clone, Copy, Debug, PartialEq, Eq, Error)]
 pub enum NestStop {
-    /// The `#` of the first conditional directive that may not stand where it does, or else of the innermost that is open at the end.
+    /// The `#` of the first conditional directive that may not stand where it does, or else of the
+    /// innermost that is open at the end.
     #[error("bad nesting")]
     Nesting(Place),
     #[error("out of memory")]

@@ -36,7 +36,8 @@ fn place_of(tokens: &[Token], line: &Line) -> Place
     tokens[line.first].place
 }
 
-/// The line at which the nesting fails: one that may not stand where it does, or else the innermost that is open at the end.
+/// The line at which the nesting fails: one that may not stand where it does, or else the innermost
+/// that is open at the end.
 fn fault_line(alloc: Global, lines: &[Line]) -> Result<Option<usize>, OutOfMemory>
     ensures { IfOk result (λ found. (ms : List model.Line)
         → map model.conditional_of ms ≡ map (λ l. model.conditional_in l.directive) lines.now → Judges ms found) }

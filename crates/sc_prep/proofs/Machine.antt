@@ -1,4 +1,5 @@
--- The walk of one configuration over the lines of a file as they come, and that it is the walk of their groups.
+-- The walk of one configuration over the lines of a file as they come, and that it is the walk of
+-- their groups.
 use Rattle.std.proofs.Common.{◌≡◌, inl, inr, ℕ, ◌&&◌, not, Bool, true, false, List, [], ◌∷◌, ◌++◌, map, Option, Some, None, Result, Ok, Err, refl, sym, ap, ◌∙◌}
 use Rattle.std.specs.Option.{option_map}
 use Rattle.std.specs.Prelude.{is_none, unwrap_or, if◌then◌else◌}

@@ -11,8 +11,8 @@ use Rattle.c11_directives.specs.Pre.{State, place_in, with_text, put_out, operan
 use Rattle.c11_macros.specs.Macros.{Macros}
 use Rattle.sc_model.specs.Token.{Place}
 
--- Whether the lines are taken, for each open section whether it stands in lines that are taken and whether none of its branches was taken yet,
--- the state of the walk, and its first fault.
+-- Whether the lines are taken, for each open section whether it stands in lines that are taken and
+-- whether none of its branches was taken yet, the state of the walk, and its first fault.
 pub record Machine : Type 0 where
   pub active : Bool
   pub sections : List (Bool × Bool)

@@ -13,7 +13,8 @@ use Rattle.sc_model.specs.Fault.{Fault}
 use Rattle.sc_model.specs.Sets.{Sets, IsCond}
 use Rattle.sc_model.specs.Token.{Token}
 
--- An ordinary answer stands in the lists of its configuration: its tokens and no fault, or its fault alone.
+-- An ordinary answer stands in the lists of its configuration: its tokens and no fault, or its
+-- fault alone.
 abbrev pub Stands : Result (List Token) Fault → List Token → List Fault → Type 0
 Stands (Ok tokens) items faults = (items ≡ tokens) × (faults ≡ [])
 Stands (Err fault) items faults = faults ≡ fault ∷ []
@@ -22,7 +23,8 @@ abbrev pub is_accepted : Result (List Token) Fault → Bool
 is_accepted (Ok tokens) = true
 is_accepted (Err fault) = false
 
--- At the configuration the lists are what ordinary preprocessing gives there, and it is live just if that has no fault.
+-- At the configuration the lists are what ordinary preprocessing gives there, and it is live just
+-- if that has no fault.
 pub record IsOrdinary (s : Sets) (names files : List (List ℕ)) (p : Prepared) (preprocesses : Result (List Token) Fault → Type 0) (config : List ℕ) : Type 0 where
   pub answer : Result (List Token) Fault
   pub preprocessed : preprocesses answer

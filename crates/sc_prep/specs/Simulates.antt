@@ -13,7 +13,8 @@ use Rattle.sc_model.specs.Sets.{Sets, IsConfig, IsCond}
 abbrev pub section_at : Sets → List ℕ → Section → Bool × Bool
 section_at s config section = (s.has section.around.0 config, s.has section.untaken.0 config)
 
--- At this configuration the walk is where the machine is. The macros are those of each configuration.
+-- At this configuration the walk is where the machine is. The macros are those of each
+-- configuration.
 pub record Simulates (s : Sets) (macros : List ℕ → Macros) (names files : List (List ℕ)) (walk : Walk) (config : List ℕ) (m : Machine) : Type 0 where
   pub active : s.has walk.group.0 config ≡ m.active
   pub live : s.has walk.prepared.live.0 config ≡ is_none m.fault
@@ -34,7 +35,8 @@ pub record Owns (s : Sets) (walk : Walk) : Type 0 where
   pub sections : All (OwnsSection s) walk.sections.items
   pub prepared : OwnsList s walk.prepared
 
--- From one walk to the next, at each configuration the machine does this, whatever the names of files are.
+-- From one walk to the next, at each configuration the machine does this, whatever the names of
+-- files are.
 pub record SimulatesStep (macros : List ℕ → Macros) (names : List (List ℕ)) (old : Sets) (walk : Walk) (new : Sets) (next : Walk)
     (does : List (List ℕ) → List ℕ → Machine → Machine) : Type 0 where
   pub owns : Owns new next

@@ -1,7 +1,8 @@
 use sc_base::{Cond, Fault, Token};
 use sc_guarded::Guarded;
 
-/// What a file becomes under all configurations. A configuration with a fault is refused, and its tokens then don't count.
+/// What a file becomes under all configurations. A configuration with a fault is refused, and its
+/// tokens then don't count.
 #[derive(Drop)]
 pub struct Prepared {
     pub list: Guarded<Token>,
