@@ -1,0 +1,159 @@
+-- Calls and substitutions, computed on examples (C11 6.10.3.5).
+use Rattle.std.proofs.Common.{◌≡◌, ℕ, Bool, true, false, List, [], ◌∷◌, ◌++◌, map, Option, Some, None, Result, Ok, Err, codes, refl}
+use Rattle.c11_macros.specs.Call.{Call, call_of, arguments_for}
+use Rattle.c11_macros.specs.Defines.{Defined, reads}
+use Rattle.c11_macros.specs.Hidden.{Hidden, Provenance, Failure, no_names}
+use Rattle.c11_macros.specs.Macros.{Item, Form, object_like, function_like}
+use Rattle.c11_macros.specs.Substitution.{parts, neither, substituted, wants}
+use Rattle.c11_tokens.specs.Relex.{relexed}
+use Rattle.sc_model.specs.declared.cause.Cause.{Cause}
+use Rattle.sc_model.specs.declared.cause.Cause.TheVariants.{BadDefine, ProtectedName, BadPaste, BadStringize}
+use Rattle.sc_model.specs.declared.kind.Kind.{Kind}
+use Rattle.sc_model.specs.declared.kind.Kind.TheVariants.{Other}
+use Rattle.sc_model.specs.Token.{Place, Token}
+use Rattle.std.specs.Prelude.{unwrap_or}
+
+place : ℕ → Place
+place n = record { file = []; position = record { line = 1; column = n } }
+
+-- the number of a place stands for it
+abbrev provenance : Provenance ℕ
+provenance = record { place = place; mark = λ n. n }
+
+abbrev kind_of : List ℕ → Kind
+kind_of spelling = unwrap_or (relexed spelling) Other
+
+-- a token, with white space before it or without
+abbrev at : ℕ → Bool → List ℕ → Hidden ℕ
+at n space spelling = record { kind = kind_of spelling; spelling = spelling; space = space; place = n; hide = no_names }
+
+abbrev item : Bool → List ℕ → Item
+item space spelling = record { kind = kind_of spelling; spelling = spelling; space = space }
+
+abbrev head : Hidden ℕ
+head = at 0 true (codes "m")
+
+-- the spellings of what is substituted, and whether white space stands before each
+abbrev shown : Result (List (Hidden ℕ)) (Failure ℕ) → Option (List (List ℕ × Bool))
+shown (Ok ts) = Some (map (λ (t : Hidden ℕ). (t.spelling, t.space)) ts)
+shown (Err failure) = None
+
+abbrev x : List (List ℕ)
+x = codes "x" ∷ []
+
+abbrev xyz : List (List ℕ)
+xyz = codes "x" ∷ codes "y" ∷ codes "z" ∷ []
+
+-- #x, of B that would expand to 1
+literal-of-the_argument : shown (substituted provenance (function_like x false) (item false (codes "#") ∷ item false (codes "x") ∷ []) head ((at 5 true (codes "B") ∷ []) ∷ []) (Ok (at 5 true (codes "1") ∷ []) ∷ []) no_names)
+    ≡ Some ((codes "\"B\"", true) ∷ [])
+literal-of-the_argument = refl
+
+-- a string literal within another, and white space in one place
+literal-escaped : shown (substituted provenance (function_like x false) (item false (codes "#") ∷ item false (codes "x") ∷ []) head ((at 5 false (codes "a") ∷ at 6 true (codes "+") ∷ at 7 false (codes "\"b\\n\"") ∷ []) ∷ []) [] no_names)
+    ≡ Some ((codes "\"a +\\\"b\\\\n\\\"\"", true) ∷ [])
+literal-escaped = refl
+
+-- # ## # of an object-like macro
+hash_hash : shown (substituted provenance object_like (item false (codes "#") ∷ item true (codes "##") ∷ item true (codes "#") ∷ []) head [] [] no_names) ≡ Some ((codes "##", true) ∷ [])
+hash_hash = refl
+
+abbrev xyz_list : List Item
+xyz_list = item false (codes "x") ∷ item true (codes "##") ∷ item true (codes "y") ∷ item true (codes "##") ∷ item true (codes "z") ∷ []
+
+pasted-three : shown (substituted provenance (function_like xyz false) xyz_list head ((at 1 false (codes "1") ∷ []) ∷ (at 2 false (codes "2") ∷ []) ∷ (at 3 false (codes "3") ∷ []) ∷ []) [] no_names) ≡ Some ((codes "123", true) ∷ [])
+pasted-three = refl
+
+pasted-last_two : shown (substituted provenance (function_like xyz false) xyz_list head ([] ∷ (at 2 false (codes "4") ∷ []) ∷ (at 3 false (codes "5") ∷ []) ∷ []) [] no_names) ≡ Some ((codes "45", true) ∷ [])
+pasted-last_two = refl
+
+pasted-nothing : shown (substituted provenance (function_like xyz false) xyz_list head ([] ∷ [] ∷ [] ∷ []) [] no_names) ≡ Some []
+pasted-nothing = refl
+
+pasted-no_token : substituted provenance (function_like xyz false) xyz_list head ((at 1 false (codes "1") ∷ []) ∷ (at 2 false (codes "+") ∷ []) ∷ [] ∷ []) [] no_names ≡ Err (record { cause = BadPaste; place = 0 })
+pasted-no_token = refl
+
+stringized-no_literal : substituted provenance (function_like x false) (item false (codes "#") ∷ item false (codes "x") ∷ []) head ((at 5 false (codes "\\") ∷ []) ∷ []) [] no_names ≡ Err (record { cause = BadStringize; place = 0 })
+stringized-no_literal = refl
+
+-- a ## behind an operator is its operand
+paste-operand : shown (substituted provenance object_like (item false (codes "#") ∷ item false (codes "##") ∷ item false (codes "##") ∷ []) head [] [] no_names) ≡ None
+paste-operand = refl
+
+-- x##x of an empty argument, and an argument that expands in one place alone
+wants-beside : wants 0 false (parts (function_like x false) neither (item false (codes "x") ∷ item false (codes "##") ∷ item false (codes "x") ∷ [])) ≡ false
+wants-beside = refl
+
+wants-elsewhere : wants 0 false (parts (function_like x false) neither (item false (codes "#") ∷ item false (codes "x") ∷ item false (codes "x") ∷ [])) ≡ true
+wants-elsewhere = refl
+
+abbrev arguments_in : ℕ → List (Hidden ℕ) → Option (List (List (List ℕ)))
+arguments_in commas ts = elim (call_of commas 0 ts) [
+  | None ↦ None
+  | Some call ↦ Some (map (map (λ (t : Hidden ℕ). t.spelling)) call.arguments)
+]
+
+-- f((a,b),c) with two parameters, and with none but ...
+call-inner : arguments_in 2 (at 1 false (codes "(") ∷ at 2 false (codes "a") ∷ at 3 false (codes ",") ∷ at 4 false (codes "b") ∷ at 5 false (codes ")") ∷ at 6 false (codes ",") ∷ at 7 false (codes "c") ∷ at 8 false (codes ")") ∷ [])
+    ≡ Some ((codes "(" ∷ codes "a" ∷ codes "," ∷ codes "b" ∷ codes ")" ∷ []) ∷ (codes "c" ∷ []) ∷ [])
+call-inner = refl
+
+call-variadic : arguments_in 0 (at 2 false (codes "a") ∷ at 3 false (codes ",") ∷ at 4 false (codes "b") ∷ at 5 false (codes ")") ∷ []) ≡ Some ((codes "a" ∷ codes "," ∷ codes "b" ∷ []) ∷ [])
+call-variadic = refl
+
+call-open : arguments_in 1 (at 1 false (codes "(") ∷ at 2 false (codes ")") ∷ []) ≡ None
+call-open = refl
+
+-- nothing between the parentheses
+fits-no_parameter : arguments_for {A = ℕ} [] false ([] ∷ []) ≡ Some []
+fits-no_parameter = refl
+
+fits-one_parameter : arguments_for {A = ℕ} x false ([] ∷ []) ≡ Some ([] ∷ [])
+fits-one_parameter = refl
+
+fits-only_variadic : arguments_for {A = ℕ} [] true ([] ∷ []) ≡ Some ([] ∷ [])
+fits-only_variadic = refl
+
+fits-variadic : arguments_for {A = ℕ} x true ([] ∷ []) ≡ Some ([] ∷ [] ∷ [])
+fits-variadic = refl
+
+fits-not_two : arguments_for {A = ℕ} x false ([] ∷ [] ∷ []) ≡ None
+fits-not_two = refl
+
+-- ---- lines that define
+
+abbrev token : Bool → List ℕ → Token
+token space spelling = record { kind = kind_of spelling; spelling = spelling; space = space; place = place 0 }
+
+abbrev name_and_form : Result Defined Cause → Result (List ℕ × Form) Cause
+name_and_form (Ok d) = Ok (d.name, d.definition.form)
+name_and_form (Err cause) = Err cause
+
+-- f(a, ...) and f (a)
+reads-variadic : name_and_form (reads (token true (codes "f") ∷ token false (codes "(") ∷ token false (codes "a") ∷ token false (codes ",") ∷ token true (codes "...") ∷ token false (codes ")") ∷ token true (codes "__VA_ARGS__") ∷ []))
+    ≡ Ok (codes "f", function_like (codes "a" ∷ []) true)
+reads-variadic = refl
+
+reads-object : name_and_form (reads (token true (codes "f") ∷ token true (codes "(") ∷ token false (codes "a") ∷ token false (codes ")") ∷ [])) ≡ Ok (codes "f", object_like)
+reads-object = refl
+
+reads-repeated : reads (token true (codes "f") ∷ token false (codes "(") ∷ token false (codes "a") ∷ token false (codes ",") ∷ token true (codes "a") ∷ token false (codes ")") ∷ []) ≡ Err BadDefine
+reads-repeated = refl
+
+reads-early_end : reads (token true (codes "f") ∷ token false (codes "(") ∷ token false (codes "a") ∷ []) ≡ Err BadDefine
+reads-early_end = refl
+
+reads-lone_hash : reads (token true (codes "f") ∷ token false (codes "(") ∷ token false (codes ")") ∷ token true (codes "#") ∷ []) ≡ Err BadDefine
+reads-lone_hash = refl
+
+reads-hash_of_object : name_and_form (reads (token true (codes "f") ∷ token true (codes "#") ∷ [])) ≡ Ok (codes "f", object_like)
+reads-hash_of_object = refl
+
+reads-paste_at_end : reads (token true (codes "f") ∷ token true (codes "a") ∷ token true (codes "%:%:") ∷ []) ≡ Err BadDefine
+reads-paste_at_end = refl
+
+reads-protected : reads (token true (codes "__VA_ARGS__") ∷ token true (codes "x") ∷ []) ≡ Err ProtectedName
+reads-protected = refl
+
+reads-no_name : reads (token true (codes "1") ∷ []) ≡ Err BadDefine
+reads-no_name = refl

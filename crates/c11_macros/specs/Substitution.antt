@@ -1,0 +1,221 @@
+-- What a macro's replacement list becomes (C11 6.10.3.1 to 6.10.3.3): four steps, each over the whole list.
+use Rattle.std.specs.Prelude.{ℕ, zero, suc, ◌+◌, ◌==◌, ◌&&◌, ◌||◌, not, Bool, true, false, List, [], ◌∷◌, ◌++◌, map, length, codes, Option, Some, None, is_some, Result, Ok, Err, slice_index_or, if◌then◌else◌}
+use Rattle.c11_macros.specs.Results.{result_map, result_and_then}
+use Rattle.c11_macros.specs.Hidden.{Hidden, HideSet, Provenance, Failure, failure_at, no_names, union, meet}
+use Rattle.c11_macros.specs.Macros.{Item, Form, object_like, function_like, Definition, escaped}
+use Rattle.c11_tokens.specs.Relex.{relexed}
+use Rattle.sc_model.specs.declared.cause.Cause.TheVariants.{BadPaste, BadStringize}
+use Rattle.sc_model.specs.declared.kind.Kind.{Kind}
+use Rattle.sc_model.specs.declared.kind.Kind.TheVariants.{Character, Text}
+use Rattle.sc_model.specs.Bytes.{same_bytes}
+use Rattle.sc_model.specs.Token.{name_of}
+
+-- ---- parameters
+
+-- the place of a name among the parameters, __VA_ARGS__ after them
+abbrev pub parameter_from : ℕ → List (List ℕ) → Bool → List ℕ → Option ℕ
+parameter_from n [] variadic name = if variadic && same_bytes name (codes "__VA_ARGS__") then Some n else None
+parameter_from n (p ∷ ps) variadic name = if same_bytes p name then Some n else parameter_from (n + 1) ps variadic name
+
+abbrev pub parameter_of : Form → List ℕ → Option ℕ
+parameter_of object_like name = None
+parameter_of (function_like parameters variadic) name = parameter_from 0 parameters variadic name
+
+-- the argument of a parameter
+abbrev pub argument : {A : Type 0} → List (List A) → ℕ → List A
+argument arguments n = slice_index_or arguments n []
+
+-- ---- the parts of a list
+
+-- What stands in a replacement list: a token of its own; a # with its parameter, and the white space of the # (6.10.3.2); a
+-- parameter and its white space; a ## that joins its neighbours (6.10.3.3).
+pub data Part : Type 0 where
+  token : Item → Part
+  literal : ℕ → Bool → Part
+  parameter : ℕ → Bool → Part
+  paste : Part
+
+abbrev pub is_hash : Item → Bool
+is_hash item = same_bytes (name_of item.spelling) (codes "#")
+
+abbrev pub is_paste : Item → Bool
+is_paste item = same_bytes (name_of item.spelling) (codes "##")
+
+-- what stands before an item: a ##, a # that stringizes it, with the white space of the #, or neither
+pub data Before : Type 0 where
+  neither : Before
+  after_paste : Before
+  after_hash : Bool → Before
+
+abbrev pub is_after_paste : Before → Bool
+is_after_paste after_paste = true
+is_after_paste _ = false
+
+abbrev pub begins_with_parameter : Form → List Item → Bool
+begins_with_parameter form [] = false
+begins_with_parameter form (item ∷ items) = is_some (parameter_of form item.spelling)
+
+-- the part that an item is which is no operator: a parameter, or a token
+abbrev pub operand_part : Before → Item → Option ℕ → Part
+operand_part before item None = token item
+operand_part (after_hash space) item (Some n) = literal n space
+operand_part before item (Some n) = parameter n item.space
+
+-- The parts of a list. A ## behind an operator is its right operand; a # without a parameter, as in an object-like macro, is a token.
+abbrev pub parts : Form → Before → List Item → List Part
+parts form before [] = []
+parts form before (item ∷ items) =
+    if is_paste item && not (is_after_paste before) then paste ∷ parts form after_paste items
+    else (if is_hash item && begins_with_parameter form items then parts form (after_hash item.space) items
+    else operand_part before item (parameter_of form item.spelling) ∷ parts form neither items)
+
+-- ---- string literals in the place of each # with its parameter (6.10.3.2)
+
+-- a token, a parameter that is still to be replaced, or a ##
+pub data Slot (P : Type 0) : Type 0 where
+  filled_by : Hidden P → Slot P
+  for_parameter : ℕ → Bool → Slot P
+  for_paste : Slot P
+
+-- a token of the list itself, which stands where the macro's name does
+abbrev pub listed : {P : Type 0} → Hidden P → Item → Hidden P
+listed head item = record { kind = item.kind; spelling = item.spelling; space = item.space; place = head.place; hide = no_names }
+
+abbrev pub is_quoted_kind : Kind → Bool
+is_quoted_kind Character = true
+is_quoted_kind Text = true
+is_quoted_kind _ = false
+
+abbrev pub quoted_spelling : {P : Type 0} → Hidden P → List ℕ
+quoted_spelling t = if is_quoted_kind t.kind then escaped t.spelling else t.spelling
+
+-- the spellings, with one space where white space stands between two
+abbrev pub spellings_after : {P : Type 0} → List (Hidden P) → List ℕ
+spellings_after [] = []
+spellings_after (t ∷ ts) = (if t.space then 32 ∷ quoted_spelling t else quoted_spelling t) ++ spellings_after ts
+
+abbrev pub spellings : {P : Type 0} → List (Hidden P) → List ℕ
+spellings [] = []
+spellings (t ∷ ts) = quoted_spelling t ++ spellings_after ts
+
+abbrev pub is_text_kind : Option Kind → Bool
+is_text_kind (Some Text) = true
+is_text_kind _ = false
+
+-- the string literal of this spelling, with the white space of its #
+abbrev pub literal_of : {P : Type 0} → Hidden P → Bool → List ℕ → Result (Hidden P) (Failure P)
+literal_of head space spelling =
+    if is_text_kind (relexed spelling) then Ok (record { kind = Text; spelling = spelling; space = space; place = head.place; hide = no_names })
+    else Err (failure_at BadStringize head)
+
+abbrev pub stringized : {P : Type 0} → Hidden P → Bool → List (Hidden P) → Result (Hidden P) (Failure P)
+stringized head space raw = literal_of head space (34 ∷ spellings raw ++ 34 ∷ [])
+
+abbrev pub slot_of : {P : Type 0} → Hidden P → List (List (Hidden P)) → Part → Result (Slot P) (Failure P)
+slot_of head raw (token item) = Ok (filled_by (listed head item))
+slot_of head raw (literal n space) = result_map filled_by (stringized head space (argument raw n))
+slot_of head raw (parameter n space) = Ok (for_parameter n space)
+slot_of head raw paste = Ok for_paste
+
+abbrev pub slots : {P : Type 0} → Hidden P → List (List (Hidden P)) → List Part → Result (List (Slot P)) (Failure P)
+slots head raw [] = Ok []
+slots head raw (p ∷ ps) = result_and_then (λ s. result_map (λ rest. s ∷ rest) (slots head raw ps)) (slot_of head raw p)
+
+-- ---- parameters replaced by their arguments: beside ## as they are, elsewhere as they expand alone (6.10.3.1)
+
+pub data Piece (P : Type 0) : Type 0 where
+  piece : Hidden P → Piece P
+  operator : Piece P
+  -- an empty argument beside ## (6.10.3.3p2)
+  placemarker : Piece P
+
+-- the first token has this white space
+abbrev pub with_space : {P : Type 0} → Bool → List (Hidden P) → List (Hidden P)
+with_space space [] = []
+with_space space (t ∷ ts) = record t { space = space } ∷ ts
+
+abbrev pub pieces_of : {P : Type 0} → List (Hidden P) → List (Piece P)
+pieces_of ts = map piece ts
+
+abbrev pub or_placemarker : {P : Type 0} → List (Hidden P) → List (Piece P)
+or_placemarker [] = placemarker ∷ []
+or_placemarker (t ∷ ts) = pieces_of (t ∷ ts)
+
+abbrev pub begins_paste : {P : Type 0} → List (Slot P) → Bool
+begins_paste (for_paste ∷ ss) = true
+begins_paste _ = false
+
+-- the argument of a parameter as it expands alone
+abbrev pub expansion_of : {P E : Type 0} → List (Result (List (Hidden P)) E) → ℕ → Result (List (Hidden P)) E
+expansion_of expanded n = slice_index_or expanded n (Ok [])
+
+abbrev pub argument_pieces : {P : Type 0} → Bool → List (List (Hidden P)) → List (Result (List (Hidden P)) (Failure P)) → ℕ → Bool → Result (List (Piece P)) (Failure P)
+argument_pieces true raw expanded n space = Ok (or_placemarker (with_space space (argument raw n)))
+argument_pieces false raw expanded n space = result_map (λ ts. pieces_of (with_space space ts)) (expansion_of expanded n)
+
+abbrev pub filled : {P : Type 0} → List (List (Hidden P)) → List (Result (List (Hidden P)) (Failure P)) → Bool → List (Slot P) → Result (List (Piece P)) (Failure P)
+filled raw expanded behind [] = Ok []
+filled raw expanded behind (filled_by t ∷ ss) = result_map (λ rest. piece t ∷ rest) (filled raw expanded false ss)
+filled raw expanded behind (for_paste ∷ ss) = result_map (λ rest. operator ∷ rest) (filled raw expanded true ss)
+filled raw expanded behind (for_parameter n space ∷ ss) =
+    result_and_then (λ here. result_map (λ rest. here ++ rest) (filled raw expanded false ss)) (argument_pieces (behind || begins_paste ss) raw expanded n space)
+
+-- ---- tokens pasted at each ##, from the left (6.10.3.3)
+
+abbrev pub pasted_as : {P : Type 0} → Hidden P → Hidden P → Hidden P → Option Kind → Result (Piece P) (Failure P)
+pasted_as head left right None = Err (failure_at BadPaste head)
+pasted_as head left right (Some kind) =
+    Ok (piece (record { kind = kind; spelling = left.spelling ++ right.spelling; space = left.space; place = left.place; hide = meet left.hide right.hide }))
+
+abbrev pub pasted : {P : Type 0} → Hidden P → Hidden P → Hidden P → Result (Piece P) (Failure P)
+pasted head left right = pasted_as head left right (relexed (left.spelling ++ right.spelling))
+
+-- what two operands make; with a placemarker the other one
+abbrev pub joined : {P : Type 0} → Hidden P → Piece P → Piece P → Result (Piece P) (Failure P)
+joined head (piece left) (piece right) = pasted head left right
+joined head (piece left) other = Ok (piece left)
+joined head other right = Ok right
+
+-- the pieces behind a first one that was read
+abbrev pub glued : {P : Type 0} → Hidden P → Piece P → List (Piece P) → Result (List (Piece P)) (Failure P)
+glued head left [] = Ok (left ∷ [])
+glued head left (operator ∷ []) = Ok (left ∷ [])
+glued head left (operator ∷ (right ∷ ps)) = result_and_then (λ p. glued head p ps) (joined head left right)
+glued head left (right ∷ ps) = result_map (λ rest. left ∷ rest) (glued head right ps)
+
+abbrev pub all_glued : {P : Type 0} → Hidden P → List (Piece P) → Result (List (Piece P)) (Failure P)
+all_glued head [] = Ok []
+all_glued head (p ∷ ps) = glued head p ps
+
+-- ---- the tokens that are left
+
+abbrev pub tokens_of : {P : Type 0} → List (Piece P) → List (Hidden P)
+tokens_of [] = []
+tokens_of (piece t ∷ ps) = t ∷ tokens_of ps
+tokens_of (p ∷ ps) = tokens_of ps
+
+-- the token hides these names too, and is marked
+abbrev pub hidden_by : {P : Type 0} → Provenance P → HideSet → Hidden P → Hidden P
+hidden_by provenance names t = record t { hide = union t.hide names; place = provenance.mark t.place }
+
+abbrev pub hiding : {P : Type 0} → Provenance P → HideSet → List (Hidden P) → List (Hidden P)
+hiding provenance names ts = map (hidden_by provenance names) ts
+
+-- The replacement of a macro's name: its list of items, with these arguments as they are and as they expand.
+abbrev pub substituted : {P : Type 0} → Provenance P → Form → List Item → Hidden P → List (List (Hidden P)) → List (Result (List (Hidden P)) (Failure P)) → HideSet
+    → Result (List (Hidden P)) (Failure P)
+substituted provenance form items head raw expanded names =
+    result_map (λ pieces. hiding provenance names (with_space head.space (tokens_of pieces)))
+    (result_and_then (all_glued head) (result_and_then (filled raw expanded false) (slots head raw (parts form neither items))))
+
+-- ---- which arguments are expanded: those with a place beside no # and no ##
+
+abbrev pub is_paste_next : List Part → Bool
+is_paste_next (paste ∷ ps) = true
+is_paste_next _ = false
+
+abbrev pub wants : ℕ → Bool → List Part → Bool
+wants n behind [] = false
+wants n behind (paste ∷ ps) = wants n true ps
+wants n behind (parameter m space ∷ ps) = (n == m && not (behind || is_paste_next ps)) || wants n false ps
+wants n behind (p ∷ ps) = wants n false ps
