@@ -1,0 +1,5 @@
+pub mod Agreement
+mod Examples
+pub mod Halting
+pub mod OneAnswer
+pub mod Rows
