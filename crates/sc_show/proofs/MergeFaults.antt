@@ -12,7 +12,7 @@ use Rattle.sc_guarded.proofs.ItemLemmas.{map-one, faults_at-append, faults_at-Ke
 use Rattle.sc_model.specs.Fault as model
 use Rattle.sc_model.specs.Sets.{Sets, IsConfig, IsCond, Denotes, Keeps}
 use Rattle.sc_model.proofs.SetLemmas.{IsConfig-kept, IsConfig-Keeps}
-use Rattle.sc_show.specs.Shows.{AreApart}
+use Rattle.sc_guarded.specs.Printable.{AreApart}
 use Rattle.sc_show.proofs.TokensShows.{when, faults_more}
 
 -- an item stands in a list

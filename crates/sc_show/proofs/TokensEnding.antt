@@ -27,7 +27,8 @@ use Rattle.sc_show.specs.declared.printer.Printer.{Printer}
 use Rattle.sc_show.specs.Pieces.{split_lines_after}
 use Rattle.sc_show.specs.Prints.{IsTable, Agrees, Prints}
 use Rattle.sc_show.specs.Rules.{counts_of, tests_of, list_item, fault_item, LaidOut, AreMerged}
-use Rattle.sc_show.specs.Shows.{IsShowable, IsShowableFault, shown_items, Shows}
+use Rattle.sc_guarded.specs.Printable.{IsShowable, IsShowableFault}
+use Rattle.sc_show.specs.Shows.{shown_items, Shows}
 use Rattle.sc_show.proofs.Pieces.{split_lines, text_lines}
 use Rattle.sc_show.proofs.PrinterReading.{read_lines-push, written-push, clear-push}
 use Rattle.sc_show.proofs.TokensItemLines.{parts_of, IsFileOf, read-AreAlike, lines_pass, lines_files, token_read, fault_read, faults_ascend, project-seen}

@@ -10,7 +10,7 @@ use Rattle.sc_base.specs.declared.token.Token.{Token}
 use Rattle.sc_base.specs.Seen.{text_at}
 use Rattle.sc_model.specs.declared.cause.Cause.TheVariants.{NotFound}
 use Rattle.sc_model.specs.Sets.{Sets, IsConfig, IsCond, Keeps}
-use Rattle.sc_show.specs.Shows.{IsShowable, IsShowableFault}
+use Rattle.sc_guarded.specs.Printable.{IsShowable, IsShowableFault}
 
 -- what an index past the end reads
 abbrev pub no_fault : base.Fault

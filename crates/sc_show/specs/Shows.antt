@@ -1,34 +1,17 @@
 -- What the text of a list shows.
-use Rattle.std.specs.Prelude.{◌≡◌, ℕ, ◌<◌, ◌≤◌, List, length, map, true}
+use Rattle.std.specs.Prelude.{◌≡◌, ℕ, List, map}
 use Rattle.std.specs.List.{concat}
 use Rattle.sc_base.specs.declared.fault.Fault as base
 use Rattle.sc_base.specs.declared.id.Cond.{Cond}
 use Rattle.sc_guarded.specs.Items.{faults_at, seen_fault}
 use Rattle.sc_base.specs.declared.token.Token.{Token}
-use Rattle.sc_base.specs.Seen.{IsHeld, seen, text_at}
+use Rattle.sc_base.specs.Seen.{seen}
 use Rattle.sc_text.specs.Layout.{IsTextOf, AreAlike}
-use Rattle.sc_model.specs.Sets.{Sets, IsConfig, IsCond}
+use Rattle.sc_model.specs.Sets.{Sets, IsConfig}
 use Rattle.sc_model.specs.Space.{Space}
 use Rattle.sc_text.specs.Text.{Condition, token_list, Answer, project}
-use Rattle.sc_model.specs.Bytes.{has_no_newline}
 use Rattle.sc_model.specs.Token.{Shown, shown}
 use Rattle.sc_show.specs.Pieces.{split_lines_after}
-
--- an item that can be shown: its condition was made, its token is held, and its spelling and file
--- are of one line
-pub record IsShowable (s : Sets) (names files : List (List ℕ)) (item : Cond × Token) : Type 0 where
-  pub own : IsCond s item.0.0
-  pub held : IsHeld names item.1
-  pub file : item.1.place.file.0 < length files
-  pub plain : has_no_newline (text_at names item.1.spelling.0) ≡ true
-
-pub record IsShowableFault (s : Sets) (files : List (List ℕ)) (f : base.Fault) : Type 0 where
-  pub own : IsCond s f.cond.0
-  pub file : f.place.file.0 < length files
-
--- no configuration has two faults
-pub record AreApart (s : Sets) (faults : List base.Fault) : Type 0 where
-  pub few : (c : List ℕ) → IsConfig s.arities c → length (faults_at s faults c) ≤ 1
 
 -- the items as they are shown, under the sets of their conditions
 abbrev pub shown_items : Sets → List (List ℕ) → List (List ℕ) → List (Cond × Token) → List (Condition × Shown)

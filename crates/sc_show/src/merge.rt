@@ -4,7 +4,7 @@ ghost use Rattle.sc_guarded.specs.Items.{faults_at, seen_fault};
 ghost use Rattle.sc_text.specs.Layout.{fault_order, IsAscending};
 ghost use Rattle.sc_model.specs.Sets.{IsConfig, IsCond, Keeps};
 ghost use Rattle.sc_show.specs.Order.{IsKeyOf, IsInOrder, MayFollow, EndsWith};
-ghost use Rattle.sc_show.specs.Shows.{IsShowableFault, AreApart};
+ghost use Rattle.sc_guarded.specs.Printable.{IsShowableFault, AreApart};
 
 use sc_base::{Fault, Files, OutOfMemory};
 use sc_presence::Conditions;

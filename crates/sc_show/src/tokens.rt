@@ -5,7 +5,8 @@ ghost use Rattle.sc_model.specs.Bytes.{has_no_newline};
 ghost use Rattle.sc_space.specs.Seen.{seen_space};
 ghost use Rattle.sc_show.specs.Prints.{HasWordNames, IsTable};
 ghost use Rattle.sc_show.specs.Rules.{list_item, fault_item, LaidOut};
-ghost use Rattle.sc_show.specs.Shows.{IsShowable, IsShowableFault, AreApart, Shows};
+ghost use Rattle.sc_guarded.specs.Printable.{IsShowable, IsShowableFault, AreApart};
+ghost use Rattle.sc_show.specs.Shows.{Shows};
 
 use crate::merge::merged;
 use crate::printer::Printer;

@@ -5,7 +5,7 @@ use Rattle.sc_base.specs.declared.fault.Fault.{Fault}
 use Rattle.sc_guarded.specs.Items.{faults_at, seen_fault}
 use Rattle.sc_model.specs.Sets.{IsCond}
 use Rattle.sc_model.proofs.SetLemmas.{Denotes-self}
-use Rattle.sc_show.specs.Shows.{AreApart}
+use Rattle.sc_guarded.specs.Printable.{AreApart}
 use Rattle.sc_text.proofs.FaultOrder.{faults_equal}
 use Rattle.sc_show.proofs.MergeOrdering.{ascending_pushed, ascending_merged, ends_with}
 use Rattle.sc_text.proofs.ListLemmas.{All-front, All-last, All-one}

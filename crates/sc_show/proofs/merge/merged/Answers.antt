@@ -10,7 +10,7 @@ use Rattle.sc_model.proofs.SetLemmas.{Keeps-refl, Keeps-trans, IsConfig-Keeps}
 use Rattle.sc_show.specs.Order.{IsInOrder, MayFollow}
 use Rattle.sc_text.specs.Layout.{IsAscending}
 use Rattle.sc_show.proofs.MergeOrdering.{MayFollow-none, MayFollow-next}
-use Rattle.sc_show.specs.Shows.{IsShowableFault}
+use Rattle.sc_guarded.specs.Printable.{IsShowableFault}
 use Rattle.sc_show.proofs.TokensShows.{no_fault}
 use Rattle.sc_text.proofs.ListLemmas.{All-one}
 use Rattle.sc_show.proofs.MergeFaults.{AreApart-permutation, faults_at-permutation, same_more, apart_more}

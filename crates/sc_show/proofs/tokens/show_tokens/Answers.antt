@@ -5,7 +5,7 @@ use Rattle.sc_model.specs.Sets.{IsConfig}
 use Rattle.sc_model.proofs.SetLemmas.{Keeps-trans, IsConfig-kept}
 use Rattle.sc_space.specs.Seen.{seen_space}
 use Rattle.sc_show.specs.Rules.{list_item, fault_item, LaidOut}
-use Rattle.sc_show.specs.Shows.{IsShowableFault}
+use Rattle.sc_guarded.specs.Printable.{IsShowableFault}
 use Rattle.sc_show.proofs.TokensEnding.{Shows-end}
 use Rattle.sc_show.proofs.PrinterLaying.{LaidOut-trans}
 use Rattle.sc_show.proofs.TokensShows.{IsShowable-Keeps, IsShowableFault-Keeps}
