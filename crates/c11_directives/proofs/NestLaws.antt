@@ -227,7 +227,7 @@ places (z ∷ xs) x xs' (w ∷ ys) y ys' e =
       | after f ↦ after (IsFront-cons (sym same) f)
     ]
 
--- a front of lines that go on isn't stuck
+-- a prefix of lines that go on isn't stuck
 misplaced-not : {lines : List Line} {place : Place} {P : Type 0} → IsMisplaced lines place → GoesOn lines → P
 misplaced-not m g = absurd (m.stuck (GoesOn-front (record { rest = m.after; whole = m.whole ∙ sym (append_assoc m.before (m.line ∷ []) m.after) }) g))
 

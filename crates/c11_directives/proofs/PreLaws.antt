@@ -10,9 +10,9 @@ use Rattle.std.specs.Option.{option_map}
 use Rattle.std.specs.Prelude.{◌||◌, unwrap_or}
 use Rattle.c11_tokens.specs.Lex.{Lexed}
 use Rattle.c11_directives.specs.Lines.{Line, hash_of, conditional_of, Group, Branches, empty, plain, section, closing, otherwise, alternative, Tree}
-use Rattle.sc_model.specs.Outside.{Files}
+use Rattle.sc_model.specs.Outside.{Files, largest_file}
 use Rattle.sc_model.specs.Fault.{Fault, first_place, fault_at}
-use Rattle.c11_directives.specs.Pre.{Context, State, place_in, put_out, Becomes, unexpanded, Closes, closed, refused, RefusedAt, operand_of, Decides, if_defined, if_undefined, no_name, expression, is_ignored, is_refused, Steps, text, null, stopped, ignored, unknown, Walks, done, line, line_stops, taken, taken_stops, passed, passed_stops, head_stops, WalksBranches, none_taken, last_taken, later_taken, later_passed, later_stops, largest_file, File, Searches, inside, file_lines, Enters, Includes, output_of, Pre}
+use Rattle.c11_directives.specs.Pre.{Context, State, place_in, put_out, Becomes, unexpanded, Closes, closed, refused, RefusedAt, operand_of, Decides, if_defined, if_undefined, no_name, expression, is_ignored, is_refused, Steps, text, null, stopped, ignored, unknown, Walks, done, line, line_stops, taken, taken_stops, passed, passed_stops, head_stops, WalksBranches, none_taken, last_taken, later_taken, later_passed, later_stops, File, Searches, inside, file_lines, Enters, Includes, output_of, Pre}
 use Rattle.sc_model.specs.Space.{Space}
 use Rattle.c11_macros.specs.Macros.{Macros}
 use Rattle.sc_model.specs.Token.{Position, Place, Token}

@@ -6,12 +6,10 @@ use Rattle.sc_model.specs.declared.cause.Cause.TheVariants.{NotFound, FileTooLar
 use Rattle.c11_directives.specs.declared.directive.Conditional.TheVariants.{If, Ifdef, Ifndef, Elif}
 use Rattle.c11_directives.specs.declared.directive.Directive.{Directive}
 use Rattle.c11_directives.specs.declared.directive.Directive.TheVariants as directive
-use Rattle.sc_model.specs.declared.kind.Kind.{Kind}
-use Rattle.sc_model.specs.declared.kind.Kind.TheVariants.{Identifier}
-use Rattle.c11_tokens.specs.Lex.{Lexed}
+use Rattle.c11_tokens.specs.Lex.{is_identifier_kind, Lexed}
 use Rattle.c11_directives.specs.Lines.{DirectiveNames, c11_directive_names, Line, lines_of, conditional_of, hash_of, Group, Branches, empty, plain, section, closing, otherwise, alternative, Tree}
 use Rattle.sc_model.specs.Fault.{Fault, fault_at, first_place}
-use Rattle.sc_model.specs.Outside.{Files}
+use Rattle.sc_model.specs.Outside.{Files, largest_file}
 use Rattle.sc_model.specs.Space.{Space}
 use Rattle.c11_macros.specs.Macros.{Macros, initial_macros}
 use Rattle.sc_model.specs.Token.{Position, Place, Lexeme, Token, in_file}
@@ -66,10 +64,6 @@ pub data Closes (s : State) : Result State Fault → Type 0 where
 pub record RefusedAt (s : State) (line : Line) (cause : Cause) (fault : Fault) : Type 0 where
   pub cause_is : fault.cause ≡ cause
   pub place_is : option_map (place_in s) (hash_of line) ≡ Some fault.place
-
-abbrev pub is_identifier_kind : Kind → Bool
-is_identifier_kind Identifier = true
-is_identifier_kind _ = false
 
 -- the identifier after the directive's name
 abbrev pub operand_in : List Token → Option (List ℕ)
@@ -150,10 +144,6 @@ mutual
         → Decides context s head (Ok false) → WalksBranches context branches (decided s head) r → WalksBranches context (alternative head group branches) s r
     later_stops : {head : Line} {group : Group} {branches : Branches} {s : State} (fault : Fault)
         → Decides context s head (Err fault) → WalksBranches context (alternative head group branches) s (Err fault)
-
--- how large a file may be, in bytes
-abbrev pub largest_file : ℕ
-largest_file = 16777216
 
 -- a file that was found: its name and its bytes
 pub record File : Type 0 where

@@ -2,11 +2,12 @@
 use Rattle.std.proofs.Common.{◌≡◌, ℕ, zero, suc, ◌<◌, ◌≤◌, ◌&&◌, ◌||◌, ◌==◌, ◌+◌, not, nat_le, Bool, true, false, List, [], ◌∷◌, ◌++◌, length, map, codes, Option, Some, None, Result, Ok, Err, refl, sym, ap, ◌∙◌, subst, arith, if◌then◌else◌}
 use Rattle.std.proofs.lemmas.Bool.{leb-true, leb-false, and_parts, true≢false}
 use Rattle.c11_macros.specs.Call.{Call, Role, opening, closing, comma, other, role_of, onto_argument, onto, apart, call_step, call_of, counts, is_nothing, given, filled_up, arguments_for}
-use Rattle.c11_macros.specs.Expansion.{Case, stays, replaced, unclosed, misfit, called, is_identifier_kind, is_looked_up, fitted_case, call_case, form_case, defined_case, looked_up_case, case_of, list_of, object_result, call_result}
+use Rattle.c11_macros.specs.Expansion.{Case, stays, replaced, unclosed, misfit, called, is_looked_up, fitted_case, call_case, form_case, defined_case, looked_up_case, case_of, list_of, object_result, call_result}
 use Rattle.c11_macros.specs.Hidden.{Hidden, HideSet, Provenance, Failure, with_name, union, meet}
 use Rattle.c11_macros.specs.Macros.{Macros, Definition, Form, object_like, function_like, Item}
 use Rattle.c11_macros.specs.Results.{result_map, result_and_then}
 use Rattle.c11_macros.specs.Substitution.{Piece, parts, neither, slots, filled, all_glued, hiding, hidden_by, substituted, with_space, tokens_of}
+use Rattle.c11_tokens.specs.Lex.{is_identifier_kind}
 use Rattle.sc_model.proofs.ByteLemmas.{same_bytes-true}
 use Rattle.sc_model.specs.Bytes.{same_bytes}
 

@@ -6,8 +6,7 @@ use Rattle.c11_macros.specs.Macros.{Form, object_like, function_like, Definition
 use Rattle.c11_macros.specs.Results.{result_map}
 use Rattle.c11_macros.specs.Substitution.{substituted, parts, neither, wants}
 use Rattle.sc_model.specs.declared.cause.Cause.TheVariants.{UnterminatedCall, WrongArguments}
-use Rattle.sc_model.specs.declared.kind.Kind.{Kind}
-use Rattle.sc_model.specs.declared.kind.Kind.TheVariants.{Identifier}
+use Rattle.c11_tokens.specs.Lex.{is_identifier_kind}
 use Rattle.std.specs.List.{list_any}
 use Rattle.sc_model.specs.Bytes.{same_bytes}
 
@@ -24,10 +23,6 @@ pub data Case (P : Type 0) : Type 0 where
   misfit : Case P
   -- a call: its arguments, its closing parenthesis, and what follows it
   called : Definition → List (List (Hidden P)) → Hidden P → List (Hidden P) → Case P
-
-abbrev pub is_identifier_kind : Kind → Bool
-is_identifier_kind Identifier = true
-is_identifier_kind _ = false
 
 -- a name that is hidden is not looked up
 abbrev pub is_looked_up : {P : Type 0} → Hidden P → Bool

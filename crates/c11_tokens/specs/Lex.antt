@@ -217,7 +217,7 @@ pub record IsUnended (bytes : List ℕ) : Type 0 where
   pub begins : begins_with (47 ∷ 42 ∷ []) bytes ≡ true
   pub no_end : (n : ℕ) → is_comment (take n bytes) ≡ false
 
--- The first n bytes are the longest front that fits a kind, this is the first kind that they fit,
+-- The first n bytes are the longest prefix that fits a kind, this is the first kind that they fit,
 -- and no comment without an end begins here.
 pub record IsLongest (line : List (List ℕ)) (bytes : List ℕ) (kind : PieceKind) (n : ℕ) : Type 0 where
   pub positive : 0 < n
@@ -232,6 +232,10 @@ abbrev pub is_white : PieceKind → Bool
 is_white blank = true
 is_white comment = true
 is_white (token kind) = false
+
+abbrev pub is_identifier_kind : Kind → Bool
+is_identifier_kind Identifier = true
+is_identifier_kind _ = false
 
 abbrev pub is_newline : Kind → Bool
 is_newline Newline = true

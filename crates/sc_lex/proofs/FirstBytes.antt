@@ -140,7 +140,7 @@ no_comment b = by (47 == b)
     by true = refl
     by false = refl
 
--- The longest front of a kind is the longest of all where the first byte begins only that kind.
+-- The longest prefix of a kind is the longest of all where the first byte begins only that kind.
 module _ (line : List (List ℕ)) (b : ℕ) (bs : List ℕ) (kind : PieceKind) (n : ℕ) (only : BeginsOnly b kind) (front : IsLongestFront (fits kind) (b ∷ bs) n) where
   positive : 0 < n
   positive = elim (cases_lt 0 n) [

@@ -1,4 +1,4 @@
--- How a scan over a text tells its longest front that passes a test.
+-- How a scan over a text tells its longest prefix that passes a test.
 use Rattle.std.proofs.Common.{◌≡◌, ℕ, zero, suc, ◌+◌, ◌-◌, max, ◌<◌, ◌≤◌, ◌&&◌, ◌||◌, inl, inr, Bool, true, false, List, [], ◌∷◌, ◌++◌, length, take, drop, get_or, refl, sym, ap, ◌∙◌, subst, arith, append-nil, append_assoc, length-drop, get_or-drop, add-zero}
 use Rattle.std.proofs.Math.Seq.{take-add}
 use Rattle.std.proofs.lemmas.Bool.{cases_lt, or_left, or_right, or_from}
@@ -26,7 +26,7 @@ Becomes-more {f} {g} {h} {bytes} {n} {k} first second = record {
       ∙ first.asks (take k (drop n bytes) ++ xs) ∙ second.asks xs;
 }
 
--- a longer front is these bytes and a front of the rest
+-- a longer front is these bytes and a prefix of the rest
 pub Becomes-front : {f g : List ℕ → Bool} {bytes : List ℕ} {n : ℕ} → Becomes f g bytes n → (m : ℕ) → f (take (n + m) bytes) ≡ g (take m (drop n bytes))
 Becomes-front {f} {g} {bytes} {n} b m = ap f (take-add n m bytes) ∙ b.asks (take m (drop n bytes))
 
@@ -103,7 +103,7 @@ blanks-stop b bs other = record { fails = by }
     by zero positive within = absurd (omega arith)
     by (suc m) positive within = ap (λ t. t && list_all is_blank (take m bs)) other
 
--- the longest front of the rest makes the longest front of all
+-- the longest prefix of the rest makes the longest prefix of all
 pub longest_after : {f g : List ℕ → Bool} {bytes : List ℕ} {n : ℕ} (k : ℕ) → Becomes f g bytes n → IsLongestFront g (drop n bytes) k → (k ≡ 0 → g [] ≡ true) → IsLongestFront f bytes (n + k)
 longest_after {f} {g} {bytes} {n} k b rest empty = record {
   within = omega (arith, b.within, rest.within, length-drop n bytes);

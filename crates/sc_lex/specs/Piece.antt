@@ -13,7 +13,7 @@ kind_of Blank = lex.blank
 kind_of Comment = lex.comment
 kind_of (Token kind) = lex.token kind
 
--- Of the kinds before this rank, the first one whose longest front is the longest of all. It has n
+-- Of the kinds before this rank, the first one whose longest prefix is the longest of all. It has n
 -- bytes, or where n is 0 none fits.
 pub record IsBestBefore (bound : ℕ) (line : List (List ℕ)) (bytes : List ℕ) (kind : lex.PieceKind) (n : ℕ) : Type 0 where
   pub within : n ≤ length bytes

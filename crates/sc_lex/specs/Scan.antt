@@ -1,10 +1,10 @@
--- Which front of a text a scan finds.
+-- Which prefix of a text a scan finds.
 use Rattle.std.specs.Prelude.{◌≡◌, ℕ, ◌<◌, ◌≤◌, ◌==◌, ◌&&◌, ◌||◌, nat_le, nat_lt, not, Bool, true, false, List, length, take, drop, slice_index, if◌then◌else◌}
 use Rattle.std.specs.List.{list_all}
 use Rattle.sc_model.specs.Bytes.{is_hex_digit, is_digit, is_letter}
 use Rattle.c11_tokens.specs.Lex.{is_punctuator}
 
--- The longest front that passes the test has n bytes; where n is 0 none passes.
+-- The longest prefix that passes the test has n bytes; where n is 0 none passes.
 pub record IsLongestFront (test : List ℕ → Bool) (bytes : List ℕ) (n : ℕ) : Type 0 where
   pub within : n ≤ length bytes
   pub fit : 0 < n → test (take n bytes) ≡ true

@@ -1,4 +1,4 @@
-//! For each kind of piece the length of the longest front of a text that is one, and 0 where none
+//! For each kind of piece the length of the longest prefix of a text that is one, and 0 where none
 //! is.
 ghost use Rattle.std.specs.Prelude.{◌≡◌, ◌<◌, ◌&&◌, ℕ, false, [], ◌∷◌, length, take, drop, IfSome, OnSome, IfNone};
 ghost use Rattle.std.specs.List.{list_all};
@@ -93,7 +93,7 @@ fn begins_name(text: &[u8]) -> bool
     !text.is_empty() && (is_letter(text[0]) || text[0] == b'\\')
 }
 
-/// The length of the longest front of letters, digits and universal character names.
+/// The length of the longest prefix of letters, digits and universal character names.
 fn letters(text: &[u8]) -> usize
     ensures { IsLongestFront (goes_on 0) text.now result }
 {
@@ -167,7 +167,7 @@ fn begins_number(text: &[u8]) -> bool
     is_digit(text[0]) || (text[0] == b'.' && text.len() > 1 && is_digit(text[1]))
 }
 
-/// The length of the longest front of what a number goes on with.
+/// The length of the longest prefix of what a number goes on with.
 fn number_letters(text: &[u8]) -> usize
     ensures { IsLongestFront (number_goes_on false 0) text.now result }
 {
@@ -259,7 +259,7 @@ fn opens(text: &[u8], start: u8, end: u8, filled: bool) -> bool
     text.len() >= 2 && text[0] == start && !(filled && text[1] == end)
 }
 
-/// The length of the front that ends in the closing quote. The line may end before.
+/// The length of the prefix that ends in the closing quote. The line may end before.
 fn closing(text: &[u8], quote: u8) -> usize
     ensures { IsLongestFront (closes quote) text.now result }
 {
@@ -308,7 +308,7 @@ fn delimited(text: &[u8], start: u8, end: u8) -> usize
     }
 }
 
-/// The length of the front that ends in the closing byte. The line may end before.
+/// The length of the prefix that ends in the closing byte. The line may end before.
 fn header_closing(text: &[u8], end: u8) -> usize
     ensures { IsLongestFront (header_closes end) text.now result }
 {

@@ -3,7 +3,7 @@ ghost use Rattle.sc_lex.specs.Unclosed.{IsUnclosed, AreUnclosed};
 
 use crate::scan::quoted_part;
 
-/// For each kind of quote, the length of a front of the text in which each such quote is known not
+/// For each kind of quote, the length of a prefix of the text in which each such quote is known not
 /// to be closed on its line.
 ///
 /// For these no end is looked for again: that would take time in the square of the length of the

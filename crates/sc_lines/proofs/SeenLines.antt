@@ -73,7 +73,7 @@ taken_none : (names files : List (List ℕ)) (n : ℕ) → model.conditional_of 
 taken_none names files zero = refl
 taken_none names files (suc n) = refl
 
--- a front of a list that isn't empty
+-- a prefix of a list that isn't empty
 first_of : (names files : List (List ℕ)) (n : ℕ) (t : Token) (ts : List Token) → (model.conditional_of (seen_line names files (take n (t ∷ ts))) ≡ None → ⊥)
     → model.hash_place (seen_line names files (take n (t ∷ ts))) ≡ Some (seen_place files t.place)
 first_of names files zero t ts directive = absurd (directive refl)

@@ -28,10 +28,10 @@ Writes (Some old) (Some new) more = new ≡ old ++ more
 Writes None (Some new) more = ⊥
 Writes (Some old) None more = ⊥
 
--- a piece that was cut: nothing is noted, or one write of a front of it
+-- a piece that was cut: nothing is noted, or one write of a prefix of it
 pub data IsCut (piece : List ℕ) : List Write → Type 0 where
   nothing : IsCut piece []
-  front : (done rest : List ℕ) → piece ≡ done ++ rest → IsCut piece (record { bytes = done; whole = false } ∷ [])
+  prefix : (done rest : List ℕ) → piece ≡ done ++ rest → IsCut piece (record { bytes = done; whole = false } ∷ [])
 
 -- the pieces up to one, each whole, that one cut, and nothing after it
 pub record WritesPart (old new : Option (List Write)) (pieces : List (List ℕ)) : Type 0 where

@@ -12,9 +12,9 @@ use Rattle.sc_guarded.specs.Items.{items_at, faults_at, seen_fault}
 use Rattle.sc_base.specs.Seen.{seen}
 use Rattle.c11_tokens.specs.Lex.{Lexed}
 use Rattle.c11_directives.specs.Lines.{Line, Group, IsTree, Tree}
-use Rattle.sc_model.specs.Outside.{Files}
+use Rattle.sc_model.specs.Outside.{Files, largest_file}
 use Rattle.sc_model.specs.Fault.{Fault, first_place}
-use Rattle.c11_directives.specs.Pre.{State, Walks, closed, unexpanded, File, found, file_lines, Enters, stopped, walked, Includes, entered, largest_file, context_of, initial_state, Pre}
+use Rattle.c11_directives.specs.Pre.{State, Walks, closed, unexpanded, File, found, file_lines, Enters, stopped, walked, Includes, entered, context_of, initial_state, Pre}
 use Rattle.sc_model.specs.Sets.{Sets}
 use Rattle.sc_model.specs.Space.{Space}
 use Rattle.c11_macros.specs.Macros.{initial_macros}

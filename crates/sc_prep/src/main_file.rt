@@ -15,7 +15,7 @@ ghost use Rattle.sc_prep.specs.Printable.{ArePrintable, CanBeShown};
 
 use crate::prepared::Prepared;
 use crate::walk::Walk;
-use sc_base::{Cause, Fault, FileId, Files, Names, OutOfMemory, Place, Stop};
+use sc_base::{Cause, Fault, FileId, Files, LARGEST_FILE, Names, OutOfMemory, Place, Stop};
 use sc_guarded::Guarded;
 use sc_lex::{LexStop, tokens};
 use sc_lines::{NestStop, groups};
@@ -23,9 +23,6 @@ use sc_presence::Conditions;
 use sc_source::Source;
 use sc_space::Space;
 use std::alloc::Global;
-
-/// How large a file may be, in bytes.
-const LARGEST_FILE: usize = 16_777_216;
 
 /// The tokens and the faults of the main file under all configurations.
 #[tactic(auto, using(sc_model::proofs::SetLemmas::conditions))]

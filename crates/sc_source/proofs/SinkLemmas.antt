@@ -1,6 +1,6 @@
 -- What a failed write leaves.
 use Rattle.std.proofs.Common.{◌≡◌, ℕ, List, [], ◌∷◌, ◌++◌, false, None, Some, Result, Ok, Err, OnOk, OnErr, IsErr, sym, append-nil, ◌∙◌}
-use Rattle.sc_model.specs.Outside.{Write, nothing, front}
+use Rattle.sc_model.specs.Outside.{Write, nothing, prefix}
 use Rattle.sc_source.specs.Sink.{WritesCut}
 
 -- nothing is told
@@ -20,11 +20,11 @@ module _ {T E : Type 0} (r : Result T E) (old new : List Write) (piece : List �
       by (Ok x) refused same = cc
       by (Err e) refused same = WritesCut-nothing old new piece same
 
-  -- a front was noted, or there was no memory for it
-  pub WritesCut-front : (done rest : List ℕ) → done ++ rest ≡ piece → OnOk r (new ≡ old ++ record { bytes = done; whole = false } ∷ []) → OnErr r (new ≡ old)
+  -- a prefix was noted, or there was no memory for it
+  pub WritesCut-prefix : (done rest : List ℕ) → done ++ rest ≡ piece → OnOk r (new ≡ old ++ record { bytes = done; whole = false } ∷ []) → OnErr r (new ≡ old)
       → WritesCut (Some old) (Some new) piece
-  WritesCut-front done rest parts = by r
+  WritesCut-prefix done rest parts = by r
     where
       by : (r : Result T E) → OnOk r (new ≡ old ++ record { bytes = done; whole = false } ∷ []) → OnErr r (new ≡ old) → WritesCut (Some old) (Some new) piece
-      by (Ok x) noted same = record { end = record { bytes = done; whole = false } ∷ []; broken = front done rest (sym parts); writes = noted }
+      by (Ok x) noted same = record { end = record { bytes = done; whole = false } ∷ []; broken = prefix done rest (sym parts); writes = noted }
       by (Err e) noted same = WritesCut-nothing old new piece same

@@ -2,7 +2,7 @@
 use Rattle.std.specs.Prelude.{ℕ, List, Option}
 use Rattle.sc_model.specs.Outside.{Write, Writes, IsCut}
 
--- nothing of the piece was written, or a front of it
+-- nothing of the piece was written, or a prefix of it
 pub record WritesCut (old new : Option (List Write)) (piece : List ℕ) : Type 0 where
   pub end : List Write
   pub broken : IsCut piece end

@@ -17,7 +17,7 @@ pub trait Sink {
     // How many writes failed, up to the last value of the count.
     ghost faults: { Self → ℕ };
 
-    /// Writes a piece. After a failure nothing of it, or a front of it, is written.
+    /// Writes a piece. After a failure nothing of it, or a prefix of it, is written.
     fn write(&mut self, piece: &[u8]) -> Result<(), Failed>
         ensures ok { OnOk result (Writes (log self.old) (log self.new) (whole_write piece.now ∷ [])) }
         ensures err { OnErr result (WritesCut (log self.old) (log self.new) piece.now) }

@@ -8,7 +8,7 @@ use Rattle.sc_model.proofs.SetLemmas.{IsConfig-kept}
 use Rattle.sc_prep.proofs.FileWalk.{enters-main, refused-ordinary, walk-ordinary}
 use Rattle.sc_prep.proofs.Machine.{lines-hashes}
 use Rattle.sc_prep.proofs.main_file.preprocess_bytes.Goals as goal
-use Rattle.sc_lex.proofs.SeenLemmas.{held, tokens-seen, place-seen}
+use Rattle.sc_lex.proofs.SeenLemmas.{tokens-seen, place-seen}
 use Rattle.sc_base.specs.declared.token.Token.{Token}
 use Rattle.sc_base.specs.Seen.{seen_place}
 use Rattle.sc_lex.specs.Spell as lex
@@ -100,7 +100,7 @@ returns-clause-printable g c =
     let names = c.tokens.new.names in
     c.in_ok-walk.ensures.printable c.args.file
     (subst (All (IsOfFile names c.args.file)) (sym c.deref-2.ensures.value)
-    (tokens-of_file names c.args.file c.args.bytes.now c.in-Ok.tokens.items c.in-Ok.ensures.ok (held names c.in-Ok.tokens.items c.in-Ok.ensures.own c.in-Ok.ensures.ok.spell.named)))
+    (tokens-of_file names c.args.file c.args.bytes.now c.in-Ok.tokens.items c.in-Ok.ensures.ok c.in-Ok.ensures.own))
 
 pub returns-clause-apart : goal.returns-clause-apart
 returns-clause-apart g c = record {

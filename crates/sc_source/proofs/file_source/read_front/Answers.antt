@@ -3,7 +3,7 @@ use Rattle.std.specs.Option.{option_map}
 use Rattle.std.proofs.lemmas.List.{take-take}
 use Rattle.sc_source.proofs.file_source.read_front.Goals as goal
 
--- a front of what a limit lets through
+-- a prefix of what a limit lets through
 front_of : (known : Option (List ℕ)) (limit most : ℕ) (bytes kept : List ℕ) → limit ≡ most → IfSome (option_map (take limit) known) (λ all. bytes ≡ all)
     → kept ≡ take most bytes → IfSome known (λ all. kept ≡ take most all)
 front_of None limit most bytes kept same whole cut = tt
