@@ -1,4 +1,4 @@
-pub mod Complaint
+pub mod RunError
 pub mod Outcome
 pub mod Status
 pub mod Texts

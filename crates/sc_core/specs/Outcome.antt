@@ -1,15 +1,13 @@
 -- What a run of the program does, by its status.
-use Rattle.std.specs.Prelude.{◌≡◌, ℕ, ◌⊎◌, Bool, true, false, List, [], ◌∷◌, codes, map, All, Option, Some, None, Result, Ok, Err}
-use Rattle.std.specs.List.{Contains}
-use Rattle.std.specs.Prelude.{◌↔◌}
+use Rattle.std.specs.Prelude.{◌≡◌, ℕ, Bool, true, false, List, [], ◌∷◌, codes, map, All, Option, Some, None, Result, Ok, Err}
 use Rattle.sc_args.specs.Words.{Asked, tokens, conflicts, usage, bad_file, asked_of}
-use Rattle.sc_core.specs.declared.complaint.Complaint.{Complaint}
-use Rattle.sc_core.specs.declared.complaint.Complaint.TheVariants as complaint
+use Rattle.sc_core.specs.declared.run_error.RunError.{RunError}
+use Rattle.sc_core.specs.declared.run_error.RunError.TheVariants as error
 use Rattle.sc_core.specs.declared.status.Status.{Status}
 use Rattle.sc_core.specs.declared.status.Status.TheVariants.{Accepted, Refused, BadWords, BadSpace, ReadFault, WriteFault, OutOfMemory}
-use Rattle.sc_core.specs.Complaint.{line_of, status_of, space_line}
+use Rattle.sc_core.specs.RunError.{line_of, status_of, space_line}
 use Rattle.sc_grammar.specs.C11.{productions}
-use Rattle.lr_tables.specs.declared.grammar.Conflict.{Conflict}
+use Rattle.sc_grammar.specs.declared.TheConstants.{TERMINALS, NONTERMINALS}
 use Rattle.lr_tables.specs.declared.grammar.Grammar.{Grammar}
 use Rattle.lr_tables.specs.Grammar.{entries_of}
 use Rattle.sc_text.specs.Layout.{IsTextOf}
@@ -17,8 +15,8 @@ use Rattle.sc_model.specs.Outside.{Files, Rose, Write, Writes, WritesPart, whole
 use Rattle.sc_model.specs.Fault.{Fault}
 use Rattle.c11_directives.specs.Pre.{Pre}
 use Rattle.sc_model.specs.Space.{Space, IsListed}
-use Rattle.lr_tables.specs.Tables.{IsStates, IsConflict, InOrder}
-use Rattle.sc_text.specs.Text.{Answer, at}
+use Rattle.lr_tables.specs.Tables.{Tables, AreTables}
+use Rattle.sc_text.specs.Text.{token_list, Answer, At}
 use Rattle.sc_model.specs.Token.{Shown, Token, shown}
 use Rattle.sc_show.specs.Conflicts.{conflict_pieces}
 use Rattle.sc_show.specs.Pieces.{IsLine}
@@ -49,10 +47,10 @@ shown_answer (Ok ts) = Ok (map shown ts)
 shown_answer (Err fault) = Err fault
 
 -- At the configuration the answer is what ordinary preprocessing of the files gives there.
-pub record IsOrdinaryAt (space : Space) (files : Files) (main : List ℕ) (answer : Answer) (config : List ℕ) : Type 0 where
+pub record IsOrdinaryAt (space : Space) (files : Files) (main : List ℕ) (answer : Answer token_list) (config : List ℕ) : Type 0 where
   pub ordinary : Result (List Token) Fault
   pub preprocessed : Pre space files main config ordinary
-  pub same : at answer config ≡ shown_answer ordinary
+  pub same : At answer config (shown_answer ordinary)
 
 -- the space file is held, and it is read as this space
 pub record HasSpace (files : Files) (name : List ℕ) (space : Space) : Type 0 where
@@ -68,19 +66,29 @@ pub record RefusesSpace (files : Files) (name line : List ℕ) : Type 0 where
   pub read : read_space bytes ≡ Err fault
   pub told : line ≡ space_line fault
 
--- The pieces are the lines of a text that keeps the rules of the format and is right at every configuration.
-pub record IsTokensText (files : Files) (name main : List ℕ) (pieces : List (List ℕ)) : Type 0 where
-  pub space : Space
-  pub has_space : HasSpace files name space
-  pub answer : Answer
-  pub text : IsTextOf space pieces answer
-  pub ordinary : (config : List ℕ) → IsListed space config → IsOrdinaryAt space files main answer config
+-- whether it is so
+abbrev pub Tells : Bool → Type 0 → Type 0
+Tells true A = A
+Tells false A = A → ⊥
 
 -- ordinary preprocessing refuses no configuration
-pub record AcceptsAll (files : Files) (name main : List ℕ) : Type 0 where
+abbrev pub AcceptsAll : Space → Files → List ℕ → Type 0
+AcceptsAll space files main = (config : List ℕ) → IsListed space config → (ts : List Token) × Pre space files main config (Ok ts)
+
+-- The answer is what ordinary preprocessing of the files gives at each configuration of the space, and it is told whether all
+-- are accepted.
+pub record IsOrdinaryAnswer (space : Space) (files : Files) (main : List ℕ) (answer : Answer token_list) (accepted : Bool) : Type 0 where
+  pub ordinary : (config : List ℕ) → IsListed space config → IsOrdinaryAt space files main answer config
+  pub verdict : Tells accepted (AcceptsAll space files main)
+
+-- The pieces are the lines of a text that keeps the rules of the format, and it has no fault exactly where it is told that
+-- all configurations are accepted. Where the source tells what it holds, the answer is the ordinary one.
+pub record IsTokensText (holds : Option Files) (name main : List ℕ) (pieces : List (List ℕ)) (accepted : Bool) : Type 0 where
   pub space : Space
-  pub has_space : HasSpace files name space
-  pub accepted : (config : List ℕ) → IsListed space config → (ts : List Token) × Pre space files main config (Ok ts)
+  pub answer : Answer token_list
+  pub text : IsTextOf space pieces answer
+  pub verdict : Tells accepted (answer.faults ≡ [])
+  pub right : (files : Files) → holds ≡ Some files → HasSpace files name space × IsOrdinaryAnswer space files main answer accepted
 
 -- ---- the text of the conflicts
 
@@ -88,42 +96,24 @@ pub record AcceptsAll (files : Files) (name main : List ℕ) : Type 0 where
 pub record IsConflictsText (pieces : List (List ℕ)) : Type 0 where
   pub grammar : Grammar
   pub entries : grammar.entries.now ≡ entries_of productions
-  pub terminals : grammar.terminals ≡ 96
-  pub nonterminals : grammar.nonterminals ≡ 100
-  pub states : List (List ℕ)
-  pub are_states : IsStates grammar states
-  pub lost : List Conflict
-  pub exact : (c : Conflict) → Contains lost c ↔ IsConflict grammar states c
-  pub in_order : InOrder lost
-  pub written : pieces ≡ conflict_pieces lost
+  pub terminals : grammar.terminals ≡ TERMINALS
+  pub nonterminals : grammar.nonterminals ≡ NONTERMINALS
+  pub tables : Tables
+  pub are_tables : AreTables grammar tables
+  pub written : pieces ≡ conflict_pieces tables.conflicts
 
 -- ---- what was asked for
 
-abbrev pub IsAskedText : Files → Asked → List (List ℕ) → Type 0
-IsAskedText files (tokens space main) pieces = IsTokensText files space main pieces
-IsAskedText files conflicts pieces = IsConflictsText pieces
+abbrev pub IsAskedText : Option Files → Asked → List (List ℕ) → Bool → Type 0
+IsAskedText holds (tokens space main) pieces accepted = IsTokensText holds space main pieces accepted
+IsAskedText holds conflicts pieces accepted = IsConflictsText pieces × (accepted ≡ true)
 
-abbrev pub Accepts : Files → Asked → Type 0
-Accepts files (tokens space main) = AcceptsAll files space main
-Accepts files conflicts = Unit {0}
-
--- The words ask for a text, the pieces are its lines, and where the source tells what it holds the text is right.
-pub record HasText (holds : Option Files) (words : List (List ℕ)) (pieces : List (List ℕ)) : Type 0 where
+-- The words ask for a text, and the pieces are its lines.
+pub record HasText (holds : Option Files) (words : List (List ℕ)) (pieces : List (List ℕ)) (accepted : Bool) : Type 0 where
   pub asked : Asked
   pub asked_is : asked_of words ≡ Ok asked
   pub lines : All IsLine pieces
-  pub right : (files : Files) → holds ≡ Some files → IsAskedText files asked pieces
-
--- whether it is so
-abbrev pub Tells : Bool → Type 0 → Type 0
-Tells true A = A
-Tells false A = A → ⊥
-
--- a text, and whether each configuration is accepted, as where no file is asked for
-pub record HasVerdict (holds : Option Files) (words : List (List ℕ)) (pieces : List (List ℕ)) (accepted : Bool) : Type 0 where
-  pub text : HasText holds words pieces
-  pub verdict : (files : Files) → holds ≡ Some files → Tells accepted (Accepts files text.asked)
-  pub no_file : text.asked ≡ conflicts → accepted ≡ true
+  pub text : IsAskedText holds asked pieces accepted
 
 -- the words ask for the tokens of a file in the space of another, and this is so of the space file
 pub record AsksInSpace (words : List (List ℕ)) (holds : Option Files) (P : Files → List ℕ → Type 0) : Type 0 where
@@ -140,47 +130,49 @@ pub record FailsToRead (reading : Reading) (words : List (List ℕ)) : Type 0 wh
   pub rose : Rose reading.before reading.after
 
 -- why there is no text
-abbrev pub Complains : Reading → List (List ℕ) → Complaint → Type 0
-Complains reading words (complaint.Usage text) = asked_of words ≡ Err usage
-Complains reading words complaint.BadFile = asked_of words ≡ Err bad_file
-Complains reading words complaint.NoSpace = AsksInSpace words reading.holds (λ files space. files space ≡ None)
-Complains reading words (complaint.BadSpace line) = AsksInSpace words reading.holds (λ files space. RefusesSpace files space line.items)
-Complains reading words complaint.ReadFault = FailsToRead reading words
-Complains reading words complaint.OutOfMemory = Unit {0}
+abbrev pub FailsWith : Reading → List (List ℕ) → RunError → Type 0
+FailsWith reading words (error.Usage text) = asked_of words ≡ Err usage
+FailsWith reading words error.BadFile = asked_of words ≡ Err bad_file
+FailsWith reading words error.NoSpace = AsksInSpace words reading.holds (λ files space. files space ≡ None)
+FailsWith reading words (error.BadSpace line) = AsksInSpace words reading.holds (λ files space. RefusesSpace files space line.items)
+FailsWith reading words error.ReadFault = FailsToRead reading words
+FailsWith reading words error.OutOfMemory = Unit {0}
 
 -- ---- the outcome
 
--- one line is written, or a front of it where the writing fails
-abbrev pub WritesLine : Writing → List ℕ → Type 0
-WritesLine err line = Writes err.old err.new (whole_write line ∷ []) ⊎ WritesCut err.old err.new line
+-- the line is written, or a prefix of it by a write that failed
+pub data WritesLine (err : Writing) (line : List ℕ) : Type 0 where
+  whole : Writes err.old err.new (whole_write line ∷ []) → WritesLine err line
+  cut : WritesCut err.old err.new line → Rose err.before err.after → WritesLine err line
 
 -- all lines are written whole, each by one write
 pub record Prints (reading : Reading) (words : List (List ℕ)) (out : Writing) (accepted : Bool) : Type 0 where
   pub pieces : List (List ℕ)
-  pub text : HasVerdict reading.holds words pieces accepted
+  pub text : HasText reading.holds words pieces accepted
   pub written : Writes out.old out.new (map whole_write pieces)
 
--- a front of the text is written, and nothing after the failure
+-- a prefix of the text is written, and nothing after the failure
 pub record PrintsPart (reading : Reading) (words : List (List ℕ)) (out : Writing) : Type 0 where
   pub pieces : List (List ℕ)
-  pub text : HasText reading.holds words pieces
+  pub accepted : Bool
+  pub text : HasText reading.holds words pieces accepted
   pub written : WritesPart out.old out.new pieces
   pub failed : Rose out.before out.after
 
 -- nothing is put out, and the error output gets one line
-pub record Complained (reading : Reading) (words : List (List ℕ)) (status : Status) (out err : Writing) : Type 0 where
-  pub complaint : Complaint
-  pub status_is : status ≡ status_of complaint
-  pub why : Complains reading words complaint
+pub record EndsWithError (reading : Reading) (words : List (List ℕ)) (status : Status) (out err : Writing) : Type 0 where
+  pub error : RunError
+  pub status_is : status ≡ status_of error
+  pub why : FailsWith reading words error
   pub silent : out.new ≡ out.old
-  pub told : WritesLine err (line_of complaint)
+  pub told : WritesLine err (line_of error)
 
 -- What a run does, by its status. The output gets the text alone, and the error output the line of a run without a whole text.
 abbrev pub Outcome : Reading → List (List ℕ) → Writing → Writing → Status → Type 0
 Outcome reading words out err Accepted = Prints reading words out true × (err.new ≡ err.old)
 Outcome reading words out err Refused = Prints reading words out false × (err.new ≡ err.old)
-Outcome reading words out err BadWords = Complained reading words BadWords out err
-Outcome reading words out err BadSpace = Complained reading words BadSpace out err
-Outcome reading words out err ReadFault = Complained reading words ReadFault out err
+Outcome reading words out err BadWords = EndsWithError reading words BadWords out err
+Outcome reading words out err BadSpace = EndsWithError reading words BadSpace out err
+Outcome reading words out err ReadFault = EndsWithError reading words ReadFault out err
 Outcome reading words out err WriteFault = PrintsPart reading words out × WritesLine err (codes "superc: write fault\n")
-Outcome reading words out err OutOfMemory = Complained reading words OutOfMemory out err
+Outcome reading words out err OutOfMemory = EndsWithError reading words OutOfMemory out err

@@ -1,13 +1,13 @@
 //! The program as one call.
 #![tactic(auto)]
 
-mod complaint;
+mod output;
 mod program;
+mod run_error;
 mod space_file;
 mod status;
-mod text;
 mod texts;
 
-pub use sc_prep::preprocess;
 pub use program::run;
+pub use sc_prep::preprocess;
 pub use status::Status;

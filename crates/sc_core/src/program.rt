@@ -23,12 +23,14 @@ pub fn run<S: Source, K: Sink, E: Sink>(
     // at every outcome
     ensures kept { S.holds src.new ≡ S.holds src.old }
     ensures counted { S.faults src.old ≤ S.faults src.new }
+    ensures counted_out { K.faults out.old ≤ K.faults out.new }
+    ensures counted_err { E.faults err.old ≤ E.faults err.new }
 {
     let text = match text_for(alloc, words, src) {
         Ok(text) => text,
-        Err(complaint) => {
-            let _ = err.write(complaint.line());
-            return complaint.status();
+        Err(error) => {
+            let _ = err.write(error.line());
+            return error.status();
         }
     };
     if write_lines(out, &text.lines).is_err() {

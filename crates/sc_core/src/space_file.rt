@@ -1,34 +1,34 @@
 ghost use Rattle.std.specs.Prelude.{◌≡◌, ◌≤◌, Some, IfOk, IfErr};
-ghost use Rattle.sc_core.specs.Complaint.{space_line};
+ghost use Rattle.sc_core.specs.RunError.{space_line};
 ghost use Rattle.sc_core.specs.Outcome.{HasSpace};
-ghost use Rattle.sc_core.specs.Texts.{ComplainsInSpace};
+ghost use Rattle.sc_core.specs.Texts.{FailsInSpace};
 ghost use Rattle.sc_model.specs.Outside.{Files};
 ghost use Rattle.sc_space.specs.Seen.{seen_space, seen_fault};
 ghost use Rattle.sc_space.specs.Sound.{IsSound};
 
-use crate::complaint::Complaint;
+use crate::run_error::RunError;
 use sc_base::OutOfMemory;
 use sc_source::Source;
 use sc_space::{Space, SpaceFault, SpaceStop};
 use std::alloc::Global;
 
 /// The space of the file with this name.
-pub fn read_space<S: Source>(alloc: Global, src: &mut S, name: &str) -> Result<Space, Complaint>
+pub fn read_space<S: Source>(alloc: Global, src: &mut S, name: &str) -> Result<Space, RunError>
     ensures space { IfOk result (λ space. (files : Files) → S.holds src.old ≡ Some files → HasSpace files name.now (seen_space space)) }
     ensures sound { IfOk result (λ space. IsSound (seen_space space)) }
-    ensures complains { IfErr result (ComplainsInSpace (S.holds src.old) (S.faults src.old) (S.faults src.new) name.now) }
+    ensures error { IfErr result (FailsInSpace (S.holds src.old) (S.faults src.old) (S.faults src.new) name.now) }
 
     // at every outcome
     ensures kept { S.holds src.new ≡ S.holds src.old }
     ensures counted { S.faults src.old ≤ S.faults src.new }
 {
     let Some(bytes) = src.read(alloc, name)? else {
-        return Err(Complaint::NoSpace);
+        return Err(RunError::NoSpace);
     };
     match Space::read(alloc, &bytes) {
         Ok(space) => Ok(space),
-        Err(SpaceStop::Fault(fault)) => Err(Complaint::BadSpace(fault_line(alloc, &fault)?)),
-        Err(SpaceStop::OutOfMemory) => Err(Complaint::OutOfMemory),
+        Err(SpaceStop::Fault(fault)) => Err(RunError::BadSpace(fault_line(alloc, &fault)?)),
+        Err(SpaceStop::OutOfMemory) => Err(RunError::OutOfMemory),
     }
 }
 

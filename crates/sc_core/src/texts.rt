@@ -1,9 +1,8 @@
 ghost use Rattle.std.specs.Prelude.{◌≡◌, ◌≤◌, true, false, map, length, string_bytes, All, Some, IfOk, IfErr};
 ghost use Rattle.sc_args.specs.Words.{is_file_name};
-ghost use Rattle.sc_core.specs.Outcome.{IsConflictsText, Complains};
+ghost use Rattle.sc_core.specs.Outcome.{IsConflictsText, FailsWith};
 ghost use Rattle.sc_prep.specs.Preprocesses.{Stops};
-ghost use Rattle.sc_core.specs.Texts.{TellsTokens, IsTokensAnswer, IsAnswer, ComplainsInSpace, lines_of};
-ghost use Rattle.sc_model.specs.Outside.{Files as Outside};
+ghost use Rattle.sc_core.specs.Texts.{TellsTokens, IsTokensAnswer, IsAnswer, FailsInSpace, lines_of};
 ghost use Rattle.sc_model.specs.Sets.{IsCond, IsNever};
 ghost use Rattle.sc_model.specs.Space.{arities_of};
 ghost use Rattle.sc_model.specs.Bytes.{has_no_newline};
@@ -12,9 +11,9 @@ ghost use Rattle.sc_show.specs.Pieces.{IsLine, split_lines_after};
 ghost use Rattle.sc_space.specs.Seen.{seen_space, seen_variable};
 ghost use Rattle.sc_space.specs.Sound.{IsSound};
 
-use crate::complaint::Complaint;
+use crate::output::Output;
+use crate::run_error::RunError;
 use crate::space_file::read_space;
-use crate::text::Text;
 use sc_args::Command;
 use sc_base::{Fault, Files, Names, OutOfMemory, Stop};
 use sc_prep::preprocess;
@@ -25,9 +24,9 @@ use sc_space::{Space, Variable};
 use std::alloc::Global;
 
 /// The text that the words ask for.
-pub fn text_for<S: Source>(alloc: Global, words: &[String], src: &mut S) -> Result<Text, Complaint>
+pub fn text_for<S: Source>(alloc: Global, words: &[String], src: &mut S) -> Result<Output, RunError>
     ensures text { IfOk result (IsAnswer (S.holds src.old) (map string_bytes words.now)) }
-    ensures complains { IfErr result (Complains (record { holds = S.holds src.old; before = S.faults src.old; after = S.faults src.new }) (map string_bytes words.now)) }
+    ensures error { IfErr result (FailsWith (record { holds = S.holds src.old; before = S.faults src.old; after = S.faults src.new }) (map string_bytes words.now)) }
 
     // at every outcome
     ensures kept { S.holds src.new ≡ S.holds src.old }
@@ -37,7 +36,7 @@ pub fn text_for<S: Source>(alloc: Global, words: &[String], src: &mut S) -> Resu
         Command::Tokens { space, file } => {
             tokens_text(alloc, src, space.as_str(), file.as_str())
         }
-        Command::Conflicts => Ok(Text {
+        Command::Conflicts => Ok(Output {
             lines: conflicts_text(alloc)?,
             is_refused: false,
         }),
@@ -61,10 +60,10 @@ fn tokens_text<S: Source>(
     src: &mut S,
     space: &str,
     file: &str,
-) -> Result<Text, Complaint>
+) -> Result<Output, RunError>
     requires { is_file_name file.now ≡ true }
     ensures text { IfOk result (IsTokensAnswer (S.holds src.old) space.now file.now) }
-    ensures complains { IfErr result (ComplainsInSpace (S.holds src.old) (S.faults src.old) (S.faults src.new) space.now) }
+    ensures error { IfErr result (FailsInSpace (S.holds src.old) (S.faults src.old) (S.faults src.new) space.now) }
 
     // at every outcome
     ensures kept { S.holds src.new ≡ S.holds src.old }
@@ -74,8 +73,8 @@ fn tokens_text<S: Source>(
     let mut conds = conditions(alloc, &space)?;
     match text_under(alloc, src, &mut conds, &space, file) {
         Ok(text) => Ok(text),
-        Err(Stop::ReadFault) => Err(Complaint::ReadFault),
-        Err(Stop::OutOfMemory) => Err(Complaint::OutOfMemory),
+        Err(Stop::ReadFault) => Err(RunError::ReadFault),
+        Err(Stop::OutOfMemory) => Err(RunError::OutOfMemory),
         Err(Stop::BranchesFull { .. }) => unreachable!(),
     }
 }
@@ -108,12 +107,12 @@ fn text_under<C: Conditions, S: Source>(
     conds: &mut C,
     space: &Space,
     file: &str,
-) -> Result<Text, Stop>
+) -> Result<Output, Stop>
     requires arities { (C.sets conds.old).arities ≡ arities_of (seen_space space.now) }
     requires sound { IsSound (seen_space space.now) }
     requires plain { has_no_newline file.now ≡ true }
     ensures lines { IfOk result (λ text. All IsLine (lines_of text)) }
-    ensures tokens { IfOk result (λ text. (outside : Outside) → S.holds src.old ≡ Some outside → TellsTokens (seen_space space.now) outside file.now text) }
+    ensures tokens { IfOk result (λ text. TellsTokens (S.holds src.old) (seen_space space.now) file.now text) }
     ensures stops { IfErr result (Stops (S.faults src.old) (S.faults src.new)) }
 
     // at every outcome
@@ -122,18 +121,18 @@ fn text_under<C: Conditions, S: Source>(
 {
     let mut names = Names::new(alloc)?;
     let mut files = Files::new(alloc)?;
-    let answer = preprocess(alloc, src, conds, space, &mut names, &mut files, file)?;
-    let is_refused = has_fault(conds, &answer.faults);
+    let prepared = preprocess(alloc, src, file, space, conds, &mut names, &mut files)?;
+    let is_refused = has_fault(conds, &prepared.faults);
     let lines = show_tokens(
         alloc,
         conds,
         space,
         &names,
         &files,
-        &answer.list,
-        &answer.faults,
+        &prepared.list,
+        &prepared.faults,
     )?;
-    Ok(Text { lines, is_refused })
+    Ok(Output { lines, is_refused })
 }
 
 /// Whether some configuration has a fault.

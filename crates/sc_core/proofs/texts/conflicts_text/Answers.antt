@@ -2,7 +2,7 @@ use Rattle.std.proofs.Common.{sym, subst, arith}
 use Rattle.std.proofs.lemmas.Result.{IfOk-weaker}
 use Rattle.std.specs.Prelude.{All}
 use Rattle.sc_core.proofs.texts.conflicts_text.Goals as goal
-use Rattle.sc_lalr.specs.Tables.{conflicts_of}
+use Rattle.sc_lalr.specs.Tables.{conflicts_of, tables_of}
 use Rattle.sc_show.proofs.ConflictLines.{are_named, conflict_lines}
 use Rattle.sc_show.specs.Pieces.{IsLine}
 
@@ -11,17 +11,14 @@ show_conflicts-requires c = are_named c.in_ok-tables.ensures (omega (arith, c.gr
 
 pub returns-clause-text : goal.returns-clause-text
 returns-clause-text c =
-    let are = c.in_ok-tables.ensures.exact in
+    let tables = c.in_ok-tables.ensures in
     IfOk-weaker c.show_conflicts.result _ _ (λ text lines. record {
       grammar = c.grammar-grammar.result;
       entries = c.grammar-grammar.ensures.productions;
       terminals = c.grammar-grammar.ensures.terminals;
       nonterminals = c.grammar-grammar.ensures.nonterminals;
-      states = c.in_ok-tables.ensures.states;
-      are_states = are.are_states;
-      lost = conflicts_of c.in_ok-tables.tables;
-      exact = are.conflict;
-      in_order = are.in_order;
+      tables = tables_of tables.states c.in_ok-tables.tables;
+      are_tables = tables.exact;
       written = lines;
     }) c.show_conflicts.ensures.lines
 

@@ -19,23 +19,15 @@ returns-in-Tokens-clause-text g c =
     ∙ (ap (λ (s : List ℕ). Ok (tokens s (string_bytes c.in-Tokens.file))) (sym c.as_str.ensures.value)
     ∙ ap (λ (f : List ℕ). Ok (tokens c.as_str.result.now f)) (sym c.as_str-in-Tokens.ensures.value))) in
     IfOk-weaker c.tokens_text.result _ _
-    (λ text tells. record {
-      text = record { asked = tokens c.as_str.result.now c.as_str-in-Tokens.result.now; asked_is = asked; lines = tells.lines; right = tells.right };
-      verdict = tells.verdict;
-      no_file = λ e. cc;
-    })
+    (λ text tells. record { asked = tokens c.as_str.result.now c.as_str-in-Tokens.result.now; asked_is = asked; lines = tells.lines; text = tells.tokens })
     c.tokens_text.ensures.text
 
 pub returns-in_ok-conflicts_text-in-Conflicts-clause-text : goal.returns-in_ok-conflicts_text-in-Conflicts-clause-text
 returns-in_ok-conflicts_text-in-Conflicts-clause-text g c =
     let made = c.in_ok-conflicts_text-in-Conflicts.ensures in
     record {
-      text = record {
-        asked = conflicts;
-        asked_is = c.in_ok-space.ensures ∙ ap (λ (command : Command). Ok (seen_command command)) c.in-Conflicts.is;
-        lines = made.lines;
-        right = λ files holds. made.text;
-      };
-      verdict = λ files holds. tt;
-      no_file = λ e. refl;
+      asked = conflicts;
+      asked_is = c.in_ok-space.ensures ∙ ap (λ (command : Command). Ok (seen_command command)) c.in-Conflicts.is;
+      lines = made.lines;
+      text = (made.text, refl);
     }

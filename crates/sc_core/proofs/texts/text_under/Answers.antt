@@ -15,14 +15,14 @@ returns-clause-lines g c =
     subst (All IsLine) (sym (shows.cut ∙ shows.text_of.reads.written)) (text_lines shows.text_of.reads.lines shows.text_of.reads.clear)
 
 pub returns-clause-tokens : goal.returns-clause-tokens
-returns-clause-tokens g c = λ outside holds.
+returns-clause-tokens g c =
     let s = g.C.Conditions.sets c.preprocess.new.conds in
     let space = seen_space c.args.space.now in
-    let p = c.in_ok-answer.answer in
+    let p = c.in_ok-prepared.prepared in
     let shows = subst (λ (fs : List base.Fault). Shows space (g.C.Conditions.sets c.show_tokens.new.conds) c.preprocess.new.names c.preprocess.new.files p.list fs c.in_ok-lines.lines.items) c.deref-2.ensures.value c.in_ok-lines.ensures.text in
-    tells-tokens c.in_ok-lines.ensures.keeps c.preprocess.new.names c.preprocess.new.files space outside c.args.file.now p
+    tells-tokens c.in_ok-lines.ensures.keeps c.preprocess.new.names c.preprocess.new.files space (g.S.Source.holds c.args.src.now) c.args.file.now p
     (record { lines = c.in_ok-lines.lines; is_refused = c.has_fault-is_refused.result })
-    shows c.in_ok-answer.ensures.owns (c.in_ok-answer.ensures.keeps.arities ∙ c.requires.arities)
-    (λ config listed. c.in_ok-answer.ensures.ordinary outside holds config (subst (λ ns. IsConfig ns config) (sym c.requires.arities) listed))
+    shows c.in_ok-prepared.ensures.owns (c.in_ok-prepared.ensures.keeps.arities ∙ c.requires.arities)
+    (λ outside holds config listed. c.in_ok-prepared.ensures.ordinary outside holds config (subst (λ ns. IsConfig ns config) (sym c.requires.arities) listed))
     (λ e. subst (All (λ (f : base.Fault). IsNever s f.cond.0)) c.deref.ensures.value (c.has_fault-is_refused.ensures.none e))
     (λ e all. c.has_fault-is_refused.ensures.some e (subst (All (λ (f : base.Fault). IsNever s f.cond.0)) (sym c.deref.ensures.value) all))

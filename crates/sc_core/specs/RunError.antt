@@ -2,16 +2,16 @@
 use Rattle.std.specs.Prelude.{ℕ, ◌++◌, List, codes, string_bytes}
 use Rattle.sc_args.specs.declared.stop.ArgsStop.{ArgsStop}
 use Rattle.sc_args.specs.declared.stop.ArgsStop.TheVariants as args
-use Rattle.sc_core.specs.declared.complaint.Complaint.{Complaint}
-use Rattle.sc_core.specs.declared.complaint.Complaint.TheVariants.{Usage, BadFile, NoSpace, BadSpace, ReadFault, OutOfMemory}
+use Rattle.sc_core.specs.declared.run_error.RunError.{RunError}
+use Rattle.sc_core.specs.declared.run_error.RunError.TheVariants.{Usage, BadFile, NoSpace, BadSpace, ReadFault, OutOfMemory}
 use Rattle.sc_core.specs.declared.status.Status.{Status}
 use Rattle.sc_core.specs.declared.status.Status.TheVariants as status
 use Rattle.sc_source.specs.declared.source.SourceStop.{SourceStop}
 use Rattle.sc_source.specs.declared.source.SourceStop.TheVariants as source
 use Rattle.sc_space.specs.SpaceFile.{Fault, fault_text}
 
--- the line of a complaint
-abbrev pub line_of : Complaint → List ℕ
+-- the line of a error
+abbrev pub line_of : RunError → List ℕ
 line_of (Usage text) = string_bytes text
 line_of BadFile = codes "superc: bad file name\n"
 line_of NoSpace = codes "superc: space: Absent\n"
@@ -19,7 +19,7 @@ line_of (BadSpace line) = line.items
 line_of ReadFault = codes "superc: read fault\n"
 line_of OutOfMemory = codes "superc: out of memory\n"
 
-abbrev pub status_of : Complaint → Status
+abbrev pub status_of : RunError → Status
 status_of (Usage text) = status.BadWords
 status_of BadFile = status.BadWords
 status_of NoSpace = status.BadSpace
@@ -27,12 +27,12 @@ status_of (BadSpace line) = status.BadSpace
 status_of ReadFault = status.ReadFault
 status_of OutOfMemory = status.OutOfMemory
 
-abbrev pub of_args : ArgsStop → Complaint
+abbrev pub of_args : ArgsStop → RunError
 of_args (args.Usage text) = Usage text
 of_args args.BadFile = BadFile
 of_args args.OutOfMemory = OutOfMemory
 
-abbrev pub of_source : SourceStop → Complaint
+abbrev pub of_source : SourceStop → RunError
 of_source source.Failed = ReadFault
 of_source source.OutOfMemory = OutOfMemory
 
