@@ -1,9 +1,8 @@
 ghost use Rattle.std.specs.Prelude.{◌≡◌, [], ◌∷◌, All, length, IfOk};
 ghost use Rattle.sc_model.specs.Sets.{IsCond};
 
+use sc_base::{FileId, Kind, Name, OutOfMemory, Place, Token};
 use sc_guarded::Guarded;
-use sc_base::{FileId, Name, OutOfMemory, Place};
-use sc_base::{Kind, Token};
 use sc_presence::{Conditions, PlainSets};
 use std::alloc::Global;
 use std::process::Abort;
@@ -47,6 +46,15 @@ fn checks_parts<C: Conditions>(rt: &impl Abort, alloc: Global, conds: &mut C) ->
     let parts = list.follow(alloc, conds, 1, whole)?;
     let indices: Vec<usize> = parts.iter().map(|part| part.1).collect(alloc)?;
     assert_eq!(rt; indices.as_slice(), [1, 2, 3].as_slice());
+    for (config, wanted) in [([1, 1], 1), ([1, 0], 1), ([0, 1], 2), ([0, 0], 3)] {
+        let mut held: Vec<usize> = Vec::new(alloc);
+        for part in parts.iter() {
+            if conds.holds(part.0, &config) {
+                held.push(part.1)?;
+            }
+        }
+        assert_eq!(rt; held.as_slice(), [wanted].as_slice());
+    }
     Ok(())
 }
 

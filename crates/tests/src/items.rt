@@ -1,5 +1,5 @@
-use sc_items::states;
 use lr_tables::{Entry, Grammar, Nonterminal, Symbol, Terminal};
+use sc_items::states;
 use std::test::Fail;
 
 const NUMBER: Symbol = Symbol::Terminal(Terminal(0));

@@ -1,6 +1,6 @@
-use sc_lalr::build;
-use sc_items::states;
 use lr_tables::{Action, Conflict, Entry, Grammar, Nonterminal, Symbol, Terminal};
+use sc_items::states;
+use sc_lalr::build;
 use std::test::Fail;
 
 const NUMBER: Symbol = Symbol::Terminal(Terminal(0));

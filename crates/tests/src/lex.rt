@@ -1,8 +1,7 @@
 ghost use Rattle.sc_base.specs.Seen.{IsHeld};
 
-use sc_base::Token;
+use sc_base::{FileId, Names, Token};
 use sc_lex::{LexStop, tokens};
-use sc_base::{FileId, Names};
 use std::alloc::Global;
 use std::test::Fail;
 

@@ -1,6 +1,6 @@
-use sc_lines::groups;
-use sc_base::{FileId, Names};
+use sc_base::{FileId, Names, Place};
 use sc_lex::tokens;
+use sc_lines::{NestStop, groups};
 use std::alloc::Global;
 use std::test::Fail;
 
@@ -42,5 +42,26 @@ fn branches_of_nested_sections(rt: HostRuntime) -> Result<(), Fail> {
         expected.push(branch)?;
     }
     assert_eq!(rt; branches(rt.alloc(), &text)?, expected);
+    Ok(())
+}
+
+#[test]
+fn the_first_fault_of_a_nesting(rt: HostRuntime) -> Result<(), Fail> {
+    let rows: [(&[u8], usize); 3] = [
+        (b"#if A\n#else\n#elif B\n#endif\n", 3),
+        (b"#endif\n#else\n", 1),
+        (b"#if A\n#ifdef B\n#else\n", 2),
+    ];
+    for (bytes, line) in rows {
+        let mut names = Names::new(rt.alloc())?;
+        let tokens = tokens(rt.alloc(), FileId(0), bytes, &mut names)?;
+        let stop = groups(rt.alloc(), &names, &tokens).err();
+        let place = Place {
+            file: FileId(0),
+            line,
+            column: 1,
+        };
+        assert_eq!(rt; stop, Some(NestStop::Nesting(place)));
+    }
     Ok(())
 }

@@ -1,8 +1,8 @@
 ghost use Rattle.std.specs.Prelude.{◌≡◌, ℕ, ◌&&◌, ◌∷◌, [], not, Bool, List, length, IfOk};
 ghost use Rattle.sc_model.specs.Sets.{IsCond, Denotes, Keeps, DependsFrom};
 
-use sc_presence::{Conditions, PlainSets};
 use sc_base::{Cond, OutOfMemory};
+use sc_presence::{Conditions, PlainSets};
 use std::alloc::Global;
 use std::process::Abort;
 use std::test::Fail;

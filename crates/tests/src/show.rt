@@ -1,8 +1,8 @@
-use sc_show::show_conflicts;
+use lr_tables::{Entry, Grammar, Nonterminal, Symbol};
 use sc_grammar::terminal::{ELSE, END, IF, SEMICOLON};
 use sc_items::states;
 use sc_lalr::build;
-use lr_tables::{Entry, Grammar, Nonterminal, Symbol};
+use sc_show::show_conflicts;
 use std::test::Fail;
 
 const STATEMENT: Symbol = Symbol::Nonterminal(Nonterminal(1));

@@ -1,7 +1,12 @@
+use sc_base::LARGEST_FILE;
+use sc_source::{Failed, FileSource, MemorySink, MemorySource, Sink, Source, SourceStop, StdSink};
 use std::fs::File;
 use std::io::{Error, ErrorKind, Write};
 use std::test::Fail;
 use std::{env, fs, io, process};
+
+/// The most bytes of a file that are read: one more than a file may have.
+const MOST_READ: usize = LARGEST_FILE + 1;
 
 #[test]
 fn memory_source(rt: HostRuntime) -> Result<(), Fail> {

@@ -1,4 +1,5 @@
-use sc_space::{Space, SpaceStop};
+use sc_base::LARGEST_FILE;
+use sc_space::{Space, SpaceStop, VariableOption};
 use std::test::Fail;
 
 // The line that a refusal is printed as.
@@ -72,6 +73,40 @@ fn tells_the_first_fault(rt: HostRuntime) -> Result<(), Fail> {
     for (text, wanted) in table {
         let told = refusal(&rt, text)?;
         assert_eq!(rt; told.as_str(), wanted);
+    }
+    Ok(())
+}
+
+/// A space file with a variable of so many options.
+fn with_options(rt: &HostRuntime, count: usize) -> Result<String, Fail> {
+    let mut text = String::from_str(rt.alloc(), "[variables]\nA = [")?;
+    for option in 0..count {
+        text.push_str(&format!(in rt.alloc(); "{option},")?)?;
+    }
+    text.push_str("]\n")?;
+    Ok(text)
+}
+
+/// A space file with so many variables of two options each.
+fn with_variables(rt: &HostRuntime, count: usize) -> Result<String, Fail> {
+    let mut text = String::from_str(rt.alloc(), "[variables]\n")?;
+    for variable in 0..count {
+        text.push_str(&format!(in rt.alloc(); "V{variable} = [0, 1]\n")?)?;
+    }
+    Ok(text)
+}
+
+#[test]
+fn keeps_to_the_sizes(rt: HostRuntime) -> Result<(), Fail> {
+    let large = vec![in rt.alloc(); b' '; LARGEST_FILE + 1]?;
+    assert_eq!(rt; refusal(&rt, &large)?.as_str(), "TooLarge");
+    for (options, wanted) in [(64, "read"), (65, "BadOption A")] {
+        let text = with_options(&rt, options)?;
+        assert_eq!(rt; refusal(&rt, text.as_bytes())?.as_str(), wanted);
+    }
+    for (variables, wanted) in [(12, "read"), (13, "TooMany")] {
+        let text = with_variables(&rt, variables)?;
+        assert_eq!(rt; refusal(&rt, text.as_bytes())?.as_str(), wanted);
     }
     Ok(())
 }
