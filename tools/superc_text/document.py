@@ -1,0 +1,97 @@
+"""A whole text in memory."""
+from __future__ import annotations
+
+from collections.abc import Iterable, Iterator
+
+from .diagrams import ALWAYS, NEVER, Diagrams
+from .items import Choice, Conflict, Fault, Leaf, Node, Part, Place, Root, Token
+from .reader import Reader
+
+
+class Document:
+    """What a text tells: its conditions, and its tokens or its tree, and its faults."""
+
+    def __init__(self) -> None:
+        self.kind = "tokens"
+        self.diagrams = Diagrams()
+        self.files: list[str] = []
+        self.tokens: list[Token] = []
+        self.parts: list[Part] = []
+        self.root: int | None = None
+        self.faults: list[Fault] = []
+        self.conflicts: list[Conflict] = []
+        self.number_of: dict[int, int] = {}
+
+    @classmethod
+    def read(cls, lines: Iterable[bytes]) -> Document:
+        """The text that has these lines."""
+        document, reader = cls(), Reader(lines)
+        for item in reader:
+            document._add(item)
+        document.kind = reader.kind or "tokens"
+        document.diagrams, document.files, document.number_of = (
+            reader.diagrams,
+            reader.files,
+            reader.number_of,
+        )
+        return document
+
+    def _add(self, item: Token | Fault | Part | Root | Conflict) -> None:
+        match item:
+            case Token():
+                self.tokens.append(item)
+            case Fault():
+                self.faults.append(item)
+            case Root():
+                self.root = item.number
+            case Conflict():
+                self.conflicts.append(item)
+            case _:
+                self.parts.append(item)
+
+    def refused(self) -> int:
+        """The configurations that have a fault."""
+        refused = NEVER
+        for fault in self.faults:
+            refused = self.diagrams.disjunction(refused, fault.condition)
+        return refused
+
+    def shown_tokens(self) -> Iterator[Token]:
+        """The tokens in order. Those of a tree are its leaves, each under the conditions of the
+        choices above it.
+        """
+        if self.kind != "tree":
+            return iter(self.tokens)
+        leaves = [part for part in self.parts if isinstance(part, Leaf)]
+        if len({leaf.place.file for leaf in leaves}) < 2:
+            leaves.sort(key=lambda leaf: leaf.place)
+        conditions = self.part_conditions()
+        return (Token(conditions[leaf.number], leaf.place, leaf.spelling) for leaf in leaves)
+
+    def part_conditions(self) -> list[int]:
+        """For each part of the tree the configurations that have it."""
+        conditions = [NEVER] * len(self.parts)
+        if self.root is not None:
+            conditions[self.root] = ALWAYS
+        for part in reversed(self.parts):
+            own = conditions[part.number]
+            for condition, child in branches_of(part):
+                reached = self.diagrams.conjunction(own, condition)
+                conditions[child] = self.diagrams.disjunction(conditions[child], reached)
+        return conditions
+
+
+def branches_of(part: Part) -> tuple[tuple[int, int], ...]:
+    """The children of a part of a tree, each with its condition."""
+    match part:
+        case Node():
+            return tuple((ALWAYS, child) for child in part.children)
+        case Choice():
+            return part.branches
+        case _:
+            return ()
+
+
+def plain_place(place: Place) -> str:
+    """A place as compilers write it."""
+    return f"{place.file}:{place.line}:{place.column}"
