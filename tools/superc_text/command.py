@@ -1,0 +1,251 @@
+"""The command superc-view."""
+from __future__ import annotations
+
+import argparse
+import os
+import sys
+from collections.abc import Iterable, Iterator
+from tempfile import SpooledTemporaryFile
+from typing import IO
+
+from .diagrams import ALWAYS, Diagrams
+from .document import Document
+from .items import Fault, Token
+from .layout import fault_text, source
+from .page import Page
+from .projection import ConfigurationError, Projection, configuration_of, fault_at, tokens_at
+from .reader import Reader, TextError
+from .views import conditions_dot, faults_view, tokens_of_document, tokens_view, tree_dot, tree_view
+from .writer import text_at
+
+ACCEPTED, REFUSED, MISUSED, WRONG_TEXT, UNREADABLE, UNWRITTEN = 0, 1, 2, 3, 6, 7
+
+IN_MEMORY = 1 << 20
+
+
+HELPS = {
+    "tokens": "the tokens as source, with #if around what is conditional",
+    "at": "the source of one configuration",
+    "faults": "the faults, as compilers write them; status 1 where there are any",
+    "tree": "the tree, indented",
+    "dot": "the conditions, or a part of the tree, for Graphviz",
+    "html": "one page that shows the source by conditions",
+}
+
+
+class Unwritten(Exception):
+    """The output takes no more. There are no words for a reader that has gone."""
+
+
+class Output:
+    """The standard output, whose failures are apart from those of the input."""
+
+    def __init__(self, stream: IO[bytes]) -> None:
+        self._stream = stream
+
+    def write(self, piece: bytes) -> None:
+        """Writes a piece."""
+        try:
+            self._stream.write(piece)
+        except BrokenPipeError:
+            raise Unwritten from None
+        except OSError as fault:
+            raise Unwritten(fault.strerror) from None
+
+    def flush(self) -> None:
+        """Writes what is left."""
+        try:
+            self._stream.flush()
+        except BrokenPipeError:
+            raise Unwritten from None
+        except OSError as fault:
+            raise Unwritten(fault.strerror) from None
+
+
+def parser() -> argparse.ArgumentParser:
+    """The words of the command."""
+    whole = argparse.ArgumentParser(
+        prog="superc-view", description="Shows a text that superc printed."
+    )
+    commands = whole.add_subparsers(dest="command", required=True, metavar="COMMAND")
+    for name, words in HELPS.items():
+        one = commands.add_parser(name, help=words, description=words[0].upper() + words[1:] + ".")
+        one.add_argument(
+            "--input",
+            "-i",
+            metavar="FILE",
+            help="the text; otherwise it is read from the standard input",
+        )
+        if name == "at":
+            one.add_argument(
+                "options",
+                nargs="*",
+                metavar="NAME=OPTION",
+                help="a variable that is not named takes its first option",
+            )
+            one.add_argument(
+                "--text",
+                action="store_true",
+                help="print the text of the configuration, not its source",
+            )
+        if name == "dot":
+            one.add_argument(
+                "--part",
+                type=int,
+                metavar="ID",
+                help="the part of the tree with this number, and all below it",
+            )
+        if name == "html":
+            one.add_argument("--title", default="superc", help="the title of the page")
+    return whole
+
+
+def main(words: list[str] | None = None) -> int:
+    """Runs the command, and answers its status."""
+    asked = parser().parse_args(words)
+    out = Output(sys.stdout.buffer)
+    try:
+        text: IO[bytes] = open(asked.input, "rb") if asked.input else sys.stdin.buffer
+    except OSError as fault:
+        return _stop(UNREADABLE, f"{asked.input}: {fault.strerror}")
+    try:
+        with text:
+            status = COMMANDS[asked.command](asked, text, out)
+        out.flush()
+        return status
+    except TextError as fault:
+        return _stop(WRONG_TEXT, f"{asked.input or 'standard input'}: {fault}")
+    except ConfigurationError as fault:
+        return _stop(MISUSED, str(fault))
+    except Unwritten as fault:
+        os.dup2(os.open(os.devnull, os.O_WRONLY), sys.stdout.fileno())
+        return _stop(UNWRITTEN, str(fault)) if str(fault) else UNWRITTEN
+    except OSError as fault:
+        return _stop(UNREADABLE, str(fault.strerror))
+
+
+def _stop(status: int, words: str) -> int:
+    print(f"superc-view: {words}", file=sys.stderr)
+    return status
+
+
+def _write(out: Output | IO[bytes], lines: Iterable[str]) -> int:
+    """Writes lines, and answers how many."""
+    count = 0
+    for line in lines:
+        out.write(line.encode("utf-8", "surrogateescape") + b"\n")
+        count += 1
+    return count
+
+
+def _is_tree(text: IO[bytes]) -> tuple[bool, Iterator[bytes]]:
+    """Whether a text has a tree, by its first lines; and all of its lines."""
+    front: list[bytes] = []
+    for line in text:
+        front.append(line)
+        if not line.startswith((b"c ", b"s ")):
+            break
+
+    def lines() -> Iterator[bytes]:
+        yield from front
+        yield from text
+
+    return bool(front) and front[-1].startswith((b"l ", b"n ", b"x ", b"root ")), lines()
+
+
+def _tokens(asked: argparse.Namespace, text: IO[bytes], out: Output) -> int:
+    has_tree, lines = _is_tree(text)
+    _write(out, tokens_of_document(Document.read(lines)) if has_tree else tokens_view(lines))
+    return ACCEPTED
+
+
+def _faults(asked: argparse.Namespace, text: IO[bytes], out: Output) -> int:
+    return REFUSED if _write(out, faults_view(text)) else ACCEPTED
+
+
+def _at(asked: argparse.Namespace, text: IO[bytes], out: Output) -> int:
+    configuration = configuration_of(asked.options)
+    has_tree, lines = _is_tree(text)
+    if has_tree or asked.text:
+        document = Document.read(lines)
+        projection = Projection(document.diagrams, configuration)
+        _note(projection.check())
+        fault = fault_at(document, configuration)
+        if asked.text:
+            out.write(text_at(document, configuration))
+        elif not fault:
+            _write(out, source(tokens_at(document, configuration), document.diagrams, str))
+        return _refusal(fault)
+    return _at_in_one_pass(configuration, lines, out)
+
+
+def _at_in_one_pass(configuration: dict[str, str], lines: Iterable[bytes], out: Output) -> int:
+    """The source of a configuration. It is written when the whole text was read, since the faults
+    come last.
+    """
+    reader = Reader(lines)
+    projection = Projection(reader.diagrams, configuration)
+    faults: list[Fault] = []
+
+    def tokens() -> Iterator[Token]:
+        for item in reader:
+            if isinstance(item, Token) and projection.has(item.condition):
+                yield item._replace(condition=ALWAYS)
+            elif isinstance(item, Fault) and projection.has(item.condition):
+                faults.append(item)
+
+    with SpooledTemporaryFile(IN_MEMORY) as kept:
+        _write(kept, source(tokens(), Diagrams(), str))
+        _note(projection.check())
+        kept.seek(0)
+        if not faults:
+            for piece in iter(lambda: kept.read(IN_MEMORY), b""):
+                out.write(piece)
+    return _refusal(faults[0] if faults else None)
+
+
+def _note(names: list[str]) -> None:
+    for name in names:
+        print(f"superc-view: no condition of the text depends on {name}", file=sys.stderr)
+
+
+def _refusal(fault: Fault | None) -> int:
+    if fault is None:
+        return ACCEPTED
+    print(fault_text(fault._replace(condition=ALWAYS), str), file=sys.stderr)
+    return REFUSED
+
+
+def _tree(asked: argparse.Namespace, text: IO[bytes], out: Output) -> int:
+    _write(out, tree_view(Document.read(text)))
+    return ACCEPTED
+
+
+def _dot(asked: argparse.Namespace, text: IO[bytes], out: Output) -> int:
+    if asked.part is None:
+        reader = Reader(text)
+        for _ in reader:
+            pass
+        _write(out, conditions_dot(reader.diagrams, reader.number_of))
+        return ACCEPTED
+    document = Document.read(text)
+    if not 0 <= asked.part < len(document.parts):
+        return _stop(MISUSED, f"the text has no part {asked.part}")
+    _write(out, tree_dot(document, asked.part))
+    return ACCEPTED
+
+
+def _html(asked: argparse.Namespace, text: IO[bytes], out: Output) -> int:
+    for piece in Page(Document.read(text), asked.title).text():
+        out.write(piece.encode("utf-8"))
+    return ACCEPTED
+
+
+COMMANDS = {
+    "tokens": _tokens,
+    "at": _at,
+    "faults": _faults,
+    "tree": _tree,
+    "dot": _dot,
+    "html": _html,
+}
