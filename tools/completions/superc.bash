@@ -20,20 +20,20 @@ _superc_view() {
         return
     fi
     case ${COMP_WORDS[1]}:$last in
-        tokens:--input) mapfile -t COMPREPLY < <(compgen -f -- "$word") ;;
-        tokens:*) mapfile -t COMPREPLY < <(compgen -W '--input' -- "$word") ;;
-        at:--input) mapfile -t COMPREPLY < <(compgen -f -- "$word") ;;
-        at:*) mapfile -t COMPREPLY < <(compgen -W '--input --text' -- "$word") ;;
-        faults:--input) mapfile -t COMPREPLY < <(compgen -f -- "$word") ;;
-        faults:*) mapfile -t COMPREPLY < <(compgen -W '--input' -- "$word") ;;
-        tree:--input) mapfile -t COMPREPLY < <(compgen -f -- "$word") ;;
-        tree:*) mapfile -t COMPREPLY < <(compgen -W '--input' -- "$word") ;;
-        dot:--input) mapfile -t COMPREPLY < <(compgen -f -- "$word") ;;
+        tokens:--input|tokens:--space) mapfile -t COMPREPLY < <(compgen -f -- "$word") ;;
+        tokens:*) mapfile -t COMPREPLY < <(compgen -W '--input --space' -- "$word") ;;
+        at:--input|at:--space) mapfile -t COMPREPLY < <(compgen -f -- "$word") ;;
+        at:*) mapfile -t COMPREPLY < <(compgen -W '--input --space --text' -- "$word") ;;
+        faults:--input|faults:--space) mapfile -t COMPREPLY < <(compgen -f -- "$word") ;;
+        faults:*) mapfile -t COMPREPLY < <(compgen -W '--input --space' -- "$word") ;;
+        tree:--input|tree:--space) mapfile -t COMPREPLY < <(compgen -f -- "$word") ;;
+        tree:*) mapfile -t COMPREPLY < <(compgen -W '--input --space' -- "$word") ;;
+        dot:--input|dot:--space) mapfile -t COMPREPLY < <(compgen -f -- "$word") ;;
         dot:--part) ;;
-        dot:*) mapfile -t COMPREPLY < <(compgen -W '--input --part' -- "$word") ;;
-        html:--input) mapfile -t COMPREPLY < <(compgen -f -- "$word") ;;
+        dot:*) mapfile -t COMPREPLY < <(compgen -W '--input --space --part' -- "$word") ;;
+        html:--input|html:--space) mapfile -t COMPREPLY < <(compgen -f -- "$word") ;;
         html:--title) ;;
-        html:*) mapfile -t COMPREPLY < <(compgen -W '--input --title' -- "$word") ;;
+        html:*) mapfile -t COMPREPLY < <(compgen -W '--input --space --title' -- "$word") ;;
     esac
 }
 complete -o filenames -F _superc_view superc-view

@@ -14,6 +14,7 @@ from .projection import (
     tree_at,
 )
 from .reader import Reader, TextError
+from .space import SpaceError, variables_of
 from .writer import Writer, text_at, text_of
 
 # Walks of a diagram are as deep as it has variables, of which there are at most 1,024.
@@ -36,6 +37,7 @@ __all__ = [
     "Projection",
     "Reader",
     "Root",
+    "SpaceError",
     "TextError",
     "Token",
     "Writer",
@@ -45,4 +47,5 @@ __all__ = [
     "text_of",
     "tokens_at",
     "tree_at",
+    "variables_of",
 ]

@@ -13,8 +13,16 @@ from .document import Document
 from .items import Fault, Token
 from .layout import fault_text, source
 from .page import Page
-from .projection import ConfigurationError, Projection, configuration_of, fault_at, tokens_at
+from .projection import (
+    Configuration,
+    ConfigurationError,
+    Projection,
+    configuration_of,
+    fault_at,
+    tokens_at,
+)
 from .reader import Reader, TextError
+from .space import SpaceError, Variables, variables_of
 from .views import conditions_dot, faults_view, tokens_of_document, tokens_view, tree_dot, tree_view
 from .writer import text_at
 
@@ -70,34 +78,41 @@ def parser() -> argparse.ArgumentParser:
     commands = whole.add_subparsers(dest="command", required=True, metavar="COMMAND")
     for name, words in HELPS.items():
         one = commands.add_parser(name, help=words, description=words[0].upper() + words[1:] + ".")
-        one.add_argument(
-            "--input",
-            "-i",
-            metavar="FILE",
-            help="the text; otherwise it is read from the standard input",
-        )
-        if name == "at":
-            one.add_argument(
-                "options",
-                nargs="*",
-                metavar="NAME=OPTION",
-                help="a variable that is not named takes its first option",
-            )
-            one.add_argument(
-                "--text",
-                action="store_true",
-                help="print the text of the configuration, not its source",
-            )
-        if name == "dot":
-            one.add_argument(
-                "--part",
-                type=int,
-                metavar="ID",
-                help="the part of the tree with this number, and all below it",
-            )
-        if name == "html":
-            one.add_argument("--title", default="superc", help="the title of the page")
+        _add_options(name, one)
     return whole
+
+
+def _add_options(name: str, one: argparse.ArgumentParser) -> None:
+    one.add_argument(
+        "--input",
+        "-i",
+        metavar="FILE",
+        help="the text; otherwise it is read from the standard input",
+    )
+    one.add_argument(
+        "--space", metavar="FILE", help="the space file, which names the variables of the text"
+    )
+    if name == "at":
+        one.add_argument(
+            "options",
+            nargs="*",
+            metavar="NAME=OPTION",
+            help="a variable that is not named takes its first option",
+        )
+        one.add_argument(
+            "--text",
+            action="store_true",
+            help="print the text of the configuration, not its source",
+        )
+    if name == "dot":
+        one.add_argument(
+            "--part",
+            type=int,
+            metavar="ID",
+            help="the part of the tree with this number, and all below it",
+        )
+    if name == "html":
+        one.add_argument("--title", default="superc", help="the title of the page")
 
 
 def main(words: list[str] | None = None) -> int:
@@ -105,9 +120,12 @@ def main(words: list[str] | None = None) -> int:
     asked = parser().parse_args(words)
     out = Output(sys.stdout.buffer)
     try:
+        asked.variables = _variables(asked.space)
         text: IO[bytes] = open(asked.input, "rb") if asked.input else sys.stdin.buffer
+    except SpaceError as fault:
+        return _stop(WRONG_TEXT, f"space: {fault}")
     except OSError as fault:
-        return _stop(UNREADABLE, f"{asked.input}: {fault.strerror}")
+        return _stop(UNREADABLE, f"{fault.filename}: {fault.strerror}")
     try:
         with text:
             status = COMMANDS[asked.command](asked, text, out)
@@ -122,6 +140,13 @@ def main(words: list[str] | None = None) -> int:
         return _stop(UNWRITTEN, str(fault)) if str(fault) else UNWRITTEN
     except OSError as fault:
         return _stop(UNREADABLE, str(fault.strerror))
+
+
+def _variables(space: str | None) -> Variables | None:
+    if space is None:
+        return None
+    with open(space, "rb") as file:
+        return variables_of(file.read())
 
 
 def _stop(status: int, words: str) -> int:
@@ -155,35 +180,42 @@ def _is_tree(text: IO[bytes]) -> tuple[bool, Iterator[bytes]]:
 
 def _tokens(asked: argparse.Namespace, text: IO[bytes], out: Output) -> int:
     has_tree, lines = _is_tree(text)
-    _write(out, tokens_of_document(Document.read(lines)) if has_tree else tokens_view(lines))
+    _write(
+        out,
+        tokens_of_document(Document.read(lines, asked.variables))
+        if has_tree
+        else tokens_view(Reader(lines, asked.variables)),
+    )
     return ACCEPTED
 
 
 def _faults(asked: argparse.Namespace, text: IO[bytes], out: Output) -> int:
-    return REFUSED if _write(out, faults_view(text)) else ACCEPTED
+    return REFUSED if _write(out, faults_view(Reader(text, asked.variables))) else ACCEPTED
 
 
 def _at(asked: argparse.Namespace, text: IO[bytes], out: Output) -> int:
     configuration = configuration_of(asked.options)
     has_tree, lines = _is_tree(text)
     if has_tree or asked.text:
-        document = Document.read(lines)
+        document = Document.read(lines, asked.variables)
         projection = Projection(document.diagrams, configuration)
-        _note(projection.check())
+        _note(asked, projection.check())
         fault = fault_at(document, configuration)
         if asked.text:
             out.write(text_at(document, configuration))
         elif not fault:
             _write(out, source(tokens_at(document, configuration), document.diagrams, str))
         return _refusal(fault)
-    return _at_in_one_pass(configuration, lines, out)
+    return _at_in_one_pass(asked, configuration, lines, out)
 
 
-def _at_in_one_pass(configuration: dict[str, str], lines: Iterable[bytes], out: Output) -> int:
+def _at_in_one_pass(
+    asked: argparse.Namespace, configuration: Configuration, lines: Iterable[bytes], out: Output
+) -> int:
     """The source of a configuration. It is written when the whole text was read, since the faults
     come last.
     """
-    reader = Reader(lines)
+    reader = Reader(lines, asked.variables)
     projection = Projection(reader.diagrams, configuration)
     faults: list[Fault] = []
 
@@ -196,7 +228,7 @@ def _at_in_one_pass(configuration: dict[str, str], lines: Iterable[bytes], out: 
 
     with SpooledTemporaryFile(IN_MEMORY) as kept:
         _write(kept, source(tokens(), Diagrams(), str))
-        _note(projection.check())
+        _note(asked, projection.check())
         kept.seek(0)
         if not faults:
             for piece in iter(lambda: kept.read(IN_MEMORY), b""):
@@ -204,7 +236,9 @@ def _at_in_one_pass(configuration: dict[str, str], lines: Iterable[bytes], out: 
     return _refusal(faults[0] if faults else None)
 
 
-def _note(names: list[str]) -> None:
+def _note(asked: argparse.Namespace, names: list[str]) -> None:
+    if names and asked.variables is not None:
+        raise ConfigurationError(f"UnknownVariable {names[0]}")
     for name in names:
         print(f"superc-view: no condition of the text depends on {name}", file=sys.stderr)
 
@@ -217,18 +251,18 @@ def _refusal(fault: Fault | None) -> int:
 
 
 def _tree(asked: argparse.Namespace, text: IO[bytes], out: Output) -> int:
-    _write(out, tree_view(Document.read(text)))
+    _write(out, tree_view(Document.read(text, asked.variables)))
     return ACCEPTED
 
 
 def _dot(asked: argparse.Namespace, text: IO[bytes], out: Output) -> int:
     if asked.part is None:
-        reader = Reader(text)
+        reader = Reader(text, asked.variables)
         for _ in reader:
             pass
         _write(out, conditions_dot(reader.diagrams, reader.number_of))
         return ACCEPTED
-    document = Document.read(text)
+    document = Document.read(text, asked.variables)
     if not 0 <= asked.part < len(document.parts):
         return _stop(MISUSED, f"the text has no part {asked.part}")
     _write(out, tree_dot(document, asked.part))
@@ -236,7 +270,7 @@ def _dot(asked: argparse.Namespace, text: IO[bytes], out: Output) -> int:
 
 
 def _html(asked: argparse.Namespace, text: IO[bytes], out: Output) -> int:
-    for piece in Page(Document.read(text), asked.title).text():
+    for piece in Page(Document.read(text, asked.variables), asked.title).text():
         out.write(piece.encode("utf-8"))
     return ACCEPTED
 

@@ -6,6 +6,7 @@ from collections.abc import Iterable, Iterator
 from .diagrams import ALWAYS, NEVER, Diagrams
 from .items import Choice, Conflict, Fault, Leaf, Node, Part, Place, Root, Token
 from .reader import Reader
+from .space import Variables
 
 
 class Document:
@@ -23,9 +24,9 @@ class Document:
         self.number_of: dict[int, int] = {}
 
     @classmethod
-    def read(cls, lines: Iterable[bytes]) -> Document:
-        """The text that has these lines."""
-        document, reader = cls(), Reader(lines)
+    def read(cls, lines: Iterable[bytes], variables: Variables | None = None) -> Document:
+        """The text that has these lines. Where variables are given, it names no others."""
+        document, reader = cls(), Reader(lines, variables)
         for item in reader:
             document._add(item)
         document.kind = reader.kind or "tokens"

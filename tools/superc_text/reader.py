@@ -12,6 +12,7 @@ from collections.abc import Callable, Iterable, Iterator
 from .diagrams import ALWAYS, NEVER, Diagrams
 from .grammar import productions
 from .items import CAUSES, Choice, Conflict, Fault, Item, Leaf, Node, Place, Root, Token
+from .space import Variables
 
 NUMBER = rb"(0|[1-9][0-9]{0,18})"
 COUNT = rb"([1-9][0-9]{0,18})"
@@ -55,12 +56,16 @@ class _Wrong(Exception):
 
 
 class Reader:
-    """Reads lines, and gives their items one by one."""
+    """Reads lines, and gives their items one by one. Where the variables of the space are known,
+    a text names no others.
+    """
 
-    def __init__(self, lines: Iterable[bytes]) -> None:
+    def __init__(self, lines: Iterable[bytes], variables: Variables | None = None) -> None:
         self._lines = lines
+        self.has_space = variables is not None
         self.line = 0
         self.diagrams = Diagrams()
+        self.diagrams.variables.update(variables or {})
         self.conditions: list[int] = [NEVER, ALWAYS]
         self.number_of: dict[int, int] = {NEVER: NEVER, ALWAYS: ALWAYS}
         self.files: list[str] = []
@@ -141,6 +146,7 @@ class Reader:
     def _check_options(self, name: str, options: tuple[str, ...]) -> None:
         known = self.diagrams.variables.get(name)
         if known is None:
+            _need(not self.has_space, f"the space has no variable {name}")
             _need(len(set(options)) == len(options), "an option stands once")
             _need(
                 len(options) <= OPTIONS_AT_MOST, f"a variable has at most {OPTIONS_AT_MOST} options"

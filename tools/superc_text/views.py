@@ -14,9 +14,8 @@ from .reader import Reader
 TextOf = Callable[[int], str]
 
 
-def tokens_view(lines: Iterable[bytes]) -> Iterator[str]:
+def tokens_view(reader: Reader) -> Iterator[str]:
     """The tokens as source with `#if`; at the end what refuses configurations, as `#error`."""
-    reader = Reader(lines)
     faults: list[Fault] = []
 
     def tokens() -> Iterator[Token]:
@@ -46,9 +45,8 @@ def _errors(faults: Iterable[Fault], text_of: TextOf) -> Iterator[str]:
         yield "#endif"
 
 
-def faults_view(lines: Iterable[bytes]) -> Iterator[str]:
+def faults_view(reader: Reader) -> Iterator[str]:
     """Each fault on a line, as compilers write it."""
-    reader = Reader(lines)
     text_of = Expressions(reader.diagrams, reader.number_of).text
     for item in reader:
         if isinstance(item, Fault):

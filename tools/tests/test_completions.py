@@ -50,6 +50,6 @@ class Completions(unittest.TestCase):
     def test_what_bash_offers(self) -> None:
         self.assertEqual(complete("superc", ""), ["tokens", "conflicts"])
         self.assertEqual(complete("superc-view", "t"), ["tokens", "tree"])
-        self.assertEqual(complete("superc-view", "at", "--"), ["--input", "--text"])
+        self.assertEqual(complete("superc-view", "at", "--"), ["--input", "--space", "--text"])
         self.assertEqual(complete("superc-view", "dot", "--part", ""), [])
         self.assertEqual(complete("superc-view", "tokens", "--input", "/et"), ["/etc"])

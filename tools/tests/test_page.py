@@ -75,6 +75,12 @@ class Text(unittest.TestCase):
         self.assertIn('<a href="#fault0">main.c:4:1: BadDirective [when !defined(A)]</a>', text)
         self.assertIn('id="fault0"', text)
 
+    def test_a_variable_with_many_options_has_a_list(self) -> None:
+        options = b" ".join(b"%d:%d" % (option, option == 3) for option in range(7))
+        text = page(b"c 2 N " + options + b"\ns 0 m.c\nt 2 0:1:1 x\nend\n")
+        self.assertIn('<select name="v0"><option value="-1">any</option>', text)
+        self.assertNotIn('type="radio"', text)
+
     def test_what_html_reads_is_escaped(self) -> None:
         text = page(b's 0 <m>.c\nt 1 0:1:1 "</script>\xff<b>"\nend\n')
         self.assertIn("&lt;/script&gt;\ufffd&lt;b&gt;", text)

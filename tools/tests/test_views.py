@@ -116,6 +116,34 @@ class Commands(unittest.TestCase):
                 (3, "superc-view: standard input: line 2: condition 2 has no line yet\n"),
             )
 
+    def test_a_space_file(self) -> None:
+        with tempfile.NamedTemporaryFile() as space:
+            space.write(b'[variables]\nA = ["undef", 1]\nB = [1, 2]\n')
+            space.flush()
+            known = ("--space", space.name)
+            self.assertEqual(run("at", *known, "A=1", "B=2", text=README_TEXT), (0, "x\n", ""))
+            told = "superc-view: UnknownVariable C\n"
+            self.assertEqual(run("at", *known, "A=1", "C=1", text=README_TEXT), (2, "", told))
+            told = "superc-view: UnknownOption B\n"
+            self.assertEqual(run("at", *known, "A=1", "B=3", text=README_TEXT), (2, "", told))
+            told = "superc-view: standard input: line 1: the space has no variable Z\n"
+            self.assertEqual(run("faults", *known, text=b"c 2 Z undef:0 1:1\nend\n"), (3, "", told))
+            told = "superc-view: standard input: line 1: the options of B stand as before\n"
+            self.assertEqual(run("faults", *known, text=b"c 2 B undef:0 1:1\nend\n"), (3, "", told))
+
+    def test_a_wrong_space_file(self) -> None:
+        rows = [
+            (b"x", "NotToml"),
+            (b"", "NoVariables"),
+            (b"[variables]\nA = [true]\n", "BadOption A"),
+        ]
+        for text, told in rows:
+            with tempfile.NamedTemporaryFile() as space:
+                space.write(text)
+                space.flush()
+                stopped = run("faults", "--space", space.name, text=README_TEXT)
+                self.assertEqual(stopped, (3, "", f"superc-view: space: {told}\n"))
+
     def test_an_output_that_takes_nothing(self) -> None:
         with open("/dev/full", "wb") as full:
             words = [sys.executable, TOOLS / "superc-view", "tokens"]
