@@ -3,9 +3,8 @@ use Rattle.std.proofs.Common.{◌≡◌, ℕ, ◌<◌, List, [], ◌++◌, map, 
 use Rattle.std.specs.Option.{option_to_list}
 use Rattle.std.specs.Prelude.{length, is_none}
 use Rattle.sc_prep.specs.declared.prepared.Prepared.{Prepared}
-use Rattle.sc_prep.specs.declared.walk.Walk.{Walk}
 use Rattle.sc_prep.specs.Machine.{closing_run, run, start}
-use Rattle.sc_prep.specs.Simulates.{Simulates}
+use Rattle.sc_prep.specs.Simulates.{IsOutcomeOf}
 use Rattle.sc_prep.specs.Preprocesses.{IsOrdinary, IsRefused}
 use Rattle.sc_prep.proofs.Machine.{HaveHashes, given, follows}
 use Rattle.sc_guarded.specs.Items.{items_at, faults_at, seen_fault}
@@ -17,7 +16,6 @@ use Rattle.sc_model.specs.Fault.{Fault, first_place}
 use Rattle.c11_directives.specs.Pre.{State, Walks, closed, unexpanded, File, found, file_lines, Enters, stopped, walked, Includes, entered, context_of, initial_state, Pre}
 use Rattle.sc_model.specs.Sets.{Sets}
 use Rattle.sc_model.specs.Space.{Space}
-use Rattle.c11_macros.specs.Macros.{initial_macros}
 use Rattle.sc_model.specs.Token.{Lexeme}
 
 -- what stands at a configuration that is refused
@@ -68,13 +66,13 @@ module _ (space : Space) (outside : Files) (main bytes : List ℕ) where
         live = live;
       }
 
-      -- a walk that simulates the machine on the group's lines
-      pub walk-ordinary : (walk : Walk) (lines : List Line) → HaveHashes lines → IsTree lines group
-          → Simulates s (initial_macros space) names files walk config (run (start (initial_state space main config)) lines)
-          → IsOrdinary s names files walk.prepared (Pre space outside main config) config
-      walk-ordinary walk lines have is_tree simulates =
+      -- what the machine gives on the group's lines
+      pub outcome-ordinary : (p : Prepared) (lines : List Line) → HaveHashes lines → IsTree lines group
+          → IsOutcomeOf s names files p config (run (start (initial_state space main config)) lines)
+          → IsOrdinary s names files p (Pre space outside main config) config
+      outcome-ordinary p lines have is_tree outcome =
           let first = initial_state space main config in
           let f = follows (context_of space outside) group is_tree.grouped (subst HaveHashes (sym is_tree.whole) have) first in
           let ran = ap (run (start first)) (sym is_tree.whole) ∙ f.machine [] in
-          ends_ordinary walk.prepared f.end f.fault f.walks (simulates.output ∙ ap (λ m. m.state.output ++ m.state.run) ran)
-          (simulates.fault ∙ ap (λ m. option_to_list m.fault) ran) (simulates.live ∙ ap (λ m. is_none m.fault) ran)
+          ends_ordinary p f.end f.fault f.walks (outcome.output ∙ ap (λ m. m.state.output ++ m.state.run) ran)
+          (outcome.fault ∙ ap (λ m. option_to_list m.fault) ran) (outcome.live ∙ ap (λ m. is_none m.fault) ran)

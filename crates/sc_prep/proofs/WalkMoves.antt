@@ -67,11 +67,13 @@ module _ {old new : Sets} (keeps : Keeps old new) where
   pub simulates-kept : (w : Walk) → Owns old w → (macros : List ℕ → Macros) (names files : List (List ℕ)) (config : List ℕ) (m : Machine) → IsConfig old.arities config → Simulates old macros names files w config m → Simulates new macros names files w config m
   simulates-kept w owns macros names files config m listed simulates = record {
     active = keeps.at w.group.0 config owns.group listed ∙ simulates.active;
-    live = keeps.at w.prepared.live.0 config owns.prepared.live listed ∙ simulates.live;
     acting = keeps.at w.acting.0 config owns.acting listed ∙ simulates.acting;
     sections = sections-kept config listed w.sections.items owns.sections ∙ simulates.sections;
-    output = ap (map (seen names files)) (items_at-Keeps w.prepared.list config keeps owns.prepared.list listed) ∙ simulates.output;
-    fault = ap (map (seen_fault files)) (faults_at-Keeps w.prepared.faults.items config keeps owns.prepared.faults listed) ∙ simulates.fault;
+    prepared = record {
+      live = keeps.at w.prepared.live.0 config owns.prepared.live listed ∙ simulates.prepared.live;
+      output = ap (map (seen names files)) (items_at-Keeps w.prepared.list config keeps owns.prepared.list listed) ∙ simulates.prepared.output;
+      fault = ap (map (seen_fault files)) (faults_at-Keeps w.prepared.faults.items config keeps owns.prepared.faults listed) ∙ simulates.prepared.fault;
+    };
     macros_are = simulates.macros_are;
   }
 
@@ -97,16 +99,14 @@ begins macros names {old} {new} keeps w owns t group untaken acting sections ite
           let same = simulates-kept keeps w owns macros names files config m listed simulates in
           record {
             active = dg.at config now ∙ ap (λ b. b && t config) simulates.active;
-            live = same.live;
-            acting = dl.at config now ∙ (ap (λ b. (b && t config) && old.has w.prepared.live.0 config) simulates.active ∙ ap (λ b. (m.active && t config) && b) simulates.live);
+            acting = dl.at config now ∙ (ap (λ b. (b && t config) && old.has w.prepared.live.0 config) simulates.active ∙ ap (λ b. (m.active && t config) && b) simulates.prepared.live);
             sections =
                 ap (λ xs. map (section_at new config) (reverse xs)) items
                 ∙ (sections-push new config w.sections.items (record { around = w.group; untaken = untaken })
                 ∙ (ap (λ ss. (new.has w.group.0 config, new.has untaken.0 config) ∷ ss) same.sections
                 ∙ (ap (λ b. (b, new.has untaken.0 config) ∷ m.sections) same.active
                 ∙ ap (λ b. (m.active, b) ∷ m.sections) (du.at config now ∙ ap (λ b. b && not (t config)) simulates.active))));
-            output = same.output;
-            fault = same.fault;
+            prepared = record { live = same.prepared.live; output = same.prepared.output; fault = same.prepared.fault };
             macros_are = same.macros_are;
           };
     }
@@ -140,11 +140,9 @@ module _ {old new : Sets} (keeps : Keeps old new) (w : Walk) (owns : Owns old w)
             subst (Simulates new macros names files (record w { group = group; acting = acting; sections = sections }) config) (is files config m listed simulates)
             (record {
               active = keeps.at group.0 config own listed;
-              live = same.live;
-              acting = dl.at config (IsConfig-Keeps keeps listed) ∙ ap (λ b. old.has group.0 config && b) simulates.live;
+              acting = dl.at config (IsConfig-Keeps keeps listed) ∙ ap (λ b. old.has group.0 config && b) simulates.prepared.live;
               sections = refl;
-              output = same.output;
-              fault = same.fault;
+              prepared = record { live = same.prepared.live; output = same.prepared.output; fault = same.prepared.fault };
               macros_are = same.macros_are;
             });
       }
@@ -224,17 +222,19 @@ refuses macros names {old} {new} keeps w owns token tokens fault live never faul
           let own : base.Fault = record { cond = w.acting; cause = BadDirective; place = token.place } in
           record {
             active = same.active;
-            live = da.at config now ∙ (ap (λ b. b && not (old.has w.acting.0 config)) simulates.live ∙ (ap (λ b. is_none m.fault && not b) simulates.acting ∙ live_after m.active m.fault x));
             acting = dn.at config now ∙ acting_after m.active m.fault x;
             sections = same.sections;
-            output = same.output;
-            fault =
-                ap (λ fs. map (seen_fault files) (faults_at new fs config)) (items ∙ ap (λ f. w.prepared.faults.items ++ f ∷ []) is)
-                ∙ (ap (map (seen_fault files)) (faults_at-append new w.prepared.faults.items (own ∷ []) config)
-                ∙ (map-append (seen_fault files) (faults_at new w.prepared.faults.items config) (faults_at new (own ∷ []) config)
-                ∙ (ap (λ fs. fs ++ map (seen_fault files) (faults_at new (own ∷ []) config)) same.fault
-                ∙ (ap (λ fs. option_to_list m.fault ++ fs) (map-one (seen_fault files) (new.has w.acting.0 config) own ∙ ap (λ b. if b then seen_fault files own ∷ [] else []) same.acting)
-                ∙ fault_after m.active m.fault x))));
+            prepared = record {
+              live = da.at config now ∙ (ap (λ b. b && not (old.has w.acting.0 config)) simulates.prepared.live ∙ (ap (λ b. is_none m.fault && not b) simulates.acting ∙ live_after m.active m.fault x));
+              output = same.prepared.output;
+              fault =
+                  ap (λ fs. map (seen_fault files) (faults_at new fs config)) (items ∙ ap (λ f. w.prepared.faults.items ++ f ∷ []) is)
+                  ∙ (ap (map (seen_fault files)) (faults_at-append new w.prepared.faults.items (own ∷ []) config)
+                  ∙ (map-append (seen_fault files) (faults_at new w.prepared.faults.items config) (faults_at new (own ∷ []) config)
+                  ∙ (ap (λ fs. fs ++ map (seen_fault files) (faults_at new (own ∷ []) config)) same.prepared.fault
+                  ∙ (ap (λ fs. option_to_list m.fault ++ fs) (map-one (seen_fault files) (new.has w.acting.0 config) own ∙ ap (λ b. if b then seen_fault files own ∷ [] else []) same.acting)
+                  ∙ fault_after m.active m.fault x))));
+            };
             macros_are = same.macros_are;
           };
     }
@@ -270,16 +270,18 @@ puts macros names s w owns tokens list is =
       };
       at = λ files config m listed simulates. record {
         active = simulates.active;
-        live = simulates.live;
         acting = simulates.acting;
         sections = simulates.sections;
-        output =
-            ap (λ xs. map (seen names files) (items_at s xs config)) is
-            ∙ (ap (map (seen names files)) (items_at-append s w.prepared.list (under w.acting tokens) config ∙ ap (λ xs. items_at s w.prepared.list config ++ xs) (items_at-under s w.acting tokens config ∙ ap (λ b. if b then tokens else []) simulates.acting))
-            ∙ (chosen_end (seen names files) (acts m) (items_at s w.prepared.list config) tokens
-            ∙ (ap (λ xs. if acts m then xs ++ map (seen names files) tokens else xs) simulates.output
-            ∙ text_after (acts m) m.state (seen_line names files tokens))));
-        fault = simulates.fault;
+        prepared = record {
+          live = simulates.prepared.live;
+          output =
+              ap (λ xs. map (seen names files) (items_at s xs config)) is
+              ∙ (ap (map (seen names files)) (items_at-append s w.prepared.list (under w.acting tokens) config ∙ ap (λ xs. items_at s w.prepared.list config ++ xs) (items_at-under s w.acting tokens config ∙ ap (λ b. if b then tokens else []) simulates.acting))
+              ∙ (chosen_end (seen names files) (acts m) (items_at s w.prepared.list config) tokens
+              ∙ (ap (λ xs. if acts m then xs ++ map (seen names files) tokens else xs) simulates.prepared.output
+              ∙ text_after (acts m) m.state (seen_line names files tokens))));
+          fault = simulates.prepared.fault;
+        };
         macros_are = text_macros (acts m) m.state (seen_line names files tokens) ∙ simulates.macros_are;
       };
     }
@@ -308,11 +310,13 @@ closing_macros false s = refl
 closes : (macros : List ℕ → Macros) (names files : List (List ℕ)) (s : Sets) (w : Walk) (config : List ℕ) (m : Machine) → Simulates s macros names files w config m → Simulates s macros names files w config (acting m closing_run)
 closes macros names files s w config m simulates = record {
   active = simulates.active;
-  live = simulates.live;
   acting = simulates.acting;
   sections = simulates.sections;
-  output = simulates.output ∙ closing_after (acts m) m.state;
-  fault = simulates.fault;
+  prepared = record {
+    live = simulates.prepared.live;
+    output = simulates.prepared.output ∙ closing_after (acts m) m.state;
+    fault = simulates.prepared.fault;
+  };
   macros_are = closing_macros (acts m) m.state ∙ simulates.macros_are;
 }
 

@@ -95,8 +95,7 @@ fn preprocess_bytes<C: Conditions>(
         Err(NestStop::Nesting(place)) => return refused(alloc, conds, Cause::BadNesting, place),
         Err(NestStop::OutOfMemory) => return Err(OutOfMemory),
     };
-    let walk = Walk::of_lines(alloc, conds, space, names, &tokens, &tree.lines)?;
-    Ok(walk.prepared)
+    Walk::of_lines(alloc, conds, space, names, &tokens, &tree.lines)
 }
 
 /// Every configuration is refused.

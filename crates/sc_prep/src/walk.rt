@@ -1,14 +1,16 @@
-ghost use Rattle.std.specs.Prelude.{◌≡◌, ℕ, ◌<◌, Bool, List, length, OnOk, [], All, None, true, IfOk};
+ghost use Rattle.std.specs.Prelude.{◌≡◌, ℕ, ◌+◌, ◌<◌, ◌^◌, Bool, List, length, OnOk, [], All, None, true, IfOk};
 ghost use Rattle.sc_base.specs.declared.token.Token as base;
 ghost use Rattle.sc_model.specs.Sets.{IsCond, IsNever, Denotes, Keeps, IsConfig};
 ghost use Rattle.c11_directives.specs.Pre.{with_text, initial_state};
 ghost use Rattle.c11_macros.specs.Macros.{Macros, initial_macros};
 ghost use Rattle.sc_prep.specs.Machine.{acting, opened, next_branch, ended, refusing, run, start};
-ghost use Rattle.sc_prep.specs.Simulates.{Owns, SimulatesStep, Simulates};
+ghost use Rattle.sc_prep.specs.Simulates.{IsOutcomeOf, Owns, SimulatesStep, Simulates, line_behind};
+ghost use Rattle.sc_prep.specs.Preprocesses.{OwnsList};
 ghost use Rattle.sc_lines.specs.Nests.{seen_line, seen_lines};
 ghost use Rattle.sc_prep.specs.Printable.{StaysPrintable, IsOfFile, ArePrintable};
 ghost use Rattle.sc_base.specs.declared.id.FileId.{FileId};
 ghost use Rattle.sc_base.specs.Seen.{IsHeld};
+ghost use Rattle.sc_lines.specs.Branches.{HasBranches};
 ghost use Rattle.sc_lines.specs.Split.{AreLines};
 ghost use Rattle.sc_model.specs.Space.{Space as Model, arities_of};
 ghost use Rattle.sc_space.specs.Seen.{seen_space};
@@ -44,7 +46,8 @@ pub struct Walk {
 }
 
 impl Walk {
-    /// The walk of a file's lines under all configurations.
+    /// What a file's lines become under all configurations. A group that no configuration takes is
+    /// passed over, and the rest of the file where all of them are refused.
     #[tactic(auto, using(sc_model::proofs::SetLemmas::conditions))]
     pub fn of_lines<C: Conditions>(
         alloc: Global,
@@ -53,22 +56,29 @@ impl Walk {
         names: &Names,
         tokens: &[Token],
         lines: &[Line],
-    ) -> Result<Walk, OutOfMemory>
+    ) -> Result<Prepared, OutOfMemory>
         requires space { (C.sets conds.old).arities ≡ arities_of (seen_space space.now) }
         requires held { All (IsHeld names.now) tokens.now }
         requires lines { AreLines names.now tokens.now lines.now }
-        ensures owns { IfOk result (λ walk. Owns (C.sets conds.new) walk) }
-        ensures printable { IfOk result (λ walk. (file : FileId) → All (IsOfFile names.now file) tokens.now → ArePrintable names.now file walk.prepared) }
-        ensures walked { IfOk result (λ walk. (files : List (List ℕ)) (main config : List ℕ) → IsConfig (C.sets conds.old).arities config
-            → Simulates (C.sets conds.new) (initial_macros (seen_space space.now)) names.now files walk config
+        requires branches { (files : List (List ℕ)) → HasBranches (seen_lines names.now files tokens.now) lines.now }
+        ensures owns { IfOk result (OwnsList (C.sets conds.new)) }
+        ensures printable { IfOk result (λ p. (file : FileId) → All (IsOfFile names.now file) tokens.now → ArePrintable names.now file p) }
+        ensures walked { IfOk result (λ p. (files : List (List ℕ)) (main config : List ℕ) → IsConfig (C.sets conds.old).arities config
+            → IsOutcomeOf (C.sets conds.new) names.now files p config
             (run (start (initial_state (seen_space space.now) main config)) (seen_lines names.now files tokens.now))) }
         ensures keeps { Keeps (C.sets conds.old) (C.sets conds.new) }
     {
         let mut walk = Walk::new(alloc, conds)?;
-        for line in lines {
+        let mut number = 0;
+        while number < lines.len() {
+            let line = &lines[number];
             walk.take_line(conds, space, names, line, &tokens[line.first..line.end])?;
+            if conds.is_never(walk.prepared.live) {
+                return Ok(walk.prepared);
+            }
+            number = next_line(number, line, conds.is_never(walk.acting));
         }
-        Ok(walk)
+        Ok(walk.prepared)
     }
 
     /// The walk before the first line.
@@ -194,5 +204,17 @@ impl Walk {
             self.prepared.list.push(self.acting, *token)?;
         }
         Ok(())
+    }
+}
+
+/// The number of the line to go on with. Where the line begins a branch whose group is passed over,
+/// it is the line that ends the group.
+fn next_line(number: usize, line: &Line, is_passed: bool) -> usize
+    requires { number + 1 < 2 ^ 64 }
+    ensures { result ≡ line_behind number line.now.branch is_passed }
+{
+    match line.branch {
+        Some(branch) if is_passed => branch.next,
+        _ => number + 1,
     }
 }

@@ -5,7 +5,7 @@ use Rattle.std.specs.Prelude.{All}
 use Rattle.sc_prep.specs.Printable.{IsOfFile, ArePrintable}
 use Rattle.sc_prep.proofs.Printing.{tokens-of_file, faults-few}
 use Rattle.sc_model.proofs.SetLemmas.{IsConfig-kept}
-use Rattle.sc_prep.proofs.FileWalk.{enters-main, refused-ordinary, walk-ordinary}
+use Rattle.sc_prep.proofs.FileWalk.{enters-main, refused-ordinary, outcome-ordinary}
 use Rattle.sc_prep.proofs.Machine.{lines-hashes}
 use Rattle.sc_prep.proofs.main_file.preprocess_bytes.Goals as goal
 use Rattle.sc_lex.proofs.SeenLemmas.{tokens-seen, place-seen}
@@ -63,18 +63,20 @@ returns-in-Err-Nesting-clause-ordinary g c =
     c.refused-in-Err-Nesting.ensures.refused
 
 pub returns-clause-ordinary : goal.returns-clause-ordinary
-returns-clause-ordinary g c = λ files outside main config named there listed.
+returns-clause-ordinary g c =
+    IfOk-weaker c.of_lines.result _ _ (λ p walked. λ files outside main config named there listed.
     let names = c.tokens.new.names in
     let are = c.in-Ok.ensures.ok in
     let group = c.in-Ok-groups.ensures.ok.nested files in
     let lines_are : seen_lines names files c.deref.result.now ≡ lines_of c11_directive_names (map (in_file main) are.lexemes) =
     ap (λ (ts : List Token). seen_lines names files ts) c.deref.ensures.value
     ∙ ap (lines_of c11_directive_names) (tokens-seen names files c.args.file main c.args.bytes.now c.in-Ok.tokens.items are named) in
-    walk-ordinary (seen_space c.args.space.now) outside main c.args.bytes.now there (g.C.Conditions.sets c.of_lines.new.conds) names files config are.lexemes group.0
+    outcome-ordinary (seen_space c.args.space.now) outside main c.args.bytes.now there (g.C.Conditions.sets c.of_lines.new.conds) names files config are.lexemes group.0
     (λ big. omega (arith, big)) are.lexed (nested group.0 (subst (λ ls. IsTree ls group.0) lines_are group.1))
-    c.in_ok-walk.walk (seen_lines names files c.deref-2.result.now) (lines-hashes c11_directive_names _)
+    p (seen_lines names files c.deref-2.result.now) (lines-hashes c11_directive_names _)
     (subst (λ (ts : List Token). IsTree (seen_lines names files ts) group.0) (c.deref.ensures.value ∙ sym c.deref-2.ensures.value) group.1)
-    (c.in_ok-walk.ensures.walked files main config listed)
+    (walked files main config listed))
+    c.of_lines.ensures.walked
 
 pub returns-in-Err-Comment-clause-printable : goal.returns-in-Err-Comment-clause-printable
 returns-in-Err-Comment-clause-printable g c =
@@ -98,13 +100,17 @@ returns-then-bytes-gt-LARGEST_FILE-clause-printable g c =
 pub returns-clause-printable : goal.returns-clause-printable
 returns-clause-printable g c =
     let names = c.tokens.new.names in
-    c.in_ok-walk.ensures.printable c.args.file
+    IfOk-weaker c.of_lines.result _ _ (λ p printable.
+    printable c.args.file
     (subst (All (IsOfFile names c.args.file)) (sym c.deref-2.ensures.value)
-    (tokens-of_file names c.args.file c.args.bytes.now c.in-Ok.tokens.items c.in-Ok.ensures.ok c.in-Ok.ensures.own))
+    (tokens-of_file names c.args.file c.args.bytes.now c.in-Ok.tokens.items c.in-Ok.ensures.ok c.in-Ok.ensures.own)))
+    c.of_lines.ensures.printable
 
 pub returns-clause-apart : goal.returns-clause-apart
-returns-clause-apart g c = record {
-  few = λ config listed.
-      let simulates = c.in_ok-walk.ensures.walked [] [] config (IsConfig-kept c.of_lines.ensures.keeps listed) in
-      faults-few (g.C.Conditions.sets c.of_lines.new.conds) [] c.in_ok-walk.walk.prepared.faults.items config _ simulates.fault;
-}
+returns-clause-apart g c =
+    IfOk-weaker c.of_lines.result _ _ (λ p walked. record {
+      few = λ config listed.
+          let outcome = walked [] [] config (IsConfig-kept c.of_lines.ensures.keeps listed) in
+          faults-few (g.C.Conditions.sets c.of_lines.new.conds) [] p.faults.items config _ outcome.fault;
+    })
+    c.of_lines.ensures.walked

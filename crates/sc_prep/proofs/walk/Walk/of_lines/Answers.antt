@@ -1,21 +1,23 @@
-use Rattle.std.proofs.Common.{◌≡◌, ◌∙◌, sym, ap, subst, length, map, take, arith, None}
-use Rattle.std.proofs.Math.Seq.{take-length}
+use Rattle.std.proofs.Common.{◌∙◌, ◌+◌, sym, ap, subst, take, arith, None, []}
 use Rattle.sc_lines.specs.declared.line.Line.{Line}
-use Rattle.sc_lines.specs.Split.{tokens_of}
-use Rattle.sc_lines.proofs.SeenLines.{lines-seen, directive-own}
+use Rattle.sc_lines.proofs.SeenLines.{directive-own}
 use Rattle.sc_model.proofs.SetLemmas.{Keeps-refl, Keeps-trans, IsConfig-Keeps}
 use Rattle.c11_macros.specs.Macros.{initial_macros}
 use Rattle.sc_space.specs.Seen.{seen_space}
 use Rattle.sc_prep.specs.Machine.{run, start}
-use Rattle.sc_prep.specs.Simulates.{Simulates}
-use Rattle.sc_lines.specs.Nests.{seen_line}
+use Rattle.sc_prep.specs.Simulates.{IsOutcomeOf, Simulates}
+use Rattle.sc_lines.specs.Nests.{seen_lines}
 use Rattle.c11_directives.specs.Pre.{initial_state}
 use Rattle.sc_prep.proofs.Printing.{line-printable, none-printable}
-use Rattle.sc_prep.proofs.LineSteps.{run-more}
+use Rattle.sc_prep.proofs.LineSteps.{line-simulated, line_behind-passed, line_behind-after, lines-all, outcome-kept}
 use Rattle.sc_prep.proofs.walk.Walk.of_lines.Goals as goal
 
-pub loop-line-init : goal.loop-line-init
-loop-line-init g c = record {
+-- what stands past the last line
+abbrev no_line : Line
+no_line = record { first = 0; end = 0; directive = None; branch = None }
+
+pub loop-number-init : goal.loop-number-init
+loop-number-init g c = record {
   owns = c.in_ok-walk.ensures.owns;
   keeps = Keeps-refl (g.C.Conditions.sets c.args.conds.now);
   printable = λ file all. none-printable c.args.names.now file _ c.in_ok-walk.ensures.empty.0 c.in_ok-walk.ensures.empty.1;
@@ -24,34 +26,61 @@ loop-line-init g c = record {
 
 pub take_line-requires-clause-directive : goal.take_line-requires-clause-directive
 take_line-requires-clause-directive g c =
-    directive-own c.args.names.now c.args.tokens.now c.args.lines.now c.requires.lines c.loop-line.line-index (record { first = 0; end = 0; directive = None; branch = None }) c.loop-line-test.true
+    directive-own c.args.names.now c.args.tokens.now c.args.lines.now c.requires.lines c.loop-number.number no_line c.loop-number-test.true
 
-pub returns-in_err-take_line-clause-keeps : goal.returns-in_err-take_line-clause-keeps
-returns-in_err-take_line-clause-keeps g c = Keeps-trans c.loop-line.invariant.keeps c.take_line.ensures.keeps
+pub returns-then-is_never-clause-keeps : goal.returns-then-is_never-clause-keeps
+returns-then-is_never-clause-keeps g c = Keeps-trans c.loop-number.invariant.keeps c.in_ok-take_line.ensures.keeps
 
-pub loop-line-preserved : goal.loop-line-preserved
-loop-line-preserved g c = record {
+pub returns-then-is_never-clause-printable : goal.returns-then-is_never-clause-printable
+returns-then-is_never-clause-printable g c = λ file all.
+    c.in_ok-take_line.ensures.printable file
+    (line-printable c.args.names.now file c.args.tokens.now c.args.lines.now c.requires.lines all c.loop-number.number no_line c.loop-number-test.true)
+    (c.loop-number.invariant.printable file all)
+
+pub returns-then-is_never-clause-walked : goal.returns-then-is_never-clause-walked
+returns-then-is_never-clause-walked g c = λ files main config listed.
+    let first = start (initial_state (seen_space c.args.space.now) main config) in
+    let now = IsConfig-Keeps c.loop-number.invariant.keeps listed in
+    let simulates =
+    line-simulated c.args.names.now files c.args.tokens.now c.args.lines.now c.requires.lines first c.loop-number.number no_line c.loop-number-test.true
+    c.in_ok-take_line.ensures.steps config now (c.loop-number.invariant.at files main config listed) in
+    outcome-kept (g.C.Conditions.sets c.take_line.new.conds) c.args.names.now files c.take_line.new.self.prepared config first (seen_lines c.args.names.now files c.args.tokens.now) (c.loop-number.number + 1)
+    ((c.is_never.ensures.0 c.if-is_never.true).none config (IsConfig-Keeps c.in_ok-take_line.ensures.keeps now)) simulates.prepared
+
+pub loop-number-smaller : goal.loop-number-smaller
+loop-number-smaller g c =
+    let further =
+    line_behind-after (seen_lines c.args.names.now [] c.args.tokens.now) c.loop-number.number c.args.lines.now (c.requires.branches []) no_line c.loop-number-test.true
+    c.is_never-in-loop-number.result in
+    let next = c.next_line-number.ensures in
+    omega (arith, further, next)
+
+pub loop-number-preserved : goal.loop-number-preserved
+loop-number-preserved g c = record {
   owns = c.in_ok-take_line.ensures.steps.owns;
-  keeps = Keeps-trans c.loop-line.invariant.keeps c.in_ok-take_line.ensures.keeps;
+  keeps = Keeps-trans c.loop-number.invariant.keeps c.in_ok-take_line.ensures.keeps;
   printable = λ file all.
       c.in_ok-take_line.ensures.printable file
-      (line-printable c.args.names.now file c.args.tokens.now c.args.lines.now c.requires.lines all c.loop-line.line-index (record { first = 0; end = 0; directive = None; branch = None }) c.loop-line-test.true)
-      (c.loop-line.invariant.printable file all);
+      (line-printable c.args.names.now file c.args.tokens.now c.args.lines.now c.requires.lines all c.loop-number.number no_line c.loop-number-test.true)
+      (c.loop-number.invariant.printable file all);
   at = λ files main config listed.
-      let f = λ (line : Line). seen_line c.args.names.now files (tokens_of c.args.tokens.now line) in
       let first = start (initial_state (seen_space c.args.space.now) main config) in
-      subst (Simulates (g.C.Conditions.sets c.take_line.new.conds) (initial_macros (seen_space c.args.space.now)) c.args.names.now files c.take_line.new.self config)
-      (sym (run-more first f c.args.lines.now c.loop-line.line-index (record { first = 0; end = 0; directive = None; branch = None }) c.loop-line-test.true))
-      (c.in_ok-take_line.ensures.steps.at files config (run first (map f (take c.loop-line.line-index c.args.lines.now)))
-      (IsConfig-Keeps c.loop-line.invariant.keeps listed) (c.loop-line.invariant.at files main config listed));
+      let lines = seen_lines c.args.names.now files c.args.tokens.now in
+      let now = IsConfig-Keeps c.loop-number.invariant.keeps listed in
+      let is = Simulates (g.C.Conditions.sets c.take_line.new.conds) (initial_macros (seen_space c.args.space.now)) c.args.names.now files c.take_line.new.self config in
+      let simulates =
+      line-simulated c.args.names.now files c.args.tokens.now c.args.lines.now c.requires.lines first c.loop-number.number no_line c.loop-number-test.true
+      c.in_ok-take_line.ensures.steps config now (c.loop-number.invariant.at files main config listed) in
+      subst is
+      (sym (ap (λ k. run first (take k lines)) c.next_line-number.ensures
+      ∙ line_behind-passed lines c.loop-number.number c.args.lines.now (c.requires.branches files) no_line c.loop-number-test.true first c.is_never-in-loop-number.result
+      (λ passed. sym simulates.acting ∙ (c.is_never-in-loop-number.ensures.0 passed).none config (IsConfig-Keeps c.in_ok-take_line.ensures.keeps now))))
+      simulates;
 }
 
 pub returns-clause-walked : goal.returns-clause-walked
 returns-clause-walked g c = λ files main config listed.
-    let f = λ (line : Line). seen_line c.args.names.now files (tokens_of c.args.tokens.now line) in
     let first = start (initial_state (seen_space c.args.space.now) main config) in
-    let whole : c.loop-line.line-index ≡ length c.args.lines.now = omega arith in
-    subst (Simulates (g.C.Conditions.sets c.loop-line.conds) (initial_macros (seen_space c.args.space.now)) c.args.names.now files c.loop-line.walk config)
-    (ap (λ ls. run first (map f ls)) (ap (λ n. take n c.args.lines.now) whole ∙ take-length c.args.lines.now)
-    ∙ ap (run first) (sym (lines-seen c.args.names.now c.args.tokens.now c.args.lines.now c.requires.lines files)))
-    (c.loop-line.invariant.at files main config listed)
+    subst (IsOutcomeOf (g.C.Conditions.sets c.loop-number.conds) c.args.names.now files c.loop-number.walk.prepared config)
+    (ap (run first) (lines-all c.args.names.now files c.args.tokens.now c.args.lines.now c.requires.lines c.loop-number.number c.loop-number-test.false))
+    (c.loop-number.invariant.at files main config listed).prepared

@@ -1,24 +1,26 @@
-use Rattle.std.proofs.Common.{ℕ, List, map, take}
-use Rattle.sc_lines.specs.Split.{tokens_of}
+use Rattle.std.proofs.Common.{ℕ, ◌-◌, List, length, take}
 use Rattle.sc_model.specs.Sets.{IsConfig, Keeps}
 use Rattle.c11_macros.specs.Macros.{initial_macros}
 use Rattle.sc_space.specs.Seen.{seen_space}
 use Rattle.sc_prep.specs.Machine.{run, start}
 use Rattle.sc_prep.specs.Simulates.{Owns, Simulates}
-use Rattle.sc_lines.specs.Nests.{seen_line}
+use Rattle.sc_lines.specs.Nests.{seen_lines}
 use Rattle.c11_directives.specs.Pre.{initial_state}
 use Rattle.std.specs.Prelude.{All}
 use Rattle.sc_base.specs.declared.id.FileId.{FileId}
 use Rattle.sc_prep.specs.Printable.{IsOfFile, ArePrintable}
 use Rattle.sc_prep.proofs.walk.Walk.of_lines.Given as goal
 
--- at each configuration the walk is where the machine is after the lines so far
-abbrev pub invariant-loop-line : goal.invariant-loop-line
-invariant-loop-line g l = record {
+-- at each configuration the walk is where the machine is after the lines before this one
+abbrev pub invariant-loop-number : goal.invariant-loop-number
+invariant-loop-number g l = record {
   owns : Owns (g.C.Conditions.sets l.conds) l.walk;
   keeps : Keeps (g.C.Conditions.sets l.fn.conds) (g.C.Conditions.sets l.conds);
   printable : (file : FileId) → All (IsOfFile l.names file) l.tokens → ArePrintable l.names file l.walk.prepared;
   at : (files : List (List ℕ)) (main config : List ℕ) → IsConfig (g.C.Conditions.sets l.fn.conds).arities config
       → Simulates (g.C.Conditions.sets l.conds) (initial_macros (seen_space l.space)) l.names files l.walk config
-      (run (start (initial_state (seen_space l.space) main config)) (map (λ line. seen_line l.names files (tokens_of l.tokens line)) (take l.line-index l.lines)));
+      (run (start (initial_state (seen_space l.space) main config)) (take l.number (seen_lines l.names files l.tokens)));
 }
+
+abbrev pub decreases-loop-number : goal.decreases-loop-number
+decreases-loop-number g l = length l.lines - l.number
