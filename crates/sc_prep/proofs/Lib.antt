@@ -1,5 +1,6 @@
 pub mod FileWalk
 pub mod LineSteps
 pub mod Machine
+pub mod Passing
 pub mod Printing
 pub mod WalkMoves

@@ -1,25 +1,23 @@
 -- How the machine of one configuration takes a line.
-use Rattle.std.proofs.Common.{◌≡◌, ℕ, ◌+◌, ◌-◌, take, drop, ◌<◌, ◌≤◌, Bool, true, false, List, [], ◌∷◌, ◌++◌, length, Option, Some, None, get_or, refl, sym, ap, ◌∙◌, subst, arith}
-use Rattle.std.proofs.Math.Seq.{take-add}
+use Rattle.std.proofs.Common.{◌≡◌, ℕ, ◌+◌, take, drop, ◌<◌, ◌≤◌, false, List, [], ◌∷◌, ◌++◌, length, Option, Some, None, get_or, sym, ap, ◌∙◌, subst, arith}
 use Rattle.std.proofs.lemmas.List.{length-map, take_more, take_all, take-append-drop}
-use Rattle.std.proofs.lemmas.Option.{slice_get-get_or}
 use Rattle.std.specs.Option.{option_to_list}
-use Rattle.std.specs.Prelude.{is_none, slice_range}
+use Rattle.std.specs.Prelude.{is_none}
 use Rattle.sc_prep.specs.declared.prepared.Prepared.{Prepared}
-use Rattle.sc_prep.specs.Machine.{Machine, acts, plain_by, step_by, step, run}
-use Rattle.sc_prep.specs.Simulates.{IsOutcomeOf, Simulates, SimulatesStep, line_behind}
+use Rattle.sc_prep.specs.Machine.{Machine, plain_by, step_by, step, run}
+use Rattle.sc_prep.specs.Simulates.{IsOutcomeOf, Simulates, SimulatesStep}
 use Rattle.sc_prep.specs.declared.walk.Walk.{Walk}
 use Rattle.c11_macros.specs.Macros.{Macros}
-use Rattle.sc_lines.specs.declared.line.Branch.{Branch}
 use Rattle.sc_lines.specs.declared.line.Line as declared
-use Rattle.sc_lines.specs.Branches.{IsNextBranch, HasBranch, HasBranches}
+use Rattle.sc_lines.specs.Branches.{HasBranches}
 use Rattle.sc_lines.specs.Judges.{no_line}
+use Rattle.sc_prep.specs.Passes.{StandFor}
 use Rattle.sc_lines.specs.Nests.{seen_line, seen_lines}
 use Rattle.sc_model.specs.Sets.{Sets, IsConfig}
 use Rattle.sc_base.specs.declared.token.Token.{Token}
-use Rattle.sc_prep.proofs.Machine.{run-append, inert, run_same}
+use Rattle.sc_prep.proofs.Machine.{run-append, run_same}
 use Rattle.sc_lines.specs.Split.{AreLines, directive_at, tokens_of}
-use Rattle.sc_lines.proofs.SeenLines.{directive-files, line-seen, lines-seen}
+use Rattle.sc_lines.proofs.SeenLines.{conditionals-seen, directive-files, line-seen, lines-seen}
 use Rattle.c11_directives.specs.declared.directive.Conditional.{Conditional}
 use Rattle.c11_directives.specs.declared.directive.Directive.{Directive}
 use Rattle.c11_directives.specs.Lines.{Line, conditional_in}
@@ -68,43 +66,10 @@ module _ (names files : List (List ℕ)) (tokens : List Token) (lines : List dec
   line-simulated {macros} {new = new} {next = next} moved config listed simulates =
       subst (Simulates new macros names files next config) (sym line-taken) (moved.at files config (run m (take i (seen_lines names files tokens))) listed simulates)
 
--- ---- a group that is passed over
-
--- the machine stays as it is where it doesn't act
-group-passed : (m : Machine) (ms : List Line) (i j : ℕ) → IsNextBranch ms i j → acts (run m (take (i + 1) ms)) ≡ false → run m (take j ms) ≡ run m (take (i + 1) ms)
-group-passed m ms i j next inactive =
-    let after = next.after in
-    let size : j ≡ (i + 1) + (j - (i + 1)) = omega (arith, after) in
-    let group = next.between.1 in
-    let before = run m (take (i + 1) ms) in
-    ap (λ k. run m (take k ms)) size
-    ∙ (ap (run m) (take-add (i + 1) (j - (i + 1)) ms)
-    ∙ (run-append m (take (i + 1) ms) (slice_range ms (i + 1) j)
-    ∙ (ap (run before) (sym group.whole) ∙ inert next.between.0 group.grouped before inactive)))
-
-module _ (ms : List Line) (i : ℕ) where
-  behind-passed : (branch : Option Branch) → HasBranch ms i branch → (m : Machine) (is_passed : Bool) → (is_passed ≡ true → acts (run m (take (i + 1) ms)) ≡ false)
-      → run m (take (line_behind i branch is_passed) ms) ≡ run m (take (i + 1) ms)
-  behind-passed None has m is_passed inactive = refl
-  behind-passed (Some branch) has m false inactive = refl
-  behind-passed (Some branch) has m true inactive = group-passed m ms i branch.next has.next (inactive refl)
-
-  behind-after : (branch : Option Branch) → HasBranch ms i branch → (is_passed : Bool) → i < line_behind i branch is_passed
-  behind-after None has is_passed = omega arith
-  behind-after (Some branch) has false = omega arith
-  behind-after (Some branch) has true = has.next.after
-
-  module _ (lines : List declared.Line) (have : HasBranches ms lines) (d : declared.Line) (h : i < length lines) where
-    has-branch : HasBranch ms i (get_or lines i d).branch
-    has-branch = have.each i (get_or lines i d) (slice_get-get_or lines i d h)
-
-    -- no line is lost where the machine doesn't act
-    pub line_behind-passed : (m : Machine) (is_passed : Bool) → (is_passed ≡ true → acts (run m (take (i + 1) ms)) ≡ false)
-        → run m (take (line_behind i (get_or lines i d).branch is_passed) ms) ≡ run m (take (i + 1) ms)
-    line_behind-passed = behind-passed (get_or lines i d).branch has-branch
-
-    pub line_behind-after : (is_passed : Bool) → i < line_behind i (get_or lines i d).branch is_passed
-    line_behind-after = behind-after (get_or lines i d).branch has-branch
+-- the lines of a file stand for its lines seen
+pub lines-stand : (names : List (List ℕ)) (tokens : List Token) (lines : List declared.Line) → AreLines names tokens lines
+    → ((files : List (List ℕ)) → HasBranches (seen_lines names files tokens) lines) → (files : List (List ℕ)) → StandFor (seen_lines names files tokens) lines
+lines-stand names tokens lines are have files = record { conditionals = conditionals-seen names tokens lines are files; branches = have files }
 
 -- the lines of a file are as many as its lines seen
 pub lines-all : (names files : List (List ℕ)) (tokens : List Token) (lines : List declared.Line) → AreLines names tokens lines → (i : ℕ) → length lines ≤ i

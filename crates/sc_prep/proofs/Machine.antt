@@ -30,7 +30,7 @@ after ss s fault = record { active = true; sections = ss; state = s; fault = fau
 abbrev pub taking : List (Bool × Bool) → State → Machine
 taking ss s = after ss s None
 
-step_is : (m : Machine) (l : Line) {c : Option Conditional} → conditional_of l ≡ c → step m l ≡ step_by m l c
+pub step_is : (m : Machine) (l : Line) {c : Option Conditional} → conditional_of l ≡ c → step m l ≡ step_by m l c
 step_is m l e = ap (step_by m l) e
 
 -- ---- the # of a directive
@@ -66,13 +66,13 @@ conditional-some l named none = let same = ap conditional_in none in cc
 
 -- ---- lines that are not taken, or that follow a fault, do nothing
 
-inert_refusing : (m : Machine) (l : Line) → acts m ≡ false → refusing m l ≡ m
+pub inert_refusing : (m : Machine) (l : Line) → acts m ≡ false → refusing m l ≡ m
 inert_refusing m l e = ap (λ b. record m { fault = if b then Some (refusal m.state l) else m.fault }) e
 
 pub inert_acting : (m : Machine) (next : State → State) → acts m ≡ false → acting m next ≡ m
 inert_acting m next e = ap (λ b. record m { state = if b then next m.state else m.state }) e
 
-inert_plain : (m : Machine) (l : Line) → acts m ≡ false → plain_step m l ≡ m
+pub inert_plain : (m : Machine) (l : Line) → acts m ≡ false → plain_step m l ≡ m
 inert_plain m l e = by l.directive
   where
     chosen : (a b : Bool) → (if a then refusing m l else (if b then acting m closing_run else m)) ≡ m
@@ -85,9 +85,9 @@ inert_plain m l e = by l.directive
     by (Some d) = chosen (is_refused d) (is_ignored d)
 
 -- a section's first line that does nothing only opens the section
-record OpensInert (m : Machine) (l : Line) : Type 0 where
-  test : Bool
-  opens : step m l ≡ opened m test
+pub record OpensInert (m : Machine) (l : Line) : Type 0 where
+  pub test : Bool
+  pub opens : step m l ≡ opened m test
 
 inert_by_name : (m : Machine) (l : Line) (test : List ℕ → Bool) (operand : Option (List ℕ)) → acts m ≡ false → (b : Bool) × (opened_by_name m l test operand ≡ opened m b)
 inert_by_name m l test None e = (false, ap (λ n. opened n false) (inert_refusing m l e))
@@ -101,12 +101,12 @@ inert_opens_by m l Elif o e = cc
 inert_opens_by m l Else o e = cc
 inert_opens_by m l Endif o e = cc
 
-inert_opens : (m : Machine) (l : Line) → Opens l → acts m ≡ false → OpensInert m l
+pub inert_opens : (m : Machine) (l : Line) → Opens l → acts m ≡ false → OpensInert m l
 inert_opens m l o e =
     let found = inert_opens_by m l o.conditional o.opening e in
     record { test = found.0; opens = step_is m l o.named ∙ found.1 }
 
-and_false : (a t n : Bool) → (a && n) ≡ false → ((a && t) && n) ≡ false
+pub and_false : (a t n : Bool) → (a && n) ≡ false → ((a && t) && n) ≡ false
 and_false true true n e = e
 and_false true false n e = refl
 and_false false t n e = refl

@@ -22,7 +22,7 @@ use Rattle.sc_base.specs.declared.token.Token.{Token}
 use Rattle.sc_base.specs.Seen.{seen}
 use Rattle.sc_model.proofs.SetLemmas.{IsConfig-Keeps}
 use Rattle.sc_model.specs.Sets.{Sets, IsConfig, IsCond, IsNever, Denotes, Keeps}
-use Rattle.sc_prep.proofs.Machine.{inert_acting}
+use Rattle.sc_prep.proofs.Machine.{inert_acting, inert_refusing}
 
 map-reverse : {A B : Type 0} (f : A → B) (xs : List A) → map f (reverse xs) ≡ reverse (map f xs)
 map-reverse f [] = refl
@@ -238,6 +238,15 @@ refuses macros names {old} {new} keeps w owns token tokens fault live never faul
             macros_are = same.macros_are;
           };
     }
+
+-- where no configuration takes the line, none is refused
+pub refuses-none : (macros : List ℕ → Macros) (names : List (List ℕ)) (s : Sets) (w : Walk) → Owns s w → IsNever s w.acting.0 → (line : List Token)
+    → SimulatesStep macros names s w s w (λ files config m. refusing m (seen_line names files line))
+refuses-none macros names s w owns never line = record {
+  owns = owns;
+  at = λ files config m listed simulates.
+      subst (Simulates s macros names files w config) (sym (inert_refusing m (seen_line names files line) (sym simulates.acting ∙ never.none config listed))) simulates;
+}
 
 -- ---- tokens are put out
 

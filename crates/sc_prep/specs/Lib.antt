@@ -1,4 +1,5 @@
 pub mod Machine
+pub mod Passes
 pub mod Preprocesses
 pub mod Printable
 pub mod Simulates

@@ -1,5 +1,5 @@
 -- The walk of all configurations at once is a simulation of the machine of each.
-use Rattle.std.specs.Prelude.{◌≡◌, ℕ, ◌+◌, ◌++◌, Bool, true, List, Option, Some, map, reverse, All, is_none}
+use Rattle.std.specs.Prelude.{◌≡◌, ℕ, ◌++◌, Bool, List, map, reverse, All, is_none}
 use Rattle.std.specs.Option.{option_to_list}
 use Rattle.sc_prep.specs.declared.prepared.Prepared.{Prepared}
 use Rattle.sc_prep.specs.declared.walk.Section.{Section}
@@ -8,7 +8,6 @@ use Rattle.sc_prep.specs.Machine.{Machine, acts}
 use Rattle.sc_prep.specs.Preprocesses.{OwnsList}
 use Rattle.sc_guarded.specs.Items.{items_at, faults_at, seen_fault}
 use Rattle.sc_base.specs.Seen.{seen}
-use Rattle.sc_lines.specs.declared.line.Branch.{Branch}
 use Rattle.c11_macros.specs.Macros.{Macros}
 use Rattle.sc_model.specs.Sets.{Sets, IsConfig, IsCond}
 
@@ -48,8 +47,3 @@ pub record SimulatesStep (macros : List ℕ → Macros) (names : List (List ℕ)
   pub owns : Owns new next
   pub at : (files : List (List ℕ)) (config : List ℕ) (m : Machine) → IsConfig old.arities config
       → Simulates old macros names files walk config m → Simulates new macros names files next config (does files config m)
-
--- The line that follows this one, or the one that ends its branch, where that is passed over.
-abbrev pub line_behind : ℕ → Option Branch → (is_passed : Bool) → ℕ
-line_behind number (Some branch) true = branch.next
-line_behind number _ _ = number + 1

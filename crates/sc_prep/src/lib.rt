@@ -3,6 +3,7 @@
 
 mod directives;
 mod main_file;
+mod next_line;
 mod prepared;
 mod walk;
 

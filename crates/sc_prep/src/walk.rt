@@ -1,10 +1,10 @@
-ghost use Rattle.std.specs.Prelude.{◌≡◌, ℕ, ◌+◌, ◌<◌, ◌^◌, Bool, List, length, OnOk, [], All, None, true, IfOk};
+ghost use Rattle.std.specs.Prelude.{◌≡◌, ℕ, ◌<◌, Bool, List, length, OnOk, [], All, None, true, IfOk};
 ghost use Rattle.sc_base.specs.declared.token.Token as base;
 ghost use Rattle.sc_model.specs.Sets.{IsCond, IsNever, Denotes, Keeps, IsConfig};
 ghost use Rattle.c11_directives.specs.Pre.{with_text, initial_state};
 ghost use Rattle.c11_macros.specs.Macros.{Macros, initial_macros};
 ghost use Rattle.sc_prep.specs.Machine.{acting, opened, next_branch, ended, refusing, run, start};
-ghost use Rattle.sc_prep.specs.Simulates.{IsOutcomeOf, Owns, SimulatesStep, Simulates, line_behind};
+ghost use Rattle.sc_prep.specs.Simulates.{IsOutcomeOf, Owns, SimulatesStep, Simulates};
 ghost use Rattle.sc_prep.specs.Preprocesses.{OwnsList};
 ghost use Rattle.sc_lines.specs.Nests.{seen_line, seen_lines};
 ghost use Rattle.sc_prep.specs.Printable.{StaysPrintable, IsOfFile, ArePrintable};
@@ -15,6 +15,7 @@ ghost use Rattle.sc_lines.specs.Split.{AreLines};
 ghost use Rattle.sc_model.specs.Space.{Space as Model, arities_of};
 ghost use Rattle.sc_space.specs.Seen.{seen_space};
 
+use crate::next_line::next_line;
 use crate::prepared::Prepared;
 use sc_base::{Cause, Cond, Fault, Names, OutOfMemory, Token};
 use sc_guarded::Guarded;
@@ -76,7 +77,7 @@ impl Walk {
             if conds.is_never(walk.prepared.live) {
                 return Ok(walk.prepared);
             }
-            number = next_line(number, line, conds.is_never(walk.acting));
+            number = next_line(lines, number, conds.is_never(walk.acting));
         }
         Ok(walk.prepared)
     }
@@ -165,7 +166,7 @@ impl Walk {
         Ok(())
     }
 
-    /// The configurations that take the line are refused at its first token.
+    /// The configurations that take the line are refused at its first token, where there are some.
     #[tactic(auto, using(sc_model::proofs::SetLemmas::conditions))]
     pub fn refuse<C: Conditions>(
         &mut self,
@@ -178,6 +179,9 @@ impl Walk {
         ensures moved { OnOk result ((macros : List ℕ → Macros) (names : List (List ℕ)) → SimulatesStep macros names (C.sets conds.old) self.old (C.sets conds.new) self.new (λ files config m. refusing m (seen_line names files line.now))) }
         ensures keeps { Keeps (C.sets conds.old) (C.sets conds.new) }
     {
+        if conds.is_never(self.acting) {
+            return Ok(());
+        }
         self.prepared.faults.push(Fault {
             cond: self.acting,
             cause: Cause::BadDirective,
@@ -204,17 +208,5 @@ impl Walk {
             self.prepared.list.push(self.acting, *token)?;
         }
         Ok(())
-    }
-}
-
-/// The number of the line to go on with. Where the line begins a branch whose group is passed over,
-/// it is the line that ends the group.
-fn next_line(number: usize, line: &Line, is_passed: bool) -> usize
-    requires { number + 1 < 2 ^ 64 }
-    ensures { result ≡ line_behind number line.now.branch is_passed }
-{
-    match line.branch {
-        Some(branch) if is_passed => branch.next,
-        _ => number + 1,
     }
 }

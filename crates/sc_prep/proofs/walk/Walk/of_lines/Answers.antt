@@ -1,4 +1,4 @@
-use Rattle.std.proofs.Common.{◌∙◌, ◌+◌, sym, ap, subst, take, arith, None, []}
+use Rattle.std.proofs.Common.{◌∙◌, ◌+◌, sym, ap, subst, arith, None, []}
 use Rattle.sc_lines.specs.declared.line.Line.{Line}
 use Rattle.sc_lines.proofs.SeenLines.{directive-own}
 use Rattle.sc_model.proofs.SetLemmas.{Keeps-refl, Keeps-trans, IsConfig-Keeps}
@@ -9,7 +9,8 @@ use Rattle.sc_prep.specs.Simulates.{IsOutcomeOf, Simulates}
 use Rattle.sc_lines.specs.Nests.{seen_lines}
 use Rattle.c11_directives.specs.Pre.{initial_state}
 use Rattle.sc_prep.proofs.Printing.{line-printable, none-printable}
-use Rattle.sc_prep.proofs.LineSteps.{line-simulated, line_behind-passed, line_behind-after, lines-all, outcome-kept}
+use Rattle.sc_prep.proofs.LineSteps.{line-simulated, lines-stand, lines-all, outcome-kept}
+use Rattle.sc_prep.proofs.Passing.{next-passed, next-after}
 use Rattle.sc_prep.proofs.walk.Walk.of_lines.Goals as goal
 
 -- what stands past the last line
@@ -47,13 +48,16 @@ returns-then-is_never-clause-walked g c = λ files main config listed.
     outcome-kept (g.C.Conditions.sets c.take_line.new.conds) c.args.names.now files c.take_line.new.self.prepared config first (seen_lines c.args.names.now files c.args.tokens.now) (c.loop-number.number + 1)
     ((c.is_never.ensures.0 c.if-is_never.true).none config (IsConfig-Keeps c.in_ok-take_line.ensures.keeps now)) simulates.prepared
 
+pub next_line-number-requires-clause-branches : goal.next_line-number-requires-clause-branches
+next_line-number-requires-clause-branches g c = (seen_lines c.args.names.now [] c.args.tokens.now, lines-stand c.args.names.now c.args.tokens.now c.args.lines.now c.requires.lines c.requires.branches [])
+
 pub loop-number-smaller : goal.loop-number-smaller
 loop-number-smaller g c =
-    let further =
-    line_behind-after (seen_lines c.args.names.now [] c.args.tokens.now) c.loop-number.number c.args.lines.now (c.requires.branches []) no_line c.loop-number-test.true
-    c.is_never-in-loop-number.result in
-    let next = c.next_line-number.ensures in
-    omega (arith, further, next)
+    let after =
+    next-after (seen_lines c.args.names.now [] c.args.tokens.now) c.loop-number.number c.next_line-number.result c.is_never-in-loop-number.result
+    (c.next_line-number.ensures (seen_lines c.args.names.now [] c.args.tokens.now) (lines-stand c.args.names.now c.args.tokens.now c.args.lines.now c.requires.lines c.requires.branches [])) in
+    let test = c.loop-number-test.true in
+    omega (arith, after, test)
 
 pub loop-number-preserved : goal.loop-number-preserved
 loop-number-preserved g c = record {
@@ -72,8 +76,8 @@ loop-number-preserved g c = record {
       line-simulated c.args.names.now files c.args.tokens.now c.args.lines.now c.requires.lines first c.loop-number.number no_line c.loop-number-test.true
       c.in_ok-take_line.ensures.steps config now (c.loop-number.invariant.at files main config listed) in
       subst is
-      (sym (ap (λ k. run first (take k lines)) c.next_line-number.ensures
-      ∙ line_behind-passed lines c.loop-number.number c.args.lines.now (c.requires.branches files) no_line c.loop-number-test.true first c.is_never-in-loop-number.result
+      (sym (next-passed lines first c.loop-number.number c.next_line-number.result c.is_never-in-loop-number.result
+      (c.next_line-number.ensures lines (lines-stand c.args.names.now c.args.tokens.now c.args.lines.now c.requires.lines c.requires.branches files))
       (λ passed. sym simulates.acting ∙ (c.is_never-in-loop-number.ensures.0 passed).none config (IsConfig-Keeps c.in_ok-take_line.ensures.keeps now))))
       simulates;
 }

@@ -6,7 +6,7 @@ use Rattle.sc_model.proofs.SetLemmas.{Keeps-trans, Denotes-self, Denotes-Keeps}
 use Rattle.sc_prep.specs.Machine.{refusing}
 use Rattle.sc_prep.specs.Simulates.{SimulatesStep}
 use Rattle.sc_lines.specs.Nests.{seen_line}
-use Rattle.sc_prep.proofs.WalkMoves.{refuses}
+use Rattle.sc_prep.proofs.WalkMoves.{refuses, refuses-none}
 use Rattle.sc_prep.proofs.walk.Walk.refuse.Goals as goal
 
 pub returns-clause-keeps : goal.returns-clause-keeps
@@ -26,3 +26,7 @@ returns-clause-moved g c = λ macros names.
     (sym (drop-cons c.args.line.now 0 d c.requires.line))
     (refuses macros names (Keeps-trans k1 c.in_ok-live.ensures.keeps) w c.requires.owns (get_or c.args.line.now 0 d) (drop 1 c.args.line.now) _ c.in_ok-live.live c.never-self.result c.push.new.self
     refl c.in_ok-push.ensures.items live_after c.never-self.ensures.meaning)
+
+pub returns-then-is_never-clause-moved : goal.returns-then-is_never-clause-moved
+returns-then-is_never-clause-moved g c = λ macros names.
+    refuses-none macros names (g.C.Conditions.sets c.args.conds.now) c.args.self.now c.requires.owns (c.is_never.ensures.0 c.if-is_never.true) c.args.line.now

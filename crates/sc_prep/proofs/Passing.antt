@@ -1,0 +1,186 @@
+-- Lines that are passed over where a machine doesn't act leave it as it is.
+use Rattle.std.proofs.Common.{◌≡◌, ℕ, ◌+◌, ◌-◌, take, ◌<◌, ◌≤◌, ◌&&◌, not, Bool, true, false, List, [], ◌∷◌, length, Option, Some, None, get_or, refl, sym, ap, ◌∙◌, inl, inr, arith}
+use Rattle.std.proofs.Math.Seq.{take-add}
+use Rattle.std.proofs.lemmas.Bool.{cases_lt}
+use Rattle.std.proofs.lemmas.List.{take_more, get_or_past}
+use Rattle.std.proofs.lemmas.Option.{slice_get-get_or}
+use Rattle.std.specs.Option.{option_map}
+use Rattle.std.specs.Prelude.{is_none, slice_range, unwrap_or, MatchBool}
+use Rattle.c11_directives.specs.declared.directive.Conditional.{Conditional}
+use Rattle.c11_directives.specs.declared.directive.Conditional.TheVariants.{If, Ifdef, Ifndef, Elif, Else, Endif}
+use Rattle.c11_directives.specs.Lines.{Line, conditional_in, conditional_of, Opens, Group, IsTree}
+use Rattle.sc_lines.specs.declared.line.Branch.{Branch}
+use Rattle.sc_lines.specs.declared.line.Line as declared
+use Rattle.sc_lines.specs.Branches.{begins_branch, ends_branch, IsNextBranch, ClosesAt, last_branch, more_branches, IsBranchOf, HasBranch}
+use Rattle.sc_lines.specs.Judges.{no_line, line_at}
+use Rattle.sc_lines.proofs.Judging.{same_at, same_length}
+use Rattle.sc_prep.specs.Machine.{Machine, acts, turned, opened, next_branch, ended, refusing, step, run}
+use Rattle.sc_prep.specs.Passes.{StandFor, EndsAt, PassesOver, nothing, whole_group, plain_line, whole_section}
+use Rattle.sc_prep.proofs.Machine.{run-append, step_is, inert, inert_refusing, inert_plain, inert_opens, and_false}
+
+-- ---- the machine
+
+-- the next branch, which the machine doesn't act in
+branch-inert : (m : Machine) (l : Line) (c : Option Conditional) (a u : Bool) (ss : List (Bool × Bool)) → conditional_of l ≡ c → begins_branch c ≡ true → ends_branch c ≡ true
+    → m.sections ≡ (a, u) ∷ ss → (u && is_none m.fault) ≡ false → step m l ≡ turned m u ((a, false) ∷ ss)
+branch-inert m l None a u ss e begins ends s inactive = cc
+branch-inert m l (Some If) a u ss e begins ends s inactive = cc
+branch-inert m l (Some Ifdef) a u ss e begins ends s inactive = cc
+branch-inert m l (Some Ifndef) a u ss e begins ends s inactive = cc
+branch-inert m l (Some Elif) a u ss e begins ends s inactive =
+    step_is m l e ∙ (ap (λ n. refusing n l) (ap (next_branch m) s) ∙ inert_refusing (turned m u ((a, false) ∷ ss)) l inactive)
+branch-inert m l (Some Else) a u ss e begins ends s inactive = step_is m l e ∙ ap (next_branch m) s
+branch-inert m l (Some Endif) a u ss e begins ends s inactive = cc
+
+module _ (ms : List Line) where
+  endif-within : (e : ℕ) → conditional_of (line_at ms e) ≡ Some Endif → e < length ms
+  endif-within e endif =
+      elim (cases_lt e (length ms)) [
+        | inl h ↦ h
+        | inr past ↦ (let nothing_there = ap conditional_of (get_or_past ms e no_line past) in cc)
+      ]
+
+  pub closes-begins : {i e : ℕ} → ClosesAt ms i e → begins_branch (conditional_of (line_at ms i)) ≡ true
+  closes-begins (last_branch next endif) = next.begins
+  closes-begins (more_branches next closes) = next.begins
+
+  begins-within : (i : ℕ) → begins_branch (conditional_of (line_at ms i)) ≡ true → i < length ms
+  begins-within i begins =
+      elim (cases_lt i (length ms)) [
+        | inl h ↦ h
+        | inr past ↦ (let nothing_there = ap (λ l. begins_branch (conditional_of l)) (get_or_past ms i no_line past) in cc)
+      ]
+
+  pub closes-within : {i e : ℕ} → ClosesAt ms i e → e < length ms
+  closes-within {i} {e} (last_branch next endif) = endif-within e endif
+  closes-within (more_branches next closes) = closes-within closes
+
+  pub closes-after : {i e : ℕ} → ClosesAt ms i e → i < e
+  closes-after (last_branch next endif) = next.after
+  closes-after (more_branches next closes) = let later = closes-after closes in let after = next.after in omega (arith, later, after)
+
+  module _ (m : Machine) where
+    -- the machine before the line of a number
+    abbrev before : ℕ → Machine
+    before i = run m (take i ms)
+
+    one-more : (i : ℕ) → i < length ms → before (i + 1) ≡ step (before i) (line_at ms i)
+    one-more i within = ap (run m) (take_more ms i no_line within) ∙ run-append m (take i ms) (line_at ms i ∷ [])
+
+    group-passed : (group : Group) (i j : ℕ) → i ≤ j → IsTree (slice_range ms i j) group → acts (before i) ≡ false → before j ≡ before i
+    group-passed group i j up tree inactive =
+        let size : j ≡ i + (j - i) = omega (arith, up) in
+        ap before size
+        ∙ (ap (run m) (take-add i (j - i) ms)
+        ∙ (run-append m (take i ms) (slice_range ms i j)
+        ∙ (ap (run (before i)) (sym tree.whole) ∙ inert group tree.grouped (before i) inactive)))
+
+    branch-passed : (i j : ℕ) → IsNextBranch ms i j → acts (before (i + 1)) ≡ false → before j ≡ before (i + 1)
+    branch-passed i j next inactive =
+        let after = next.after in
+        group-passed next.between.0 (i + 1) j (omega (arith, after)) next.between.1 inactive
+
+    -- the branches of a section
+    branches-passed : {i e : ℕ} → ClosesAt ms i e → (n : Machine) (a u : Bool) (ss : List (Bool × Bool)) → before (i + 1) ≡ n → n.sections ≡ (a, u) ∷ ss
+        → acts n ≡ false → (u && is_none n.fault) ≡ false → before (e + 1) ≡ turned n a ss
+    branches-passed {i} {e} (last_branch next endif) n a u ss at s inactive later =
+        one-more e (endif-within e endif)
+        ∙ (ap (λ k. step k (line_at ms e)) (branch-passed i e next (ap acts at ∙ inactive) ∙ at)
+        ∙ (step_is n (line_at ms e) endif ∙ ap (ended n) s))
+    branches-passed {i} {e} (more_branches {j = j} next closes) n a u ss at s inactive later =
+        let begins = closes-begins closes in
+        let turn = turned n u ((a, false) ∷ ss) in
+        branches-passed closes turn a false ss
+        (one-more j (begins-within j begins)
+        ∙ (ap (λ k. step k (line_at ms j)) (branch-passed i j next (ap acts at ∙ inactive) ∙ at)
+        ∙ branch-inert n (line_at ms j) _ a u ss refl begins next.ends s later))
+        refl later refl
+
+    section-passed : (i e : ℕ) → i < length ms → Opens (line_at ms i) → ClosesAt ms i e → acts (before i) ≡ false → before (e + 1) ≡ before i
+    section-passed i e within opens closes inactive =
+        let n = before i in
+        let o = inert_opens n (line_at ms i) opens inactive in
+        branches-passed closes (opened n o.test) n.active (n.active && not o.test) n.sections (one-more i within ∙ o.opens) refl
+        (and_false n.active o.test (is_none n.fault) inactive) (and_false n.active (not o.test) (is_none n.fault) inactive)
+
+    pub over-passed : (i : ℕ) {j : ℕ} → PassesOver ms i j → acts (before i) ≡ false → before j ≡ before i
+    over-passed i nothing inactive = refl
+    over-passed i {j} (whole_group group up tree) inactive = group-passed group i j up tree inactive
+    over-passed i (plain_line {j} over within none) inactive =
+        let same = over-passed i over inactive in
+        one-more j within ∙ (ap (λ n. step n (line_at ms j)) same ∙ (step_is (before i) (line_at ms j) none ∙ inert_plain (before i) (line_at ms j) inactive))
+    over-passed i (whole_section {j} {e} over within opens closes) inactive =
+        let same = over-passed i over inactive in
+        section-passed j e within opens closes (ap acts same ∙ inactive) ∙ same
+
+    -- the machine before the next line that it takes
+    pub next-passed : (i next : ℕ) (is_passed : Bool) → MatchBool is_passed (EndsAt ms (i + 1) next) (next ≡ i + 1) → (is_passed ≡ true → acts (before (i + 1)) ≡ false)
+        → before next ≡ before (i + 1)
+    next-passed i next true goes inactive = over-passed (i + 1) goes.over (inactive refl)
+    next-passed i next false goes inactive = ap before goes
+
+  -- ---- the numbers of lines
+
+  pub over-up : (i : ℕ) {j : ℕ} → PassesOver ms i j → i ≤ j
+  over-up i nothing = omega arith
+  over-up i (whole_group group up tree) = up
+  over-up i (plain_line over within none) = let up = over-up i over in omega (arith, up)
+  over-up i (whole_section over within opens closes) =
+      let up = over-up i over in
+      let after = closes-after closes in
+      omega (arith, up, after)
+
+  pub next-after : (i next : ℕ) (is_passed : Bool) → MatchBool is_passed (EndsAt ms (i + 1) next) (next ≡ i + 1) → i < next
+  next-after i next true goes = let up = over-up (i + 1) goes.over in omega (arith, up)
+  next-after i next false goes = omega (arith, goes)
+
+  -- the rest of a branch, from its first line on
+  pub branch-over : (i : ℕ) (branch : Branch) → IsBranchOf ms i branch → EndsAt ms (i + 1) branch.next
+  branch-over i branch of =
+      let after = of.next.after in
+      record { over = whole_group of.next.between.0 (omega (arith, after)) of.next.between.1; ends = λ _. of.next.ends }
+
+  -- one line more, or the section that it opens
+  over-more : (i j : ℕ) (c : Option Conditional) (branch : Option Branch) → conditional_of (line_at ms j) ≡ c → ends_branch c ≡ false → HasBranch ms j branch → j < length ms
+      → PassesOver ms i j → PassesOver ms i (unwrap_or (option_map (λ b. b.close) branch) j + 1)
+  over-more i j None None e ends has within over = plain_line over within e
+  over-more i j (Some If) None e ends has within over = let begins = ap begins_branch e in cc
+  over-more i j (Some Ifdef) None e ends has within over = let begins = ap begins_branch e in cc
+  over-more i j (Some Ifndef) None e ends has within over = let begins = ap begins_branch e in cc
+  over-more i j (Some Elif) branch e ends has within over = cc
+  over-more i j (Some Else) branch e ends has within over = cc
+  over-more i j (Some Endif) branch e ends has within over = cc
+  over-more i j None (Some branch) e ends has within over = let here = has.next.begins in let begins = ap begins_branch e in cc
+  over-more i j (Some If) (Some branch) e ends has within over = whole_section over within (record { conditional = If; named = e; opening = refl }) has.close
+  over-more i j (Some Ifdef) (Some branch) e ends has within over = whole_section over within (record { conditional = Ifdef; named = e; opening = refl }) has.close
+  over-more i j (Some Ifndef) (Some branch) e ends has within over = whole_section over within (record { conditional = Ifndef; named = e; opening = refl }) has.close
+
+  module _ (found : List declared.Line) (stand : StandFor ms found) where
+    pub found-long : length ms ≡ length found
+    found-long = same_length conditional_of (λ l. conditional_in l.directive) ms found stand.conditionals
+
+    module _ (i : ℕ) (d : declared.Line) (h : i < length found) where
+      pub found-conditional : conditional_of (line_at ms i) ≡ conditional_in (get_or found i d).directive
+      found-conditional = same_at conditional_of (λ l. conditional_in l.directive) ms found i no_line d stand.conditionals h
+
+      pub found-branch : HasBranch ms i (get_or found i d).branch
+      found-branch = stand.branches.each i (get_or found i d) (slice_get-get_or found i d h)
+
+      pub found-more : (first : ℕ) → ends_branch (conditional_in (get_or found i d).directive) ≡ false → PassesOver ms first i
+          → PassesOver ms first (unwrap_or (option_map (λ b. b.close) (get_or found i d).branch) i + 1)
+      found-more first ends over = over-more first i _ (get_or found i d).branch found-conditional ends found-branch (omega (arith, h, found-long)) over
+
+    -- the last line of a section is a line
+    last-within : (i : ℕ) (branch : Option Branch) → HasBranch ms i branch → i < length found → unwrap_or (option_map (λ b. b.close) branch) i < length found
+    last-within i None has h = h
+    last-within i (Some branch) has h = let within = closes-within has.close in omega (arith, within, found-long)
+
+    last-after : (i : ℕ) (branch : Option Branch) → HasBranch ms i branch → i ≤ unwrap_or (option_map (λ b. b.close) branch) i
+    last-after i None has = omega arith
+    last-after i (Some branch) has = let after = closes-after has.close in omega (arith, after)
+
+    pub found-within : (i : ℕ) (d : declared.Line) → i < length found → unwrap_or (option_map (λ b. b.close) (get_or found i d).branch) i < length found
+    found-within i d h = last-within i (get_or found i d).branch (found-branch i d h) h
+
+    pub found-after : (i : ℕ) (d : declared.Line) → i < length found → i ≤ unwrap_or (option_map (λ b. b.close) (get_or found i d).branch) i
+    found-after i d h = last-after i (get_or found i d).branch (found-branch i d h)
