@@ -1,6 +1,6 @@
 -- How the machine of one configuration takes a line.
-use Rattle.std.proofs.Common.{◌≡◌, ℕ, ◌+◌, take, drop, ◌<◌, ◌≤◌, false, List, [], ◌∷◌, ◌++◌, length, Option, Some, None, get_or, sym, ap, ◌∙◌, subst, arith}
-use Rattle.std.proofs.lemmas.List.{length-map, take_more, take_all, take-append-drop}
+use Rattle.std.proofs.Common.{◌≡◌, ℕ, ◌+◌, take, drop, ◌<◌, ◌≤◌, false, List, [], ◌∷◌, ◌++◌, length, Option, None, get_or, sym, ap, ◌∙◌, subst, arith}
+use Rattle.std.proofs.lemmas.List.{length-map, take_all, take-append-drop}
 use Rattle.std.specs.Option.{option_to_list}
 use Rattle.std.specs.Prelude.{is_none}
 use Rattle.sc_prep.specs.declared.prepared.Prepared.{Prepared}
@@ -10,12 +10,12 @@ use Rattle.sc_prep.specs.declared.walk.Walk.{Walk}
 use Rattle.c11_macros.specs.Macros.{Macros}
 use Rattle.sc_lines.specs.declared.line.Line as declared
 use Rattle.sc_lines.specs.Branches.{HasBranches}
-use Rattle.sc_lines.specs.Judges.{no_line}
 use Rattle.sc_prep.specs.Passes.{StandFor}
 use Rattle.sc_lines.specs.Nests.{seen_line, seen_lines}
 use Rattle.sc_model.specs.Sets.{Sets, IsConfig}
 use Rattle.sc_base.specs.declared.token.Token.{Token}
 use Rattle.sc_prep.proofs.Machine.{run-append, run_same}
+use Rattle.sc_prep.proofs.Passing.{one-more}
 use Rattle.sc_lines.specs.Split.{AreLines, directive_at, tokens_of}
 use Rattle.sc_lines.proofs.SeenLines.{conditionals-seen, directive-files, line-seen, lines-seen}
 use Rattle.c11_directives.specs.declared.directive.Conditional.{Conditional}
@@ -26,10 +26,6 @@ use Rattle.c11_directives.specs.Lines.{Line, conditional_in}
 pub directive-long : (names : List (List ℕ)) (line : List Token) (d : Option Directive) → d ≡ directive_at names line → (d ≡ None → ⊥) → 0 < length line
 directive-long names [] d e some = absurd (some e)
 directive-long names (t ∷ ts) d e some = omega arith
-
-pub conditional-long : (names : List (List ℕ)) (line : List Token) (c : Conditional) → Some c ≡ conditional_in (directive_at names line) → 0 < length line
-conditional-long names [] c e = cc
-conditional-long names (t ∷ ts) c e = omega arith
 
 -- a line of this conditional directive, or of none
 pub step-is : (names files : List (List ℕ)) (line : List Token) (m : Machine) (c : Option Conditional) → c ≡ conditional_in (directive_at names line)
@@ -55,9 +51,7 @@ module _ (names files : List (List ℕ)) (tokens : List Token) (lines : List dec
   line-taken =
       let ms = seen_lines names files tokens in
       let within : i < length ms = omega (arith, h, lines-long names tokens lines are files) in
-      ap (run m) (take_more ms i no_line within)
-      ∙ (run-append m (take i ms) (get_or ms i no_line ∷ [])
-      ∙ ap (step (run m (take i ms))) (line-seen names files tokens lines are i d h))
+      one-more ms m i within ∙ ap (step (run m (take i ms))) (line-seen names files tokens lines are i d h)
 
   pub line-simulated : {macros : List ℕ → Macros} {old new : Sets} {walk next : Walk}
       → SimulatesStep macros names old walk new next (λ files config m. step m (seen_line names files (tokens_of tokens (get_or lines i d))))
@@ -85,7 +79,7 @@ outcome-kept s names files p config m ms i refused outcome =
     let whole : run m ms ≡ run here (drop i ms) = ap (run m) (sym (take-append-drop i ms)) ∙ run-append m (take i ms) (drop i ms) in
     let same = run_same (drop i ms) here (sym outcome.live ∙ refused) in
     subst (IsOutcomeOf s names files p config) (sym whole) (record {
-      live = outcome.live ∙ ap is_none (sym same.fault);
-      output = outcome.output ∙ ap (λ t. t.output ++ t.run) (sym same.state);
-      fault = outcome.fault ∙ ap option_to_list (sym same.fault);
+      live = outcome.live ∙ ap (λ o. is_none o.1) (sym same);
+      output = outcome.output ∙ ap (λ o. o.0.output ++ o.0.run) (sym same);
+      fault = outcome.fault ∙ ap (λ o. option_to_list o.1) (sym same);
     })

@@ -1,6 +1,6 @@
 -- The walk of one configuration over the lines of a file as they come, and that it is the walk of
 -- their groups.
-use Rattle.std.proofs.Common.{◌≡◌, inl, inr, ℕ, ◌&&◌, not, Bool, true, false, List, [], ◌∷◌, ◌++◌, map, Option, Some, None, Result, Ok, Err, refl, sym, ap, ◌∙◌, subst}
+use Rattle.std.proofs.Common.{◌≡◌, inl, inr, ℕ, ◌&&◌, not, Bool, true, false, List, [], ◌∷◌, ◌++◌, map, Option, Some, None, Result, Ok, Err, refl, sym, ap, ◌∙◌}
 use Rattle.std.specs.Option.{option_map}
 use Rattle.std.specs.Prelude.{is_none, unwrap_or, if◌then◌else◌}
 use Rattle.sc_model.specs.declared.cause.Cause.TheVariants.{BadDirective}
@@ -111,6 +111,10 @@ and_false true true n e = e
 and_false true false n e = refl
 and_false false t n e = refl
 
+and_false_right : (a n : Bool) → n ≡ false → (a && n) ≡ false
+and_false_right true n e = e
+and_false_right false n e = refl
+
 mutual
   pub inert : (g : Group) → IsGroup g → (m : Machine) → acts m ≡ false → run m (group_lines g) ≡ m
   inert empty w m e = refl
@@ -144,46 +148,38 @@ mutual
 
 -- ---- after a fault no line changes the state or the fault
 
-pub record HaveSameOutcome (m n : Machine) : Type 0 where
-  pub state : n.state ≡ m.state
-  pub fault : n.fault ≡ m.fault
+abbrev pub outcome : Machine → State × Option Fault
+outcome m = (m.state, m.fault)
 
-and_false_right : (a n : Bool) → n ≡ false → (a && n) ≡ false
-and_false_right true n e = e
-and_false_right false n e = refl
+refusing_same : (m : Machine) (l : Line) → is_none m.fault ≡ false → outcome (refusing m l) ≡ outcome m
+refusing_same m l e = ap outcome (inert_refusing m l (and_false_right m.active (is_none m.fault) e))
 
-refusing_same : (m n : Machine) (l : Line) → is_none n.fault ≡ false → HaveSameOutcome m n → HaveSameOutcome m (refusing n l)
-refusing_same m n l e same = subst (HaveSameOutcome m) (sym (inert_refusing n l (and_false_right n.active (is_none n.fault) e))) same
+opened_by_name_same : (m : Machine) (l : Line) (test : List ℕ → Bool) (operand : Option (List ℕ)) → is_none m.fault ≡ false → outcome (opened_by_name m l test operand) ≡ outcome m
+opened_by_name_same m l test None e = refusing_same m l e
+opened_by_name_same m l test (Some name) e = refl
 
-opened_by_name_same : (m : Machine) (l : Line) (test : List ℕ → Bool) (operand : Option (List ℕ)) → is_none m.fault ≡ false → HaveSameOutcome m (opened_by_name m l test operand)
-opened_by_name_same m l test None e = let r = refusing_same m m l e (record { state = refl; fault = refl }) in record { state = r.state; fault = r.fault }
-opened_by_name_same m l test (Some name) e = record { state = refl; fault = refl }
+next_branch_same : (m : Machine) (ss : List (Bool × Bool)) → outcome (next_branch m ss) ≡ outcome m
+next_branch_same m [] = refl
+next_branch_same m (s ∷ ss) = refl
 
-next_branch_same : (m : Machine) (ss : List (Bool × Bool)) → HaveSameOutcome m (next_branch m ss)
-next_branch_same m [] = record { state = refl; fault = refl }
-next_branch_same m (s ∷ ss) = record { state = refl; fault = refl }
+ended_same : (m : Machine) (ss : List (Bool × Bool)) → outcome (ended m ss) ≡ outcome m
+ended_same m [] = refl
+ended_same m (s ∷ ss) = refl
 
-ended_same : (m : Machine) (ss : List (Bool × Bool)) → HaveSameOutcome m (ended m ss)
-ended_same m [] = record { state = refl; fault = refl }
-ended_same m (s ∷ ss) = record { state = refl; fault = refl }
-
-step_same : (m : Machine) (l : Line) (c : Option Conditional) → is_none m.fault ≡ false → HaveSameOutcome m (step_by m l c)
-step_same m l None e = subst (HaveSameOutcome m) (sym (inert_plain m l (and_false_right m.active (is_none m.fault) e))) (record { state = refl; fault = refl })
-step_same m l (Some If) e = opened_by_name_same m l (λ _. false) None e
+step_same : (m : Machine) (l : Line) (c : Option Conditional) → is_none m.fault ≡ false → outcome (step_by m l c) ≡ outcome m
+step_same m l None e = ap outcome (inert_plain m l (and_false_right m.active (is_none m.fault) e))
+step_same m l (Some If) e = refusing_same m l e
 step_same m l (Some Ifdef) e = opened_by_name_same m l (is_taken m.state.macros true) (operand_of l) e
 step_same m l (Some Ifndef) e = opened_by_name_same m l (is_taken m.state.macros false) (operand_of l) e
 step_same m l (Some Elif) e =
     let turn = next_branch_same m m.sections in
-    refusing_same m (next_branch m m.sections) l (ap is_none turn.fault ∙ e) turn
+    refusing_same (next_branch m m.sections) l (ap (λ o. is_none o.1) turn ∙ e) ∙ turn
 step_same m l (Some Else) e = next_branch_same m m.sections
 step_same m l (Some Endif) e = ended_same m m.sections
 
-pub run_same : (ls : List Line) (m : Machine) → is_none m.fault ≡ false → HaveSameOutcome m (run m ls)
-run_same [] m e = record { state = refl; fault = refl }
-run_same (l ∷ ls) m e =
-    let first = step_same m l (conditional_of l) e in
-    let rest = run_same ls (step m l) (ap is_none first.fault ∙ e) in
-    record { state = rest.state ∙ first.state; fault = rest.fault ∙ first.fault }
+pub run_same : (ls : List Line) (m : Machine) → is_none m.fault ≡ false → outcome (run m ls) ≡ outcome m
+run_same [] m e = refl
+run_same (l ∷ ls) m e = let first = step_same m l (conditional_of l) e in run_same ls (step m l) (ap (λ o. is_none o.1) first ∙ e) ∙ first
 
 -- ---- the machine goes as the walk does
 

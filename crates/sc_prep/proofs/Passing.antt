@@ -33,29 +33,22 @@ branch-inert m l (Some Else) a u ss e begins ends s inactive = step_is m l e ∙
 branch-inert m l (Some Endif) a u ss e begins ends s inactive = cc
 
 module _ (ms : List Line) where
-  endif-within : (e : ℕ) → conditional_of (line_at ms e) ≡ Some Endif → e < length ms
-  endif-within e endif =
-      elim (cases_lt e (length ms)) [
+  ends-within : (i : ℕ) → ends_branch (conditional_of (line_at ms i)) ≡ true → i < length ms
+  ends-within i ends =
+      elim (cases_lt i (length ms)) [
         | inl h ↦ h
-        | inr past ↦ (let nothing_there = ap conditional_of (get_or_past ms e no_line past) in cc)
+        | inr past ↦ (let nothing_there = ap (λ l. ends_branch (conditional_of l)) (get_or_past ms i no_line past) in cc)
       ]
 
-  pub closes-begins : {i e : ℕ} → ClosesAt ms i e → begins_branch (conditional_of (line_at ms i)) ≡ true
+  closes-begins : {i e : ℕ} → ClosesAt ms i e → begins_branch (conditional_of (line_at ms i)) ≡ true
   closes-begins (last_branch next endif) = next.begins
   closes-begins (more_branches next closes) = next.begins
 
-  begins-within : (i : ℕ) → begins_branch (conditional_of (line_at ms i)) ≡ true → i < length ms
-  begins-within i begins =
-      elim (cases_lt i (length ms)) [
-        | inl h ↦ h
-        | inr past ↦ (let nothing_there = ap (λ l. begins_branch (conditional_of l)) (get_or_past ms i no_line past) in cc)
-      ]
-
-  pub closes-within : {i e : ℕ} → ClosesAt ms i e → e < length ms
-  closes-within {i} {e} (last_branch next endif) = endif-within e endif
+  closes-within : {i e : ℕ} → ClosesAt ms i e → e < length ms
+  closes-within {i} {e} (last_branch next endif) = ends-within e next.ends
   closes-within (more_branches next closes) = closes-within closes
 
-  pub closes-after : {i e : ℕ} → ClosesAt ms i e → i < e
+  closes-after : {i e : ℕ} → ClosesAt ms i e → i < e
   closes-after (last_branch next endif) = next.after
   closes-after (more_branches next closes) = let later = closes-after closes in let after = next.after in omega (arith, later, after)
 
@@ -64,7 +57,7 @@ module _ (ms : List Line) where
     abbrev before : ℕ → Machine
     before i = run m (take i ms)
 
-    one-more : (i : ℕ) → i < length ms → before (i + 1) ≡ step (before i) (line_at ms i)
+    pub one-more : (i : ℕ) → i < length ms → before (i + 1) ≡ step (before i) (line_at ms i)
     one-more i within = ap (run m) (take_more ms i no_line within) ∙ run-append m (take i ms) (line_at ms i ∷ [])
 
     group-passed : (group : Group) (i j : ℕ) → i ≤ j → IsTree (slice_range ms i j) group → acts (before i) ≡ false → before j ≡ before i
@@ -84,14 +77,14 @@ module _ (ms : List Line) where
     branches-passed : {i e : ℕ} → ClosesAt ms i e → (n : Machine) (a u : Bool) (ss : List (Bool × Bool)) → before (i + 1) ≡ n → n.sections ≡ (a, u) ∷ ss
         → acts n ≡ false → (u && is_none n.fault) ≡ false → before (e + 1) ≡ turned n a ss
     branches-passed {i} {e} (last_branch next endif) n a u ss at s inactive later =
-        one-more e (endif-within e endif)
+        one-more e (ends-within e next.ends)
         ∙ (ap (λ k. step k (line_at ms e)) (branch-passed i e next (ap acts at ∙ inactive) ∙ at)
         ∙ (step_is n (line_at ms e) endif ∙ ap (ended n) s))
     branches-passed {i} {e} (more_branches {j = j} next closes) n a u ss at s inactive later =
         let begins = closes-begins closes in
         let turn = turned n u ((a, false) ∷ ss) in
         branches-passed closes turn a false ss
-        (one-more j (begins-within j begins)
+        (one-more j (ends-within j next.ends)
         ∙ (ap (λ k. step k (line_at ms j)) (branch-passed i j next (ap acts at ∙ inactive) ∙ at)
         ∙ branch-inert n (line_at ms j) _ a u ss refl begins next.ends s later))
         refl later refl
@@ -156,7 +149,7 @@ module _ (ms : List Line) where
   over-more i j (Some Ifndef) (Some branch) e ends has within over = whole_section over within (record { conditional = Ifndef; named = e; opening = refl }) has.close
 
   module _ (found : List declared.Line) (stand : StandFor ms found) where
-    pub found-long : length ms ≡ length found
+    found-long : length ms ≡ length found
     found-long = same_length conditional_of (λ l. conditional_in l.directive) ms found stand.conditionals
 
     module _ (i : ℕ) (d : declared.Line) (h : i < length found) where
@@ -170,17 +163,15 @@ module _ (ms : List Line) where
           → PassesOver ms first (unwrap_or (option_map (λ b. b.close) (get_or found i d).branch) i + 1)
       found-more first ends over = over-more first i _ (get_or found i d).branch found-conditional ends found-branch (omega (arith, h, found-long)) over
 
-    -- the last line of a section is a line
-    last-within : (i : ℕ) (branch : Option Branch) → HasBranch ms i branch → i < length found → unwrap_or (option_map (λ b. b.close) branch) i < length found
-    last-within i None has h = h
-    last-within i (Some branch) has h = let within = closes-within has.close in omega (arith, within, found-long)
+    -- the last line of a section is a line, and none before its first
+    last-within : (i : ℕ) (branch : Option Branch) → HasBranch ms i branch → i < length found
+        → (i ≤ unwrap_or (option_map (λ b. b.close) branch) i) × (unwrap_or (option_map (λ b. b.close) branch) i < length found)
+    last-within i None has h = (omega arith, h)
+    last-within i (Some branch) has h =
+        let after = closes-after has.close in
+        let within = closes-within has.close in
+        (omega (arith, after), omega (arith, within, found-long))
 
-    last-after : (i : ℕ) (branch : Option Branch) → HasBranch ms i branch → i ≤ unwrap_or (option_map (λ b. b.close) branch) i
-    last-after i None has = omega arith
-    last-after i (Some branch) has = let after = closes-after has.close in omega (arith, after)
-
-    pub found-within : (i : ℕ) (d : declared.Line) → i < length found → unwrap_or (option_map (λ b. b.close) (get_or found i d).branch) i < length found
+    pub found-within : (i : ℕ) (d : declared.Line) → i < length found
+        → (i ≤ unwrap_or (option_map (λ b. b.close) (get_or found i d).branch) i) × (unwrap_or (option_map (λ b. b.close) (get_or found i d).branch) i < length found)
     found-within i d h = last-within i (get_or found i d).branch (found-branch i d h) h
-
-    pub found-after : (i : ℕ) (d : declared.Line) → i < length found → i ≤ unwrap_or (option_map (λ b. b.close) (get_or found i d).branch) i
-    found-after i d h = last-after i (get_or found i d).branch (found-branch i d h)

@@ -2,7 +2,7 @@ use Rattle.std.proofs.Common.{◌∙◌, ◌+◌, sym, ap, subst, None, arith}
 use Rattle.sc_lines.specs.Branches.{ends_branch}
 use Rattle.sc_lines.specs.declared.line.Line.{Line}
 use Rattle.sc_prep.specs.Passes.{PassesOver, nothing}
-use Rattle.sc_prep.proofs.Passing.{found-conditional, found-more, found-within, found-after}
+use Rattle.sc_prep.proofs.Passing.{found-conditional, found-more, found-within}
 use Rattle.sc_prep.proofs.next_line.branch_end.Goals as goal
 
 -- what stands past the last line
@@ -14,13 +14,13 @@ loop-number-init c = record { over = λ ms stand. nothing; within = c.requires.w
 
 pub overflow_add-number : goal.overflow_add-number
 overflow_add-number c =
-    let within = found-within c.requires.branches.0 c.args.lines.now c.requires.branches.1 c.loop-number.number no_line c.loop-number-test.true in
+    let within = (found-within c.requires.branches.0 c.args.lines.now c.requires.branches.1 c.loop-number.number no_line c.loop-number-test.true).1 in
     let last = c.last_line-number.ensures in
     omega (arith, within, last)
 
 pub loop-number-smaller : goal.loop-number-smaller
 loop-number-smaller c =
-    let after = found-after c.requires.branches.0 c.args.lines.now c.requires.branches.1 c.loop-number.number no_line c.loop-number-test.true in
+    let after = (found-within c.requires.branches.0 c.args.lines.now c.requires.branches.1 c.loop-number.number no_line c.loop-number-test.true).0 in
     let last = c.last_line-number.ensures in
     let test = c.loop-number-test.true in
     omega (arith, after, last, test)
@@ -31,7 +31,7 @@ loop-number-preserved c = record {
       subst (λ n. PassesOver ms c.args.first (n + 1)) (sym c.last_line-number.ensures)
       (found-more ms c.args.lines.now stand c.loop-number.number no_line c.loop-number-test.true c.args.first (sym c.ends_branch.ensures ∙ c.if-ends_branch.false) (c.loop-number.invariant.over ms stand));
   within =
-      let within = found-within c.requires.branches.0 c.args.lines.now c.requires.branches.1 c.loop-number.number no_line c.loop-number-test.true in
+      let within = (found-within c.requires.branches.0 c.args.lines.now c.requires.branches.1 c.loop-number.number no_line c.loop-number-test.true).1 in
       let last = c.last_line-number.ensures in
       omega (arith, within, last);
 }
