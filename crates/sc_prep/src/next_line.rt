@@ -7,8 +7,8 @@ ghost use Rattle.sc_prep.specs.Passes.{StandFor, EndsAt};
 use c11_directives::Conditional;
 use sc_lines::Line;
 
-/// The number of the line to go on with. It is the line that ends the branch, where the lines
-/// behind this one are passed over up to there.
+/// The number of the line to go on with after this one. Where the rest of the branch is passed
+/// over, it is the line that ends the branch.
 pub fn next_line(lines: &[Line], number: usize, is_passed: bool) -> usize
     requires within { number < length lines.now }
     requires branches { (ms : List model.Line) × StandFor ms lines.now }
