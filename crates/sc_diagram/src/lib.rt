@@ -1,0 +1,12 @@
+//! Decision diagrams: sets of configurations of variables as ordered, reduced diagrams with shared
+//! nodes, after Bryant (1986), with any number of options a variable.
+#![tactic(auto)]
+
+mod apply;
+mod decided;
+mod known;
+mod operation;
+mod store;
+mod table;
+
+pub use store::{Node, Store};

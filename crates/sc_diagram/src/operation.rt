@@ -1,0 +1,17 @@
+/// What is made of two nodes. An operation on one node leaves the right one aside.
+#[derive(Clone, Copy, Debug, PartialEq, Eq, Hash)]
+pub enum Operation {
+    And,
+    Or,
+    Negate,
+    /// What remains where the variable has the option.
+    Part(usize, usize),
+}
+
+/// An operation and its nodes.
+#[derive(Clone, Copy, Debug, PartialEq, Eq, Hash)]
+pub struct Application {
+    pub operation: Operation,
+    pub left: usize,
+    pub right: usize,
+}
