@@ -53,7 +53,7 @@ module _ {d : Diagram} (valid : IsDiagram d) where
   variable_end n low = ap (λ b. b.variable) (branch_end n low)
 
   -- where a variable comes first, the node is a decision
-  pub decision : (n : ℕ) → n < length d.nodes → variable_of d n < length d.arities → IsDecision d n
+  pub decision : (n : ℕ) → n < length d.nodes → variable_of d n < length d.arities → IsDecision d n (branch_of d n)
   decision n own within = elim (cases_lt n 2) [
     | inl low ↦ absurd (omega (arith, variable_end n low))
     | inr inner ↦ valid.decisions n inner own
@@ -63,6 +63,18 @@ module _ {d : Diagram} (valid : IsDiagram d) where
   variable-le n own = elim (cases_lt n 2) [
     | inl low ↦ omega (arith, variable_end n low)
     | inr inner ↦ omega (arith, (valid.decisions n inner own).within)
+  ]
+
+  -- the children are nodes
+  pub own_part : (n k : ℕ) → n < length d.nodes → k < length (branch_of d n).children → child_of d n k < length d.nodes
+  own_part n k own in_range = elim (cases_lt n 2) [
+    | inl low ↦ (
+      let one : length (branch_of d n).children ≡ 1 = ap (λ b. length b.children) (branch_end n low) in
+      let first : k ≡ 0 = omega (arith, in_range, one) in
+      let itself : child_of d n k ≡ n = ap (λ b. slice_index b.children k) (branch_end n low) ∙ ap (slice_index (n ∷ [])) first in
+      omega (arith, itself)
+    )
+    | inr inner ↦ omega (arith, (valid.decisions n inner own).lower k in_range)
   ]
 
   module _ (c : List ℕ) (listed : IsConfig d.arities c) where
@@ -78,7 +90,7 @@ module _ {d : Diagram} (valid : IsDiagram d) where
     lower_next : (n : ℕ) → 2 ≤ n → n < length d.nodes → next d c n < n
     lower_next n inner own =
         let decides = valid.decisions n inner own in
-        decides.lower _ (listed.each _ decides.within)
+        decides.lower _ (omega (arith, listed.each _ decides.within, decides.wide))
 
     pub own_next : (n : ℕ) → n < length d.nodes → next d c n < length d.nodes
     own_next n own = elim (cases_lt n 2) [
@@ -110,7 +122,7 @@ module _ {d : Diagram} (valid : IsDiagram d) where
     later_next : (u n : ℕ) → n < length d.nodes → u < variable_of d n → u < variable_of d (next d c n)
     later_next u n own before = elim (cases_lt n 2) [
       | inl low ↦ rw (next_end n low) before
-      | inr inner ↦ (let decides = valid.decisions n inner own in let later = decides.ordered _ (listed.each _ decides.within) in omega (arith, later))
+      | inr inner ↦ (let decides = valid.decisions n inner own in let later = decides.ordered (slice_index c (variable_of d n)) (omega (arith, listed.each _ decides.within, decides.wide)) in omega (arith, later))
     ]
 
     walk_free : (steps u x n : ℕ) → n < length d.nodes → u < variable_of d n → walk steps d (slice_set c u x) n ≡ walk steps d c n
@@ -124,7 +136,7 @@ module _ {d : Diagram} (valid : IsDiagram d) where
     pub has_free : (u x n : ℕ) → n < length d.nodes → u < variable_of d n → (sets_of d).has n (slice_set c u x) ≡ (sets_of d).has n c
     has_free u x n own before = ap (λ m. m == 1) (walk_free n u x n own before)
 
-  module _ (n : ℕ) (own : n < length d.nodes) (within : variable_of d n < length d.arities) (k : ℕ) (in_range : k < slice_index d.arities (variable_of d n)) where
+  module _ (n : ℕ) (own : n < length d.nodes) (within : variable_of d n < length d.arities) (k : ℕ) (in_range : k < length (branch_of d n).children) where
     pub own_child : child_of d n k < length d.nodes
     own_child = omega (arith, (decision n own within).lower k in_range)
 
@@ -136,7 +148,7 @@ module _ {d : Diagram} (valid : IsDiagram d) where
     has_child c listed =
         let v = variable_of d n in
         let placed : v < length c = omega (arith, listed.long) in
-        let set = IsConfig-set v k listed within in_range in
+        let set = IsConfig-set v k listed within (omega (arith, in_range, (decision n own within).wide)) in
         has_next (slice_set c v k) set n own
         ∙ ap (λ o. (sets_of d).has (child_of d n o) (slice_set c v k)) (get_or-set_same c v k 0 placed)
         ∙ has_free c listed v k (child_of d n k) own_child later_child
@@ -193,15 +205,15 @@ module _ {d : Diagram} (valid : IsDiagram d) where
       let within : variable_of d n < length d.arities = omega (arith, variable-le valid m own_m) in
       let decides = decision valid n own_n within in
       elim (find_other (branch_of d n).children m) [
-        | inl all ↦ absurd (decides.reduced (λ k in_range. all k (omega (arith, decides.wide)) ∙ sym (all 0 (omega (arith, decides.wide)))))
+        | inl all ↦ absurd (decides.reduced (λ k in_range. all k in_range ∙ sym (all 0 (omega arith))))
         | inr found ↦ (
           let k = found.place in
           let in_range : k < slice_index d.arities (variable_of d n) = omega (arith, found.within, decides.wide) in
-          let less = decides.lower k in_range in
+          let less = decides.lower k found.within in
           Differ-under (variable_of d n) k n m (child_of d n k) m within in_range
-              (has_child valid n own_n within k in_range)
+              (has_child valid n own_n within k found.within)
               (λ c listed. has_free valid c listed (variable_of d n) k m own_m before)
-              (smaller (child_of d n k) m (omega (arith, less)) (own_child valid n own_n within k in_range) own_m found.other)
+              (smaller (child_of d n k) m (omega (arith, less)) (own_child valid n own_n within k found.within) own_m found.other)
         )
       ]
 
@@ -221,13 +233,13 @@ module _ {d : Diagram} (valid : IsDiagram d) where
         | inr found ↦ (
           let k = found.place in
           let in_range : k < slice_index d.arities (variable_of d n) = omega (arith, found.within, at_n.wide) in
-          let in_range_m : k < slice_index d.arities (variable_of d m) = subst (λ v. k < slice_index d.arities v) level in_range in
-          let less_n = at_n.lower k in_range in
-          let less_m = at_m.lower k in_range_m in
+          let within_k : k < length (branch_of d m).children = omega (arith, found.within, wide) in
+          let less_n = at_n.lower k found.within in
+          let less_m = at_m.lower k within_k in
           Differ-under (variable_of d n) k n m (child_of d n k) (child_of d m k) within in_range
-              (has_child valid n own_n within k in_range)
-              (λ c listed. ap (λ v. (sets_of d).has m (slice_set c v k)) level ∙ has_child valid m own_m within_m k in_range_m c listed)
-              (smaller (child_of d n k) (child_of d m k) (omega (arith, less_n, less_m)) (own_child valid n own_n within k in_range) (own_child valid m own_m within_m k in_range_m) found.other)
+              (has_child valid n own_n within k found.within)
+              (λ c listed. ap (λ v. (sets_of d).has m (slice_set c v k)) level ∙ has_child valid m own_m within_m k within_k c listed)
+              (smaller (child_of d n k) (child_of d m k) (omega (arith, less_n, less_m)) (own_child valid n own_n within k found.within) (own_child valid m own_m within_m k within_k) found.other)
         )
       ]
 

@@ -1,1 +1,3 @@
 pub mod DiagramLemmas
+pub mod GrownLemmas
+pub mod TableLemmas

@@ -1,5 +1,5 @@
 -- Operations on nodes, and what they make.
-use Rattle.std.specs.Prelude.{◌≡◌, ℕ, ◌<◌, ◌≤◌, ◌==◌, ◌&&◌, ◌||◌, not, Bool, List, [], ◌∷◌, length, slice_get, slice_index, slice_set, min, Some, if◌then◌else◌}
+use Rattle.std.specs.Prelude.{◌≡◌, ℕ, ◌<◌, ◌≤◌, ◌==◌, ◌&&◌, ◌||◌, not, Bool, List, [], ◌∷◌, Contains, ◌⊎◌, length, slice_index, slice_set, min, if◌then◌else◌}
 use Rattle.sc_model.specs.Sets.{IsConfig}
 use Rattle.sc_diagram.specs.Diagram.{Diagram, sets_of, variable_of, child_of}
 use Rattle.sc_diagram.specs.declared.operation.Operation.{Operation}
@@ -31,8 +31,9 @@ pub record IsApplication (d : Diagram) (what : Application) : Type 0 where
   pub left : what.left < length d.nodes
   pub right : what.right < length d.nodes
 
--- r is what the operation makes of its nodes
+-- r is what the operation makes of its nodes, and decides by no earlier variable than they do
 pub record Applies (d : Diagram) (what : Application) (r : ℕ) : Type 0 where
+  pub application : IsApplication d what
   pub own : r < length d.nodes
   pub from : (v : ℕ) → v ≤ variable_of d what.left → v ≤ variable_of d what.right → v ≤ variable_of d r
   pub at : (c : List ℕ) → IsConfig d.arities c → (sets_of d).has r c ≡ combine what.operation ((sets_of d).has what.left) ((sets_of d).has what.right) c
@@ -53,13 +54,13 @@ application_at d what variable option = record {
 pub record AppliesEach (d : Diagram) (what : Application) (variable : ℕ) (results : List ℕ) : Type 0 where
   pub each : (k : ℕ) → k < length results → Applies d (application_at d what variable k) (slice_index results k)
 
--- each pair has an application with what it makes
+-- each pair is an application with what it makes
 pub record IsKnown (d : Diagram) (known : List (Application × ℕ)) : Type 0 where
-  pub each : (i : ℕ) (what : Application) (r : ℕ) → slice_get known i ≡ Some (what, r) → Applies d what r
+  pub each : (e : Application × ℕ) → Contains known e → Applies d e.0 e.1
 
 -- each pair was there, or is this one
 pub record Adds (old new : List (Application × ℕ)) (what : Application) (r : ℕ) : Type 0 where
-  pub each : (d : Diagram) → IsKnown d old → Applies d what r → IsKnown d new
+  pub each : (e : Application × ℕ) → Contains new e → Contains old e ⊎ ((e.0 ≡ what) × (e.1 ≡ r))
 
 -- the node decides by a variable before the one that the operation fixes
 abbrev pub IsBefore : Diagram → Operation → ℕ → Type 0

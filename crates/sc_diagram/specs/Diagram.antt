@@ -46,18 +46,18 @@ sets_of d = record {
   has = λ n c. walk n d c n == 1;
 }
 
--- a node that decides by a variable, between children that decide by later ones and are not all the same
-pub record IsDecision (d : Diagram) (n : ℕ) : Type 0 where
-  pub within : variable_of d n < length d.arities
-  pub wide : length (branch_of d n).children ≡ slice_index d.arities (variable_of d n)
-  pub lower : (k : ℕ) → k < slice_index d.arities (variable_of d n) → child_of d n k < n
-  pub ordered : (k : ℕ) → k < slice_index d.arities (variable_of d n) → variable_of d n < variable_of d (child_of d n k)
-  pub reduced : ((k : ℕ) → k < slice_index d.arities (variable_of d n) → child_of d n k ≡ child_of d n 0) → ⊥
+-- the node n decides by a variable, between children that decide by later ones and are not all the same
+pub record IsDecision (d : Diagram) (n : ℕ) (b : Branch) : Type 0 where
+  pub within : b.variable < length d.arities
+  pub wide : length b.children ≡ slice_index d.arities b.variable
+  pub lower : (k : ℕ) → k < length b.children → slice_index b.children k < n
+  pub ordered : (k : ℕ) → k < length b.children → b.variable < variable_of d (slice_index b.children k)
+  pub reduced : ((k : ℕ) → k < length b.children → slice_index b.children k ≡ slice_index b.children 0) → ⊥
 
 -- the two ends and decisions, no two alike
 pub record IsDiagram (d : Diagram) : Type 0 where
   pub options : HasOptions d.arities
   pub never : slice_get d.nodes 0 ≡ Some (end_at d.arities 0)
   pub always : slice_get d.nodes 1 ≡ Some (end_at d.arities 1)
-  pub decisions : (n : ℕ) → 2 ≤ n → n < length d.nodes → IsDecision d n
+  pub decisions : (n : ℕ) → 2 ≤ n → n < length d.nodes → IsDecision d n (branch_of d n)
   pub different : IsOneToOne d.nodes

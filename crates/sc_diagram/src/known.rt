@@ -1,4 +1,4 @@
-ghost use Rattle.std.specs.Prelude.{◌≡◌, ℕ, [], slice_get, Some, IfSome, OnOk, OnErr};
+ghost use Rattle.std.specs.Prelude.{◌≡◌, [], Contains, IfSome, OnOk, OnErr};
 ghost use Rattle.sc_diagram.specs.Applied.{Adds};
 
 use crate::operation::Application;
@@ -33,7 +33,7 @@ impl Known {
 
     /// What the operation made, where it was done.
     pub fn find(&self, what: Application) -> Option<usize>
-        ensures { IfSome result (λ r. (i : ℕ) × (slice_get self.now i ≡ Some (what, r))) }
+        ensures { IfSome result (λ r. Contains self.now (what, r)) }
     {
         self.results.get(&what).copied()
     }

@@ -134,8 +134,8 @@ impl Table {
         // at every outcome
         ensures grows { Grows self.old self.new }
     {
+        let _nodes = &self.nodes;
         if let Some(only) = only(children.as_slice()) {
-            let _nodes = &self.nodes;
             return Ok(only);
         }
         let (index, _) = self.nodes.insert_full(Entry { variable, children })?;
