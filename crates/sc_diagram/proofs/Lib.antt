@@ -1,3 +1,6 @@
+pub mod AppliedLemmas
+pub mod DecidedLemmas
 pub mod DiagramLemmas
 pub mod GrownLemmas
+pub mod KnownLemmas
 pub mod TableLemmas

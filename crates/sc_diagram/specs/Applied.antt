@@ -25,6 +25,9 @@ IsOperation arities Or = Unit {0}
 IsOperation arities Negate = Unit {0}
 IsOperation arities (Part variable option) = IsOption arities variable option
 
+abbrev pub application : Operation → ℕ → ℕ → Application
+application operation left right = record { operation = operation; left = left; right = right }
+
 -- the operation and its nodes are there
 pub record IsApplication (d : Diagram) (what : Application) : Type 0 where
   pub operation : IsOperation d.arities what.operation
@@ -77,3 +80,11 @@ pub record IsUndecided (d : Diagram) (what : Application) : Type 0 where
 -- the first variable by which the nodes decide
 abbrev pub first_of : Diagram → Application → ℕ
 first_of d what = min (variable_of d what.left) (variable_of d what.right)
+
+-- one of two nodes, since one of them is absorbing or neutral, or since they are the same
+pub data IsShort (left right absorbing neutral : ℕ) : ℕ → Type 0 where
+  left_absorbs : left ≡ absorbing → IsShort left right absorbing neutral left
+  right_neutral : right ≡ neutral → IsShort left right absorbing neutral left
+  same : left ≡ right → IsShort left right absorbing neutral left
+  right_absorbs : right ≡ absorbing → IsShort left right absorbing neutral right
+  left_neutral : left ≡ neutral → IsShort left right absorbing neutral right

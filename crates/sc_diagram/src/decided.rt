@@ -1,7 +1,7 @@
 //! Operations whose result is told by the nodes at hand.
-ghost use Rattle.std.specs.Prelude.{◌≡◌, ◌<◌, IfSome, IfNone, length};
-ghost use Rattle.sc_diagram.specs.Diagram.{Diagram, IsDiagram, variable_of};
-ghost use Rattle.sc_diagram.specs.Applied.{IsOption, IsApplication, IsUndecided, Applies};
+ghost use Rattle.std.specs.Prelude.{◌≡◌, ◌<◌, ◌≤◌, ◌-◌, IfSome, IfNone, length};
+ghost use Rattle.sc_diagram.specs.Diagram.{IsDiagram, variable_of};
+ghost use Rattle.sc_diagram.specs.Applied.{IsOption, IsApplication, IsUndecided, IsShort, Applies, cofactor};
 
 use crate::operation::{Application, Operation};
 use crate::table::{ALWAYS, NEVER, Table};
@@ -20,34 +20,33 @@ pub fn decided(table: &Table, what: Application) -> Option<usize>
     } = what;
     let _count = table.count();
     match operation {
-        Operation::And => decided_and(left, right),
-        Operation::Or => decided_or(left, right),
+        Operation::And => short(left, right, NEVER, ALWAYS),
+        Operation::Or => short(left, right, ALWAYS, NEVER),
         Operation::Negate => decided_negate(left),
         Operation::Part(variable, option) => decided_part(table, left, variable, option),
     }
 }
 
-fn decided_and(left: usize, right: usize) -> Option<usize> {
-    if left == NEVER || right == ALWAYS || left == right {
+#[tactic(auto, using(crate::specs::Applied::left_absorbs, crate::specs::Applied::right_neutral, crate::specs::Applied::same, crate::specs::Applied::right_absorbs, crate::specs::Applied::left_neutral))]
+/// The node that an operation makes of two, where one is its absorbing or its neutral element, or
+/// where they are the same.
+fn short(left: usize, right: usize, absorbing: usize, neutral: usize) -> Option<usize>
+    ensures some { IfSome result (λ r. IsShort left right absorbing neutral r) }
+    ensures none { IfNone result ((left ≡ absorbing → ⊥) × (left ≡ neutral → ⊥)) }
+{
+    if left == absorbing || right == neutral || left == right {
         Some(left)
-    } else if left == ALWAYS || right == NEVER {
+    } else if right == absorbing || left == neutral {
         Some(right)
     } else {
         None
     }
 }
 
-fn decided_or(left: usize, right: usize) -> Option<usize> {
-    if left == ALWAYS || right == NEVER || left == right {
-        Some(left)
-    } else if left == NEVER || right == ALWAYS {
-        Some(right)
-    } else {
-        None
-    }
-}
-
-fn decided_negate(left: usize) -> Option<usize> {
+fn decided_negate(left: usize) -> Option<usize>
+    ensures some { IfSome result (λ r. (left < 2) × (r ≡ 1 - left)) }
+    ensures none { IfNone result (2 ≤ left) }
+{
     match left {
         NEVER => Some(ALWAYS),
         ALWAYS => Some(NEVER),
@@ -55,9 +54,13 @@ fn decided_negate(left: usize) -> Option<usize> {
     }
 }
 
-fn decided_part(table: &Table, left: usize, variable: usize, option: usize) -> Option<usize> {
-    let top = table.variable(left);
-    if top < variable {
+fn decided_part(table: &Table, left: usize, variable: usize, option: usize) -> Option<usize>
+    requires own { left < length table.now.nodes }
+    requires option { IsOption table.now.arities variable option }
+    ensures some { IfSome result (λ r. (variable ≤ variable_of table.now left) × (r ≡ cofactor table.now left variable option)) }
+    ensures none { IfNone result (variable_of table.now left < variable) }
+{
+    if table.variable(left) < variable {
         None
     } else {
         Some(table.cofactor(left, variable, option))
