@@ -3,4 +3,5 @@ pub mod DecidedLemmas
 pub mod DiagramLemmas
 pub mod GrownLemmas
 pub mod KnownLemmas
+pub mod StepLemmas
 pub mod TableLemmas
