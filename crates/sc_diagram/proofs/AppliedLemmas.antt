@@ -30,7 +30,7 @@ module _ {d : Diagram} (valid : IsDiagram d) (n : ℕ) (own : n < length d.nodes
   cofactor_itself other = ap (λ b. if b then child_of d n k else n) other
 
   -- what remains where a configuration has its option has the configuration where the node has
-  has_cofactor : (c : List ℕ) → IsConfig d.arities c → slice_index c v ≡ k → (sets_of d).has (cofactor d n v k) c ≡ (sets_of d).has n c
+  pub has_cofactor : (c : List ℕ) → IsConfig d.arities c → slice_index c v ≡ k → (sets_of d).has (cofactor d n v k) c ≡ (sets_of d).has n c
   has_cofactor c listed chosen = elim (cases_Bool (variable_of d n == v)) [
     | inl is ↦ (
       let here = eqb-true (variable_of d n) v is in

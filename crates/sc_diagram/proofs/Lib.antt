@@ -4,4 +4,5 @@ pub mod DiagramLemmas
 pub mod GrownLemmas
 pub mod KnownLemmas
 pub mod StepLemmas
+pub mod StoreLemmas
 pub mod TableLemmas

@@ -3,10 +3,12 @@
 #![tactic(auto)]
 
 mod apply;
+mod choose;
 mod decided;
 mod known;
 mod operation;
 mod store;
 mod table;
+mod walk;
 
 pub use store::{Node, Store};

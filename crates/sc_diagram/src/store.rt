@@ -1,13 +1,16 @@
-ghost use Rattle.std.specs.Prelude.{◌≡◌, ℕ, ◌+◌, ◌<◌, ◌≤◌, ◌&&◌, ◌||◌, not, Bool, true, false, List, length, slice_index, slice_set, IfOk};
+ghost use Rattle.std.specs.Prelude.{◌≡◌, ℕ, ◌+◌, ◌<◌, ◌==◌, ◌&&◌, ◌||◌, ◌⊎◌, ◌↔◌, not, Bool, true, false, List, length, slice_index, slice_set, IsNone, IfSome, IfOk};
 ghost use Rattle.sc_model.specs.Growth.{Extends};
-ghost use Rattle.sc_model.specs.Sets.{HasOptions, IsConfig, IsCond, Denotes, Keeps, IsCanonical};
+ghost use Rattle.sc_model.specs.Sets.{HasOptions, IsConfig, IsCond, Denotes, Keeps, IsNever, IsAlways, IsTop, IsCanonical};
 ghost use Rattle.sc_diagram.specs.Diagram.{sets_of};
-ghost use Rattle.sc_diagram.specs.Grown.{AddsOnly};
+ghost use Rattle.sc_diagram.specs.Grown.{Grows, AddsOnly};
+ghost use Rattle.sc_diagram.specs.Applied.{IsApplication, Applies, application};
 
 use crate::apply::apply;
+use crate::choose::choose;
 use crate::known::Known;
 use crate::operation::{Application, Operation};
 use crate::table::{ALWAYS, NEVER, Table};
+use crate::walk::leads_to_always;
 use sc_base::OutOfMemory;
 use std::alloc::Global;
 use std::marker::Model;
@@ -18,8 +21,9 @@ pub struct Node(pub usize);
 
 /// Decision diagrams over the configurations of some variables.
 ///
-/// Each node stands for one set of configurations, for good, and nodes of one store that stand for
-/// the same set are one.
+/// Each node stands for one set of configurations, for good: the store only grows, also where a
+/// call finds no memory. Nodes of one store that stand for the same set are one. An operation adds
+/// no node but those of its result's diagram, and goes as deep as there are variables.
 #[derive(Drop)]
 pub struct Store {
     table: Table,
@@ -50,6 +54,47 @@ impl Store {
         })
     }
 
+    /// The node that every configuration has.
+    pub fn always(&self) -> Node
+        ensures own { IsCond (sets_of self.now) result.0 }
+        ensures meaning { Denotes (sets_of self.now) result.0 (λ _. true) }
+    {
+        let _count = self.table.count();
+        Node(ALWAYS)
+    }
+
+    /// The node that no configuration has.
+    pub fn never(&self) -> Node
+        ensures own { IsCond (sets_of self.now) result.0 }
+        ensures meaning { Denotes (sets_of self.now) result.0 (λ _. false) }
+    {
+        let _count = self.table.count();
+        Node(NEVER)
+    }
+
+    /// How many nodes decide by a variable, which are all but always and never.
+    pub fn len(&self) -> usize
+        ensures { result + 2 ≡ length self.now.nodes }
+    {
+        self.table.count() - 2
+    }
+
+    /// The configurations in which the variable has this option.
+    pub fn choose(&mut self, variable: usize, option: usize) -> Result<Node, OutOfMemory>
+        requires variable { variable < length self.old.arities }
+        requires option { option < slice_index self.old.arities variable }
+        ensures own { IfOk result (λ r. IsCond (sets_of self.new) r.0) }
+        ensures meaning { IfOk result (λ r. Denotes (sets_of self.new) r.0 (λ c. slice_index c variable == option)) }
+        ensures adds { IfOk result (λ r. AddsOnly self.old self.new r.0) }
+
+        // at every outcome
+        ensures extends { Extends self.old.nodes self.new.nodes }
+        ensures keeps { Keeps (sets_of self.old) (sets_of self.new) }
+    {
+        let node = choose(&mut self.table, variable, option)?;
+        Ok(Node(node))
+    }
+
     /// The configurations that both nodes have.
     pub fn apply_and(&mut self, a: Node, b: Node) -> Result<Node, OutOfMemory>
         requires a_own { IsCond (sets_of self.old) a.0 }
@@ -63,11 +108,106 @@ impl Store {
         ensures extends { Extends self.old.nodes self.new.nodes }
         ensures keeps { Keeps (sets_of self.old) (sets_of self.new) }
     {
-        let result = apply(&mut self.table, &mut self.known, Application {
-            operation: Operation::And,
-            left: a.0,
-            right: b.0,
-        })?;
-        Ok(Node(result))
+        self.make(Operation::And, a, b)
+    }
+
+    /// The configurations that either node has.
+    pub fn apply_or(&mut self, a: Node, b: Node) -> Result<Node, OutOfMemory>
+        requires a_own { IsCond (sets_of self.old) a.0 }
+        requires b_own { IsCond (sets_of self.old) b.0 }
+        ensures own { IfOk result (λ r. IsCond (sets_of self.new) r.0) }
+        ensures meaning { IfOk result (λ r. (f g : List ℕ → Bool) → Denotes (sets_of self.old) a.0 f
+            → Denotes (sets_of self.old) b.0 g → Denotes (sets_of self.new) r.0 (λ c. f c || g c)) }
+        ensures adds { IfOk result (λ r. AddsOnly self.old self.new r.0) }
+
+        // at every outcome
+        ensures extends { Extends self.old.nodes self.new.nodes }
+        ensures keeps { Keeps (sets_of self.old) (sets_of self.new) }
+    {
+        self.make(Operation::Or, a, b)
+    }
+
+    /// The configurations that the node has not.
+    pub fn negate(&mut self, a: Node) -> Result<Node, OutOfMemory>
+        requires { IsCond (sets_of self.old) a.0 }
+        ensures own { IfOk result (λ r. IsCond (sets_of self.new) r.0) }
+        ensures meaning { IfOk result (λ r. (f : List ℕ → Bool) → Denotes (sets_of self.old) a.0 f
+            → Denotes (sets_of self.new) r.0 (λ c. not (f c))) }
+        ensures adds { IfOk result (λ r. AddsOnly self.old self.new r.0) }
+
+        // at every outcome
+        ensures extends { Extends self.old.nodes self.new.nodes }
+        ensures keeps { Keeps (sets_of self.old) (sets_of self.new) }
+    {
+        self.make(Operation::Negate, a, a)
+    }
+
+    /// What remains of the node where the variable has this option: the configurations that it has
+    /// once the variable is set to the option.
+    pub fn part(&mut self, a: Node, variable: usize, option: usize) -> Result<Node, OutOfMemory>
+        requires own { IsCond (sets_of self.old) a.0 }
+        requires variable { variable < length self.old.arities }
+        requires option { option < slice_index self.old.arities variable }
+        ensures own { IfOk result (λ r. IsCond (sets_of self.new) r.0) }
+        ensures meaning { IfOk result (λ r. (f : List ℕ → Bool) → Denotes (sets_of self.old) a.0 f
+            → Denotes (sets_of self.new) r.0 (λ c. f (slice_set c variable option))) }
+        ensures adds { IfOk result (λ r. AddsOnly self.old self.new r.0) }
+
+        // at every outcome
+        ensures extends { Extends self.old.nodes self.new.nodes }
+        ensures keeps { Keeps (sets_of self.old) (sets_of self.new) }
+    {
+        self.make(Operation::Part(variable, option), a, a)
+    }
+
+    /// Whether the node has the configuration.
+    pub fn eval(&self, node: Node, config: &[usize]) -> bool
+        requires own { IsCond (sets_of self.now) node.0 }
+        requires config { IsConfig self.now.arities config.now }
+        ensures { result ≡ (sets_of self.now).has node.0 config.now }
+    {
+        leads_to_always(&self.table, node.0, config)
+    }
+
+    /// The first variable on which the node depends.
+    pub fn top(&self, node: Node) -> Option<usize>
+        requires { IsCond (sets_of self.now) node.0 }
+        ensures some { IfSome result (IsTop (sets_of self.now) node.0) }
+        ensures none { IsNone result ↔ (IsNever (sets_of self.now) node.0 ⊎ IsAlways (sets_of self.now) node.0) }
+    {
+        let variable = self.table.variable(node.0);
+        if node.0 > ALWAYS { Some(variable) } else { None }
+    }
+
+    /// Nodes that stand for the same set are one. This takes no time: it tells a proof.
+    pub fn canonical(&self)
+        ensures { IsCanonical (sets_of self.now) }
+    {
+        self.table.canonical();
+    }
+
+    /// Each variable has an option, so always is not never. This takes no time: it tells a proof.
+    pub fn has_options(&self)
+        ensures { HasOptions self.now.arities }
+    {
+        let _count = self.table.count();
+    }
+
+    /// What an operation makes.
+    fn make(&mut self, operation: Operation, left: Node, right: Node) -> Result<Node, OutOfMemory>
+        requires { IsApplication self.old (application operation left.0 right.0) }
+        ensures applies { IfOk result (λ r. Applies self.new (application operation left.0 right.0) r.0) }
+        ensures adds { IfOk result (λ r. AddsOnly self.old self.new r.0) }
+
+        // at every outcome
+        ensures grows { Grows self.old self.new }
+    {
+        let what = Application {
+            operation,
+            left: left.0,
+            right: right.0,
+        };
+        let node = apply(&mut self.table, &mut self.known, what)?;
+        Ok(Node(node))
     }
 }

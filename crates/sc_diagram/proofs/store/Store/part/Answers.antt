@@ -1,0 +1,19 @@
+use Rattle.std.proofs.lemmas.Result.{IfOk-weaker}
+use Rattle.sc_diagram.proofs.GrownLemmas.{Keeps-Grows}
+use Rattle.sc_diagram.proofs.StoreLemmas.{Denotes-Applies}
+use Rattle.sc_diagram.proofs.store.Store.part.Goals as goal
+
+pub make-requires : goal.make-requires
+make-requires c = record { operation = record { within = c.requires.variable; in_range = c.requires.option }; left = c.requires.own.made; right = c.requires.own.made }
+
+pub returns-clause-own : goal.returns-clause-own
+returns-clause-own c = IfOk-weaker c.make.result _ _ (λ r applies. record { made = applies.own }) c.make.ensures.applies
+
+pub returns-clause-meaning : goal.returns-clause-meaning
+returns-clause-meaning c = IfOk-weaker c.make.result _ _ (λ r applies. λ f told. Denotes-Applies c.make.ensures.grows applies f f told told) c.make.ensures.applies
+
+pub returns-clause-keeps : goal.returns-clause-keeps
+returns-clause-keeps c = Keeps-Grows c.make.ensures.grows
+
+pub returns-clause-extends : goal.returns-clause-extends
+returns-clause-extends c = c.make.ensures.grows.extends
