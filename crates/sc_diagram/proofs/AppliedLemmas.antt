@@ -33,10 +33,10 @@ module _ {d : Diagram} (valid : IsDiagram d) (n : ℕ) (own : n < length d.nodes
   pub has_cofactor : (c : List ℕ) → IsConfig d.arities c → slice_index c v ≡ k → (sets_of d).has (cofactor d n v k) c ≡ (sets_of d).has n c
   has_cofactor c listed chosen = elim (cases_Bool (variable_of d n == v)) [
     | inl is ↦ (
-      let here = eqb-true (variable_of d n) v is in
-      let option : slice_index c (variable_of d n) ≡ k = ap (slice_index c) here ∙ chosen in
-      ap (λ m. (sets_of d).has m c) (cofactor_child here ∙ ap (child_of d n) (sym option)) ∙ sym (has_next valid c listed n own)
-    )
+        let here = eqb-true (variable_of d n) v is in
+        let option : slice_index c (variable_of d n) ≡ k = ap (slice_index c) here ∙ chosen in
+        ap (λ m. (sets_of d).has m c) (cofactor_child here ∙ ap (child_of d n) (sym option)) ∙ sym (has_next valid c listed n own)
+        )
     | inr other ↦ ap (λ m. (sets_of d).has m c) (cofactor_itself other)
   ]
 
@@ -63,23 +63,23 @@ module _ {d : Diagram} (valid : IsDiagram d) (n : ℕ) (own : n < length d.nodes
     pub later_cofactor : v ≤ variable_of d n → v < variable_of d (cofactor d n v k)
     later_cofactor from = elim (cases_Bool (variable_of d n == v)) [
       | inl is ↦ (
-        let here = eqb-true (variable_of d n) v is in
-        let later = later_child valid n own (omega arith) k (wide here) in
-        omega (arith, later, ap (variable_of d) (cofactor_child here))
-      )
+          let here = eqb-true (variable_of d n) v is in
+          let later = later_child valid n own (omega arith) k (wide here) in
+          omega (arith, later, ap (variable_of d) (cofactor_child here))
+          )
       | inr other ↦ (
-        let apart : v ≢ variable_of d n = λ same. true≢false (sym (eq-eqb (variable_of d n) v (sym same)) ∙ other) in
-        omega (arith, apart, ap (variable_of d) (cofactor_itself other))
-      )
+          let apart : v ≢ variable_of d n = λ same. true≢false (sym (eq-eqb (variable_of d n) v (sym same)) ∙ other) in
+          omega (arith, apart, ap (variable_of d) (cofactor_itself other))
+          )
     ]
 
     pub from_cofactor : (u : ℕ) → u ≤ variable_of d n → u ≤ variable_of d (cofactor d n v k)
     from_cofactor u from = elim (cases_Bool (variable_of d n == v)) [
       | inl is ↦ (
-        let here = eqb-true (variable_of d n) v is in
-        let later = later_child valid n own (omega arith) k (wide here) in
-        omega (arith, later, ap (variable_of d) (cofactor_child here))
-      )
+          let here = eqb-true (variable_of d n) v is in
+          let later = later_child valid n own (omega arith) k (wide here) in
+          omega (arith, later, ap (variable_of d) (cofactor_child here))
+          )
       | inr other ↦ omega (arith, ap (variable_of d) (cofactor_itself other))
     ]
 

@@ -90,14 +90,14 @@ module _ {d : Diagram} (valid : IsDiagram d) (l r : ℕ) where
         from = λ u left right. omega (arith, ap (variable_of d) at, from_cofactor valid l is.left v k within in_range u left);
         at = λ c listed. ap (λ m. (sets_of d).has m c) at ∙ elim (cases_Bool (variable_of d l == v)) [
           | inl told ↦ (
-            let here = eqb-true (variable_of d l) v told in
-            ap (λ m. (sets_of d).has m c) (cofactor_child valid l is.left v k here)
-            ∙ sym (has_child valid l is.left (omega arith) k (wide valid l is.left v k within in_range here) c listed)
-            ∙ ap (λ u. (sets_of d).has l (slice_set c u k)) here
-          )
+              let here = eqb-true (variable_of d l) v told in
+              ap (λ m. (sets_of d).has m c) (cofactor_child valid l is.left v k here)
+              ∙ sym (has_child valid l is.left (omega arith) k (wide valid l is.left v k within in_range here) c listed)
+              ∙ ap (λ u. (sets_of d).has l (slice_set c u k)) here
+              )
           | inr other ↦ (
-            let apart : v ≢ variable_of d l = λ e. true≢false (sym (eq-eqb (variable_of d l) v (sym e)) ∙ other) in
-            ap (λ m. (sets_of d).has m c) (cofactor_itself valid l is.left v k other) ∙ sym (has_free valid c listed v k l is.left (omega (arith, apart)))
-          )
+              let apart : v ≢ variable_of d l = λ e. true≢false (sym (eq-eqb (variable_of d l) v (sym e)) ∙ other) in
+              ap (λ m. (sets_of d).has m c) (cofactor_itself valid l is.left v k other) ∙ sym (has_free valid c listed v k l is.left (omega (arith, apart)))
+              )
         ];
       }

@@ -69,11 +69,11 @@ module _ {d : Diagram} (valid : IsDiagram d) where
   pub own_part : (n k : ℕ) → n < length d.nodes → k < length (branch_of d n).children → child_of d n k < length d.nodes
   own_part n k own in_range = elim (cases_lt n 2) [
     | inl low ↦ (
-      let one : length (branch_of d n).children ≡ 1 = ap (λ b. length b.children) (branch_end n low) in
-      let first : k ≡ 0 = omega (arith, in_range, one) in
-      let itself : child_of d n k ≡ n = ap (λ b. slice_index b.children k) (branch_end n low) ∙ ap (slice_index (n ∷ [])) first in
-      omega (arith, itself)
-    )
+        let one : length (branch_of d n).children ≡ 1 = ap (λ b. length b.children) (branch_end n low) in
+        let first : k ≡ 0 = omega (arith, in_range, one) in
+        let itself : child_of d n k ≡ n = ap (λ b. slice_index b.children k) (branch_end n low) ∙ ap (slice_index (n ∷ [])) first in
+        omega (arith, itself)
+        )
     | inr inner ↦ omega (arith, (valid.decisions n inner own).lower k in_range)
   ]
 
@@ -207,14 +207,14 @@ module _ {d : Diagram} (valid : IsDiagram d) where
       elim (find_other (branch_of d n).children m) [
         | inl all ↦ absurd (decides.reduced (λ k in_range. all k in_range ∙ sym (all 0 (omega arith))))
         | inr found ↦ (
-          let k = found.place in
-          let in_range : k < slice_index d.arities (variable_of d n) = omega (arith, found.within, decides.wide) in
-          let less = decides.lower k found.within in
-          Differ-under (variable_of d n) k n m (child_of d n k) m within in_range
-              (has_child valid n own_n within k found.within)
-              (λ c listed. has_free valid c listed (variable_of d n) k m own_m before)
-              (smaller (child_of d n k) m (omega (arith, less)) (own_child valid n own_n within k found.within) own_m found.other)
-        )
+            let k = found.place in
+            let in_range : k < slice_index d.arities (variable_of d n) = omega (arith, found.within, decides.wide) in
+            let less = decides.lower k found.within in
+            Differ-under (variable_of d n) k n m (child_of d n k) m within in_range
+            (has_child valid n own_n within k found.within)
+            (λ c listed. has_free valid c listed (variable_of d n) k m own_m before)
+            (smaller (child_of d n k) m (omega (arith, less)) (own_child valid n own_n within k found.within) own_m found.other)
+            )
       ]
 
   -- two nodes that decide by one variable have different children for some option
@@ -227,20 +227,20 @@ module _ {d : Diagram} (valid : IsDiagram d) where
       let wide : length (branch_of d n).children ≡ length (branch_of d m).children = at_n.wide ∙ ap (slice_index d.arities) level ∙ sym at_m.wide in
       elim (find_difference (branch_of d n).children (branch_of d m).children wide) [
         | inl all ↦ (
-          let same : branch_of d n ≡ branch_of d m = λ i. record { variable = level i; children = all i } in
-          absurd (other (valid.different.same n m (branch_of d n) (slice_get-get_or d.nodes n _ own_n) (slice_get-get_or d.nodes m _ own_m ∙ ap (λ b. Some b) (sym same))))
-        )
+            let same : branch_of d n ≡ branch_of d m = λ i. record { variable = level i; children = all i } in
+            absurd (other (valid.different.same n m (branch_of d n) (slice_get-get_or d.nodes n _ own_n) (slice_get-get_or d.nodes m _ own_m ∙ ap (λ b. Some b) (sym same))))
+            )
         | inr found ↦ (
-          let k = found.place in
-          let in_range : k < slice_index d.arities (variable_of d n) = omega (arith, found.within, at_n.wide) in
-          let within_k : k < length (branch_of d m).children = omega (arith, found.within, wide) in
-          let less_n = at_n.lower k found.within in
-          let less_m = at_m.lower k within_k in
-          Differ-under (variable_of d n) k n m (child_of d n k) (child_of d m k) within in_range
-              (has_child valid n own_n within k found.within)
-              (λ c listed. ap (λ v. (sets_of d).has m (slice_set c v k)) level ∙ has_child valid m own_m within_m k within_k c listed)
-              (smaller (child_of d n k) (child_of d m k) (omega (arith, less_n, less_m)) (own_child valid n own_n within k found.within) (own_child valid m own_m within_m k within_k) found.other)
-        )
+            let k = found.place in
+            let in_range : k < slice_index d.arities (variable_of d n) = omega (arith, found.within, at_n.wide) in
+            let within_k : k < length (branch_of d m).children = omega (arith, found.within, wide) in
+            let less_n = at_n.lower k found.within in
+            let less_m = at_m.lower k within_k in
+            Differ-under (variable_of d n) k n m (child_of d n k) (child_of d m k) within in_range
+            (has_child valid n own_n within k found.within)
+            (λ c listed. ap (λ v. (sets_of d).has m (slice_set c v k)) level ∙ has_child valid m own_m within_m k within_k c listed)
+            (smaller (child_of d n k) (child_of d m k) (omega (arith, less_n, less_m)) (own_child valid n own_n within k found.within) (own_child valid m own_m within_m k within_k) found.other)
+            )
       ]
 
   -- different nodes differ

@@ -121,14 +121,14 @@ pub AddsBelow-push : {d e f : Diagram} {tops : List ℕ} {r : ℕ} → Grows e f
 AddsBelow-push {d} {e} {f} {tops} {r} grows own_tops before more = record {
   each = λ n past own. elim (cases_lt n (length e.nodes)) [
     | inl old ↦ (
-      let found = before.each n past old in
-      let k = found.place in
-      record {
-        place = k;
-        within = omega (arith, found.within, length_push tops r);
-        reaches = subst (λ t. Reaches f t n) (sym (get_or_append_left tops (r ∷ []) 0 k found.within)) (Reaches-Grows grows (slice_index tops k) n (own_tops k found.within) found.reaches);
-      }
-    )
+        let found = before.each n past old in
+        let k = found.place in
+        record {
+          place = k;
+          within = omega (arith, found.within, length_push tops r);
+          reaches = subst (λ t. Reaches f t n) (sym (get_or_append_left tops (r ∷ []) 0 k found.within)) (Reaches-Grows grows (slice_index tops k) n (own_tops k found.within) found.reaches);
+        }
+        )
     | inr new ↦ record {
       place = length tops;
       within = omega (arith, length_push tops r);
@@ -143,9 +143,9 @@ pub AddsOnly-IsChoice : {d e f : Diagram} {tops : List ℕ} {r v : ℕ} → Grow
 AddsOnly-IsChoice {d} {e} {f} {tops} {r} {v} grows own_tops before choice last = record {
   each = λ n past own. elim (cases_lt n (length e.nodes)) [
     | inl old ↦ (
-      let found = before.each n past old in
-      lead choice found.place n found.within (Reaches-Grows grows (slice_index tops found.place) n (own_tops found.place found.within) found.reaches)
-    )
+        let found = before.each n past old in
+        lead choice found.place n found.within (Reaches-Grows grows (slice_index tops found.place) n (own_tops found.place found.within) found.reaches)
+        )
     | inr new ↦ subst (λ m. Reaches f r m) (sym (last n new own)) (here r)
   ];
 }

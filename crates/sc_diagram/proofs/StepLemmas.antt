@@ -22,10 +22,10 @@ AppliesEach-push {d} {what} {v} {r} {results} each more = record {
   each = λ k within. elim (cases_lt k (length results)) [
     | inl old ↦ subst (Applies d (application_at d what v k)) (sym (get_or_append_left results (r ∷ []) 0 k old)) (each.each k old)
     | inr past ↦ (
-      let at : k ≡ length results = omega (arith, within, length_push results r) in
-      let read : slice_index (results ++ r ∷ []) k ≡ r = get_or_push results r 0 k (sym at) in
-      subst (Applies d (application_at d what v k)) (sym read) (subst (λ j. Applies d (application_at d what v j) r) (sym at) more)
-    )
+        let at : k ≡ length results = omega (arith, within, length_push results r) in
+        let read : slice_index (results ++ r ∷ []) k ≡ r = get_or_push results r 0 k (sym at) in
+        subst (Applies d (application_at d what v k)) (sym read) (subst (λ j. Applies d (application_at d what v j) r) (sym at) more)
+        )
   ];
 }
 
@@ -75,4 +75,4 @@ module _ {d e : Diagram} {what : Application} {v : ℕ} (is : IsApplication d wh
       let all = Grows-trans grows more in
       let now = IsApplication-Grows grows is in
       Applies-IsChoice all.valid what (IsApplication-Grows all is) r v results (IsBefore-Grows all what.operation what.left is.left open_.before) (first ∙ sym (first_of-Grows all what is))
-          (omega (arith, within, ap length more.arities)) (omega (arith, full, ap (λ ns. slice_index ns v) more.arities)) own (AppliesEach-Grows more now each) choice
+      (omega (arith, within, ap length more.arities)) (omega (arith, full, ap (λ ns. slice_index ns v) more.arities)) own (AppliesEach-Grows more now each) choice

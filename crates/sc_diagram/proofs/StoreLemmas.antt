@@ -69,24 +69,24 @@ module _ {d : Diagram} (valid : IsDiagram d) where
       elim (find_other (branch_of d n).children (child_of d n 0)) [
         | inl all ↦ absurd (is.reduced all)
         | inr found ↦ (
-          let k = found.place in
-          let first : 0 < length (branch_of d n).children = omega (arith, found.within) in
-          let low : 0 < slice_index d.arities v = omega (arith, first, is.wide) in
-          let found_in : k < slice_index d.arities v = omega (arith, found.within, is.wide) in
-          let apart = differ valid (child_of d n k) (child_of d n 0) (own_child valid n own within k found.within) (own_child valid n own within 0 first) found.other in
-          record {
-            depends = record {
-              config = slice_set apart.config v k;
-              option = 0;
-              listed = IsConfig-set v k apart.listed within found_in;
-              within = within;
-              in_range = low;
-              changes = λ same. apart.differs (sym (has_child valid n own within k found.within apart.config apart.listed) ∙ same
-                  ∙ ap ((sets_of d).has n) (set-set apart.config v k 0) ∙ has_child valid n own within 0 first apart.config apart.listed);
-            };
-            first = record { free = λ u before depends. depends.changes (sym (has_free valid depends.config depends.listed u depends.option n own before)) };
-          }
-        )
+            let k = found.place in
+            let first : 0 < length (branch_of d n).children = omega (arith, found.within) in
+            let low : 0 < slice_index d.arities v = omega (arith, first, is.wide) in
+            let found_in : k < slice_index d.arities v = omega (arith, found.within, is.wide) in
+            let apart = differ valid (child_of d n k) (child_of d n 0) (own_child valid n own within k found.within) (own_child valid n own within 0 first) found.other in
+            record {
+              depends = record {
+                config = slice_set apart.config v k;
+                option = 0;
+                listed = IsConfig-set v k apart.listed within found_in;
+                within = within;
+                in_range = low;
+                changes = λ same. apart.differs (sym (has_child valid n own within k found.within apart.config apart.listed) ∙ same
+                    ∙ ap ((sets_of d).has n) (set-set apart.config v k 0) ∙ has_child valid n own within 0 first apart.config apart.listed);
+              };
+              first = record { free = λ u before depends. depends.changes (sym (has_free valid depends.config depends.listed u depends.option n own before)) };
+            }
+            )
       ]
 
   -- and an end on none

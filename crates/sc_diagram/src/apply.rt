@@ -12,11 +12,7 @@ use smallvec::SmallVec;
 
 /// What an operation makes of its nodes, as deep as there are variables. What it did before is
 /// looked up.
-pub fn apply(
-    table: &mut Table,
-    known: &mut Known,
-    what: Application,
-) -> Result<usize, OutOfMemory>
+pub fn apply(table: &mut Table, known: &mut Known, what: Application) -> Result<usize, OutOfMemory>
     requires application { IsApplication table.old what }
     requires known { IsKnown table.old known.old }
     ensures applies { IfOk result (λ r. Applies table.new what r) }

@@ -176,7 +176,11 @@ impl Store {
         ensures none { IsNone result ↔ (IsNever (sets_of self.now) node.0 ⊎ IsAlways (sets_of self.now) node.0) }
     {
         let variable = self.table.variable(node.0);
-        if node.0 > ALWAYS { Some(variable) } else { None }
+        if node.0 > ALWAYS {
+            Some(variable)
+        } else {
+            None
+        }
     }
 
     /// Nodes that stand for the same set are one. This takes no time: it tells a proof.

@@ -34,7 +34,7 @@ returns-clause-choice c = decides (stored_at (λ e. branch e.variable e.children
 pub returns-clause-adds : goal.returns-clause-adds
 returns-clause-adds c =
     rw (← c.self.view_is) (added _ _ _ c.in_ok-index.index (invariant_of-self-2 c) (adds c)
-        (stored_at (λ e. branch e.variable e.children.items) branch_eq branch_eq-Decides c.insert_full.new.self.keys c.in_ok-index.index (record { variable = c.args.variable; children = c.args.children }) c.in_ok-index.ensures.stored))
+    (stored_at (λ e. branch e.variable e.children.items) branch_eq branch_eq-Decides c.insert_full.new.self.keys c.in_ok-index.index (record { variable = c.args.variable; children = c.args.children }) c.in_ok-index.ensures.stored))
 
 pub returns-clause-grows : goal.returns-clause-grows
 returns-clause-grows c =
