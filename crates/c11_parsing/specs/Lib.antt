@@ -1,0 +1,7 @@
+pub mod Bindings
+pub mod Classes
+pub mod Core
+pub mod Derives
+pub mod LR
+pub mod Parser
+pub mod Trees

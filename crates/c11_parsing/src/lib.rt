@@ -1,0 +1,6 @@
+//! LR parsing of C11 with its scopes, for one configuration and for all at once, as definitions.
+#![tactic(auto)]
+
+mod laws;
+
+pub use laws::parsing_has_one_answer;
