@@ -1,3 +1,4 @@
 pub mod Members
 pub mod Pairs
 pub mod Determined
+pub mod Stacks

@@ -1,2 +1,3 @@
 pub mod Grammar
+pub mod Paths
 pub mod Tables

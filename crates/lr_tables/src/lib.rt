@@ -5,4 +5,4 @@ mod grammar;
 mod laws;
 
 pub use grammar::{Action, Conflict, Entry, Grammar, Mark, Nonterminal, Symbol, Terminal};
-pub use laws::tables_are_determined;
+pub use laws::{stacks_are_paths, tables_are_determined};
