@@ -61,4 +61,11 @@ impl Names {
     {
         self.texts.as_slice()[name.0].as_slice()
     }
+
+    /// No two names have one text. This takes no time: it tells a proof.
+    pub fn one_to_one(&self)
+        ensures { IsOneToOne self.now }
+    {
+        let _texts = &self.texts;
+    }
 }

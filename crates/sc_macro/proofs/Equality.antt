@@ -1,0 +1,44 @@
+-- Ids of one table are equal where what is seen of them is.
+use Rattle.std.proofs.Common.{◌≡◌, ℕ, suc, Bool, ◌<◌, List, [], ◌∷◌, map, length, refl, sym, ap, ◌∙◌, arith}
+use Rattle.std.specs.Prelude.{All}
+use Rattle.c11_macros.specs.Macros as model
+use Rattle.sc_base.specs.declared.id.Name.{Name}
+use Rattle.sc_macro.specs.declared.definition.Item.{Item}
+use Rattle.sc_macro.specs.Seen.{text_of, texts_of, AreHeld, seen_item, IsHeldItem}
+use Rattle.sc_macro.proofs.Parameters.{AreHeld-tail}
+use Rattle.sc_macro.proofs.Texts.{same_id}
+use Rattle.sc_model.specs.declared.kind.Kind.{Kind}
+use Rattle.sc_model.specs.Growth.{IsOneToOne}
+use Rattle.sc_model.specs.Token.{name_of}
+
+made : {k l : Kind} {n m s t : Name} {x y : Bool} → k ≡ l → n ≡ m → s ≡ t → x ≡ y
+    → ◌≡◌ {A = Item} (record { kind = k; name = n; spelling = s; space = x }) (record { kind = l; name = m; spelling = t; space = y })
+made {k} {l} {n} {m} {s} {t} {x} {y} kind name spelling space = cc
+
+module _ (names : List (List ℕ)) (one : IsOneToOne names) where
+  same_name : (a b : Name) → a.0 < length names → b.0 < length names → text_of names a ≡ text_of names b → a ≡ b
+  same_name a b in_a in_b same = ap (λ n. record { 0 = n }) (same_id names a.0 b.0 one in_a in_b same)
+
+  pub same_names : (xs ys : List Name) → AreHeld names xs → AreHeld names ys → texts_of names xs ≡ texts_of names ys → xs ≡ ys
+  same_names [] [] in_x in_y same = refl
+  same_names [] (y ∷ ys) in_x in_y same = absurd (cc)
+  same_names (x ∷ xs) [] in_x in_y same = absurd (cc)
+  same_names (x ∷ xs) (y ∷ ys) in_x in_y same =
+      let first : x ≡ y = same_name x y (in_x 0 x (omega arith)) (in_y 0 y (omega arith)) (cc) in
+      let others : xs ≡ ys = same_names xs ys (AreHeld-tail names x xs in_x) (AreHeld-tail names y ys in_y) (cc) in
+      cc
+
+  same_item : (a b : Item) → IsHeldItem names a → IsHeldItem names b → seen_item names a ≡ seen_item names b → a ≡ b
+  same_item a b in_a in_b same =
+      let text : text_of names a.spelling ≡ text_of names b.spelling = ap (λ (i : model.Item). i.spelling) same in
+      made (ap (λ (i : model.Item). i.kind) same) (same_name a.name b.name in_a.name in_b.name (in_a.stands_for ∙ (ap name_of text ∙ sym in_b.stands_for)))
+      (same_name a.spelling b.spelling in_a.spelling in_b.spelling text) (ap (λ (i : model.Item). i.space) same)
+
+  pub same_items : (xs ys : List Item) → All (IsHeldItem names) xs → All (IsHeldItem names) ys → map (seen_item names) xs ≡ map (seen_item names) ys → xs ≡ ys
+  same_items [] [] in_x in_y same = refl
+  same_items [] (y ∷ ys) in_x in_y same = absurd (cc)
+  same_items (x ∷ xs) [] in_x in_y same = absurd (cc)
+  same_items (x ∷ xs) (y ∷ ys) in_x in_y same =
+      let first : x ≡ y = same_item x y (in_x 0 x (omega arith)) (in_y 0 y (omega arith)) (cc) in
+      let others : xs ≡ ys = same_items xs ys (λ k d h. in_x (suc k) d (omega arith)) (λ k d h. in_y (suc k) d (omega arith)) (cc) in
+      cc

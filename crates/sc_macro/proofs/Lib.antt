@@ -1,0 +1,5 @@
+pub mod Equality
+pub mod Parameters
+pub mod Reading
+pub mod Texts
+pub mod Turns

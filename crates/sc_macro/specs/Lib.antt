@@ -1,0 +1,4 @@
+pub mod Seen
+pub mod Items
+pub mod Head
+pub mod Reads
