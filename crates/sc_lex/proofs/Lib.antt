@@ -7,6 +7,7 @@ pub mod Lines
 pub mod Names
 pub mod Punctuators
 pub mod Quotes
+pub mod Relexing
 pub mod SeenLemmas
 pub mod Spells
 pub mod UnclosedLemmas

@@ -5,10 +5,12 @@ mod cursor;
 mod lexer;
 mod line;
 mod piece;
+mod relex;
 mod scan;
 mod stop;
 mod unclosed;
 
 pub use lexer::tokens;
+pub use relex::relex_one;
 pub use sc_base::{HasToken, Kind, Token};
 pub use stop::LexStop;
