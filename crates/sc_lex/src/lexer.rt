@@ -64,7 +64,7 @@ fn is_newline(kind: Kind) -> bool
 }
 
 /// The token of this kind and spelling.
-fn token(
+pub fn token(
     names: &mut Names,
     kind: Kind,
     spelling: &[u8],

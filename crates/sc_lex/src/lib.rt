@@ -10,7 +10,7 @@ mod scan;
 mod stop;
 mod unclosed;
 
-pub use lexer::tokens;
+pub use lexer::{token, tokens};
 pub use relex::relex_one;
 pub use sc_base::{HasToken, Kind, Token};
 pub use stop::LexStop;
