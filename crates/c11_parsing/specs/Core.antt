@@ -8,9 +8,9 @@ use Rattle.sc_model.specs.Fault.{Fault}
 use Rattle.sc_model.specs.Sets.{IsConfig}
 use Rattle.sc_model.specs.Token.{Token}
 use Rattle.c11_parsing.specs.Bindings.{Level}
-use Rattle.c11_parsing.specs.Classes.{Input, left_from, next_from}
+use Rattle.c11_parsing.specs.Classes.{Input, left_from, next_from, project}
 use Rattle.c11_parsing.specs.LR as lr
-use Rattle.c11_parsing.specs.LR.{Frame, Run, Point, on, answered, next_terminal, kind_of, step}
+use Rattle.c11_parsing.specs.LR.{Frame, Run, Point, on, answered, next_terminal, kind_of, step, Reaches, start, LR}
 use Rattle.c11_parsing.specs.Trees.{Condition, Tree}
 
 -- ---- subparsers
@@ -209,7 +209,7 @@ pub data CoreStep (input : Input) (core : Core) : Event → Core → Type 0 wher
 -- what a list of events does to a core
 pub data CoreRun (input : Input) : Core → List Event → Core → Type 0 where
   nothing : {core : Core} → CoreRun input core [] core
-  then : {core : Core} {event : Event} {next : Core} {events : List Event} {last : Core} → CoreStep input core event next → CoreRun input next events last
+  after_event : {core : Core} {event : Event} {next : Core} {events : List Event} {last : Core} → CoreStep input core event next → CoreRun input next events last
       → CoreRun input core (event ∷ events) last
 
 -- one subparser with the live configurations, before the first element, where there are any
@@ -234,7 +234,24 @@ filled (Some s ∷ rows) = going s ∷ filled rows
 abbrev pub pieces_of : Core → List Piece
 pieces_of core = filled core.rows ++ map over core.ended
 
--- the pieces that have the configuration
-abbrev pub pieces_at : List ℕ → List Piece → List Piece
-pieces_at c [] = []
-pieces_at c (piece ∷ pieces) = if condition_of piece c then piece ∷ pieces_at c pieces else pieces_at c pieces
+-- how many pieces have the configuration
+abbrev pub count : List ℕ → List Piece → ℕ
+count c [] = 0
+count c (piece ∷ pieces) = (if condition_of piece c then 1 else 0) + count c pieces
+
+-- at each of its configurations LR parsing comes to where the piece is
+abbrev pub IsReached : Input → Piece → Type 0
+IsReached input piece = (c : List ℕ) → IsConfig input.arities c → condition_of piece c ≡ true
+    → Reaches input.parser input.end (on (start (project c input.items))) (point_of input piece c)
+
+-- a live configuration has exactly one piece, any other none, and each piece is where LR parsing comes to
+pub record Stands (input : Input) (core : Core) : Type 0 where
+  pub counted : (c : List ℕ) → IsConfig input.arities c → count c (pieces_of core) ≡ (if input.live c then 1 else 0)
+  pub reached : All (IsReached input) (pieces_of core)
+
+-- Everything of the configuration has ended: this is its only piece.
+pub record IsAnswered (input : Input) (core : Core) (c : List ℕ) : Type 0 where
+  pub ended : Ended
+  pub member : Contains core.ended ended
+  pub has : ended.condition c ≡ true
+  pub answer : LR input.parser input.end (project c input.items) (ended.answer c)
