@@ -1,17 +1,17 @@
 -- Parsing computed on a small grammar: a text is one name, or empty.
-use Rattle.std.proofs.Common.{◌≡◌, ℕ, ◌==◌, ◌&&◌, if◌then◌else◌, List, [], ◌∷◌, true, false, Option, Some, None, Result, Ok, Err, codes, refl}
+use Rattle.std.proofs.Common.{◌≡◌, ℕ, ◌==◌, ◌&&◌, if◌then◌else◌, [], ◌∷◌, false, Option, Some, None, Ok, Err, codes, refl}
 use Rattle.lr_tables.specs.declared.grammar.Action.{Action}
 use Rattle.lr_tables.specs.declared.grammar.Action.TheVariants.{Shift, Reduce}
-use Rattle.lr_tables.specs.declared.grammar.Mark.TheVariants.{Push, PushParameters, Pop, Join, BindVariable, BindTypedef}
+use Rattle.lr_tables.specs.declared.grammar.Mark.TheVariants.{PushParameters, BindTypedef}
 use Rattle.lr_tables.specs.declared.grammar.Symbol.TheVariants.{Terminal, Nonterminal}
-use Rattle.sc_model.specs.declared.cause.Cause.TheVariants.{BadToken, Syntax}
+use Rattle.sc_model.specs.declared.cause.Cause.TheVariants.{Syntax}
 use Rattle.sc_model.specs.declared.kind.Kind.TheVariants.{Other}
 use Rattle.sc_model.specs.Fault.{fault_at}
 use Rattle.sc_model.specs.Token.{Place, Token}
-use Rattle.c11_parsing.specs.Bindings.{Declarators, Level, typedef, variable, innermost, join, marked, declared}
-use Rattle.c11_parsing.specs.LR.{LR, Reaches, here, later}
+use Rattle.c11_parsing.specs.Bindings.{Declarators, typedef, variable, innermost, join, marked, declared}
+use Rattle.c11_parsing.specs.LR.{LR, here, later}
 use Rattle.c11_parsing.specs.Parser.{Parser}
-use Rattle.c11_parsing.specs.Trees.{Tree, leaf, node, Forest, no_trees, trees}
+use Rattle.c11_parsing.specs.Trees.{Tree, leaf, node, no_trees, trees}
 
 place : ℕ → Place
 place n = record { file = []; position = record { line = 1; column = n } }

@@ -1,3 +1,4 @@
 pub mod Events
 pub mod Examples
 pub mod OneAnswer
+pub mod OneClass

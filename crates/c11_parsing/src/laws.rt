@@ -1,6 +1,6 @@
 //! Laws about the definitions, each the contract of a function without code.
 ghost use Rattle.std.specs.Prelude.{◌≡◌, ◌⊎◌, ℕ, true, List, Result};
-ghost use Rattle.c11_parsing.specs.Classes.{Input};
+ghost use Rattle.c11_parsing.specs.Classes.{Class, Input, IsClass};
 ghost use Rattle.c11_parsing.specs.Core.{Core, CoreRun, Event, IsAnswered, IsFinished, IsStart, Stands};
 ghost use Rattle.c11_parsing.specs.LR.{LR, Point, Reaches};
 ghost use Rattle.c11_parsing.specs.Parser.{Parser};
@@ -13,6 +13,11 @@ ghost use Rattle.sc_model.specs.Token.{Place, Token};
 pub fn parsing_has_one_answer()
     ensures way { (m : Parser) (end : Place) (x y z : Point) → Reaches m end x y → Reaches m end x z → Reaches m end y z ⊎ Reaches m end z y }
     ensures answer { (m : Parser) (end : Place) (ts : List Token) (a b : Result Tree Fault) → LR m end ts a → LR m end ts b → a ≡ b }
+{}
+
+/// A live configuration has one class at a place.
+pub fn classes_are_determined()
+    ensures { (input : Input) (i : ℕ) (c : List ℕ) (a b : Class) → IsClass input i c a → IsClass input i c b → a ≡ b }
 {}
 
 /// After any events each live configuration is at exactly one piece, where its own parsing comes
