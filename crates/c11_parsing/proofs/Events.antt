@@ -49,9 +49,16 @@ count-parted c (over e ∷ ps) = omega (arith, count-parted c ps)
 
 count-with : (c : List ℕ) (ps : List Piece) (core : Core) → count c (pieces_of (with_pieces ps core)) ≡ count c (pieces_of core) + count c ps
 count-with c ps core =
-    omega (arith, count-append c (filled (core.rows ++ going_in ps)) (map over (core.ended ++ over_in ps)), ap (count c) (filled-append core.rows (going_in ps)),
-    count-append c (filled core.rows) (filled (going_in ps)), ap (count c) (over-append core.ended (over_in ps)), count-append c (map over core.ended) (map over (over_in ps)),
-    count-parted c ps, count-append c (filled core.rows) (map over core.ended))
+    omega (
+      arith,
+      count-append c (filled (core.rows ++ going_in ps)) (map over (core.ended ++ over_in ps)),
+      ap (count c) (filled-append core.rows (going_in ps)),
+      count-append c (filled core.rows) (filled (going_in ps)),
+      ap (count c) (over-append core.ended (over_in ps)),
+      count-append c (map over core.ended) (map over (over_in ps)),
+      count-parted c ps,
+      count-append c (filled core.rows) (map over core.ended),
+    )
 
 count-without : (c : List ℕ) (n : ℕ) (s : Subparser) (core : Core) → slice_get core.rows n ≡ Some (Some s)
     → count c (pieces_of (without n core)) + unit (s.condition c) ≡ count c (pieces_of core)
@@ -191,8 +198,8 @@ module _ (input : Input) where
       let both : (s.condition c && next_from input i c == p.0) ≡ true = sym (belongs c is) ∙ has in
       let next : next_from input i c ≡ p.0 = eqb-true (next_from input i c) p.0 (and-right (s.condition c) (next_from input i c == p.0) both) in
       let looks : step input.parser input.end (run_of input s c) ≡ on (placed s c (at p.0)) =
-          ap (λ z. step input.parser input.end (placed s c z)) phase
-          ∙ ap (λ ts. on (record { stack = frames s.states (s.trees c); levels = s.levels c; left = ts; phase = lr.looking })) (sym (left-passed i c) ∙ ap (λ k. left_from input k c) next)
+      ap (λ z. step input.parser input.end (placed s c z)) phase
+      ∙ ap (λ ts. on (record { stack = frames s.states (s.trees c); levels = s.levels c; left = ts; phase = lr.looking })) (sym (left-passed i c) ∙ ap (λ k. left_from input k c) next)
       in
       subst (λ x. Reaches input.parser input.end (on (start (project c input.items))) x) looks
       (one_more input.parser input.end (on (start (project c input.items))) (run_of input s c) (reached c is (and-left (s.condition c) (next_from input i c == p.0) both)))
@@ -239,8 +246,13 @@ module _ (input : Input) where
   made-count s _ _ c is (reduces j p piece phase action h) = count-stepped s _ s.condition piece c is h
   made-count s _ _ c is (shifts j piece phase action h) = count-stepped s _ s.condition piece c is h
   made-count s _ _ c is (classifies j item types variables phase found t v) =
-      omega (arith, count-append c types variables, classified-count s j (is_typedef input s item.1) types c is t, classified-count s j (is_variable input s item.1) variables c is v,
-      unit-parts (s.condition c) (is_typedef input s item.1 c))
+      omega (
+        arith,
+        count-append c types variables,
+        classified-count s j (is_typedef input s item.1) types c is t,
+        classified-count s j (is_variable input s item.1) variables c is v,
+        unit-parts (s.condition c) (is_typedef input s item.1 c),
+      )
 
   -- merging
   row-other : (rows : List (Option Subparser)) (n o : ℕ) (row : Option Subparser) → (n ≡ o → ⊥) → slice_get rows o ≡ Some row → slice_get (slice_set rows n None) o ≡ Some row

@@ -1,4 +1,5 @@
--- What names stand for in nested scopes (C11 6.2.1), and what the reduction of a production does to it.
+-- What names stand for in nested scopes (C11 6.2.1), and what the reduction of a production does to
+-- it.
 use Rattle.std.specs.Prelude.{ℕ, zero, suc, Bool, List, [], ◌∷◌, ◌++◌, Option, Some, None, if◌then◌else◌}
 use Rattle.lr_tables.specs.declared.grammar.Mark.{Mark}
 use Rattle.lr_tables.specs.declared.grammar.Mark.TheVariants.{Push, PushParameters, Pop, Join, BindVariable, BindTypedef}

@@ -244,7 +244,8 @@ abbrev pub IsReached : Input → Piece → Type 0
 IsReached input piece = (c : List ℕ) → IsConfig input.arities c → condition_of piece c ≡ true
     → Reaches input.parser input.end (on (start (project c input.items))) (point_of input piece c)
 
--- a live configuration has exactly one piece, any other none, and each piece is where LR parsing comes to
+-- a live configuration has exactly one piece, any other none, and each piece is where LR parsing
+-- comes to
 pub record Stands (input : Input) (core : Core) : Type 0 where
   pub counted : (c : List ℕ) → IsConfig input.arities c → count c (pieces_of core) ≡ (if input.live c then 1 else 0)
   pub reached : All (IsReached input) (pieces_of core)

@@ -3,4 +3,6 @@
 
 mod laws;
 
-pub use laws::{classes_are_determined, parsing_has_one_answer, subparsers_follow_each_configuration};
+pub use laws::{
+    classes_are_determined, parsing_has_one_answer, subparsers_follow_each_configuration,
+};
