@@ -1,7 +1,7 @@
 -- What operations make: from what they make of the children, and as the diagram grows.
-use Rattle.std.proofs.Common.{◌≡◌, ◌≢◌, ℕ, zero, suc, ◌+◌, ◌<◌, ◌≤◌, ◌==◌, ◌&&◌, ◌||◌, not, min, Bool, true, false, List, [], ◌∷◌, ◌++◌, length, get_or, slice_get, Some, Contains, ◌⊎◌, inl, inr, refl, sym, ◌∙◌, ap, subst, arith, if◌then◌else◌}
+use Rattle.std.proofs.Common.{◌≡◌, ◌≢◌, ℕ, ◌+◌, ◌<◌, ◌≤◌, ◌==◌, ◌&&◌, ◌||◌, not, min, false, List, length, Contains, ◌⊎◌, inl, inr, refl, sym, ◌∙◌, ap, subst, arith, if◌then◌else◌}
 use Rattle.std.specs.Prelude.{slice_index, slice_set}
-use Rattle.std.proofs.lemmas.Bool.{cases_Bool, cases_lt, eqb-true, eq-eqb, true≢false, false≢true}
+use Rattle.std.proofs.lemmas.Bool.{cases_Bool, cases_lt, eqb-true, eq-eqb, true≢false}
 use Rattle.std.proofs.lemmas.List.{get_or-set_other}
 use Rattle.std.proofs.lemmas.Option.{get_or_from_slice_get}
 use Rattle.sc_model.specs.Sets.{IsConfig}
@@ -9,9 +9,9 @@ use Rattle.sc_model.proofs.SetLemmas.{IsConfig-set}
 use Rattle.sc_diagram.specs.declared.operation.Operation.{Operation}
 use Rattle.sc_diagram.specs.declared.operation.Operation.TheVariants.{And, Or, Negate, Part}
 use Rattle.sc_diagram.specs.declared.operation.Application.{Application}
-use Rattle.sc_diagram.specs.Diagram.{Diagram, IsDiagram, branch, branch_of, end_at, variable_of, child_of, next, sets_of}
+use Rattle.sc_diagram.specs.Diagram.{Diagram, IsDiagram, branch, branch_of, end_at, variable_of, child_of, sets_of}
 use Rattle.sc_diagram.specs.Grown.{Grows, IsChoice, only, decides}
-use Rattle.sc_diagram.specs.Applied.{combine, IsOption, IsOperation, IsApplication, Applies, AppliesEach, cofactor, application_at, first_of, IsBefore, IsKnown, Adds}
+use Rattle.sc_diagram.specs.Applied.{combine, IsOperation, IsApplication, Applies, AppliesEach, cofactor, application_at, first_of, IsBefore, IsKnown, Adds}
 use Rattle.sc_diagram.proofs.DiagramLemmas.{decision, has_next, own_part, later_child}
 use Rattle.sc_diagram.proofs.GrownLemmas.{branch_of-Grows, variable_of-Grows, own-Grows, has-Grows}
 

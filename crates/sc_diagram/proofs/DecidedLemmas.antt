@@ -1,12 +1,12 @@
 -- Operations whose result is told by the nodes at hand.
-use Rattle.std.proofs.Common.{◌≡◌, ◌≢◌, ℕ, zero, suc, ◌-◌, ◌<◌, ◌≤◌, ◌==◌, ◌&&◌, ◌||◌, not, Bool, true, false, List, length, inl, inr, refl, sym, ◌∙◌, ap, subst, arith}
-use Rattle.std.specs.Prelude.{slice_index, slice_set}
+use Rattle.std.proofs.Common.{◌≡◌, ◌≢◌, ℕ, zero, suc, ◌-◌, ◌<◌, ◌≤◌, ◌==◌, ◌&&◌, ◌||◌, not, Bool, true, false, List, inl, inr, refl, sym, ◌∙◌, ap, arith}
+use Rattle.std.specs.Prelude.{slice_set}
 use Rattle.std.proofs.lemmas.Bool.{cases_Bool, eqb-true, eq-eqb, true≢false}
 use Rattle.std.proofs.lemmas.Option.{slice_get_within}
 use Rattle.sc_model.specs.Sets.{IsConfig}
 use Rattle.sc_diagram.specs.declared.operation.Operation.{Operation}
 use Rattle.sc_diagram.specs.declared.operation.Operation.TheVariants.{And, Or, Negate, Part}
-use Rattle.sc_diagram.specs.Diagram.{Diagram, IsDiagram, variable_of, child_of, sets_of}
+use Rattle.sc_diagram.specs.Diagram.{Diagram, IsDiagram, variable_of, sets_of}
 use Rattle.sc_diagram.specs.Applied.{combine, IsApplication, Applies, IsShort, left_absorbs, right_neutral, same, right_absorbs, left_neutral, application, cofactor}
 use Rattle.sc_diagram.proofs.DiagramLemmas.{has_end, has_free, has_child, variable_end}
 use Rattle.sc_diagram.proofs.AppliedLemmas.{own_cofactor, from_cofactor, cofactor_child, cofactor_itself, wide}

@@ -1,12 +1,12 @@
 -- What the nodes of a diagram mean, and that nodes of one meaning are one.
-use Rattle.std.proofs.Common.{◌≡◌, ◌≢◌, ℕ, zero, suc, ◌+◌, ◌<◌, ◌≤◌, ◌==◌, Bool, true, false, List, [], ◌∷◌, length, get_or, slice_get, Some, replicate, ◌⊎◌, inl, inr, refl, sym, ◌∙◌, ap, subst, arith}
+use Rattle.std.proofs.Common.{◌≡◌, ◌≢◌, ℕ, zero, suc, ◌+◌, ◌<◌, ◌≤◌, ◌==◌, List, [], ◌∷◌, length, Some, replicate, ◌⊎◌, inl, inr, refl, sym, ◌∙◌, ap, arith}
 use Rattle.std.specs.Prelude.{slice_index, slice_set}
 use Rattle.std.proofs.lemmas.Bool.{cases_eq, cases_lt, cases_order, true≢false, false≢true}
 use Rattle.std.proofs.lemmas.List.{length-replicate, get_or-replicate, get_or-set_same, get_or-set_other, get_or_past}
-use Rattle.std.proofs.lemmas.Option.{slice_get_within, get_or_from_slice_get, slice_get-get_or}
-use Rattle.sc_model.specs.Sets.{IsConfig, HasOptions, IsSame, IsCond, IsCanonical}
+use Rattle.std.proofs.lemmas.Option.{get_or_from_slice_get, slice_get-get_or}
+use Rattle.sc_model.specs.Sets.{IsConfig, HasOptions, IsCanonical}
 use Rattle.sc_model.proofs.SetLemmas.{IsConfig-set}
-use Rattle.sc_diagram.specs.Diagram.{Branch, Diagram, IsDiagram, IsDecision, branch, end_at, branch_of, variable_of, child_of, next, walk, sets_of}
+use Rattle.sc_diagram.specs.Diagram.{Diagram, IsDiagram, IsDecision, end_at, branch_of, variable_of, child_of, next, walk, sets_of}
 
 -- a list has another item than x, or only x
 pub find_other : (xs : List ℕ) (x : ℕ) → ((k : ℕ) → k < length xs → slice_index xs k ≡ x) ⊎ record { place : ℕ; within : place < length xs; other : slice_index xs place ≡ x → ⊥ }

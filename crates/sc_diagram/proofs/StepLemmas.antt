@@ -1,12 +1,12 @@
 -- One step of an operation: the operation on what remains for each option of the first variable.
-use Rattle.std.proofs.Common.{◌≡◌, ℕ, suc, ◌+◌, ◌<◌, ◌≤◌, List, [], ◌∷◌, ◌++◌, length, inl, inr, refl, sym, ◌∙◌, ap, subst, arith}
+use Rattle.std.proofs.Common.{◌≡◌, ℕ, suc, ◌+◌, ◌<◌, ◌≤◌, List, [], ◌∷◌, ◌++◌, length, inl, inr, sym, ◌∙◌, ap, subst, arith}
 use Rattle.std.specs.Prelude.{slice_index}
 use Rattle.std.proofs.lemmas.Bool.{cases_lt}
 use Rattle.std.proofs.lemmas.List.{length_push, get_or_push, get_or_append_left}
 use Rattle.sc_diagram.specs.declared.operation.Application.{Application}
 use Rattle.sc_diagram.specs.Diagram.{Diagram, variable_of}
 use Rattle.sc_diagram.specs.Grown.{Grows, IsChoice}
-use Rattle.sc_diagram.specs.Applied.{IsApplication, Applies, AppliesEach, IsBefore, IsUndecided, application_at, first_of}
+use Rattle.sc_diagram.specs.Applied.{IsApplication, Applies, AppliesEach, IsUndecided, application_at, first_of}
 use Rattle.sc_diagram.proofs.AppliedLemmas.{first-le, later_cofactor, IsApplication-at, smaller_at, Applies-IsChoice, IsApplication-Grows, Applies-Grows, application_at-Grows, first_of-Grows, IsBefore-Grows}
 use Rattle.sc_diagram.proofs.GrownLemmas.{Grows-trans}
 

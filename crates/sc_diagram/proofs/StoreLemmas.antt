@@ -1,10 +1,9 @@
 -- What the calls of a store say of the sets that its nodes stand for.
-use Rattle.std.proofs.Common.{◌≡◌, ℕ, zero, suc, ◌<◌, ◌≤◌, ◌==◌, ◌&&◌, ◌||◌, not, Bool, true, false, List, length, ◌⊎◌, inl, inr, ◌↔◌, Option, None, Some, IfSome, IsNone, refl, sym, ◌∙◌, ap, subst, arith, if◌then◌else◌}
+use Rattle.std.proofs.Common.{◌≡◌, ℕ, zero, suc, ◌<◌, ◌≤◌, ◌==◌, ◌&&◌, ◌||◌, not, Bool, true, false, List, length, ◌⊎◌, inl, inr, refl, sym, ◌∙◌, ap, subst, arith, if◌then◌else◌}
 use Rattle.std.specs.Prelude.{slice_index, slice_set}
-use Rattle.std.proofs.lemmas.Bool.{cases_lt, cases_Bool, true≢false}
 use Rattle.std.proofs.lemmas.List.{set-set}
 use Rattle.std.proofs.lemmas.Option.{slice_get_within, get_or_from_slice_get}
-use Rattle.sc_model.specs.Sets.{IsConfig, IsCond, Denotes, IsNever, IsAlways, DependsOn, DependsFrom, IsTop}
+use Rattle.sc_model.specs.Sets.{IsConfig, Denotes, IsNever, IsAlways, IsTop}
 use Rattle.sc_model.proofs.SetLemmas.{IsConfig-set, IsConfig-kept, Denotes-Keeps, IsNever-DependsOn, IsAlways-DependsOn}
 use Rattle.sc_diagram.specs.declared.operation.Operation.{Operation}
 use Rattle.sc_diagram.specs.declared.operation.Operation.TheVariants.{And, Or, Negate, Part}
@@ -13,7 +12,7 @@ use Rattle.sc_diagram.specs.Diagram.{Diagram, IsDiagram, branch, branch_of, end_
 use Rattle.sc_diagram.specs.Grown.{Grows, Reaches, here, AddsOnly, IsChoice, only, decides}
 use Rattle.sc_diagram.specs.Applied.{combine, IsOperation, Applies, cofactor}
 use Rattle.sc_diagram.proofs.AppliedLemmas.{has_cofactor, own_cofactor, cofactor-lt}
-use Rattle.sc_diagram.proofs.DiagramLemmas.{decision, find_other, has_end, has_free, has_child, has_next, own_child, variable_end, differ}
+use Rattle.sc_diagram.proofs.DiagramLemmas.{decision, find_other, has_end, has_free, has_child, has_next, own_child, differ}
 use Rattle.sc_diagram.proofs.GrownLemmas.{Keeps-Grows}
 
 -- an operation on nodes that pass tests passes what it makes of the tests

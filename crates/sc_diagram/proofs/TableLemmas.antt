@@ -1,15 +1,14 @@
 -- The entries of the table, and the nodes that they are.
-use Rattle.std.proofs.Common.{◌≡◌, ℕ, zero, suc, ◌<◌, ◌==◌, ◌&&◌, Bool, true, false, List, [], ◌∷◌, ◌++◌, map, length, get_or, slice_get, Some, Contains, nat_eq, inl, inr, refl, sym, ◌∙◌, ap, subst, arith}
+use Rattle.std.proofs.Common.{◌≡◌, ℕ, zero, suc, ◌<◌, ◌==◌, ◌&&◌, Bool, List, [], ◌∷◌, ◌++◌, length, get_or, slice_get, Contains, nat_eq, refl, ◌∙◌, ap, subst, arith}
 use Rattle.std.specs.Bool.{Decides}
 use Rattle.std.specs.Cmp.Lexicographic.{pointwise}
 use Rattle.std.specs.Prelude.{slice_index}
-use Rattle.std.proofs.lemmas.Bool.{true≢false}
 use Rattle.std.proofs.lemmas.Bool.Decides.{Decides-eqb, Decides-and}
 use Rattle.std.proofs.lemmas.Slice.Eq.{slice_eq-Decides}
 use Rattle.sc_model.specs.Sets.{HasOptions}
 use Rattle.sc_base.specs.Interns.{Interns, known, fresh}
 use Rattle.sc_base.proofs.InternLemmas.{IsOneToOne-Interns}
-use Rattle.sc_diagram.specs.Diagram.{Branch, IsDiagram, branch, end_at}
+use Rattle.sc_diagram.specs.Diagram.{Branch, IsDiagram, end_at}
 
 abbrev pub branch_eq : Branch → Branch → Bool
 branch_eq a b = (a.variable == b.variable) && pointwise nat_eq a.children b.children

@@ -1,5 +1,5 @@
 -- Operations on nodes, and what they make.
-use Rattle.std.specs.Prelude.{◌≡◌, ℕ, ◌<◌, ◌≤◌, ◌==◌, ◌&&◌, ◌||◌, not, Bool, List, [], ◌∷◌, Contains, ◌⊎◌, length, slice_index, slice_set, min, if◌then◌else◌}
+use Rattle.std.specs.Prelude.{◌≡◌, ℕ, ◌<◌, ◌≤◌, ◌==◌, ◌&&◌, ◌||◌, not, Bool, List, Contains, ◌⊎◌, length, slice_index, slice_set, min, if◌then◌else◌}
 use Rattle.sc_model.specs.Sets.{IsConfig}
 use Rattle.sc_diagram.specs.Diagram.{Diagram, sets_of, variable_of, child_of}
 use Rattle.sc_diagram.specs.declared.operation.Operation.{Operation}

@@ -1,4 +1,4 @@
-use Rattle.std.proofs.Common.{◌≡◌, ℕ, ◌+◌, length}
+use Rattle.std.proofs.Common.{◌≡◌, ◌+◌, length}
 use Rattle.sc_diagram.specs.Grown.{Grows, AddsBelow}
 use Rattle.sc_diagram.specs.Applied.{IsKnown, AppliesEach}
 use Rattle.sc_diagram.proofs.apply.+apply.Given as goal

@@ -1,6 +1,6 @@
-use Rattle.std.proofs.Common.{◌≡◌, IfSome, sym, subst}
+use Rattle.std.proofs.Common.{sym, subst}
 use Rattle.std.proofs.lemmas.Option.{IfSome_then}
-use Rattle.sc_diagram.specs.Applied.{IsApplication, IsShort, Applies, application}
+use Rattle.sc_diagram.specs.Applied.{IsApplication, Applies, application}
 use Rattle.sc_diagram.proofs.DecidedLemmas.{Applies-And, Applies-Or, Applies-Negate, Applies-Part}
 use Rattle.sc_diagram.proofs.decided.decided.Goals as goal
 

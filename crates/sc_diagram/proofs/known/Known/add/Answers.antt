@@ -1,4 +1,3 @@
-use Rattle.std.proofs.Common.{◌≡◌, Contains, ◌⊎◌, sym, ap, subst}
 use Rattle.sc_diagram.proofs.KnownLemmas.{same_application, Contains-insert_entry}
 use Rattle.sc_diagram.proofs.known.Known.add.Goals as goal
 

@@ -1,7 +1,5 @@
-use Rattle.std.proofs.Common.{◌≡◌, Option, Some, None, IfSome, Contains, sym, ◌∙◌, ap, subst}
 use Rattle.std.proofs.lemmas.Map.Views.{IfSome-lookup}
 use Rattle.sc_diagram.proofs.KnownLemmas.{same_application}
-use Rattle.sc_diagram.specs.contracts.operation.ApplicationPartialEq.TheImpl as application
 use Rattle.sc_diagram.proofs.known.Known.find.Goals as goal
 
 pub returns : goal.returns

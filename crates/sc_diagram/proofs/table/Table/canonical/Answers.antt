@@ -1,6 +1,5 @@
 use Rattle.std.proofs.Common.{subst}
-use Rattle.sc_model.specs.Sets.{IsCanonical}
-use Rattle.sc_diagram.specs.Diagram.{IsDiagram, sets_of}
+use Rattle.sc_diagram.specs.Diagram.{IsDiagram}
 use Rattle.sc_diagram.proofs.DiagramLemmas.{IsCanonical-IsDiagram}
 use Rattle.sc_diagram.proofs.table.Table.canonical.Goals as goal
 

@@ -1,9 +1,8 @@
-use Rattle.std.proofs.Common.{◌≡◌, ◌<◌, ◌∙◌, length, map, refl, sym, ap, subst, arith}
-use Rattle.std.specs.Prelude.{slice_index}
+use Rattle.std.proofs.Common.{length, map, refl, sym, subst, arith}
 use Rattle.sc_base.specs.Interns.{Interns}
 use Rattle.sc_base.proofs.InternLemmas.{Interns-insert, Extends-Interns, stored_at}
-use Rattle.sc_diagram.specs.Diagram.{Diagram, IsDiagram, IsDecision, branch}
-use Rattle.sc_diagram.specs.Grown.{Grows, decides}
+use Rattle.sc_diagram.specs.Diagram.{IsDiagram, IsDecision, branch}
+use Rattle.sc_diagram.specs.Grown.{decides}
 use Rattle.sc_diagram.proofs.GrownLemmas.{IsDiagram-Interns, added}
 use Rattle.sc_diagram.proofs.TableLemmas.{branch_eq, branch_eq-Decides}
 use Rattle.sc_diagram.proofs.table.Table.choice.Goals as goal

@@ -1,4 +1,3 @@
-use Rattle.std.proofs.Common.{◌≡◌, ap}
 use Rattle.sc_base.proofs.InternLemmas.{Interns-insert}
 use Rattle.sc_diagram.specs.Diagram.{branch}
 use Rattle.sc_diagram.proofs.TableLemmas.{IsDiagram-first, branch_eq, branch_eq-Decides}
