@@ -1,6 +1,7 @@
 pub mod AppliedLemmas
 pub mod DecidedLemmas
 pub mod DiagramLemmas
+pub mod ExampleLemmas
 pub mod GrownLemmas
 pub mod KnownLemmas
 pub mod StepLemmas

@@ -5,6 +5,7 @@
 mod apply;
 mod choose;
 mod decided;
+mod example;
 mod known;
 mod operation;
 mod store;

@@ -1,4 +1,5 @@
 ghost use Rattle.std.specs.Prelude.{◌≡◌, ℕ, ◌+◌, ◌<◌, ◌==◌, ◌&&◌, ◌||◌, ◌⊎◌, ◌↔◌, not, Bool, true, false, List, length, slice_index, slice_set, IsNone, IfSome, IfOk};
+ghost use Rattle.std.specs.Bool.{OnTrue, OnFalse};
 ghost use Rattle.sc_model.specs.Growth.{Extends};
 ghost use Rattle.sc_model.specs.Sets.{HasOptions, IsConfig, IsCond, Denotes, Keeps, IsNever, IsAlways, IsTop, IsCanonical};
 ghost use Rattle.sc_diagram.specs.Diagram.{sets_of};
@@ -7,6 +8,7 @@ ghost use Rattle.sc_diagram.specs.Applied.{IsApplication, Applies, application};
 
 use crate::apply::apply;
 use crate::choose::choose;
+use crate::example::example;
 use crate::known::Known;
 use crate::operation::{Application, Operation};
 use crate::table::{ALWAYS, NEVER, Table};
@@ -181,6 +183,18 @@ impl Store {
         } else {
             None
         }
+    }
+
+    /// Writes a configuration that the node has.
+    pub fn example(&self, node: Node, into: &mut [usize]) -> bool
+        requires own { IsCond (sets_of self.now) node.0 }
+        requires long { length into.old ≡ length self.now.arities }
+        ensures never { (result ≡ false) ↔ IsNever (sets_of self.now) node.0 }
+        ensures config { OnTrue result (IsConfig self.now.arities into.new) }
+        ensures has { OnTrue result ((sets_of self.now).has node.0 into.new ≡ true) }
+        ensures untouched { OnFalse result (into.new ≡ into.old) }
+    {
+        example(&self.table, node.0, into)
     }
 
     /// Nodes that stand for the same set are one. This takes no time: it tells a proof.
