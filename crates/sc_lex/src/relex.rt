@@ -2,8 +2,7 @@ ghost use Rattle.std.specs.Prelude.{◌≡◌, ◌||◌, ◌<◌, length};
 ghost use Rattle.c11_tokens.specs.Lex.{is_white_space, is_comment, is_identifier, is_number, is_character, is_text, is_punctuator};
 ghost use Rattle.c11_tokens.specs.Relex.{relexed};
 
-use crate::Kind;
-use crate::scan;
+use crate::{Kind, scan};
 
 /// The token that the bytes are exactly, without translation phases 1 and 2. A header name is none.
 pub fn relex_one(bytes: &[u8]) -> Option<Kind>
