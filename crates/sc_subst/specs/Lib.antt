@@ -1,0 +1,2 @@
+pub mod Hides
+pub mod Rising
