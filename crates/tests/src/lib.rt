@@ -1,4 +1,4 @@
-//! The tests, over public calls.
+//! The tests of the libraries, over public calls.
 #![tactic(auto)]
 
 #[cfg(test)]
@@ -17,8 +17,6 @@ mod lex;
 mod lines;
 #[cfg(test)]
 mod presence;
-#[cfg(test)]
-mod program;
 #[cfg(test)]
 mod show;
 #[cfg(test)]

@@ -1,0 +1,5 @@
+//! The tests of the program as one call.
+#![tactic(auto)]
+
+#[cfg(test)]
+mod program;
