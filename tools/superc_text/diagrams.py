@@ -6,7 +6,7 @@ conditions with the same configurations are one number.
 """
 from __future__ import annotations
 
-from collections.abc import Iterable, Mapping
+from collections.abc import Container, Iterable, Mapping
 
 NEVER = 0
 ALWAYS = 1
@@ -118,14 +118,18 @@ class Diagrams:
             condition = self._children[condition][options.index(option)]
         return condition == ALWAYS
 
-    def reachable(self, conditions: Iterable[int]) -> list[int]:
-        """The nodes below some conditions with themselves, each after its children."""
+    def reachable(
+        self, conditions: Iterable[int], among: Container[int] | None = None
+    ) -> list[int]:
+        """The nodes below some conditions with themselves, each after its children; where `among`
+        is given, those of it that are reached through it alone.
+        """
         done: set[int] = {NEVER, ALWAYS}
         order: list[int] = []
         waiting = [(condition, False) for condition in reversed(list(conditions))]
         while waiting:
             condition, is_finished = waiting.pop()
-            if condition in done:
+            if condition in done or (among is not None and condition not in among):
                 continue
             if is_finished:
                 done.add(condition)

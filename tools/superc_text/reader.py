@@ -178,28 +178,12 @@ class Reader:
     def _needs(self, conditions: Iterable[int]) -> None:
         """Refuses new lines of conditions that are not exactly those that these need, in order."""
         if self._new_conditions:
-            new = set(self._new_conditions)
-            needed = self._new_below(conditions, new)
+            needed = self.diagrams.reachable(conditions, set(self._new_conditions))
             _need(
                 needed == self._new_conditions,
                 "the lines of conditions before this line are not those that it needs",
             )
             self._new_conditions = []
-
-    def _new_below(self, conditions: Iterable[int], new: set[int]) -> list[int]:
-        order: list[int] = []
-        waiting = [(condition, False) for condition in reversed(list(conditions))]
-        while waiting:
-            condition, is_finished = waiting.pop()
-            if condition not in new:
-                continue
-            if is_finished:
-                new.discard(condition)
-                order.append(condition)
-                continue
-            waiting.append((condition, True))
-            waiting.extend((child, False) for child in reversed(self.diagrams.children(condition)))
-        return order
 
     def _place(self, file: bytes, line: bytes, column: bytes) -> Place:
         number = int(file)
