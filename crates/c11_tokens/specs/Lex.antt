@@ -1,6 +1,6 @@
 -- From the bytes of a file to its tokens (C11 5.1.1.2, 6.4).
-use Rattle.std.specs.Prelude.{◌≡◌, ℕ, zero, suc, ◌+◌, ◌<◌, ◌≤◌, ◌==◌, ◌&&◌, ◌||◌, not, Bool, true, false, List, [], ◌∷◌, ◌++◌, length, map, take, drop, codes, Result, Ok, Err, if◌then◌else◌}
-use Rattle.std.specs.List.{list_all, list_any}
+use Rattle.std.specs.Prelude.{◌≡◌, ℕ, zero, suc, ◌+◌, ◌<◌, ◌≤◌, ◌==◌, ◌&&◌, ◌||◌, not, Bool, true, false, List, [], ◌∷◌, ◌++◌, length, map, take, drop, codes, Option, Some, None, Result, Ok, Err, if◌then◌else◌}
+use Rattle.std.specs.List.{list_all, list_any, count_by}
 use Rattle.sc_model.specs.declared.kind.Kind.{Kind}
 use Rattle.sc_model.specs.declared.kind.Kind.TheVariants.{Identifier, Number, Character, Text, Header, Punctuator, Other, Newline}
 use Rattle.sc_model.specs.Bytes.{same_bytes, begins_with, is_digit, is_hex_digit, is_letter, has_no_newline}
@@ -38,8 +38,55 @@ with_last_newline (m ∷ []) =
     else m ∷ record { byte = 10; position = record { line = m.position.line; column = m.position.column + 1 } } ∷ []
 with_last_newline (m ∷ n ∷ ms) = m ∷ with_last_newline (n ∷ ms)
 
+-- the byte that `??` stands for with the byte after it (5.2.1.1)
+abbrev pub trigraph_end : ℕ → Option ℕ
+trigraph_end c =
+    if c == 61 then Some 35
+    else (if c == 40 then Some 91
+    else (if c == 47 then Some 92
+    else (if c == 41 then Some 93
+    else (if c == 39 then Some 94
+    else (if c == 60 then Some 123
+    else (if c == 33 then Some 124
+    else (if c == 62 then Some 125
+    else (if c == 45 then Some 126 else None))))))))
+
+abbrev pub trigraph : ℕ → ℕ → ℕ → Option ℕ
+trigraph a b c = if (a == 63) && (b == 63) then trigraph_end c else None
+
+-- a trigraph sequence is replaced by one byte, which stands where the sequence begins
+abbrev pub replaced : Marked → Option ℕ → List Marked → List Marked → List Marked
+replaced m (Some byte) kept rest = record { byte = byte; position = m.position } ∷ rest
+replaced m None kept rest = m ∷ kept
+
+abbrev pub without_trigraphs : List Marked → List Marked
+without_trigraphs [] = []
+without_trigraphs (m ∷ []) = m ∷ []
+without_trigraphs (m ∷ n ∷ []) = m ∷ n ∷ []
+without_trigraphs (m ∷ n ∷ o ∷ ms) =
+    replaced m (trigraph m.byte n.byte o.byte) (without_trigraphs (n ∷ o ∷ ms)) (without_trigraphs ms)
+
 abbrev pub phase_1 : List ℕ → List Marked
-phase_1 bytes = with_last_newline (without_returns (without_order_mark (marked_from 1 1 bytes)))
+phase_1 bytes = without_trigraphs (with_last_newline (without_returns (without_order_mark (marked_from 1 1 bytes))))
+
+-- Phase 2. A backslash directly before a newline is deleted with it.
+abbrev pub is_splice : Marked → Marked → Bool
+is_splice m n = (m.byte == 92) && (n.byte == 10)
+
+-- a last newline that is so lost is supplied where it stood
+abbrev pub without_splices : List Marked → List Marked
+without_splices [] = []
+without_splices (m ∷ []) = m ∷ []
+without_splices (m ∷ n ∷ []) = if is_splice m n then n ∷ [] else m ∷ n ∷ []
+without_splices (m ∷ n ∷ o ∷ ms) =
+    if is_splice m n then without_splices (o ∷ ms) else m ∷ without_splices (n ∷ o ∷ ms)
+
+abbrev pub phase_2 : List ℕ → List Marked
+phase_2 bytes = without_splices (phase_1 bytes)
+
+-- where a file ends: the line after the last newline that phase 1 leaves or supplies
+abbrev pub end_position : List ℕ → Position
+end_position bytes = record { line = 1 + count_by (λ m. m.byte == 10) (phase_1 bytes); column = 1 }
 
 -- Phase 3. What a piece of the text can be: white space (6.4p3), or a token.
 pub data PieceKind : Type 0 where
@@ -269,4 +316,4 @@ pub data Lexes : List (List ℕ) → Bool → List Marked → Result (List Lexem
 
 -- the tokens of a file, or the position of its first comment without an end
 abbrev pub Lexed : List ℕ → Result (List Lexeme) Position → Type 0
-Lexed bytes r = Lexes [] false (phase_1 bytes) r
+Lexed bytes r = Lexes [] false (phase_2 bytes) r
