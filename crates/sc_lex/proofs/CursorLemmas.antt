@@ -1,9 +1,9 @@
--- A cursor steps through the text that phase 1 makes of a file.
+-- What a cursor is left with, before trigraph sequences are replaced.
 use Rattle.std.proofs.Common.{◌≡◌, ℕ, ◌+◌, ◌==◌, ◌&&◌, not, Bool, true, false, cond, List, [], ◌∷◌, drop, Option, Some, None, refl, sym, ap, ◌∙◌, subst, arith}
 use Rattle.std.proofs.lemmas.Bool.{and_parts, eqb-true}
 use Rattle.sc_model.specs.Bytes.{begins_with}
-use Rattle.c11_tokens.specs.Lex.{Marked, marked_from, bytes_of, without_returns, with_last_newline, phase_1}
-use Rattle.sc_lex.specs.Cursor.{logical, Takes}
+use Rattle.c11_tokens.specs.Lex.{Marked, marked_from, bytes_of, without_returns, with_last_newline, without_trigraphs, phase_1}
+use Rattle.sc_lex.specs.Cursor.{stored, Takes}
 use Rattle.sc_lex.proofs.Quotes.{eqb_comm}
 
 bytes_of-marked_from : (line column : ℕ) (bs : List ℕ) → bytes_of (marked_from line column bs) ≡ bs
@@ -46,25 +46,25 @@ finished-newline wanted wanted' line column l c l' c' (b ∷ bs) is =
 
 -- one byte of it, where the rest is known
 module _ (wanted : Bool) (line column b : ℕ) (bs : List ℕ)
-    (next : logical false (line + 1) 1 bs ≡ finished false (line + 1) 1 (without_returns (marked_from (line + 1) 1 bs)))
-    (same : logical true line (column + 1) bs ≡ finished true line (column + 1) (without_returns (marked_from line (column + 1) bs))) where
+    (next : stored false (line + 1) 1 bs ≡ finished false (line + 1) 1 (without_returns (marked_from (line + 1) 1 bs)))
+    (same : stored true line (column + 1) bs ≡ finished true line (column + 1) (without_returns (marked_from line (column + 1) bs))) where
   -- what the byte and the rest make, by what comes after
   kept : Bool → List Marked → List Marked
   kept return ms = cond return (without_returns ms) (at b line column ∷ without_returns ms)
 
-  plain : (b == 10) ≡ false → (at b line column ∷ logical true line (column + 1) bs) ≡ finished wanted line column (at b line column ∷ without_returns (marked_from line (column + 1) bs))
+  plain : (b == 10) ≡ false → (at b line column ∷ stored true line (column + 1) bs) ≡ finished wanted line column (at b line column ∷ without_returns (marked_from line (column + 1) bs))
   plain e =
       ap (λ xs. at b line column ∷ xs) same
       ∙ ap (λ t. at b line column ∷ finished (not t) line (column + 1) (without_returns (marked_from line (column + 1) bs))) (sym e)
 
   before_newline : (newline : Bool) → begins_with (10 ∷ []) bs ≡ newline → (b == 10) ≡ false
-      → cond newline (logical true line (column + 1) bs) (at b line column ∷ logical true line (column + 1) bs) ≡ finished wanted line column (kept newline (marked_from line (column + 1) bs))
+      → cond newline (stored true line (column + 1) bs) (at b line column ∷ stored true line (column + 1) bs) ≡ finished wanted line column (kept newline (marked_from line (column + 1) bs))
   unfolding kept
   before_newline true is e = same ∙ finished-newline true wanted line (column + 1) line (column + 1) line column bs is
   before_newline false is e = plain e
 
   one : (newline return : Bool) → (b == 10) ≡ newline → (b == 13) ≡ return
-      → cond (return && begins_with (10 ∷ []) bs) (logical true line (column + 1) bs) (at b line column ∷ cond newline (logical false (line + 1) 1 bs) (logical true line (column + 1) bs))
+      → cond (return && begins_with (10 ∷ []) bs) (stored true line (column + 1) bs) (at b line column ∷ cond newline (stored false (line + 1) 1 bs) (stored true line (column + 1) bs))
       ≡ finished wanted line column (kept (return && begins_with (10 ∷ []) (bytes_of (cond newline (marked_from (line + 1) 1 bs) (marked_from line (column + 1) bs)))) (cond newline (marked_from (line + 1) 1 bs) (marked_from line (column + 1) bs)))
   unfolding kept
   one true true e r = let newline = eqb-true b 10 e in let return = eqb-true b 13 r in absurd (omega arith)
@@ -76,22 +76,23 @@ module _ (wanted : Bool) (line column b : ℕ) (bs : List ℕ)
       ∙ ap (λ xs. finished wanted line column (kept (begins_with (10 ∷ []) xs) (marked_from line (column + 1) bs))) (sym (bytes_of-marked_from line (column + 1) bs))
   one false false e r = plain e
 
-  first_byte : logical wanted line column (b ∷ bs) ≡ finished wanted line column (without_returns (marked_from line column (b ∷ bs)))
+  first_byte : stored wanted line column (b ∷ bs) ≡ finished wanted line column (without_returns (marked_from line column (b ∷ bs)))
   unfolding kept
   first_byte = one (b == 10) (b == 13) refl refl
 
-logical-is : (wanted : Bool) (line column : ℕ) (bs : List ℕ) → logical wanted line column bs ≡ finished wanted line column (without_returns (marked_from line column bs))
-logical-is wanted line column [] = refl
-logical-is wanted line column (b ∷ bs) = first_byte wanted line column b bs (logical-is false (line + 1) 1 bs) (logical-is true line (column + 1) bs)
+stored-is : (wanted : Bool) (line column : ℕ) (bs : List ℕ) → stored wanted line column bs ≡ finished wanted line column (without_returns (marked_from line column bs))
+stored-is wanted line column [] = refl
+stored-is wanted line column (b ∷ bs) = first_byte wanted line column b bs (stored-is false (line + 1) 1 bs) (stored-is true line (column + 1) bs)
 
 -- the whole file
-pub phase_1-plain : (bs : List ℕ) → begins_with (239 ∷ 187 ∷ 191 ∷ []) bs ≡ false → logical false 1 1 bs ≡ phase_1 bs
+pub phase_1-plain : (bs : List ℕ) → begins_with (239 ∷ 187 ∷ 191 ∷ []) bs ≡ false → without_trigraphs (stored false 1 1 bs) ≡ phase_1 bs
 phase_1-plain bs off =
-    logical-is false 1 1 bs ∙ sym (finished-is (without_returns (marked_from 1 1 bs)) 1 1)
-    ∙ ap (λ t. with_last_newline (without_returns (cond t (drop 3 (marked_from 1 1 bs)) (marked_from 1 1 bs)))) (sym (ap (begins_with (239 ∷ 187 ∷ 191 ∷ [])) (bytes_of-marked_from 1 1 bs) ∙ off))
+    ap without_trigraphs
+    (stored-is false 1 1 bs ∙ sym (finished-is (without_returns (marked_from 1 1 bs)) 1 1)
+    ∙ ap (λ t. with_last_newline (without_returns (cond t (drop 3 (marked_from 1 1 bs)) (marked_from 1 1 bs)))) (sym (ap (begins_with (239 ∷ 187 ∷ 191 ∷ [])) (bytes_of-marked_from 1 1 bs) ∙ off)))
 
 -- behind the order mark
-pub phase_1-marked : (bs : List ℕ) → begins_with (239 ∷ 187 ∷ 191 ∷ []) bs ≡ true → logical false 1 4 (drop 3 bs) ≡ phase_1 bs
+pub phase_1-marked : (bs : List ℕ) → begins_with (239 ∷ 187 ∷ 191 ∷ []) bs ≡ true → without_trigraphs (stored false 1 4 (drop 3 bs)) ≡ phase_1 bs
 phase_1-marked [] is = cc
 phase_1-marked (x ∷ []) is = let halves = and_parts (239 == x) false is in cc
 phase_1-marked (x ∷ y ∷ []) is = let halves = and_parts (239 == x) _ is in let more = and_parts (187 == y) false halves.1 in cc
@@ -99,34 +100,34 @@ phase_1-marked (x ∷ y ∷ z ∷ bs) is =
     let first = and_parts (239 == x) _ is in
     let second = and_parts (187 == y) _ first.1 in
     let third = and_parts (191 == z) true second.1 in
-    subst (λ a. logical false 1 4 bs ≡ phase_1 (a ∷ y ∷ z ∷ bs)) (eqb-true 239 x first.0)
-    (subst (λ a. logical false 1 4 bs ≡ phase_1 (239 ∷ a ∷ z ∷ bs)) (eqb-true 187 y second.0)
-    (subst (λ a. logical false 1 4 bs ≡ phase_1 (239 ∷ 187 ∷ a ∷ bs)) (eqb-true 191 z third.0) (marked bs)))
+    subst (λ a. without_trigraphs (stored false 1 4 bs) ≡ phase_1 (a ∷ y ∷ z ∷ bs)) (eqb-true 239 x first.0)
+    (subst (λ a. without_trigraphs (stored false 1 4 bs) ≡ phase_1 (239 ∷ a ∷ z ∷ bs)) (eqb-true 187 y second.0)
+    (subst (λ a. without_trigraphs (stored false 1 4 bs) ≡ phase_1 (239 ∷ 187 ∷ a ∷ bs)) (eqb-true 191 z third.0) (marked bs)))
   where
-    marked : (bs : List ℕ) → logical false 1 4 bs ≡ phase_1 (239 ∷ 187 ∷ 191 ∷ bs)
-    marked bs = logical-is false 1 4 bs ∙ sym (finished-is (without_returns (marked_from 1 4 bs)) 1 4)
+    marked : (bs : List ℕ) → without_trigraphs (stored false 1 4 bs) ≡ phase_1 (239 ∷ 187 ∷ 191 ∷ bs)
+    marked bs = ap without_trigraphs (stored-is false 1 4 bs ∙ sym (finished-is (without_returns (marked_from 1 4 bs)) 1 4))
 
 -- a carriage return before a newline
-pub logical-return : (wanted : Bool) (line column : ℕ) (bs : List ℕ) → begins_with (13 ∷ 10 ∷ []) bs ≡ true → logical true line (column + 1) (drop 1 bs) ≡ logical wanted line column bs
-logical-return wanted line column [] is = cc
-logical-return wanted line column (b ∷ bs) is =
+pub stored-return : (wanted : Bool) (line column : ℕ) (bs : List ℕ) → begins_with (13 ∷ 10 ∷ []) bs ≡ true → stored true line (column + 1) (drop 1 bs) ≡ stored wanted line column bs
+stored-return wanted line column [] is = cc
+stored-return wanted line column (b ∷ bs) is =
     let halves = and_parts (13 == b) (begins_with (10 ∷ []) bs) is in
-    ap (λ t. cond t (logical true line (column + 1) bs) (at b line column ∷ cond (b == 10) (logical false (line + 1) 1 bs) (logical true line (column + 1) bs)))
+    ap (λ t. cond t (stored true line (column + 1) bs) (at b line column ∷ cond (b == 10) (stored false (line + 1) 1 bs) (stored true line (column + 1) bs)))
     (sym (ap (λ t. t && begins_with (10 ∷ []) bs) (eqb_comm b 13 ∙ halves.0) ∙ halves.1))
 
 -- any other byte
-pub logical-byte : (wanted : Bool) (line column b : ℕ) (bs : List ℕ) → begins_with (13 ∷ 10 ∷ []) (b ∷ bs) ≡ false
-    → logical wanted line column (b ∷ bs) ≡ at b line column ∷ cond (b == 10) (logical false (line + 1) 1 bs) (logical true line (column + 1) bs)
-logical-byte wanted line column b bs off =
-    ap (λ t. cond (t && begins_with (10 ∷ []) bs) (logical true line (column + 1) bs) (at b line column ∷ cond (b == 10) (logical false (line + 1) 1 bs) (logical true line (column + 1) bs))) (eqb_comm b 13)
-    ∙ ap (λ t. cond t (logical true line (column + 1) bs) (at b line column ∷ cond (b == 10) (logical false (line + 1) 1 bs) (logical true line (column + 1) bs))) off
+pub stored-byte : (wanted : Bool) (line column b : ℕ) (bs : List ℕ) → begins_with (13 ∷ 10 ∷ []) (b ∷ bs) ≡ false
+    → stored wanted line column (b ∷ bs) ≡ at b line column ∷ cond (b == 10) (stored false (line + 1) 1 bs) (stored true line (column + 1) bs)
+stored-byte wanted line column b bs off =
+    ap (λ t. cond (t && begins_with (10 ∷ []) bs) (stored true line (column + 1) bs) (at b line column ∷ cond (b == 10) (stored false (line + 1) 1 bs) (stored true line (column + 1) bs))) (eqb_comm b 13)
+    ∙ ap (λ t. cond t (stored true line (column + 1) bs) (at b line column ∷ cond (b == 10) (stored false (line + 1) 1 bs) (stored true line (column + 1) bs))) off
 
 -- where the first byte stands
-pub logical-first : (wanted : Bool) (line column : ℕ) (bs : List ℕ) → begins_with (13 ∷ 10 ∷ []) bs ≡ false → (m : Marked) (ms : List Marked)
-    → logical wanted line column bs ≡ m ∷ ms → m.position ≡ record { line = line; column = column }
-logical-first true line column [] off m ms is = cc
-logical-first false line column [] off m ms is = cc
-logical-first wanted line column (b ∷ bs) off m ms is = let same = sym (logical-byte wanted line column b bs off) ∙ is in cc
+pub stored-first : (wanted : Bool) (line column : ℕ) (bs : List ℕ) → begins_with (13 ∷ 10 ∷ []) bs ≡ false → (m : Marked) (ms : List Marked)
+    → stored wanted line column bs ≡ m ∷ ms → m.position ≡ record { line = line; column = column }
+stored-first true line column [] off m ms is = cc
+stored-first false line column [] off m ms is = cc
+stored-first wanted line column (b ∷ bs) off m ms is = let same = sym (stored-byte wanted line column b bs off) ∙ is in cc
 
 pub Takes-drop : (old new : List Marked) (o : Option ℕ) → Takes old o new → new ≡ drop 1 old
 Takes-drop old new None t = t.1 ∙ ap (drop 1) (sym t.0)

@@ -7,7 +7,7 @@ use Rattle.sc_base.specs.declared.place.Place.{Place}
 use Rattle.sc_model.specs.declared.kind.Kind.{Kind}
 use Rattle.sc_model.specs.Growth.{Extends}
 use Rattle.sc_model.specs.Token.{Position, Lexeme, name_of}
-use Rattle.c11_tokens.specs.Lex.{PieceKind, token, Marked, bytes_of, IsLongest, IsUnended, is_white, is_newline, line_after, with_first, Lexes, nothing, white, piece, unended, Lexed, phase_1}
+use Rattle.c11_tokens.specs.Lex.{PieceKind, token, Marked, bytes_of, IsLongest, IsUnended, is_white, is_newline, line_after, with_first, Lexes, nothing, white, piece, unended, Lexed, phase_2}
 use Rattle.sc_base.specs.declared.token.Token.{Token}
 use Rattle.sc_lex.specs.declared.line.LineFront.{LineFront}
 use Rattle.sc_lex.specs.Line.{front_of}
@@ -59,7 +59,7 @@ module _ (line : List (List ℕ)) (space : Bool) (bs : List ℕ) (some : 0 < len
   unended-lexes [] p is first u = let none = ap length is in absurd (omega arith)
   unended-lexes (m ∷ ms) p is first u = subst (λ q. Lexes line space (m ∷ ms) (Err q)) (first m ms refl) (unended (subst IsUnended (sym is) u))
 
-pub nothing_yet : (names : List (List ℕ)) (file : FileId) (bytes text : List ℕ) (front : LineFront) (left : List Marked) → front_of [] ≡ front → left ≡ phase_1 bytes → text ≡ bytes_of (phase_1 bytes)
+pub nothing_yet : (names : List (List ℕ)) (file : FileId) (bytes text : List ℕ) (front : LineFront) (left : List Marked) → front_of [] ≡ front → left ≡ phase_2 bytes → text ≡ bytes_of (phase_2 bytes)
     → LexedSoFar names file bytes text front false left 0 []
 nothing_yet names file bytes text front left start is text_is = record {
   lexemes = [];

@@ -5,9 +5,11 @@ pub mod Fronts
 pub mod Lexing
 pub mod Lines
 pub mod Names
+pub mod Newlines
 pub mod Punctuators
 pub mod Quotes
 pub mod Relexing
 pub mod SeenLemmas
 pub mod Spells
+pub mod Splices
 pub mod UnclosedLemmas

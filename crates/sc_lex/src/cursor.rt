@@ -1,13 +1,14 @@
-ghost use Rattle.std.specs.Prelude.{◌≡◌, ◌+◌, ◌^◌, ◌<◌, [], ◌∷◌, false, List, length, drop, IfOk};
+ghost use Rattle.std.specs.Prelude.{◌≡◌, ◌+◌, ◌^◌, ◌<◌, [], ◌∷◌, false, List, length, drop, IfOk, IfSome, IfNone};
 ghost use Rattle.sc_model.specs.Bytes.{begins_with};
-ghost use Rattle.c11_tokens.specs.Lex.{Marked, phase_1, bytes_of};
-ghost use Rattle.sc_lex.specs.Cursor.{Takes};
+ghost use Rattle.c11_tokens.specs.Lex.{Marked, phase_1, bytes_of, trigraph_end, without_trigraphs};
+ghost use Rattle.sc_lex.specs.Cursor.{Takes, KeepsFirst, newlines_of};
 
 use sc_base::{FileId, OutOfMemory, Place};
 use std::alloc::Global;
 
 /// A file from some byte on, as the later phases of translation see it: without an order mark,
-/// without a carriage return before a newline, and with a newline at its end.
+/// without a carriage return before a newline, with a newline at its end, trigraph sequences
+/// replaced and lines spliced.
 #[derive(Clone, Copy)]
 pub struct Cursor<'a> {
     rest: &'a [u8],
@@ -20,12 +21,12 @@ pub struct Cursor<'a> {
 }
 
 impl<'a> Cursor<'a> {
-    ghost use Rattle.sc_lex.specs.Logical.{logical_of};
+    ghost use Rattle.sc_lex.specs.Logical.{stored_of, replaced_of, logical_of};
     ghost use Rattle.sc_base.specs.Seen.{position_of};
 
     /// A whole file.
     pub fn new(bytes: &'a [u8]) -> Cursor<'a>
-        ensures { logical_of result ≡ phase_1 bytes.now }
+        ensures { replaced_of result ≡ phase_1 bytes.now }
     {
         if bytes.starts_with(b"\xef\xbb\xbf") {
             return Cursor {
@@ -50,46 +51,13 @@ impl<'a> Cursor<'a> {
         ensures first { (m : Marked) (ms : List Marked)
             → logical_of self.old ≡ m ∷ ms → m.position ≡ position_of result }
     {
+        self.skip_splices();
         self.skip_return();
         Place {
             file,
             line: self.line,
             column: self.column,
         }
-    }
-
-    /// Steps over a carriage return before a newline.
-    fn skip_return(&mut self)
-        ensures same { logical_of self.new ≡ logical_of self.old }
-        ensures none { begins_with (13 ∷ 10 ∷ []) self.new.rest.now ≡ false }
-    {
-        if self.rest.starts_with(b"\r\n") {
-            self.rest = &self.rest[1..];
-            self.column += 1;
-            self.wanted = true;
-        }
-    }
-
-    /// Takes the next byte.
-    fn next(&mut self) -> Option<u8>
-        ensures { Takes (logical_of self.old) result (logical_of self.new) }
-    {
-        self.skip_return();
-        if self.rest.is_empty() {
-            let wanted = self.wanted;
-            self.wanted = false;
-            return wanted.then_some(b'\n');
-        }
-        let b = self.rest[0];
-        self.rest = &self.rest[1..];
-        self.wanted = b != b'\n';
-        if self.wanted {
-            self.column += 1;
-        } else {
-            self.line += 1;
-            self.column = 1;
-        }
-        Some(b)
     }
 
     /// Steps over so many bytes.
@@ -110,5 +78,144 @@ impl<'a> Cursor<'a> {
             text.push(b)?;
         }
         Ok(text)
+    }
+
+    /// How many newlines come before lines are spliced.
+    pub fn newlines(self) -> usize
+        ensures all { result ≡ newlines_of (replaced_of self.entry) }
+        ensures few { result + 1 < 2 ^ 64 }
+    {
+        let mut wanted = self.wanted;
+        let mut newlines = 0;
+        for b in self.rest {
+            wanted = *b != b'\n';
+            if !wanted {
+                newlines += 1;
+            }
+        }
+        if wanted { newlines + 1 } else { newlines }
+    }
+
+    /// Takes the next byte.
+    fn next(&mut self) -> Option<u8>
+        ensures { Takes (logical_of self.old) result (logical_of self.new) }
+    {
+        self.skip_splices();
+        self.next_replaced()
+    }
+
+    /// Steps over splices (C11 5.1.1.2p1, phase 2).
+    fn skip_splices(&mut self)
+        ensures same { logical_of self.new ≡ logical_of self.old }
+        ensures first { KeepsFirst (replaced_of self.new) }
+    {
+        while let Some(next) = self.after_splice() {
+            *self = next;
+        }
+    }
+
+    /// What follows the splice that comes first. The last newline stays.
+    fn after_splice(mut self) -> Option<Cursor<'a>>
+        ensures same { IfSome result (λ next. logical_of next ≡ logical_of self.entry) }
+        ensures shorter { IfSome result (λ next. length (replaced_of next) < length (replaced_of self.entry)) }
+        ensures none { IfNone result (KeepsFirst (replaced_of self.entry)) }
+    {
+        if self.next_replaced() != Some(b'\\') {
+            return None;
+        }
+        let newline = self;
+        if self.next_replaced() != Some(b'\n') {
+            return None;
+        }
+        let after = self;
+        match self.next_replaced() {
+            Some(_) => Some(after),
+            None => Some(newline),
+        }
+    }
+
+    /// Takes the next byte, with lines not yet spliced.
+    fn next_replaced(&mut self) -> Option<u8>
+        ensures { Takes (replaced_of self.old) result (replaced_of self.new) }
+    {
+        let first = self.next_stored();
+        if first != Some(b'?') {
+            return first;
+        }
+        match self.rest_of_trigraph() {
+            Some((byte, rest)) => {
+                *self = rest;
+                Some(byte)
+            }
+            None => first,
+        }
+    }
+
+    /// The byte that a trigraph sequence stands for whose first byte was taken, and what follows
+    /// it (C11 5.2.1.1).
+    fn rest_of_trigraph(mut self) -> Option<(u8, Cursor<'a>)>
+        ensures some { IfSome result (λ r. (m : Marked) → m.byte ≡ 63
+            → without_trigraphs (m ∷ stored_of self.entry)
+            ≡ record { byte = r.0; position = m.position } ∷ replaced_of r.1) }
+        ensures none { IfNone result ((m : Marked)
+            → without_trigraphs (m ∷ stored_of self.entry) ≡ m ∷ replaced_of self.entry) }
+    {
+        if self.next_stored() != Some(b'?') {
+            return None;
+        }
+        let byte = trigraph_end(self.next_stored()?)?;
+        Some((byte, self))
+    }
+
+    /// Takes the next byte, with trigraph sequences not yet replaced.
+    fn next_stored(&mut self) -> Option<u8>
+        ensures { Takes (stored_of self.old) result (stored_of self.new) }
+    {
+        self.skip_return();
+        if self.rest.is_empty() {
+            let wanted = self.wanted;
+            self.wanted = false;
+            return wanted.then_some(b'\n');
+        }
+        let b = self.rest[0];
+        self.rest = &self.rest[1..];
+        self.wanted = b != b'\n';
+        if self.wanted {
+            self.column += 1;
+        } else {
+            self.line += 1;
+            self.column = 1;
+        }
+        Some(b)
+    }
+
+    /// Steps over a carriage return before a newline.
+    fn skip_return(&mut self)
+        ensures same { stored_of self.new ≡ stored_of self.old }
+        ensures none { begins_with (13 ∷ 10 ∷ []) self.new.rest.now ≡ false }
+    {
+        if self.rest.starts_with(b"\r\n") {
+            self.rest = &self.rest[1..];
+            self.column += 1;
+            self.wanted = true;
+        }
+    }
+}
+
+/// What `??` and this byte stand for.
+fn trigraph_end(byte: u8) -> Option<u8>
+    ensures { result ≡ trigraph_end byte }
+{
+    match byte {
+        b'=' => Some(b'#'),
+        b'(' => Some(b'['),
+        b'/' => Some(b'\\'),
+        b')' => Some(b']'),
+        b'\'' => Some(b'^'),
+        b'<' => Some(b'{'),
+        b'!' => Some(b'|'),
+        b'>' => Some(b'}'),
+        b'-' => Some(b'~'),
+        _ => None,
     }
 }

@@ -1,6 +1,6 @@
 ghost use Rattle.std.specs.Prelude.{◌≡◌, Some, slice_get, All, IfOk, IfErr};
 ghost use Rattle.sc_model.specs.Growth.{Extends, IsOneToOne};
-ghost use Rattle.c11_tokens.specs.Lex.{is_newline};
+ghost use Rattle.c11_tokens.specs.Lex.{end_position, is_newline};
 ghost use Rattle.sc_model.specs.Token.{name_of};
 ghost use Rattle.sc_base.specs.Seen.{IsHeld, position_of};
 ghost use Rattle.sc_lex.specs.Spell.{lexeme_at, AreTokensOf, Refuses};
@@ -55,6 +55,18 @@ pub fn tokens(
         offset += piece.length;
     }
     Ok(tokens)
+}
+
+/// Where a file ends: on the line after its last newline.
+pub fn end(file: FileId, bytes: &[u8]) -> Place
+    ensures position { position_of result ≡ end_position bytes.now }
+    ensures in_file { result.file ≡ file }
+{
+    Place {
+        file,
+        line: 1 + Cursor::new(bytes).newlines(),
+        column: 1,
+    }
 }
 
 fn is_newline(kind: Kind) -> bool

@@ -1,4 +1,4 @@
-//! From the bytes of a file to its tokens (C11 5.1.1.2 phases 1 and 3, and 6.4).
+//! From the bytes of a file to its tokens (C11 5.1.1.2 phases 1 to 3, and 6.4).
 #![tactic(auto, using(sc_base::proofs::Growth::growth))]
 
 mod cursor;
@@ -10,7 +10,7 @@ mod scan;
 mod stop;
 mod unclosed;
 
-pub use lexer::{token, tokens};
+pub use lexer::{end, token, tokens};
 pub use relex::relex_one;
 pub use sc_base::{HasToken, Kind, Token};
 pub use stop::LexStop;

@@ -1,6 +1,6 @@
 use Rattle.std.proofs.Common.{◌≡◌, ℕ, ◌-◌, ◌+◌, ◌<◌, List, [], ◌∷◌, ◌++◌, Some, length, take, drop, ◌⊎◌, inl, inr, true, false, refl, sym, ap, ◌∙◌, subst, arith}
 use Rattle.std.proofs.lemmas.List.{take_rest, drop-drop}
-use Rattle.c11_tokens.specs.Lex.{bytes_of, is_newline, line_after, IsLongest, IsUnended, is_white}
+use Rattle.c11_tokens.specs.Lex.{bytes_of, without_splices, is_newline, line_after, IsLongest, IsUnended, is_white}
 use Rattle.sc_lex.specs.declared.piece.PieceKind.{PieceKind}
 use Rattle.sc_lex.specs.declared.piece.PieceKind.TheVariants.{Blank, Comment}
 use Rattle.sc_lex.specs.declared.line.LineFront.TheVariants.{Start}
@@ -33,7 +33,7 @@ is_white_piece kind (inr e) = ap (λ r. is_white (kind_of r)) e
 pub loop-offset-init : goal.loop-offset-init
 loop-offset-init c = record {
   so_far = subst (λ ts. LexedSoFar c.args.names.now c.args.file c.args.bytes.now c.in_ok-text.text.items Start false (logical_of c.new-cursor.result) 0 ts) (sym c.new-tokens.ensures.items)
-      (nothing_yet c.args.names.now c.args.file c.args.bytes.now c.in_ok-text.text.items Start (logical_of c.new-cursor.result) refl c.new-cursor.ensures (c.in_ok-text.ensures ∙ ap bytes_of c.new.ensures));
+      (nothing_yet c.args.names.now c.args.file c.args.bytes.now c.in_ok-text.text.items Start (logical_of c.new-cursor.result) refl (ap without_splices c.new-cursor.ensures) (c.in_ok-text.ensures ∙ ap (λ ms. bytes_of (without_splices ms)) c.new.ensures));
   unclosed = record { single = IsUnclosed-none 39 c.in_ok-text.text.items; double = IsUnclosed-none 34 c.in_ok-text.text.items };
   grows = Extends-refl c.args.names.now;
   one_to_one = λ one. one;
