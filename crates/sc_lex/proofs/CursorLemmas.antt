@@ -1,6 +1,6 @@
 -- What a cursor is left with, before trigraph sequences are replaced.
-use Rattle.std.proofs.Common.{◌≡◌, ℕ, ◌+◌, ◌==◌, ◌&&◌, not, Bool, true, false, cond, List, [], ◌∷◌, drop, Option, Some, None, refl, sym, ap, ◌∙◌, subst, arith}
-use Rattle.std.proofs.lemmas.Bool.{and_parts, eqb-true}
+use Rattle.std.proofs.Common.{◌≡◌, ℕ, ◌+◌, ◌==◌, ◌&&◌, not, Bool, true, false, cond, List, [], ◌∷◌, drop, length, ◌<◌, slice_index, Option, Some, None, refl, sym, ap, ◌∙◌, subst, arith}
+use Rattle.std.proofs.lemmas.Bool.{and_parts, eqb-true, not-true, not-false}
 use Rattle.sc_model.specs.Bytes.{begins_with}
 use Rattle.c11_tokens.specs.Lex.{Marked, marked_from, bytes_of, without_returns, with_last_newline, without_trigraphs, phase_1}
 use Rattle.sc_lex.specs.Cursor.{stored, Takes}
@@ -121,6 +121,25 @@ pub stored-byte : (wanted : Bool) (line column b : ℕ) (bs : List ℕ) → begi
 stored-byte wanted line column b bs off =
     ap (λ t. cond (t && begins_with (10 ∷ []) bs) (stored true line (column + 1) bs) (at b line column ∷ cond (b == 10) (stored false (line + 1) 1 bs) (stored true line (column + 1) bs))) (eqb_comm b 13)
     ∙ ap (λ t. cond t (stored true line (column + 1) bs) (at b line column ∷ cond (b == 10) (stored false (line + 1) 1 bs) (stored true line (column + 1) bs))) off
+
+-- what is left behind the first byte
+module _ (wanted after : Bool) (line column : ℕ) (bs rest : List ℕ) (some : 0 < length bs) (off : begins_with (13 ∷ 10 ∷ []) bs ≡ false) (rest_is : rest ≡ drop 1 bs) (after_is : not (slice_index bs 0 == 10) ≡ after) where
+  taken : (bs : List ℕ) → 0 < length bs → begins_with (13 ∷ 10 ∷ []) bs ≡ false
+      → Takes (stored wanted line column bs) (Some (slice_index bs 0)) (cond (slice_index bs 0 == 10) (stored false (line + 1) 1 (drop 1 bs)) (stored true line (column + 1) (drop 1 bs)))
+  taken [] some off = absurd (omega arith)
+  taken (b ∷ bs) some off = (at b line column, refl, stored-byte wanted line column b bs off)
+
+  pub takes-newline : after ≡ false → Takes (stored wanted line column bs) (Some (slice_index bs 0)) (stored after (line + 1) 1 rest)
+  takes-newline e =
+      subst (Takes (stored wanted line column bs) (Some (slice_index bs 0)))
+      (ap (λ t. cond t (stored false (line + 1) 1 (drop 1 bs)) (stored true line (column + 1) (drop 1 bs))) (not-false _ (after_is ∙ e))
+      ∙ ap (λ t. stored t (line + 1) 1 (drop 1 bs)) (sym e) ∙ ap (stored after (line + 1) 1) (sym rest_is)) (taken bs some off)
+
+  pub takes-other : after ≡ true → Takes (stored wanted line column bs) (Some (slice_index bs 0)) (stored after line (column + 1) rest)
+  takes-other e =
+      subst (Takes (stored wanted line column bs) (Some (slice_index bs 0)))
+      (ap (λ t. cond t (stored false (line + 1) 1 (drop 1 bs)) (stored true line (column + 1) (drop 1 bs))) (not-true _ (after_is ∙ e))
+      ∙ ap (λ t. stored t line (column + 1) (drop 1 bs)) (sym e) ∙ ap (stored after line (column + 1)) (sym rest_is)) (taken bs some off)
 
 -- where the first byte stands
 pub stored-first : (wanted : Bool) (line column : ℕ) (bs : List ℕ) → begins_with (13 ∷ 10 ∷ []) bs ≡ false → (m : Marked) (ms : List Marked)

@@ -1,10 +1,13 @@
 -- Trigraph sequences and splices at the front of a text.
-use Rattle.std.proofs.Common.{◌≡◌, ℕ, suc, ◌+◌, ◌<◌, ◌==◌, ◌&&◌, not, Bool, true, false, cond, List, [], ◌∷◌, length, Option, Some, None, refl, sym, ap, ◌∙◌, subst, arith}
-use Rattle.std.proofs.lemmas.Bool.{ne_eqb, eq-eqb, eqb-true, true≢false, not-false}
+use Rattle.std.proofs.Common.{◌≡◌, ℕ, suc, ◌+◌, ◌<◌, ◌==◌, ◌&&◌, not, ◌||◌, Bool, true, false, cond, List, [], ◌∷◌, length, slice_index, Option, Some, None, refl, sym, ap, ◌∙◌, subst, arith}
+use Rattle.std.proofs.lemmas.Bool.{ne_eqb, eq-eqb, eqb-true, true≢false, not-false, not-true, or_parts}
 use Rattle.std.specs.Option.{option_eq}
 use Rattle.sc_model.specs.Token.{Position}
 use Rattle.c11_tokens.specs.Lex.{Marked, trigraph, trigraph_end, replaced, without_trigraphs, is_splice, without_splices}
-use Rattle.sc_lex.specs.Cursor.{Takes, KeepsFirst, newlines_of}
+use Rattle.sc_lex.specs.Cursor.{stored, Takes, KeepsFirst, begins_plainly}
+use Rattle.sc_lex.proofs.CursorLemmas.{stored-byte}
+use Rattle.sc_lex.proofs.Quotes.{eqb_comm}
+use Rattle.sc_model.specs.Bytes.{begins_with}
 
 -- the byte that was taken is this one, or another
 pub that_byte : (r : Option ℕ) (b : ℕ) → not (option_eq (λ x y. x == y) r (Some b)) ≡ false → r ≡ Some b
@@ -74,6 +77,9 @@ pub alone-next : (xs ys : List Marked) → Takes xs (Some 63) ys → ((m : Marke
 alone-next xs ys (m, is, e) rest = (m, is, ap without_trigraphs e ∙ rest m)
 
 -- where no splice comes first
+other : (b k : ℕ) → (b == k) ≡ false → Some b ≡ Some k → ⊥
+other b k off e = let same : b ≡ k = cc in true≢false (sym (eq-eqb b k same) ∙ off)
+
 pub no_backslash : (xs ys : List Marked) (r : Option ℕ) → Takes xs r ys → (r ≡ Some 92 → ⊥) → KeepsFirst xs
 no_backslash xs ys None t off = subst KeepsFirst (sym t.0) tt
 no_backslash xs ys (Some b) (m, is, e) off = subst KeepsFirst (sym e) (keeps ys)
@@ -116,6 +122,39 @@ Takes-shorter xs ys b t = ap length t.2
 pub Takes-kept : (xs ys : List Marked) (r : Option ℕ) → Takes xs r ys → KeepsFirst xs → Takes (without_splices xs) r (without_splices ys)
 Takes-kept xs ys None t keeps = (ap without_splices t.0, ap without_splices t.1)
 Takes-kept xs ys (Some b) (m, is, e) keeps = (m, is, ap without_splices e ∙ subst KeepsFirst e keeps)
+
+-- what a plain byte is not
+pub record IsPlainByte (bs : List ℕ) : Type 0 where
+  pub some : 0 < length bs
+  pub no_return : begins_with (13 ∷ 10 ∷ []) bs ≡ false
+  pub mark : (slice_index bs 0 == 63) ≡ false
+  pub backslash : (slice_index bs 0 == 92) ≡ false
+
+pub plain_byte : (bs : List ℕ) → begins_plainly bs ≡ true → IsPlainByte bs
+plain_byte [] plain = cc
+plain_byte (b ∷ bs) plain =
+    let last = or_parts (b == 13 || b == 63) (b == 92) (not-true _ plain) in
+    let first = or_parts (b == 13) (b == 63) last.0 in
+    record {
+      some = omega arith;
+      no_return = ap (λ t. t && begins_with (10 ∷ []) bs) (eqb_comm 13 b ∙ first.0);
+      mark = first.1;
+      backslash = last.1;
+    }
+
+-- a byte that is one of the text, whatever follows it
+pub plain_next : (xs ys : List Marked) (b : ℕ) → Takes xs (Some b) ys → (b == 63) ≡ false → (b == 92) ≡ false
+    → Takes (without_splices (without_trigraphs xs)) (Some b) (without_splices (without_trigraphs ys))
+plain_next xs ys b t mark backslash =
+    let next = other-first xs ys (Some b) t (other b 63 mark) in
+    Takes-kept (without_trigraphs xs) (without_trigraphs ys) (Some b) next (no_backslash (without_trigraphs xs) (without_trigraphs ys) (Some b) next (other b 92 backslash))
+
+pub plain_first : (wanted : Bool) (line column : ℕ) (bs : List ℕ) → begins_plainly bs ≡ true → KeepsFirst (without_trigraphs (stored wanted line column bs))
+plain_first wanted line column [] plain = cc
+plain_first wanted line column (b ∷ bs) plain =
+    let parts = plain_byte (b ∷ bs) plain in
+    let next = other-first (stored wanted line column (b ∷ bs)) _ (Some b) (record { byte = b; position = record { line = line; column = column } }, refl, stored-byte wanted line column b bs parts.no_return) (other b 63 parts.mark) in
+    no_backslash (without_trigraphs (stored wanted line column (b ∷ bs))) _ (Some b) next (other b 92 parts.backslash)
 
 -- where the first byte of the text stands
 pub first_position : (xs : List Marked) (p : Position) → ((m : Marked) (ms : List Marked) → xs ≡ m ∷ ms → m.position ≡ p) → KeepsFirst (without_trigraphs xs)

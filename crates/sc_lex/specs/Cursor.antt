@@ -1,5 +1,5 @@
 -- A file from some byte on, as the later phases of translation see it (C11 5.1.1.2).
-use Rattle.std.specs.Prelude.{◌≡◌, ℕ, ◌+◌, ◌==◌, ◌&&◌, Bool, true, false, List, [], ◌∷◌, Option, Some, None, if◌then◌else◌}
+use Rattle.std.specs.Prelude.{◌≡◌, ℕ, ◌+◌, ◌==◌, ◌&&◌, ◌||◌, not, Bool, true, false, List, [], ◌∷◌, Option, Some, None, if◌then◌else◌}
 use Rattle.std.specs.List.{count_by}
 use Rattle.sc_model.specs.Bytes.{begins_with}
 use Rattle.c11_tokens.specs.Lex.{Marked, without_splices}
@@ -23,6 +23,11 @@ Takes old (Some b) new = (m : Marked) × (m.byte ≡ b) × (old ≡ m ∷ new)
 abbrev pub KeepsFirst : List Marked → Type 0
 KeepsFirst [] = Unit {0}
 KeepsFirst (m ∷ ms) = without_splices (m ∷ ms) ≡ m ∷ without_splices ms
+
+-- a byte comes first with which no splice, trigraph sequence or end of line begins
+abbrev pub begins_plainly : List ℕ → Bool
+begins_plainly [] = false
+begins_plainly (b ∷ bs) = not (b == 13 || b == 63 || b == 92)
 
 abbrev pub newlines_of : List Marked → ℕ
 newlines_of ms = count_by (λ m. m.byte == 10) ms

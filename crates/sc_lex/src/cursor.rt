@@ -1,7 +1,7 @@
-ghost use Rattle.std.specs.Prelude.{◌≡◌, ◌+◌, ◌^◌, ◌<◌, [], ◌∷◌, false, List, length, drop, IfOk, IfSome, IfNone};
+ghost use Rattle.std.specs.Prelude.{◌≡◌, ◌+◌, ◌^◌, ◌<◌, [], ◌∷◌, false, List, length, drop, slice_index, Some, IfOk, IfSome, IfNone};
 ghost use Rattle.sc_model.specs.Bytes.{begins_with};
 ghost use Rattle.c11_tokens.specs.Lex.{Marked, phase_1, bytes_of, trigraph_end, without_trigraphs};
-ghost use Rattle.sc_lex.specs.Cursor.{Takes, KeepsFirst, newlines_of};
+ghost use Rattle.sc_lex.specs.Cursor.{Takes, KeepsFirst, begins_plainly, newlines_of};
 
 use sc_base::{FileId, OutOfMemory, Place};
 use std::alloc::Global;
@@ -100,8 +100,18 @@ impl<'a> Cursor<'a> {
     fn next(&mut self) -> Option<u8>
         ensures { Takes (logical_of self.old) result (logical_of self.new) }
     {
+        if self.is_plain() {
+            return Some(self.take_first());
+        }
         self.skip_splices();
         self.next_replaced()
+    }
+
+    /// The first byte that is left is one of the text, whatever follows it: most are.
+    fn is_plain(&self) -> bool
+        ensures { result ≡ begins_plainly self.now.rest.now }
+    {
+        !self.rest.is_empty() && !matches!(self.rest[0], b'\r' | b'?' | b'\\')
     }
 
     /// Steps over splices (C11 5.1.1.2p1, phase 2).
@@ -109,6 +119,9 @@ impl<'a> Cursor<'a> {
         ensures same { logical_of self.new ≡ logical_of self.old }
         ensures first { KeepsFirst (replaced_of self.new) }
     {
+        if self.is_plain() {
+            return;
+        }
         while let Some(next) = self.after_splice() {
             *self = next;
         }
@@ -177,6 +190,16 @@ impl<'a> Cursor<'a> {
             self.wanted = false;
             return wanted.then_some(b'\n');
         }
+        Some(self.take_first())
+    }
+
+    /// Takes the first byte that is left.
+    fn take_first(&mut self) -> u8
+        requires some { 0 < length self.now.rest.now }
+        requires no_return { begins_with (13 ∷ 10 ∷ []) self.now.rest.now ≡ false }
+        ensures first { result ≡ slice_index self.old.rest.now 0 }
+        ensures takes { Takes (stored_of self.old) (Some result) (stored_of self.new) }
+    {
         let b = self.rest[0];
         self.rest = &self.rest[1..];
         self.wanted = b != b'\n';
@@ -186,7 +209,7 @@ impl<'a> Cursor<'a> {
             self.line += 1;
             self.column = 1;
         }
-        Some(b)
+        b
     }
 
     /// Steps over a carriage return before a newline.
