@@ -1,9 +1,9 @@
 -- Trigraph sequences and splices at the front of a text.
-use Rattle.std.proofs.Common.{◌≡◌, ℕ, suc, ◌+◌, ◌<◌, ◌==◌, ◌&&◌, not, ◌||◌, Bool, true, false, cond, List, [], ◌∷◌, length, slice_index, Option, Some, None, refl, sym, ap, ◌∙◌, subst, arith}
+use Rattle.std.proofs.Common.{◌≡◌, ℕ, ◌<◌, ◌==◌, ◌&&◌, not, ◌||◌, Bool, true, false, cond, List, [], ◌∷◌, length, slice_index, Option, Some, None, refl, sym, ap, ◌∙◌, subst, arith}
 use Rattle.std.proofs.lemmas.Bool.{ne_eqb, eq-eqb, eqb-true, true≢false, not-false, not-true, or_parts}
 use Rattle.std.specs.Option.{option_eq}
 use Rattle.sc_model.specs.Token.{Position}
-use Rattle.c11_tokens.specs.Lex.{Marked, trigraph, trigraph_end, replaced, without_trigraphs, is_splice, without_splices}
+use Rattle.c11_tokens.specs.Lex.{Marked, trigraph, trigraph_end, replaced, without_trigraphs, without_splices}
 use Rattle.sc_lex.specs.Cursor.{stored, Takes, KeepsFirst, begins_plainly}
 use Rattle.sc_lex.proofs.CursorLemmas.{stored-byte}
 use Rattle.sc_lex.proofs.Quotes.{eqb_comm}
@@ -26,55 +26,14 @@ stays m (n ∷ o ∷ ms) off = ap (λ t. replaced m t (without_trigraphs (n ∷ 
 trigraph-first : (a b c : ℕ) → (a == 63) ≡ false → trigraph a b c ≡ None
 trigraph-first a b c off = ap (λ t. cond (t && (b == 63)) (trigraph_end c) None) off
 
-trigraph-second : (a b c : ℕ) → (b == 63) ≡ false → trigraph a b c ≡ None
-trigraph-second a b c off = by (a == 63)
-  where
-    by : (t : Bool) → cond (t && (b == 63)) (trigraph_end c) None ≡ None
-    by true = ap (λ t. cond t (trigraph_end c) None) off
-    by false = refl
-
-trigraph-third : (a b c : ℕ) → trigraph_end c ≡ None → trigraph a b c ≡ None
-trigraph-third a b c off = by ((a == 63) && (b == 63))
-  where
-    by : (t : Bool) → cond t (trigraph_end c) None ≡ None
-    by true = off
-    by false = refl
-
 -- where the text begins with another byte
 pub other-first : (xs ys : List Marked) (r : Option ℕ) → Takes xs r ys → (r ≡ Some 63 → ⊥) → Takes (without_trigraphs xs) r (without_trigraphs ys)
 other-first xs ys None t off = (ap without_trigraphs t.0, ap without_trigraphs t.1)
 other-first xs ys (Some b) (m, is, e) off = (m, is, ap without_trigraphs e ∙ stays m ys (λ n o os _. trigraph-first m.byte n.byte o.byte (ne_eqb m.byte 63 (λ f. off (ap (λ k. Some k) (sym is ∙ f))))))
 
--- one question mark alone
-pub other-second : (xs ys : List Marked) (r : Option ℕ) → Takes xs r ys → (r ≡ Some 63 → ⊥) → (m : Marked) → without_trigraphs (m ∷ xs) ≡ m ∷ without_trigraphs xs
-other-second xs ys None t off m = ap (λ zs. without_trigraphs (m ∷ zs)) t.0 ∙ ap (λ zs. m ∷ without_trigraphs zs) (sym t.0)
-other-second xs ys (Some b) (x, is, e) off m =
-    stays m xs (λ n o os f. let same : n ≡ x = (let both = sym f ∙ e in cc) in
-    trigraph-second m.byte n.byte o.byte (ne_eqb n.byte 63 (λ g. off (ap (λ k. Some k) (sym is ∙ ap (λ k. k.byte) (sym same) ∙ g)))))
-
--- two question marks alone
-pub other-third : (xs ys zs : List Marked) (r : Option ℕ) → Takes xs (Some 63) ys → Takes ys r zs → ((c : ℕ) → r ≡ Some c → trigraph_end c ≡ None) → (m : Marked) → without_trigraphs (m ∷ xs) ≡ m ∷ without_trigraphs xs
-other-third xs ys zs None (x, is, e) t off m = stays m xs (λ n o os f. let none : o ∷ os ≡ [] = (let both = sym f ∙ e ∙ ap (λ k. x ∷ k) t.0 in cc) in cc)
-other-third xs ys zs (Some c) (x, is, e) (y, is', e') off m =
-    stays m xs (λ n o os f. let same : o ≡ y = (let both = sym f ∙ e ∙ ap (λ k. x ∷ k) e' in cc) in
-    trigraph-third m.byte n.byte o.byte (off o.byte (ap (λ k. Some k) (sym is' ∙ ap (λ k. k.byte) (sym same)))))
-
--- a whole sequence
-pub sequence : (xs ys zs : List Marked) (c b : ℕ) → Takes xs (Some 63) ys → Takes ys (Some c) zs → trigraph_end c ≡ Some b → (m : Marked) → m.byte ≡ 63
-    → without_trigraphs (m ∷ xs) ≡ record { byte = b; position = m.position } ∷ without_trigraphs zs
-sequence xs ys zs c b (x, is, e) (y, is', e') ends m mark =
-    ap (λ k. without_trigraphs (m ∷ k)) (e ∙ ap (λ k. x ∷ k) e')
-    ∙ ap (λ t. replaced m t (without_trigraphs (x ∷ y ∷ zs)) (without_trigraphs zs)) whole
-  where
-    whole : trigraph m.byte x.byte y.byte ≡ Some b
-    whole = ap (λ k. trigraph k x.byte y.byte) mark ∙ ap (λ k. trigraph 63 k y.byte) is ∙ ap trigraph_end is' ∙ ends
-
 -- what follows the first byte of a sequence
 pub sequence-next : (xs ys zs : List Marked) (b : ℕ) → Takes xs (Some 63) ys → ((m : Marked) → m.byte ≡ 63 → without_trigraphs (m ∷ ys) ≡ record { byte = b; position = m.position } ∷ zs) → Takes (without_trigraphs xs) (Some b) zs
 sequence-next xs ys zs b (m, is, e) rest = (record { byte = b; position = m.position }, refl, ap without_trigraphs e ∙ rest m is)
-
-pub alone-next : (xs ys : List Marked) → Takes xs (Some 63) ys → ((m : Marked) → without_trigraphs (m ∷ ys) ≡ m ∷ without_trigraphs ys) → Takes (without_trigraphs xs) (Some 63) (without_trigraphs ys)
-alone-next xs ys (m, is, e) rest = (m, is, ap without_trigraphs e ∙ rest m)
 
 -- where no splice comes first
 other : (b k : ℕ) → (b == k) ≡ false → Some b ≡ Some k → ⊥
@@ -86,37 +45,11 @@ no_backslash xs ys (Some b) (m, is, e) off = subst KeepsFirst (sym e) (keeps ys)
   where
     other : (m.byte == 92) ≡ false
     other = ne_eqb m.byte 92 (λ f. off (ap (λ k. Some k) (sym is ∙ f)))
+
     keeps : (ms : List Marked) → without_splices (m ∷ ms) ≡ m ∷ without_splices ms
     keeps [] = refl
     keeps (n ∷ []) = ap (λ t. cond (t && (n.byte == 10)) (n ∷ []) (m ∷ n ∷ [])) other
     keeps (n ∷ o ∷ ms) = ap (λ t. cond (t && (n.byte == 10)) (without_splices (o ∷ ms)) (m ∷ without_splices (n ∷ o ∷ ms))) other
-
-pub no_newline : (xs ys zs : List Marked) (r : Option ℕ) → Takes xs (Some 92) ys → Takes ys r zs → (r ≡ Some 10 → ⊥) → KeepsFirst xs
-no_newline xs ys zs None (m, is, e) t off = subst KeepsFirst (sym (e ∙ ap (λ k. m ∷ k) t.0)) refl
-no_newline xs ys zs (Some b) (m, is, e) (n, is', e') off = subst KeepsFirst (sym (e ∙ ap (λ k. m ∷ k) e')) (keeps zs)
-  where
-    other : is_splice m n ≡ false
-    other = ap (λ k. (k == 92) && (n.byte == 10)) is ∙ ne_eqb n.byte 10 (λ f. off (ap (λ k. Some k) (sym is' ∙ f)))
-    keeps : (ms : List Marked) → without_splices (m ∷ n ∷ ms) ≡ m ∷ without_splices (n ∷ ms)
-    keeps [] = ap (λ t. cond t (n ∷ []) (m ∷ n ∷ [])) other
-    keeps (o ∷ ms) = ap (λ t. cond t (without_splices (o ∷ ms)) (m ∷ without_splices (n ∷ o ∷ ms))) other
-
--- a splice
-spliced : (m n : Marked) → m.byte ≡ 92 → n.byte ≡ 10 → is_splice m n ≡ true
-spliced m n is is' = ap (λ k. (k == 92) && (n.byte == 10)) is ∙ ap (λ k. k == 10) is'
-
-pub last_splice : (xs ys zs ws : List Marked) → Takes xs (Some 92) ys → Takes ys (Some 10) zs → Takes zs None ws → without_splices ys ≡ without_splices xs
-last_splice xs ys zs ws (m, is, e) (n, is', e') t =
-    let end = e' ∙ ap (λ k. n ∷ k) t.0 in
-    ap without_splices end ∙ sym (ap without_splices (e ∙ ap (λ k. m ∷ k) end) ∙ ap (λ t. cond t (n ∷ []) (m ∷ n ∷ [])) (spliced m n is is'))
-
-pub inner_splice : (xs ys zs ws : List Marked) (b : ℕ) → Takes xs (Some 92) ys → Takes ys (Some 10) zs → Takes zs (Some b) ws → without_splices zs ≡ without_splices xs
-inner_splice xs ys zs ws b (m, is, e) (n, is', e') (o, is'', e'') =
-    ap without_splices e''
-    ∙ sym (ap without_splices (e ∙ ap (λ k. m ∷ k) (e' ∙ ap (λ k. n ∷ k) e'')) ∙ ap (λ t. cond t (without_splices (o ∷ ws)) (m ∷ without_splices (n ∷ o ∷ ws))) (spliced m n is is'))
-
-pub Takes-shorter : (xs ys : List Marked) (b : ℕ) → Takes xs (Some b) ys → length xs ≡ suc (length ys)
-Takes-shorter xs ys b t = ap length t.2
 
 -- the next byte of the text
 pub Takes-kept : (xs ys : List Marked) (r : Option ℕ) → Takes xs r ys → KeepsFirst xs → Takes (without_splices xs) r (without_splices ys)
@@ -170,6 +103,7 @@ first_position (x ∷ xs) p first keeps m ms e = by (without_trigraphs (x ∷ xs
         one : (t : Option ℕ) → (y : Marked) × (ys : List Marked) × (replaced x t (without_trigraphs (n ∷ o ∷ ms)) (without_trigraphs ms) ≡ y ∷ ys) × (y.position ≡ x.position)
         one (Some b) = (record { byte = b; position = x.position }, without_trigraphs ms, refl, refl)
         one None = (x, without_trigraphs (n ∷ o ∷ ms), refl, refl)
+
     by : (ts : List Marked) → (y : Marked) × (ys : List Marked) × (ts ≡ y ∷ ys) × (y.position ≡ x.position) → KeepsFirst ts → without_splices ts ≡ m ∷ ms → m.position ≡ p
     by ts (y, ys, is, same) keeps e =
         let all : y ∷ without_splices ys ≡ m ∷ ms = sym (subst KeepsFirst is keeps) ∙ ap without_splices (sym is) ∙ e in

@@ -1,13 +1,14 @@
 ghost use Rattle.sc_base.specs.Seen.{IsHeld};
 
 use sc_base::{FileId, Names, Token};
-use sc_lex::{LexStop, tokens};
+use sc_lex::{LexStop, end, tokens};
 use std::alloc::Global;
 use std::test::Fail;
 
 /// What a file holds, and its tokens: kind, a tilde where space stands before, place, spelling, and a name that differs. Or
-/// the place of a comment without an end. The expected texts come from another implementation.
-const ROWS: [(&[u8], &[u8]); 34] = [
+/// the place of a comment without an end. The expected texts come from another implementation, but
+/// for the place of a last newline that a splice takes away, which is supplied where it stood.
+const ROWS: [(&[u8], &[u8]); 43] = [
     (b"", b""),
     (b"a", b"Identifier 1:1 a|Newline 1:2 \n|"),
     (b"a\n", b"Identifier 1:1 a|Newline 1:2 \n|"),
@@ -120,6 +121,48 @@ const ROWS: [(&[u8], &[u8]); 34] = [
         b"'\"' \"'\" L\"L'\"'\\\"'",
         b"Character 1:1 '\"'|Text~ 1:5 \"'\"|Text~ 1:9 L\"L'\"|Character 1:14 '\\\"'|Newline 1:18 \n|",
     ),
+    (
+        b"in\\\nt x;\n",
+        b"Identifier 1:1 int|Identifier~ 2:3 x|Punctuator 2:4 ;|Newline 2:5 \n|",
+    ),
+    (
+        b"??=define Z 1\n",
+        b"Punctuator 1:1 #|Identifier 1:4 define|Identifier~ 1:11 Z|Number~ 1:13 1|Newline 1:14 \n|",
+    ),
+    (
+        b"a??/\nb ??/\r\n??(c??)\\\r\n??<??!??>??'??-???=\n",
+        b"Identifier 1:1 ab|Punctuator~ 3:1 [|Identifier 3:4 c|Punctuator 3:5 ]|Punctuator 4:1 {|Punctuator 4:4 ||Punctuator 4:7 }|Punctuator 4:10 ^|Punctuator 4:13 ~|Punctuator 4:16 ?|Punctuator 4:17 #|Newline 4:20 \n|",
+    ),
+    (
+        b"\"a??/\"b\\\n\" ?\\\n?= ??\\\n=\n",
+        b"Text 1:1 \"a\\\"b\"|Punctuator~ 2:3 ?|Punctuator 3:1 ?|Punctuator 3:2 =|Punctuator~ 3:4 ?|Punctuator 3:5 ?|Punctuator 4:1 =|Newline 4:2 \n|",
+    ),
+    (
+        b"/\\\n/ x??/\ny\n/\\\n* z *\\\n/ w\n",
+        b"Newline~ 3:2 \n|Identifier~ 6:3 w|Newline 6:4 \n|",
+    ),
+    (
+        b"#\\\ninc\\\nlude <a\\\nb> ??=\n",
+        b"Punctuator 1:1 #|Identifier 2:1 include|Header~ 3:6 <ab>|Punctuator~ 4:4 #|Newline 4:7 \n|",
+    ),
+    (
+        b"\\\\\n\n\\ \n\\\n\n",
+        b"Other 1:1 \\|Newline 2:1 \n|Other~ 3:1 \\|Newline~ 3:3 \n|Newline~ 5:1 \n|",
+    ),
+    (b"a\\\n", b"Identifier 1:1 a|Newline 1:3 \n|"),
+    (b"\nx /??/\n*", b"! 2:3"),
+];
+
+/// What a file holds, and the line on which it ends.
+const ENDS: [(&[u8], usize); 8] = [
+    (b"", 1),
+    (b"\xef\xbb\xbf", 1),
+    (b"a", 2),
+    (b"a\n", 2),
+    (b"a\\\n", 2),
+    (b"a??/", 2),
+    (b"\r\n\r", 3),
+    (b"a\\\n\\\nb", 4),
 ];
 
 /// A token as the table shows it.
@@ -164,6 +207,17 @@ fn shown(alloc: Global, bytes: &[u8]) -> Result<Vec<u8>, Fail> {
 fn every_kind_and_place(rt: HostRuntime) -> Result<(), Fail> {
     for (bytes, expected) in ROWS {
         assert_eq!(rt; shown(rt.alloc(), bytes)?.as_slice(), expected);
+    }
+    Ok(())
+}
+
+#[test]
+fn the_line_at_the_end(rt: HostRuntime) -> Result<(), Fail> {
+    for (bytes, line) in ENDS {
+        let place = end(FileId(3), bytes);
+        assert_eq!(rt; place.file, FileId(3));
+        assert_eq!(rt; place.line, line);
+        assert_eq!(rt; place.column, 1);
     }
     Ok(())
 }

@@ -1,7 +1,6 @@
-use Rattle.std.proofs.Common.{◌≡◌, Some, subst, sym, ◌∙◌}
-use Rattle.c11_tokens.specs.Lex.{Marked}
+use Rattle.std.proofs.Common.{subst, sym, ◌∙◌}
 use Rattle.sc_lex.specs.Cursor.{Takes}
-use Rattle.sc_lex.specs.Logical.{stored_of, replaced_of, logical_of}
+use Rattle.sc_lex.specs.Logical.{stored_of, replaced_of}
 use Rattle.sc_lex.proofs.Splices.{sequence-next, that_byte}
 use Rattle.sc_lex.proofs.cursor.Cursor.next_replaced.Goals as goal
 

@@ -1,8 +1,7 @@
-use Rattle.std.proofs.Common.{◌≡◌, sym, ◌∙◌}
-use Rattle.sc_lex.specs.Logical.{stored_of, logical_of}
+use Rattle.std.proofs.Common.{◌∙◌}
+use Rattle.sc_lex.specs.Logical.{stored_of}
 use Rattle.sc_lex.proofs.CursorLemmas.{stored-first}
 use Rattle.sc_lex.proofs.Splices.{first_position}
-use Rattle.sc_base.specs.Seen.{position_of}
 use Rattle.sc_lex.proofs.cursor.Cursor.place.Goals as goal
 
 pub returns-clause-first : goal.returns-clause-first
