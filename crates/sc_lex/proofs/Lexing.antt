@@ -9,8 +9,8 @@ use Rattle.sc_model.specs.Growth.{Extends}
 use Rattle.sc_model.specs.Token.{Position, Lexeme, name_of}
 use Rattle.c11_tokens.specs.Lex.{PieceKind, token, Marked, bytes_of, IsLongest, IsUnended, is_white, is_newline, line_after, with_first, Lexes, nothing, white, piece, unended, Lexed, phase_2}
 use Rattle.sc_base.specs.declared.token.Token.{Token}
-use Rattle.sc_lex.specs.declared.line.LineFront.{LineFront}
-use Rattle.sc_lex.specs.Line.{front_of}
+use Rattle.sc_lex.specs.declared.line.LineSoFar.{LineSoFar}
+use Rattle.sc_lex.specs.Line.{so_far_of}
 use Rattle.sc_base.specs.Seen.{position_of}
 use Rattle.sc_lex.specs.Spell.{lexeme_at, Spell, AreTokensOf, IsUnendedAt}
 use Rattle.sc_lex.proofs.Spells.{Spell-Extends, Spell-none, Spell-push}
@@ -21,11 +21,11 @@ with_all ls (Ok rest) = Ok (ls ++ rest)
 with_all ls (Err e) = Err e
 
 -- The tokens so far, where this text is left: whatever it lexes to completes them.
-pub record LexedSoFar (names : List (List ℕ)) (file : FileId) (bytes text : List ℕ) (front : LineFront) (space : Bool) (left : List Marked) (offset : ℕ) (ts : List Token) : Type 0 where
+pub record LexedSoFar (names : List (List ℕ)) (file : FileId) (bytes text : List ℕ) (so_far : LineSoFar) (space : Bool) (left : List Marked) (offset : ℕ) (ts : List Token) : Type 0 where
   pub lexemes : List Lexeme
   pub line : List (List ℕ)
   pub spell : Spell names file lexemes ts
-  pub front_is : front_of line ≡ front
+  pub so_far_is : so_far_of line ≡ so_far
   pub left_is : bytes_of left ≡ drop offset text
   pub completes : (r : Result (List Lexeme) Position) → Lexes line space left r → Lexed bytes (with_all lexemes r)
 
@@ -59,19 +59,19 @@ module _ (line : List (List ℕ)) (space : Bool) (bs : List ℕ) (some : 0 < len
   unended-lexes [] p is first u = let none = ap length is in absurd (omega arith)
   unended-lexes (m ∷ ms) p is first u = subst (λ q. Lexes line space (m ∷ ms) (Err q)) (first m ms refl) (unended (subst IsUnended (sym is) u))
 
-pub nothing_yet : (names : List (List ℕ)) (file : FileId) (bytes text : List ℕ) (front : LineFront) (left : List Marked) → front_of [] ≡ front → left ≡ phase_2 bytes → text ≡ bytes_of (phase_2 bytes)
-    → LexedSoFar names file bytes text front false left 0 []
-nothing_yet names file bytes text front left start is text_is = record {
+pub nothing_yet : (names : List (List ℕ)) (file : FileId) (bytes text : List ℕ) (so_far : LineSoFar) (left : List Marked) → so_far_of [] ≡ so_far → left ≡ phase_2 bytes → text ≡ bytes_of (phase_2 bytes)
+    → LexedSoFar names file bytes text so_far false left 0 []
+nothing_yet names file bytes text so_far left start is text_is = record {
   lexemes = [];
   line = [];
   spell = Spell-none names file;
-  front_is = start;
+  so_far_is = start;
   left_is = ap bytes_of is ∙ sym text_is;
   completes = λ r lexes. subst (Lexed bytes) (sym (with_all-none r)) (subst (λ ms. Lexes [] false ms r) is lexes);
 }
 
-module _ {names : List (List ℕ)} {file : FileId} {bytes text : List ℕ} {front : LineFront} {space : Bool} {left : List Marked} {offset : ℕ} {ts : List Token}
-    (so : LexedSoFar names file bytes text front space left offset ts) where
+module _ {names : List (List ℕ)} {file : FileId} {bytes text : List ℕ} {so_far : LineSoFar} {space : Bool} {left : List Marked} {offset : ℕ} {ts : List Token}
+    (so : LexedSoFar names file bytes text so_far space left offset ts) where
   -- the bytes that are left after a piece
   rest_is : (n : ℕ) (next : List Marked) → next ≡ drop n left → bytes_of next ≡ drop (offset + n) text
   rest_is n next is = ap bytes_of is ∙ sym (drop-map (λ m. m.byte) n left) ∙ ap (drop n) so.left_is ∙ drop-drop n offset text
@@ -79,32 +79,32 @@ module _ {names : List (List ℕ)} {file : FileId} {bytes text : List ℕ} {fron
   some_left : offset < length text → 0 < length (drop offset text)
   some_left within = omega (arith, length-drop offset text)
 
-  pub after_white : (kind : PieceKind) (n : ℕ) (next : List Marked) → offset < length text → is_white kind ≡ true → ((line : List (List ℕ)) → front_of line ≡ front → IsLongest line (drop offset text) kind n)
-      → next ≡ drop n left → LexedSoFar names file bytes text front true next (offset + n) ts
+  pub after_white : (kind : PieceKind) (n : ℕ) (next : List Marked) → offset < length text → is_white kind ≡ true → ((line : List (List ℕ)) → so_far_of line ≡ so_far → IsLongest line (drop offset text) kind n)
+      → next ≡ drop n left → LexedSoFar names file bytes text so_far true next (offset + n) ts
   after_white kind n next within w longest is = record {
     lexemes = so.lexemes;
     line = so.line;
     spell = so.spell;
-    front_is = so.front_is;
+    so_far_is = so.so_far_is;
     left_is = rest_is n next is;
-    completes = λ r lexes. so.completes r (white-lexes so.line space (drop offset text) (some_left within) left n kind r so.left_is w (longest so.line so.front_is) (subst (λ ms. Lexes so.line true ms r) is lexes));
+    completes = λ r lexes. so.completes r (white-lexes so.line space (drop offset text) (some_left within) left n kind r so.left_is w (longest so.line so.so_far_is) (subst (λ ms. Lexes so.line true ms r) is lexes));
   }
 
-  pub after_token : (new : List (List ℕ)) (t : Token) (kind : Kind) (n : ℕ) (p : Place) (next : List Marked) (front' : LineFront) → offset < length text
-      → ((line : List (List ℕ)) → front_of line ≡ front → IsLongest line (drop offset text) (token kind) n)
-      → ((line : List (List ℕ)) → front_of line ≡ front → front_of (line_after line kind (take n (drop offset text))) ≡ front')
+  pub after_token : (new : List (List ℕ)) (t : Token) (kind : Kind) (n : ℕ) (p : Place) (next : List Marked) (so_far' : LineSoFar) → offset < length text
+      → ((line : List (List ℕ)) → so_far_of line ≡ so_far → IsLongest line (drop offset text) (token kind) n)
+      → ((line : List (List ℕ)) → so_far_of line ≡ so_far → so_far_of (line_after line kind (take n (drop offset text))) ≡ so_far')
       → ((m : Marked) (ms : List Marked) → left ≡ m ∷ ms → m.position ≡ position_of p) → next ≡ drop n left → Extends names new
       → lexeme_at new t ≡ Some (record { kind = kind; spelling = take n (drop offset text); space = space; position = position_of p })
       → slice_get new t.name.0 ≡ option_map name_of (slice_get new t.spelling.0) → t.place.file ≡ file
-      → LexedSoFar new file bytes text front' (is_newline kind) next (offset + n) (ts ++ t ∷ [])
-  after_token new t kind n p next front' within longest after first is grown spelled named placed = record {
+      → LexedSoFar new file bytes text so_far' (is_newline kind) next (offset + n) (ts ++ t ∷ [])
+  after_token new t kind n p next so_far' within longest after first is grown spelled named placed = record {
     lexemes = so.lexemes ++ l ∷ [];
     line = line_after so.line kind (take n (drop offset text));
     spell = Spell-push l t (Spell-Extends so.spell grown) spelled named placed;
-    front_is = after so.line so.front_is;
+    so_far_is = after so.line so.so_far_is;
     left_is = rest_is n next is;
     completes = λ r lexes. subst (Lexed bytes) (with_all-push so.lexemes l r)
-        (so.completes (with_first l r) (piece-lexes so.line space (drop offset text) (some_left within) left n kind (position_of p) r so.left_is first (longest so.line so.front_is)
+        (so.completes (with_first l r) (piece-lexes so.line space (drop offset text) (some_left within) left n kind (position_of p) r so.left_is first (longest so.line so.so_far_is)
         (subst (λ ms. Lexes (line_after so.line kind (take n (drop offset text))) (is_newline kind) ms r) is lexes)));
   }
     where
@@ -128,12 +128,12 @@ module _ {names : List (List ℕ)} {file : FileId} {bytes text : List ℕ} {fron
       ends [] none = nothing
       ends (m ∷ ms) none = absurd (omega arith)
 
-  pub still : (new : List (List ℕ)) → Extends names new → LexedSoFar new file bytes text front space left offset ts
+  pub still : (new : List (List ℕ)) → Extends names new → LexedSoFar new file bytes text so_far space left offset ts
   still new grown = record {
     lexemes = so.lexemes;
     line = so.line;
     spell = Spell-Extends so.spell grown;
-    front_is = so.front_is;
+    so_far_is = so.so_far_is;
     left_is = so.left_is;
     completes = so.completes;
   }

@@ -6,7 +6,7 @@ ghost use Rattle.sc_base.specs.Seen.{IsHeld, position_of};
 ghost use Rattle.sc_lex.specs.Spell.{lexeme_at, AreTokensOf, Refuses};
 
 use crate::cursor::Cursor;
-use crate::line::{LineFront, digraph};
+use crate::line::{LineSoFar, digraph};
 use crate::piece::{PieceKind, longest};
 use crate::unclosed::UnclosedQuotes;
 use crate::{Kind, LexStop, Token};
@@ -31,14 +31,14 @@ pub fn tokens(
     let text = Cursor::new(bytes).text(alloc)?;
     let mut cursor = Cursor::new(bytes);
     let mut tokens = Vec::new(alloc);
-    let mut front = LineFront::Start;
+    let mut so_far = LineSoFar::Start;
     let mut unclosed = UnclosedQuotes::NONE;
     let mut space = false;
     let mut offset = 0;
     while offset < text.len() {
         let place = cursor.place(file);
         let rest = &text[offset..];
-        let Some(piece) = longest(rest, front.expects_header(), unclosed) else {
+        let Some(piece) = longest(rest, so_far.expects_header(), unclosed) else {
             return Err(LexStop::Comment(place));
         };
         match piece.kind {
@@ -46,7 +46,7 @@ pub fn tokens(
             PieceKind::Token(kind) => {
                 let spelling = &rest[..piece.length];
                 tokens.push(token(names, kind, spelling, space, place)?)?;
-                front = front.after(kind, spelling);
+                so_far = so_far.after(kind, spelling);
                 space = is_newline(kind);
             }
         }

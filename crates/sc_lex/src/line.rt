@@ -8,35 +8,35 @@ use sc_model::Kind;
 /// How much stands on a line of what a header name may follow: `#` and `include` at its start (C11
 /// 6.4p4).
 #[derive(Clone, Copy, Debug, PartialEq, Eq)]
-pub enum LineFront {
+pub enum LineSoFar {
     Start,
     Hash,
     Include,
     Other,
 }
 
-impl LineFront {
-    ghost use Rattle.sc_lex.specs.Line.{front_of};
+impl LineSoFar {
+    ghost use Rattle.sc_lex.specs.Line.{so_far_of};
 
     /// A header name may come next.
     pub fn expects_header(self) -> bool
-        ensures { (line : List (List ℕ)) → front_of line ≡ self → expects_header line ≡ result }
+        ensures { (line : List (List ℕ)) → so_far_of line ≡ self → expects_header line ≡ result }
     {
-        matches!(self, LineFront::Include)
+        matches!(self, LineSoFar::Include)
     }
 
     /// The line with one more token.
-    pub fn after(self, kind: Kind, spelling: &[u8]) -> LineFront
-        ensures { (line : List (List ℕ)) → front_of line ≡ self
-            → front_of (line_after line kind spelling.now) ≡ result }
+    pub fn after(self, kind: Kind, spelling: &[u8]) -> LineSoFar
+        ensures { (line : List (List ℕ)) → so_far_of line ≡ self
+            → so_far_of (line_after line kind spelling.now) ≡ result }
     {
         if matches!(kind, Kind::Newline) {
-            return LineFront::Start;
+            return LineSoFar::Start;
         }
         match self {
-            LineFront::Start if is(name_of(spelling), b"#") => LineFront::Hash,
-            LineFront::Hash if is(spelling, b"include") => LineFront::Include,
-            _ => LineFront::Other,
+            LineSoFar::Start if is(name_of(spelling), b"#") => LineSoFar::Hash,
+            LineSoFar::Hash if is(spelling, b"include") => LineSoFar::Include,
+            _ => LineSoFar::Other,
         }
     }
 }

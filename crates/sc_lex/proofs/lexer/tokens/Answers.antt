@@ -3,9 +3,9 @@ use Rattle.std.proofs.lemmas.List.{take_rest, drop-drop}
 use Rattle.c11_tokens.specs.Lex.{bytes_of, without_splices, is_newline, line_after, IsLongest, IsUnended, is_white}
 use Rattle.sc_lex.specs.declared.piece.PieceKind.{PieceKind}
 use Rattle.sc_lex.specs.declared.piece.PieceKind.TheVariants.{Blank, Comment}
-use Rattle.sc_lex.specs.declared.line.LineFront.TheVariants.{Start}
+use Rattle.sc_lex.specs.declared.line.LineSoFar.TheVariants.{Start}
 use Rattle.sc_base.proofs.Growth.{Extends-refl, Extends-trans}
-use Rattle.sc_lex.specs.Line.{front_of}
+use Rattle.sc_lex.specs.Line.{so_far_of}
 use Rattle.sc_lex.specs.Logical.{logical_of}
 use Rattle.std.specs.Option.{option_map}
 use Rattle.sc_model.specs.Token.{name_of}
@@ -56,10 +56,10 @@ loop-offset-preserved c =
     let text = c.in_ok-text.text.items in
     let known : AreUnclosed (drop (c.loop-offset.offset + c.in-Some.piece.length) text) c.after-unclosed.result =
     subst (λ bs. AreUnclosed bs c.after-unclosed.result) (ap (drop c.in-Some.piece.length) (rest_is d) ∙ drop-drop c.in-Some.piece.length c.loop-offset.offset text) c.after-unclosed.ensures in
-    let longest = λ (line : List (List ℕ)) (f : front_of line ≡ c.loop-offset.front). subst (λ bs. IsLongest line bs (kind_of c.in-Some.piece.kind) c.in-Some.piece.length) (rest_is d) (c.in-Some.ensures.some line (c.expects_header.ensures line f)) in
+    let longest = λ (line : List (List ℕ)) (f : so_far_of line ≡ c.loop-offset.so_far). subst (λ bs. IsLongest line bs (kind_of c.in-Some.piece.kind) c.in-Some.piece.length) (rest_is d) (c.in-Some.ensures.some line (c.expects_header.ensures line f)) in
     elim c.match-piece.branch [
       | in-Blank w ↦ record {
-        so_far = rw (w.names-is, w.tokens-is, w.front-is, w.space-is) (after_white so (kind_of c.in-Some.piece.kind) c.in-Some.piece.length _ (some_left d) (is_white_piece c.in-Some.piece.kind w.in-Blank.is) longest next);
+        so_far = rw (w.names-is, w.tokens-is, w.so_far-is, w.space-is) (after_white so (kind_of c.in-Some.piece.kind) c.in-Some.piece.length _ (some_left d) (is_white_piece c.in-Some.piece.kind w.in-Blank.is) longest next);
         unclosed = known;
         grows = rw w.names-is c.loop-offset.invariant.grows;
         one_to_one = rw w.names-is c.loop-offset.invariant.one_to_one;
@@ -72,10 +72,10 @@ loop-offset-preserved c =
             let made = w.in_ok-token-in-Token.ensures in
             let items : c.match-piece.tokens.items ≡ c.loop-offset.tokens.items ++ t ∷ [] = ap (λ v. v.items) w.tokens-is ∙ w.in_ok-push-in-Token.ensures.items in
             let space : c.match-piece.space ≡ is_newline kind = w.space-is ∙ w.is_newline-space.ensures in
-            rw (w.names-is, items, w.front-is, space)
-            (after_token so w.token.new.names t kind n c.place-place.result _ w.after-front.result (some_left d)
+            rw (w.names-is, items, w.so_far-is, space)
+            (after_token so w.token.new.names t kind n c.place-place.result _ w.after-so_far.result (some_left d)
             (λ line f. subst (λ kind. IsLongest line (drop c.loop-offset.offset c.in_ok-text.text.items) (kind_of kind) n) w.in-Token.is (longest line f))
-            (λ line f. subst (λ bs. front_of (line_after line kind (take n bs)) ≡ w.after-front.result) (rest_is d) (w.after-front.ensures line f))
+            (λ line f. subst (λ bs. so_far_of (line_after line kind (take n bs)) ≡ w.after-so_far.result) (rest_is d) (w.after-so_far.ensures line f))
             c.place-place.ensures.first next w.token.ensures.grows
             (made.spelled ∙ ap (λ bs. Some (record { kind = kind; spelling = take n bs; space = c.loop-offset.space; position = position_of c.place-place.result })) (rest_is d))
             (made.named ∙ sym (ap (option_map name_of) made.text))

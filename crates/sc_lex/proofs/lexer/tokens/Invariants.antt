@@ -7,7 +7,7 @@ use Rattle.sc_lex.proofs.lexer.tokens.Given as goal
 
 abbrev pub invariant-loop-offset : goal.invariant-loop-offset
 invariant-loop-offset l = record {
-  so_far : LexedSoFar l.names l.file l.bytes l.text.items l.front l.space (logical_of l.cursor) l.offset l.tokens.items;
+  so_far : LexedSoFar l.names l.file l.bytes l.text.items l.so_far l.space (logical_of l.cursor) l.offset l.tokens.items;
   unclosed : AreUnclosed (drop l.offset l.text.items) l.unclosed;
   grows : Extends l.fn.names l.names;
   one_to_one : IsOneToOne l.fn.names → IsOneToOne l.names;
