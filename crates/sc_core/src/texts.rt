@@ -6,7 +6,6 @@ ghost use Rattle.sc_core.specs.Texts.{TellsTokens, IsTokensAnswer, IsAnswer, Fai
 ghost use Rattle.sc_model.specs.Sets.{IsCond, IsNever};
 ghost use Rattle.sc_model.specs.Space.{arities_of};
 ghost use Rattle.sc_model.specs.Bytes.{has_no_newline};
-ghost use Rattle.sc_presence.specs.Plain.{sets_of};
 ghost use Rattle.sc_show.specs.Pieces.{IsLine, split_lines_after};
 ghost use Rattle.sc_space.specs.Seen.{seen_space, seen_variable};
 ghost use Rattle.sc_space.specs.Sound.{IsSound};
@@ -17,7 +16,7 @@ use crate::space_file::read_space;
 use sc_args::Command;
 use sc_base::{Fault, Files, Names, OutOfMemory, Stop};
 use sc_prep::preprocess;
-use sc_presence::{Conditions, PlainSets};
+use sc_presence::{Conditions, Diagrams};
 use sc_show::{show_conflicts, show_tokens};
 use sc_source::Source;
 use sc_space::{Space, Variable};
@@ -80,12 +79,12 @@ fn tokens_text<S: Source>(
 }
 
 /// The conditions over the configurations of a space.
-fn conditions(alloc: Global, space: &Space) -> Result<PlainSets, OutOfMemory>
+fn conditions(alloc: Global, space: &Space) -> Result<Diagrams, OutOfMemory>
     requires { IsSound (seen_space space.now) }
-    ensures { IfOk result (λ sets. (sets_of sets).arities ≡ arities_of (seen_space space.now)) }
+    ensures { IfOk result (λ conds. (⟦<Diagrams as Conditions>⟧.sets conds).arities ≡ arities_of (seen_space space.now)) }
 {
     let arities = arities(alloc, &space.variables)?;
-    PlainSets::new(alloc, &arities)
+    Diagrams::new(alloc, &arities)
 }
 
 /// How many options each variable has.
