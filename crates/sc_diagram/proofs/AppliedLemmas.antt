@@ -1,5 +1,5 @@
 -- What operations make: from what they make of the children, and as the diagram grows.
-use Rattle.std.proofs.Common.{◌≡◌, ◌≢◌, ℕ, ◌+◌, ◌<◌, ◌≤◌, ◌==◌, ◌&&◌, ◌||◌, not, min, false, List, length, Contains, ◌⊎◌, inl, inr, refl, sym, ◌∙◌, ap, subst, arith, if◌then◌else◌}
+use Rattle.std.proofs.Common.{◌≡◌, ◌≢◌, ℕ, ◌<◌, ◌≤◌, ◌==◌, ◌&&◌, ◌||◌, not, min, false, List, length, Contains, ◌⊎◌, inl, inr, refl, sym, ◌∙◌, ap, subst, arith, if◌then◌else◌}
 use Rattle.std.specs.Prelude.{slice_index, slice_set}
 use Rattle.std.proofs.lemmas.Bool.{cases_Bool, cases_lt, eqb-true, eq-eqb, true≢false}
 use Rattle.std.proofs.lemmas.List.{get_or-set_other}
@@ -53,12 +53,6 @@ module _ {d : Diagram} (valid : IsDiagram d) (n : ℕ) (own : n < length d.nodes
     pub cofactor-lt : variable_of d n ≡ v → cofactor d n v k < n
     cofactor-lt here = omega (arith, cofactor_child here, (decision valid n own (omega arith)).lower k (wide here))
 
-    pub cofactor-le : cofactor d n v k ≤ n
-    cofactor-le = elim (cases_Bool (variable_of d n == v)) [
-      | inl is ↦ omega (arith, cofactor-lt (eqb-true (variable_of d n) v is))
-      | inr other ↦ omega (arith, cofactor_itself other)
-    ]
-
     -- it decides by a later variable
     pub later_cofactor : v ≤ variable_of d n → v < variable_of d (cofactor d n v k)
     later_cofactor from = elim (cases_Bool (variable_of d n == v)) [
@@ -91,18 +85,6 @@ module _ {d : Diagram} (valid : IsDiagram d) (what : Application) (is : IsApplic
     left = own_cofactor valid what.left is.left v k within in_range;
     right = own_cofactor valid what.right is.right v k within in_range;
   }
-
-  -- and goes on from lower nodes
-  pub smaller_at : (v k : ℕ) → v ≡ first_of d what → v < length d.arities → k < slice_index d.arities v
-      → cofactor d what.left v k + cofactor d what.right v k < what.left + what.right
-  smaller_at v k first within in_range =
-      let least = first-le (variable_of d what.left) (variable_of d what.right) in
-      let left = cofactor-le valid what.left is.left v k within in_range in
-      let right = cofactor-le valid what.right is.right v k within in_range in
-      elim least.one [
-        | inl at ↦ omega (arith, cofactor-lt valid what.left is.left v k within in_range (sym (first ∙ at)), right)
-        | inr at ↦ omega (arith, cofactor-lt valid what.right is.right v k within in_range (sym (first ∙ at)), left)
-      ]
 
   combine_cofactors : (op : Operation) → IsOperation d.arities op → IsBefore d op what.left → (v k : ℕ) → v ≤ variable_of d what.left → (c : List ℕ) → IsConfig d.arities c → slice_index c v ≡ k
       → combine op ((sets_of d).has (cofactor d what.left v k)) ((sets_of d).has (cofactor d what.right v k)) c ≡ combine op ((sets_of d).has what.left) ((sets_of d).has what.right) c

@@ -1,5 +1,5 @@
 -- One step of an operation: the operation on what remains for each option of the first variable.
-use Rattle.std.proofs.Common.{◌≡◌, ℕ, suc, ◌+◌, ◌<◌, ◌≤◌, List, [], ◌∷◌, ◌++◌, length, inl, inr, sym, ◌∙◌, ap, subst, arith}
+use Rattle.std.proofs.Common.{◌≡◌, ℕ, suc, ◌-◌, ◌<◌, ◌≤◌, List, [], ◌∷◌, ◌++◌, length, inl, inr, sym, ◌∙◌, ap, subst, arith}
 use Rattle.std.specs.Prelude.{slice_index}
 use Rattle.std.proofs.lemmas.Bool.{cases_lt}
 use Rattle.std.proofs.lemmas.List.{length_push, get_or_push, get_or_append_left}
@@ -7,7 +7,7 @@ use Rattle.sc_diagram.specs.declared.operation.Application.{Application}
 use Rattle.sc_diagram.specs.Diagram.{Diagram, variable_of}
 use Rattle.sc_diagram.specs.Grown.{Grows, IsChoice}
 use Rattle.sc_diagram.specs.Applied.{IsApplication, Applies, AppliesEach, IsUndecided, application_at, first_of}
-use Rattle.sc_diagram.proofs.AppliedLemmas.{first-le, later_cofactor, IsApplication-at, smaller_at, Applies-IsChoice, IsApplication-Grows, Applies-Grows, application_at-Grows, first_of-Grows, IsBefore-Grows}
+use Rattle.sc_diagram.proofs.AppliedLemmas.{first-le, later_cofactor, IsApplication-at, Applies-IsChoice, IsApplication-Grows, Applies-Grows, application_at-Grows, first_of-Grows, IsBefore-Grows}
 use Rattle.sc_diagram.proofs.GrownLemmas.{Grows-trans}
 
 -- what was made for each option stays
@@ -40,15 +40,22 @@ module _ {d e : Diagram} {what : Application} {v : ℕ} (is : IsApplication d wh
   first_now : v ≡ first_of e what
   first_now = first ∙ sym (first_of-Grows grows what is)
 
-  -- a call goes on from lower nodes
-  pub call_is : (w : Application) (k : ℕ) → k < slice_index e.arities v → w ≡ application_at e what v k → record { smaller : w.left + w.right < what.left + what.right; application : IsApplication e w }
-  call_is w k in_range same =
+  -- what remains of the nodes decides by later variables
+  later_at : (k : ℕ) → k < slice_index e.arities v → v < first_of e (application_at e what v k)
+  later_at k in_range =
       let now = IsApplication-Grows grows is in
-      let less = smaller_at grows.valid what now v k first_now within in_range in
-      record {
-        smaller = subst (λ x. x.left + x.right < what.left + what.right) (sym same) less;
-        application = subst (IsApplication e) (sym same) (IsApplication-at grows.valid what now v k within in_range);
-      }
+      let least = first-le (variable_of e what.left) (variable_of e what.right) in
+      let left = later_cofactor grows.valid what.left now.left v k within in_range (omega (arith, first_now, least.left)) in
+      let right = later_cofactor grows.valid what.right now.right v k within in_range (omega (arith, first_now, least.right)) in
+      omega (arith, left, right)
+
+  -- so there is a call for each variable at most
+  pub call_is : (w : Application) (k : ℕ) → k < slice_index e.arities v → w ≡ application_at e what v k
+      → record { deeper : length e.arities - first_of e w < length d.arities - first_of d what; application : IsApplication e w }
+  call_is w k in_range same = record {
+    deeper = subst (λ x. length e.arities - first_of e x < length d.arities - first_of d what) (sym same) (omega (arith, later_at k in_range, first, within, ap length grows.arities));
+    application = subst (IsApplication e) (sym same) (IsApplication-at grows.valid what (IsApplication-Grows grows is) v k within in_range);
+  }
 
   pub own_tops : {results : List ℕ} → AppliesEach e what v results → (k : ℕ) → k < length results → slice_index results k < length e.nodes
   own_tops each k in_range = (each.each k in_range).own
@@ -56,12 +63,9 @@ module _ {d e : Diagram} {what : Application} {v : ℕ} (is : IsApplication d wh
   -- the results decide by later variables
   pub later_tops : {results : List ℕ} → AppliesEach e what v results → length results ≡ slice_index e.arities v → (k : ℕ) → k < length results → v < variable_of e (slice_index results k)
   later_tops {results} each full k in_range =
-      let now = IsApplication-Grows grows is in
-      let least = first-le (variable_of e what.left) (variable_of e what.right) in
-      let option : k < slice_index e.arities v = omega (arith, full) in
-      let left = later_cofactor grows.valid what.left now.left v k within option (omega (arith, first_now, least.left)) in
-      let right = later_cofactor grows.valid what.right now.right v k within option (omega (arith, first_now, least.right)) in
-      omega (arith, (each.each k in_range).from (suc v) (omega (arith, left)) (omega (arith, right)))
+      let later = later_at k (omega (arith, full)) in
+      let least = first-le (variable_of e (application_at e what v k).left) (variable_of e (application_at e what v k).right) in
+      (each.each k in_range).from (suc v) (omega (arith, later, least.left)) (omega (arith, later, least.right))
 
   -- one more result, in a diagram that has grown again
   pub AppliesEach-more : {f : Diagram} {results : List ℕ} {r : ℕ} (w : Application) → Grows e f → AppliesEach e what v results → w ≡ application_at e what v (length results) → Applies f w r → AppliesEach f what v (results ++ r ∷ [])

@@ -1,19 +1,23 @@
 -- What the calls of a store say of the sets that its nodes stand for.
-use Rattle.std.proofs.Common.{◌≡◌, ℕ, zero, suc, ◌<◌, ◌≤◌, ◌==◌, ◌&&◌, ◌||◌, not, Bool, true, false, List, length, ◌⊎◌, inl, inr, refl, sym, ◌∙◌, ap, subst, arith, if◌then◌else◌}
+use Rattle.std.proofs.Common.{◌≡◌, ℕ, zero, suc, ◌+◌, ◌<◌, ◌≤◌, ◌==◌, ◌&&◌, ◌||◌, not, Bool, true, false, All, List, [], ◌∷◌, take, length, ◌⊎◌, inl, inr, refl, sym, ◌∙◌, ap, subst, arith, if◌then◌else◌}
 use Rattle.std.specs.Prelude.{slice_index, slice_set}
-use Rattle.std.proofs.lemmas.List.{set-set}
+use Rattle.std.proofs.lemmas.Bool.{cases_lt}
+use Rattle.std.proofs.lemmas.List.{set-set, take_all, length-map}
+use Rattle.std.proofs.lemmas.List.Elements.{All-head, All-tail}
 use Rattle.std.proofs.lemmas.Option.{slice_get_within, get_or_from_slice_get}
-use Rattle.sc_model.specs.Sets.{IsConfig, Denotes, IsNever, IsAlways, IsTop}
-use Rattle.sc_model.proofs.SetLemmas.{IsConfig-set, IsConfig-kept, Denotes-Keeps, IsNever-DependsOn, IsAlways-DependsOn}
+use Rattle.sc_model.specs.Sets.{IsConfig, Denotes, IsNever, IsAlways, IsTop, DependsFrom}
+use Rattle.sc_model.proofs.SetLemmas.{IsConfig-set, IsConfig-kept, Denotes-Keeps, IsNever-DependsOn, IsAlways-DependsOn, le-IsTop}
 use Rattle.sc_diagram.specs.declared.operation.Operation.{Operation}
 use Rattle.sc_diagram.specs.declared.operation.Operation.TheVariants.{And, Or, Negate, Part}
 use Rattle.sc_diagram.specs.declared.operation.Application.{Application}
+use Rattle.sc_diagram.specs.Decision.{IsDecisionOf, numbers_of}
+use Rattle.sc_diagram.specs.declared.node.Node.{Node}
 use Rattle.sc_diagram.specs.Diagram.{Diagram, IsDiagram, branch, branch_of, end_at, variable_of, child_of, sets_of}
 use Rattle.sc_diagram.specs.Grown.{Grows, Reaches, here, AddsOnly, IsChoice, only, decides}
 use Rattle.sc_diagram.specs.Applied.{combine, IsOperation, Applies, cofactor}
 use Rattle.sc_diagram.proofs.AppliedLemmas.{has_cofactor, own_cofactor, cofactor-lt}
-use Rattle.sc_diagram.proofs.DiagramLemmas.{decision, find_other, has_end, has_free, has_child, has_next, own_child, differ}
-use Rattle.sc_diagram.proofs.GrownLemmas.{Keeps-Grows}
+use Rattle.sc_diagram.proofs.DiagramLemmas.{decision, variable_end, find_other, has_end, has_free, has_child, has_next, own_child, differ}
+use Rattle.sc_diagram.proofs.GrownLemmas.{Keeps-Grows, has-Grows}
 
 -- an operation on nodes that pass tests passes what it makes of the tests
 combine_told : {ns : List ℕ} (op : Operation) (f g p q : List ℕ → Bool) → IsOperation ns op → ((c : List ℕ) → IsConfig ns c → f c ≡ p c) → ((c : List ℕ) → IsConfig ns c → g c ≡ q c)
@@ -60,6 +64,10 @@ module _ {d : Diagram} (valid : IsDiagram d) where
       has_next valid c listed r own
       ∙ ap (λ b. (sets_of d).has (slice_index b.children (slice_index c b.variable)) c) (get_or_from_slice_get d.nodes r (branch v children) (end_at d.arities r) at)
 
+  -- a node depends on no variable before the one by which it decides
+  pub DependsFrom-first : (n v : ℕ) → n < length d.nodes → v ≤ variable_of d n → DependsFrom (sets_of d) n v
+  DependsFrom-first n v own first = record { free = λ u before depends. depends.changes (sym (has_free valid depends.config depends.listed u depends.option n own (omega arith))) }
+
   -- a decision depends on its variable, and on none before it
   pub IsTop-decision : (n : ℕ) → n < length d.nodes → variable_of d n < length d.arities → IsTop (sets_of d) n (variable_of d n)
   IsTop-decision n own within =
@@ -83,7 +91,7 @@ module _ {d : Diagram} (valid : IsDiagram d) where
                 changes = λ same. apart.differs (sym (has_child valid n own within k found.within apart.config apart.listed) ∙ same
                     ∙ ap ((sets_of d).has n) (set-set apart.config v k 0) ∙ has_child valid n own within 0 first apart.config apart.listed);
               };
-              first = record { free = λ u before depends. depends.changes (sym (has_free valid depends.config depends.listed u depends.option n own before)) };
+              first = DependsFrom-first n v own (omega arith);
             }
             )
       ]
@@ -101,6 +109,37 @@ module _ {d : Diagram} (valid : IsDiagram d) where
   pub IsTop-inner : (n : ℕ) → 2 ≤ n → n < length d.nodes → IsTop (sets_of d) n (variable_of d n)
   IsTop-inner n inner own = IsTop-decision n own (valid.decisions n inner own).within
 
+  -- a variable before all on which a node depends is before the one by which it decides
+  pub before_first : (n v : ℕ) → n < length d.nodes → v < length d.arities → DependsFrom (sets_of d) n (v + 1) → v < variable_of d n
+  before_first n v own within from = elim (cases_lt n 2) [
+    | inl low ↦ omega (arith, variable_end valid n low)
+    | inr inner ↦ omega (arith, le-IsTop (IsTop-inner n inner own) from)
+  ]
+
+  pub IsDecisionOf-inner : (n : ℕ) → 2 ≤ n → n < length d.nodes → IsDecisionOf (sets_of d) n (variable_of d n) (branch_of d n).children
+  IsDecisionOf-inner n inner own =
+      let is = valid.decisions n inner own in
+      record {
+        top = IsTop-inner n inner own;
+        wide = is.wide;
+        each = λ k in_range. record {
+          own = record { made = own_child valid n own is.within k in_range };
+          later = DependsFrom-first (child_of d n k) (variable_of d n + 1) (own_child valid n own is.within k in_range) (omega (arith, is.ordered k in_range));
+          part = λ c listed. sym (has_child valid n own is.within k in_range c listed);
+        };
+      }
+
+  -- and so the node decides by the first variable on which it depends
+  pub IsDecisionOf-read : (n v : ℕ) → n < length d.nodes → IsTop (sets_of d) n v → IsDecisionOf (sets_of d) n v (branch_of d n).children
+  IsDecisionOf-read n v own top = elim (cases_lt n 2) [
+    | inl low ↦ absurd (not_constant n v top (constant_end n low))
+    | inr inner ↦ (
+        let is = IsDecisionOf-inner n inner own in
+        let same : variable_of d n ≡ v = omega (arith, le-IsTop is.top top.first, le-IsTop top is.top.first) in
+        subst (λ u. IsDecisionOf (sets_of d) n u (branch_of d n).children) same is
+        )
+  ]
+
   -- a step of a configuration
   pub step : (n : ℕ) (c : List ℕ) → 2 ≤ n → n < length d.nodes → IsConfig d.arities c → IsStep d n c (cofactor d n (variable_of d n) (slice_index c (variable_of d n)))
   step n c inner own listed =
@@ -115,6 +154,26 @@ module _ {d : Diagram} (valid : IsDiagram d) where
         own = own_cofactor valid n own v (slice_index c v) within in_range;
         same = has_cofactor valid n own v (slice_index c v) c listed refl;
       }
+
+-- the numbers of all children, after the last
+pub numbers_whole : (numbers : List ℕ) (children : List Node) (i : ℕ) → numbers ≡ numbers_of (take i children) → length children ≤ i → numbers ≡ numbers_of children
+numbers_whole numbers children i same past = same ∙ ap numbers_of (take_all i children past)
+
+pub length-numbers : (children : List Node) → length (numbers_of children) ≡ length children
+length-numbers children = length-map children (λ x. x.0)
+
+pub All-numbers : (P : ℕ → Type 0) (children : List Node) → All (λ child. P child.0) children → (k : ℕ) → k < length (numbers_of children) → P (slice_index (numbers_of children) k)
+All-numbers P [] all k within = absurd (omega arith)
+All-numbers P (child ∷ children) all zero within = All-head (λ x. P x.0) child children all
+All-numbers P (child ∷ children) all (suc k) within = All-numbers P children (All-tail (λ x. P x.0) child children all) k (omega (arith, within))
+
+-- a choice between nodes that were there
+pub has_between : {d e : Diagram} (r v : ℕ) (children : List ℕ) → Grows d e → IsChoice e r v children → r < length e.nodes → v < length d.arities → length children ≡ slice_index d.arities v
+    → ((j : ℕ) → j < length children → slice_index children j < length d.nodes) → (c : List ℕ) → IsConfig d.arities c → (sets_of e).has r c ≡ (sets_of d).has (slice_index children (slice_index c v)) c
+has_between {d} {e} r v children grows choice own within full own_children c listed =
+    let now = subst (λ ns. IsConfig ns c) (sym grows.arities) listed in
+    let in_range : slice_index c v < length children = omega (arith, listed.each v within, full) in
+    has_IsChoice grows.valid r v children c now own in_range choice ∙ has-Grows grows (slice_index children (slice_index c v)) c (own_children (slice_index c v) in_range) listed
 
 -- the ends of a choice of one option
 pub has_choose : {d e : Diagram} (r v k : ℕ) (children : List ℕ) → Grows d e → IsChoice e r v children → r < length e.nodes → v < length d.arities → length children ≡ slice_index d.arities v

@@ -1,3 +1,4 @@
 pub mod Applied
+pub mod Decision
 pub mod Diagram
 pub mod Grown

@@ -3,13 +3,16 @@
 #![tactic(auto)]
 
 mod apply;
+mod between;
 mod choose;
 mod decided;
 mod example;
 mod known;
+mod node;
 mod operation;
 mod store;
 mod table;
 mod walk;
 
-pub use store::{Node, Store};
+pub use node::{Decision, Node};
+pub use store::Store;

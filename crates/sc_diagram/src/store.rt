@@ -1,25 +1,24 @@
-ghost use Rattle.std.specs.Prelude.{◌≡◌, ℕ, ◌+◌, ◌<◌, ◌==◌, ◌&&◌, ◌||◌, ◌⊎◌, ◌↔◌, not, Bool, true, false, List, length, slice_index, slice_set, IsNone, IfSome, IfOk};
+ghost use Rattle.std.specs.Prelude.{◌≡◌, ℕ, ◌+◌, ◌<◌, ◌==◌, ◌&&◌, ◌||◌, ◌⊎◌, ◌↔◌, not, All, Bool, true, false, List, length, slice_index, slice_set, IsNone, IfSome, IfOk};
 ghost use Rattle.std.specs.Bool.{OnTrue, OnFalse};
 ghost use Rattle.sc_model.specs.Growth.{Extends};
-ghost use Rattle.sc_model.specs.Sets.{HasOptions, IsConfig, IsCond, Denotes, Keeps, IsNever, IsAlways, IsTop, IsCanonical};
+ghost use Rattle.sc_model.specs.Sets.{HasOptions, IsConfig, IsCond, Denotes, Keeps, IsNever, IsAlways, IsTop, DependsFrom, IsCanonical};
+ghost use Rattle.sc_diagram.specs.Decision.{IsDecisionOf, numbers_of};
 ghost use Rattle.sc_diagram.specs.Diagram.{sets_of};
 ghost use Rattle.sc_diagram.specs.Grown.{Grows, AddsOnly};
 ghost use Rattle.sc_diagram.specs.Applied.{IsApplication, Applies, application};
 
 use crate::apply::apply;
+use crate::between::between;
 use crate::choose::choose;
 use crate::example::example;
 use crate::known::Known;
+use crate::node::{Decision, Node};
 use crate::operation::{Application, Operation};
 use crate::table::{ALWAYS, NEVER, Table};
 use crate::walk::leads_to_always;
 use sc_base::OutOfMemory;
 use std::alloc::Global;
 use std::marker::Model;
-
-/// A node of the store that made it.
-#[derive(Clone, Copy, Debug, PartialEq, Eq, PartialOrd, Ord, Hash)]
-pub struct Node(pub usize);
 
 /// Decision diagrams over the configurations of some variables.
 ///
@@ -94,6 +93,26 @@ impl Store {
         ensures keeps { Keeps (sets_of self.old) (sets_of self.new) }
     {
         let node = choose(&mut self.table, variable, option)?;
+        Ok(Node(node))
+    }
+
+    /// The node that decides by a variable between these children, one for each of its options: it
+    /// has what the child for a configuration's option has.
+    pub fn node(&mut self, variable: usize, children: &[Node]) -> Result<Node, OutOfMemory>
+        requires variable { variable < length self.old.arities }
+        requires wide { length children.now ≡ slice_index self.old.arities variable }
+        requires own { All (λ child. IsCond (sets_of self.old) child.0) children.now }
+        requires later { All (λ child. DependsFrom (sets_of self.old) child.0 (variable + 1)) children.now }
+        ensures own { IfOk result (λ r. IsCond (sets_of self.new) r.0) }
+        ensures meaning { IfOk result (λ r. Denotes (sets_of self.new) r.0
+            (λ c. (sets_of self.old).has (slice_index (numbers_of children.now) (slice_index c variable)) c)) }
+        ensures adds { IfOk result (λ r. AddsOnly self.old self.new r.0) }
+
+        // at every outcome
+        ensures extends { Extends self.old.nodes self.new.nodes }
+        ensures keeps { Keeps (sets_of self.old) (sets_of self.new) }
+    {
+        let node = between(&mut self.table, variable, children)?;
         Ok(Node(node))
     }
 
@@ -183,6 +202,16 @@ impl Store {
         } else {
             None
         }
+    }
+
+    /// How the node decides, where it is not always or never.
+    pub fn read(&self, node: Node) -> Option<Decision<'_>>
+        requires { IsCond (sets_of self.now) node.0 }
+        ensures some { IfSome result (λ d. IsDecisionOf (sets_of self.now) node.0 d.variable d.children) }
+        ensures none { IsNone result ↔ (IsNever (sets_of self.now) node.0 ⊎ IsAlways (sets_of self.now) node.0) }
+    {
+        let variable = self.top(node)?;
+        Some(Decision::new(variable, self.table.children(node.0)))
     }
 
     /// Writes a configuration that the node has.

@@ -15,7 +15,7 @@ apply-requires t c =
     let grows = c.loop-option.invariant.grows in
     let in_range : c.loop-option.option < slice_index c.loop-option.table.arities v = omega (arith, c.loop-option-test.true, c.arity-option-end.ensures, ap (λ ns. slice_index ns v) grows.arities) in
     let is = call_is c.requires.application c.in_default.ensures.none c.first_variable-variable.ensures grows c.application_at.result c.loop-option.option in_range c.application_at.ensures in
-    (omega (arith, is.smaller, c.decreases), (is.application, c.loop-option.invariant.known))
+    (omega (arith, is.deeper, c.decreases), (is.application, c.loop-option.invariant.known))
 
 pub loop-option-preserved : goal.loop-option-preserved
 loop-option-preserved t c =

@@ -1,10 +1,11 @@
-use Rattle.std.proofs.Common.{◌≡◌, ◌+◌, length}
+use Rattle.std.proofs.Common.{◌≡◌, ◌-◌, length}
 use Rattle.sc_diagram.specs.Grown.{Grows, AddsBelow}
-use Rattle.sc_diagram.specs.Applied.{IsKnown, AppliesEach}
+use Rattle.sc_diagram.specs.Applied.{IsKnown, AppliesEach, first_of}
 use Rattle.sc_diagram.proofs.apply.+apply.Given as goal
 
+-- as deep as there are variables
 abbrev pub decreases-apply : goal.decreases-apply
-decreases-apply l = l.what.left + l.what.right
+decreases-apply l = length l.table.now.arities - first_of l.table.now l.what
 
 abbrev pub invariant-loop-option : goal.invariant-loop-option
 invariant-loop-option l = record {
