@@ -117,13 +117,6 @@ module _ {p : Plain} (plain : IsPlain p) where
     at = λ c listed. rw (row_of-stored p 1 _ plain.always) (get_or-replicate _ _ true false (rank-lt p.arities c listed));
   }
 
-  -- a condition is never exactly where it is the first
-  pub IsNever-at : (a : ℕ) → a ≡ 0 → IsNever (sets_of p) a
-  IsNever-at a same = subst (IsNever (sets_of p)) (sym same) (record { none = Denotes-never.at })
-
-  pub at-IsNever : (a : ℕ) → IsCond (sets_of p) a → IsNever (sets_of p) a → a ≡ 0
-  at-IsNever a own never = IsCanonical-IsPlain.one a 0 own IsCond-never (record { at = λ c listed. never.none c listed ∙ sym (Denotes-never.at c listed) })
-
 -- a zip of two rows is as long as they are
 pub length-zipped : (op : Bool → Bool → Bool) (xs ys : List Bool) (n : ℕ) → length xs ≡ n → length ys ≡ n → length (map (λ (x : Bool × Bool). op x.0 x.1) (zip xs ys)) ≡ n
 length-zipped op xs ys n long_x long_y = omega (arith, length-map (zip xs ys) (λ (x : Bool × Bool). op x.0 x.1), length-zip xs ys)

@@ -91,15 +91,6 @@ pub trait Conditions {
         ensures some { IfSome result (IsTop (sets self.now) a.0) }
         ensures none { IsNone result ↔ (IsNever (sets self.now) a.0 ⊎ IsAlways (sets self.now) a.0) };
 
-    fn is_never(&self, a: Cond) -> bool
-        requires { IsCond (sets self.now) a.0 }
-        ensures { IsTrue result ↔ IsNever (sets self.now) a.0 };
-
-    fn same(&self, a: Cond, b: Cond) -> bool
-        requires a_own { IsCond (sets self.now) a.0 }
-        requires b_own { IsCond (sets self.now) b.0 }
-        ensures { IsTrue result ↔ IsSame (sets self.now) a.0 b.0 };
-
     /// Whether the condition has the configuration.
     fn holds(&self, a: Cond, config: &[usize]) -> bool
         requires own { IsCond (sets self.now) a.0 }
@@ -124,4 +115,23 @@ pub trait Conditions {
     /// proof.
     fn has_options(&self)
         ensures { HasOptions (sets self.now).arities };
+
+    /// Whether no configuration has the condition.
+    final fn is_never(&self, a: Cond) -> bool
+        requires { IsCond (sets self.now) a.0 }
+        ensures { IsTrue result ↔ IsNever (sets self.now) a.0 }
+    {
+        self.canonical();
+        a == self.never()
+    }
+
+    /// Whether two conditions have the same configurations.
+    final fn same(&self, a: Cond, b: Cond) -> bool
+        requires a_own { IsCond (sets self.now) a.0 }
+        requires b_own { IsCond (sets self.now) b.0 }
+        ensures { IsTrue result ↔ IsSame (sets self.now) a.0 b.0 }
+    {
+        self.canonical();
+        a == b
+    }
 }

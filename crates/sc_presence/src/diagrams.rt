@@ -18,7 +18,7 @@ impl Diagrams {
     /// serves all that are made later.
     pub fn new(alloc: Global, arities: &[usize]) -> Result<Diagrams, OutOfMemory>
         requires { HasOptions arities.now }
-        ensures { IfOk result (λ conditions. (sets_of conditions.store).arities ≡ arities.now) }
+        ensures { IfOk result (λ conditions. (⟦<Diagrams as Conditions>⟧.sets conditions).arities ≡ arities.now) }
     {
         let store = Store::new(alloc, arities)?;
         Ok(Diagrams { store })
@@ -63,17 +63,6 @@ impl Conditions for Diagrams {
 
     fn top(&self, a: Cond) -> Option<usize> {
         self.store.top(Node(a.0))
-    }
-
-    fn is_never(&self, a: Cond) -> bool {
-        self.store.canonical();
-        let never = self.store.never();
-        a.0 == never.0
-    }
-
-    fn same(&self, a: Cond, b: Cond) -> bool {
-        self.store.canonical();
-        a.0 == b.0
     }
 
     fn holds(&self, a: Cond, config: &[usize]) -> bool {

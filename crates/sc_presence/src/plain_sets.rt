@@ -155,16 +155,6 @@ impl Conditions for PlainSets {
         rows::first_variable(self.row(a), &self.strides, &self.arities)
     }
 
-    fn is_never(&self, a: Cond) -> bool {
-        let _rows = &self.rows;
-        a == NEVER
-    }
-
-    fn same(&self, a: Cond, b: Cond) -> bool {
-        let _rows = &self.rows;
-        a == b
-    }
-
     fn holds(&self, a: Cond, config: &[usize]) -> bool {
         self.row(a)[ranks::rank_of(&self.strides, config)]
     }
