@@ -1,13 +1,15 @@
 -- The definition, computed on examples.
-use Rattle.std.proofs.Common.{◌≡◌, [], ◌∷◌, codes, Ok, Err, refl}
+use Rattle.std.proofs.Common.{◌≡◌, List, [], ◌∷◌, codes, decimal, Ok, Err, refl}
 use Rattle.std.specs.Prelude.{⊤}
 use Rattle.std.specs.Str.{chars, is_utf8}
 use Rattle.sc_model.specs.declared.variable_option.VariableOption.TheVariants.{Undefined, Number}
-use Rattle.sc_space.specs.SpaceFile.{unknown_key, no_variables, bad_name, bad_option, repeated_option, not_toml, read_document, check_keys, variables_table, is_ascii_identifier, is_protected, read_option, read_each, read_options, are_different, read_variable, read_variables, is_small, with_defaults, read_space}
+use Rattle.sc_model.specs.Space.{Variable, Space}
+use Rattle.sc_space.specs.Settings.{limit_of, directory_of, date_of}
+use Rattle.sc_space.specs.SpaceFile.{unknown_key, no_variables, bad_name, bad_option, repeated_option, not_toml, bad_limit, bad_include, bad_date, read_document, check_keys, variables_table, is_ascii_identifier, is_protected, read_option, read_each, read_options, are_different, read_variable, read_variables, read_limit, read_directories, read_include, read_date, with_settings, read_space}
 use Rattle.toml.proofs.OnLiterals.{toml_on_literals}
 
 unfoldable on_examples : ⊤
-unfolding toml_on_literals chars is_utf8 read_document check_keys variables_table is_ascii_identifier is_protected read_option read_each read_options are_different read_variable read_variables is_small read_space
+unfolding toml_on_literals chars is_utf8 read_document check_keys variables_table is_ascii_identifier is_protected read_option read_each read_options are_different read_variable read_variables read_limit limit_of read_directories directory_of read_include read_date date_of with_settings read_space
 on_examples = tt
 
 empty_file : read_space [] ≡ Err no_variables
@@ -34,7 +36,23 @@ protected_name : read_space (codes "[variables]\n__LINE__ = [0]\n") ≡ Err (bad
 unfolding on_examples
 protected_name = refl
 
+-- the settings of a file that names none
+abbrev with_defaults : List Variable → Space
+with_defaults variables = record { variables = variables; include = []; branches = 4096; include_depth = 64; date = codes "Jan  1 1970"; time = codes "00:00:00" }
+
 two_variables : read_space (codes "[variables]\nHZ = [\"undef\", 100]\nA = [0]\n")
     ≡ Ok (with_defaults (record { name = codes "A"; options = Number 0 ∷ [] } ∷ record { name = codes "HZ"; options = Undefined ∷ Number 100 ∷ [] } ∷ []))
 unfolding on_examples
 two_variables = refl
+
+limit_first : read_space (codes "date = 1\nbranches = 0\ninclude_depth = 0\n[variables]\n") ≡ Err (bad_limit (codes "branches"))
+unfolding on_examples
+limit_first = refl
+
+place_of_directory : read_space (codes "include = [\"a\", \"\", 1]\n[variables]\n") ≡ Err (bad_include (decimal 1))
+unfolding on_examples
+place_of_directory = refl
+
+date_with_quote : read_space (codes "time = 1\ndate = \"Jan \\\" 1970\"\n[variables]\n") ≡ Err (bad_date (codes "date"))
+unfolding on_examples
+date_with_quote = refl

@@ -1,6 +1,6 @@
 -- What the definition of a space file ensures of each space that it gives.
-use Rattle.std.proofs.Common.{◌≡◌, nat_le, codes, ℕ, zero, suc, ◌<◌, ◌≤◌, Bool, true, false, ◌||◌, cond, List, [], ◌∷◌, length, map, Option, Some, None, option_map, Result, Ok, Err, String, Global, pos, refl, sym, ap, subst, arith, inl, inr}
-use Rattle.std.proofs.lemmas.Bool.{and_parts, or_parts, and_from, or_from, or_left, not-true, not_from_false, both_ways, leb-true, ltb-true, eq-eqb, cases_order}
+use Rattle.std.proofs.Common.{◌≡◌, nat_le, codes, ℕ, zero, suc, ◌+◌, ◌<◌, ◌≤◌, Bool, true, false, ◌||◌, cond, List, [], ◌∷◌, length, map, Option, Some, None, option_map, Result, Ok, Err, String, Global, pos, refl, sym, ap, subst, arith, inl, inr}
+use Rattle.std.proofs.lemmas.Bool.{and_parts, or_parts, and_from, or_from, or_left, not-true, not_from_false, both_ways, leb-true, ltb-true, eq-eqb, eqb-true, cases_order}
 use Rattle.std.proofs.lemmas.Bool.Decides.{nat_tests}
 use Rattle.std.proofs.lemmas.Cmp.{nat_list_cmp_total, tied_itself}
 use Rattle.std.proofs.lemmas.Option.{same_Some, cond_some, get_or_from_slice_get, slice_get_within}
@@ -10,6 +10,7 @@ use Rattle.std.specs.Cmp.Lexicographic.{slice_cmp}
 use Rattle.std.specs.List.{All, AllPairs, AllByRecursion, list_all, list_any, slice_get}
 use Rattle.std.specs.List.Sorted.{IsStrictlySortedBy}
 use Rattle.std.specs.Map.{keys_of}
+use Rattle.std.specs.Result.{IfOk}
 use Rattle.std.specs.Option.{ok_or, option_and_then}
 use Rattle.std.specs.Ordering.{nat_cmp}
 use Rattle.std.specs.String.{string_bytes, string_cmp}
@@ -18,28 +19,32 @@ use Rattle.sc_model.specs.declared.variable_option.VariableOption.{VariableOptio
 use Rattle.sc_model.specs.declared.variable_option.VariableOption.TheVariants.{Undefined, Number}
 use Rattle.sc_model.specs.Bytes.{same_bytes, is_digit, is_letter}
 use Rattle.c11_tokens.specs.Lex.{goes_on, is_identifier}
-use Rattle.sc_model.specs.Space.{Variable}
+use Rattle.sc_model.specs.Space.{Variable, Space}
 use Rattle.c11_macros.specs.Macros.{predefined_names}
 use Rattle.sc_text.specs.Text.{is_word, is_wordless}
+use Rattle.sc_space.specs.declared.fault.SpaceStop.{SpaceStop}
+use Rattle.sc_space.specs.declared.space.Space.{Space as ReadSpace}
+use Rattle.sc_space.specs.Seen.{seen_space, Answers}
 use Rattle.sc_space.specs.Sound.{IsInRange, IsBefore, IsSoundVariable, IsSound, names_of}
-use Rattle.sc_space.specs.SpaceFile.{Fault, ◌>>=◌, is_identifier_start, is_identifier_byte, is_ascii_identifier, is_protected, read_option, read_each, read_options, same_option, are_different, read_variable, read_variables, is_small, with_defaults}
+use Rattle.sc_space.specs.Settings.{setting, limit_of, is_directory, directory_of, is_date_byte, date_of}
+use Rattle.sc_space.specs.SpaceFile.{Fault, ◌>>=◌, is_identifier_start, is_identifier_byte, is_ascii_identifier, is_protected, read_option, read_each, read_options, same_option, are_different, read_variable, read_variables, read_limit, read_directories, directories_of, read_include, read_date, with_settings}
 use Rattle.toml.specs.Data.{Data, string, integer, array, Items, no_items, item, Members, no_members, member}
 use Rattle.toml.specs.View.{members_view}
 use Rattle.toml.specs.declared.value.Value.{Value}
 
 -- what an answer without a fault says of its steps
-passed : {A : Type 0} (test : Bool) (r : Result A Fault) (fault : Fault) (a : A) → cond test r (Err fault) ≡ Ok a → (test ≡ true) × (r ≡ Ok a)
+pub passed : {A : Type 0} (test : Bool) (r : Result A Fault) (fault : Fault) (a : A) → cond test r (Err fault) ≡ Ok a → (test ≡ true) × (r ≡ Ok a)
 passed true r fault a read = (refl, read)
 passed false r fault a read = cc
 
-was_some : {A : Type 0} (o : Option A) (fault : Fault) (a : A) → ok_or o fault ≡ Ok a → o ≡ Some a
+pub was_some : {A : Type 0} (o : Option A) (fault : Fault) (a : A) → ok_or o fault ≡ Ok a → o ≡ Some a
 was_some (Some x) fault a read = cc
 was_some None fault a read = cc
 
-same_Ok : {A : Type 0} (a b : A) → ◌≡◌ {A = Result A Fault} (Ok a) (Ok b) → a ≡ b
+pub same_Ok : {A : Type 0} (a b : A) → ◌≡◌ {A = Result A Fault} (Ok a) (Ok b) → a ≡ b
 same_Ok a b same = cc
 
-went_on : {A B : Type 0} (r : Result A Fault) (more : A → Result B Fault) (b : B) → (r >>= more) ≡ Ok b → (a : A) × (r ≡ Ok a) × (more a ≡ Ok b)
+pub went_on : {A B : Type 0} (r : Result A Fault) (more : A → Result B Fault) (b : B) → (r >>= more) ≡ Ok b → (a : A) × (r ≡ Ok a) × (more a ≡ Ok b)
 went_on (Ok a) more b read = (a, refl, read)
 went_on (Err fault) more b read = cc
 
@@ -225,20 +230,107 @@ names_one_place names ascending i j x at_i at_j =
       | inr (inr after) ↦ absurd (never_before names ascending j i x at_j at_i after)
     ]
 
-pub sound : (ms : Members) (vs : List Variable) → read_variables ms ≡ Ok vs → is_small vs ≡ true → AllPairs IsBefore (names_of vs) → IsSound (with_defaults vs)
-unfolding is_small
-sound ms vs read small ascending =
+-- what a setting is, where it was read
+setting_is : {A : Type 0} (P : A → Type 0) (default : A) (read : Data → Option A) (found : Option Data) (fault : Fault) (a : A) → P default
+    → ((value : Data) → read value ≡ Some a → P a) → ok_or (setting default read found) fault ≡ Ok a → P a
+setting_is P default read None fault a is_default given said = subst P (same_Ok _ _ said) is_default
+setting_is P default read (Some value) fault a is_default given said = given value (was_some _ _ _ said)
+
+record IsLimit (least most n : ℕ) : Type 0 where
+  low : least ≤ n
+  high : n ≤ most
+
+limit_is : (least most n : ℕ) (value : Data) → limit_of least most value ≡ Some n → IsLimit least most n
+unfolding limit_of
+limit_is least most n (integer (pos m)) read =
+    let (between, same) = cond_some _ _ _ read in
+    let (low, high) = and_parts _ _ between in
+    subst (IsLimit least most) same (record { low = leb-true _ _ low; high = leb-true _ _ high })
+limit_is least most n _ read = cc
+
+read_limit-is : (key : List ℕ) (least most default n : ℕ) (document : Members) → IsLimit least most default → read_limit key least most default document ≡ Ok n → IsLimit least most n
+unfolding read_limit
+read_limit-is key least most default n document is_default read = setting_is (IsLimit least most) default _ _ _ n is_default (limit_is least most n) read
+
+many_branches : IsLimit 1 1000000 4096
+many_branches = record { low = omega arith; high = omega arith }
+
+some_depth : IsLimit 15 200 64
+some_depth = record { low = omega arith; high = omega arith }
+
+record IsDate (size : ℕ) (text : List ℕ) : Type 0 where
+  long : length text ≡ size
+  plain : list_all is_date_byte text ≡ true
+
+date_is : (size : ℕ) (text : List ℕ) (value : Data) → date_of size value ≡ Some text → IsDate size text
+unfolding date_of
+date_is size text (string given) read =
+    let (plain, same) = cond_some _ _ _ read in
+    let (long, bytes) = and_parts _ _ plain in
+    subst (IsDate size) same (record { long = eqb-true _ _ long; plain = bytes })
+date_is size text _ read = cc
+
+read_date-is : (key : List ℕ) (size : ℕ) (default text : List ℕ) (document : Members) → IsDate size default → read_date key size default document ≡ Ok text → IsDate size text
+unfolding read_date
+read_date-is key size default text document is_default read = setting_is (IsDate size) default _ _ _ text is_default (date_is size text) read
+
+directory_is : (value : Data) (name : List ℕ) → directory_of value ≡ Some name → is_directory name ≡ true
+unfolding directory_of
+directory_is (string text) name read = let (directory, same) = cond_some _ _ _ read in subst (λ n. is_directory n ≡ true) same directory
+directory_is _ name read = cc
+
+abbrev AreDirectories : List (List ℕ) → Type 0
+AreDirectories names = All (λ name. is_directory name ≡ true) names
+
+directories_are : (place : ℕ) (values : Items) (names : List (List ℕ)) → read_directories place values ≡ Ok names → AreDirectories names
+unfolding read_directories
+directories_are place no_items names read = rw (← same_Ok _ _ read) (All-nil (λ name. is_directory name ≡ true))
+directories_are place (item value values) names read =
+    let first = went_on _ _ names read in
+    let more = went_on _ _ names first.2 in
+    subst AreDirectories (same_Ok _ _ more.2)
+    (All-cons (λ name. is_directory name ≡ true) first.0 more.0 (directory_is value first.0 (was_some _ _ _ first.1)) (directories_are (place + 1) values more.0 more.1))
+
+include_is : (found : Option Data) (names : List (List ℕ)) → directories_of found ≡ Ok names → AreDirectories names
+include_is None names read = rw (← same_Ok _ _ read) (All-nil (λ name. is_directory name ≡ true))
+include_is (Some (array values)) names read = directories_are 0 values names read
+include_is (Some _) names read = cc
+
+read_include-is : (document : Members) (names : List (List ℕ)) → read_include document ≡ Ok names → AreDirectories names
+unfolding read_include
+read_include-is document names read = include_is _ names read
+
+sound : (ms document : Members) (vs : List Variable) (space : Space) → read_variables ms ≡ Ok vs → length vs ≤ 1024 → AllPairs IsBefore (names_of vs) → with_settings vs document ≡ Ok space → IsSound space
+unfolding with_settings
+sound ms document vs space read few ascending whole =
     let each = sound_variables ms vs read in
-    let (few_variables, few_configs) = and_parts _ _ small in
-    record {
+    let branches = went_on _ _ space whole in
+    let depth = went_on _ _ space branches.2 in
+    let include = went_on _ _ space depth.2 in
+    let date = went_on _ _ space include.2 in
+    let time = went_on _ _ space date.2 in
+    let branches_are = read_limit-is _ _ _ _ _ document many_branches branches.1 in
+    let depth_is = read_limit-is _ _ _ _ _ document some_depth depth.1 in
+    let date_is = read_date-is (codes "date") 11 (codes "Jan  1 1970") _ document (record { long = refl; plain = refl }) date.1 in
+    let time_is = read_date-is (codes "time") 8 (codes "00:00:00") _ document (record { long = refl; plain = refl }) time.1 in
+    subst IsSound (same_Ok _ _ time.2) (record {
       each = each;
       ascending = ascending;
       names_differ = record { same = names_one_place (names_of vs) ascending };
       has_options = record { each = λ v within. All-map (λ n. 0 < n) (λ (v : Variable). length v.options) vs (All-weaker IsSoundVariable (λ v. 0 < length v.options) (λ v is_sound. is_sound.some) vs each) v 0 within };
-      few_variables = leb-true _ _ few_variables;
-      few_configs = leb-true _ _ few_configs;
-      branches_least = omega arith;
-      branches_most = omega arith;
-      include_depth_least = omega arith;
-      include_depth_most = omega arith;
-    }
+      few_variables = few;
+      branches_least = branches_are.low;
+      branches_most = branches_are.high;
+      include_depth_least = depth_is.low;
+      include_depth_most = depth_is.high;
+      directories = read_include-is document include.0 include.1;
+      date_long = date_is.long;
+      date_plain = date_is.plain;
+      time_long = time_is.long;
+      time_plain = time_is.plain;
+    })
+
+pub sound_answer : (ms document : Members) (vs : List Variable) (result : Result ReadSpace SpaceStop) → read_variables ms ≡ Ok vs → length vs ≤ 1024 → AllPairs IsBefore (names_of vs) → Answers seen_space result (with_settings vs document)
+    → IfOk result (λ space. IsSound (seen_space space))
+sound_answer ms document vs (Ok space) read few ascending answer = sound ms document vs (seen_space space) read few ascending answer
+sound_answer ms document vs (Err refused) read few ascending answer = tt

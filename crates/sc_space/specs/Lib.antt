@@ -1,3 +1,5 @@
+pub mod Config
 pub mod Seen
+pub mod Settings
 pub mod Sound
 pub mod SpaceFile

@@ -7,7 +7,7 @@ use Rattle.sc_space.specs.declared.fault.SpaceStop.{SpaceStop}
 use Rattle.sc_space.specs.declared.fault.SpaceStop.TheVariants as stop
 use Rattle.sc_space.specs.declared.space.Space.{Space}
 use Rattle.sc_space.specs.declared.space.Variable.{Variable}
-use Rattle.sc_space.specs.SpaceFile.{Fault, too_large, not_toml, unknown_key, no_variables, bad_name, bad_option, repeated_option, too_many}
+use Rattle.sc_space.specs.SpaceFile.{Fault, too_large, not_toml, unknown_key, no_variables, bad_name, bad_option, repeated_option, too_many, bad_limit, bad_include, bad_date, unknown_variable, repeated_variable, unknown_option}
 
 abbrev pub seen_variable : Variable → model.Variable
 seen_variable v = record { name = string_bytes v.name; options = v.options.items }
@@ -31,6 +31,12 @@ seen_fault (fault.BadName name) = bad_name (string_bytes name)
 seen_fault (fault.BadOption name) = bad_option (string_bytes name)
 seen_fault (fault.RepeatedOption name) = repeated_option (string_bytes name)
 seen_fault fault.TooMany = too_many
+seen_fault (fault.BadLimit key) = bad_limit (string_bytes key)
+seen_fault (fault.BadInclude place) = bad_include (string_bytes place)
+seen_fault (fault.BadDate key) = bad_date (string_bytes key)
+seen_fault (fault.UnknownVariable name) = unknown_variable (string_bytes name)
+seen_fault (fault.RepeatedVariable name) = repeated_variable (string_bytes name)
+seen_fault (fault.UnknownOption name) = unknown_option (string_bytes name)
 
 -- The call refuses for the fault of the definition, or memory ran out.
 abbrev pub Refuses : {T : Type 0} → SpaceStop → Result T Fault → Type 0

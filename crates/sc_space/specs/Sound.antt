@@ -1,7 +1,7 @@
 -- What each space that was read keeps.
 use Rattle.std.specs.Prelude.{◌≡◌, ℕ, ◌<◌, ◌≤◌, ◌^◌, true, false, List, map, length, All, AllPairs}
 use Rattle.std.specs.Cmp.Lexicographic.{slice_cmp}
-use Rattle.std.specs.List.{list_any}
+use Rattle.std.specs.List.{list_all, list_any}
 use Rattle.std.specs.Ordering.{nat_cmp}
 use Rattle.std.specs.declared.cmp.Ordering.TheVariants.{Less}
 use Rattle.sc_model.specs.declared.variable_option.VariableOption.{VariableOption}
@@ -9,10 +9,11 @@ use Rattle.sc_model.specs.declared.variable_option.VariableOption.TheVariants.{U
 use Rattle.sc_model.specs.Bytes.{same_bytes}
 use Rattle.sc_model.specs.Growth.{IsOneToOne}
 use Rattle.c11_tokens.specs.Lex.{is_identifier}
-use Rattle.sc_model.specs.Sets.{HasOptions, config_count}
+use Rattle.sc_model.specs.Sets.{HasOptions}
 use Rattle.sc_model.specs.Space.{Variable, Space, arities_of}
 use Rattle.c11_macros.specs.Macros.{predefined_names}
 use Rattle.sc_text.specs.Text.{is_word}
+use Rattle.sc_space.specs.Settings.{is_directory, is_date_byte}
 use Rattle.sc_space.specs.SpaceFile.{is_ascii_identifier, is_protected}
 
 -- the number is one of the machine's signed whole numbers
@@ -43,8 +44,12 @@ pub record IsSound (space : Space) : Type 0 where
   pub names_differ : IsOneToOne (names_of space.variables)
   pub has_options : HasOptions (arities_of space)
   pub few_variables : length space.variables ≤ 1024
-  pub few_configs : config_count (arities_of space) ≤ 4096
   pub branches_least : 1 ≤ space.branches
   pub branches_most : space.branches ≤ 1000000
   pub include_depth_least : 15 ≤ space.include_depth
   pub include_depth_most : space.include_depth ≤ 200
+  pub directories : All (λ name. is_directory name ≡ true) space.include
+  pub date_long : length space.date ≡ 11
+  pub date_plain : list_all is_date_byte space.date ≡ true
+  pub time_long : length space.time ≡ 8
+  pub time_plain : list_all is_date_byte space.time ≡ true

@@ -1,5 +1,5 @@
 -- What a space file says, or the first reason for which it is refused.
-use Rattle.std.specs.Prelude.{ℕ, ◌==◌, ◌&&◌, ◌||◌, ◌++◌, ◌^◌, not, nat_lt, nat_le, Bool, true, false, List, [], ◌∷◌, length, map, codes, pos, Option, Some, None, option_map, Result, Ok, Err, if◌then◌else◌}
+use Rattle.std.specs.Prelude.{ℕ, ◌==◌, ◌&&◌, ◌||◌, ◌+◌, ◌++◌, ◌^◌, not, nat_lt, Bool, true, false, List, [], ◌∷◌, length, codes, decimal, pos, Option, Some, None, option_map, Result, Ok, Err, if◌then◌else◌}
 use Rattle.std.specs.List.{list_all, list_any}
 use Rattle.std.specs.Option.{option_and_then, ok_or}
 use Rattle.std.specs.Str.{is_utf8}
@@ -7,13 +7,13 @@ use Rattle.sc_model.specs.declared.variable_option.VariableOption.{VariableOptio
 use Rattle.sc_model.specs.declared.variable_option.VariableOption.TheVariants.{Undefined, Number}
 use Rattle.sc_model.specs.Bytes.{same_bytes, is_between, is_digit}
 use Rattle.sc_model.specs.Outside.{largest_file}
-use Rattle.sc_model.specs.Sets.{config_count}
 use Rattle.sc_model.specs.Space.{Variable, Space}
 use Rattle.c11_macros.specs.Macros.{predefined_names}
+use Rattle.sc_space.specs.Settings.{setting, limit_of, directory_of, date_of}
 use Rattle.toml.specs.Data.{Data, string, integer, array, Items, no_items, item, Members, no_members, member, as_table, get_member}
 use Rattle.toml.specs.Parse.{parse_document}
 
--- Why a space file is refused, with the key or the name at fault.
+-- Why a space file, or the words for a configuration, are refused, with what is at fault.
 pub data Fault : Type 0 where
   too_large : Fault
   not_toml : Fault
@@ -23,6 +23,12 @@ pub data Fault : Type 0 where
   bad_option : (name : List ℕ) → Fault
   repeated_option : (name : List ℕ) → Fault
   too_many : Fault
+  bad_limit : (key : List ℕ) → Fault
+  bad_include : (place : List ℕ) → Fault
+  bad_date : (key : List ℕ) → Fault
+  unknown_variable : (name : List ℕ) → Fault
+  repeated_variable : (name : List ℕ) → Fault
+  unknown_option : (name : List ℕ) → Fault
 
 -- the first fault ends the reading
 infixl 10 ◌>>=◌
@@ -39,7 +45,7 @@ read_document bytes =
 
 -- the keys that a space file may have
 abbrev pub known_keys : List (List ℕ)
-known_keys = codes "variables" ∷ []
+known_keys = codes "variables" ∷ codes "include" ∷ codes "branches" ∷ codes "include_depth" ∷ codes "date" ∷ codes "time" ∷ []
 
 -- the first key that is not known is at fault
 unfoldable pub check_keys : Members → Result (Unit {0}) Fault
@@ -113,20 +119,42 @@ read_variables (member name value ms) = do
   vs ← read_variables ms
   Ok (v ∷ vs)
 
--- what the settings are where the file names none
-abbrev pub with_defaults : List Variable → Space
-with_defaults variables = record {
-  variables = variables;
-  include = [];
-  branches = 4096;
-  include_depth = 64;
-  date = codes "Jan  1 1970";
-  time = codes "00:00:00";
-}
+unfoldable pub read_limit : List ℕ → ℕ → ℕ → ℕ → Members → Result ℕ Fault
+read_limit key least most default document = ok_or (setting default (limit_of least most) (get_member key document)) (bad_limit key)
 
--- at most 1,024 variables and 4,096 configurations
-unfoldable pub is_small : List Variable → Bool
-is_small variables = nat_le (length variables) 1024 && nat_le (config_count (map (λ v. length v.options) variables)) 4096
+-- the directories, or the place of the first value that is none
+unfoldable pub read_directories : ℕ → Items → Result (List (List ℕ)) Fault
+read_directories place no_items = Ok []
+read_directories place (item value values) = do
+  name ← ok_or (directory_of value) (bad_include (decimal place))
+  names ← read_directories (place + 1) values
+  Ok (name ∷ names)
+
+-- what is no array is refused as its first value
+abbrev pub directories_of : Option Data → Result (List (List ℕ)) Fault
+directories_of None = Ok []
+directories_of (Some (array values)) = read_directories 0 values
+directories_of (Some _) = Err (bad_include (decimal 0))
+
+unfoldable pub read_include : Members → Result (List (List ℕ)) Fault
+read_include document = directories_of (get_member (codes "include") document)
+
+unfoldable pub read_date : List ℕ → ℕ → List ℕ → Members → Result (List ℕ) Fault
+read_date key size default document = ok_or (setting default (date_of size) (get_member key document)) (bad_date key)
+
+-- the variables with the settings that the file gives, or their defaults
+unfoldable pub with_settings : List Variable → Members → Result Space Fault
+with_settings variables document = do
+  branches ← read_limit (codes "branches") 1 1000000 4096 document
+  include_depth ← read_limit (codes "include_depth") 15 200 64 document
+  include ← read_include document
+  date ← read_date (codes "date") 11 (codes "Jan  1 1970") document
+  time ← read_date (codes "time") 8 (codes "00:00:00") document
+  Ok (record { variables = variables; include = include; branches = branches; include_depth = include_depth; date = date; time = time })
+
+-- at most 1,024 variables
+abbrev pub check_number : List Variable → Result (Unit {0}) Fault
+check_number variables = if nat_lt 1024 (length variables) then Err too_many else Ok tt
 
 -- what the file says, or its first fault
 unfoldable pub read_space : List ℕ → Result Space Fault
@@ -135,7 +163,8 @@ read_space bytes = do
   known ← check_keys document
   table ← variables_table document
   variables ← read_variables table
-  if is_small variables then Ok (with_defaults variables) else Err too_many
+  few ← check_number variables
+  with_settings variables document
 
 -- how a fault is written: its name, and after a space its item
 abbrev pub name_of : Fault → List ℕ
@@ -147,6 +176,12 @@ name_of (bad_name name) = codes "BadName"
 name_of (bad_option name) = codes "BadOption"
 name_of (repeated_option name) = codes "RepeatedOption"
 name_of too_many = codes "TooMany"
+name_of (bad_limit key) = codes "BadLimit"
+name_of (bad_include place) = codes "BadInclude"
+name_of (bad_date key) = codes "BadDate"
+name_of (unknown_variable name) = codes "UnknownVariable"
+name_of (repeated_variable name) = codes "RepeatedVariable"
+name_of (unknown_option name) = codes "UnknownOption"
 
 abbrev pub item_of : Fault → Option (List ℕ)
 item_of too_large = None
@@ -157,6 +192,12 @@ item_of (bad_name name) = Some name
 item_of (bad_option name) = Some name
 item_of (repeated_option name) = Some name
 item_of too_many = None
+item_of (bad_limit key) = Some key
+item_of (bad_include place) = Some place
+item_of (bad_date key) = Some key
+item_of (unknown_variable name) = Some name
+item_of (repeated_variable name) = Some name
+item_of (unknown_option name) = Some name
 
 abbrev pub with_item : List ℕ → Option (List ℕ) → List ℕ
 with_item name None = name

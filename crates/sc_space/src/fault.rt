@@ -6,7 +6,7 @@ use std::alloc::{AllocError, AllocFailed};
 use thiserror::Error;
 
 /// Why a space file is refused: the first reason that applies, in this order. What is at fault is
-/// told where it has a name.
+/// told where it has a name. The last three are of the words for a configuration.
 #[derive(Debug, Drop, Error)]
 pub enum SpaceFault {
     /// The file has more than 16,777,216 bytes.
@@ -30,9 +30,27 @@ pub enum SpaceFault {
     /// The variable has an option twice.
     #[error("repeated option of {0}")]
     RepeatedOption(String),
-    /// There are more than 1,024 variables or 4,096 configurations.
-    #[error("too many variables or configurations")]
+    /// There are more than 1,024 variables.
+    #[error("too many variables")]
     TooMany,
+    /// The value of the key is no whole number within its bounds.
+    #[error("bad limit {0}")]
+    BadLimit(String),
+    /// At this place of the array `include`, in decimal, is no name of a directory.
+    #[error("bad directory at place {0}")]
+    BadInclude(String),
+    /// The value of the key is no date or time of its length.
+    #[error("bad {0}")]
+    BadDate(String),
+    /// The word names no variable. It is told whole where it has no `=`.
+    #[error("unknown variable {0}")]
+    UnknownVariable(String),
+    /// An earlier word names the variable too.
+    #[error("repeated variable {0}")]
+    RepeatedVariable(String),
+    /// The word gives none of the options of the variable.
+    #[error("unknown option of {0}")]
+    UnknownOption(String),
 }
 
 impl SpaceFault {
@@ -53,10 +71,16 @@ impl SpaceFault {
             SpaceFault::BadOption(_) => "BadOption",
             SpaceFault::RepeatedOption(_) => "RepeatedOption",
             SpaceFault::TooMany => "TooMany",
+            SpaceFault::BadLimit(_) => "BadLimit",
+            SpaceFault::BadInclude(_) => "BadInclude",
+            SpaceFault::BadDate(_) => "BadDate",
+            SpaceFault::UnknownVariable(_) => "UnknownVariable",
+            SpaceFault::RepeatedVariable(_) => "RepeatedVariable",
+            SpaceFault::UnknownOption(_) => "UnknownOption",
         }
     }
 
-    /// The key or the name that is at fault, if there is one.
+    /// The key, the name or the place that is at fault, if there is one.
     pub fn item(&self) -> Option<&str>
         ensures { option_copied result ≡ item_of (seen_fault self.now) }
     {
@@ -64,7 +88,13 @@ impl SpaceFault {
             SpaceFault::UnknownKey(item)
             | SpaceFault::BadName(item)
             | SpaceFault::BadOption(item)
-            | SpaceFault::RepeatedOption(item) => Some(item.as_str()),
+            | SpaceFault::RepeatedOption(item)
+            | SpaceFault::BadLimit(item)
+            | SpaceFault::BadInclude(item)
+            | SpaceFault::BadDate(item)
+            | SpaceFault::UnknownVariable(item)
+            | SpaceFault::RepeatedVariable(item)
+            | SpaceFault::UnknownOption(item) => Some(item.as_str()),
             SpaceFault::TooLarge
             | SpaceFault::NotToml
             | SpaceFault::NoVariables
@@ -73,10 +103,10 @@ impl SpaceFault {
     }
 }
 
-/// Why a space file can't be read.
+/// Why a space file or words for a configuration can't be read.
 #[derive(Debug, Drop, Error)]
 pub enum SpaceStop {
-    /// The file is refused.
+    /// The file, or a word, is refused.
     #[error("{0}")]
     Fault(SpaceFault),
     /// No memory was left.

@@ -1,25 +1,16 @@
-//! The parts of a space file, each checked and read by itself.
-ghost use Rattle.std.specs.Prelude.{◌≡◌, min, AllPairs, map, length, option_map, IfOk};
-ghost use Rattle.std.specs.List.{list_all};
-ghost use Rattle.sc_model.specs.Sets.{config_count};
-ghost use Rattle.sc_space.specs.Seen.{seen_variable, Answers};
-ghost use Rattle.sc_space.specs.Sound.{IsBefore, names_of};
-ghost use Rattle.sc_space.specs.SpaceFile.{read_document, check_keys, variables_table, is_identifier_start, is_identifier_byte, is_ascii_identifier, is_protected, read_option, read_each, read_options, are_different, read_variable, read_variables, is_small};
-ghost use Rattle.toml.specs.View.{view, items_view, table_view};
+//! The table that a space file is, its keys, and the table of the variables.
+ghost use Rattle.std.specs.Prelude.{◌≡◌, option_map};
+ghost use Rattle.std.specs.List.{list_any};
+ghost use Rattle.sc_model.specs.Bytes.{same_bytes};
+ghost use Rattle.sc_space.specs.Seen.{Answers};
+ghost use Rattle.sc_space.specs.SpaceFile.{read_document, known_keys, check_keys, variables_table};
+ghost use Rattle.toml.specs.Data.{get_member};
+ghost use Rattle.toml.specs.View.{view, table_view};
 
-use crate::{SpaceFault, SpaceStop, Variable, VariableOption};
-use sc_base::{LARGEST_FILE, OutOfMemory};
+use crate::{SpaceFault, SpaceStop};
+use sc_base::LARGEST_FILE;
 use std::alloc::Global;
 use toml::{Table, Value};
-
-/// The most options that a variable may have.
-const MOST_OPTIONS: usize = 64;
-
-/// The most variables that there may be.
-const MOST_VARIABLES: usize = 1024;
-
-/// The most configurations that there may be.
-const MOST_CONFIGS: usize = 4096;
 
 /// The table that a file is.
 #[tactic(auto, unfolding(crate::specs::SpaceFile::read_document))]
@@ -45,7 +36,7 @@ pub(crate) fn check_keys(alloc: Global, document: &Table) -> Result<(), SpaceSto
     ensures { Answers (λ _. tt) result (check_keys (table_view document.now)) }
 {
     for (key, _) in document {
-        if key.as_str() != "variables" {
+        if !is_known_key(key.as_str()) {
             let key = String::from_str(alloc, key.as_str())?;
             return Err(SpaceStop::Fault(SpaceFault::UnknownKey(key)));
         }
@@ -53,165 +44,33 @@ pub(crate) fn check_keys(alloc: Global, document: &Table) -> Result<(), SpaceSto
     Ok(())
 }
 
+/// Whether a space file may have the key.
+fn is_known_key(key: &str) -> bool
+    ensures { result ≡ list_any (same_bytes key.now) known_keys }
+{
+    matches!(
+        key,
+        "variables" | "include" | "branches" | "include_depth" | "date" | "time"
+    )
+}
+
+/// The value at a key of the file.
+pub(crate) fn value_at<'a>(document: &'a Table, key: &str) -> Option<&'a Value>
+    ensures { option_map (λ v. view v.now) result ≡ get_member key.now (table_view document.now) }
+{
+    document.get(key)
+}
+
 /// The table of the variables.
 #[tactic(auto, unfolding(crate::specs::SpaceFile::variables_table))]
 pub(crate) fn variables_table(document: &Table) -> Result<&Table, SpaceStop>
     ensures { Answers (λ t. table_view t.now) result (variables_table (table_view document.now)) }
 {
-    let Some(value) = document.get("variables") else {
+    let Some(value) = value_at(document, "variables") else {
         return Err(SpaceStop::Fault(SpaceFault::NoVariables));
     };
     match value.as_table() {
         Some(table) => Ok(table),
         None => Err(SpaceStop::Fault(SpaceFault::NoVariables)),
     }
-}
-
-/// The variables of a table, in the order of their names.
-#[tactic(auto, unfolding(crate::specs::SpaceFile::read_variables))]
-pub(crate) fn read_variables(alloc: Global, table: &Table) -> Result<Vec<Variable>, SpaceStop>
-    ensures answer { Answers (λ v. map seen_variable v.items) result (read_variables (table_view table.now)) }
-    ensures ascending { IfOk result (λ v. AllPairs IsBefore (names_of (map seen_variable v.items))) }
-{
-    let mut variables = Vec::with_capacity(alloc, table.len())?;
-    for (name, value) in table {
-        variables.push(read_variable(alloc, name.as_str(), value)?)?;
-    }
-    Ok(variables)
-}
-
-/// Whether so many variables and configurations may be.
-#[tactic(auto, unfolding(crate::specs::SpaceFile::is_small))]
-pub(crate) fn is_small(variables: &[Variable]) -> bool
-    ensures { result ≡ is_small (map seen_variable variables.now) }
-{
-    variables.len() <= MOST_VARIABLES && count_configs(variables) <= MOST_CONFIGS
-}
-
-// The product of the numbers of options, or the greatest number where it is above that.
-fn count_configs(variables: &[Variable]) -> usize
-    ensures { result ≡ min (config_count (map (λ v. length v.options.items) variables.now)) usize.MAX }
-{
-    let mut count: usize = 1;
-    for variable in variables {
-        count = count.saturating_mul(variable.options.len());
-    }
-    count
-}
-
-#[tactic(auto, unfolding(crate::specs::SpaceFile::read_variable))]
-fn read_variable(alloc: Global, name: &str, value: &Value) -> Result<Variable, SpaceStop>
-    ensures { Answers seen_variable result (read_variable name.now (view value.now)) }
-{
-    let name = String::from_str(alloc, name)?;
-    if !is_ascii_identifier(name.as_bytes()) || is_protected(name.as_str()) {
-        return Err(SpaceStop::Fault(SpaceFault::BadName(name)));
-    }
-    let Some(options) = read_options(alloc, value)? else {
-        return Err(SpaceStop::Fault(SpaceFault::BadOption(name)));
-    };
-    if !are_different(options.as_slice()) {
-        return Err(SpaceStop::Fault(SpaceFault::RepeatedOption(name)));
-    }
-    Ok(Variable { name, options })
-}
-
-#[tactic(auto, unfolding(crate::specs::SpaceFile::is_ascii_identifier))]
-fn is_ascii_identifier(name: &[u8]) -> bool
-    ensures { result ≡ is_ascii_identifier name.now }
-{
-    match name {
-        [] => false,
-        [first, rest @ ..] => is_identifier_start(*first) && are_identifier_bytes(rest),
-    }
-}
-
-fn are_identifier_bytes(bytes: &[u8]) -> bool
-    ensures { result ≡ list_all is_identifier_byte bytes.now }
-{
-    bytes.iter().all(|b| is_identifier_byte(*b))
-}
-
-fn is_identifier_start(byte: u8) -> bool
-    ensures { result ≡ is_identifier_start byte }
-{
-    matches!(byte, b'A'..=b'Z' | b'a'..=b'z' | b'_')
-}
-
-fn is_identifier_byte(byte: u8) -> bool
-    ensures { result ≡ is_identifier_byte byte }
-{
-    is_identifier_start(byte) || byte.is_ascii_digit()
-}
-
-// Whether the name is one that no program may define.
-#[tactic(auto, unfolding(crate::specs::SpaceFile::is_protected))]
-fn is_protected(name: &str) -> bool
-    ensures { result ≡ is_protected name.now }
-{
-    matches!(
-        name,
-        "defined"
-            | "__VA_ARGS__"
-            | "__FILE__"
-            | "__LINE__"
-            | "__DATE__"
-            | "__TIME__"
-            | "__STDC__"
-            | "__STDC_VERSION__"
-            | "__STDC_HOSTED__"
-    )
-}
-
-// The options of a variable, unless they are no list of 1 to 64.
-#[tactic(auto, unfolding(crate::specs::SpaceFile::read_options))]
-fn read_options(alloc: Global, value: &Value) -> Result<Option<Vec<VariableOption>>, OutOfMemory>
-    ensures { IfOk result (λ found. option_map (λ v. v.items) found ≡ read_options (view value.now)) }
-{
-    let Value::Array(values) = value else {
-        return Ok(None);
-    };
-    let Some(options) = read_each(alloc, values.as_slice())? else {
-        return Ok(None);
-    };
-    let few = 1 <= options.len() && options.len() <= MOST_OPTIONS;
-    Ok(if few { Some(options) } else { None })
-}
-
-// The option that each value is, if each is one.
-#[tactic(auto, unfolding(crate::specs::SpaceFile::read_each))]
-fn read_each(alloc: Global, values: &[Value]) -> Result<Option<Vec<VariableOption>>, OutOfMemory>
-    ensures { IfOk result (λ found. option_map (λ v. v.items) found ≡ read_each (items_view values.now)) }
-{
-    let mut options = Vec::new(alloc);
-    for value in values {
-        match read_option(value) {
-            Some(option) => options.push(option)?,
-            None => return Ok(None),
-        }
-    }
-    Ok(Some(options))
-}
-
-#[tactic(auto, unfolding(crate::specs::SpaceFile::read_option))]
-fn read_option(value: &Value) -> Option<VariableOption>
-    ensures { result ≡ read_option (view value.now) }
-{
-    match value {
-        Value::String(text) => (text.as_str() == "undef").then_some(VariableOption::Undefined),
-        Value::Integer(number) => u64::try_from(*number).ok().map(VariableOption::Number),
-        _ => None,
-    }
-}
-
-#[tactic(auto, unfolding(crate::specs::SpaceFile::are_different))]
-fn are_different(options: &[VariableOption]) -> bool
-    ensures { result ≡ are_different options.now }
-{
-    for (i, option) in options.iter().enumerate() {
-        if options[i + 1..].contains(option) {
-            return false;
-        }
-    }
-    true
 }

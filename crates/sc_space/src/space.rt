@@ -1,4 +1,5 @@
-use crate::{SpaceFault, SpaceStop, read};
+use crate::variables::{MOST_VARIABLES, read_variables};
+use crate::{SpaceFault, SpaceStop, read, settings};
 use sc_base::Limits;
 use sc_model::VariableOption;
 use std::alloc::Global;
@@ -31,26 +32,18 @@ impl Space {
     ghost use Rattle.sc_space.specs.SpaceFile.{read_space};
 
     /// Reads a space file, which is TOML 1.1: the table `variables` gives each variable the list of
-    /// its options, each the text `undef` or a whole number from 0.
+    /// its options, each the text `undef` or a whole number from 0. The keys `include`, `branches`,
+    /// `include_depth`, `date` and `time` are settings.
     pub fn read(alloc: Global, bytes: &[u8]) -> Result<Space, SpaceStop>
         ensures answer { Answers seen_space result (read_space bytes.now) }
         ensures sound { IfOk result (λ s. IsSound (seen_space s)) }
     {
         let document = read::read_document(alloc, bytes)?;
         read::check_keys(alloc, &document)?;
-        let variables = read::read_variables(alloc, read::variables_table(&document)?)?;
-        if !read::is_small(variables.as_slice()) {
+        let variables = read_variables(alloc, read::variables_table(&document)?)?;
+        if variables.len() > MOST_VARIABLES {
             return Err(SpaceStop::Fault(SpaceFault::TooMany));
         }
-        Ok(Space {
-            variables,
-            include: Vec::new(alloc),
-            limits: Limits {
-                branches: 4096,
-                include_depth: 64,
-            },
-            date: String::from_str(alloc, "Jan  1 1970")?,
-            time: String::from_str(alloc, "00:00:00")?,
-        })
+        settings::with_settings(alloc, variables, &document)
     }
 }

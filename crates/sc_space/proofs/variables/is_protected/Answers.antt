@@ -1,6 +1,6 @@
 use Rattle.sc_space.specs.SpaceFile.{is_protected}
 use Rattle.sc_space.proofs.Reading.{same_bytes-differ}
-use Rattle.sc_space.proofs.read.is_protected.Goals as goal
+use Rattle.sc_space.proofs.variables.is_protected.Goals as goal
 
 pub returns-in_default : goal.returns-in_default
 unfolding is_protected

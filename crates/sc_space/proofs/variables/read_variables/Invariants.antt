@@ -2,7 +2,7 @@ use Rattle.std.proofs.Common.{◌≡◌, ◌++◌, map, Ok}
 use Rattle.sc_space.specs.Seen.{seen_variable}
 use Rattle.sc_space.specs.SpaceFile.{◌>>=◌, read_variables}
 use Rattle.toml.specs.View.{members_view, table_view}
-use Rattle.sc_space.proofs.read.read_variables.Given as goal
+use Rattle.sc_space.proofs.variables.read_variables.Given as goal
 
 abbrev pub invariant-loop-name : goal.invariant-loop-name
 invariant-loop-name l =

@@ -1,7 +1,7 @@
 use Rattle.std.proofs.Common.{◌∙◌}
 use Rattle.toml.proofs.Views.{view-String}
 use Rattle.sc_space.proofs.Reading.{read_option-string}
-use Rattle.sc_space.proofs.read.read_option.Goals as goal
+use Rattle.sc_space.proofs.variables.read_option.Goals as goal
 
 pub returns-in-String : goal.returns-in-String
 returns-in-String c =

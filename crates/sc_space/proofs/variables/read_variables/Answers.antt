@@ -4,7 +4,7 @@ use Rattle.sc_space.specs.Seen.{seen_variable}
 use Rattle.sc_space.specs.SpaceFile.{read_variables}
 use Rattle.sc_space.proofs.Reading.{read_variables-more}
 use Rattle.sc_space.proofs.Soundness.{ascending_names}
-use Rattle.sc_space.proofs.read.read_variables.Goals as goal
+use Rattle.sc_space.proofs.variables.read_variables.Goals as goal
 
 pub loop-name-preserved : goal.loop-name-preserved
 loop-name-preserved c =

@@ -1,7 +1,7 @@
 use Rattle.std.proofs.Common.{◌≡◌, ◌++◌, drop, option_map}
 use Rattle.sc_space.specs.SpaceFile.{read_each}
 use Rattle.toml.specs.View.{items_view}
-use Rattle.sc_space.proofs.read.read_each.Given as goal
+use Rattle.sc_space.proofs.variables.read_each.Given as goal
 
 abbrev pub invariant-loop-value : goal.invariant-loop-value
 invariant-loop-value l =

@@ -1,0 +1,32 @@
+-- The settings of a run, as values of a space file give them.
+use Rattle.std.specs.Prelude.{ℕ, ◌==◌, ◌&&◌, not, nat_le, Bool, List, length, pos, Option, Some, None, if◌then◌else◌}
+use Rattle.std.specs.List.{list_all}
+use Rattle.sc_model.specs.Bytes.{is_between}
+use Rattle.toml.specs.Data.{Data, string, integer}
+
+-- what the value says, or the default where there is none
+abbrev pub setting : {A : Type 0} → A → (Data → Option A) → Option Data → Option A
+setting default read None = Some default
+setting default read (Some value) = read value
+
+-- a whole number from the least to the most
+unfoldable pub limit_of : ℕ → ℕ → Data → Option ℕ
+limit_of least most (integer (pos n)) = if is_between least most n then Some n else None
+limit_of least most _ = None
+
+-- a name that is not empty, without bytes below 32
+abbrev pub is_directory : List ℕ → Bool
+is_directory name = not (length name == 0) && list_all (nat_le 32) name
+
+unfoldable pub directory_of : Data → Option (List ℕ)
+directory_of (string name) = if is_directory name then Some name else None
+directory_of _ = None
+
+-- a printable character of ASCII that may stand in a string literal as it is (C11 6.4.5): no `"` and no `\`
+abbrev pub is_date_byte : ℕ → Bool
+is_date_byte b = is_between 32 126 b && not (b == 34) && not (b == 92)
+
+-- a text of so many bytes
+unfoldable pub date_of : ℕ → Data → Option (List ℕ)
+date_of size (string text) = if (length text == size) && list_all is_date_byte text then Some text else None
+date_of size _ = None
