@@ -1,43 +1,40 @@
-use sc_args::{ArgsStop, Command};
+use sc_args::Command;
+use std::alloc::Global;
 use std::test::Fail;
 
-// What a call with these words after the program's name is answered by.
-fn answer(rt: &HostRuntime, arguments: &[&str]) -> Result<String, Fail> {
-    let alloc = rt.alloc();
+fn words(alloc: Global, texts: &[&str]) -> Result<Vec<String>, Fail> {
     let mut words = Vec::new(alloc);
-    words.push(String::from_str(alloc, "superc")?)?;
-    for argument in arguments {
-        words.push(String::from_str(alloc, argument)?)?;
+    for text in texts {
+        words.push(String::from_str(alloc, text)?)?;
     }
-    let shown = match Command::read(alloc, words.as_slice()) {
-        Ok(Command::Tokens { space, file }) => format!(in alloc; "tokens {space} {file}")?,
-        Ok(Command::Conflicts) => String::from_str(alloc, "conflicts")?,
-        Err(refused) => refused.to_string(alloc)?,
-    };
-    Ok(shown)
+    Ok(words)
+}
+
+/// What a call with these words is answered by.
+fn answer(alloc: Global, words: &[String]) -> Result<String, Fail> {
+    match Command::read(alloc, words) {
+        Ok(Command::Tokens { space, file }) => {
+            Ok(format!(in alloc; "tokens of {file} under {space}")?)
+        }
+        Ok(Command::Conflicts) => Ok(String::from_str(alloc, "all conflicts")?),
+        Err(refused) => Ok(refused.to_string(alloc)?),
+    }
 }
 
 #[test]
 fn reads_the_words(rt: HostRuntime) -> Result<(), Fail> {
-    assert_eq!(rt; answer(&rt, &["tokens", "a", "b"])?.as_str(), "tokens a b");
-    assert_eq!(rt;
-        answer(&rt, &["tokens", "a", ""])?.as_str(),
-        "bad file name"
-    );
-    assert_eq!(rt;
-        answer(&rt, &["tokens", "a", "b\u{1f}"])?.as_str(),
-        "bad file name"
-    );
-    assert_eq!(rt; answer(&rt, &["conflicts"])?.as_str(), "conflicts");
-    Ok(())
-}
-
-#[test]
-fn tells_how_the_command_is_used(rt: HostRuntime) -> Result<(), Fail> {
-    assert!(rt; answer(&rt, &[])?.contains("tokens"));
-    assert!(rt; answer(&rt, &["frob"])?.contains("unrecognized subcommand 'frob'"));
-    assert!(rt; answer(&rt, &["tokens", "a"])?.contains("tokens <SPACE> <FILE>"));
-    assert!(rt; answer(&rt, &["tokens", "--help"])?.contains("Usage: superc tokens"));
-    assert!(rt; answer(&rt, &["conflicts", "x"])?.contains("unexpected argument 'x'"));
+    let rows: [(&[&str], &str); 7] = [
+        (&["superc", "tokens", "a", "b"], "tokens of b under a"),
+        (&["superc", "conflicts"], "all conflicts"),
+        (&["superc", "tokens", "a", ""], "bad file name"),
+        (&["superc", "frob"], "unrecognized subcommand 'frob'"),
+        (&["superc", "tokens", "a"], "tokens <SPACE> <FILE>"),
+        (&["superc", "tokens", "--help"], "Usage: superc tokens"),
+        (&["superc", "conflicts", "x"], "unexpected argument 'x'"),
+    ];
+    for (texts, part) in rows {
+        let words = words(rt.alloc(), texts)?;
+        assert!(rt; answer(rt.alloc(), &words)?.contains(part), "{part}");
+    }
     Ok(())
 }

@@ -11,7 +11,7 @@ const END: Symbol = Symbol::Terminal(Terminal(2));
 const SUM: Symbol = Symbol::Nonterminal(Nonterminal(1));
 
 /// A text is a sum and its end, or the end alone. A sum is a sum, a plus and a sum, or a number.
-const SUMS: Grammar = Grammar {
+pub const SUMS: Grammar = Grammar {
     terminals: 3,
     nonterminals: 2,
     entries: &[
@@ -29,20 +29,26 @@ const SUMS: Grammar = Grammar {
     ],
 };
 
+/// A state, a symbol and where it leads.
+const GOTOS: [(usize, usize, Option<usize>); 9] = [
+    (0, 0, Some(1)),
+    (0, 2, Some(2)),
+    (0, 4, Some(3)),
+    (3, 1, Some(4)),
+    (3, 2, Some(5)),
+    (4, 0, Some(1)),
+    (4, 4, Some(6)),
+    (6, 1, Some(4)),
+    (6, 2, None),
+];
+
 #[test]
 fn finds_the_states_of_sums(rt: HostRuntime) -> Result<(), Fail> {
     let states = states(rt.alloc(), &SUMS)?;
     assert_eq!(rt; states.len(), 7);
-    assert_eq!(rt; states.goto(0, 0), Some(1));
-    assert_eq!(rt; states.goto(0, 2), Some(2));
-    assert_eq!(rt; states.goto(0, 4), Some(3));
-    assert_eq!(rt; states.goto(3, 1), Some(4));
-    assert_eq!(rt; states.goto(3, 2), Some(5));
-    assert_eq!(rt; states.goto(4, 0), Some(1));
-    assert_eq!(rt; states.goto(4, 4), Some(6));
-    assert_eq!(rt; states.goto(6, 1), Some(4));
-    assert_eq!(rt; states.goto(6, 2), None);
-    assert!(rt; states.has(4, 9));
-    assert!(rt; !states.has(4, 0));
+    for (state, symbol, next) in GOTOS {
+        assert_eq!(rt; states.goto(state, symbol), next);
+    }
+    assert!(rt; states.has(4, 9) && !states.has(4, 0));
     Ok(())
 }

@@ -1,71 +1,71 @@
-use sc_base::{FileId, Names, OutOfMemory};
+use sc_base::{FileId, Names, Place};
 use sc_lex::tokens;
-use sc_lines::{NestStop, groups};
+use sc_lines::{Branch, FileTree, NestStop, groups};
 use std::alloc::Global;
 use std::test::Fail;
 
-/// Lines, each with the next branch and the close of the one that it begins.
-const LINES: [(&[u8], Option<(usize, usize)>); 12] = [
-    (b"#if A", Some((5, 8))),
-    (b"plain", None),
-    (b"#ifdef B", Some((3, 4))),
-    (b"#else", Some((4, 4))),
-    (b"#endif", None),
-    (b"  # elif C", Some((6, 8))),
-    (b"#else // last", Some((8, 8))),
-    (b"#define D", None),
-    (b"#endif", None),
-    (b"", None),
-    (b"%:ifndef E", Some((11, 11))),
-    (b"#endif", None),
+const NESTED: &[u8] = b"#if A
+plain
+#ifdef B
+#else
+#endif
+  # elif C
+#else // last
+#define D
+#endif
+
+%:ifndef E
+#endif
+";
+
+/// The branch that each line of `NESTED` begins.
+const BRANCHES: [Option<Branch>; 12] = [
+    Some(Branch { next: 5, close: 8 }),
+    None,
+    Some(Branch { next: 3, close: 4 }),
+    Some(Branch { next: 4, close: 4 }),
+    None,
+    Some(Branch { next: 6, close: 8 }),
+    Some(Branch { next: 8, close: 8 }),
+    None,
+    None,
+    None,
+    Some(Branch {
+        next: 11,
+        close: 11,
+    }),
+    None,
 ];
 
-/// The branches of the lines of a file.
-fn branches(alloc: Global, bytes: &[u8]) -> Result<Vec<Option<(usize, usize)>>, Fail> {
+/// Files, each with the line of the first fault in its nesting.
+const FAULTS: [(&[u8], usize); 3] = [
+    (b"#if A\n#else\n#elif B\n#endif\n", 3),
+    (b"#endif\n#else\n", 1),
+    (b"#if A\n#ifdef B\n#else\n", 2),
+];
+
+/// The lines of a file, or why it has none.
+fn read(alloc: Global, bytes: &[u8]) -> Result<Result<FileTree, NestStop>, Fail> {
     let mut names = Names::new(alloc)?;
     let tokens = tokens(alloc, FileId(0), bytes, &mut names)?;
-    let tree = groups(alloc, &names, &tokens)?;
-    let mut found = Vec::new(alloc);
-    for line in tree.lines.iter() {
-        found.push(line.branch.map(|branch| (branch.next, branch.close)))?;
-    }
-    Ok(found)
+    Ok(groups(alloc, &names, &tokens))
 }
 
 #[test]
-fn branches_of_nested_sections(rt: HostRuntime) -> Result<(), Fail> {
-    let mut text = Vec::new(rt.alloc());
-    let mut expected = Vec::new(rt.alloc());
-    for (line, branch) in LINES {
-        text.extend_from_slice(line)?;
-        text.push(b'\n')?;
-        expected.push(branch)?;
+fn nesting(rt: HostRuntime) -> Result<(), Fail> {
+    let mut found = Vec::new(rt.alloc());
+    for line in &read(rt.alloc(), NESTED)??.lines {
+        found.push(line.branch)?;
     }
-    assert_eq!(rt; branches(rt.alloc(), &text)?, expected);
-    Ok(())
-}
-
-/// The line of the first fault in the nesting of a file.
-fn fault_line(alloc: Global, bytes: &[u8]) -> Result<Option<usize>, Fail> {
-    let mut names = Names::new(alloc)?;
-    let tokens = tokens(alloc, FileId(0), bytes, &mut names)?;
-    match groups(alloc, &names, &tokens) {
-        Ok(_) => Ok(None),
-        Err(NestStop::Nesting(place)) => Ok(Some(place.line)),
-        Err(NestStop::OutOfMemory) => Err(Fail::from(OutOfMemory)),
-    }
-}
-
-#[test]
-fn the_first_fault_of_a_nesting(rt: HostRuntime) -> Result<(), Fail> {
-    let rows: [(&[u8], Option<usize>); 4] = [
-        (b"#if A\n#else\n#elif B\n#endif\n", Some(3)),
-        (b"#endif\n#else\n", Some(1)),
-        (b"#if A\n#ifdef B\n#else\n", Some(2)),
-        (b"#if A\n#else\n#endif\n", None),
-    ];
-    for (bytes, line) in rows {
-        assert_eq!(rt; fault_line(rt.alloc(), bytes)?, line);
+    assert_eq!(rt; found.as_slice(), BRANCHES.as_slice());
+    for (bytes, line) in FAULTS {
+        let place = Place {
+            file: FileId(0),
+            line,
+            column: 1,
+        };
+        let stop = NestStop::Nesting(place);
+        assert_eq!(rt; read(rt.alloc(), bytes)?.err(), Some(stop));
     }
     Ok(())
 }
