@@ -1,2 +1,4 @@
 pub mod Hides
 pub mod Rising
+pub mod Seen
+pub mod Stops

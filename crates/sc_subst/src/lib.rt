@@ -1,9 +1,15 @@
-//! The hide sets of an expansion's tokens.
+//! Substitution: what replaces a macro's name, and the hide sets of its tokens.
 #![tactic(auto, using(sc_base::proofs::Growth::growth))]
 
 mod hidden;
 mod hide_sets;
+mod literal;
+mod operators;
 mod sorted;
+mod stop;
 
 pub use hidden::{Hidden, Hide};
 pub use hide_sets::HideSets;
+pub use literal::stringize;
+pub use operators::paste;
+pub use stop::SubstStop;
