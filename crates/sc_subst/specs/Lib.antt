@@ -1,4 +1,5 @@
 pub mod Hides
+pub mod Parts
 pub mod Rising
 pub mod Seen
 pub mod Stops

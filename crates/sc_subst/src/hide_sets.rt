@@ -88,6 +88,22 @@ impl HideSets {
         self.intern(made)
     }
 
+    /// The names of two sets.
+    pub fn union(&mut self, one: Hide, two: Hide) -> Result<Hide, OutOfMemory>
+        requires one { one.0 < length self.old }
+        requires two { two.0 < length self.old }
+        ensures own { IfOk result (λ made. made.0 < length self.new) }
+        ensures exact { IfOk result (λ made. (test : declared.Name → Bool)
+            → list_any test (set_at self.new made.0) ≡ (list_any test (set_at self.old one.0) || list_any test (set_at self.old two.0))) }
+
+        // at every outcome
+        ensures grows { Extends self.old self.new }
+    {
+        let sets = self.sets.as_slice();
+        let made = sorted::union(self.alloc, sets[one.0].as_slice(), sets[two.0].as_slice())?;
+        self.intern(made)
+    }
+
     /// The set of these names: the one that is there, or else a new one.
     fn intern(&mut self, set: Vec<Name>) -> Result<Hide, OutOfMemory>
         requires { IsRising set.items }

@@ -5,6 +5,8 @@ mod hidden;
 mod hide_sets;
 mod literal;
 mod operators;
+mod part;
+mod slots;
 mod sorted;
 mod stop;
 
@@ -12,4 +14,5 @@ pub use hidden::{Hidden, Hide};
 pub use hide_sets::HideSets;
 pub use literal::stringize;
 pub use operators::paste;
+pub use part::Part;
 pub use stop::SubstStop;

@@ -1,6 +1,8 @@
 //! Sets of names as lists in rising order, so that each set is one list.
-ghost use Rattle.std.specs.Prelude.{◌≡◌, filter, IfOk};
-ghost use Rattle.sc_subst.specs.Rising.{has_name, inserted};
+ghost use Rattle.std.specs.Prelude.{◌≡◌, ◌||◌, Bool, filter, IfOk};
+ghost use Rattle.std.specs.List.{list_any};
+ghost use Rattle.sc_base.specs.declared.id.Name as declared;
+ghost use Rattle.sc_subst.specs.Rising.{IsRising, has_name, inserted};
 
 use sc_base::{Name, OutOfMemory};
 use std::alloc::{AllocError, Global};
@@ -29,6 +31,19 @@ pub fn insert(alloc: Global, set: &[Name], name: Name) -> Result<Vec<Name>, OutO
         made.push(*other)?;
     }
     made.push(name)?;
+    Ok(made)
+}
+
+/// The names that stand in either.
+pub fn union(alloc: Global, one: &[Name], two: &[Name]) -> Result<Vec<Name>, OutOfMemory>
+    requires { IsRising one.now }
+    ensures rising { IfOk result (λ made. IsRising made.items) }
+    ensures exact { IfOk result (λ made. (test : declared.Name → Bool) → list_any test made.items ≡ (list_any test one.now || list_any test two.now)) }
+{
+    let mut made = Vec::from_slice(alloc, one)?;
+    for name in two {
+        made = insert(alloc, &made, *name)?;
+    }
     Ok(made)
 }
 
