@@ -1,3 +1,4 @@
+pub mod Gluing
 pub mod Later
 pub mod Pasting
 pub mod Quoting

@@ -1,3 +1,4 @@
+pub mod Glue
 pub mod Hides
 pub mod Parts
 pub mod Rising

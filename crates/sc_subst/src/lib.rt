@@ -1,6 +1,7 @@
 //! Substitution: what replaces a macro's name, and the hide sets of its tokens.
 #![tactic(auto, using(sc_base::proofs::Growth::growth))]
 
+mod glue;
 mod hidden;
 mod hide_sets;
 mod literal;
