@@ -3,6 +3,7 @@ pub mod Later
 pub mod Pasting
 pub mod Quoting
 pub mod RisingLaws
+pub mod Templates
 pub mod Turns
 pub mod SeenLaws
 pub mod Store

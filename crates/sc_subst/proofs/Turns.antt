@@ -185,7 +185,7 @@ from_item items i h =
 pub tail_is : (items : List Item) (i : ℕ) → take (length items - (i + 1)) (drop (i + 1) items) ≡ drop (i + 1) items
 tail_is items i = take_all (length items - (i + 1)) (drop (i + 1) items) (omega (arith, length-drop (i + 1) items))
 
-slot_later : {names later : List (List ℕ)} {sets later_sets : List (List Name)} (s : Slot) → IsHeldSlot names sets s → Extends names later → Extends sets later_sets → IsHeldSlot later later_sets s
+pub slot_later : {names later : List (List ℕ)} {sets later_sets : List (List Name)} (s : Slot) → IsHeldSlot names sets s → Extends names later → Extends sets later_sets → IsHeldSlot later later_sets s
 slot_later {names} {later} {sets} {later_sets} (slot.Token t) held e s = IsHeldHidden-Extends t held e s
 slot_later {names} {later} {sets} {later_sets} (slot.Parameter n space) held e s = tt
 slot_later {names} {later} {sets} {later_sets} slot.Paste held e s = tt

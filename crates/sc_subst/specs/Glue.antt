@@ -1,10 +1,10 @@
 -- A template in the making: what stands before the pieces that are left.
-use Rattle.std.specs.Prelude.{Bool, true, false, ℕ, List, [], ◌∷◌, ◌++◌, map, Result, Ok, Err}
+use Rattle.std.specs.Prelude.{Bool, true, false, ℕ, List, [], ◌∷◌, ◌++◌, map, Result, Ok, Err, ◌||◌}
 use Rattle.c11_macros.specs.Hidden as model
 use Rattle.c11_macros.specs.Hidden.{Failure}
 use Rattle.c11_macros.specs.Results.{result_map}
 use Rattle.c11_macros.specs.Substitution as substitution
-use Rattle.c11_macros.specs.Substitution.{all_glued, glued, tokens_of}
+use Rattle.c11_macros.specs.Substitution.{all_glued, argument, begins_paste, glued, or_placemarker, pieces_of, tokens_of, with_space}
 use Rattle.sc_base.specs.declared.id.Name.{Name}
 use Rattle.sc_base.specs.declared.place.Place.{Place}
 use Rattle.sc_subst.specs.declared.glue.Left.{Left}
@@ -12,6 +12,8 @@ use Rattle.sc_subst.specs.declared.glue.Left.TheVariants as left
 use Rattle.sc_subst.specs.declared.glue.Piece.{Piece}
 use Rattle.sc_subst.specs.declared.glue.Piece.TheVariants as piece
 use Rattle.sc_subst.specs.declared.part.Part.{Part}
+use Rattle.sc_subst.specs.declared.slots.Slot.{Slot}
+use Rattle.sc_subst.specs.declared.slots.Slot.TheVariants as slot
 use Rattle.sc_subst.specs.Parts.{filled_in, seen_part}
 use Rattle.sc_subst.specs.Seen.{IsHeldHidden, seen_hidden}
 
@@ -48,3 +50,23 @@ glued_behind names sets head (left.Pasting p) ps = glued head (seen_piece names 
 abbrev pub tokens_behind : List (List ℕ) → List (List Name) → model.Hidden Place → List (List (model.Hidden Place)) → List Part → Left → List (substitution.Piece Place)
     → Result (List (model.Hidden Place)) (Failure Place)
 tokens_behind names sets head expanded parts before ps = result_map (λ qs. filled_in expanded (map (seen_part names sets) parts) ++ tokens_of qs) (glued_behind names sets head before ps)
+
+abbrev pub begins_operator : {P : Type 0} → List (substitution.Piece P) → Bool
+begins_operator (substitution.operator ∷ ps) = true
+begins_operator _ = false
+
+abbrev pub is_paste_slot : Slot → Bool
+is_paste_slot slot.Paste = true
+is_paste_slot _ = false
+
+-- the pieces of an argument, with the white space of its parameter: as it is beside ##, or as it expands
+abbrev pub argument_pieces : {P : Type 0} → List (List (model.Hidden P)) → List (List (model.Hidden P)) → Bool → ℕ → Bool → List (substitution.Piece P)
+argument_pieces raw expanded true n space = or_placemarker (with_space space (argument raw n))
+argument_pieces raw expanded false n space = pieces_of (with_space space (argument expanded n))
+
+-- the pieces of slots, with these arguments as they are and as they expand
+abbrev pub pieces_in : {P : Type 0} → List (List (model.Hidden P)) → List (List (model.Hidden P)) → Bool → List (substitution.Slot P) → List (substitution.Piece P)
+pieces_in raw expanded behind [] = []
+pieces_in raw expanded behind (substitution.filled_by t ∷ ss) = substitution.piece t ∷ pieces_in raw expanded false ss
+pieces_in raw expanded behind (substitution.for_paste ∷ ss) = substitution.operator ∷ pieces_in raw expanded true ss
+pieces_in raw expanded behind (substitution.for_parameter n space ∷ ss) = argument_pieces raw expanded (behind || begins_paste ss) n space ++ pieces_in raw expanded false ss

@@ -7,9 +7,11 @@ mod hide_sets;
 mod literal;
 mod operators;
 mod part;
+mod replacement;
 mod slots;
 mod sorted;
 mod stop;
+
 
 pub use hidden::{Hidden, Hide};
 pub use hide_sets::HideSets;
@@ -17,3 +19,4 @@ pub use literal::stringize;
 pub use operators::paste;
 pub use part::Part;
 pub use stop::SubstStop;
+pub use replacement::template;
