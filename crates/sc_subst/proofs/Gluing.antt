@@ -63,7 +63,6 @@ result_twice : {A B C E : Type 0} (f : A → B) (g : B → C) (h : A → C) (sam
 result_twice {A} {B} {C} {E} f g h same (Ok a) = ap Ok (same a)
 result_twice {A} {B} {C} {E} f g h same (Err e) = refl
 
-
 -- an operand behind another one
 behind_operand : (names : List (List ℕ)) (sets : List (List Name)) (head : model.Hidden Place) (l : substitution.Piece Place) (p : Piece) (ps : List (substitution.Piece Place)) → is_operator p ≡ false
     → glued head l (seen_piece names sets p ∷ ps) ≡ result_map (λ rest. l ∷ rest) (glued head (seen_piece names sets p) ps)

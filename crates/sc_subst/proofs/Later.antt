@@ -98,7 +98,7 @@ pub made_seen : {names later : List (List ℕ)} {t : Token} {kind : Kind} {spell
     ≡ (let made : model.Hidden Place = record { kind = kind; spelling = spelling; space = space; place = place; hide = hide } in made)
 made_seen {names} {later} {t} {kind} {spelling} {space} {place} hide made e =
     let lexeme : record { kind = t.kind; spelling = spelling; space = t.space; position = position_of t.place }
-      ≡ (let l : Lexeme = record { kind = kind; spelling = spelling; space = space; position = position_of place } in l) =
+    ≡ (let l : Lexeme = record { kind = kind; spelling = spelling; space = space; position = position_of place } in l) =
     same_Some _ _ (rw made.text at made.spelled) in
     let kinds : t.kind ≡ kind = ap (λ (l : Lexeme). l.kind) lexeme in
     let spaces : t.space ≡ space = ap (λ (l : Lexeme). l.space) lexeme in

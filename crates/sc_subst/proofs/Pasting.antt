@@ -35,8 +35,8 @@ module _ (names : List (List ℕ)) (sets : List (List Name)) (left right : Hidde
         let first : hide_at n z left.hide.0 ≡ hide_at names sets left.hide.0 = hide_later left.hide.0 held_left.hide names_later (Extends-trans s es) in
         let second : hide_at n z right.hide.0 ≡ hide_at names sets right.hide.0 = hide_later right.hide.0 held_right.hide names_later (Extends-trans s es) in
         let both : meet (hide_at n z left.hide.0) (hide_at n z right.hide.0) ≡ hide_at n z hide.0 =
-          ap (λ h. meet h (hide_at n z right.hide.0)) first
-          ∙ (ap (λ h. meet (hide_at names sets left.hide.0) h) second ∙ (sym meets ∙ sym (hide_later hide.0 held names_later es))) in
+        ap (λ h. meet h (hide_at n z right.hide.0)) first
+        ∙ (ap (λ h. meet (hide_at names sets left.hide.0) h) second ∙ (sym meets ∙ sym (hide_later hide.0 held names_later es))) in
         ap (pasted_as head (seen_hidden n z left) (seen_hidden n z right)) (ap relexed text ∙ sym is)
         ∙ (ap (λ x. Ok (piece (record { kind = kind; spelling = x; space = left.token.space; place = left.token.place; hide = meet (hide_at n z left.hide.0) (hide_at n z right.hide.0) }))) text
         ∙ (ap (λ h. Ok (piece (record { kind = kind; spelling = spelling; space = left.token.space; place = left.token.place; hide = h }))) both

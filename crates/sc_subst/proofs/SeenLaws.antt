@@ -46,15 +46,15 @@ found names [] text held h = absurd (true≢false (sym h))
 found names (x ∷ xs) text held h = elim (cases_Bool (same_bytes (text_of names x) text)) [
   | inl here ↦ record { name = x; own = held 0 x (omega arith); is = same_bytes-true _ _ here; has = rw (itself x.0) }
   | inr other ↦ (
-    let later = found names xs text (held_tail names x xs held) (rw other at h) in
-    record { name = later.name; own = later.own; is = later.is; has = or_true (x.0 == later.name.0) _ later.has })
+      let later = found names xs text (held_tail names x xs held) (rw other at h) in
+      record { name = later.name; own = later.own; is = later.is; has = or_true (x.0 == later.name.0) _ later.has })
 ]
 
 has_text : (names : List (List ℕ)) (set : List Name) (name : Name) → has_name set name ≡ true → texts_in names set (text_of names name) ≡ true
 has_text names [] name h = absurd (true≢false (sym h))
 has_text names (x ∷ xs) name h = elim (cases_Bool (x.0 == name.0)) [
   | inl here ↦ (let same : text_of names x ≡ text_of names name = ap (text_at names) (eqb-true x.0 name.0 here) in
-    rw (same, same_bytes-refl (text_of names name)))
+      rw (same, same_bytes-refl (text_of names name)))
   | inr other ↦ or_true _ _ (has_text names xs name (rw other at h))
 ]
 

@@ -315,7 +315,9 @@ pub fn glue(
     let mut behind = false;
     for (i, slot) in slots.iter().enumerate() {
         let rest = &slots[i + 1..];
-        left = match read(alloc, sets, names, &mut parts, left, behind, slot, rest, raw) {
+        left = match read(
+            alloc, sets, names, &mut parts, left, behind, slot, rest, raw,
+        ) {
             Ok(next) => next,
             Err(stop) => return Err(stop),
         };

@@ -1,5 +1,9 @@
-ghost use Rattle.std.specs.Prelude.{◌≡◌};
+ghost use Rattle.std.specs.Prelude.{◌≡◌, ℕ, List, []};
+ghost use Rattle.sc_base.specs.Seen.{IsHeld};
+ghost use Rattle.sc_subst.specs.Hides.{set_at};
+ghost use Rattle.sc_subst.specs.Seen.{IsHeldHidden};
 
+use crate::HideSets;
 use sc_base::{HasToken, Token};
 
 /// A hide set of the store that made it. Sets of one store are equal exactly where their ids are.
@@ -11,6 +15,20 @@ pub struct Hide(pub usize);
 pub struct Hidden {
     pub token: Token,
     pub hide: Hide,
+}
+
+impl Hidden {
+    /// The token, which hides no name.
+    pub fn new(sets: &HideSets, token: Token) -> Hidden
+        ensures token { result.token ≡ token }
+        ensures none { set_at sets.now result.hide.0 ≡ [] }
+        ensures own { (names : List (List ℕ)) → IsHeld names token → IsHeldHidden names sets.now result }
+    {
+        Hidden {
+            token,
+            hide: sets.empty(),
+        }
+    }
 }
 
 impl HasToken for Hidden {

@@ -12,11 +12,10 @@ mod slots;
 mod sorted;
 mod stop;
 
-
 pub use hidden::{Hidden, Hide};
 pub use hide_sets::HideSets;
 pub use literal::stringize;
 pub use operators::paste;
 pub use part::Part;
-pub use stop::SubstStop;
 pub use replacement::template;
+pub use stop::SubstStop;

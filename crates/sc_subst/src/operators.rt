@@ -45,7 +45,12 @@ pub fn paste(
 }
 
 /// One spelling behind the other.
-fn joined(alloc: Global, names: &Names, left: &Hidden, right: &Hidden) -> Result<Vec<u8>, AllocError>
+fn joined(
+    alloc: Global,
+    names: &Names,
+    left: &Hidden,
+    right: &Hidden,
+) -> Result<Vec<u8>, AllocError>
     requires left { IsHeld names.now left.now.token }
     requires right { IsHeld names.now right.now.token }
     ensures { IfOk result (λ bytes. bytes.items ≡ text_of names.now left.now.token.spelling ++ text_of names.now right.now.token.spelling) }

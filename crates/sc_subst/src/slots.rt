@@ -188,11 +188,11 @@ fn operand(
     requires raw { AreHeldArguments names.old sets.now (map (λ a. a.items) raw.now) }
     ensures ok { IfOk result (λ slot. Lasting names.new sets.now (λ names sets. (head : model.Hidden declared.Place) → head.place ≡ place
         → slot_of head (seen_arguments names sets (map (λ a. a.items) raw.now))
-          (operand_part (seen_before before) (seen_item names item.now) (parameter_of (seen_form names form.now) (seen_item names item.now).spelling)) ≡ Ok (seen_slot names sets slot))) }
+        (operand_part (seen_before before) (seen_item names item.now) (parameter_of (seen_form names form.now) (seen_item names item.now).spelling)) ≡ Ok (seen_slot names sets slot))) }
     ensures own { IfOk result (IsHeldSlot names.new sets.now) }
     ensures err { IfErr result (λ stop. OnFault stop (λ cause. Lasting names.new sets.now (λ names sets. (head : model.Hidden declared.Place) → head.place ≡ place
         → slot_of head (seen_arguments names sets (map (λ a. a.items) raw.now))
-          (operand_part (seen_before before) (seen_item names item.now) (parameter_of (seen_form names form.now) (seen_item names item.now).spelling)) ≡ Err (failure_at cause head)))) }
+        (operand_part (seen_before before) (seen_item names item.now) (parameter_of (seen_form names form.now) (seen_item names item.now).spelling)) ≡ Err (failure_at cause head)))) }
 
     // at every outcome
     ensures names { Extends names.old names.new }

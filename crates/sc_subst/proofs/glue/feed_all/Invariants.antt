@@ -19,6 +19,6 @@ invariant-loop-token l = record {
   held : IsHeldLeft l.names l.sets l.left;
   pasting : is_pasting l.fn.left ≡ false → is_pasting l.left ≡ false;
   is : Lasting l.names l.sets (λ names sets. (head : model.Hidden Place) (expanded : List (List (model.Hidden Place))) (ps : List (substitution.Piece Place))
-    → tokens_behind names sets head expanded l.fn.parts.items l.fn.left (pieces_of (map (seen_hidden names sets) l.tokens) ++ ps)
-    ≡ tokens_behind names sets head expanded l.parts.items l.left (pieces_of (map (seen_hidden names sets) (drop l.token-index l.tokens)) ++ ps));
+      → tokens_behind names sets head expanded l.fn.parts.items l.fn.left (pieces_of (map (seen_hidden names sets) l.tokens) ++ ps)
+      ≡ tokens_behind names sets head expanded l.parts.items l.left (pieces_of (map (seen_hidden names sets) (drop l.token-index l.tokens)) ++ ps));
 }

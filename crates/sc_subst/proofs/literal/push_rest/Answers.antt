@@ -29,5 +29,5 @@ pub loop-hidden-preserved : goal.loop-hidden-preserved
 loop-hidden-preserved c = λ sets.
     let see : Hidden → model.Hidden Place = seen_hidden c.args.names.now sets in
     let added = c.in_ok-push_quoted.ensures sets ∙ ap (λ b. b ++ quoted_spelling (see (get_or c.args.rest.now c.loop-hidden.hidden-index blank)))
-      (c.in_ok-extend_from_slice.ensures.items ∙ ap (λ b. c.loop-hidden.bytes.items ++ b) c.white_space.ensures) in
+    (c.in_ok-extend_from_slice.ensures.items ∙ ap (λ b. c.loop-hidden.bytes.items ++ b) c.white_space.ensures) in
     next see c.args.rest.now c.loop-hidden.hidden-index blank c.loop-hidden.bytes.items c.push_quoted.new.bytes.items c.loop-hidden-test.true added ∙ c.loop-hidden.invariant sets

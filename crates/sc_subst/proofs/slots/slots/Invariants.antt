@@ -15,6 +15,6 @@ invariant-loop-i l = record {
   grows : Extends l.fn.names l.names;
   own : All (IsHeldSlot l.names l.sets) l.made.items;
   is : Lasting l.names l.sets (λ names sets. (head : model.Hidden Place) → head.place ≡ l.place
-    → slots_behind names sets l.form (map (λ a. a.items) l.raw) head before.Neither l.items
-    ≡ result_map (λ ss. map (seen_slot names sets) l.made.items ++ ss) (slots_behind names sets l.form (map (λ a. a.items) l.raw) head l.before (drop l.i l.items)));
+      → slots_behind names sets l.form (map (λ a. a.items) l.raw) head before.Neither l.items
+      ≡ result_map (λ ss. map (seen_slot names sets) l.made.items ++ ss) (slots_behind names sets l.form (map (λ a. a.items) l.raw) head l.before (drop l.i l.items)));
 }
