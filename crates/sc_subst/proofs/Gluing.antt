@@ -12,14 +12,13 @@ use Rattle.c11_macros.specs.Substitution.{all_glued, argument, begins_paste, glu
 use Rattle.sc_base.specs.declared.id.Name.{Name}
 use Rattle.sc_base.specs.declared.place.Place.{Place}
 use Rattle.sc_model.specs.Growth.{Extends}
-use Rattle.sc_subst.specs.declared.glue.Left.{Left}
 use Rattle.sc_subst.specs.declared.glue.Left.TheVariants as left
 use Rattle.sc_subst.specs.declared.glue.Piece.{Piece}
 use Rattle.sc_subst.specs.declared.glue.Piece.TheVariants as piece
 use Rattle.sc_subst.specs.declared.hidden.Hidden.{Hidden}
 use Rattle.sc_subst.specs.declared.part.Part.{Part}
 use Rattle.sc_subst.specs.declared.part.Part.TheVariants as part
-use Rattle.sc_subst.specs.Glue.{IsHeldPiece, argument_pieces, begins_operator, glued_behind, is_operator, pieces_in, seen_piece, tokens_behind}
+use Rattle.sc_subst.specs.Glue.{IsHeldPiece, argument_pieces, begins_operator, is_operator, pieces_in, seen_piece, tokens_behind}
 use Rattle.sc_subst.specs.Parts.{AreHeldArguments, IsHeldPart, filled_in, seen_arguments, seen_part}
 use Rattle.sc_subst.specs.Seen.{IsHeldHidden, seen_hidden}
 use Rattle.sc_subst.proofs.Later.{IsHeldHidden-Extends}

@@ -1,17 +1,14 @@
 -- What the tables hold stays as it is seen while they grow.
-use Rattle.std.proofs.Common.{◌≡◌, ℕ, zero, suc, ◌+◌, ◌<◌, ◌≤◌, ◌||◌, Bool, List, [], ◌∷◌, ◌++◌, length, map, get_or, slice_get, Option, Some, Ok, Result, refl, sym, ap, ◌∙◌, arith}
-use Rattle.std.specs.Prelude.{All, unwrap_or}
-use Rattle.std.specs.List.{list_any}
+use Rattle.std.proofs.Common.{◌≡◌, ℕ, ◌<◌, ◌||◌, Bool, List, [], ◌∷◌, length, get_or, slice_get, Some, refl, sym, ap, ◌∙◌, arith}
+use Rattle.std.specs.Prelude.{unwrap_or}
 use Rattle.std.proofs.lemmas.Option.{get_or_from_slice_get, slice_get-get_or, slice_get_within, same_Some}
 use Rattle.c11_macros.specs.Hidden as model
 use Rattle.c11_macros.specs.Hidden.{HideSet, Failure}
-use Rattle.c11_macros.specs.Substitution.{Piece, pasted, pasted_as, piece}
-use Rattle.c11_tokens.specs.Relex.{relexed}
 use Rattle.sc_base.specs.declared.id.Name.{Name}
 use Rattle.sc_base.specs.declared.place.Place.{Place}
 use Rattle.sc_base.specs.declared.token.Token.{Token}
-use Rattle.sc_base.specs.Seen.{IsHeld, text_at, position_of}
-use Rattle.sc_base.proofs.Growth.{Extends-trans, Extends-refl, Extends-within, Extends-keeps}
+use Rattle.sc_base.specs.Seen.{IsHeld, position_of}
+use Rattle.sc_base.proofs.Growth.{Extends-refl, Extends-within, Extends-keeps}
 use Rattle.sc_lex.specs.Spell.{lexeme_at}
 use Rattle.sc_macro.specs.Seen.{AreHeld, text_of}
 use Rattle.sc_model.specs.declared.kind.Kind.{Kind}

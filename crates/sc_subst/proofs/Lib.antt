@@ -4,6 +4,7 @@ pub mod Pasting
 pub mod Quoting
 pub mod RisingLaws
 pub mod Templates
+pub mod Tokens
 pub mod Turns
 pub mod SeenLaws
 pub mod Store

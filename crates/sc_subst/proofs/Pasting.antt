@@ -1,5 +1,5 @@
 -- A token that was made of two spellings is what `##` makes.
-use Rattle.std.proofs.Common.{◌≡◌, ℕ, List, ◌++◌, Option, Some, None, Ok, Err, sym, ap, ◌∙◌}
+use Rattle.std.proofs.Common.{◌≡◌, ℕ, List, ◌++◌, Some, None, Ok, Err, sym, ap, ◌∙◌}
 use Rattle.c11_macros.specs.Hidden as model
 use Rattle.c11_macros.specs.Hidden.{HideSet, failure_at, meet}
 use Rattle.c11_macros.specs.Substitution.{pasted, pasted_as, piece}
@@ -7,7 +7,7 @@ use Rattle.c11_tokens.specs.Relex.{relexed}
 use Rattle.sc_base.specs.declared.id.Name.{Name}
 use Rattle.sc_base.specs.declared.place.Place.{Place}
 use Rattle.sc_base.specs.declared.token.Token.{Token}
-use Rattle.sc_base.proofs.Growth.{Extends-trans, Extends-refl}
+use Rattle.sc_base.proofs.Growth.{Extends-trans}
 use Rattle.sc_macro.specs.Seen.{text_of}
 use Rattle.sc_model.specs.declared.cause.Cause.TheVariants.{BadPaste}
 use Rattle.sc_model.specs.declared.kind.Kind.{Kind}

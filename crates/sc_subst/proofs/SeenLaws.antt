@@ -1,17 +1,15 @@
 -- Hide sets as texts: what sets have in common by their ids they have in common by their texts.
-use Rattle.std.proofs.Common.{◌≡◌, ℕ, zero, suc, ◌<◌, ◌≤◌, ◌==◌, ◌&&◌, ◌||◌, Bool, true, false, List, [], ◌∷◌, length, get_or, slice_get, Some, inl, inr, ◌⊎◌, refl, sym, ap, subst, ◌∙◌, arith}
+use Rattle.std.proofs.Common.{◌≡◌, ℕ, zero, suc, ◌<◌, ◌==◌, ◌&&◌, ◌||◌, Bool, true, false, List, [], ◌∷◌, length, get_or, inl, inr, refl, sym, ap, subst, ◌∙◌, arith}
 use Rattle.std.specs.List.{list_any}
 use Rattle.std.proofs.lemmas.Bool.{cases_Bool, and_parts, or_cases, eqb-true, true≢false}
 use Rattle.std.proofs.lemmas.Bool.Decides.{nat_tests}
-use Rattle.std.proofs.lemmas.Option.{get_or_from_slice_get, slice_get-get_or}
 use Rattle.c11_macros.specs.Hidden.{HideSet, meet, union}
 use Rattle.sc_base.specs.declared.id.Name.{Name}
 use Rattle.sc_base.specs.Seen.{text_at}
-use Rattle.sc_base.proofs.Growth.{Extends-trans, Extends-refl, Extends-within}
 use Rattle.sc_macro.specs.Seen.{AreHeld, text_of}
-use Rattle.sc_macro.proofs.Texts.{held_at, same_id}
+use Rattle.sc_macro.proofs.Texts.{same_id}
 use Rattle.sc_model.specs.Bytes.{same_bytes}
-use Rattle.sc_model.specs.Growth.{Extends, IsOneToOne}
+use Rattle.sc_model.specs.Growth.{IsOneToOne}
 use Rattle.sc_model.proofs.ByteLemmas.{same_bytes-refl, same_bytes-true}
 use Rattle.sc_subst.specs.Rising.{has_name}
 use Rattle.sc_subst.specs.Seen.{texts_in}

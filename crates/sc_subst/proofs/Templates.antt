@@ -1,5 +1,5 @@
 -- A template and what fills it are the replacement of the definition.
-use Rattle.std.proofs.Common.{◌≡◌, ℕ, zero, suc, ◌∷◌, ◌++◌, ◌||◌, Bool, true, false, List, [], map, slice_index_or, Result, Ok, Err, refl, sym, ap, ◌∙◌}
+use Rattle.std.proofs.Common.{◌≡◌, ℕ, zero, suc, ◌∷◌, ◌++◌, ◌||◌, Bool, true, false, List, [], map, Result, Ok, Err, refl, ap, ◌∙◌}
 use Rattle.c11_macros.specs.Hidden as model
 use Rattle.c11_macros.specs.Hidden.{Failure, HideSet, Provenance}
 use Rattle.c11_macros.specs.Macros as macros

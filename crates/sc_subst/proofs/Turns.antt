@@ -1,5 +1,5 @@
 -- What an item of a list makes, and what the rest of the list makes behind it.
-use Rattle.std.proofs.Common.{◌≡◌, ℕ, zero, suc, ◌<◌, ◌+◌, ◌-◌, take, add-one, length-drop, ◌&&◌, ◌∷◌, ◌++◌, not, Bool, true, false, List, [], length, map, drop, get_or, slice_index_or, append_assoc, Option, Some, None, Result, Ok, Err, refl, sym, ap, ◌∙◌, arith}
+use Rattle.std.proofs.Common.{◌≡◌, ℕ, zero, suc, ◌<◌, ◌+◌, ◌-◌, take, add-one, length-drop, ◌&&◌, ◌∷◌, ◌++◌, not, true, false, List, [], length, map, drop, get_or, slice_index_or, append_assoc, Option, Some, Result, Ok, Err, refl, sym, ap, ◌∙◌, arith}
 use Rattle.std.specs.Prelude.{All}
 use Rattle.std.proofs.Math.Seq.{drop-cons}
 use Rattle.std.proofs.lemmas.List.{take_all}

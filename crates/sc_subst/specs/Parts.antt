@@ -1,5 +1,5 @@
 -- A replacement in the making: its slots, its template, and what fills it.
-use Rattle.std.specs.Prelude.{All, ℕ, Bool, true, false, List, [], ◌∷◌, ◌++◌, map, Option, Some, None, Result}
+use Rattle.std.specs.Prelude.{All, ℕ, Bool, List, [], ◌∷◌, ◌++◌, map, Option, Some, None, Result}
 use Rattle.c11_macros.specs.Hidden as model
 use Rattle.c11_macros.specs.Substitution as substitution
 use Rattle.c11_macros.specs.Substitution.{argument, with_space}
@@ -68,3 +68,8 @@ filled_in expanded [] = []
 filled_in expanded (substitution.filled_by t ∷ ss) = t ∷ filled_in expanded ss
 filled_in expanded (substitution.for_parameter n space ∷ ss) = with_space space (argument expanded n) ++ filled_in expanded ss
 filled_in expanded (substitution.for_paste ∷ ss) = filled_in expanded ss
+
+-- the first token has this white space
+abbrev pub first_spaced : Bool → List Hidden → List Hidden
+first_spaced space [] = []
+first_spaced space (t ∷ ts) = record { token = record t.token { space = space }; hide = t.hide } ∷ ts

@@ -1,11 +1,10 @@
 -- Tokens of an expansion as the tables of texts and of hide sets let them be seen.
-use Rattle.std.specs.Prelude.{◌≡◌, ℕ, ◌<◌, List, length, All}
+use Rattle.std.specs.Prelude.{ℕ, ◌<◌, List, length}
 use Rattle.std.specs.List.{list_any}
 use Rattle.c11_macros.specs.Hidden.{HideSet}
 use Rattle.c11_macros.specs.Hidden as model
 use Rattle.sc_base.specs.declared.id.Name.{Name}
 use Rattle.sc_base.specs.declared.place.Place.{Place}
-use Rattle.sc_base.specs.declared.token.Token.{Token}
 use Rattle.sc_base.specs.Seen.{IsHeld}
 use Rattle.sc_macro.specs.Seen.{AreHeld, text_of}
 use Rattle.sc_model.specs.Bytes.{same_bytes}

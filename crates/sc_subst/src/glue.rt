@@ -191,7 +191,7 @@ fn feed_argument(
 }
 
 /// The token with this white space.
-fn spaced(hidden: Hidden, space: bool) -> Hidden
+pub fn spaced(hidden: Hidden, space: bool) -> Hidden
     ensures { result ≡ record { token = record hidden.token { space = space }; hide = hidden.hide } }
 {
     Hidden {

@@ -1,6 +1,7 @@
 //! Substitution: what replaces a macro's name, and the hide sets of its tokens.
 #![tactic(auto, using(sc_base::proofs::Growth::growth))]
 
+mod filling;
 mod glue;
 mod hidden;
 mod hide_sets;
@@ -12,10 +13,11 @@ mod slots;
 mod sorted;
 mod stop;
 
+pub use filling::fill;
 pub use hidden::{Hidden, Hide};
 pub use hide_sets::HideSets;
 pub use literal::stringize;
 pub use operators::paste;
 pub use part::Part;
-pub use replacement::template;
+pub use replacement::{substitute, template};
 pub use stop::SubstStop;

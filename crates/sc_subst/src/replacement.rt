@@ -7,13 +7,14 @@ ghost use Rattle.sc_base.specs.declared.place.Place as declared;
 ghost use Rattle.sc_macro.specs.Seen.{IsHeldForm, IsHeldItem, seen_form, seen_item};
 ghost use Rattle.sc_model.specs.Growth.{Extends};
 ghost use Rattle.sc_subst.specs.Parts.{AreHeldArguments, IsHeldPart, filled_in, seen_arguments, seen_part};
-ghost use Rattle.sc_subst.specs.Seen.{Lasting};
+ghost use Rattle.sc_subst.specs.Seen.{IsHeldHidden, IsHeldSet, Lasting, hide_at, seen_hidden};
 ghost use Rattle.sc_subst.specs.Stops.{OnFault};
 
+use crate::filling::fill;
 use crate::glue::glue;
 use crate::slots::slots;
-use crate::{Hidden, HideSets, Part, SubstStop};
-use sc_base::{Names, Place};
+use crate::{Hidden, Hide, HideSets, Part, SubstStop};
+use sc_base::{Names, Place, Token};
 use sc_macro::{Form, Item};
 use std::alloc::Global;
 
@@ -48,6 +49,49 @@ pub fn template(
 {
     match slots(alloc, sets, names, form, items, raw, place) {
         Ok(slots) => glue(alloc, sets, names, &slots, raw),
+        Err(stop) => Err(stop),
+    }
+}
+
+/// What replaces a macro's name: its list, with the arguments as they are and as they expand. `raw` and `expanded` have a
+/// list for each parameter, the one for `...` last.
+pub fn substitute(
+    alloc: Global,
+    sets: &mut HideSets,
+    names: &mut Names,
+    form: &Form,
+    items: &[Item],
+    raw: &[Vec<Hidden>],
+    expanded: &[Vec<Hidden>],
+    head: &Token,
+    hide: Hide,
+) -> Result<Vec<Hidden>, SubstStop>
+    requires form { IsHeldForm names.old form.now }
+    requires items { All (IsHeldItem names.old) items.now }
+    requires raw { AreHeldArguments names.old sets.old (map (λ a. a.items) raw.now) }
+    requires expanded { AreHeldArguments names.old sets.old (map (λ a. a.items) expanded.now) }
+    requires hide { IsHeldSet names.old sets.old hide.0 }
+    ensures ok { IfOk result (λ made. Lasting names.new sets.new (λ names sets. (at : model.Hidden declared.Place) (provenance : Provenance declared.Place)
+        → at.place ≡ head.now.place → at.space ≡ head.now.space → ((p : declared.Place) → provenance.mark p ≡ p)
+        → substituted provenance (seen_form names form.now) (map (seen_item names) items.now) at (seen_arguments names sets (map (λ a. a.items) raw.now))
+        (map (λ ts. Ok ts) (seen_arguments names sets (map (λ a. a.items) expanded.now))) (hide_at names sets hide.0)
+        ≡ Ok (map (seen_hidden names sets) made.items))) }
+    ensures own { IfOk result (λ made. All (IsHeldHidden names.new sets.new) made.items) }
+    ensures err { IfErr result (λ stop. OnFault stop (λ cause. Lasting names.new sets.new (λ names sets. (at : model.Hidden declared.Place) (provenance : Provenance declared.Place)
+        → at.place ≡ head.now.place
+        → substituted provenance (seen_form names form.now) (map (seen_item names) items.now) at (seen_arguments names sets (map (λ a. a.items) raw.now))
+        (map (λ ts. Ok ts) (seen_arguments names sets (map (λ a. a.items) expanded.now))) (hide_at names sets hide.0)
+        ≡ Err (failure_at cause at)))) }
+
+    // at every outcome
+    ensures names { Extends names.old names.new }
+    ensures sets { Extends sets.old sets.new }
+{
+    match template(alloc, sets, names, form, items, raw, head.place) {
+        Ok(parts) => {
+            let made = fill(alloc, sets, names, &parts, expanded, head.space, hide)?;
+            Ok(made)
+        }
         Err(stop) => Err(stop),
     }
 }

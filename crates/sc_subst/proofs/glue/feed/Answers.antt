@@ -1,4 +1,4 @@
-use Rattle.std.proofs.Common.{◌≡◌, ◌∙◌, sym, subst, Ok, Err}
+use Rattle.std.proofs.Common.{◌∙◌, sym, subst, Ok, Err}
 use Rattle.c11_macros.specs.Hidden.{failure_at}
 use Rattle.sc_subst.specs.Glue.{IsHeldLeft, seen_piece}
 use Rattle.sc_subst.proofs.Gluing.{fed_operand, fed_pasting, parts_later}

@@ -1,5 +1,4 @@
-use Rattle.std.proofs.Common.{◌≡◌, ◌∙◌, ◌+◌, ◌++◌, List, map, drop, refl, ap}
-use Rattle.c11_macros.specs.Hidden as model
+use Rattle.std.proofs.Common.{◌∙◌, ◌+◌, ◌++◌, map, drop, refl, ap}
 use Rattle.c11_macros.specs.Substitution.{pieces_of}
 use Rattle.sc_base.proofs.Growth.{Extends-trans}
 use Rattle.sc_subst.specs.Glue.{tokens_behind}

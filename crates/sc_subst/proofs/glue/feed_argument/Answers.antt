@@ -1,13 +1,9 @@
-use Rattle.std.proofs.Common.{◌≡◌, ◌∙◌, ◌++◌, ◌∷◌, ◌-◌, ℕ, List, length, take, map, drop, sym, ap}
-use Rattle.c11_macros.specs.Substitution as substitution
+use Rattle.std.proofs.Common.{◌∙◌, ◌++◌, ◌-◌, length, take, map, drop, sym, ap}
 use Rattle.c11_macros.specs.Substitution.{pieces_of}
-use Rattle.sc_base.specs.declared.id.Name.{Name}
-use Rattle.sc_base.specs.declared.place.Place.{Place}
 use Rattle.sc_base.proofs.Growth.{Extends-trans}
 use Rattle.sc_subst.specs.Glue.{tokens_behind}
 use Rattle.sc_subst.specs.Seen.{seen_hidden}
 use Rattle.sc_subst.proofs.Gluing.{held_rest, hiddens_later, no_argument, argument_first}
-use Rattle.sc_subst.proofs.Quoting.{blank}
 use Rattle.sc_subst.proofs.Store.{if_err, if_ok}
 use Rattle.sc_subst.proofs.Turns.{on_fault}
 use Rattle.sc_subst.proofs.glue.feed_argument.Goals as goal

@@ -1,4 +1,4 @@
-use Rattle.std.proofs.Common.{◌≡◌, ◌∙◌, ap, map}
+use Rattle.std.proofs.Common.{◌∙◌, ap, map}
 use Rattle.sc_subst.specs.declared.part.Part.TheVariants as part
 use Rattle.sc_subst.specs.Parts.{filled_in, seen_part}
 use Rattle.sc_subst.proofs.Gluing.{filled_push}

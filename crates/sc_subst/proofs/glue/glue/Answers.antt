@@ -1,4 +1,4 @@
-use Rattle.std.proofs.Common.{◌≡◌, ◌∙◌, ◌+◌, ◌-◌, ◌++◌, ℕ, List, [], length, take, map, drop, sym, ap}
+use Rattle.std.proofs.Common.{◌∙◌, ◌+◌, ◌-◌, length, take, map, drop, sym, ap}
 use Rattle.std.proofs.Math.ListN.{drop_of_length-le}
 use Rattle.sc_base.proofs.Growth.{Extends-trans}
 use Rattle.sc_subst.specs.Glue.{pieces_in, tokens_behind}

@@ -1,4 +1,4 @@
-use Rattle.std.proofs.Common.{◌≡◌, ◌++◌, false, List, [], map, drop}
+use Rattle.std.proofs.Common.{◌≡◌, false, List, [], map, drop}
 use Rattle.std.specs.Prelude.{All}
 use Rattle.c11_macros.specs.Hidden as model
 use Rattle.sc_base.specs.declared.place.Place.{Place}

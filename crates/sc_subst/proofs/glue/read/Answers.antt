@@ -1,7 +1,6 @@
-use Rattle.std.proofs.Common.{◌≡◌, ◌∙◌, ◌++◌, ◌||◌, ℕ, List, true, false, map, sym, ap}
+use Rattle.std.proofs.Common.{◌∙◌, ◌||◌, true, false, map, sym, ap}
 use Rattle.std.proofs.lemmas.Bool.{or_parts}
 use Rattle.c11_macros.specs.Substitution.{begins_paste}
-use Rattle.sc_base.proofs.Growth.{Extends-trans}
 use Rattle.sc_subst.specs.Glue.{pieces_in, tokens_behind}
 use Rattle.sc_subst.specs.Parts.{seen_arguments, seen_slot}
 use Rattle.sc_subst.proofs.Gluing.{apart_is, begins_pieces_in, beside_is}

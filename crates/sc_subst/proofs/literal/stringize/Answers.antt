@@ -1,11 +1,7 @@
-use Rattle.std.proofs.Common.{◌≡◌, ◌∙◌, sym, ap, subst, [], length, ℕ, List}
+use Rattle.std.proofs.Common.{◌∙◌, sym, ap, subst}
 use Rattle.c11_macros.specs.Substitution.{is_text_kind}
 use Rattle.c11_tokens.specs.Relex.{relexed}
-use Rattle.sc_base.specs.declared.id.Name.{Name}
-use Rattle.sc_base.proofs.Growth.{Extends-refl}
-use Rattle.sc_macro.specs.Seen.{AreHeld}
 use Rattle.sc_model.specs.declared.kind.Kind.TheVariants.{Text}
-use Rattle.sc_subst.specs.Hides.{set_at}
 use Rattle.sc_subst.proofs.Later.{IsHeld-IsMade, IsMade}
 use Rattle.sc_subst.proofs.Quoting.{literal_made, literal_refused, held_none}
 use Rattle.sc_subst.proofs.literal.stringize.Goals as goal

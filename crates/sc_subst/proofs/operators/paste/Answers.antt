@@ -2,7 +2,7 @@ use Rattle.std.proofs.Common.{sym, ap, subst, ◌∙◌}
 use Rattle.c11_tokens.specs.Relex.{relexed}
 use Rattle.sc_base.proofs.Growth.{Extends-refl}
 use Rattle.sc_subst.proofs.Later.{IsHeld-IsMade, IsHeldSet-Extends, IsMade}
-use Rattle.sc_subst.proofs.Pasting.{pasted_made, pasted_none}
+use Rattle.sc_subst.proofs.Pasting.{pasted_made}
 use Rattle.sc_subst.proofs.operators.paste.Goals as goal
 
 made : (c : goal.After-drop-spelling-2) → IsMade c.token.new.names c.in_ok-token.token c.in-Some.kind c.in_ok-spelling.spelling.items c.args.left.now.token.space c.args.left.now.token.place

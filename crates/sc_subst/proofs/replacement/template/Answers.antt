@@ -1,4 +1,4 @@
-use Rattle.std.proofs.Common.{◌≡◌, ◌∙◌, false, map, Ok, Err, ap, sym, subst}
+use Rattle.std.proofs.Common.{◌∙◌, false, map, Ok, Err, ap, sym, subst}
 use Rattle.std.specs.Prelude.{All}
 use Rattle.c11_macros.specs.Hidden.{failure_at}
 use Rattle.c11_macros.specs.Results.{result_map}

@@ -1,4 +1,4 @@
-use Rattle.std.proofs.Common.{◌≡◌, ◌∙◌, map, Ok, Err, sym}
+use Rattle.std.proofs.Common.{◌∙◌, map, Ok, Err, sym}
 use Rattle.c11_macros.specs.Hidden.{failure_at}
 use Rattle.sc_subst.specs.Parts.{seen_slot}
 use Rattle.sc_subst.proofs.Turns.{hash_is, operand_then, on_fault}

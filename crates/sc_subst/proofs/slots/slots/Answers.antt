@@ -1,8 +1,7 @@
-use Rattle.std.proofs.Common.{◌≡◌, ◌∙◌, ◌+◌, ◌++◌, ℕ, List, map, drop, Ok, Err, sym, ap, subst}
+use Rattle.std.proofs.Common.{◌∙◌, ◌++◌, map, drop, ap}
 use Rattle.c11_macros.specs.Hidden.{failure_at}
 use Rattle.c11_macros.specs.Results.{result_map}
 use Rattle.sc_base.proofs.Growth.{Extends-refl, Extends-trans}
-use Rattle.sc_subst.specs.declared.slots.Before.TheVariants as before
 use Rattle.sc_subst.specs.Parts.{seen_made, seen_slot, slots_behind}
 use Rattle.sc_subst.proofs.Turns.{held_slots, turned, fails, on_fault, from_item, tail_is}
 use Rattle.sc_subst.proofs.slots.slots.Goals as goal

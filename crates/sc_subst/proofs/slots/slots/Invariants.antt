@@ -1,4 +1,4 @@
-use Rattle.std.proofs.Common.{◌≡◌, ◌++◌, List, map, drop, Ok}
+use Rattle.std.proofs.Common.{◌≡◌, ◌++◌, map, drop}
 use Rattle.std.specs.Prelude.{All}
 use Rattle.c11_macros.specs.Hidden as model
 use Rattle.c11_macros.specs.Results.{result_map}
