@@ -23,5 +23,3 @@ mod show;
 mod source;
 #[cfg(test)]
 mod space;
-#[cfg(test)]
-mod subst;
