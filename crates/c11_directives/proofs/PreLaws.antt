@@ -1,20 +1,22 @@
 -- A configuration has one sequence of tokens, or one fault.
-use Rattle.std.proofs.Common.{◌≡◌, inl, inr, ℕ, ◌<◌, not, Bool, true, false, List, [], ◌++◌, length, Option, Some, None, is_some, Result, Ok, Err, refl, sym, ap, ◌∙◌, subst, arith}
+use Rattle.std.proofs.Common.{◌≡◌, ◌⊎◌, inl, inr, ℕ, ◌<◌, not, Bool, true, false, List, [], ◌++◌, length, Option, Some, None, is_some, Result, Ok, Err, refl, sym, ap, ◌∙◌, subst, arith}
 use Rattle.std.proofs.lemmas.Bool.{cases_lt}
-use Rattle.sc_model.specs.declared.cause.Cause.TheVariants.{NotFound, FileTooLarge, UnterminatedComment, BadNesting, BadDirective}
+use Rattle.sc_model.specs.declared.cause.Cause.TheVariants.{NotFound, FileTooLarge, UnterminatedComment, BadNesting, BadDirective, Redefined}
+use Rattle.sc_model.specs.declared.cause.Cause.{Cause}
+use Rattle.c11_macros.specs.Defines.{Defined, reads}
 use Rattle.c11_directives.specs.declared.directive.Conditional.{Conditional}
 use Rattle.c11_directives.specs.declared.directive.Conditional.TheVariants.{Ifdef, Ifndef}
 use Rattle.c11_directives.specs.declared.directive.Directive.{Directive}
 use Rattle.c11_directives.specs.declared.directive.Directive.TheVariants as directive
 use Rattle.std.specs.Option.{option_map}
-use Rattle.std.specs.Prelude.{◌||◌, unwrap_or}
+use Rattle.std.specs.Prelude.{unwrap_or, if◌then◌else◌}
 use Rattle.c11_tokens.specs.Lex.{Lexed}
 use Rattle.c11_directives.specs.Lines.{Line, hash_of, conditional_of, Group, Branches, empty, plain, section, closing, otherwise, alternative, Tree}
 use Rattle.sc_model.specs.Outside.{Files, largest_file}
 use Rattle.sc_model.specs.Fault.{Fault, first_place, fault_at}
-use Rattle.c11_directives.specs.Pre.{Context, State, place_in, put_out, Becomes, unexpanded, Closes, closed, refused, RefusedAt, operand_of, Decides, if_defined, if_undefined, no_name, expression, is_ignored, is_refused, Steps, text, null, stopped, ignored, unknown, Walks, done, line, line_stops, taken, taken_stops, passed, passed_stops, head_stops, WalksBranches, none_taken, last_taken, later_taken, later_passed, later_stops, File, Searches, inside, file_lines, Enters, Includes, output_of, Pre}
+use Rattle.c11_directives.specs.Pre.{Context, State, place_in, put_out, Becomes, unexpanded, Closes, closed, refused, RefusedAt, operand_of, Decides, if_defined, if_undefined, no_name, expression, with_macro, Defines, fresh, again, redefined, undefined, is_barrier, is_ignored, is_refused, behind_name, Changes, ignored, not_carried_out, defines, defines_nothing, undefines, with_macros, Steps, text, null, stopped, changed, not_changed, Walks, done, line, line_stops, taken, taken_stops, passed, passed_stops, head_stops, WalksBranches, none_taken, last_taken, later_taken, later_passed, later_stops, File, Searches, inside, file_lines, Enters, Includes, output_of, Pre}
 use Rattle.sc_model.specs.Space.{Space}
-use Rattle.c11_macros.specs.Macros.{Macros}
+use Rattle.c11_macros.specs.Macros.{Definition, Macros}
 use Rattle.sc_model.specs.Token.{Position, Place, Token}
 use Rattle.c11_tokens.proofs.LexLaws.{lexes-unique}
 use Rattle.c11_directives.proofs.NestLaws.{tree-unique}
@@ -30,21 +32,21 @@ data Then {A B E F : Type 0} (told : E → F) (R : Result A E → Type 0) (S : A
 
 module _ {A B E F : Type 0} {told : E → F} {R : Result A E → Type 0} {S : A → Result B F → Type 0} where
   goes-sole : {a : A} {r : Result B F} → Sole R (Ok a) → Sole (S a) r → Sole (Then told R S) r
-  goes-sole {a} {r} one rest s (goes b first then) =
+  goes-sole {a} {r} one rest s (goes b first after) =
       let oks : Ok a ≡ Ok b = one (Ok b) first in
       let same : a ≡ b = cc in
-      rest s (subst (λ c. S c s) (sym same) then)
+      rest s (subst (λ c. S c s) (sym same) after)
   goes-sole {a} one rest _ (stops e first) = let other : Ok a ≡ Err e = one (Err e) first in cc
 
   stops-sole : {e : E} → Sole R (Err e) → Sole (Then told R S) (Err (told e))
-  stops-sole {e} one s (goes b first then) = let other : Err e ≡ Ok b = one (Ok b) first in cc
+  stops-sole {e} one s (goes b first after) = let other : Err e ≡ Ok b = one (Ok b) first in cc
   stops-sole {e} one _ (stops e' first) =
       let errs : Err e ≡ Err e' = one (Err e') first in
       let same : e ≡ e' = cc in
       ap (λ e. Err (told e)) same
 
   then-unique : ((r : Result A E) → R r → Sole R r) → ((a : A) (r : Result B F) → S a r → Sole (S a) r) → {r : Result B F} → Then told R S r → Sole (Then told R S) r
-  then-unique first_one then_one (goes {r = r} a first then) = goes-sole (first_one (Ok a) first) (then_one a r then)
+  then-unique first_one then_one (goes {r = r} a first after) = goes-sole (first_one (Ok a) first) (then_one a r after)
   then-unique first_one then_one (stops e first) = stops-sole (first_one (Err e) first)
 
 abbrev same : Fault → Fault
@@ -63,75 +65,113 @@ closes-sole (refused fault b) _ (closed output b') = let first = becomes-is b in
 closes-sole (refused fault b) _ (refused fault' b') = let first = becomes-is b in let second = becomes-is b' in cc
 
 -- the refusal of a directive, which has a first token
-abbrev refusal : State → Line → Fault
-refusal s l = fault_at BadDirective (unwrap_or (option_map (place_in s) (hash_of l)) (first_place []))
+abbrev refusal : State → Line → Cause → Fault
+refusal s l cause = fault_at cause (unwrap_or (option_map (place_in s) (hash_of l)) (first_place []))
 
-refused-is : {s : State} {l : Line} {fault : Fault} → RefusedAt s l BadDirective fault → fault ≡ refusal s l
-refused-is {s} {l} {fault} at =
-    let place : fault.place ≡ (refusal s l).place = sym (ap (λ o. unwrap_or o (first_place [])) at.place_is) in
+refused-is : {s : State} {l : Line} {cause : Cause} {fault : Fault} → RefusedAt s l cause fault → fault ≡ refusal s l cause
+refused-is {s} {l} {cause} {fault} at =
+    let place : fault.place ≡ (refusal s l cause).place = sym (ap (λ o. unwrap_or o (first_place [])) at.place_is) in
     λ i. record { cause = at.cause_is i; place = place i }
 
 -- what a conditional directive with an operand decides
 abbrev decision : State → Line → Option Conditional → Option (List ℕ) → Result Bool Fault
 decision s l (Some Ifdef) (Some name) = Ok (is_some (s.macros name))
 decision s l (Some Ifndef) (Some name) = Ok (not (is_some (s.macros name)))
-decision s l _ _ = Err (refusal s l)
+decision s l _ _ = Err (refusal s l BadDirective)
 
--- what an ignored directive, or another, is after its barrier
-abbrev after_barrier : Line → Bool → State → Result State Fault
-after_barrier l true s = Ok s
-after_barrier l false s = Err (refusal s l)
+-- ---- what a directive makes of the macros
 
--- a directive is null, ignored or refused, but for the conditional ones
-abbrev is_null : Directive → Bool
-is_null directive.Null = true
-is_null _ = false
+-- A relation of a directive to its answer is of one kind, so that only answers of that kind are compared.
+abbrev DefinedAs : Macros → Defined → Option Definition → Result Macros Cause → Type 0
+DefinedAs macros d None r = r ≡ Ok (with_macro macros d)
+DefinedAs macros d (Some other) r = ((other ≡ d.definition) × (r ≡ Ok macros)) ⊎ ((other ≡ d.definition → ⊥) × (r ≡ Err Redefined))
 
-ignored-null : (d : Directive) → is_ignored d ≡ true → is_null d ≡ false
-ignored-null (directive.Conditional c) e = refl
-ignored-null directive.Include e = refl
-ignored-null directive.Define e = refl
-ignored-null directive.Undef e = refl
-ignored-null directive.Line e = refl
-ignored-null directive.Error e = refl
-ignored-null directive.Pragma e = refl
-ignored-null directive.Warning e = refl
-ignored-null directive.Null e = cc
-ignored-null directive.Unknown e = refl
+defined-as : {macros : Macros} {d : Defined} {r : Result Macros Cause} → Defines macros d r → DefinedAs macros d (macros d.name) r
+defined-as (fresh e) = rw e refl
+defined-as (again e) = rw e (inl (refl, refl))
+defined-as (redefined other e n) = rw e (inr (n, refl))
 
-refused-null : (d : Directive) → is_refused d ≡ true → (is_null d ≡ false) × (is_ignored d ≡ false)
-refused-null (directive.Conditional c) e = cc
-refused-null directive.Include e = (refl, refl)
-refused-null directive.Define e = (refl, refl)
-refused-null directive.Undef e = (refl, refl)
-refused-null directive.Line e = (refl, refl)
-refused-null directive.Error e = (refl, refl)
-refused-null directive.Pragma e = cc
-refused-null directive.Warning e = cc
-refused-null directive.Null e = cc
-refused-null directive.Unknown e = (refl, refl)
+defined-sole : (macros : Macros) (d : Defined) (found : Option Definition) (r : Result Macros Cause) → DefinedAs macros d found r → Sole (DefinedAs macros d found) r
+defined-sole macros d None r e q f = e ∙ sym f
+defined-sole macros d (Some other) r (inl e) q (inl f) = e.1 ∙ sym f.1
+defined-sole macros d (Some other) r (inl e) q (inr f) = absurd (f.0 e.0)
+defined-sole macros d (Some other) r (inr e) q (inl f) = absurd (e.0 f.0)
+defined-sole macros d (Some other) r (inr e) q (inr f) = e.1 ∙ sym f.1
 
-barrier-null : (d : Directive) → (b : Bool) → is_ignored d ≡ b → (b || is_refused d) ≡ true → is_null d ≡ false
-barrier-null d true i e = ignored-null d i
-barrier-null d false i e = (refused-null d e).0
+abbrev ReadAs : Macros → Result Defined Cause → Result Macros Cause → Type 0
+ReadAs macros (Ok d) r = DefinedAs macros d (macros d.name) r
+ReadAs macros (Err cause) r = r ≡ Err cause
 
--- what a directive does that is null or not
-abbrev Does : Line → State → Bool → Bool → Result State Fault → Type 0
-Does l s true b r = r ≡ Ok s
-Does l s false b r = Then same (Closes s) (λ t q. q ≡ after_barrier l b t) r
+abbrev ChangedAs : Macros → Line → Directive → Result Macros Cause → Type 0
+ChangedAs macros l directive.Define r = ReadAs macros (reads (behind_name l)) r
+ChangedAs macros l directive.Undef r = r ≡ undefined macros (operand_of l)
+ChangedAs macros l d r = r ≡ (if is_ignored d then Ok macros else Err BadDirective)
+
+ignored-as : (macros : Macros) (l : Line) (d : Directive) → is_ignored d ≡ true → ChangedAs macros l d (Ok macros)
+ignored-as macros l (directive.Conditional c) e = cc
+ignored-as macros l directive.Include e = cc
+ignored-as macros l directive.Define e = cc
+ignored-as macros l directive.Undef e = cc
+ignored-as macros l directive.Line e = cc
+ignored-as macros l directive.Error e = cc
+ignored-as macros l directive.Pragma e = refl
+ignored-as macros l directive.Warning e = refl
+ignored-as macros l directive.Null e = cc
+ignored-as macros l directive.Unknown e = cc
+
+refused-as : (macros : Macros) (l : Line) (d : Directive) → is_refused d ≡ true → ChangedAs macros l d (Err BadDirective)
+refused-as macros l (directive.Conditional c) e = cc
+refused-as macros l directive.Include e = refl
+refused-as macros l directive.Define e = cc
+refused-as macros l directive.Undef e = cc
+refused-as macros l directive.Line e = refl
+refused-as macros l directive.Error e = refl
+refused-as macros l directive.Pragma e = cc
+refused-as macros l directive.Warning e = cc
+refused-as macros l directive.Null e = cc
+refused-as macros l directive.Unknown e = refl
+
+changed-as : {macros : Macros} {l : Line} {d : Directive} {r : Result Macros Cause} → Changes macros l d r → ChangedAs macros l d r
+changed-as {macros} {l} {d} (ignored e) = ignored-as macros l d e
+changed-as {macros} {l} {d} (not_carried_out e) = refused-as macros l d e
+changed-as (defines d e f) = rw e (defined-as f)
+changed-as (defines_nothing cause e) = rw e refl
+changed-as undefines = refl
+
+read-sole : (macros : Macros) (found : Result Defined Cause) (r : Result Macros Cause) → ReadAs macros found r → Sole (ReadAs macros found) r
+read-sole macros (Ok d) r e q f = defined-sole macros d (macros d.name) r e q f
+read-sole macros (Err cause) r e q f = e ∙ sym f
+
+changed-sole : (macros : Macros) (l : Line) (d : Directive) (r : Result Macros Cause) → ChangedAs macros l d r → Sole (ChangedAs macros l d) r
+changed-sole macros l directive.Define r e q f = read-sole macros (reads (behind_name l)) r e q f
+changed-sole macros l directive.Undef r e q f = e ∙ sym f
+changed-sole macros l (directive.Conditional c) r e q f = e ∙ sym f
+changed-sole macros l directive.Include r e q f = e ∙ sym f
+changed-sole macros l directive.Line r e q f = e ∙ sym f
+changed-sole macros l directive.Error r e q f = e ∙ sym f
+changed-sole macros l directive.Pragma r e q f = e ∙ sym f
+changed-sole macros l directive.Warning r e q f = e ∙ sym f
+changed-sole macros l directive.Null r e q f = e ∙ sym f
+changed-sole macros l directive.Unknown r e q f = e ∙ sym f
+
+-- what a directive does that is a barrier or not
+abbrev Does : Line → State → Directive → Bool → Result State Fault → Type 0
+Does l s d false r = r ≡ Ok s
+Does l s d true r = Then same (Closes s) (λ t. Then (refusal t l) (ChangedAs t.macros l d) (λ macros q. q ≡ Ok (with_macros t macros))) r
 
 -- what a line does
 abbrev DoesLine : Line → State → Option Directive → Result State Fault → Type 0
 DoesLine l s None r = r ≡ Ok (record s { run = s.run ++ l.tokens })
-DoesLine l s (Some d) r = Does l s (is_null d) (is_ignored d) r
+DoesLine l s (Some d) r = Does l s d (is_barrier d) r
 
-does-sole : (l : Line) (s : State) (a b : Bool) (r : Result State Fault) → Does l s a b r → Sole (Does l s a b) r
-does-sole l s true b r d q e = d ∙ sym e
-does-sole l s false b r d q e = then-unique (λ _. closes-sole) (λ _ _ f _ g. f ∙ sym g) d q e
+does-sole : (l : Line) (s : State) (d : Directive) (b : Bool) (r : Result State Fault) → Does l s d b r → Sole (Does l s d b) r
+does-sole l s d false r e q f = e ∙ sym f
+does-sole l s d true r e q f =
+    then-unique (λ _. closes-sole) (λ t _. then-unique (changed-sole t.macros l d) (λ _ _ g _ h. g ∙ sym h)) e q f
 
 line-sole : (l : Line) (s : State) (d : Option Directive) (r : Result State Fault) → DoesLine l s d r → Sole (DoesLine l s d) r
 line-sole l s None r d q e = d ∙ sym e
-line-sole l s (Some d) r does q e = does-sole l s (is_null d) (is_ignored d) r does q e
+line-sole l s (Some d) r does q e = does-sole l s d (is_barrier d) r does q e
 
 -- what is walked of a section whose first group is taken or not
 abbrev Taken : Context → Group → Branches → State → Bool → Result State Fault → Type 0
@@ -153,13 +193,10 @@ module _ {x : Context} where
   steps-does : {l : Line} {s : State} {r : Result State Fault} → Steps x l s r → DoesLine l s l.directive r
   steps-does (text e) = rw e refl
   steps-does (null e) = rw e refl
-  steps-does {l} {s} (stopped d fault e b c) =
-      rw e (subst (λ n. Does l s n (is_ignored d) (Err fault)) (sym (barrier-null d (is_ignored d) refl b)) (stops fault c))
-  steps-does {l} {s} (ignored d t e i c) =
-      rw e (subst (λ n. Does l s n (is_ignored d) (Ok t)) (sym (ignored-null d i)) (goes t c (ap (λ b. after_barrier l b t) (sym i))))
-  steps-does {l} {s} (unknown d t fault e u c at) =
-      let no = refused-null d u in
-      rw e (subst (λ n. Does l s n (is_ignored d) (Err fault)) (sym no.0) (goes t c (ap Err (refused-is at) ∙ ap (λ b. after_barrier l b t) (sym no.1))))
+  steps-does {l} {s} (stopped d fault e b c) = rw (e, b) (stops fault c)
+  steps-does {l} {s} (changed d t macros e b c m) = rw (e, b) (goes t c (goes macros (changed-as m) refl))
+  steps-does {l} {s} (not_changed d t cause fault e b c m at) =
+      rw (e, b) (goes t c (subst (Then (refusal t l) (ChangedAs t.macros l d) (λ macros q. q ≡ Ok (with_macros t macros))) (ap Err (sym (refused-is at))) (stops cause (changed-as m))))
 
   steps-sole : {l : Line} {s : State} {r : Result State Fault} → Steps x l s r → Sole (Steps x l s) r
   steps-sole {l} {s} {r} d q e = line-sole l s l.directive r (steps-does d) q (steps-does e)

@@ -1,8 +1,8 @@
 -- Preprocessing of one configuration (C11 6.10): the walk of a file's groups.
-use Rattle.std.specs.Prelude.{◌≡◌, ℕ, ◌<◌, ◌⊎◌, ◌||◌, Bool, true, false, not, List, [], ◌∷◌, ◌++◌, length, map, Option, Some, None, is_some, Result, Ok, Err, if◌then◌else◌}
+use Rattle.std.specs.Prelude.{◌≡◌, ℕ, ◌<◌, ◌⊎◌, Bool, true, false, not, List, [], ◌∷◌, ◌++◌, length, map, drop, Option, Some, None, is_some, Result, Ok, Err, if◌then◌else◌}
 use Rattle.std.specs.Option.{option_map}
 use Rattle.sc_model.specs.declared.cause.Cause.{Cause}
-use Rattle.sc_model.specs.declared.cause.Cause.TheVariants.{NotFound, FileTooLarge, UnterminatedComment, BadNesting, BadDirective}
+use Rattle.sc_model.specs.declared.cause.Cause.TheVariants.{NotFound, FileTooLarge, UnterminatedComment, BadNesting, BadDirective, Redefined, ProtectedName}
 use Rattle.c11_directives.specs.declared.directive.Conditional.TheVariants.{If, Ifdef, Ifndef, Elif}
 use Rattle.c11_directives.specs.declared.directive.Directive.{Directive}
 use Rattle.c11_directives.specs.declared.directive.Directive.TheVariants as directive
@@ -11,7 +11,9 @@ use Rattle.c11_directives.specs.Lines.{DirectiveNames, c11_directive_names, Line
 use Rattle.sc_model.specs.Fault.{Fault, fault_at, first_place}
 use Rattle.sc_model.specs.Outside.{Files, largest_file}
 use Rattle.sc_model.specs.Space.{Space}
-use Rattle.c11_macros.specs.Macros.{Macros, initial_macros}
+use Rattle.c11_macros.specs.Defines.{Defined, is_protected, reads}
+use Rattle.c11_macros.specs.Macros.{Definition, Macros, initial_macros}
+use Rattle.sc_model.specs.Bytes.{same_bytes}
 use Rattle.sc_model.specs.Token.{Position, Place, Lexeme, Token, in_file}
 
 -- what a standard says that others say otherwise
@@ -88,6 +90,37 @@ pub data Decides (context : Context) (s : State) (line : Line) : Result Bool Fau
 abbrev pub decided : State → Line → State
 decided s line = s
 
+-- the macros with one more, or with another in the place of one
+abbrev pub with_macro : Macros → Defined → Macros
+with_macro macros d name = if same_bytes name d.name then Some d.definition else macros name
+
+abbrev pub without_macro : Macros → List ℕ → Macros
+without_macro macros gone name = if same_bytes name gone then None else macros name
+
+-- What a definition makes of the macros. A macro is defined again only as it is (6.10.3p2).
+pub data Defines (macros : Macros) (d : Defined) : Result Macros Cause → Type 0 where
+  fresh : macros d.name ≡ None → Defines macros d (Ok (with_macro macros d))
+  again : macros d.name ≡ Some d.definition → Defines macros d (Ok macros)
+  redefined : (other : Definition) → macros d.name ≡ Some other → (other ≡ d.definition → ⊥) → Defines macros d (Err Redefined)
+
+-- A macro is taken back by its name (6.10.3.5p2), unless no directive may (6.10.8p4).
+abbrev pub undefined : Macros → Option (List ℕ) → Result Macros Cause
+undefined macros None = Err BadDirective
+undefined macros (Some name) = if is_protected name then Err ProtectedName else Ok (without_macro macros name)
+
+-- the directive ends a run
+abbrev pub is_barrier : Directive → Bool
+is_barrier (directive.Conditional c) = false
+is_barrier directive.Null = false
+is_barrier directive.Include = true
+is_barrier directive.Define = true
+is_barrier directive.Undef = true
+is_barrier directive.Line = true
+is_barrier directive.Error = true
+is_barrier directive.Pragma = true
+is_barrier directive.Warning = true
+is_barrier directive.Unknown = true
+
 -- the directive has no effect
 abbrev pub is_ignored : Directive → Bool
 is_ignored directive.Pragma = true
@@ -97,22 +130,37 @@ is_ignored _ = false
 -- the directive is not carried out
 abbrev pub is_refused : Directive → Bool
 is_refused directive.Include = true
-is_refused directive.Define = true
-is_refused directive.Undef = true
 is_refused directive.Line = true
 is_refused directive.Error = true
 is_refused directive.Unknown = true
 is_refused _ = false
 
+-- what a line says behind the name of its directive
+abbrev pub behind_name : Line → List Token
+behind_name line = drop 2 line.tokens
+
+-- what a directive makes of the macros, or why it is refused
+pub data Changes (macros : Macros) (line : Line) : Directive → Result Macros Cause → Type 0 where
+  ignored : {d : Directive} → is_ignored d ≡ true → Changes macros line d (Ok macros)
+  not_carried_out : {d : Directive} → is_refused d ≡ true → Changes macros line d (Err BadDirective)
+  defines : {r : Result Macros Cause} (d : Defined) → reads (behind_name line) ≡ Ok d → Defines macros d r → Changes macros line directive.Define r
+  defines_nothing : (cause : Cause) → reads (behind_name line) ≡ Err cause → Changes macros line directive.Define (Err cause)
+  undefines : Changes macros line directive.Undef (undefined macros (operand_of line))
+
+-- the state with these macros
+abbrev pub with_macros : State → Macros → State
+with_macros s macros = record s { macros = macros }
+
 -- What a line that is no conditional directive does. Every directive but the null one is a barrier.
 pub data Steps (context : Context) (line : Line) (s : State) : Result State Fault → Type 0 where
   text : line.directive ≡ None → Steps context line s (Ok (with_text s line))
   null : line.directive ≡ Some directive.Null → Steps context line s (Ok s)
-  stopped : (d : Directive) (fault : Fault) → line.directive ≡ Some d → (is_ignored d || is_refused d) ≡ true → Closes s (Err fault)
+  stopped : (d : Directive) (fault : Fault) → line.directive ≡ Some d → is_barrier d ≡ true → Closes s (Err fault)
       → Steps context line s (Err fault)
-  ignored : (d : Directive) (t : State) → line.directive ≡ Some d → is_ignored d ≡ true → Closes s (Ok t) → Steps context line s (Ok t)
-  unknown : (d : Directive) (t : State) (fault : Fault) → line.directive ≡ Some d → is_refused d ≡ true → Closes s (Ok t)
-      → RefusedAt t line BadDirective fault → Steps context line s (Err fault)
+  changed : (d : Directive) (t : State) (macros : Macros) → line.directive ≡ Some d → is_barrier d ≡ true → Closes s (Ok t)
+      → Changes t.macros line d (Ok macros) → Steps context line s (Ok (with_macros t macros))
+  not_changed : (d : Directive) (t : State) (cause : Cause) (fault : Fault) → line.directive ≡ Some d → is_barrier d ≡ true → Closes s (Ok t)
+      → Changes t.macros line d (Err cause) → RefusedAt t line cause fault → Steps context line s (Err fault)
 
 -- The walk of a group from a state, up to its end or its first fault. After a branch was taken, no
 -- later one is decided.

@@ -3,3 +3,4 @@ mod Examples
 pub mod Halting
 pub mod OneAnswer
 pub mod Rows
+pub mod SameLaws

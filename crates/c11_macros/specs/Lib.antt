@@ -4,5 +4,6 @@ pub mod Expansion
 pub mod Hidden
 pub mod Macros
 pub mod Results
+pub mod Same
 pub mod Substitution
 pub mod Trace
