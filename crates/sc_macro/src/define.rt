@@ -44,7 +44,7 @@ pub fn read_define(alloc: Global, names: &Names, line: &[Token]) -> Result<Defin
 }
 
 /// Whether no directive may define the name or take it back (C11 6.10.8p4).
-fn is_protected(name: &[u8]) -> bool
+pub fn is_protected(name: &[u8]) -> bool
     ensures { result ≡ model.is_protected name.now }
 {
     is_same(name, b"defined") || is_same(name, b"__VA_ARGS__") || is_predefined(name)

@@ -10,7 +10,7 @@ mod items;
 mod same;
 mod stop;
 
-pub use define::read_define;
+pub use define::{is_protected, read_define};
 pub use definition::{Definition, Item, Replacement};
 pub use form::{Form, counts};
 pub use same::same_definition;

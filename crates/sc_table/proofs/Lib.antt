@@ -1,1 +1,9 @@
+pub mod ChangeLemmas
+pub mod EntryLemmas
+pub mod Growth
+pub mod LookupLemmas
+pub mod OneToOne
 pub mod Options
+pub mod OptionLemmas
+pub mod PartLemmas
+pub mod TableLemmas

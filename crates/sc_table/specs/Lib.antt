@@ -1,1 +1,4 @@
+pub mod Change
+pub mod Parts
+pub mod Table
 pub mod Variables
