@@ -7,3 +7,4 @@ pub mod Options
 pub mod OptionLemmas
 pub mod PartLemmas
 pub mod TableLemmas
+pub mod StartLemmas
