@@ -25,7 +25,7 @@ use Rattle.sc_table.specs.declared.entry.Entry.TheVariants.{Everywhere, Options,
 use Rattle.sc_table.specs.declared.table.MacroTable.{MacroTable}
 use Rattle.sc_table.specs.Parts.{Part, valued, AreParts, seen_all}
 use Rattle.sc_table.specs.Table.{IsTable, IsMade, IsNamed, IsStill, macros_at, macros_in, stored_at, option_at, seen_options}
-use Rattle.sc_table.proofs.Options.{Denotes-as}
+use Rattle.sc_table.proofs.Denoting.{Denotes-as}
 use Rattle.sc_table.proofs.PartLemmas.{AreSome-Keeps}
 
 module _ {old new : Sets} (keeps : Keeps old new) where
@@ -127,7 +127,7 @@ module _ {names more : List (List ℕ)} (grows : Extends names more) where
       ap (λ d. d ∷ seen_all more parts) (seen_definition-Extends p.1 (All-head P p parts held)) ∙ ap (λ ds. seen_definition names p.1 ∷ ds) (seen_all-Extends parts (All-tail P p parts held))
 
   module _ {A : Type 0} where
-    all_options-Extends : (options : List (Option (Rc Definition A))) → All (λ o. IfSome o (λ shared. IsHeldDefinition names shared.value)) options → All (λ o. IfSome o (λ shared. IsHeldDefinition more shared.value)) options
+    pub all_options-Extends : (options : List (Option (Rc Definition A))) → All (λ o. IfSome o (λ shared. IsHeldDefinition names shared.value)) options → All (λ o. IfSome o (λ shared. IsHeldDefinition more shared.value)) options
     all_options-Extends [] held = All-nil (λ (o : Option (Rc Definition A)). IfSome o (λ shared. IsHeldDefinition more shared.value))
     all_options-Extends (o ∷ options) held =
         let P : Option (Rc Definition A) → Type 0 = λ o. IfSome o (λ shared. IsHeldDefinition names shared.value) in

@@ -3,8 +3,10 @@ pub mod EntryLemmas
 pub mod Growth
 pub mod LookupLemmas
 pub mod OneToOne
-pub mod Options
+pub mod Denoting
 pub mod OptionLemmas
 pub mod PartLemmas
 pub mod TableLemmas
 pub mod StartLemmas
+pub mod StartOptions
+pub mod Starting

@@ -1,5 +1,5 @@
 -- The texts of the macros at the start.
-use Rattle.std.proofs.Common.{◌≡◌, ℕ, zero, suc, ◌<◌, ◌≤◌, ◌==◌, nat_lt, false, List, [], ◌∷◌, length, refl, sym, ap, subst, ◌∙◌, arith}
+use Rattle.std.proofs.Common.{◌≡◌, ℕ, ◌<◌, ◌==◌, nat_lt, false, List, [], ◌∷◌, refl, sym, subst, ◌∙◌, arith}
 use Rattle.std.proofs.lemmas.Bool.Decides.{nat_tests}
 use Rattle.std.proofs.lemmas.Bool.{true≢false, lt-ltb}
 use Rattle.std.specs.Char.{digit_value}
@@ -22,3 +22,6 @@ plain_digits (x ∷ xs) is = plain_text x xs (λ e. no_digit 60 (subst P e is.1.
 
     no_digit : (n : ℕ) → digit_value n < 10 → nat_lt (digit_value n) 10 ≡ false → ⊥
     no_digit n low e = true≢false (sym (lt-ltb (digit_value n) 10 low) ∙ e)
+
+pub plain_quoted : (xs : List ℕ) → name_of (34 ∷ xs) ≡ 34 ∷ xs
+plain_quoted xs = plain_text 34 xs (λ e. cc) (λ e. cc) (λ e. cc)

@@ -27,7 +27,7 @@ use Rattle.sc_table.specs.Change.{Redefines, IsOther}
 use Rattle.sc_table.specs.Parts.{Part, AreParts, AreNamed, valued}
 use Rattle.sc_table.specs.Table.{macros_in, macros_at, stored_at, IsTable, IsMade, IsNamed, IsStill, Puts}
 use Rattle.sc_table.proofs.Growth.{macros_at-Keeps}
-use Rattle.sc_table.proofs.Options.{Denotes-as}
+use Rattle.sc_table.proofs.Denoting.{Denotes-as}
 use Rattle.sc_table.proofs.PartLemmas.{AreSome-nil, AreDrawn-nil}
 
 swap_eq : (a b : ℕ) → (a == b) ≡ (b == a)

@@ -1,4 +1,4 @@
 pub mod Change
 pub mod Parts
 pub mod Table
-pub mod Variables
+pub mod Start

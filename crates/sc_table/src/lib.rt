@@ -3,11 +3,8 @@
 
 mod change;
 mod entry;
-mod initial;
 mod parts;
 mod start;
 mod table;
 
-pub use initial::defined;
-pub use start::one_item_macro;
 pub use table::MacroTable;

@@ -1,3 +1,9 @@
+ghost use Rattle.sc_model.specs.Growth.{Extends};
+ghost use Rattle.sc_model.specs.Sets.{Sets};
+ghost use Rattle.sc_model.specs.Space.{arities_of};
+ghost use Rattle.sc_space.specs.Seen.{seen_space};
+ghost use Rattle.sc_space.specs.Sound.{IsSound};
+ghost use Rattle.c11_macros.specs.Macros.{initial_macros};
 ghost use Rattle.std.specs.Prelude.{◌≡◌, ℕ, ◌<◌, ◌&&◌, ◌∷◌, ◌↔◌, [], not, true, List, Some, None, All, is_some, length, map, slice_get, IfOk, IfErr, IfSome, OnOk, OnErr, if◌then◌else◌};
 ghost use Rattle.std.specs.Option.{option_map, option_to_list};
 ghost use Rattle.std.specs.Map.{update};
@@ -15,10 +21,12 @@ ghost use Rattle.sc_table.specs.Table.{IsTable, IsMade, macros_at, IsStill, Puts
 use crate::change::{redefinition, with_rest};
 use crate::entry::Entry;
 use crate::parts::union;
+use crate::start::{add_predefined, add_variables};
 use indexmap::IndexMap;
 use sc_base::{Cond, Name, Names, OutOfMemory, Stop};
 use sc_macro::{Definition, is_protected};
 use sc_presence::Conditions;
+use sc_space::Space;
 use std::alloc::Global;
 use std::rc::Rc;
 
@@ -31,6 +39,29 @@ pub struct MacroTable {
 }
 
 impl MacroTable {
+    /// The macros with which the configurations of a space start (C11 6.10.8.1): those of every
+    /// program, and each variable whose option is a number.
+    pub fn start(alloc: Global, space: &Space, names: &mut Names) -> Result<MacroTable, OutOfMemory>
+        requires sound { IsSound (seen_space space.now) }
+        ensures table { IfOk result (λ t. (s : Sets) → s.arities ≡ arities_of (seen_space space.now) → IsTable s names.new t) }
+        ensures initial { IfOk result (λ t. (s : Sets) (c text : List ℕ) → s.arities ≡ arities_of (seen_space space.now) → IsConfig s.arities c
+            → macros_at s names.new t c text ≡ initial_macros (seen_space space.now) c text) }
+        ensures grows { Extends names.old names.new }
+    {
+        let mut table = MacroTable {
+            entries: IndexMap::new(alloc),
+        };
+        add_variables(alloc, names, &mut table, space.variables.as_slice())?;
+        add_predefined(
+            alloc,
+            names,
+            &mut table,
+            space.date.as_str(),
+            space.time.as_str(),
+        )?;
+        Ok(table)
+    }
+
     /// Defines a macro in the configurations of `live`, but for those that define it otherwise.
     /// These are the result: there the definition is refused (C11 6.10.3p1, p2).
     #[tactic(auto, using(sc_model::proofs::SetLemmas::conditions, crate::proofs::Growth::tables))]

@@ -4,7 +4,7 @@ use Rattle.std.specs.List.{list_any}
 use Rattle.sc_model.proofs.SetLemmas.{Keeps-refl, Keeps-trans, Denotes-self, Denotes-Keeps}
 use Rattle.sc_model.specs.Sets.{IsCond}
 use Rattle.sc_table.specs.Parts.{Part, valued}
-use Rattle.sc_table.proofs.Options.{Denotes-as}
+use Rattle.sc_table.proofs.Denoting.{Denotes-as}
 use Rattle.sc_table.proofs.PartLemmas.{each-valued, at-valued, long-valued, take-valued_all}
 use Rattle.sc_table.proofs.parts.union.Goals as goal
 

@@ -1,4 +1,4 @@
-use Rattle.std.proofs.Common.{◌≡◌, ◌∙◌, ◌<◌, false, ◌++◌, ◌∷◌, [], refl, sym, ap, subst, length, map, All, List, ℕ, arith}
+use Rattle.std.proofs.Common.{◌≡◌, ◌∙◌, false, ◌++◌, ◌∷◌, [], sym, ap, subst, map, All, List, arith}
 use Rattle.std.proofs.lemmas.List.Elements.{All-nil, All-cons}
 use Rattle.std.specs.Prelude.{unwrap_or}
 use Rattle.c11_macros.specs.Macros as model

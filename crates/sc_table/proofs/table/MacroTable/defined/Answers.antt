@@ -9,7 +9,7 @@ use Rattle.sc_table.proofs.ChangeLemmas.{any_items}
 use Rattle.sc_guarded.proofs.ItemLemmas.{items_at-Keeps}
 use Rattle.sc_macro.specs.declared.definition.Definition.{Definition}
 use Rattle.sc_table.proofs.Growth.{AreParts-Keeps, IsTable-Keeps, macros_at-Keeps}
-use Rattle.sc_table.proofs.Options.{Denotes-as}
+use Rattle.sc_table.proofs.Denoting.{Denotes-as}
 use Rattle.sc_table.proofs.TableLemmas.{Puts-still, some_macro, always_met, IsTable-same, IsStill-same}
 use Rattle.sc_table.proofs.table.MacroTable.defined.Goals as goal
 

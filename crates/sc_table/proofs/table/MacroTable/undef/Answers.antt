@@ -8,7 +8,7 @@ use Rattle.sc_model.proofs.SetLemmas.{Keeps-refl, Keeps-trans, Denotes-self, IsC
 use Rattle.sc_model.specs.Bytes.{same_bytes}
 use Rattle.sc_table.specs.Table.{macros_at}
 use Rattle.sc_table.proofs.Growth.{IsTable-Keeps, macros_at-Keeps}
-use Rattle.sc_table.proofs.Options.{Denotes-as}
+use Rattle.sc_table.proofs.Denoting.{Denotes-as}
 use Rattle.sc_table.proofs.TableLemmas.{Puts-changed, first_left, and_true, and_false, IsTable-same, IsStill-same, on_err}
 use Rattle.sc_table.proofs.table.MacroTable.undef.Goals as goal
 
