@@ -84,7 +84,7 @@ decision s l _ _ = Err (refusal s l BadDirective)
 -- A relation of a directive to its answer is of one kind, so that only answers of that kind are compared.
 abbrev DefinedAs : Macros → Defined → Option Definition → Result Macros Cause → Type 0
 DefinedAs macros d None r = r ≡ Ok (with_macro macros d)
-DefinedAs macros d (Some other) r = ((other ≡ d.definition) × (r ≡ Ok macros)) ⊎ ((other ≡ d.definition → ⊥) × (r ≡ Err Redefined))
+DefinedAs macros d (Some other) r = ((other ≡ d.definition) × (r ≡ Ok (with_macro macros d))) ⊎ ((other ≡ d.definition → ⊥) × (r ≡ Err Redefined))
 
 defined-as : {macros : Macros} {d : Defined} {r : Result Macros Cause} → Defines macros d r → DefinedAs macros d (macros d.name) r
 defined-as (fresh e) = rw e refl

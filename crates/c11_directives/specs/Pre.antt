@@ -1,5 +1,6 @@
 -- Preprocessing of one configuration (C11 6.10): the walk of a file's groups.
 use Rattle.std.specs.Prelude.{◌≡◌, ℕ, ◌<◌, ◌⊎◌, Bool, true, false, not, List, [], ◌∷◌, ◌++◌, length, map, drop, Option, Some, None, is_some, Result, Ok, Err, if◌then◌else◌}
+use Rattle.std.specs.Map.{update}
 use Rattle.std.specs.Option.{option_map}
 use Rattle.sc_model.specs.declared.cause.Cause.{Cause}
 use Rattle.sc_model.specs.declared.cause.Cause.TheVariants.{NotFound, FileTooLarge, UnterminatedComment, BadNesting, BadDirective, Redefined, ProtectedName}
@@ -92,15 +93,15 @@ decided s line = s
 
 -- the macros with one more, or with another in the place of one
 abbrev pub with_macro : Macros → Defined → Macros
-with_macro macros d name = if same_bytes name d.name then Some d.definition else macros name
+with_macro macros d = update same_bytes macros d.name (Some d.definition)
 
 abbrev pub without_macro : Macros → List ℕ → Macros
-without_macro macros gone name = if same_bytes name gone then None else macros name
+without_macro macros name = update same_bytes macros name None
 
 -- What a definition makes of the macros. A macro is defined again only as it is (6.10.3p2).
 pub data Defines (macros : Macros) (d : Defined) : Result Macros Cause → Type 0 where
   fresh : macros d.name ≡ None → Defines macros d (Ok (with_macro macros d))
-  again : macros d.name ≡ Some d.definition → Defines macros d (Ok macros)
+  again : macros d.name ≡ Some d.definition → Defines macros d (Ok (with_macro macros d))
   redefined : (other : Definition) → macros d.name ≡ Some other → (other ≡ d.definition → ⊥) → Defines macros d (Err Redefined)
 
 -- A macro is taken back by its name (6.10.3.5p2), unless no directive may (6.10.8p4).

@@ -7,7 +7,7 @@ use Rattle.sc_prep.specs.declared.prepared.Prepared.{Prepared}
 use Rattle.sc_prep.specs.Machine.{Machine, plain_by, step_by, step, run}
 use Rattle.sc_prep.specs.Simulates.{IsOutcomeOf, Simulates, SimulatesStep}
 use Rattle.sc_prep.specs.declared.walk.Walk.{Walk}
-use Rattle.c11_macros.specs.Macros.{Macros}
+use Rattle.sc_table.specs.Table.{IsTable}
 use Rattle.sc_lines.specs.declared.line.Line as declared
 use Rattle.sc_lines.specs.Branches.{HasBranches}
 use Rattle.sc_prep.specs.Passes.{StandFor}
@@ -53,12 +53,12 @@ module _ (names files : List (List ℕ)) (tokens : List Token) (lines : List dec
       let within : i < length ms = omega (arith, h, lines-long names tokens lines are files) in
       one-more ms m i within ∙ ap (step (run m (take i ms))) (line-seen names files tokens lines are i d h)
 
-  pub line-simulated : {macros : List ℕ → Macros} {old new : Sets} {walk next : Walk}
-      → SimulatesStep macros names old walk new next (λ files config m. step m (seen_line names files (tokens_of tokens (get_or lines i d))))
-      → (config : List ℕ) → IsConfig old.arities config → Simulates old macros names files walk config (run m (take i (seen_lines names files tokens)))
-      → Simulates new macros names files next config (run m (take (i + 1) (seen_lines names files tokens)))
-  line-simulated {macros} {new = new} {next = next} moved config listed simulates =
-      subst (Simulates new macros names files next config) (sym line-taken) (moved.at files config (run m (take i (seen_lines names files tokens))) listed simulates)
+  pub line-simulated : {old new : Sets} {walk next : Walk}
+      → SimulatesStep names old walk new next (λ files config m. step m (seen_line names files (tokens_of tokens (get_or lines i d))))
+      → (config : List ℕ) → IsConfig old.arities config → IsTable old names walk.table → Simulates old names files walk config (run m (take i (seen_lines names files tokens)))
+      → Simulates new names files next config (run m (take (i + 1) (seen_lines names files tokens)))
+  line-simulated {new = new} {next = next} moved config listed is simulates =
+      subst (Simulates new names files next config) (sym line-taken) (moved.at files config (run m (take i (seen_lines names files tokens))) listed is simulates)
 
 -- the lines of a file stand for its lines seen
 pub lines-stand : (names : List (List ℕ)) (tokens : List Token) (lines : List declared.Line) → AreLines names tokens lines

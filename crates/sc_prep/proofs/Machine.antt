@@ -1,18 +1,23 @@
 -- The walk of one configuration over the lines of a file as they come, and that it is the walk of
 -- their groups.
-use Rattle.std.proofs.Common.{◌≡◌, inl, inr, ℕ, ◌&&◌, not, Bool, true, false, List, [], ◌∷◌, ◌++◌, map, Option, Some, None, Result, Ok, Err, refl, sym, ap, ◌∙◌}
+use Rattle.std.proofs.Common.{◌≡◌, inl, inr, ℕ, ◌&&◌, not, Bool, true, false, List, [], ◌∷◌, ◌++◌, map, Option, Some, None, Result, Ok, Err, refl, sym, ap, ◌∙◌, subst}
 use Rattle.std.specs.Option.{option_map}
 use Rattle.std.specs.Prelude.{is_none, unwrap_or, if◌then◌else◌}
-use Rattle.sc_model.specs.declared.cause.Cause.TheVariants.{BadDirective}
+use Rattle.sc_model.specs.declared.cause.Cause.{Cause}
+use Rattle.sc_model.specs.declared.cause.Cause.TheVariants.{BadDirective, Redefined}
 use Rattle.c11_directives.specs.declared.directive.Conditional.{Conditional}
 use Rattle.c11_directives.specs.declared.directive.Conditional.TheVariants.{If, Ifdef, Ifndef, Elif, Else, Endif}
 use Rattle.c11_directives.specs.declared.directive.Directive.{Directive}
 use Rattle.c11_directives.specs.declared.directive.Directive.TheVariants as directive
 use Rattle.c11_directives.specs.Lines.{Line, DirectiveNames, line_of, hash_of, conditional_in, conditional_of, Group, Branches, empty, plain, section, closing, otherwise, alternative, group_lines, branch_lines, IsGroup, AreBranches, Opens, is_opening}
 use Rattle.sc_model.specs.Fault.{Fault, first_place}
-use Rattle.c11_directives.specs.Pre.{Context, State, place_in, with_text, unexpanded, Closes, closed, RefusedAt, operand_of, Decides, if_defined, if_undefined, no_name, expression, is_ignored, is_refused, Steps, text, null, ignored, unknown, Walks, done, line, line_stops, taken, taken_stops, passed, passed_stops, head_stops, WalksBranches, none_taken, last_taken, later_stops}
+use Rattle.c11_directives.specs.Pre.{Context, State, place_in, with_text, unexpanded, Closes, closed, RefusedAt, operand_of, Decides, if_defined, if_undefined, no_name, expression, with_macro, Defines, fresh, again, redefined, is_barrier, behind_name, Changes, ignored, not_carried_out, defines, defines_nothing, undefines, with_macros, Steps, text, null, changed, not_changed, Walks, done, line, line_stops, taken, taken_stops, passed, passed_stops, head_stops, WalksBranches, none_taken, last_taken, later_stops}
 use Rattle.sc_model.specs.Token.{Token}
-use Rattle.sc_prep.specs.Machine.{Machine, acts, refusal, refusing, acting, turned, opened, opened_by_name, next_branch, ended, closing_run, is_taken, plain_by, plain_step, step_by, step, run}
+use Rattle.c11_macros.specs.Defines.{Defined, reads}
+use Rattle.c11_macros.specs.Macros.{Definition, Macros}
+use Rattle.c11_macros.specs.Same.{same_definition}
+use Rattle.c11_macros.proofs.SameLaws.{same_definition-true, same_definition-false}
+use Rattle.sc_prep.specs.Machine.{Machine, acts, refusal, refusing, acting, turned, opened, opened_by_name, next_branch, ended, closing_run, is_taken, defined_over, defined_as, changed_by, changing, plain_by, plain_step, step_by, step, run}
 
 pub run-append : (m : Machine) (xs ys : List Line) → run m (xs ++ ys) ≡ run (run m xs) ys
 run-append m [] ys = refl
@@ -55,8 +60,8 @@ hashes-parts : (xs ys : List Line) → HaveHashes (xs ++ ys) → HaveHashes xs �
 hashes-parts [] ys have = (tt, have)
 hashes-parts (x ∷ xs) ys have = let parts = hashes-parts xs ys have.1 in ((have.0, parts.0), parts.1)
 
-refused_at : (s : State) (l : Line) → HasHash l → (l.directive ≡ None → ⊥) → RefusedAt s l BadDirective (refusal s l)
-refused_at s l has some =
+refused_at : (s : State) (l : Line) (cause : Cause) → HasHash l → (l.directive ≡ None → ⊥) → RefusedAt s l cause (refusal s l cause)
+refused_at s l cause has some =
     let hash = has some in
     let at : option_map (place_in s) (hash_of l) ≡ Some (place_in s hash.0) = ap (option_map (place_in s)) hash.1 in
     record { cause_is = refl; place_is = at ∙ sym (ap (λ o. Some (unwrap_or o (first_place []))) at) }
@@ -66,23 +71,26 @@ conditional-some l named none = let same = ap conditional_in none in cc
 
 -- ---- lines that are not taken, or that follow a fault, do nothing
 
-pub inert_refusing : (m : Machine) (l : Line) → acts m ≡ false → refusing m l ≡ m
-inert_refusing m l e = ap (λ b. record m { fault = if b then Some (refusal m.state l) else m.fault }) e
+pub inert_refusing : (m : Machine) (l : Line) (cause : Cause) → acts m ≡ false → refusing m l cause ≡ m
+inert_refusing m l cause e = ap (λ b. record m { fault = if b then Some (refusal m.state l cause) else m.fault }) e
 
 pub inert_acting : (m : Machine) (next : State → State) → acts m ≡ false → acting m next ≡ m
 inert_acting m next e = ap (λ b. record m { state = if b then next m.state else m.state }) e
 
+pub inert_changing : (m : Machine) (l : Line) (r : Result Macros Cause) → acts m ≡ false → changing m l r ≡ m
+inert_changing m l (Ok macros) e = inert_acting m (λ s. with_macros (closing_run s) macros) e
+inert_changing m l (Err cause) e = inert_refusing m l cause e
+
 pub inert_plain : (m : Machine) (l : Line) → acts m ≡ false → plain_step m l ≡ m
 inert_plain m l e = by l.directive
   where
-    chosen : (a b : Bool) → (if a then refusing m l else (if b then acting m closing_run else m)) ≡ m
-    chosen true b = inert_refusing m l e
-    chosen false true = inert_acting m closing_run e
-    chosen false false = refl
+    barred : (r : Result Macros Cause) (b : Bool) → (if b then changing m l r else m) ≡ m
+    barred r true = inert_changing m l r e
+    barred r false = refl
 
     by : (d : Option Directive) → plain_by m l d ≡ m
     by None = inert_acting m (λ s. with_text s l) e
-    by (Some d) = chosen (is_refused d) (is_ignored d)
+    by (Some d) = barred (changed_by m.state.macros l d) (is_barrier d)
 
 -- a section's first line that does nothing only opens the section
 pub record OpensInert (m : Machine) (l : Line) : Type 0 where
@@ -90,11 +98,11 @@ pub record OpensInert (m : Machine) (l : Line) : Type 0 where
   pub opens : step m l ≡ opened m test
 
 inert_by_name : (m : Machine) (l : Line) (test : List ℕ → Bool) (operand : Option (List ℕ)) → acts m ≡ false → (b : Bool) × (opened_by_name m l test operand ≡ opened m b)
-inert_by_name m l test None e = (false, ap (λ n. opened n false) (inert_refusing m l e))
+inert_by_name m l test None e = (false, ap (λ n. opened n false) (inert_refusing m l BadDirective e))
 inert_by_name m l test (Some name) e = (test name, refl)
 
 inert_opens_by : (m : Machine) (l : Line) (c : Conditional) → is_opening c ≡ true → acts m ≡ false → (b : Bool) × (step_by m l (Some c) ≡ opened m b)
-inert_opens_by m l If o e = (false, ap (λ n. opened n false) (inert_refusing m l e))
+inert_opens_by m l If o e = (false, ap (λ n. opened n false) (inert_refusing m l BadDirective e))
 inert_opens_by m l Ifdef o e = inert_by_name m l (is_taken m.state.macros true) (operand_of l) e
 inert_opens_by m l Ifndef o e = inert_by_name m l (is_taken m.state.macros false) (operand_of l) e
 inert_opens_by m l Elif o e = cc
@@ -141,7 +149,7 @@ mutual
       ∙ step_is turn l w.2))
   inert_branches (alternative h g bs) w a u ss m s e =
       let turn = turned m u ((a, false) ∷ ss) in
-      ap (λ n. run n (group_lines g ++ branch_lines bs)) (step_is m h w.0 ∙ (ap (λ n. refusing n h) (ap (next_branch m) s) ∙ inert_refusing turn h e))
+      ap (λ n. run n (group_lines g ++ branch_lines bs)) (step_is m h w.0 ∙ (ap (λ n. refusing n h BadDirective) (ap (next_branch m) s) ∙ inert_refusing turn h BadDirective e))
       ∙ (run-append turn (group_lines g) (branch_lines bs)
       ∙ (ap (λ n. run n (branch_lines bs)) (inert g w.1 turn e)
       ∙ inert_branches bs w.2 a false ss turn refl refl))
@@ -151,8 +159,8 @@ mutual
 abbrev pub outcome : Machine → State × Option Fault
 outcome m = (m.state, m.fault)
 
-refusing_same : (m : Machine) (l : Line) → is_none m.fault ≡ false → outcome (refusing m l) ≡ outcome m
-refusing_same m l e = ap outcome (inert_refusing m l (and_false_right m.active (is_none m.fault) e))
+refusing_same : (m : Machine) (l : Line) → is_none m.fault ≡ false → outcome (refusing m l BadDirective) ≡ outcome m
+refusing_same m l e = ap outcome (inert_refusing m l BadDirective (and_false_right m.active (is_none m.fault) e))
 
 opened_by_name_same : (m : Machine) (l : Line) (test : List ℕ → Bool) (operand : Option (List ℕ)) → is_none m.fault ≡ false → outcome (opened_by_name m l test operand) ≡ outcome m
 opened_by_name_same m l test None e = refusing_same m l e
@@ -215,11 +223,11 @@ module _ (context : Context) where
 
   opens_by_name : (l : Line) (s : State) (test : List ℕ → Bool)
       → ((name : List ℕ) → operand_of l ≡ Some name → Decides context s l (Ok (test name)))
-      → (operand_of l ≡ None → Decides context s l (Err (refusal s l)))
+      → (operand_of l ≡ None → Decides context s l (Err (refusal s l BadDirective)))
       → ((ss : List (Bool × Bool)) → step (taking ss s) l ≡ opened_by_name (taking ss s) l test (operand_of l))
       → (operand : Option (List ℕ)) → operand_of l ≡ operand → OpensTaken l s
   opens_by_name l s test some none steps None e = record {
-    says = Err (refusal s l);
+    says = Err (refusal s l BadDirective);
     decides = none e;
     opens = λ ss. steps ss ∙ ap (opened_by_name (taking ss s) l test) e;
   }
@@ -231,14 +239,14 @@ module _ (context : Context) where
 
   opens_taken_by : (l : Line) (s : State) → HasHash l → (c : Conditional) → conditional_of l ≡ Some c → is_opening c ≡ true → OpensTaken l s
   opens_taken_by l s has If n o = record {
-    says = Err (refusal s l);
-    decides = expression (refusal s l) (inl n) (refused_at s l has (conditional-some l n));
+    says = Err (refusal s l BadDirective);
+    decides = expression (refusal s l BadDirective) (inl n) (refused_at s l BadDirective has (conditional-some l n));
     opens = λ ss. step_is (taking ss s) l n;
   }
   opens_taken_by l s has Ifdef n o =
-      opens_by_name l s (is_taken s.macros true) (λ name e. if_defined name n e) (λ e. no_name (refusal s l) (inl n) e (refused_at s l has (conditional-some l n))) (λ ss. step_is (taking ss s) l n) (operand_of l) refl
+      opens_by_name l s (is_taken s.macros true) (λ name e. if_defined name n e) (λ e. no_name (refusal s l BadDirective) (inl n) e (refused_at s l BadDirective has (conditional-some l n))) (λ ss. step_is (taking ss s) l n) (operand_of l) refl
   opens_taken_by l s has Ifndef n o =
-      opens_by_name l s (is_taken s.macros false) (λ name e. if_undefined name n e) (λ e. no_name (refusal s l) (inr n) e (refused_at s l has (conditional-some l n))) (λ ss. step_is (taking ss s) l n) (operand_of l) refl
+      opens_by_name l s (is_taken s.macros false) (λ name e. if_undefined name n e) (λ e. no_name (refusal s l BadDirective) (inr n) e (refused_at s l BadDirective has (conditional-some l n))) (λ ss. step_is (taking ss s) l n) (operand_of l) refl
   opens_taken_by l s has Elif n o = cc
   opens_taken_by l s has Else n o = cc
   opens_taken_by l s has Endif n o = cc
@@ -281,24 +289,58 @@ module _ (context : Context) where
   closes : (s : State) → Closes s (Ok (closing_run s))
   closes s = closed s.run unexpanded
 
-  plain_refused : (l : Line) (s : State) → HasHash l → (d : Directive) → l.directive ≡ Some d → is_refused d ≡ true → PlainFollows l s
-  plain_refused l s has d e r = record {
+  -- what a definition makes of the macros
+  defines_over : (macros : Macros) (d : Defined) (found : Option Definition) → macros d.name ≡ found → Defines macros d (defined_over macros d found)
+  defines_over macros d None e = fresh e
+  defines_over macros d (Some other) e = by (same_definition other d.definition) refl
+    where
+      by : (b : Bool) → same_definition other d.definition ≡ b → Defines macros d (if b then Ok (with_macro macros d) else Err Redefined)
+      by true same = again (e ∙ ap Some (same_definition-true other d.definition same))
+      by false differ = redefined other e (same_definition-false other d.definition differ)
+
+  defines_as : (macros : Macros) (l : Line) (r : Result Defined Cause) → reads (behind_name l) ≡ r → Changes macros l directive.Define (defined_as macros r)
+  defines_as macros l (Ok d) e = defines d e (defines_over macros d (macros d.name) refl)
+  defines_as macros l (Err cause) e = defines_nothing cause e
+
+  changes : (macros : Macros) (l : Line) (d : Directive) → is_barrier d ≡ true → Changes macros l d (changed_by macros l d)
+  changes macros l (directive.Conditional c) b = cc
+  changes macros l directive.Include b = not_carried_out refl
+  changes macros l directive.Define b = defines_as macros l (reads (behind_name l)) refl
+  changes macros l directive.Undef b = undefines
+  changes macros l directive.Line b = not_carried_out refl
+  changes macros l directive.Error b = not_carried_out refl
+  changes macros l directive.Pragma b = ignored refl
+  changes macros l directive.Warning b = ignored refl
+  changes macros l directive.Null b = cc
+  changes macros l directive.Unknown b = not_carried_out refl
+
+  barrier_follows : (l : Line) (s : State) → HasHash l → (d : Directive) → l.directive ≡ Some d → is_barrier d ≡ true → (r : Result Macros Cause) → changed_by s.macros l d ≡ r → PlainFollows l s
+  barrier_follows l s has d e b (Ok macros) r = record {
+    end = with_macros (closing_run s) macros;
+    fault = None;
+    walks = changed d (closing_run s) macros e b (closes s) (subst (Changes s.macros l d) r (changes s.macros l d b));
+    machine = λ ss. ap (plain_by (taking ss s) l) e ∙ (ap (λ t. if t then changing (taking ss s) l (changed_by s.macros l d) else taking ss s) b ∙ ap (changing (taking ss s) l) r);
+  }
+  barrier_follows l s has d e b (Err cause) r = record {
     end = s;
-    fault = Some (refusal s l);
-    walks = unknown d (closing_run s) (refusal s l) e r (closes s) (refused_at (closing_run s) l has (λ none. let both = sym e ∙ none in cc));
-    machine = λ ss. ap (plain_by (taking ss s) l) e ∙ ap (λ b. if b then refusing (taking ss s) l else (if is_ignored d then acting (taking ss s) closing_run else taking ss s)) r;
+    fault = Some (refusal s l cause);
+    walks = not_changed d (closing_run s) cause (refusal s l cause) e b (closes s) (subst (Changes s.macros l d) r (changes s.macros l d b))
+        (refused_at (closing_run s) l cause has (λ none. let both = sym e ∙ none in cc));
+    machine = λ ss. ap (plain_by (taking ss s) l) e ∙ (ap (λ t. if t then changing (taking ss s) l (changed_by s.macros l d) else taking ss s) b ∙ ap (changing (taking ss s) l) r);
   }
 
-  plain_ignored : (l : Line) (s : State) (d : Directive) → l.directive ≡ Some d → is_refused d ≡ false → is_ignored d ≡ true → PlainFollows l s
-  plain_ignored l s d e r i = record {
-    end = closing_run s;
-    fault = None;
-    walks = ignored d (closing_run s) e i (closes s);
-    machine = λ ss.
-        ap (plain_by (taking ss s) l) e
-        ∙ (ap (λ b. if b then refusing (taking ss s) l else (if is_ignored d then acting (taking ss s) closing_run else taking ss s)) r
-        ∙ ap (λ b. if b then acting (taking ss s) closing_run else taking ss s) i);
-  }
+  directive_follows : (l : Line) (s : State) → HasHash l → conditional_of l ≡ None → (d : Directive) → l.directive ≡ Some d → (b : Bool) → is_barrier d ≡ b → PlainFollows l s
+  directive_follows l s has none d e true b = barrier_follows l s has d e b (changed_by s.macros l d) refl
+  directive_follows l s has none (directive.Conditional c) e false b = let some = ap conditional_in e in cc
+  directive_follows l s has none directive.Null e false b = record { end = s; fault = None; walks = null e; machine = λ ss. ap (plain_by (taking ss s) l) e }
+  directive_follows l s has none directive.Include e false b = cc
+  directive_follows l s has none directive.Define e false b = cc
+  directive_follows l s has none directive.Undef e false b = cc
+  directive_follows l s has none directive.Line e false b = cc
+  directive_follows l s has none directive.Error e false b = cc
+  directive_follows l s has none directive.Pragma e false b = cc
+  directive_follows l s has none directive.Warning e false b = cc
+  directive_follows l s has none directive.Unknown e false b = cc
 
   plain_follows_by : (l : Line) (s : State) → HasHash l → conditional_of l ≡ None → (d : Option Directive) → l.directive ≡ d → PlainFollows l s
   plain_follows_by l s has none None e = record {
@@ -307,16 +349,7 @@ module _ (context : Context) where
     walks = text e;
     machine = λ ss. ap (plain_by (taking ss s) l) e;
   }
-  plain_follows_by l s has none (Some (directive.Conditional c)) e = let some = ap conditional_in e in cc
-  plain_follows_by l s has none (Some directive.Include) e = plain_refused l s has directive.Include e refl
-  plain_follows_by l s has none (Some directive.Define) e = plain_refused l s has directive.Define e refl
-  plain_follows_by l s has none (Some directive.Undef) e = plain_refused l s has directive.Undef e refl
-  plain_follows_by l s has none (Some directive.Line) e = plain_refused l s has directive.Line e refl
-  plain_follows_by l s has none (Some directive.Error) e = plain_refused l s has directive.Error e refl
-  plain_follows_by l s has none (Some directive.Pragma) e = plain_ignored l s directive.Pragma e refl refl
-  plain_follows_by l s has none (Some directive.Warning) e = plain_ignored l s directive.Warning e refl refl
-  plain_follows_by l s has none (Some directive.Null) e = record { end = s; fault = None; walks = null e; machine = λ ss. ap (plain_by (taking ss s) l) e }
-  plain_follows_by l s has none (Some directive.Unknown) e = plain_refused l s has directive.Unknown e refl
+  plain_follows_by l s has none (Some d) e = directive_follows l s has none d e (is_barrier d) refl
 
   -- a section as its first line says
   section_follows : (h : Line) (g : Group) (bs : Branches) (rest : Group) (s : State) → IsGroup (section h g bs rest) → (says : Result Bool Fault) → Decides context s h says
@@ -386,10 +419,10 @@ module _ (context : Context) where
         }
     follows_branches (alternative h g bs) w has s = record {
       end = s;
-      fault = Some (refusal s h);
-      walks = later_stops (refusal s h) (expression (refusal s h) (inr w.0) (refused_at s h has.0 (conditional-some h w.0)));
+      fault = Some (refusal s h BadDirective);
+      walks = later_stops (refusal s h BadDirective) (expression (refusal s h BadDirective) (inr w.0) (refused_at s h BadDirective has.0 (conditional-some h w.0)));
       machine = λ active ss.
-          let told : Machine = record { active = true; sections = (true, false) ∷ ss; state = s; fault = Some (refusal s h) } in
+          let told : Machine = record { active = true; sections = (true, false) ∷ ss; state = s; fault = Some (refusal s h BadDirective) } in
           ap (λ m. run m (group_lines g ++ branch_lines bs)) (step_is (untaken active ss s) h w.0)
           ∙ (run-append told (group_lines g) (branch_lines bs)
           ∙ (ap (λ m. run m (branch_lines bs)) (inert g w.1 told refl)

@@ -14,6 +14,7 @@ use Rattle.sc_lines.specs.declared.line.Line as declared
 use Rattle.sc_lines.specs.Branches.{begins_branch, ends_branch, IsNextBranch, ClosesAt, last_branch, more_branches, IsBranchOf, HasBranch}
 use Rattle.sc_lines.specs.Judges.{no_line, line_at}
 use Rattle.sc_lines.proofs.Judging.{same_at, same_length}
+use Rattle.sc_model.specs.declared.cause.Cause.TheVariants.{BadDirective}
 use Rattle.sc_prep.specs.Machine.{Machine, acts, turned, opened, next_branch, ended, refusing, step, run}
 use Rattle.sc_prep.specs.Passes.{StandFor, EndsAt, PassesOver, nothing, whole_group, plain_line, whole_section}
 use Rattle.sc_prep.proofs.Machine.{run-append, step_is, inert, inert_refusing, inert_plain, inert_opens, and_false}
@@ -28,7 +29,7 @@ branch-inert m l (Some If) a u ss e begins ends s inactive = cc
 branch-inert m l (Some Ifdef) a u ss e begins ends s inactive = cc
 branch-inert m l (Some Ifndef) a u ss e begins ends s inactive = cc
 branch-inert m l (Some Elif) a u ss e begins ends s inactive =
-    step_is m l e ∙ (ap (λ n. refusing n l) (ap (next_branch m) s) ∙ inert_refusing (turned m u ((a, false) ∷ ss)) l inactive)
+    step_is m l e ∙ (ap (λ n. refusing n l BadDirective) (ap (next_branch m) s) ∙ inert_refusing (turned m u ((a, false) ∷ ss)) l BadDirective inactive)
 branch-inert m l (Some Else) a u ss e begins ends s inactive = step_is m l e ∙ ap (next_branch m) s
 branch-inert m l (Some Endif) a u ss e begins ends s inactive = cc
 

@@ -3,26 +3,40 @@ use Rattle.std.proofs.Common.{◌≡◌, ℕ, ◌&&◌, not, Bool, true, false, 
 use Rattle.std.proofs.lemmas.List.{reverse-append, map-append}
 use Rattle.std.proofs.lemmas.List.Elements.{All-head, All-tail, All-push, All-pop, All-append, All-map, All-weaker}
 use Rattle.std.specs.Option.{option_to_list}
-use Rattle.std.specs.Prelude.{All, is_none, if◌then◌else◌}
-use Rattle.sc_model.specs.declared.cause.Cause.TheVariants.{BadDirective}
+use Rattle.std.specs.Prelude.{All, is_none, is_some, if◌then◌else◌}
+use Rattle.sc_model.specs.declared.cause.Cause.{Cause}
+use Rattle.sc_table.specs.declared.table.MacroTable.{MacroTable}
+use Rattle.sc_table.specs.Change.{IsOther}
+use Rattle.sc_table.specs.Table.{IsTable, IsStill, macros_at}
+use Rattle.sc_table.proofs.Growth.{IsTable-Keeps, macros_at-Extends, macros_at-Keeps}
 use Rattle.sc_base.specs.declared.fault.Fault as base
 use Rattle.sc_base.specs.declared.id.Cond.{Cond}
 use Rattle.sc_prep.specs.declared.walk.Section.{Section}
 use Rattle.sc_prep.specs.declared.walk.Walk.{Walk}
-use Rattle.sc_prep.specs.Machine.{Machine, acts, acting, opened, next_branch, ended, turned, refusing, refusal, closing_run, plain_by}
-use Rattle.sc_prep.specs.Simulates.{section_at, Simulates, OwnsSection, Owns, SimulatesStep}
+use Rattle.sc_prep.specs.Machine.{Machine, acts, acting, opened, next_branch, ended, turned, refusing, refusing_if, refusal, acting_unless, changing, closing_run, defined_as, defined_over, is_taken, plain_by}
+use Rattle.sc_prep.specs.Simulates.{section_at, IsBegun, Simulates, OwnsSection, Owns, SimulatesStep}
 use Rattle.sc_lines.specs.Nests.{seen_line}
-use Rattle.c11_directives.specs.Pre.{State, with_text, is_ignored, is_refused}
+use Rattle.std.specs.Map.{update}
+use Rattle.std.specs.Prelude.{◌↔◌, cond, Result, Ok, Err}
+use Rattle.sc_model.specs.declared.cause.Cause.TheVariants.{BadDirective, Redefined, ProtectedName}
+use Rattle.sc_model.specs.Bytes.{same_bytes}
 use Rattle.c11_directives.specs.declared.directive.Directive.{Directive}
-use Rattle.c11_macros.specs.Macros.{Macros}
+use Rattle.c11_directives.specs.declared.directive.Directive.TheVariants as directive
+use Rattle.c11_directives.specs.Pre.{State, initial_state, with_text, undefined, with_macro, without_macro, with_macros, is_refused}
+use Rattle.c11_macros.specs.Defines.{Defined, is_protected}
+use Rattle.c11_macros.specs.Same.{same_definition}
+use Rattle.c11_macros.proofs.SameLaws.{same_definition-true, same_definition-false}
+use Rattle.c11_macros.specs.Macros.{Definition, Macros, initial_macros}
 use Rattle.c11_directives.specs.Lines.{Line}
 use Rattle.sc_guarded.proofs.ItemLemmas.{under, map-one, items_at-append, items_at-Keeps, items_at-under, faults_at-append, faults_at-Keeps}
 use Rattle.sc_guarded.specs.Items.{items_at, faults_at, seen_fault}
 use Rattle.sc_base.specs.declared.token.Token.{Token}
 use Rattle.sc_base.specs.Seen.{seen}
 use Rattle.sc_model.proofs.SetLemmas.{IsConfig-Keeps}
+use Rattle.sc_model.specs.Growth.{Extends}
+use Rattle.sc_model.specs.Space.{Space}
 use Rattle.sc_model.specs.Sets.{Sets, IsConfig, IsCond, IsNever, Denotes, Keeps}
-use Rattle.sc_prep.proofs.Machine.{inert_acting, inert_refusing}
+use Rattle.sc_prep.proofs.Machine.{inert_acting, inert_changing}
 
 map-reverse : {A B : Type 0} (f : A → B) (xs : List A) → map f (reverse xs) ≡ reverse (map f xs)
 map-reverse f [] = refl
@@ -64,8 +78,9 @@ module _ {old new : Sets} (keeps : Keeps old new) where
     sections-kept : (xs : List Section) → All (OwnsSection old) xs → map (section_at new config) (reverse xs) ≡ map (section_at old config) (reverse xs)
     sections-kept xs all = map-reverse (section_at new config) xs ∙ (ap reverse (sections-by xs all) ∙ sym (map-reverse (section_at old config) xs))
 
-  pub simulates-kept : (w : Walk) → Owns old w → (macros : List ℕ → Macros) (names files : List (List ℕ)) (config : List ℕ) (m : Machine) → IsConfig old.arities config → Simulates old macros names files w config m → Simulates new macros names files w config m
-  simulates-kept w owns macros names files config m listed simulates = record {
+  pub simulates-kept : (w : Walk) → Owns old w → (names files : List (List ℕ)) (config : List ℕ) (m : Machine) → IsConfig old.arities config → IsTable old names w.table
+      → Simulates old names files w config m → Simulates new names files w config m
+  simulates-kept w owns names files config m listed is simulates = record {
     active = keeps.at w.group.0 config owns.group listed ∙ simulates.active;
     acting = keeps.at w.acting.0 config owns.acting listed ∙ simulates.acting;
     sections = sections-kept config listed w.sections.items owns.sections ∙ simulates.sections;
@@ -74,18 +89,24 @@ module _ {old new : Sets} (keeps : Keeps old new) where
       output = ap (map (seen names files)) (items_at-Keeps w.prepared.list config keeps owns.prepared.list listed) ∙ simulates.prepared.output;
       fault = ap (map (seen_fault files)) (faults_at-Keeps w.prepared.faults.items config keeps owns.prepared.faults listed) ∙ simulates.prepared.fault;
     };
-    macros_are = simulates.macros_are;
+    macros = λ name. macros_at-Keeps keeps is config name listed ∙ simulates.macros name;
   }
+
+-- ---- the walk begins
+
+pub begins-as : {s : Sets} {names more : List (List ℕ)} {table : MacroTable} (space : Space) (main config : List ℕ) → Extends names more → IsTable s names table
+    → ((name : List ℕ) → macros_at s names table config name ≡ initial_macros space config name) → IsBegun s more table config (initial_state space main config)
+begins-as space main config grows is initial = record { macros = λ name. macros_at-Extends grows is config name ∙ initial name; empty = refl }
 
 -- ---- a section begins
 
-pub begins : (macros : List ℕ → Macros) (names : List (List ℕ)) {old new : Sets} (keeps : Keeps old new) (w : Walk) (owns : Owns old w) (t : List ℕ → Bool) (group untaken acting : Cond) (sections : Vec Section Global)
+pub begins : (names : List (List ℕ)) {old new : Sets} (keeps : Keeps old new) (w : Walk) (owns : Owns old w) (t : List ℕ → Bool) (group untaken acting : Cond) (sections : Vec Section Global)
     → sections.items ≡ w.sections.items ++ record { around = w.group; untaken = untaken } ∷ []
     → Denotes new group.0 (λ c. old.has w.group.0 c && t c)
     → Denotes new untaken.0 (λ c. old.has w.group.0 c && not (t c))
     → Denotes new acting.0 (λ c. (old.has w.group.0 c && t c) && old.has w.prepared.live.0 c)
-    → SimulatesStep macros names old w new (record w { group = group; acting = acting; sections = sections }) (λ files config m. opened m (t config))
-begins macros names {old} {new} keeps w owns t group untaken acting sections items dg du dl =
+    → SimulatesStep names old w new (record w { group = group; acting = acting; sections = sections }) (λ files config m. opened m (t config))
+begins names {old} {new} keeps w owns t group untaken acting sections items dg du dl =
     let kept = owns-kept keeps w owns in
     record {
       owns = record {
@@ -94,9 +115,10 @@ begins macros names {old} {new} keeps w owns t group untaken acting sections ite
         sections = subst (All (OwnsSection new)) (sym items) (All-push (OwnsSection new) w.sections.items (record { around = w.group; untaken = untaken }) kept.sections (record { around = kept.group; untaken = du.own }));
         prepared = kept.prepared;
       };
-      at = λ files config m listed simulates.
+      table = IsTable-Keeps keeps;
+      at = λ files config m listed is simulates.
           let now : IsConfig new.arities config = IsConfig-Keeps keeps listed in
-          let same = simulates-kept keeps w owns macros names files config m listed simulates in
+          let same = simulates-kept keeps w owns names files config m listed is simulates in
           record {
             active = dg.at config now ∙ ap (λ b. b && t config) simulates.active;
             acting = dl.at config now ∙ (ap (λ b. (b && t config) && old.has w.prepared.live.0 config) simulates.active ∙ ap (λ b. (m.active && t config) && b) simulates.prepared.live);
@@ -107,7 +129,7 @@ begins macros names {old} {new} keeps w owns t group untaken acting sections ite
                 ∙ (ap (λ b. (b, new.has untaken.0 config) ∷ m.sections) same.active
                 ∙ ap (λ b. (m.active, b) ∷ m.sections) (du.at config now ∙ ap (λ b. b && not (t config)) simulates.active))));
             prepared = record { live = same.prepared.live; output = same.prepared.output; fault = same.prepared.fault };
-            macros_are = same.macros_are;
+            macros = same.macros;
           };
     }
 
@@ -120,132 +142,154 @@ module _ {old new : Sets} (keeps : Keeps old new) (w : Walk) (owns : Owns old w)
   pub owns-innermost : OwnsSection old section
   owns-innermost = (All-pop (OwnsSection old) w.sections.items rest (Some section) popped owns.sections).1
 
-  innermost : (macros : List ℕ → Macros) (names files : List (List ℕ)) (config : List ℕ) (m : Machine) → Simulates old macros names files w config m
+  innermost : (names files : List (List ℕ)) (config : List ℕ) (m : Machine) → Simulates old names files w config m
       → section_at old config section ∷ map (section_at old config) (reverse rest) ≡ m.sections
-  innermost macros names files config m simulates =
+  innermost names files config m simulates =
       sym (sections-push old config rest section) ∙ (ap (λ xs. map (section_at old config) (reverse xs)) (sym popped) ∙ simulates.sections)
 
   -- The walk goes on in one of the section's groups.
-  turns : (macros : List ℕ → Macros) (names : List (List ℕ)) (group acting : Cond) (sections : Vec Section Global) → IsCond old group.0
+  turns : (names : List (List ℕ)) (group acting : Cond) (sections : Vec Section Global) → IsCond old group.0
       → Denotes new acting.0 (λ c. old.has group.0 c && old.has w.prepared.live.0 c) → All (OwnsSection new) sections.items → (next : Machine → Machine)
-      → ((files : List (List ℕ)) (config : List ℕ) (m : Machine) → IsConfig old.arities config → Simulates old macros names files w config m
+      → ((files : List (List ℕ)) (config : List ℕ) (m : Machine) → IsConfig old.arities config → IsTable old names w.table → Simulates old names files w config m
       → turned m (old.has group.0 config) (map (section_at new config) (reverse sections.items)) ≡ next m)
-      → SimulatesStep macros names old w new (record w { group = group; acting = acting; sections = sections }) (λ files config m. next m)
-  turns macros names group acting sections own dl owned next is =
+      → SimulatesStep names old w new (record w { group = group; acting = acting; sections = sections }) (λ files config m. next m)
+  turns names group acting sections own dl owned next becomes =
       let kept = owns-kept keeps w owns in
       record {
         owns = record { group = keeps.own group.0 own; acting = dl.own; sections = owned; prepared = kept.prepared };
-        at = λ files config m listed simulates.
-            let same = simulates-kept keeps w owns macros names files config m listed simulates in
-            subst (Simulates new macros names files (record w { group = group; acting = acting; sections = sections }) config) (is files config m listed simulates)
+        table = IsTable-Keeps keeps;
+        at = λ files config m listed is simulates.
+            let same = simulates-kept keeps w owns names files config m listed is simulates in
+            subst (Simulates new names files (record w { group = group; acting = acting; sections = sections }) config) (becomes files config m listed is simulates)
             (record {
               active = keeps.at group.0 config own listed;
               acting = dl.at config (IsConfig-Keeps keeps listed) ∙ ap (λ b. old.has group.0 config && b) simulates.prepared.live;
               sections = refl;
               prepared = record { live = same.prepared.live; output = same.prepared.output; fault = same.prepared.fault };
-              macros_are = same.macros_are;
+              macros = same.macros;
             });
       }
 
   -- The next branch begins.
-  pub branches : (macros : List ℕ → Macros) (names : List (List ℕ)) (never acting : Cond) (sections : Vec Section Global) → sections.items ≡ rest ++ record { around = section.around; untaken = never } ∷ []
+  pub branches : (names : List (List ℕ)) (never acting : Cond) (sections : Vec Section Global) → sections.items ≡ rest ++ record { around = section.around; untaken = never } ∷ []
       → Denotes new never.0 (λ _. false) → Denotes new acting.0 (λ c. old.has section.untaken.0 c && old.has w.prepared.live.0 c)
-      → SimulatesStep macros names old w new (record w { group = section.untaken; acting = acting; sections = sections }) (λ files config m. next_branch m m.sections)
-  branches macros names never acting sections items dn dl =
+      → SimulatesStep names old w new (record w { group = section.untaken; acting = acting; sections = sections }) (λ files config m. next_branch m m.sections)
+  branches names never acting sections items dn dl =
       let taken : Section = record { around = section.around; untaken = never } in
-      turns macros names section.untaken acting sections owns-innermost.untaken dl
+      turns names section.untaken acting sections owns-innermost.untaken dl
       (subst (All (OwnsSection new)) (sym items) (All-push (OwnsSection new) rest taken
       (All-weaker (OwnsSection old) (OwnsSection new) (section-kept keeps) rest owns-rest) (record { around = keeps.own section.around.0 owns-innermost.around; untaken = dn.own })))
       (λ m. next_branch m m.sections)
-      (λ files config m listed simulates.
+      (λ files config m listed is simulates.
       ap (λ ss. turned m (old.has section.untaken.0 config) ss)
       (ap (λ xs. map (section_at new config) (reverse xs)) items
       ∙ (sections-push new config rest taken
       ∙ (ap (λ ss. (new.has section.around.0 config, new.has never.0 config) ∷ ss) (sections-kept keeps config listed rest owns-rest)
       ∙ (ap (λ b. (b, new.has never.0 config) ∷ map (section_at old config) (reverse rest)) (keeps.at section.around.0 config owns-innermost.around listed)
       ∙ ap (λ b. (old.has section.around.0 config, b) ∷ map (section_at old config) (reverse rest)) (dn.at config (IsConfig-Keeps keeps listed))))))
-      ∙ ap (next_branch m) (innermost macros names files config m simulates))
+      ∙ ap (next_branch m) (innermost names files config m simulates))
 
   -- The section ends.
-  pub ends : (macros : List ℕ → Macros) (names : List (List ℕ)) (acting : Cond) (sections : Vec Section Global) → sections.items ≡ rest
+  pub ends : (names : List (List ℕ)) (acting : Cond) (sections : Vec Section Global) → sections.items ≡ rest
       → Denotes new acting.0 (λ c. old.has section.around.0 c && old.has w.prepared.live.0 c)
-      → SimulatesStep macros names old w new (record w { group = section.around; acting = acting; sections = sections }) (λ files config m. ended m m.sections)
-  ends macros names acting sections items dl =
-      turns macros names section.around acting sections owns-innermost.around dl
+      → SimulatesStep names old w new (record w { group = section.around; acting = acting; sections = sections }) (λ files config m. ended m m.sections)
+  ends names acting sections items dl =
+      turns names section.around acting sections owns-innermost.around dl
       (subst (All (OwnsSection new)) (sym items) (All-weaker (OwnsSection old) (OwnsSection new) (section-kept keeps) rest owns-rest))
       (λ m. ended m m.sections)
-      (λ files config m listed simulates.
+      (λ files config m listed is simulates.
       ap (λ ss. turned m (old.has section.around.0 config) ss) (ap (λ xs. map (section_at new config) (reverse xs)) items ∙ sections-kept keeps config listed rest owns-rest)
-      ∙ ap (ended m) (innermost macros names files config m simulates))
+      ∙ ap (ended m) (innermost names files config m simulates))
 
 -- ---- a refusal
 
-live_after : {F : Type 0} (a : Bool) (f : Option F) (x : F) → (is_none f && not (a && is_none f)) ≡ is_none (if a && is_none f then Some x else f)
-live_after true None x = refl
-live_after true (Some y) x = refl
-live_after false None x = refl
-live_after false (Some y) x = refl
+live_after : {F : Type 0} (t a : Bool) (f : Option F) (x : F) → (is_none f && not (t && (a && is_none f))) ≡ is_none (if t && (a && is_none f) then Some x else f)
+live_after true true None x = refl
+live_after true true (Some y) x = refl
+live_after true false None x = refl
+live_after true false (Some y) x = refl
+live_after false a None x = refl
+live_after false a (Some y) x = refl
 
-acting_after : {F : Type 0} (a : Bool) (f : Option F) (x : F) → false ≡ (a && is_none (if a && is_none f then Some x else f))
-acting_after true None x = refl
-acting_after true (Some y) x = refl
-acting_after false f x = refl
+acting_after : {F : Type 0} (t a : Bool) (f : Option F) (x : F) → ((a && is_none f) && not (t && (a && is_none f))) ≡ (a && is_none (if t && (a && is_none f) then Some x else f))
+acting_after true true None x = refl
+acting_after true true (Some y) x = refl
+acting_after true false f x = refl
+acting_after false true None x = refl
+acting_after false true (Some y) x = refl
+acting_after false false f x = refl
 
-fault_after : {F : Type 0} (a : Bool) (f : Option F) (x : F) → option_to_list f ++ (if a && is_none f then x ∷ [] else []) ≡ option_to_list (if a && is_none f then Some x else f)
-fault_after true None x = refl
-fault_after true (Some y) x = refl
-fault_after false None x = refl
-fault_after false (Some y) x = refl
+fault_after : {F : Type 0} (b : Bool) (f : Option F) (x : F) → (b ≡ true → f ≡ None) → option_to_list f ++ (if b then x ∷ [] else []) ≡ option_to_list (if b then Some x else f)
+fault_after true f x none = ap (λ g. option_to_list g ++ x ∷ []) (none refl)
+fault_after false f x none = append-nil (option_to_list f)
 
-pub refuses : (macros : List ℕ → Macros) (names : List (List ℕ)) {old new : Sets} (keeps : Keeps old new) (w : Walk) (owns : Owns old w) (token : Token) (tokens : List Token) (fault : base.Fault) (live never : Cond) (faults : Vec base.Fault Global)
-    → fault ≡ record { cond = w.acting; cause = BadDirective; place = token.place } → faults.items ≡ w.prepared.faults.items ++ fault ∷ []
-    → Denotes new live.0 (λ c. old.has w.prepared.live.0 c && not (old.has w.acting.0 c)) → Denotes new never.0 (λ _. false)
-    → SimulatesStep macros names old w new (record w { acting = never; prepared = record w.prepared { faults = faults; live = live } }) (λ files config m. refusing m (seen_line names files (token ∷ tokens)))
-refuses macros names {old} {new} keeps w owns token tokens fault live never faults is items da dn =
+acts_none : {F : Type 0} (t a : Bool) (f : Option F) → (t && (a && is_none f)) ≡ true → f ≡ None
+acts_none true true None e = refl
+acts_none true true (Some y) e = cc
+acts_none true false f e = cc
+acts_none false a f e = cc
+
+-- a part of the configurations that take the line is refused at its #
+pub refuses : (names : List (List ℕ)) {old new : Sets} (keeps : Keeps old new) (w : Walk) (owns : Owns old w) (part : Cond) (t : List ℕ → Bool) (cause : Cause) (token : Token) (tokens : List Token)
+    (fault : base.Fault) (live acting : Cond) (faults : Vec base.Fault Global)
+    → Denotes old part.0 (λ c. t c && old.has w.acting.0 c)
+    → fault ≡ record { cond = part; cause = cause; place = token.place } → faults.items ≡ w.prepared.faults.items ++ fault ∷ []
+    → Denotes new live.0 (λ c. old.has w.prepared.live.0 c && not (t c && old.has w.acting.0 c)) → Denotes new acting.0 (λ c. old.has w.acting.0 c && not (t c && old.has w.acting.0 c))
+    → SimulatesStep names old w new (record w { acting = acting; prepared = record w.prepared { faults = faults; live = live } })
+    (λ files config m. refusing_if (t config) m (seen_line names files (token ∷ tokens)) cause)
+refuses names {old} {new} keeps w owns part t cause token tokens fault live acting faults dp is_fault items dl da =
     let IsOwn : base.Fault → Type 0 = λ f. IsCond new f.cond.0 in
     let kept = owns-kept keeps w owns in
     record {
       owns = record {
         group = kept.group;
-        acting = dn.own;
+        acting = da.own;
         sections = kept.sections;
         prepared = record {
           list = kept.prepared.list;
-          faults = subst (All IsOwn) (sym items) (All-push IsOwn w.prepared.faults.items fault kept.prepared.faults (subst IsOwn (sym is) kept.acting));
-          live = da.own;
+          faults = subst (All IsOwn) (sym items) (All-push IsOwn w.prepared.faults.items fault kept.prepared.faults (subst IsOwn (sym is_fault) (keeps.own part.0 dp.own)));
+          live = dl.own;
         };
       };
-      at = λ files config m listed simulates.
+      table = IsTable-Keeps keeps;
+      at = λ files config m listed is simulates.
           let now : IsConfig new.arities config = IsConfig-Keeps keeps listed in
-          let same = simulates-kept keeps w owns macros names files config m listed simulates in
-          let x = refusal m.state (seen_line names files (token ∷ tokens)) in
-          let own : base.Fault = record { cond = w.acting; cause = BadDirective; place = token.place } in
+          let same = simulates-kept keeps w owns names files config m listed is simulates in
+          let x = refusal m.state (seen_line names files (token ∷ tokens)) cause in
+          let own : base.Fault = record { cond = part; cause = cause; place = token.place } in
+          let at_part : new.has part.0 config ≡ (t config && acts m) = keeps.at part.0 config dp.own listed ∙ (dp.at config listed ∙ ap (λ b. t config && b) simulates.acting) in
           record {
             active = same.active;
-            acting = dn.at config now ∙ acting_after m.active m.fault x;
+            acting = da.at config now ∙ (ap (λ b. b && not (t config && b)) simulates.acting ∙ acting_after (t config) m.active m.fault x);
             sections = same.sections;
             prepared = record {
-              live = da.at config now ∙ (ap (λ b. b && not (old.has w.acting.0 config)) simulates.prepared.live ∙ (ap (λ b. is_none m.fault && not b) simulates.acting ∙ live_after m.active m.fault x));
+              live = dl.at config now ∙ (ap (λ b. b && not (t config && old.has w.acting.0 config)) simulates.prepared.live
+                  ∙ (ap (λ b. is_none m.fault && not (t config && b)) simulates.acting ∙ live_after (t config) m.active m.fault x));
               output = same.prepared.output;
               fault =
-                  ap (λ fs. map (seen_fault files) (faults_at new fs config)) (items ∙ ap (λ f. w.prepared.faults.items ++ f ∷ []) is)
+                  ap (λ fs. map (seen_fault files) (faults_at new fs config)) (items ∙ ap (λ f. w.prepared.faults.items ++ f ∷ []) is_fault)
                   ∙ (ap (map (seen_fault files)) (faults_at-append new w.prepared.faults.items (own ∷ []) config)
                   ∙ (map-append (seen_fault files) (faults_at new w.prepared.faults.items config) (faults_at new (own ∷ []) config)
                   ∙ (ap (λ fs. fs ++ map (seen_fault files) (faults_at new (own ∷ []) config)) same.prepared.fault
-                  ∙ (ap (λ fs. option_to_list m.fault ++ fs) (map-one (seen_fault files) (new.has w.acting.0 config) own ∙ ap (λ b. if b then seen_fault files own ∷ [] else []) same.acting)
-                  ∙ fault_after m.active m.fault x))));
+                  ∙ (ap (λ fs. option_to_list m.fault ++ fs) (map-one (seen_fault files) (new.has part.0 config) own ∙ ap (λ b. if b then seen_fault files own ∷ [] else []) at_part)
+                  ∙ fault_after (t config && acts m) m.fault x (acts_none (t config) m.active m.fault)))));
             };
-            macros_are = same.macros_are;
+            macros = same.macros;
           };
     }
 
--- where no configuration takes the line, none is refused
-pub refuses-none : (macros : List ℕ → Macros) (names : List (List ℕ)) (s : Sets) (w : Walk) → Owns s w → IsNever s w.acting.0 → (line : List Token)
-    → SimulatesStep macros names s w s w (λ files config m. refusing m (seen_line names files line))
-refuses-none macros names s w owns never line = record {
+refusing_none : (b : Bool) (m : Machine) (l : Line) (cause : Cause) → (b && acts m) ≡ false → refusing_if b m l cause ≡ m
+refusing_none b m l cause e = ap (λ c. record m { fault = if c then Some (refusal m.state l cause) else m.fault }) e
+
+-- where the part has no configuration, none is refused
+pub refuses-none : (names : List (List ℕ)) (s : Sets) (w : Walk) → Owns s w → (part : Cond) (t : List ℕ → Bool) (cause : Cause) → Denotes s part.0 (λ c. t c && s.has w.acting.0 c) → IsNever s part.0
+    → (line : List Token) → SimulatesStep names s w s w (λ files config m. refusing_if (t config) m (seen_line names files line) cause)
+refuses-none names s w owns part t cause dp never line = record {
   owns = owns;
-  at = λ files config m listed simulates.
-      subst (Simulates s macros names files w config) (sym (inert_refusing m (seen_line names files line) (sym simulates.acting ∙ never.none config listed))) simulates;
+  table = λ is. is;
+  at = λ files config m listed is simulates.
+      let inactive : (t config && acts m) ≡ false = ap (λ b. t config && b) (sym simulates.acting) ∙ (sym (dp.at config listed) ∙ never.none config listed) in
+      subst (Simulates s names files w config) (sym (refusing_none (t config) m (seen_line names files line) cause inactive)) simulates;
 }
 
 -- ---- tokens are put out
@@ -262,9 +306,9 @@ text_macros : (b : Bool) (s : State) (l : Line) → (if b then with_text s l els
 text_macros true s l = refl
 text_macros false s l = refl
 
-pub puts : (macros : List ℕ → Macros) (names : List (List ℕ)) (s : Sets) (w : Walk) (owns : Owns s w) (tokens : List Token) (list : List (Cond × Token)) → list ≡ w.prepared.list ++ under w.acting tokens
-    → SimulatesStep macros names s w s (record w { prepared = record w.prepared { list = list } }) (λ files config m. acting m (λ state. with_text state (seen_line names files tokens)))
-puts macros names s w owns tokens list is =
+pub puts : (names : List (List ℕ)) (s : Sets) (w : Walk) (owns : Owns s w) (tokens : List Token) (list : List (Cond × Token)) → list ≡ w.prepared.list ++ under w.acting tokens
+    → SimulatesStep names s w s (record w { prepared = record w.prepared { list = list } }) (λ files config m. acting m (λ state. with_text state (seen_line names files tokens)))
+puts names s w owns tokens list items =
     let IsOwn : Cond × Token → Type 0 = λ item. IsCond s item.0.0 in
     record {
       owns = record {
@@ -272,36 +316,38 @@ puts macros names s w owns tokens list is =
         acting = owns.acting;
         sections = owns.sections;
         prepared = record {
-          list = subst (All IsOwn) (sym is) (All-append IsOwn w.prepared.list (under w.acting tokens) owns.prepared.list (All-map IsOwn (λ t. (w.acting, t)) tokens (λ k d h. owns.acting)));
+          list = subst (All IsOwn) (sym items) (All-append IsOwn w.prepared.list (under w.acting tokens) owns.prepared.list (All-map IsOwn (λ t. (w.acting, t)) tokens (λ k d h. owns.acting)));
           faults = owns.prepared.faults;
           live = owns.prepared.live;
         };
       };
-      at = λ files config m listed simulates. record {
+      table = λ is. is;
+      at = λ files config m listed is simulates. record {
         active = simulates.active;
         acting = simulates.acting;
         sections = simulates.sections;
         prepared = record {
           live = simulates.prepared.live;
           output =
-              ap (λ xs. map (seen names files) (items_at s xs config)) is
+              ap (λ xs. map (seen names files) (items_at s xs config)) items
               ∙ (ap (map (seen names files)) (items_at-append s w.prepared.list (under w.acting tokens) config ∙ ap (λ xs. items_at s w.prepared.list config ++ xs) (items_at-under s w.acting tokens config ∙ ap (λ b. if b then tokens else []) simulates.acting))
               ∙ (chosen_end (seen names files) (acts m) (items_at s w.prepared.list config) tokens
               ∙ (ap (λ xs. if acts m then xs ++ map (seen names files) tokens else xs) simulates.prepared.output
               ∙ text_after (acts m) m.state (seen_line names files tokens))));
           fault = simulates.prepared.fault;
         };
-        macros_are = text_macros (acts m) m.state (seen_line names files tokens) ∙ simulates.macros_are;
+        macros = λ name. simulates.macros name ∙ sym (ap (λ f. f name) (text_macros (acts m) m.state (seen_line names files tokens)));
       };
     }
 
 -- where no configuration takes the line, nothing is put out
-pub puts-none : (macros : List ℕ → Macros) (names : List (List ℕ)) (s : Sets) (w : Walk) → Owns s w → IsNever s w.acting.0 → (line : List Token)
-    → SimulatesStep macros names s w s w (λ files config m. acting m (λ state. with_text state (seen_line names files line)))
-puts-none macros names s w owns never line = record {
+pub puts-none : (names : List (List ℕ)) (s : Sets) (w : Walk) → Owns s w → IsNever s w.acting.0 → (line : List Token)
+    → SimulatesStep names s w s w (λ files config m. acting m (λ state. with_text state (seen_line names files line)))
+puts-none names s w owns never line = record {
   owns = owns;
-  at = λ files config m listed simulates.
-      subst (Simulates s macros names files w config)
+  table = λ is. is;
+  at = λ files config m listed is simulates.
+      subst (Simulates s names files w config)
       (sym (inert_acting m (λ state. with_text state (seen_line names files line)) (sym simulates.acting ∙ never.none config listed))) simulates;
 }
 
@@ -316,8 +362,8 @@ closing_macros true s = refl
 closing_macros false s = refl
 
 -- the machine closes its run, and the walk stays as it is
-closes : (macros : List ℕ → Macros) (names files : List (List ℕ)) (s : Sets) (w : Walk) (config : List ℕ) (m : Machine) → Simulates s macros names files w config m → Simulates s macros names files w config (acting m closing_run)
-closes macros names files s w config m simulates = record {
+closes : (names files : List (List ℕ)) (s : Sets) (w : Walk) (config : List ℕ) (m : Machine) → Simulates s names files w config m → Simulates s names files w config (acting m closing_run)
+closes names files s w config m simulates = record {
   active = simulates.active;
   acting = simulates.acting;
   sections = simulates.sections;
@@ -326,46 +372,254 @@ closes macros names files s w config m simulates = record {
     output = simulates.prepared.output ∙ closing_after (acts m) m.state;
     fault = simulates.prepared.fault;
   };
-  macros_are = closing_macros (acts m) m.state ∙ simulates.macros_are;
+  macros = λ name. simulates.macros name ∙ sym (ap (λ f. f name) (closing_macros (acts m) m.state));
 }
 
-closes-if : (b : Bool) (macros : List ℕ → Macros) (names files : List (List ℕ)) (s : Sets) (w : Walk) (config : List ℕ) (m : Machine) → Simulates s macros names files w config m
-    → Simulates s macros names files w config (if b then acting m closing_run else m)
-closes-if true macros names files s w config m simulates = closes macros names files s w config m simulates
-closes-if false macros names files s w config m simulates = simulates
+-- a line that is no barrier, or one that has no effect
+pub stays : (names : List (List ℕ)) (s : Sets) (w : Walk) → Owns s w → SimulatesStep names s w s w (λ files config m. m)
+stays names s w owns = record { owns = owns; table = λ is. is; at = λ files config m listed is simulates. simulates }
 
-pub stays : (macros : List ℕ → Macros) (names : List (List ℕ)) (s : Sets) (w : Walk) → Owns s w → (line : List Token) (d : Directive) → is_refused d ≡ false
-    → SimulatesStep macros names s w s w (λ files config m. plain_by m (seen_line names files line) (Some d))
-stays macros names s w owns line d r = record {
-  owns = owns;
-  at = λ files config m listed simulates.
-      subst (λ b. Simulates s macros names files w config (if b then refusing m (seen_line names files line) else (if is_ignored d then acting m closing_run else m))) (sym r)
-      (closes-if (is_ignored d) macros names files s w config m simulates);
-}
+pub closes-run : (names : List (List ℕ)) (s : Sets) (w : Walk) → Owns s w → SimulatesStep names s w s w (λ files config m. acting m closing_run)
+closes-run names s w owns = record { owns = owns; table = λ is. is; at = λ files config m listed is simulates. closes names files s w config m simulates }
+
+-- ---- the macros change
+
+changed_run : (b : Bool) (s : State) (macros : Macros) → (if b then with_macros (closing_run s) macros else s).output ++ (if b then with_macros (closing_run s) macros else s).run ≡ s.output ++ s.run
+changed_run true s macros = append-nil (s.output ++ s.run)
+changed_run false s macros = refl
+
+changed_macros : (b : Bool) (s : State) (macros : Macros) (name : List ℕ) → (if b then macros name else s.macros name) ≡ (if b then with_macros (closing_run s) macros else s).macros name
+changed_macros true s macros name = refl
+changed_macros false s macros name = refl
+
+-- Where the line does something, but for a part, the table has other macros behind it, elsewhere those from before.
+pub changes-macros : (names : List (List ℕ)) {old new : Sets} (keeps : Keeps old new) (w : Walk) (owns : Owns old w) (table : MacroTable) (t : List ℕ → Bool) (becomes : Macros → Macros)
+    → IsTable new names table
+    → ((config : List ℕ) → IsConfig old.arities config → (macros : Macros) → ((name : List ℕ) → macros_at old names w.table config name ≡ macros name)
+    → (name : List ℕ) → macros_at new names table config name ≡ (if not (t config) && old.has w.acting.0 config then becomes macros name else macros name))
+    → SimulatesStep names old w new (record w { table = table }) (λ files config m. acting_unless (t config) m (λ s. with_macros (closing_run s) (becomes s.macros)))
+changes-macros names {old} {new} keeps w owns table t becomes is_table changed =
+    let kept = owns-kept keeps w owns in
+    record {
+      owns = record { group = kept.group; acting = kept.acting; sections = kept.sections; prepared = kept.prepared };
+      table = λ _. is_table;
+      at = λ files config m listed is simulates.
+          let same = simulates-kept keeps w owns names files config m listed is simulates in
+          let next = becomes m.state.macros in
+          record {
+            active = same.active;
+            acting = same.acting;
+            sections = same.sections;
+            prepared = record {
+              live = same.prepared.live;
+              output = same.prepared.output ∙ sym (changed_run (not (t config) && acts m) m.state next);
+              fault = same.prepared.fault;
+            };
+            macros = λ name. changed config listed m.state.macros simulates.macros name
+                ∙ (ap (λ b. if not (t config) && b then next name else m.state.macros name) simulates.acting ∙ changed_macros (not (t config) && acts m) m.state next name);
+          };
+    }
+
+-- the walk with another table
+pub same-owns : {old new : Sets} (keeps : Keeps old new) (w : Walk) (owns : Owns old w) (table : MacroTable) → Owns new (record w { table = table })
+same-owns keeps w owns table = let kept = owns-kept keeps w owns in record { group = kept.group; acting = kept.acting; sections = kept.sections; prepared = kept.prepared }
+
+-- the table says what it said
+pub same-macros : (names : List (List ℕ)) {old new : Sets} (keeps : Keeps old new) (w : Walk) (owns : Owns old w) (table : MacroTable) → IsTable new names table → IsStill old new names w.table table
+    → SimulatesStep names old w new (record w { table = table }) (λ files config m. m)
+same-macros names {old} {new} keeps w owns table is_table still =
+    let kept = owns-kept keeps w owns in
+    record {
+      owns = record { group = kept.group; acting = kept.acting; sections = kept.sections; prepared = kept.prepared };
+      table = λ _. is_table;
+      at = λ files config m listed is simulates.
+          let same = simulates-kept keeps w owns names files config m listed is simulates in
+          record { active = same.active; acting = same.acting; sections = same.sections; prepared = same.prepared; macros = λ name. still config name listed ∙ simulates.macros name };
+    }
+
+-- what a table says stays as the store grows further
+pub still-after : {old mid new : Sets} {names : List (List ℕ)} (was table : MacroTable) → Keeps old mid → Keeps mid new → IsTable mid names table
+    → IsStill old mid names was table → IsStill old new names was table
+still-after was table first later is still = λ config text listed. macros_at-Keeps later is config text (IsConfig-Keeps first listed) ∙ still config text listed
+
+-- a section that a name opens where the table has the machine's macros
+pub taken-as : (m : Machine) (macros : Macros) (wanted : Bool) (name : List ℕ) → macros name ≡ m.state.macros name → opened m (is_taken macros wanted name) ≡ opened m (is_taken m.state.macros wanted name)
+taken-as m macros wanted name same = ap (λ d. opened m (if wanted then is_some d else not (is_some d))) same
+
+-- ---- a macro is defined, or taken back
+
+refused-over : (macros : Macros) (d : Defined) (found : Option Definition) → IsOther d.definition found → defined_over macros d found ≡ Err Redefined
+refused-over macros d None other = absurd other
+refused-over macros d (Some was) other = by (same_definition was d.definition) refl
+  where
+    by : (b : Bool) → same_definition was d.definition ≡ b → (if b then Ok (with_macro macros d) else Err Redefined) ≡ Err Redefined
+    by true e = absurd (other (same_definition-true was d.definition e))
+    by false e = refl
+
+accepted-over : (macros : Macros) (d : Defined) (found : Option Definition) → (IsOther d.definition found → ⊥) → defined_over macros d found ≡ Ok (with_macro macros d)
+accepted-over macros d None same = refl
+accepted-over macros d (Some was) same = by (same_definition was d.definition) refl
+  where
+    by : (b : Bool) → same_definition was d.definition ≡ b → (if b then Ok (with_macro macros d) else Err Redefined) ≡ Ok (with_macro macros d)
+    by true e = refl
+    by false e = absurd (same (same_definition-false was d.definition e))
+
+-- where a definition is refused, and else where the line does something, the machine goes as its line says
+pub defines-as : (m : Machine) (l : Line) (macros : Macros) (d : Defined) (t : Bool) → macros d.name ≡ m.state.macros d.name
+    → ((t ≡ true) ↔ ((acts m ≡ true) × IsOther d.definition (macros d.name)))
+    → refusing_if t (acting_unless t m (λ s. with_macros (closing_run s) (with_macro s.macros d))) l Redefined ≡ changing m l (defined_as m.state.macros (Ok d))
+defines-as m l macros d true same is =
+    let other = subst (IsOther d.definition) same (is.0 refl).1 in
+    ap (changing m l) (sym (refused-over m.state.macros d (m.state.macros d.name) other))
+defines-as m l macros d false same is = by (acts m) refl
+  where
+    next : State → State
+    next = λ s. with_macros (closing_run s) (with_macro s.macros d)
+
+    by : (b : Bool) → acts m ≡ b → acting m (λ s. with_macros (closing_run s) (with_macro s.macros d)) ≡ changing m l (defined_as m.state.macros (Ok d))
+    by true e =
+        ap (changing m l) (sym (accepted-over m.state.macros d (m.state.macros d.name)
+        (λ other. let wrong = is.1 (e, subst (IsOther d.definition) (sym same) other) in cc)))
+    by false e = inert_acting m (λ s. with_macros (closing_run s) (with_macro s.macros d)) e ∙ sym (inert_changing m l (defined_as m.state.macros (Ok d)) e)
+
+pub undefines-as : (m : Machine) (l : Line) (name : List ℕ) (t : Bool)
+    → refusing_if t (acting_unless t m (λ s. with_macros (closing_run s) (without_macro s.macros name))) l ProtectedName
+    ≡ changing m l (if t then Err ProtectedName else Ok (without_macro m.state.macros name))
+undefines-as m l name true = refl
+undefines-as m l name false = refl
+
+-- the choice of one of two, with the test as the walk has it
+pub chosen-as : {A : Type 0} (a t : Bool) {x y z w : A} → x ≡ z → y ≡ w → (if a && not t then x else y) ≡ (if not t && a then z else w)
+chosen-as true true p q = q
+chosen-as true false p q = p
+chosen-as false true p q = q
+chosen-as false false p q = q
+
+pub updated-as : (f g : Macros) (key : List ℕ) (d : Option Definition) (name : List ℕ) → f name ≡ g name → update same_bytes f key d name ≡ update same_bytes g key d name
+updated-as f g key d name same = ap (cond (same_bytes key name) d) same
+
+pub and-within : (a b : Bool) → (a ≡ true → b ≡ true) → a ≡ (a && b)
+and-within true b h = sym (h refl)
+and-within false b h = refl
+
+pub and-swapped : (a b : Bool) → (a && b) ≡ (b && a)
+and-swapped true true = refl
+and-swapped true false = refl
+and-swapped false true = refl
+and-swapped false false = refl
+
+-- ---- a directive that has no effect, or is not carried out
+
+pub refused-by : (m : Machine) (l : Line) (d : Directive) → is_refused d ≡ true → refusing m l BadDirective ≡ plain_by m l (Some d)
+refused-by m l (directive.Conditional c) e = cc
+refused-by m l directive.Include e = refl
+refused-by m l directive.Define e = cc
+refused-by m l directive.Undef e = cc
+refused-by m l directive.Line e = refl
+refused-by m l directive.Error e = refl
+refused-by m l directive.Pragma e = cc
+refused-by m l directive.Warning e = cc
+refused-by m l directive.Null e = cc
+refused-by m l directive.Unknown e = refl
+
+pub unchanged-by : (names : List (List ℕ)) (s : Sets) (w : Walk) → Owns s w → (line : List Token) (d : Directive) → is_refused d ≡ false → (d ≡ directive.Define → ⊥) → (d ≡ directive.Undef → ⊥)
+    → SimulatesStep names s w s w (λ files config m. plain_by m (seen_line names files line) (Some d))
+unchanged-by names s w owns line (directive.Conditional c) e n u = stays names s w owns
+unchanged-by names s w owns line directive.Include e n u = cc
+unchanged-by names s w owns line directive.Define e n u = absurd (n refl)
+unchanged-by names s w owns line directive.Undef e n u = absurd (u refl)
+unchanged-by names s w owns line directive.Line e n u = cc
+unchanged-by names s w owns line directive.Error e n u = cc
+unchanged-by names s w owns line directive.Pragma e n u = closes-run names s w owns
+unchanged-by names s w owns line directive.Warning e n u = closes-run names s w owns
+unchanged-by names s w owns line directive.Null e n u = stays names s w owns
+unchanged-by names s w owns line directive.Unknown e n u = cc
 
 -- ---- moves joined
 
 -- two moves, one after the other
-pub step-then : {macros : List ℕ → Macros} {names : List (List ℕ)} {r s t : Sets} {u v w : Walk} (f g : List (List ℕ) → List ℕ → Machine → Machine) → Keeps r s
-    → SimulatesStep macros names r u s v f → SimulatesStep macros names s v t w g → SimulatesStep macros names r u t w (λ files config m. g files config (f files config m))
+pub step-then : {names : List (List ℕ)} {r s t : Sets} {u v w : Walk} (f g : List (List ℕ) → List ℕ → Machine → Machine) → Keeps r s
+    → SimulatesStep names r u s v f → SimulatesStep names s v t w g → SimulatesStep names r u t w (λ files config m. g files config (f files config m))
 step-then f g keeps a b = record {
   owns = b.owns;
-  at = λ files config m listed simulates. b.at files config (f files config m) (IsConfig-Keeps keeps listed) (a.at files config m listed simulates);
+  table = λ is. b.table (a.table is);
+  at = λ files config m listed is simulates. b.at files config (f files config m) (IsConfig-Keeps keeps listed) (a.table is) (a.at files config m listed is simulates);
 }
 
 -- one move as another
-pub step-as : {macros : List ℕ → Macros} {names : List (List ℕ)} {r s : Sets} {u v : Walk} (f g : List (List ℕ) → List ℕ → Machine → Machine)
-    → ((files : List (List ℕ)) (config : List ℕ) (m : Machine) → m.state.macros ≡ macros config → f files config m ≡ g files config m)
-    → SimulatesStep macros names r u s v f → SimulatesStep macros names r u s v g
-step-as {macros} {names} {s = s} {v = v} f g same a = record {
+pub step-as : {names : List (List ℕ)} {r s : Sets} {u v : Walk} (f g : List (List ℕ) → List ℕ → Machine → Machine)
+    → ((files : List (List ℕ)) (config : List ℕ) (m : Machine) → IsConfig r.arities config → Simulates r names files u config m → f files config m ≡ g files config m)
+    → SimulatesStep names r u s v f → SimulatesStep names r u s v g
+step-as {names} {s = s} {v = v} f g same a = record {
   owns = a.owns;
-  at = λ files config m listed simulates. subst (Simulates s macros names files v config) (same files config m simulates.macros_are) (a.at files config m listed simulates);
+  table = a.table;
+  at = λ files config m listed is simulates. subst (Simulates s names files v config) (same files config m listed simulates) (a.at files config m listed is simulates);
 }
 
 -- a move that follows other changes of the store
-pub step-kept : {macros : List ℕ → Macros} {names : List (List ℕ)} {r s t : Sets} {w v : Walk} {f : List (List ℕ) → List ℕ → Machine → Machine} → Keeps r s → Owns r w
-    → SimulatesStep macros names s w t v f → SimulatesStep macros names r w t v f
-step-kept {macros} {names} {w = w} keeps owns a = record {
+pub step-kept : {names : List (List ℕ)} {r s t : Sets} {w v : Walk} {f : List (List ℕ) → List ℕ → Machine → Machine} → Keeps r s → Owns r w
+    → SimulatesStep names s w t v f → SimulatesStep names r w t v f
+step-kept {names} {w = w} keeps owns a = record {
   owns = a.owns;
-  at = λ files config m listed simulates. a.at files config m (IsConfig-Keeps keeps listed) (simulates-kept keeps w owns macros names files config m listed simulates);
+  table = λ is. a.table (IsTable-Keeps keeps is);
+  at = λ files config m listed is simulates.
+      a.at files config m (IsConfig-Keeps keeps listed) (IsTable-Keeps keeps is) (simulates-kept keeps w owns names files config m listed is simulates);
 }
+
+-- ---- directives that change the macros
+
+-- a configuration of a store that has grown
+config-back : {old new : Sets} {config : List ℕ} → Keeps old new → IsConfig new.arities config → IsConfig old.arities config
+config-back {config = config} keeps listed = subst (λ (arities : List ℕ). IsConfig arities config) keeps.arities listed
+
+-- a part of the configurations is refused after the table has changed
+abbrev pub Refuses : Sets → Sets → Walk → MacroTable → Cond → Walk → List Token → Cause → Type 0
+Refuses mid new w table refused next line cause = (names : List (List ℕ)) (t : List ℕ → Bool) → Denotes mid refused.0 (λ c. t c && mid.has w.acting.0 c)
+    → SimulatesStep names mid (record w { table = table }) new next (λ files config m. refusing_if (t config) m (seen_line names files line) cause)
+
+module _ (names : List (List ℕ)) {old mid new : Sets} (keeps : Keeps old mid) (w : Walk) (owns : Owns old w) (table : MacroTable) (is_table : IsTable mid names table) (refused : Cond) (next : Walk) (line : List Token) where
+  pub defines : (d : Defined) → IsCond mid refused.0
+      → ((c : List ℕ) → IsConfig old.arities c → ((mid.has refused.0 c ≡ true) ↔ ((old.has w.acting.0 c ≡ true) × IsOther d.definition (macros_at old names w.table c d.name))))
+      → ((c text : List ℕ) → IsConfig old.arities c → macros_at mid names table c text
+      ≡ (if old.has w.acting.0 c && not (mid.has refused.0 c) then update same_bytes (macros_at old names w.table c) d.name (Some d.definition) text else macros_at old names w.table c text))
+      → Refuses mid new w table refused next line Redefined
+      → SimulatesStep names old w new next (λ files config m. changing m (seen_line names files line) (defined_as m.state.macros (Ok d)))
+  defines d own is changed refuse =
+      let t : List ℕ → Bool = mid.has refused.0 in
+      let step : State → State = λ s. with_macros (closing_run s) (with_macro s.macros d) in
+      step-as (λ files config m. refusing_if (t config) (acting_unless (t config) m step) (seen_line names files line) Redefined)
+      (λ files config m. changing m (seen_line names files line) (defined_as m.state.macros (Ok d)))
+      (λ files config m listed simulates.
+      defines-as m (seen_line names files line) (macros_at old names w.table config) d (t config) (simulates.macros d.name)
+      (subst (λ b. (t config ≡ true) ↔ ((b ≡ true) × IsOther d.definition (macros_at old names w.table config d.name))) simulates.acting (is config listed)))
+      (step-then (λ files config m. acting_unless (t config) m step) (λ files config m. refusing_if (t config) m (seen_line names files line) Redefined) keeps
+      (changes-macros names keeps w owns table t (λ macros. with_macro macros d) is_table
+      (λ config listed macros same name. changed config name listed
+      ∙ chosen-as (old.has w.acting.0 config) (t config) (updated-as (macros_at old names w.table config) macros d.name (Some d.definition) name (same name)) (same name)))
+      (refuse names t (record {
+        own = own;
+        at = λ config now.
+            let listed = config-back keeps now in
+            and-within (t config) (mid.has w.acting.0 config) (λ e. keeps.at w.acting.0 config owns.acting listed ∙ ((is config listed).0 e).0);
+      })))
+
+  pub undefines : (name : List ℕ) → Denotes mid refused.0 (λ c. old.has w.acting.0 c && is_protected name)
+      → ((c text : List ℕ) → IsConfig old.arities c → macros_at mid names table c text
+      ≡ (if old.has w.acting.0 c && not (is_protected name) then update same_bytes (macros_at old names w.table c) name None text else macros_at old names w.table c text))
+      → Refuses mid new w table refused next line ProtectedName
+      → SimulatesStep names old w new next (λ files config m. changing m (seen_line names files line) (undefined m.state.macros (Some name)))
+  undefines name denotes changed refuse =
+      let t : Bool = is_protected name in
+      let step : State → State = λ s. with_macros (closing_run s) (without_macro s.macros name) in
+      step-as (λ files config m. refusing_if t (acting_unless t m step) (seen_line names files line) ProtectedName)
+      (λ files config m. changing m (seen_line names files line) (undefined m.state.macros (Some name)))
+      (λ files config m listed simulates. undefines-as m (seen_line names files line) name t)
+      (step-then (λ files config m. acting_unless t m step) (λ files config m. refusing_if t m (seen_line names files line) ProtectedName) keeps
+      (changes-macros names keeps w owns table (λ _. t) (λ macros. without_macro macros name) is_table
+      (λ config listed macros same text. changed config text listed
+      ∙ chosen-as (old.has w.acting.0 config) t (updated-as (macros_at old names w.table config) macros name None text (same text)) (same text)))
+      (refuse names (λ _. t) (record {
+        own = denotes.own;
+        at = λ config now.
+            denotes.at config now ∙ (and-swapped (old.has w.acting.0 config) t ∙ ap (λ b. t && b) (sym (keeps.at w.acting.0 config owns.acting (config-back keeps now))));
+      })))

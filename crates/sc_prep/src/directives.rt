@@ -1,49 +1,55 @@
-ghost use Rattle.std.specs.Prelude.{◌≡◌, ℕ, ◌<◌, false, List, All, None, Some, length, OnOk, IfOk, IfSome};
+ghost use Rattle.std.specs.Prelude.{◌≡◌, ℕ, ◌<◌, false, List, All, None, Some, Ok, length, OnOk, IfErr, IfOk, IfSome};
 ghost use Rattle.std.specs.Option.{option_map};
 ghost use Rattle.sc_base.specs.Seen.{IsHeld, text_at};
+ghost use Rattle.sc_base.specs.declared.stop.Stop.TheVariants as stop;
 ghost use Rattle.sc_lines.specs.Split.{directive_at};
+ghost use Rattle.c11_directives.specs.declared.directive.Directive.TheVariants as kind;
 ghost use Rattle.c11_directives.specs.Lines.{conditional_in};
 ghost use Rattle.c11_directives.specs.Pre as model;
-ghost use Rattle.c11_directives.specs.Pre.{operand_of};
+ghost use Rattle.c11_directives.specs.Pre.{operand_of, undefined};
+ghost use Rattle.sc_base.specs.declared.token.Token as base;
+ghost use Rattle.sc_model.specs.declared.cause.Cause.TheVariants.{BadDirective};
 ghost use Rattle.sc_model.specs.Sets.{IsCond, Denotes, Keeps};
-ghost use Rattle.sc_model.specs.Space.{arities_of};
-ghost use Rattle.c11_macros.specs.Macros.{Macros, initial_macros};
-ghost use Rattle.sc_space.specs.Seen.{seen_space};
-ghost use Rattle.sc_prep.specs.Machine.{is_taken, plain_by, opened_by_name, refusing, opened, step};
+ghost use Rattle.sc_macro.specs.Reads.{seen_defined};
+ghost use Rattle.sc_macro.specs.Seen.{IsHeldDefinition};
+ghost use Rattle.sc_prep.specs.Machine.{changed_by, changing, defined_as, is_taken, next_branch, plain_by, opened_by_name, refusing, opened, step};
 ghost use Rattle.sc_prep.specs.Simulates.{Owns, SimulatesStep};
 ghost use Rattle.sc_lines.specs.Nests.{seen_line};
 ghost use Rattle.sc_prep.specs.Printable.{StaysPrintable};
+ghost use Rattle.sc_table.specs.Table.{IsTable, IsStill, macros_at};
 
 use crate::walk::Walk;
 use c11_directives::{Conditional, Directive};
-use sc_base::{Cond, Kind, Name, Names, OutOfMemory, Token};
+use sc_base::{Cause, Cond, Kind, Name, Names, Stop, Token};
 use sc_lines::Line;
+use sc_macro::{DefineStop, Definition, read_define};
 use sc_presence::Conditions;
-use sc_space::Space;
-use sc_table::defined;
+use sc_table::MacroTable;
+use std::alloc::Global;
 
 impl Walk {
     /// What a line of these tokens does.
     #[tactic(auto, using(sc_model::proofs::SetLemmas::conditions))]
     pub fn take_line<C: Conditions>(
         &mut self,
+        alloc: Global,
         conds: &mut C,
-        space: &Space,
         names: &Names,
         line: &Line,
         tokens: &[Token],
-    ) -> Result<(), OutOfMemory>
-        requires space { (C.sets conds.old).arities ≡ arities_of (seen_space space.now) }
+    ) -> Result<(), Stop>
         requires held { All (IsHeld names.now) tokens.now }
         requires directive { line.now.directive ≡ directive_at names.now tokens.now }
         requires owns { Owns (C.sets conds.old) self.old }
+        requires table { IsTable (C.sets conds.old) names.now self.old.table }
         ensures printable { OnOk result (StaysPrintable names.now tokens.now self.old self.new) }
-        ensures steps { OnOk result (SimulatesStep (initial_macros (seen_space space.now)) names.now (C.sets conds.old) self.old (C.sets conds.new) self.new (λ files config m. step m (seen_line names.now files tokens.now))) }
+        ensures steps { OnOk result (SimulatesStep names.now (C.sets conds.old) self.old (C.sets conds.new) self.new (λ files config m. step m (seen_line names.now files tokens.now))) }
+        ensures memory { IfErr result (λ s. s ≡ stop.OutOfMemory) }
         ensures keeps { Keeps (C.sets conds.old) (C.sets conds.new) }
     {
         match line.conditional() {
-            None => self.plain_line(conds, tokens, line.directive),
-            Some(conditional) => self.conditional_line(conds, space, names, tokens, conditional),
+            None => self.plain_line(alloc, conds, names, tokens, line.directive),
+            Some(conditional) => self.conditional_line(conds, names, tokens, conditional),
         }
     }
 
@@ -52,49 +58,60 @@ impl Walk {
     fn conditional_line<C: Conditions>(
         &mut self,
         conds: &mut C,
-        space: &Space,
         names: &Names,
         line: &[Token],
         conditional: Conditional,
-    ) -> Result<(), OutOfMemory>
-        requires space { (C.sets conds.old).arities ≡ arities_of (seen_space space.now) }
+    ) -> Result<(), Stop>
         requires held { All (IsHeld names.now) line.now }
         requires directive { Some conditional ≡ conditional_in (directive_at names.now line.now) }
         requires owns { Owns (C.sets conds.old) self.old }
+        requires table { IsTable (C.sets conds.old) names.now self.old.table }
         ensures printable { OnOk result (StaysPrintable names.now line.now self.old self.new) }
-        ensures steps { OnOk result (SimulatesStep (initial_macros (seen_space space.now)) names.now (C.sets conds.old) self.old (C.sets conds.new) self.new (λ files config m. step m (seen_line names.now files line.now))) }
+        ensures steps { OnOk result (SimulatesStep names.now (C.sets conds.old) self.old (C.sets conds.new) self.new (λ files config m. step m (seen_line names.now files line.now))) }
+        ensures memory { IfErr result (λ s. s ≡ stop.OutOfMemory) }
         ensures keeps { Keeps (C.sets conds.old) (C.sets conds.new) }
     {
         match conditional {
             Conditional::If => self.refused_section(conds, line),
-            Conditional::Ifdef => self.named_section(conds, space, names, line, true),
-            Conditional::Ifndef => self.named_section(conds, space, names, line, false),
-            Conditional::Elif => {
-                self.begin_branch(conds)?;
-                self.refuse(conds, line)
-            }
-            Conditional::Else => self.begin_branch(conds),
-            Conditional::Endif => self.end_section(conds),
+            Conditional::Ifdef => self.named_section(conds, names, line, true),
+            Conditional::Ifndef => self.named_section(conds, names, line, false),
+            Conditional::Elif => self.refused_branch(conds, line),
+            Conditional::Else => Ok(self.begin_branch(conds)?),
+            Conditional::Endif => Ok(self.end_section(conds)?),
         }
     }
 
     /// A section whose first directive can't be decided.
     #[tactic(auto, using(sc_model::proofs::SetLemmas::conditions))]
-    fn refused_section<C: Conditions>(
-        &mut self,
-        conds: &mut C,
-        line: &[Token],
-    ) -> Result<(), OutOfMemory>
+    fn refused_section<C: Conditions>(&mut self, conds: &mut C, line: &[Token]) -> Result<(), Stop>
         requires owns { Owns (C.sets conds.old) self.old }
         requires line { 0 < length line.now }
         ensures printable { OnOk result ((names : List (List ℕ)) → StaysPrintable names line.now self.old self.new) }
-        ensures moved { OnOk result ((macros : List ℕ → Macros) (names : List (List ℕ)) → SimulatesStep macros names (C.sets conds.old) self.old (C.sets conds.new) self.new
-            (λ files config m. opened (refusing m (seen_line names files line.now)) false)) }
+        ensures moved { OnOk result ((names : List (List ℕ)) → SimulatesStep names (C.sets conds.old) self.old (C.sets conds.new) self.new
+            (λ files config m. opened (refusing m (seen_line names files line.now) BadDirective) false)) }
+        ensures memory { IfErr result (λ s. s ≡ stop.OutOfMemory) }
         ensures keeps { Keeps (C.sets conds.old) (C.sets conds.new) }
     {
-        self.refuse(conds, line)?;
+        self.refuse_all(conds, Cause::BadDirective, line)?;
         let never = conds.never();
-        self.begin_section(conds, never)
+        self.begin_section(conds, never)?;
+        Ok(())
+    }
+
+    /// A branch whose directive can't be decided.
+    #[tactic(auto, using(sc_model::proofs::SetLemmas::conditions))]
+    fn refused_branch<C: Conditions>(&mut self, conds: &mut C, line: &[Token]) -> Result<(), Stop>
+        requires owns { Owns (C.sets conds.old) self.old }
+        requires line { 0 < length line.now }
+        ensures printable { OnOk result ((names : List (List ℕ)) → StaysPrintable names line.now self.old self.new) }
+        ensures moved { OnOk result ((names : List (List ℕ)) → SimulatesStep names (C.sets conds.old) self.old (C.sets conds.new) self.new
+            (λ files config m. refusing (next_branch m m.sections) (seen_line names files line.now) BadDirective)) }
+        ensures memory { IfErr result (λ s. s ≡ stop.OutOfMemory) }
+        ensures keeps { Keeps (C.sets conds.old) (C.sets conds.new) }
+    {
+        self.begin_branch(conds)?;
+        self.refuse_all(conds, Cause::BadDirective, line)?;
+        Ok(())
     }
 
     /// A section whose first branch is taken where a name is defined, or where it is not.
@@ -102,74 +119,224 @@ impl Walk {
     fn named_section<C: Conditions>(
         &mut self,
         conds: &mut C,
-        space: &Space,
         names: &Names,
         line: &[Token],
         wanted: bool,
-    ) -> Result<(), OutOfMemory>
-        requires space { (C.sets conds.old).arities ≡ arities_of (seen_space space.now) }
+    ) -> Result<(), Stop>
         requires held { All (IsHeld names.now) line.now }
         requires owns { Owns (C.sets conds.old) self.old }
+        requires table { IsTable (C.sets conds.old) names.now self.old.table }
         requires line { 0 < length line.now }
         ensures printable { OnOk result (StaysPrintable names.now line.now self.old self.new) }
-        ensures moved { OnOk result (SimulatesStep (initial_macros (seen_space space.now)) names.now (C.sets conds.old) self.old (C.sets conds.new) self.new
-            (λ files config m. opened_by_name m (seen_line names.now files line.now) (is_taken (initial_macros (seen_space space.now) config) wanted) (operand_of (seen_line names.now files line.now)))) }
+        ensures moved { OnOk result (SimulatesStep names.now (C.sets conds.old) self.old (C.sets conds.new) self.new
+            (λ files config m. opened_by_name m (seen_line names.now files line.now) (is_taken m.state.macros wanted) (operand_of (seen_line names.now files line.now)))) }
+        ensures memory { IfErr result (λ s. s ≡ stop.OutOfMemory) }
         ensures keeps { Keeps (C.sets conds.old) (C.sets conds.new) }
     {
         match operand(names, line) {
             None => self.refused_section(conds, line),
-            Some(name) => {
-                let test = taken(conds, space, names.text(name), wanted)?;
-                self.begin_section(conds, test)
-            }
+            Some(name) => self.section_of_name(conds, names, name, wanted),
         }
+    }
+
+    /// A section whose first branch is taken where this name is defined, or where it is not.
+    #[tactic(auto, using(sc_model::proofs::SetLemmas::conditions))]
+    fn section_of_name<C: Conditions>(
+        &mut self,
+        conds: &mut C,
+        names: &Names,
+        name: Name,
+        wanted: bool,
+    ) -> Result<(), Stop>
+        requires held { name.0 < length names.now }
+        requires owns { Owns (C.sets conds.old) self.old }
+        requires table { IsTable (C.sets conds.old) names.now self.old.table }
+        ensures printable { OnOk result ((line : List base.Token) → StaysPrintable names.now line self.old self.new) }
+        ensures moved { OnOk result (SimulatesStep names.now (C.sets conds.old) self.old (C.sets conds.new) self.new
+            (λ files config m. opened m (is_taken m.state.macros wanted (text_at names.now name.0)))) }
+        ensures memory { IfErr result (λ s. s ≡ stop.OutOfMemory) }
+        ensures keeps { Keeps (C.sets conds.old) (C.sets conds.new) }
+    {
+        let test = taken(conds, names, &mut self.table, name, wanted)?;
+        self.begin_section(conds, test)?;
+        Ok(())
     }
 
     /// A line that is no conditional directive.
     #[tactic(auto, using(sc_model::proofs::SetLemmas::conditions))]
     fn plain_line<C: Conditions>(
         &mut self,
+        alloc: Global,
         conds: &mut C,
+        names: &Names,
         line: &[Token],
         directive: Option<Directive>,
-    ) -> Result<(), OutOfMemory>
+    ) -> Result<(), Stop>
+        requires held { All (IsHeld names.now) line.now }
         requires owns { Owns (C.sets conds.old) self.old }
+        requires table { IsTable (C.sets conds.old) names.now self.old.table }
         requires line { (directive ≡ None → ⊥) → 0 < length line.now }
-        ensures printable { OnOk result ((names : List (List ℕ)) → StaysPrintable names line.now self.old self.new) }
-        ensures moved { OnOk result ((macros : List ℕ → Macros) (names : List (List ℕ)) → SimulatesStep macros names (C.sets conds.old) self.old (C.sets conds.new) self.new (λ files config m. plain_by m (seen_line names files line.now) directive)) }
+        ensures printable { OnOk result (StaysPrintable names.now line.now self.old self.new) }
+        ensures moved { OnOk result (SimulatesStep names.now (C.sets conds.old) self.old (C.sets conds.new) self.new (λ files config m. plain_by m (seen_line names.now files line.now) directive)) }
+        ensures memory { IfErr result (λ s. s ≡ stop.OutOfMemory) }
         ensures keeps { Keeps (C.sets conds.old) (C.sets conds.new) }
     {
         match directive {
-            None => self.put(conds, line),
-            Some(directive) => {
-                if is_refused(directive) {
-                    self.refuse(conds, line)
-                } else {
-                    Ok(())
-                }
-            }
+            None => Ok(self.put(conds, line)?),
+            Some(Directive::Define) => self.define(alloc, conds, names, line),
+            Some(Directive::Undef) => self.undef(conds, names, line),
+            Some(directive) => self.other_line(conds, line, directive),
         }
+    }
+
+    /// A directive that has no effect, or is not carried out.
+    #[tactic(auto, using(sc_model::proofs::SetLemmas::conditions))]
+    fn other_line<C: Conditions>(
+        &mut self,
+        conds: &mut C,
+        line: &[Token],
+        directive: Directive,
+    ) -> Result<(), Stop>
+        requires owns { Owns (C.sets conds.old) self.old }
+        requires line { 0 < length line.now }
+        requires define { directive ≡ kind.Define → ⊥ }
+        requires undef { directive ≡ kind.Undef → ⊥ }
+        ensures printable { OnOk result ((names : List (List ℕ)) → StaysPrintable names line.now self.old self.new) }
+        ensures moved { OnOk result ((names : List (List ℕ)) → SimulatesStep names (C.sets conds.old) self.old (C.sets conds.new) self.new (λ files config m. plain_by m (seen_line names files line.now) (Some directive))) }
+        ensures memory { IfErr result (λ s. s ≡ stop.OutOfMemory) }
+        ensures keeps { Keeps (C.sets conds.old) (C.sets conds.new) }
+    {
+        if is_refused(directive) {
+            Ok(self.refuse_all(conds, Cause::BadDirective, line)?)
+        } else {
+            Ok(())
+        }
+    }
+
+    /// A macro is defined where the line does something, or it is refused.
+    #[tactic(auto, using(sc_model::proofs::SetLemmas::conditions))]
+    fn define<C: Conditions>(
+        &mut self,
+        alloc: Global,
+        conds: &mut C,
+        names: &Names,
+        line: &[Token],
+    ) -> Result<(), Stop>
+        requires held { All (IsHeld names.now) line.now }
+        requires owns { Owns (C.sets conds.old) self.old }
+        requires table { IsTable (C.sets conds.old) names.now self.old.table }
+        requires line { 0 < length line.now }
+        ensures printable { OnOk result (StaysPrintable names.now line.now self.old self.new) }
+        ensures moved { OnOk result (SimulatesStep names.now (C.sets conds.old) self.old (C.sets conds.new) self.new
+            (λ files config m. changing m (seen_line names.now files line.now) (changed_by m.state.macros (seen_line names.now files line.now) kind.Define))) }
+        ensures memory { IfErr result (λ s. s ≡ stop.OutOfMemory) }
+        ensures keeps { Keeps (C.sets conds.old) (C.sets conds.new) }
+    {
+        match read_define(alloc, names, line) {
+            Ok(definition) => self.define_macro(conds, names, definition, line),
+            Err(DefineStop::Fault(cause)) => Ok(self.refuse_all(conds, cause, line)?),
+            Err(DefineStop::OutOfMemory) => Err(Stop::OutOfMemory),
+        }
+    }
+
+    /// This macro is defined where the line does something, but for where it is defined otherwise.
+    #[tactic(auto, using(sc_model::proofs::SetLemmas::conditions))]
+    fn define_macro<C: Conditions>(
+        &mut self,
+        conds: &mut C,
+        names: &Names,
+        definition: Definition,
+        line: &[Token],
+    ) -> Result<(), Stop>
+        requires held { IsHeldDefinition names.now definition }
+        requires owns { Owns (C.sets conds.old) self.old }
+        requires table { IsTable (C.sets conds.old) names.now self.old.table }
+        requires line { 0 < length line.now }
+        ensures printable { OnOk result ((names : List (List ℕ)) → StaysPrintable names line.now self.old self.new) }
+        ensures moved { OnOk result (SimulatesStep names.now (C.sets conds.old) self.old (C.sets conds.new) self.new
+            (λ files config m. changing m (seen_line names.now files line.now) (defined_as m.state.macros (Ok (seen_defined names.now definition))))) }
+        ensures memory { IfErr result (λ s. s ≡ stop.OutOfMemory) }
+        ensures keeps { Keeps (C.sets conds.old) (C.sets conds.new) }
+    {
+        let refused = self.table.define(conds, names, definition, self.acting)?;
+        self.refuse(conds, refused, Cause::Redefined, line)?;
+        Ok(())
+    }
+
+    /// A macro is taken back where the line does something, or that is refused.
+    #[tactic(auto, using(sc_model::proofs::SetLemmas::conditions))]
+    fn undef<C: Conditions>(
+        &mut self,
+        conds: &mut C,
+        names: &Names,
+        line: &[Token],
+    ) -> Result<(), Stop>
+        requires held { All (IsHeld names.now) line.now }
+        requires owns { Owns (C.sets conds.old) self.old }
+        requires table { IsTable (C.sets conds.old) names.now self.old.table }
+        requires line { 0 < length line.now }
+        ensures printable { OnOk result ((names : List (List ℕ)) → StaysPrintable names line.now self.old self.new) }
+        ensures moved { OnOk result (SimulatesStep names.now (C.sets conds.old) self.old (C.sets conds.new) self.new
+            (λ files config m. changing m (seen_line names.now files line.now) (changed_by m.state.macros (seen_line names.now files line.now) kind.Undef))) }
+        ensures memory { IfErr result (λ s. s ≡ stop.OutOfMemory) }
+        ensures keeps { Keeps (C.sets conds.old) (C.sets conds.new) }
+    {
+        match operand(names, line) {
+            None => Ok(self.refuse_all(conds, Cause::BadDirective, line)?),
+            Some(name) => self.undef_macro(conds, names, name, line),
+        }
+    }
+
+    /// The macro of this name is taken back where the line does something, unless it is protected.
+    #[tactic(auto, using(sc_model::proofs::SetLemmas::conditions))]
+    fn undef_macro<C: Conditions>(
+        &mut self,
+        conds: &mut C,
+        names: &Names,
+        name: Name,
+        line: &[Token],
+    ) -> Result<(), Stop>
+        requires held { name.0 < length names.now }
+        requires owns { Owns (C.sets conds.old) self.old }
+        requires table { IsTable (C.sets conds.old) names.now self.old.table }
+        requires line { 0 < length line.now }
+        ensures printable { OnOk result ((names : List (List ℕ)) → StaysPrintable names line.now self.old self.new) }
+        ensures moved { OnOk result (SimulatesStep names.now (C.sets conds.old) self.old (C.sets conds.new) self.new
+            (λ files config m. changing m (seen_line names.now files line.now) (undefined m.state.macros (Some (text_at names.now name.0))))) }
+        ensures memory { IfErr result (λ s. s ≡ stop.OutOfMemory) }
+        ensures keeps { Keeps (C.sets conds.old) (C.sets conds.new) }
+    {
+        let refused = self.table.undef(conds, names, name, self.acting)?;
+        self.refuse(conds, refused, Cause::ProtectedName, line)?;
+        Ok(())
     }
 }
 
-/// The configurations that start with a macro of this name, or those that don't.
+/// The configurations that define this name, or those that don't.
 #[tactic(auto, using(sc_model::proofs::SetLemmas::conditions))]
 fn taken<C: Conditions>(
     conds: &mut C,
-    space: &Space,
-    name: &[u8],
+    names: &Names,
+    table: &mut MacroTable,
+    name: Name,
     wanted: bool,
-) -> Result<Cond, OutOfMemory>
-    requires { (C.sets conds.old).arities ≡ arities_of (seen_space space.now) }
+) -> Result<Cond, Stop>
+    requires table { IsTable (C.sets conds.old) names.now table.old }
+    requires held { name.0 < length names.now }
     ensures own { IfOk result (λ r. IsCond (C.sets conds.new) r.0) }
-    ensures meaning { IfOk result (λ r. Denotes (C.sets conds.new) r.0 (λ c. is_taken (initial_macros (seen_space space.now) c) wanted name.now)) }
+    ensures meaning { IfOk result (λ r. Denotes (C.sets conds.new) r.0 (λ c. is_taken (macros_at (C.sets conds.old) names.now table.old c) wanted (text_at names.now name.0))) }
+    ensures memory { IfErr result (λ s. s ≡ stop.OutOfMemory) }
+
+    // at every outcome
+    ensures table { IsTable (C.sets conds.new) names.now table.new }
+    ensures still { IsStill (C.sets conds.old) (C.sets conds.new) names.now table.old table.new }
     ensures keeps { Keeps (C.sets conds.old) (C.sets conds.new) }
 {
-    let found = defined(conds, space, name)?;
+    let found = table.defined(conds, names, name)?;
     if wanted {
         Ok(found)
     } else {
-        conds.negate(found)
+        Ok(conds.negate(found)?)
     }
 }
 
@@ -192,11 +359,6 @@ fn is_refused(directive: Directive) -> bool
 {
     matches!(
         directive,
-        Directive::Include
-            | Directive::Define
-            | Directive::Undef
-            | Directive::Line
-            | Directive::Error
-            | Directive::Unknown
+        Directive::Include | Directive::Line | Directive::Error | Directive::Unknown
     )
 }

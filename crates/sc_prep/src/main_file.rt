@@ -9,19 +9,22 @@ ghost use Rattle.sc_model.specs.Fault.{fault_at, first_place};
 ghost use Rattle.sc_model.specs.Sets.{IsConfig, Keeps};
 ghost use Rattle.sc_model.specs.Space.{arities_of};
 ghost use Rattle.sc_space.specs.Seen.{seen_space};
+ghost use Rattle.sc_space.specs.Sound.{IsSound};
+ghost use Rattle.sc_base.specs.declared.stop.Stop.TheVariants as stop;
 ghost use Rattle.sc_guarded.specs.Printable.{AreApart};
 ghost use Rattle.sc_prep.specs.Preprocesses.{IsOrdinary, OwnsList, IsRefused, Stops};
 ghost use Rattle.sc_prep.specs.Printable.{ArePrintable, CanBeShown};
 
 use crate::prepared::Prepared;
 use crate::walk::Walk;
-use sc_base::{Cause, Fault, FileId, Files, LARGEST_FILE, Names, OutOfMemory, Place, Stop};
+use sc_base::{Cause, Fault, FileId, Files, LARGEST_FILE, Names, Place, Stop};
 use sc_guarded::Guarded;
 use sc_lex::{LexStop, tokens};
 use sc_lines::{NestStop, groups};
 use sc_presence::Conditions;
 use sc_source::Source;
 use sc_space::Space;
+use sc_table::MacroTable;
 use std::alloc::Global;
 
 /// The tokens and the faults of the main file under all configurations.
@@ -35,7 +38,8 @@ pub fn preprocess<C: Conditions, S: Source>(
     names: &mut Names,
     files: &mut Files,
 ) -> Result<Prepared, Stop>
-    requires { (C.sets conds.old).arities ≡ arities_of (seen_space space.now) }
+    requires space { (C.sets conds.old).arities ≡ arities_of (seen_space space.now) }
+    requires sound { IsSound (seen_space space.now) }
     ensures ordinary { (outside : Outside) → S.holds src.old ≡ Some outside → IfOk result (λ p. (config : List ℕ)
         → IsConfig (C.sets conds.old).arities config
         → IsOrdinary (C.sets conds.new) names.new files.new p (Pre (seen_space space.now) outside main.now config) config) }
@@ -53,8 +57,8 @@ pub fn preprocess<C: Conditions, S: Source>(
 {
     let file = files.intern(main)?;
     match src.read(alloc, main)? {
-        None => Ok(refused(alloc, conds, Cause::NotFound, first(file))?),
-        Some(bytes) => Ok(preprocess_bytes(alloc, conds, space, names, file, &bytes)?),
+        None => refused(alloc, conds, Cause::NotFound, first(file)),
+        Some(bytes) => preprocess_bytes(alloc, conds, space, names, file, &bytes),
     }
 }
 
@@ -67,14 +71,16 @@ fn preprocess_bytes<C: Conditions>(
     names: &mut Names,
     file: FileId,
     bytes: &[u8],
-) -> Result<Prepared, OutOfMemory>
-    requires { (C.sets conds.old).arities ≡ arities_of (seen_space space.now) }
+) -> Result<Prepared, Stop>
+    requires space { (C.sets conds.old).arities ≡ arities_of (seen_space space.now) }
+    requires sound { IsSound (seen_space space.now) }
     ensures ordinary { IfOk result (λ p. (files : List (List ℕ)) (outside : Outside) (main config : List ℕ)
         → slice_get files file.0 ≡ Some main → outside main ≡ Some bytes.now → IsConfig (C.sets conds.old).arities config
         → IsOrdinary (C.sets conds.new) names.new files p (Pre (seen_space space.now) outside main config) config) }
     ensures owns { IfOk result (OwnsList (C.sets conds.new)) }
     ensures printable { IfOk result (λ p. ArePrintable names.new file p) }
     ensures apart { IfOk result (λ p. AreApart (C.sets conds.new) p.faults.items) }
+    ensures memory { IfErr result (λ s. s ≡ stop.OutOfMemory) }
 
     // at every outcome
     ensures names { Extends names.old names.new }
@@ -83,19 +89,20 @@ fn preprocess_bytes<C: Conditions>(
     if bytes.len() > LARGEST_FILE {
         return refused(alloc, conds, Cause::FileTooLarge, first(file));
     }
+    let table = MacroTable::start(alloc, space, names)?;
     let tokens = match tokens(alloc, file, bytes, names) {
         Ok(tokens) => tokens,
         Err(LexStop::Comment(place)) => {
             return refused(alloc, conds, Cause::UnterminatedComment, place);
         }
-        Err(LexStop::OutOfMemory) => return Err(OutOfMemory),
+        Err(LexStop::OutOfMemory) => return Err(Stop::OutOfMemory),
     };
     let tree = match groups(alloc, names, &tokens) {
         Ok(tree) => tree,
         Err(NestStop::Nesting(place)) => return refused(alloc, conds, Cause::BadNesting, place),
-        Err(NestStop::OutOfMemory) => return Err(OutOfMemory),
+        Err(NestStop::OutOfMemory) => return Err(Stop::OutOfMemory),
     };
-    Walk::of_lines(alloc, conds, space, names, &tokens, &tree.lines)
+    Walk::of_lines(alloc, conds, table, names, &tokens, &tree.lines)
 }
 
 /// Every configuration is refused.
@@ -105,12 +112,13 @@ fn refused<C: Conditions>(
     conds: &C,
     cause: Cause,
     place: Place,
-) -> Result<Prepared, OutOfMemory>
+) -> Result<Prepared, Stop>
     ensures refused { IfOk result (λ p. (names files : List (List ℕ)) (config : List ℕ) → IsConfig (C.sets conds.now).arities config
         → IsRefused (C.sets conds.now) names files p (fault_at cause (seen_place files place)) config) }
     ensures owns { IfOk result (OwnsList (C.sets conds.now)) }
     ensures printable { IfOk result (λ p. (names : List (List ℕ)) → ArePrintable names place.file p) }
     ensures apart { IfOk result (λ p. AreApart (C.sets conds.now) p.faults.items) }
+    ensures memory { IfErr result (λ s. s ≡ stop.OutOfMemory) }
 {
     let mut faults = Vec::new(alloc);
     faults.push(Fault {

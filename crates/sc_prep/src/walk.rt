@@ -1,10 +1,9 @@
-ghost use Rattle.std.specs.Prelude.{◌≡◌, ℕ, ◌<◌, Bool, List, length, OnOk, [], All, None, true, IfOk};
+ghost use Rattle.std.specs.Prelude.{◌≡◌, ℕ, ◌<◌, ◌&&◌, Bool, List, length, OnOk, [], All, IfErr, IfOk};
 ghost use Rattle.sc_base.specs.declared.token.Token as base;
 ghost use Rattle.sc_model.specs.Sets.{IsCond, IsNever, Denotes, Keeps, IsConfig};
-ghost use Rattle.c11_directives.specs.Pre.{with_text, initial_state};
-ghost use Rattle.c11_macros.specs.Macros.{Macros, initial_macros};
-ghost use Rattle.sc_prep.specs.Machine.{acting, opened, next_branch, ended, refusing, run, start};
-ghost use Rattle.sc_prep.specs.Simulates.{IsOutcomeOf, Owns, SimulatesStep, Simulates};
+ghost use Rattle.c11_directives.specs.Pre.{State, with_text};
+ghost use Rattle.sc_prep.specs.Machine.{acting, opened, next_branch, ended, refusing, refusing_if, run, start};
+ghost use Rattle.sc_prep.specs.Simulates.{IsBegun, IsOutcomeOf, Owns, SimulatesStep, Simulates};
 ghost use Rattle.sc_prep.specs.Preprocesses.{OwnsList};
 ghost use Rattle.sc_lines.specs.Nests.{seen_line, seen_lines};
 ghost use Rattle.sc_prep.specs.Printable.{StaysPrintable, IsOfFile, ArePrintable};
@@ -12,16 +11,16 @@ ghost use Rattle.sc_base.specs.declared.id.FileId.{FileId};
 ghost use Rattle.sc_base.specs.Seen.{IsHeld};
 ghost use Rattle.sc_lines.specs.Branches.{HasBranches};
 ghost use Rattle.sc_lines.specs.Split.{AreLines};
-ghost use Rattle.sc_model.specs.Space.{Space as Model, arities_of};
-ghost use Rattle.sc_space.specs.Seen.{seen_space};
+ghost use Rattle.sc_base.specs.declared.stop.Stop.TheVariants as stop;
+ghost use Rattle.sc_table.specs.Table.{IsTable};
 
 use crate::next_line::next_line;
 use crate::prepared::Prepared;
-use sc_base::{Cause, Cond, Fault, Names, OutOfMemory, Token};
+use sc_base::{Cause, Cond, Fault, Names, OutOfMemory, Stop, Token};
 use sc_guarded::Guarded;
 use sc_lines::Line;
 use sc_presence::Conditions;
-use sc_space::Space;
+use sc_table::MacroTable;
 use std::alloc::Global;
 
 /// A section that is open.
@@ -42,38 +41,42 @@ pub struct Walk {
     pub acting: Cond,
     /// The innermost last.
     pub sections: Vec<Section>,
+    /// The macros that are defined.
+    pub table: MacroTable,
     /// What was put out and refused so far.
     pub prepared: Prepared,
 }
 
 impl Walk {
-    /// What a file's lines become under all configurations. A group that no configuration takes is
-    /// passed over, and the rest of the file where all of them are refused.
+    /// What a file's lines become under all configurations, from the macros of this table on. A
+    /// group that no configuration takes is passed over, and the rest of the file where all of them
+    /// are refused.
     #[tactic(auto, using(sc_model::proofs::SetLemmas::conditions))]
     pub fn of_lines<C: Conditions>(
         alloc: Global,
         conds: &mut C,
-        space: &Space,
+        table: MacroTable,
         names: &Names,
         tokens: &[Token],
         lines: &[Line],
-    ) -> Result<Prepared, OutOfMemory>
-        requires space { (C.sets conds.old).arities ≡ arities_of (seen_space space.now) }
+    ) -> Result<Prepared, Stop>
+        requires table { IsTable (C.sets conds.old) names.now table }
         requires held { All (IsHeld names.now) tokens.now }
         requires lines { AreLines names.now tokens.now lines.now }
         requires branches { (files : List (List ℕ)) → HasBranches (seen_lines names.now files tokens.now) lines.now }
         ensures owns { IfOk result (OwnsList (C.sets conds.new)) }
         ensures printable { IfOk result (λ p. (file : FileId) → All (IsOfFile names.now file) tokens.now → ArePrintable names.now file p) }
-        ensures walked { IfOk result (λ p. (files : List (List ℕ)) (main config : List ℕ) → IsConfig (C.sets conds.old).arities config
-            → IsOutcomeOf (C.sets conds.new) names.now files p config
-            (run (start (initial_state (seen_space space.now) main config)) (seen_lines names.now files tokens.now))) }
+        ensures walked { IfOk result (λ p. (files : List (List ℕ)) (config : List ℕ) (first : State) → IsConfig (C.sets conds.old).arities config
+            → IsBegun (C.sets conds.old) names.now table config first
+            → IsOutcomeOf (C.sets conds.new) names.now files p config (run (start first) (seen_lines names.now files tokens.now))) }
+        ensures memory { IfErr result (λ s. s ≡ stop.OutOfMemory) }
         ensures keeps { Keeps (C.sets conds.old) (C.sets conds.new) }
     {
-        let mut walk = Walk::new(alloc, conds)?;
+        let mut walk = Walk::new(alloc, conds, table)?;
         let mut number = 0;
         while number < lines.len() {
             let line = &lines[number];
-            walk.take_line(conds, space, names, line, &tokens[line.first..line.end])?;
+            walk.take_line(alloc, conds, names, line, &tokens[line.first..line.end])?;
             if conds.is_never(walk.prepared.live) {
                 return Ok(walk.prepared);
             }
@@ -83,16 +86,18 @@ impl Walk {
     }
 
     /// The walk before the first line.
-    fn new<C: Conditions>(alloc: Global, conds: &C) -> Result<Walk, OutOfMemory>
+    fn new<C: Conditions>(alloc: Global, conds: &C, table: MacroTable) -> Result<Walk, OutOfMemory>
         ensures owns { IfOk result (λ walk. Owns (C.sets conds.now) walk) }
         ensures empty { IfOk result (λ walk. (walk.prepared.list ≡ []) × (walk.prepared.faults.items ≡ [])) }
-        ensures starts { IfOk result (λ walk. (space : Model) (names files : List (List ℕ)) (main config : List ℕ) → IsConfig (C.sets conds.now).arities config
-            → Simulates (C.sets conds.now) (initial_macros space) names files walk config (start (initial_state space main config))) }
+        ensures table { IfOk result (λ walk. walk.table ≡ table) }
+        ensures starts { IfOk result (λ walk. (names files : List (List ℕ)) (config : List ℕ) (first : State) → IsConfig (C.sets conds.now).arities config
+            → IsBegun (C.sets conds.now) names table config first → Simulates (C.sets conds.now) names files walk config (start first)) }
     {
         Ok(Walk {
             group: conds.always(),
             acting: conds.always(),
             sections: Vec::new(alloc),
+            table,
             prepared: Prepared {
                 list: Guarded::new(alloc)?,
                 faults: Vec::new(alloc),
@@ -111,8 +116,8 @@ impl Walk {
         requires owns { Owns (C.sets conds.old) self.old }
         requires own { IsCond (C.sets conds.old) test.0 }
         ensures printable { OnOk result ((names : List (List ℕ)) (line : List base.Token) → StaysPrintable names line self.old self.new) }
-        ensures opened { OnOk result ((macros : List ℕ → Macros) (names : List (List ℕ)) (t : List ℕ → Bool) → Denotes (C.sets conds.old) test.0 t
-            → SimulatesStep macros names (C.sets conds.old) self.old (C.sets conds.new) self.new (λ files config m. opened m (t config))) }
+        ensures opened { OnOk result ((names : List (List ℕ)) (t : List ℕ → Bool) → Denotes (C.sets conds.old) test.0 t
+            → SimulatesStep names (C.sets conds.old) self.old (C.sets conds.new) self.new (λ files config m. opened m (t config))) }
         ensures keeps { Keeps (C.sets conds.old) (C.sets conds.new) }
     {
         let others = conds.negate(test)?;
@@ -133,7 +138,7 @@ impl Walk {
     pub fn begin_branch<C: Conditions>(&mut self, conds: &mut C) -> Result<(), OutOfMemory>
         requires { Owns (C.sets conds.old) self.old }
         ensures printable { OnOk result ((names : List (List ℕ)) (line : List base.Token) → StaysPrintable names line self.old self.new) }
-        ensures moved { OnOk result ((macros : List ℕ → Macros) (names : List (List ℕ)) → SimulatesStep macros names (C.sets conds.old) self.old (C.sets conds.new) self.new (λ files config m. next_branch m m.sections)) }
+        ensures moved { OnOk result ((names : List (List ℕ)) → SimulatesStep names (C.sets conds.old) self.old (C.sets conds.new) self.new (λ files config m. next_branch m m.sections)) }
         ensures keeps { Keeps (C.sets conds.old) (C.sets conds.new) }
     {
         let Some(section) = self.sections.pop() else {
@@ -154,7 +159,7 @@ impl Walk {
     pub fn end_section<C: Conditions>(&mut self, conds: &mut C) -> Result<(), OutOfMemory>
         requires { Owns (C.sets conds.old) self.old }
         ensures printable { OnOk result ((names : List (List ℕ)) (line : List base.Token) → StaysPrintable names line self.old self.new) }
-        ensures moved { OnOk result ((macros : List ℕ → Macros) (names : List (List ℕ)) → SimulatesStep macros names (C.sets conds.old) self.old (C.sets conds.new) self.new (λ files config m. ended m m.sections)) }
+        ensures moved { OnOk result ((names : List (List ℕ)) → SimulatesStep names (C.sets conds.old) self.old (C.sets conds.new) self.new (λ files config m. ended m m.sections)) }
         ensures keeps { Keeps (C.sets conds.old) (C.sets conds.new) }
     {
         let Some(section) = self.sections.pop() else {
@@ -166,39 +171,62 @@ impl Walk {
         Ok(())
     }
 
-    /// The configurations that take the line are refused at its first token, where there are some.
+    /// A part of the configurations that take the line is refused at its first token, where it has
+    /// some.
     #[tactic(auto, using(sc_model::proofs::SetLemmas::conditions))]
     pub fn refuse<C: Conditions>(
         &mut self,
         conds: &mut C,
+        part: Cond,
+        cause: Cause,
+        line: &[Token],
+    ) -> Result<(), OutOfMemory>
+        requires owns { Owns (C.sets conds.old) self.old }
+        requires own { IsCond (C.sets conds.old) part.0 }
+        requires line { 0 < length line.now }
+        ensures printable { OnOk result ((names : List (List ℕ)) → StaysPrintable names line.now self.old self.new) }
+        ensures moved { OnOk result ((names : List (List ℕ)) (t : List ℕ → Bool) → Denotes (C.sets conds.old) part.0 (λ c. t c && (C.sets conds.old).has self.old.acting.0 c)
+            → SimulatesStep names (C.sets conds.old) self.old (C.sets conds.new) self.new (λ files config m. refusing_if (t config) m (seen_line names files line.now) cause)) }
+        ensures keeps { Keeps (C.sets conds.old) (C.sets conds.new) }
+    {
+        if conds.is_never(part) {
+            return Ok(());
+        }
+        self.prepared.faults.push(Fault {
+            cond: part,
+            cause,
+            place: line[0].place,
+        })?;
+        let others = conds.negate(part)?;
+        let live = conds.apply_and(self.prepared.live, others)?;
+        let acting = conds.apply_and(self.acting, others)?;
+        self.prepared.live = live;
+        self.acting = acting;
+        Ok(())
+    }
+
+    /// The configurations that take the line are refused at its first token.
+    #[tactic(auto, using(sc_model::proofs::SetLemmas::conditions))]
+    pub fn refuse_all<C: Conditions>(
+        &mut self,
+        conds: &mut C,
+        cause: Cause,
         line: &[Token],
     ) -> Result<(), OutOfMemory>
         requires owns { Owns (C.sets conds.old) self.old }
         requires line { 0 < length line.now }
         ensures printable { OnOk result ((names : List (List ℕ)) → StaysPrintable names line.now self.old self.new) }
-        ensures moved { OnOk result ((macros : List ℕ → Macros) (names : List (List ℕ)) → SimulatesStep macros names (C.sets conds.old) self.old (C.sets conds.new) self.new (λ files config m. refusing m (seen_line names files line.now))) }
+        ensures moved { OnOk result ((names : List (List ℕ)) → SimulatesStep names (C.sets conds.old) self.old (C.sets conds.new) self.new (λ files config m. refusing m (seen_line names files line.now) cause)) }
         ensures keeps { Keeps (C.sets conds.old) (C.sets conds.new) }
     {
-        if conds.is_never(self.acting) {
-            return Ok(());
-        }
-        self.prepared.faults.push(Fault {
-            cond: self.acting,
-            cause: Cause::BadDirective,
-            place: line[0].place,
-        })?;
-        let others = conds.negate(self.acting)?;
-        let live = conds.apply_and(self.prepared.live, others)?;
-        self.prepared.live = live;
-        self.acting = conds.never();
-        Ok(())
+        self.refuse(conds, self.acting, cause, line)
     }
 
     /// The tokens of a line are put out, where some configuration takes them.
     pub fn put<C: Conditions>(&mut self, conds: &C, line: &[Token]) -> Result<(), OutOfMemory>
         requires { Owns (C.sets conds.now) self.old }
         ensures printable { OnOk result ((names : List (List ℕ)) → StaysPrintable names line.now self.old self.new) }
-        ensures moved { OnOk result ((macros : List ℕ → Macros) (names : List (List ℕ)) → SimulatesStep macros names (C.sets conds.now) self.old (C.sets conds.now) self.new (λ files config m. acting m (λ state. with_text state (seen_line names files line.now)))) }
+        ensures moved { OnOk result ((names : List (List ℕ)) → SimulatesStep names (C.sets conds.now) self.old (C.sets conds.now) self.new (λ files config m. acting m (λ state. with_text state (seen_line names files line.now)))) }
         ensures none { IsNever (C.sets conds.now) self.old.acting.0 → self.new ≡ self.old }
     {
         if conds.is_never(self.acting) {

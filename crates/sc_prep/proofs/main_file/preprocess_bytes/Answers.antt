@@ -7,6 +7,8 @@ use Rattle.sc_prep.proofs.Printing.{tokens-of_file, faults-few}
 use Rattle.sc_model.proofs.SetLemmas.{IsConfig-kept}
 use Rattle.sc_prep.proofs.FileWalk.{enters-main, refused-ordinary, outcome-ordinary}
 use Rattle.sc_prep.proofs.Machine.{lines-hashes}
+use Rattle.sc_prep.proofs.WalkMoves.{begins-as}
+use Rattle.sc_table.proofs.Growth.{IsTable-Extends}
 use Rattle.sc_prep.proofs.main_file.preprocess_bytes.Goals as goal
 use Rattle.sc_lex.proofs.SeenLemmas.{tokens-seen, place-seen}
 use Rattle.sc_base.specs.declared.token.Token.{Token}
@@ -19,7 +21,7 @@ use Rattle.sc_lines.specs.Nests.{seen_lines}
 use Rattle.sc_model.specs.declared.cause.Cause.TheVariants.{FileTooLarge, UnterminatedComment, BadNesting}
 use Rattle.c11_directives.specs.Lines.{c11_directive_names, lines_of, IsTree, Tree, nested}
 use Rattle.sc_model.specs.Fault.{fault_at, first_place}
-use Rattle.c11_directives.specs.Pre.{too_large, unended, badly_nested}
+use Rattle.c11_directives.specs.Pre.{initial_state, too_large, unended, badly_nested}
 use Rattle.sc_model.specs.Token.{in_file}
 use Rattle.sc_space.specs.Seen.{seen_space}
 
@@ -75,7 +77,10 @@ returns-clause-ordinary g c =
     (λ big. omega (arith, big)) are.lexed (nested group.0 (subst (λ ls. IsTree ls group.0) lines_are group.1))
     p (seen_lines names files c.deref-2.result.now) (lines-hashes c11_directive_names _)
     (subst (λ (ts : List Token). IsTree (seen_lines names files ts) group.0) (c.deref.ensures.value ∙ sym c.deref-2.ensures.value) group.1)
-    (walked files main config listed))
+    (walked files config (initial_state (seen_space c.args.space.now) main config) listed
+    (begins-as (seen_space c.args.space.now) main config c.tokens.ensures.grows
+    (c.in_ok-table.ensures.table (g.C.Conditions.sets c.args.conds.now) c.requires.space)
+    (λ name. c.in_ok-table.ensures.initial (g.C.Conditions.sets c.args.conds.now) config name c.requires.space listed))))
     c.of_lines.ensures.walked
 
 pub returns-in-Err-Comment-clause-printable : goal.returns-in-Err-Comment-clause-printable
@@ -106,11 +111,17 @@ returns-clause-printable g c =
     (tokens-of_file names c.args.file c.args.bytes.now c.in-Ok.tokens.items c.in-Ok.ensures.ok c.in-Ok.ensures.own)))
     c.of_lines.ensures.printable
 
+pub of_lines-requires-clause-table : goal.of_lines-requires-clause-table
+of_lines-requires-clause-table g c = IsTable-Extends c.tokens.ensures.grows (c.in_ok-table.ensures.table (g.C.Conditions.sets c.args.conds.now) c.requires.space)
+
 pub returns-clause-apart : goal.returns-clause-apart
 returns-clause-apart g c =
     IfOk-weaker c.of_lines.result _ _ (λ p walked. record {
       few = λ config listed.
-          let outcome = walked [] [] config (IsConfig-kept c.of_lines.ensures.keeps listed) in
+          let now = IsConfig-kept c.of_lines.ensures.keeps listed in
+          let outcome = walked [] config (initial_state (seen_space c.args.space.now) [] config) now (begins-as (seen_space c.args.space.now) [] config c.tokens.ensures.grows
+          (c.in_ok-table.ensures.table (g.C.Conditions.sets c.args.conds.now) c.requires.space)
+          (λ name. c.in_ok-table.ensures.initial (g.C.Conditions.sets c.args.conds.now) config name c.requires.space now)) in
           faults-few (g.C.Conditions.sets c.of_lines.new.conds) [] p.faults.items config _ outcome.fault;
     })
     c.of_lines.ensures.walked

@@ -1,11 +1,10 @@
 use Rattle.std.proofs.Common.{ℕ, ◌-◌, List, length, take}
 use Rattle.sc_model.specs.Sets.{IsConfig, Keeps}
-use Rattle.c11_macros.specs.Macros.{initial_macros}
-use Rattle.sc_space.specs.Seen.{seen_space}
+use Rattle.sc_table.specs.Table.{IsTable}
 use Rattle.sc_prep.specs.Machine.{run, start}
-use Rattle.sc_prep.specs.Simulates.{Owns, Simulates}
+use Rattle.sc_prep.specs.Simulates.{IsBegun, Owns, Simulates}
 use Rattle.sc_lines.specs.Nests.{seen_lines}
-use Rattle.c11_directives.specs.Pre.{initial_state}
+use Rattle.c11_directives.specs.Pre.{State}
 use Rattle.std.specs.Prelude.{All}
 use Rattle.sc_base.specs.declared.id.FileId.{FileId}
 use Rattle.sc_prep.specs.Printable.{IsOfFile, ArePrintable}
@@ -17,9 +16,9 @@ invariant-loop-number g l = record {
   owns : Owns (g.C.Conditions.sets l.conds) l.walk;
   keeps : Keeps (g.C.Conditions.sets l.fn.conds) (g.C.Conditions.sets l.conds);
   printable : (file : FileId) → All (IsOfFile l.names file) l.tokens → ArePrintable l.names file l.walk.prepared;
-  at : (files : List (List ℕ)) (main config : List ℕ) → IsConfig (g.C.Conditions.sets l.fn.conds).arities config
-      → Simulates (g.C.Conditions.sets l.conds) (initial_macros (seen_space l.space)) l.names files l.walk config
-      (run (start (initial_state (seen_space l.space) main config)) (take l.number (seen_lines l.names files l.tokens)));
+  table : IsTable (g.C.Conditions.sets l.conds) l.names l.walk.table;
+  at : (files : List (List ℕ)) (config : List ℕ) (first : State) → IsConfig (g.C.Conditions.sets l.fn.conds).arities config → IsBegun (g.C.Conditions.sets l.fn.conds) l.names l.fn.table config first
+      → Simulates (g.C.Conditions.sets l.conds) l.names files l.walk config (run (start first) (take l.number (seen_lines l.names files l.tokens)));
 }
 
 abbrev pub decreases-loop-number : goal.decreases-loop-number

@@ -1,26 +1,52 @@
-use Rattle.std.proofs.Common.{sym, ap, ◌∙◌, ◌≡◌, true}
+use Rattle.std.proofs.Common.{◌≡◌, ◌∙◌, ap, sym}
 use Rattle.std.proofs.lemmas.Result.{on_ok_weaker}
-use Rattle.std.specs.Prelude.{if◌then◌else◌}
-use Rattle.c11_directives.specs.Pre.{with_text, is_ignored, is_refused}
-use Rattle.sc_prep.specs.Machine.{acting, closing_run, plain_by, refusing}
+use Rattle.std.specs.Prelude.{Some}
+use Rattle.c11_directives.specs.declared.directive.Directive.TheVariants as kind
+use Rattle.c11_directives.specs.Pre.{with_text}
 use Rattle.sc_lines.specs.Nests.{seen_line}
+use Rattle.sc_prep.specs.Machine.{acting, changed_by, changing, plain_by}
 use Rattle.sc_prep.proofs.WalkMoves.{step-as}
 use Rattle.sc_prep.proofs.walk.Walk.plain_line.Goals as goal
 
-pub returns-in-None-clause-moved : goal.returns-in-None-clause-moved
-returns-in-None-clause-moved g c = on_ok_weaker c.put.result (λ puts macros names.
+pub returns-in_ok-put-in-None-clause-moved : goal.returns-in_ok-put-in-None-clause-moved
+returns-in_ok-put-in-None-clause-moved g c =
+    let names = c.args.names.now in
     let line = c.args.line.now in
     step-as (λ files config m. acting m (λ s. with_text s (seen_line names files line))) (λ files config m. plain_by m (seen_line names files line) c.args.directive)
-    (λ files config m _. ap (plain_by m (seen_line names files line)) (sym c.in-None.is)) (puts macros names))
-    c.put.ensures.moved
+    (λ files config m _ _. ap (plain_by m (seen_line names files line)) (sym c.in-None.is)) (c.in_ok-put-in-None.ensures.moved names)
 
-pub returns-then-is_refused-clause-moved : goal.returns-then-is_refused-clause-moved
-returns-then-is_refused-clause-moved g c = on_ok_weaker c.refuse.result (λ refuses macros names.
+pub returns-in-Some-Define-clause-moved : goal.returns-in-Some-Define-clause-moved
+returns-in-Some-Define-clause-moved g c =
+    let names = c.args.names.now in
     let line = c.args.line.now in
-    let d = c.in-Some.directive in
-    let refused : is_refused d ≡ true = sym c.is_refused.ensures ∙ c.if-is_refused.true in
-    step-as (λ files config m. refusing m (seen_line names files line)) (λ files config m. plain_by m (seen_line names files line) c.args.directive)
-    (λ files config m _.
-    let l = seen_line names files line in
-    ap (λ b. if b then refusing m l else (if is_ignored d then acting m closing_run else m)) (sym refused) ∙ ap (plain_by m l) (sym c.in-Some.is))
-    (refuses macros names)) c.refuse.ensures.moved
+    let at = rw c.in-Some-Define.is at c.in-Some-Define.field-0-is in
+    let is : c.args.directive ≡ Some kind.Define = c.in-Some-Define.is ∙ ap Some at in
+    on_ok_weaker c.define.result (step-as (λ files config m. changing m (seen_line names files line) (changed_by m.state.macros (seen_line names files line) kind.Define))
+    (λ files config m. plain_by m (seen_line names files line) c.args.directive)
+    (λ files config m _ _. ap (plain_by m (seen_line names files line)) (sym is)))
+    c.define.ensures.moved
+
+pub returns-in-Some-Undef-clause-moved : goal.returns-in-Some-Undef-clause-moved
+returns-in-Some-Undef-clause-moved g c =
+    let names = c.args.names.now in
+    let line = c.args.line.now in
+    let at = rw c.in-Some-Undef.is at c.in-Some-Undef.field-0-is in
+    let is : c.args.directive ≡ Some kind.Undef = c.in-Some-Undef.is ∙ ap Some at in
+    on_ok_weaker c.undef.result (step-as (λ files config m. changing m (seen_line names files line) (changed_by m.state.macros (seen_line names files line) kind.Undef))
+    (λ files config m. plain_by m (seen_line names files line) c.args.directive)
+    (λ files config m _ _. ap (plain_by m (seen_line names files line)) (sym is)))
+    c.undef.ensures.moved
+
+pub returns-in-Some-clause-moved : goal.returns-in-Some-clause-moved
+returns-in-Some-clause-moved g c = on_ok_weaker c.other_line.result (λ moved.
+    let names = c.args.names.now in
+    let line = c.args.line.now in
+    step-as (λ files config m. plain_by m (seen_line names files line) (Some c.in-Some.directive)) (λ files config m. plain_by m (seen_line names files line) c.args.directive)
+    (λ files config m _ _. ap (plain_by m (seen_line names files line)) (sym c.in-Some.is)) (moved names))
+    c.other_line.ensures.moved
+
+pub returns-in-Some-clause-printable : goal.returns-in-Some-clause-printable
+returns-in-Some-clause-printable g c = on_ok_weaker c.other_line.result (λ printable. printable c.args.names.now) c.other_line.ensures.printable
+
+pub returns-in_ok-put-in-None-clause-printable : goal.returns-in_ok-put-in-None-clause-printable
+returns-in_ok-put-in-None-clause-printable g c = c.in_ok-put-in-None.ensures.printable c.args.names.now

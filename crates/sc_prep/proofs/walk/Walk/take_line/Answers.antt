@@ -1,8 +1,6 @@
 use Rattle.std.proofs.Common.{sym, ap, ◌∙◌}
 use Rattle.std.proofs.lemmas.Result.{on_ok_weaker}
 use Rattle.c11_directives.specs.Lines.{conditional_in}
-use Rattle.c11_macros.specs.Macros.{initial_macros}
-use Rattle.sc_space.specs.Seen.{seen_space}
 use Rattle.sc_prep.specs.Machine.{plain_by, step}
 use Rattle.sc_lines.specs.Nests.{seen_line}
 use Rattle.sc_prep.proofs.LineSteps.{directive-long, plain-is}
@@ -22,5 +20,5 @@ returns-in-None-clause-steps g c =
     let directive = c.args.line.now.directive in
     on_ok_weaker c.plain_line.result (λ moved.
     step-as (λ files config m. plain_by m (seen_line names files tokens) directive) (λ files config m. step m (seen_line names files tokens))
-    (λ files config m _. plain-is names files tokens m directive c.requires.directive (sym c.conditional.ensures ∙ c.in-None.is))
-    (moved (initial_macros (seen_space c.args.space.now)) names)) c.plain_line.ensures.moved
+    (λ files config m _ _. plain-is names files tokens m directive c.requires.directive (sym c.conditional.ensures ∙ c.in-None.is))
+    moved) c.plain_line.ensures.moved

@@ -1,0 +1,29 @@
+use Rattle.std.proofs.Common.{ap}
+use Rattle.std.proofs.lemmas.Result.{on_ok_weaker}
+use Rattle.std.specs.Prelude.{Some}
+use Rattle.sc_base.specs.Seen.{text_at}
+use Rattle.sc_lines.specs.Nests.{seen_line}
+use Rattle.sc_model.specs.declared.cause.Cause.TheVariants.{BadDirective}
+use Rattle.c11_directives.specs.declared.directive.Directive.TheVariants as kind
+use Rattle.c11_directives.specs.Pre.{undefined}
+use Rattle.sc_prep.specs.Machine.{changed_by, changing, refusing}
+use Rattle.sc_prep.proofs.WalkMoves.{step-as}
+use Rattle.sc_prep.proofs.walk.Walk.undef.Goals as goal
+
+pub returns-in_ok-refuse_all-in-None-clause-moved : goal.returns-in_ok-refuse_all-in-None-clause-moved
+returns-in_ok-refuse_all-in-None-clause-moved g c =
+    let names = c.args.names.now in
+    let line = c.args.line.now in
+    step-as (λ files config m. refusing m (seen_line names files line) BadDirective)
+    (λ files config m. changing m (seen_line names files line) (changed_by m.state.macros (seen_line names files line) kind.Undef))
+    (λ files config m _ _. ap (λ o. changing m (seen_line names files line) (undefined m.state.macros o)) (c.in-None.ensures.text files))
+    (c.in_ok-refuse_all-in-None.ensures.moved names)
+
+pub returns-in-Some-clause-moved : goal.returns-in-Some-clause-moved
+returns-in-Some-clause-moved g c = on_ok_weaker c.undef_macro.result (λ moved.
+    let names = c.args.names.now in
+    let line = c.args.line.now in
+    step-as (λ files config m. changing m (seen_line names files line) (undefined m.state.macros (Some (text_at names c.in-Some.name.0))))
+    (λ files config m. changing m (seen_line names files line) (changed_by m.state.macros (seen_line names files line) kind.Undef))
+    (λ files config m _ _. ap (λ o. changing m (seen_line names files line) (undefined m.state.macros o)) (c.in-Some.ensures.text files))
+    moved) c.undef_macro.ensures.moved
