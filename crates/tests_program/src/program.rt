@@ -45,7 +45,7 @@ const TOKENS: Case<'static> = Case {
 
 const ONE: &str = "[variables]\nA = [\"undef\", 1]\n";
 
-const CASES: [Case<'static>; 17] = [
+const CASES: [Case<'static>; 24] = [
     TOKENS,
     Case {
         space: ONE,
@@ -83,6 +83,49 @@ const CASES: [Case<'static>; 17] = [
         main: b"#ifdef A\n#error\n#endif\n#line\n",
         status: 1,
         out: "c 2 A undef:0 1:1\ns 0 m.c\nf 2 5 BadDirective 0:2:1\nc 3 A undef:1 1:0\nf 3 5 BadDirective 0:4:1\nend\n",
+        ..TOKENS
+    },
+    Case {
+        space: ONE,
+        main: b"#define A 2\n",
+        status: 1,
+        out: "c 2 A undef:0 1:1\ns 0 m.c\nf 2 7 Redefined 0:1:1\nend\n",
+        ..TOKENS
+    },
+    Case {
+        space: ONE,
+        main: b"#ifdef A\n#define B(x) x\n#endif\n#ifdef B\nx\n#endif\n#undef B\n#ifdef B\ny\n#endif\n",
+        out: "c 2 A undef:0 1:1\ns 0 m.c\nt 2 0:5:1 x\nend\n",
+        ..TOKENS
+    },
+    Case {
+        main: b"#define Y 1 + 2\n#define  Y  1  +  2\n#define Y 1+ 2\n",
+        status: 1,
+        out: "s 0 m.c\nf 1 7 Redefined 0:3:1\nend\n",
+        ..TOKENS
+    },
+    Case {
+        main: b"#define f(a, a) a\n",
+        status: 1,
+        out: "s 0 m.c\nf 1 6 BadDefine 0:1:1\nend\n",
+        ..TOKENS
+    },
+    Case {
+        main: b"#undef __FILE__\n",
+        status: 1,
+        out: "s 0 m.c\nf 1 8 ProtectedName 0:1:1\nend\n",
+        ..TOKENS
+    },
+    Case {
+        main: b"in\\\nt x;\n",
+        out: "s 0 m.c\nt 1 0:1:1 int\nt 1 0:2:3 x\nt 1 0:2:4 ;\nend\n",
+        ..TOKENS
+    },
+    Case {
+        space: "branches = 0\n[variables]\n",
+        status: 3,
+        out: "",
+        err: "superc: space: BadLimit branches\n",
         ..TOKENS
     },
     Case {
