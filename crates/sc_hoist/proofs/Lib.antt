@@ -1,0 +1,3 @@
+pub mod BranchLemmas
+pub mod PartLemmas
+pub mod PlaceLemmas
