@@ -1,5 +1,5 @@
 -- Branches that part a condition: no two are of configurations with the same places.
-use Rattle.std.proofs.Common.{◌≡◌, ℕ, zero, suc, ◌+◌, ◌<◌, ◌≤◌, Bool, true, false, List, [], ◌∷◌, ◌++◌, All, length, take, get_or, map, refl, ap, sym, subst, ◌∙◌, arith, inl, inr, ◌⊎◌, if◌then◌else◌}
+use Rattle.std.proofs.Common.{◌≡◌, ℕ, zero, suc, ◌<◌, ◌≤◌, Bool, true, false, List, [], ◌∷◌, All, length, take, get_or, map, refl, ap, sym, subst, ◌∙◌, arith, inl, inr, ◌⊎◌, if◌then◌else◌}
 use Rattle.std.proofs.lemmas.Bool.{cases_eq, cases_lt, true≢false}
 use Rattle.std.proofs.lemmas.List.{take_all}
 use Rattle.std.proofs.lemmas.List.Elements.{All-head, All-tail}
@@ -10,7 +10,7 @@ use Rattle.sc_hoist.specs.Leaves.{AreLeaves, Agree, SameBelow, placed}
 use Rattle.sc_hoist.specs.Places.{places_from}
 use Rattle.sc_hoist.proofs.PlaceLemmas.{SameBelow-places}
 use Rattle.sc_model.proofs.SetLemmas.{IsConfig-kept}
-use Rattle.sc_model.specs.Sets.{Sets, IsConfig, HasOptions, IsCond, Keeps, IsNever, config_count}
+use Rattle.sc_model.specs.Sets.{Sets, IsConfig, HasOptions, Keeps, IsNever, config_count}
 use Rattle.sc_presence.proofs.RankLemmas.{rank-lt, config_at-rank, IsConfig-config_at}
 use Rattle.sc_presence.specs.Rank.{strides_of, rank, config_at}
 
@@ -101,7 +101,7 @@ first_of : (branches : List Branch) (k : ℕ) → k < length branches → Branch
 first_of [] k within = absurd (omega arith)
 first_of (x ∷ xs) k within = x
 
--- Branches with the lists of the configurations so far, which are together where whole lists are equal.
+-- Branches with the lists of the configurations so far. Those with equal whole lists are together.
 pub record ArePartsOf (first now : Sets) (cond : ℕ) (part whole : List ℕ → List ℕ) (branches : List Branch) : Type 0 where
   pub leaves : AreLeaves now branches
   pub lists : (c : List ℕ) → IsConfig first.arities c → lists_at now branches c ≡ (if first.has cond c then part c ∷ [] else [])

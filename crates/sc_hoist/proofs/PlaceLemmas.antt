@@ -1,5 +1,5 @@
 -- The places of configurations that the items tell apart, or don't.
-use Rattle.std.proofs.Common.{◌≡◌, ℕ, zero, suc, ◌+◌, ◌<◌, ◌≤◌, Bool, true, false, List, [], ◌∷◌, ◌++◌, length, take, get_or, slice_get, Some, map, refl, ap, sym, subst, ◌∙◌, arith, if◌then◌else◌}
+use Rattle.std.proofs.Common.{◌≡◌, ℕ, zero, suc, ◌+◌, ◌<◌, ◌≤◌, Bool, true, false, List, [], ◌∷◌, ◌++◌, length, take, get_or, slice_get, Some, map, refl, ap, sym, ◌∙◌, arith, if◌then◌else◌}
 use Rattle.std.proofs.lemmas.List.{take_more, length-take-le, map-append}
 use Rattle.std.proofs.lemmas.Option.{slice_get_within, get_or_from_slice_get}
 use Rattle.sc_base.specs.declared.id.Cond.{Cond}
@@ -48,15 +48,19 @@ same_places s n (y ∷ items) c d same k x within = at k within (λ j below. sam
   where
     rest_c : List ℕ
     rest_c = places_from s (n + 1) items c
+
     rest_d : List ℕ
     rest_d = places_from s (n + 1) items d
+
     by : (a b : Bool) → (if a then n ∷ rest_c else rest_c) ≡ (if b then n ∷ rest_d else rest_d) → (a ≡ b) × (rest_c ≡ rest_d)
     by true true e = (refl, cc)
     by true false e = absurd (let above = places_above s (n + 1) n items d rest_c (sym e) in omega arith)
     by false true e = absurd (let above = places_above s (n + 1) n items c rest_d e in omega arith)
     by false false e = (refl, e)
+
     parts : (s.has y.0 c ≡ s.has y.0 d) × (rest_c ≡ rest_d)
     parts = by (s.has y.0 c) (s.has y.0 d) same
+
     at : (k : ℕ) → k < length (y ∷ items) → ((j : ℕ) → j < length items → s.has (get_or items j x).0 c ≡ s.has (get_or items j x).0 d) → s.has (get_or (y ∷ items) k x).0 c ≡ s.has (get_or (y ∷ items) k x).0 d
     at zero within rest = parts.0
     at (suc k) within rest = rest k (omega arith)

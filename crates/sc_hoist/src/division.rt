@@ -59,7 +59,11 @@ fn divide<C: Conditions>(
     // at every outcome
     ensures keeps { Keeps (C.sets conds.old) (C.sets conds.new) }
 {
-    let Branch { cond, mut places, .. } = branch;
+    let Branch {
+        cond,
+        mut places,
+        ..
+    } = branch;
     let having = conds.apply_and(cond, item)?;
     if conds.is_never(having) {
         divided.push(without_call(cond, places))?;

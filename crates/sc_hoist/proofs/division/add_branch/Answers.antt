@@ -1,4 +1,4 @@
-use Rattle.std.proofs.Common.{◌≡◌, ℕ, ◌++◌, ◌∷◌, [], ◌∙◌, List, ap}
+use Rattle.std.proofs.Common.{◌≡◌, ◌∙◌, List, ap}
 use Rattle.sc_base.specs.declared.id.Cond.{Cond}
 use Rattle.sc_hoist.specs.declared.branch.Branch.{Branch}
 use Rattle.sc_hoist.specs.Branches.{lists_at}

@@ -1,12 +1,10 @@
-use Rattle.std.proofs.Common.{◌≡◌, ℕ, ◌++◌, ◌∷◌, [], ◌∙◌, ◌&&◌, not, List, Bool, ap, sym, subst, refl, if◌then◌else◌, map, arith}
+use Rattle.std.proofs.Common.{◌≡◌, ℕ, ◌++◌, ◌∷◌, [], ◌∙◌, ◌&&◌, not, List, Bool, ap, sym, subst, if◌then◌else◌, arith}
 use Rattle.std.proofs.lemmas.Bool.{true≢false}
-use Rattle.std.proofs.lemmas.List.Elements.{All-head}
 use Rattle.sc_base.specs.declared.id.Cond.{Cond}
 use Rattle.sc_hoist.specs.declared.branch.Branch.{Branch}
 use Rattle.sc_hoist.specs.Branches.{lists_at}
 use Rattle.sc_hoist.specs.Leaves.{AreLeaves, Agree}
 use Rattle.sc_hoist.proofs.BranchLemmas.{lists_at-push, lists_at-Keeps, AreLeaves-Keeps, AreLeaves-more, Agree-more, Agree-Keeps, Agree-head, both_halves, undivided}
-use Rattle.sc_model.specs.Sets.{IsCond}
 use Rattle.sc_model.proofs.SetLemmas.{Keeps-refl, Keeps-trans, IsConfig-Keeps, Denotes-self, Denotes-Keeps}
 use Rattle.sc_hoist.proofs.division.divide.Goals as goal
 

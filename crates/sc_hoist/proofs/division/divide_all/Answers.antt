@@ -63,9 +63,11 @@ loop-branch-preserved g c =
           (c.in_ok-divide.ensures.lists x (IsConfig-Keeps was.keeps listed));
       agree = λ x y x_listed y_listed item agree.
           let before = was.agree x y x_listed y_listed item agree in
-          let parts = agree_more branch left rest was.keeps was.rest x_listed y_listed steps before.1 in
-          (c.in_ok-divide.ensures.agree x y (IsConfig-Keeps was.keeps x_listed) (IsConfig-Keeps was.keeps y_listed)
-          (was.keeps.at _ x c.requires.item_own x_listed ∙ (item ∙ sym (was.keeps.at _ y c.requires.item_own y_listed))) parts.0 before.0, parts.1);
+          let parts = agree_more branch left rest was.keeps was.rest x_listed y_listed steps before.1 in (
+            c.in_ok-divide.ensures.agree x y (IsConfig-Keeps was.keeps x_listed) (IsConfig-Keeps was.keeps y_listed)
+                (was.keeps.at _ x c.requires.item_own x_listed ∙ (item ∙ sym (was.keeps.at _ y c.requires.item_own y_listed))) parts.0 before.0,
+            parts.1,
+          );
     }
 
 pub returns-in_err-divide-clause-keeps : goal.returns-in_err-divide-clause-keeps

@@ -1,13 +1,11 @@
-use Rattle.std.proofs.Common.{◌≡◌, ℕ, ◌+◌, ◌<◌, ◌≤◌, ◌∙◌, ◌∷◌, [], List, map, take, get_or, length, refl, ap, sym, subst, arith, Bool, true, false, if◌then◌else◌}
-use Rattle.std.proofs.lemmas.List.{take_all}
+use Rattle.std.proofs.Common.{◌+◌, ◌<◌, ◌≤◌, ◌∙◌, List, map, take, get_or, length, refl, ap, sym, subst, arith, Bool}
 use Rattle.sc_base.specs.declared.id.Cond.{Cond}
 use Rattle.sc_hoist.specs.declared.branch.Branch.{Branch}
 use Rattle.sc_hoist.specs.Branches.{lists_at}
-use Rattle.sc_hoist.specs.Leaves.{AreLeaves, Agree, SameBelow, placed}
+use Rattle.sc_hoist.specs.Leaves.{placed}
 use Rattle.sc_hoist.specs.Places.{places_from}
-use Rattle.sc_hoist.proofs.PlaceLemmas.{places_from-take, SameBelow-places, SameBelow-fewer}
+use Rattle.sc_hoist.proofs.PlaceLemmas.{places_from-take, SameBelow-fewer}
 use Rattle.sc_hoist.proofs.PartLemmas.{ArePartsOf-items, ArePartsOf-all, HasLists-parts, AreBranches-parts, if_placed, at_most}
-use Rattle.sc_model.specs.Sets.{IsConfig}
 use Rattle.sc_model.proofs.SetLemmas.{Keeps-refl, Keeps-trans, IsConfig-Keeps}
 use Rattle.sc_hoist.proofs.partition.branches_of.Goals as goal
 
