@@ -23,3 +23,5 @@ mod show;
 mod source;
 #[cfg(test)]
 mod space;
+#[cfg(test)]
+mod subst;
