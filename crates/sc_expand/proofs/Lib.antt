@@ -1,0 +1,5 @@
+pub mod PlainArguments
+pub mod PlainCompletes
+pub mod PlainMoves
+pub mod PlainParameters
+pub mod PlainReaches

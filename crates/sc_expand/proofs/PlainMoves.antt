@@ -1,0 +1,156 @@
+-- Each step goes on to what the state before it comes to, and has fewer steps before it.
+use Rattle.std.proofs.Common.{◌≡◌, ℕ, zero, suc, ◌+◌, ◌*◌, ◌<◌, true, false, List, [], ◌∷◌, ◌++◌, append_assoc, append-nil, length, map, get_or, Option, Some, None, Result, Ok, Err, refl, sym, ap, ◌∙◌, subst, arith, if◌then◌else◌}
+use Rattle.std.proofs.lemmas.List.{length-map}
+use Rattle.std.proofs.Math.ListN.{get_or-map}
+use Rattle.c11_macros.proofs.Halting.{halts}
+use Rattle.c11_macros.specs.Expansion as expansion
+use Rattle.c11_macros.specs.Expansion.{Each, Expands, IsWithin, Rescans, asked, call_result, called, case_of, expanded, list_of, none, object_result, on, passed, refused, with_first}
+use Rattle.c11_macros.specs.Hidden.{Failure, Hidden, HideSet, Provenance, failure_at, meet, with_name}
+use Rattle.c11_macros.specs.Macros.{Definition, Form, Item, Macros}
+use Rattle.c11_macros.specs.Substitution.{Slot, argument, neither, parts, wants}
+use Rattle.c11_macros.specs.Trace.{trace, trace_rescan}
+use Rattle.sc_expand.proofs.PlainArguments.{AreKnown, argument-expansions, costs, each-none, each-some, is_among, length-costs, length-each, sum-costs, supplied}
+use Rattle.sc_expand.proofs.PlainCompletes.{Completes, after_these, asks, refuses, replaces, resumes, scanned, scans, steps}
+use Rattle.sc_expand.proofs.PlainParameters.{called-fits, wants-below}
+use Rattle.sc_expand.specs.Halves.{completed, expansions, list_or_empty}
+use Rattle.sc_expand.specs.Plain as plain
+use Rattle.sc_model.specs.declared.cause.Cause.TheVariants.{UnterminatedCall, WrongArguments}
+use Rattle.sc_expand.specs.Plain.{Fails, IsTemplate, Moves, State, Waiting, expanding, gathered, replacement_of, scanning, waiting, with_expanded, without_first}
+
+-- ---- the arguments that are asked for
+
+asked-some : {P : Type 0} (form : Form) (items : List Item) (k : ℕ) (arguments : List (List (Hidden P))) (n : ℕ) → n < length arguments → wants (k + n) false (parts form neither items) ≡ true
+    → get_or (asked form items k arguments) n None ≡ Some (argument arguments n)
+asked-some form items k [] n below wanted = absurd (omega arith)
+asked-some form items k (a ∷ others) zero below wanted =
+    let same : k ≡ k + 0 = omega arith in
+    ap (λ b. if b then Some a else None) (ap (λ j. wants j false (parts form neither items)) same ∙ wanted)
+asked-some form items k (a ∷ others) (suc n) below wanted =
+    let same : suc k + n ≡ k + suc n = omega arith in
+    asked-some form items (suc k) others n (omega arith) (ap (λ j. wants j false (parts form neither items)) same ∙ wanted)
+
+asked-none : {P : Type 0} (form : Form) (items : List Item) (k : ℕ) (arguments : List (List (Hidden P))) (n : ℕ) → wants (k + n) false (parts form neither items) ≡ false
+    → get_or (asked form items k arguments) n None ≡ None
+asked-none form items k [] n unwanted = refl
+asked-none form items k (a ∷ others) zero unwanted =
+    let same : k ≡ k + 0 = omega arith in
+    ap (λ b. if b then Some a else None) (ap (λ j. wants j false (parts form neither items)) same ∙ unwanted)
+asked-none form items k (a ∷ others) (suc n) unwanted =
+    let same : suc k + n ≡ k + suc n = omega arith in
+    asked-none form items (suc k) others n (ap (λ j. wants j false (parts form neither items)) same ∙ unwanted)
+
+length-asked : {P : Type 0} (form : Form) (items : List Item) (k : ℕ) (arguments : List (List (Hidden P))) → length (asked form items k arguments) ≡ length arguments
+length-asked form items k [] = refl
+length-asked form items k (a ∷ others) = ap suc (length-asked form items (suc k) others)
+
+after-stay : {P : Type 0} (out : List (Hidden P)) (t : Hidden P) (r : Result (List (Hidden P)) (Failure P)) → after_these out (with_first t r) ≡ after_these (out ++ t ∷ []) r
+after-stay out t (Ok list) = ap Ok (sym (append_assoc out (t ∷ []) list))
+after-stay out t (Err failure) = refl
+
+-- the state completes so, in more steps than this
+pub record Earlier {P : Type 0} (provenance : Provenance P) (macros : Macros) (s : State P) (r : Result (List (Hidden P)) (Failure P)) (count : ℕ) : Type 0 where
+  pub completes : Completes provenance macros s r
+  pub longer : count < steps completes
+
+module _ {P : Type 0} (provenance : Provenance P) (macros : Macros) where
+  abbrev Answer : Type 0
+  Answer = Result (List (Hidden P)) (Failure P)
+
+  -- a replacement that is equal is scanned again as well, in as many steps
+  rescans-as : (made other : Answer) (rest : List (Hidden P)) (r : Answer) → made ≡ other → (g : Rescans provenance macros other rest r) → (h : Rescans provenance macros made rest r) × ((trace_rescan h).steps ≡ (trace_rescan g).steps)
+  rescans-as made other rest r same g = subst (λ m. (h : Rescans provenance macros m rest r) × ((trace_rescan h).steps ≡ (trace_rescan g).steps)) (sym same) (g, refl)
+
+  -- a list's expansion, as a completion with another answer
+  earlier-by : (out work : List (Hidden P)) (r q : Answer) (count : ℕ) → after_these out r ≡ q → (d : Expands provenance macros work r) → count < 2 * (trace d).steps → Earlier provenance macros (scanning out work) q count
+  earlier-by out work r q count is d less = subst (λ a. Earlier provenance macros (scanning out work) a count) is (record { completes = scans out work r d; longer = less })
+
+  stay-back : (out rest : List (Hidden P)) (t : Hidden P) (r : Answer) → case_of macros t rest ≡ expansion.stays → (c : Completes provenance macros (scanning (out ++ t ∷ []) rest) r) → Earlier provenance macros (scanning out (t ∷ rest)) r (steps c)
+  stay-back out rest t r is c =
+      let s = scanned c in
+      earlier-by out (t ∷ rest) (with_first t s.answer) r (steps c) (after-stay out t s.answer ∙ sym s.is) (expansion.stay is s.expands) (omega (arith, s.counted))
+
+  object-back : (out rest body : List (Hidden P)) (t : Hidden P) (d : Definition) (r : Answer) → case_of macros t rest ≡ expansion.replaced d → object_result provenance d t ≡ Ok body
+      → (c : Completes provenance macros (scanning out (body ++ rest)) r) → Earlier provenance macros (scanning out (t ∷ rest)) r (steps c)
+  object-back out rest body t d r is made c =
+      let s = scanned c in
+      let g = rescans-as (object_result provenance d t) (Ok body) rest s.answer made (on s.expands) in
+      earlier-by out (t ∷ rest) s.answer r (steps c) (sym s.is) (expansion.object d is g.0) (omega (arith, s.counted, g.1))
+
+  replace-back : (out work body : List (Hidden P)) (w : Waiting P) (r : Answer) → w.wanted ≡ [] → replacement_of provenance w ≡ Ok body → (c : Completes provenance macros (scanning out (body ++ work)) r)
+      → Earlier provenance macros (waiting out work w) r (steps c)
+  replace-back out work body w r all made c =
+      let s = scanned c in
+      let g = rescans-as (replacement_of provenance w) (Ok body) work s.answer made (on s.expands) in
+      subst (λ a. Earlier provenance macros (waiting out work w) a (steps c)) (sym s.is)
+      (record { completes = replaces out work w s.answer all g.0; longer = omega (arith, s.counted, g.1) })
+
+  leave-back : (out work list : List (Hidden P)) (w : Waiting P) (n : ℕ) (r : Answer) (c : Completes provenance macros (waiting out work (with_expanded w n list)) r)
+      → Earlier provenance macros (expanding out work w n (scanning list [])) r (steps c)
+  leave-back out work list w n r c =
+      let inner = subst (λ l. Completes provenance macros (scanning list []) (Ok l)) (append-nil list) (scans list [] (Ok []) expansion.empty) in
+      record { completes = resumes out work w n (scanning list []) list r inner c; longer = omega arith }
+
+  module _ (names : List (List ℕ)) (within : IsWithin names macros) where
+    each-of : (wanted : List (Option (List (Hidden P)))) → (rs : List Answer) × Each provenance macros wanted rs
+    each-of [] = ([], none)
+    each-of (None ∷ wanted) = let e = each-of wanted in (Ok [] ∷ e.0, passed e.1)
+    each-of (Some a ∷ wanted) =
+        let h = halts provenance macros names within a in
+        let e = each-of wanted in
+        (h.0 ∷ e.0, expanded h.1 e.1)
+
+    gather-back : (out rest after : List (Hidden P)) (t close : Hidden P) (d : Definition) (arguments : List (List (Hidden P))) (parameters : List ℕ) (template : Result (List (Slot P)) (Failure P)) (r : Answer)
+        → case_of macros t rest ≡ called d arguments close after → IsTemplate provenance d t arguments parameters template
+        → (c : Completes provenance macros (waiting out after (gathered t arguments close parameters template)) r) → Earlier provenance macros (scanning out (t ∷ rest)) r (steps c)
+    gather-back out rest after t close d arguments parameters template r is stands c =
+        let items = list_of provenance d t in
+        let hidden : HideSet = with_name (meet t.hide close.hide) t.spelling in
+        let each = each-of (asked d.form items 0 arguments) in
+        let long : length arguments ≡ length each.0 = sym (length-each provenance macros each.1 ∙ length-asked d.form items 0 arguments) in
+        let wanted : (n : ℕ) → is_among parameters n ≡ true → wants (0 + n) false (parts d.form neither items) ≡ true =
+        λ n among. let same : 0 + n ≡ n = omega arith in ap (λ j. wants j false (parts d.form neither items)) same ∙ (sym (stands.wanted n) ∙ among) in
+        let below : (n : ℕ) → is_among parameters n ≡ true → n < length arguments =
+        λ n among. omega (arith, wants-below n d.form items (sym (stands.wanted n) ∙ among), called-fits macros t close rest after d arguments is) in
+        let known : AreKnown provenance macros arguments each.0 parameters (costs provenance macros each.1) = record {
+          below = λ n among. omega (arith, below n among, length-costs provenance macros each.1, length-asked d.form items 0 arguments);
+          at = λ n among. each-some provenance macros each.1 n (argument arguments n) (asked-some d.form items 0 arguments n (below n among) (wanted n among));
+        } in
+        let s = supplied provenance macros t hidden template arguments each.0 out after parameters (map (λ a. []) arguments) (costs provenance macros each.1) r stands.once
+        (length-costs provenance macros each.1 ∙ sym (length-each provenance macros each.1)) known
+        (length-map arguments (λ a. []) ∙ long, λ n not. unwanted n not items each.0 each.1) c in
+        let g = rescans-as (call_result provenance d t arguments close each.0) (completed provenance t hidden parameters each.0 template) after s.answer (stands.completes each.0 hidden) s.rescans in
+        earlier-by out (t ∷ rest) s.answer r (steps c) (sym s.is) (expansion.call d arguments close after each.0 is each.1 g.0)
+        (omega (arith, s.few, sum-costs provenance macros each.1, g.1))
+      where
+        unwanted : (n : ℕ) → is_among parameters n ≡ false → (items : List Item) → (rs : List Answer) → Each provenance macros (asked d.form (list_of provenance d t) 0 arguments) rs
+            → argument (map {B = List (Hidden P)} (λ a. []) arguments) n ≡ argument (expansions rs) n
+        unwanted n not items rs each =
+            let same : 0 + n ≡ n = omega arith in
+            let nothing : get_or (asked d.form (list_of provenance d t) 0 arguments) n None ≡ None =
+            asked-none d.form (list_of provenance d t) 0 arguments n (ap (λ j. wants j false (parts d.form neither (list_of provenance d t))) same ∙ (sym (stands.wanted n) ∙ not)) in
+            get_or-map (λ a. []) arguments n [] ∙ sym (argument-expansions rs n ∙ ap list_or_empty (each-none provenance macros each n nothing))
+
+    pub move-back : (s t : State P) → Moves provenance macros s t → (r : Answer) (c : Completes provenance macros t r) → Earlier provenance macros s r (steps c)
+    move-back _ _ (plain.stay out rest t is) r c = stay-back out rest t r is c
+    move-back _ _ (plain.object out rest body t d is made) r c = object-back out rest body t d r is made c
+    move-back _ _ (plain.gather out rest after t close d arguments parameters template is stands) r c = gather-back out rest after t close d arguments parameters template r is stands c
+    move-back _ _ (plain.enter out work list w n others is) r c = record { completes = asks out work w (n, list) others r is c; longer = omega arith }
+    move-back _ _ (plain.leave out work list w n) r c = leave-back out work list w n r c
+    move-back _ _ (plain.replace out work body w all made) r c = replace-back out work body w r all made c
+    move-back _ _ (plain.inside out work w n {s} {t} m) r c = inside-back out work w n s t r (move-back s t m) c
+      where
+        inside-back : (out work : List (Hidden P)) (w : Waiting P) (n : ℕ) (s t : State P) (r : Answer) → ((q : Answer) (c : Completes provenance macros t q) → Earlier provenance macros s q (steps c))
+            → (c : Completes provenance macros (expanding out work w n t) r) → Earlier provenance macros (expanding out work w n s) r (steps c)
+        inside-back out work w n s t r back (resumes o k v m u list q c d) = let e = back (Ok list) c in record { completes = resumes out work w n s list r e.completes d; longer = omega (arith, e.longer) }
+        inside-back out work w n s t r back (refuses o k v m u failure c) = let e = back (Err failure) c in record { completes = refuses out work w n s failure e.completes; longer = omega (arith, e.longer) }
+
+    pub fails-back : (s : State P) (failure : Failure P) → Fails provenance macros s failure → Completes provenance macros s (Err failure)
+    fails-back _ _ (plain.bad_object out rest t d failure is made) = scans out (t ∷ rest) (Err failure) (expansion.object d is (rescans-as (object_result provenance d t) (Err failure) rest (Err failure) made (refused failure)).0)
+    fails-back _ _ (plain.open_call out rest t is) = scans out (t ∷ rest) (Err (failure_at UnterminatedCall t)) (expansion.unterminated is)
+    fails-back _ _ (plain.miscounted out rest t is) = scans out (t ∷ rest) (Err (failure_at WrongArguments t)) (expansion.miscounted is)
+    fails-back _ _ (plain.bad_stringize out rest after t close d arguments failure is whatever) =
+        let each = each-of (asked d.form (list_of provenance d t) 0 arguments) in
+        scans out (t ∷ rest) (Err failure)
+        (expansion.call d arguments close after each.0 is each.1 (rescans-as (call_result provenance d t arguments close each.0) (Err failure) after (Err failure) (whatever each.0) (refused failure)).0)
+    fails-back _ _ (plain.bad_paste out work w failure all made) = replaces out work w (Err failure) all (rescans-as (replacement_of provenance w) (Err failure) work (Err failure) made (refused failure)).0
+    fails-back _ _ (plain.inside_fails out work w n {s} {failure} inner) = refuses out work w n s failure (fails-back s failure inner)

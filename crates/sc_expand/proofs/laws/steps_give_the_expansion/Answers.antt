@@ -1,0 +1,10 @@
+use Rattle.std.proofs.Common.{[]}
+use Rattle.sc_expand.proofs.PlainReaches.{reaches-end, reaches-fail, reaches-leads, reaches-start}
+use Rattle.sc_expand.proofs.laws.steps_give_the_expansion.Goals as goal
+use Rattle.sc_expand.specs.Plain.{scanning}
+
+pub returns-clause-list : goal.returns-clause-list
+returns-clause-list g c = λ provenance macros names within list out leads. reaches-end provenance macros list out (reaches-leads provenance macros names within list (scanning [] list) (scanning out []) (reaches-start provenance macros list) leads)
+
+pub returns-clause-failure : goal.returns-clause-failure
+returns-clause-failure g c = λ provenance macros names within list s failure leads fails. reaches-fail provenance macros names within list s failure (reaches-leads provenance macros names within list (scanning [] list) s (reaches-start provenance macros list) leads) fails

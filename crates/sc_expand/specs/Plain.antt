@@ -1,0 +1,92 @@
+-- The expansion of a list from its first token on, step by step (C11 6.10.3.4), where each argument of a call is expanded before the call is replaced.
+use Rattle.std.specs.Prelude.{◌≡◌, ℕ, ◌==◌, false, List, [], ◌∷◌, ◌++◌, map, Result, Ok, Err, slice_set}
+use Rattle.std.specs.List.{IsDistinct, list_any}
+use Rattle.c11_macros.specs.Expansion.{call_result, called, case_of, list_of, misfit, object_result, replaced, stays, unclosed}
+use Rattle.c11_macros.specs.Hidden.{Failure, Hidden, HideSet, Provenance, failure_at, meet, with_name}
+use Rattle.c11_macros.specs.Macros.{Definition, Macros}
+use Rattle.c11_macros.specs.Substitution.{Slot, argument, neither, parts, substituted, wants}
+use Rattle.sc_expand.specs.Halves.{completed, replacement}
+use Rattle.sc_model.specs.declared.cause.Cause.TheVariants.{UnterminatedCall, WrongArguments}
+
+-- a call that has left the list and waits for its arguments
+pub record Waiting (P : Type 0) : Type 0 where
+  -- the macro's name
+  pub head : Hidden P
+  -- its replacement without the arguments that are expanded alone, or the failure of a ## in it
+  pub template : Result (List (Slot P)) (Failure P)
+  -- the parameters whose arguments are still to be expanded, each with its argument
+  pub wanted : List (ℕ × List (Hidden P))
+  -- a list for each parameter: its argument as it expanded, and nothing until then
+  pub expanded : List (List (Hidden P))
+  -- what all tokens of the replacement hide
+  pub names : HideSet
+
+-- What was put out, and what is still to be scanned: a list alone, one behind a call, or one behind a call of which an argument
+-- is being expanded.
+pub data State (P : Type 0) : Type 0 where
+  scanning : (out work : List (Hidden P)) → State P
+  waiting : (out work : List (Hidden P)) → Waiting P → State P
+  expanding : (out work : List (Hidden P)) → Waiting P → (parameter : ℕ) → State P → State P
+
+-- the call waits for the argument of a parameter no more
+abbrev pub without_first : {P : Type 0} → Waiting P → List (ℕ × List (Hidden P)) → Waiting P
+without_first w others = record w { wanted = others }
+
+-- the argument of the parameter expanded to this
+abbrev pub with_expanded : {P : Type 0} → Waiting P → ℕ → List (Hidden P) → Waiting P
+with_expanded w n list = record w { expanded = slice_set w.expanded n list }
+
+-- a call whose arguments are still to be expanded, for these parameters in this order
+abbrev pub gathered : {P : Type 0} → Hidden P → List (List (Hidden P)) → Hidden P → List ℕ → Result (List (Slot P)) (Failure P) → Waiting P
+gathered t arguments close parameters template = record {
+  head = t;
+  template = template;
+  wanted = map (λ n. (n, argument arguments n)) parameters;
+  expanded = map (λ a. []) arguments;
+  names = with_name (meet t.hide close.hide) t.spelling;
+}
+
+-- The template, and the arguments of these parameters as they expand, make the replacement. They are the parameters whose
+-- arguments are expanded alone, each once.
+pub record IsTemplate {P : Type 0} (provenance : Provenance P) (d : Definition) (t : Hidden P) (arguments : List (List (Hidden P))) (parameters : List ℕ) (template : Result (List (Slot P)) (Failure P)) : Type 0 where
+  pub completes : (results : List (Result (List (Hidden P)) (Failure P))) (names : HideSet)
+      → substituted provenance d.form (list_of provenance d t) t arguments results names ≡ completed provenance t names parameters results template
+  pub wanted : (n : ℕ) → list_any (λ m. n == m) parameters ≡ wants n false (parts d.form neither (list_of provenance d t))
+  pub once : IsDistinct (λ n m. n == m) parameters
+
+-- the call's replacement, once its arguments are expanded
+abbrev pub replacement_of : {P : Type 0} → Provenance P → Waiting P → Result (List (Hidden P)) (Failure P)
+replacement_of provenance w = replacement provenance w.head w.names w.expanded w.template
+
+-- one step
+pub data Moves {P : Type 0} (provenance : Provenance P) (macros : Macros) : State P → State P → Type 0 where
+  stay : (out rest : List (Hidden P)) (t : Hidden P) → case_of macros t rest ≡ stays → Moves provenance macros (scanning out (t ∷ rest)) (scanning (out ++ t ∷ []) rest)
+  object : (out rest body : List (Hidden P)) (t : Hidden P) (d : Definition) → case_of macros t rest ≡ replaced d → object_result provenance d t ≡ Ok body
+      → Moves provenance macros (scanning out (t ∷ rest)) (scanning out (body ++ rest))
+  gather : (out rest after : List (Hidden P)) (t close : Hidden P) (d : Definition) (arguments : List (List (Hidden P))) (parameters : List ℕ) (template : Result (List (Slot P)) (Failure P))
+      → case_of macros t rest ≡ called d arguments close after → IsTemplate provenance d t arguments parameters template
+      → Moves provenance macros (scanning out (t ∷ rest)) (waiting out after (gathered t arguments close parameters template))
+  enter : (out work list : List (Hidden P)) (w : Waiting P) (n : ℕ) (others : List (ℕ × List (Hidden P))) → w.wanted ≡ (n, list) ∷ others
+      → Moves provenance macros (waiting out work w) (expanding out work (without_first w others) n (scanning [] list))
+  leave : (out work list : List (Hidden P)) (w : Waiting P) (n : ℕ) → Moves provenance macros (expanding out work w n (scanning list [])) (waiting out work (with_expanded w n list))
+  replace : (out work body : List (Hidden P)) (w : Waiting P) → w.wanted ≡ [] → replacement_of provenance w ≡ Ok body → Moves provenance macros (waiting out work w) (scanning out (body ++ work))
+  inside : (out work : List (Hidden P)) (w : Waiting P) (n : ℕ) {s t : State P} → Moves provenance macros s t → Moves provenance macros (expanding out work w n s) (expanding out work w n t)
+
+-- the list has this first cause
+pub data Fails {P : Type 0} (provenance : Provenance P) (macros : Macros) : State P → Failure P → Type 0 where
+  bad_object : (out rest : List (Hidden P)) (t : Hidden P) (d : Definition) (failure : Failure P) → case_of macros t rest ≡ replaced d → object_result provenance d t ≡ Err failure
+      → Fails provenance macros (scanning out (t ∷ rest)) failure
+  open_call : (out rest : List (Hidden P)) (t : Hidden P) → case_of macros t rest ≡ unclosed → Fails provenance macros (scanning out (t ∷ rest)) (failure_at UnterminatedCall t)
+  miscounted : (out rest : List (Hidden P)) (t : Hidden P) → case_of macros t rest ≡ misfit → Fails provenance macros (scanning out (t ∷ rest)) (failure_at WrongArguments t)
+  -- whatever the arguments expand to, a # has this failure
+  bad_stringize : (out rest after : List (Hidden P)) (t close : Hidden P) (d : Definition) (arguments : List (List (Hidden P))) (failure : Failure P)
+      → case_of macros t rest ≡ called d arguments close after
+      → ((expanded : List (Result (List (Hidden P)) (Failure P))) → call_result provenance d t arguments close expanded ≡ Err failure)
+      → Fails provenance macros (scanning out (t ∷ rest)) failure
+  bad_paste : (out work : List (Hidden P)) (w : Waiting P) (failure : Failure P) → w.wanted ≡ [] → replacement_of provenance w ≡ Err failure → Fails provenance macros (waiting out work w) failure
+  inside_fails : (out work : List (Hidden P)) (w : Waiting P) (n : ℕ) {s : State P} {failure : Failure P} → Fails provenance macros s failure → Fails provenance macros (expanding out work w n s) failure
+
+-- steps from one state to another
+pub data Leads {P : Type 0} (provenance : Provenance P) (macros : Macros) : State P → State P → Type 0 where
+  no_step : {s : State P} → Leads provenance macros s s
+  step : {s t u : State P} → Moves provenance macros s t → Leads provenance macros t u → Leads provenance macros s u
