@@ -3,3 +3,4 @@ pub mod PlainCompletes
 pub mod PlainMoves
 pub mod PlainParameters
 pub mod PlainReaches
+pub mod PlainWanted

@@ -1,11 +1,9 @@
 -- The arguments of a call one after the other, and the results of all that are expanded alone.
 use Rattle.std.proofs.Common.{◌≡◌, ◌⊎◌, inl, inr, ℕ, zero, suc, ◌+◌, ◌*◌, ◌<◌, ◌≤◌, ◌==◌, ◌||◌, Bool, true, false, List, [], ◌∷◌, length, map, sum, get_or, set, Option, Some, None, Result, Ok, Err, refl, sym, ap, ◌∙◌, subst, arith}
-use Rattle.std.proofs.lemmas.Bool.{eqb-true, eqb-false, or_cases}
+use Rattle.std.proofs.lemmas.Bool.{eqb-true, eqb-false, true≢false}
 use Rattle.std.proofs.lemmas.List.{ext_get_or, get_or-set_other, get_or-set_same, length-map, length-set}
 use Rattle.std.proofs.lemmas.List.Sums.{sum_by-cons, sum_by-set}
-use Rattle.std.proofs.lemmas.Map.Keys.{IsDistinct-head, IsDistinct-tail}
 use Rattle.std.proofs.Math.ListN.{get_or-map}
-use Rattle.std.specs.List.{AllByRecursion, IsDistinct, list_any}
 use Rattle.c11_macros.proofs.OneAnswer.{one}
 use Rattle.c11_macros.specs.Expansion.{Each, Expands, Rescans, expanded, none, passed, refused}
 use Rattle.c11_macros.specs.Hidden.{Failure, Hidden, HideSet, Provenance}
@@ -13,42 +11,9 @@ use Rattle.c11_macros.specs.Macros.{Macros}
 use Rattle.c11_macros.specs.Substitution.{Slot, argument, expansion_of}
 use Rattle.c11_macros.specs.Trace.{trace, trace_each, trace_rescan}
 use Rattle.sc_expand.proofs.PlainCompletes.{Completes, Waits, after_these, refuses, resumes, scanned, steps, waits, waits_for, waits_none}
-use Rattle.sc_expand.specs.Halves.{completed, completed_by, expansions, failure_or, first_failure, list_or_empty, replacement}
-use Rattle.sc_expand.specs.Plain.{Waiting, expanding, scanning, waiting}
-
--- the number is among these
-abbrev pub is_among : List ℕ → ℕ → Bool
-is_among ns n = list_any (λ m. n == m) ns
-
-among-first : (n m : ℕ) (ns : List ℕ) → n ≡ m → is_among (m ∷ ns) n ≡ true
-among-first n m ns same = by (n == m) refl
-  where
-    by : (b : Bool) → (n == m) ≡ b → (b || is_among ns n) ≡ true
-    by true is = refl
-    by false is = absurd (eqb-false n m is same)
-
-among-later : (n m : ℕ) (ns : List ℕ) → is_among ns n ≡ true → is_among (m ∷ ns) n ≡ true
-among-later n m ns is = by (n == m)
-  where
-    by : (b : Bool) → (b || is_among ns n) ≡ true
-    by true = refl
-    by false = is
-
-not-among : (n m : ℕ) (ns : List ℕ) → (n ≡ m → ⊥) → is_among ns n ≡ false → is_among (m ∷ ns) n ≡ false
-not-among n m ns differ not = by (n == m) refl
-  where
-    by : (b : Bool) → (n == m) ≡ b → (b || is_among ns n) ≡ false
-    by true is = absurd (differ (eqb-true n m is))
-    by false is = not
-
--- a number among others that all differ from it
-apart : (n m : ℕ) (ns : List ℕ) → AllByRecursion (λ k. (n == k) ≡ false) ns → is_among ns m ≡ true → n ≡ m → ⊥
-apart n m [] differ is = cc
-apart n m (k ∷ ns) differ is = by (or_cases (m == k) (is_among ns m) is) (apart n m ns differ.1)
-  where
-    by : ((m == k) ≡ true) ⊎ (is_among ns m ≡ true) → (is_among ns m ≡ true → n ≡ m → ⊥) → n ≡ m → ⊥
-    by (inl here) later = λ same. eqb-false n k differ.0 (same ∙ eqb-true m k here)
-    by (inr there) later = later there
+use Rattle.sc_expand.specs.Halves.{completed, unless_failed, expansions, failure_or, first_failure, list_or_empty}
+use Rattle.sc_expand.proofs.PlainWanted.{AreApart, among-first, among-later, is_among, not-among}
+use Rattle.sc_expand.specs.Plain.{Waiting, expanding, replacement_of, scanning, waiting}
 
 pub after-none : {P : Type 0} (r : Result (List (Hidden P)) (Failure P)) → after_these [] r ≡ r
 after-none (Ok list) = refl
@@ -109,11 +74,11 @@ module _ {P : Type 0} (provenance : Provenance P) (macros : Macros) where
     pub below : (n : ℕ) → is_among ps n ≡ true → n < length cs
     pub at : (n : ℕ) → is_among ps n ≡ true → Known (argument arguments n) (expansion_of results n) (get_or cs n 0)
 
-  known-later : (arguments : List (List (Hidden P))) (results : List Answer) (n : ℕ) (ps cs : List ℕ) → AllByRecursion (λ m. (n == m) ≡ false) ps → AreKnown arguments results (n ∷ ps) cs
+  known-later : (arguments : List (List (Hidden P))) (results : List Answer) (n : ℕ) (ps cs : List ℕ) → is_among ps n ≡ false → AreKnown arguments results (n ∷ ps) cs
       → AreKnown arguments results ps (set cs n 0)
-  known-later arguments results n ps cs differ known = record {
+  known-later arguments results n ps cs out known = record {
     below = λ m is. omega (arith, known.below m (among-later m n ps is), length-set cs n 0);
-    at = λ m is. subst (Known (argument arguments m) (expansion_of results m)) (sym (get_or-set_other cs n m 0 0 (λ same. apart n m ps differ is (sym same)))) (known.at m (among-later m n ps is));
+    at = λ m is. subst (Known (argument arguments m) (expansion_of results m)) (sym (get_or-set_other cs n m 0 0 (λ same. true≢false (sym is ∙ (ap (is_among ps) same ∙ out))))) (known.at m (among-later m n ps is));
   }
 
   -- a call's replacement is scanned with the rest, in so many steps after those of its arguments
@@ -156,7 +121,7 @@ module _ {P : Type 0} (provenance : Provenance P) (macros : Macros) where
         let is : expansion_of results n ≡ Ok list = same.answer ∙ sym (first.is ∙ after-none first.answer) in
         let more = later list is d in
         let all : completed provenance t names (n ∷ ps) results template ≡ completed provenance t names ps results template =
-        ap (λ e. completed_by (failure_or e (first_failure ps results)) (replacement provenance t names (expansions results) template)) is in
+        ap (λ e. unless_failed (failure_or e (first_failure ps results)) (replacement_of provenance (call_with [] (expansions results)))) is in
         subst (λ made. Supplied out work made r (1 + (1 + (steps c + steps d))) (sum cs)) (sym all)
         (record { answer = more.answer; rescans = more.rescans; is = more.is; few = omega (arith, first.counted, ap (λ x. x.steps) same.trace, known.is, more.few, sum_by-set (λ k. k) cs n 0 0 below) })
     argued n ps xs cs r below known later (refuses o k w m s failure c) =
@@ -164,13 +129,13 @@ module _ {P : Type 0} (provenance : Provenance P) (macros : Macros) where
         let same = one known.expands first.answer first.expands in
         let is : expansion_of results n ≡ Err failure = same.answer ∙ sym (first.is ∙ after-none first.answer) in
         let all : completed provenance t names (n ∷ ps) results template ≡ Err failure =
-        ap (λ e. completed_by (failure_or e (first_failure ps results)) (replacement provenance t names (expansions results) template)) is in
+        ap (λ e. unless_failed (failure_or e (first_failure ps results)) (replacement_of provenance (call_with [] (expansions results)))) is in
         subst (λ made. Supplied out work made (Err failure) (1 + (1 + steps c)) (sum cs)) (sym all)
         (record { answer = Err failure; rescans = refused failure; is = refl; few = omega (arith, first.counted, ap (λ x. x.steps) same.trace, known.is, sum_by-set (λ k. k) cs n 0 0 below) })
 
     all-supplied : (xs : List (List (Hidden P))) (cs : List ℕ) (r : Answer) (count : ℕ) → xs ≡ expansions results → Waits provenance macros out work (call_with [] xs) [] r count → Replaced [] r count (sum cs)
     all-supplied xs cs r count same (waits_none a g) =
-        subst (λ l. Supplied out work (replacement provenance t names l template) (after_these out a) (1 + 2 * (trace_rescan g).steps) (sum cs)) same
+        subst (λ l. Supplied out work (replacement_of provenance (call_with [] l)) (after_these out a) (1 + 2 * (trace_rescan g).steps) (sum cs)) same
         (record { answer = a; rescans = g; is = refl; few = omega arith })
 
     one-supplied : (n : ℕ) (ps : List ℕ) (xs : List (List (Hidden P))) (cs : List ℕ) (r : Answer) (count : ℕ)
@@ -178,7 +143,7 @@ module _ {P : Type 0} (provenance : Provenance P) (macros : Macros) where
         → Waits provenance macros out work (call_with (n ∷ ps) xs) ((n, argument arguments n) ∷ map (λ n. (n, argument arguments n)) ps) r count → Replaced (n ∷ ps) r count (sum cs)
     one-supplied n ps xs cs r count by (waits_for first others q c) = by c
 
-    pub supplied : (ps : List ℕ) (xs : List (List (Hidden P))) (cs : List ℕ) (r : Answer) → IsDistinct (λ n m. n == m) ps → length cs ≡ length results
+    pub supplied : (ps : List ℕ) (xs : List (List (Hidden P))) (cs : List ℕ) (r : Answer) → AreApart ps → length cs ≡ length results
         → AreKnown arguments results ps cs → IsFilled ps xs → (c : Completes provenance macros (waiting out work (call_with ps xs)) r) → Replaced ps r (steps c) (sum cs)
     supplied [] xs cs r once long known filled c =
         all-supplied xs cs r (steps c) (ext_get_or [] xs (expansions results) (filled.0 ∙ sym (length-map results list_or_empty)) (λ i below. filled.1 i refl)) (waits c)
@@ -186,6 +151,6 @@ module _ {P : Type 0} (provenance : Provenance P) (macros : Macros) where
         let here : is_among (n ∷ ps) n ≡ true = among-first n n ps refl in
         one-supplied n ps xs cs r (steps c)
         (argued n ps xs cs r (known.below n here) (known.at n here)
-        (λ list is d. supplied ps (set xs n list) (set cs n 0) r (IsDistinct-tail (λ n m. n == m) n ps once) (length-set cs n 0 ∙ long) (known-later arguments results n ps cs (IsDistinct-head (λ n m. n == m) n ps once) known)
+        (λ list is d. supplied ps (set xs n list) (set cs n 0) r once.1 (length-set cs n 0 ∙ long) (known-later arguments results n ps cs once.0 known)
         (filled-later n ps xs list (omega (arith, known.below n here, long)) is filled) d))
         (waits c)

@@ -9,10 +9,11 @@ use Rattle.c11_macros.specs.Hidden.{Failure, Hidden, HideSet, Provenance, failur
 use Rattle.c11_macros.specs.Macros.{Definition, Form, Item, Macros}
 use Rattle.c11_macros.specs.Substitution.{Slot, argument, neither, parts, wants}
 use Rattle.c11_macros.specs.Trace.{trace, trace_rescan}
-use Rattle.sc_expand.proofs.PlainArguments.{AreKnown, argument-expansions, costs, each-none, each-some, is_among, length-costs, length-each, sum-costs, supplied}
+use Rattle.sc_expand.proofs.PlainArguments.{AreKnown, argument-expansions, costs, each-none, each-some, length-costs, length-each, sum-costs, supplied}
 use Rattle.sc_expand.proofs.PlainCompletes.{Completes, after_these, asks, refuses, replaces, resumes, scanned, scans, steps}
 use Rattle.sc_expand.proofs.PlainParameters.{called-fits, wants-below}
-use Rattle.sc_expand.specs.Halves.{completed, expansions, list_or_empty}
+use Rattle.sc_expand.proofs.PlainWanted.{is_among, wanted-apart, wanted-asked}
+use Rattle.sc_expand.specs.Halves.{wanted_of, completed, expansions, list_or_empty}
 use Rattle.sc_expand.specs.Plain as plain
 use Rattle.sc_model.specs.declared.cause.Cause.TheVariants.{UnterminatedCall, WrongArguments}
 use Rattle.sc_expand.specs.Plain.{Fails, IsTemplate, Moves, State, Waiting, expanding, gathered, replacement_of, scanning, waiting, with_expanded, without_first}
@@ -99,41 +100,41 @@ module _ {P : Type 0} (provenance : Provenance P) (macros : Macros) where
         let e = each-of wanted in
         (h.0 ∷ e.0, expanded h.1 e.1)
 
-    gather-back : (out rest after : List (Hidden P)) (t close : Hidden P) (d : Definition) (arguments : List (List (Hidden P))) (parameters : List ℕ) (template : Result (List (Slot P)) (Failure P)) (r : Answer)
-        → case_of macros t rest ≡ called d arguments close after → IsTemplate provenance d t arguments parameters template
-        → (c : Completes provenance macros (waiting out after (gathered t arguments close parameters template)) r) → Earlier provenance macros (scanning out (t ∷ rest)) r (steps c)
-    gather-back out rest after t close d arguments parameters template r is stands c =
+    gather-back : (out rest after : List (Hidden P)) (t close : Hidden P) (d : Definition) (arguments : List (List (Hidden P))) (template : Result (List (Slot P)) (Failure P)) (r : Answer)
+        → case_of macros t rest ≡ called d arguments close after → IsTemplate provenance d t arguments template
+        → (c : Completes provenance macros (waiting out after (gathered provenance d t arguments close template)) r) → Earlier provenance macros (scanning out (t ∷ rest)) r (steps c)
+    gather-back out rest after t close d arguments template r is stands c =
         let items = list_of provenance d t in
         let hidden : HideSet = with_name (meet t.hide close.hide) t.spelling in
         let each = each-of (asked d.form items 0 arguments) in
         let long : length arguments ≡ length each.0 = sym (length-each provenance macros each.1 ∙ length-asked d.form items 0 arguments) in
-        let wanted : (n : ℕ) → is_among parameters n ≡ true → wants (0 + n) false (parts d.form neither items) ≡ true =
-        λ n among. let same : 0 + n ≡ n = omega arith in ap (λ j. wants j false (parts d.form neither items)) same ∙ (sym (stands.wanted n) ∙ among) in
-        let below : (n : ℕ) → is_among parameters n ≡ true → n < length arguments =
-        λ n among. omega (arith, wants-below n d.form items (sym (stands.wanted n) ∙ among), called-fits macros t close rest after d arguments is) in
-        let known : AreKnown provenance macros arguments each.0 parameters (costs provenance macros each.1) = record {
+        let wanted : (n : ℕ) → is_among (wanted_of d.form (list_of provenance d t)) n ≡ true → wants (0 + n) false (parts d.form neither items) ≡ true =
+        λ n among. let same : 0 + n ≡ n = omega arith in ap (λ j. wants j false (parts d.form neither items)) same ∙ (sym (wanted-asked n d.form (list_of provenance d t)) ∙ among) in
+        let below : (n : ℕ) → is_among (wanted_of d.form (list_of provenance d t)) n ≡ true → n < length arguments =
+        λ n among. omega (arith, wants-below n d.form items (sym (wanted-asked n d.form (list_of provenance d t)) ∙ among), called-fits macros t close rest after d arguments is) in
+        let known : AreKnown provenance macros arguments each.0 (wanted_of d.form items) (costs provenance macros each.1) = record {
           below = λ n among. omega (arith, below n among, length-costs provenance macros each.1, length-asked d.form items 0 arguments);
           at = λ n among. each-some provenance macros each.1 n (argument arguments n) (asked-some d.form items 0 arguments n (below n among) (wanted n among));
         } in
-        let s = supplied provenance macros t hidden template arguments each.0 out after parameters (map (λ a. []) arguments) (costs provenance macros each.1) r stands.once
+        let s = supplied provenance macros t hidden template arguments each.0 out after (wanted_of d.form items) (map (λ a. []) arguments) (costs provenance macros each.1) r (wanted-apart d.form items)
         (length-costs provenance macros each.1 ∙ sym (length-each provenance macros each.1)) known
         (length-map arguments (λ a. []) ∙ long, λ n not. unwanted n not items each.0 each.1) c in
-        let g = rescans-as (call_result provenance d t arguments close each.0) (completed provenance t hidden parameters each.0 template) after s.answer (stands.completes each.0 hidden) s.rescans in
+        let g = rescans-as (call_result provenance d t arguments close each.0) (completed provenance t hidden (wanted_of d.form items) each.0 template) after s.answer (stands.completes each.0 hidden) s.rescans in
         earlier-by out (t ∷ rest) s.answer r (steps c) (sym s.is) (expansion.call d arguments close after each.0 is each.1 g.0)
         (omega (arith, s.few, sum-costs provenance macros each.1, g.1))
       where
-        unwanted : (n : ℕ) → is_among parameters n ≡ false → (items : List Item) → (rs : List Answer) → Each provenance macros (asked d.form (list_of provenance d t) 0 arguments) rs
+        unwanted : (n : ℕ) → is_among (wanted_of d.form (list_of provenance d t)) n ≡ false → (items : List Item) → (rs : List Answer) → Each provenance macros (asked d.form (list_of provenance d t) 0 arguments) rs
             → argument (map {B = List (Hidden P)} (λ a. []) arguments) n ≡ argument (expansions rs) n
         unwanted n not items rs each =
             let same : 0 + n ≡ n = omega arith in
             let nothing : get_or (asked d.form (list_of provenance d t) 0 arguments) n None ≡ None =
-            asked-none d.form (list_of provenance d t) 0 arguments n (ap (λ j. wants j false (parts d.form neither (list_of provenance d t))) same ∙ (sym (stands.wanted n) ∙ not)) in
+            asked-none d.form (list_of provenance d t) 0 arguments n (ap (λ j. wants j false (parts d.form neither (list_of provenance d t))) same ∙ (sym (wanted-asked n d.form (list_of provenance d t)) ∙ not)) in
             get_or-map (λ a. []) arguments n [] ∙ sym (argument-expansions rs n ∙ ap list_or_empty (each-none provenance macros each n nothing))
 
     pub move-back : (s t : State P) → Moves provenance macros s t → (r : Answer) (c : Completes provenance macros t r) → Earlier provenance macros s r (steps c)
     move-back _ _ (plain.stay out rest t is) r c = stay-back out rest t r is c
     move-back _ _ (plain.object out rest body t d is made) r c = object-back out rest body t d r is made c
-    move-back _ _ (plain.gather out rest after t close d arguments parameters template is stands) r c = gather-back out rest after t close d arguments parameters template r is stands c
+    move-back _ _ (plain.gather out rest after t close d arguments template is stands) r c = gather-back out rest after t close d arguments template r is stands c
     move-back _ _ (plain.enter out work list w n others is) r c = record { completes = asks out work w (n, list) others r is c; longer = omega arith }
     move-back _ _ (plain.leave out work list w n) r c = leave-back out work list w n r c
     move-back _ _ (plain.replace out work body w all made) r c = replace-back out work body w r all made c

@@ -4,8 +4,9 @@ use Rattle.std.specs.List.{IsDistinct, list_any}
 use Rattle.c11_macros.specs.Expansion.{call_result, called, case_of, list_of, misfit, object_result, replaced, stays, unclosed}
 use Rattle.c11_macros.specs.Hidden.{Failure, Hidden, HideSet, Provenance, failure_at, meet, with_name}
 use Rattle.c11_macros.specs.Macros.{Definition, Macros}
-use Rattle.c11_macros.specs.Substitution.{Slot, argument, neither, parts, substituted, wants}
-use Rattle.sc_expand.specs.Halves.{completed, replacement}
+use Rattle.c11_macros.specs.Results.{result_map}
+use Rattle.c11_macros.specs.Substitution.{Slot, argument, hiding, substituted, with_space}
+use Rattle.sc_expand.specs.Halves.{completed, filled_in, wanted_of}
 use Rattle.sc_model.specs.declared.cause.Cause.TheVariants.{UnterminatedCall, WrongArguments}
 
 -- a call that has left the list and waits for its arguments
@@ -36,36 +37,33 @@ without_first w others = record w { wanted = others }
 abbrev pub with_expanded : {P : Type 0} → Waiting P → ℕ → List (Hidden P) → Waiting P
 with_expanded w n list = record w { expanded = slice_set w.expanded n list }
 
--- a call whose arguments are still to be expanded, for these parameters in this order
-abbrev pub gathered : {P : Type 0} → Hidden P → List (List (Hidden P)) → Hidden P → List ℕ → Result (List (Slot P)) (Failure P) → Waiting P
-gathered t arguments close parameters template = record {
+-- a call whose arguments are still to be expanded
+abbrev pub gathered : {P : Type 0} → Provenance P → Definition → Hidden P → List (List (Hidden P)) → Hidden P → Result (List (Slot P)) (Failure P) → Waiting P
+gathered provenance d t arguments close template = record {
   head = t;
   template = template;
-  wanted = map (λ n. (n, argument arguments n)) parameters;
+  wanted = map (λ n. (n, argument arguments n)) (wanted_of d.form (list_of provenance d t));
   expanded = map (λ a. []) arguments;
   names = with_name (meet t.hide close.hide) t.spelling;
 }
 
--- The template, and the arguments of these parameters as they expand, make the replacement. They are the parameters whose
--- arguments are expanded alone, each once.
-pub record IsTemplate {P : Type 0} (provenance : Provenance P) (d : Definition) (t : Hidden P) (arguments : List (List (Hidden P))) (parameters : List ℕ) (template : Result (List (Slot P)) (Failure P)) : Type 0 where
+-- whatever the arguments of the call expand to, the template makes its replacement with them
+pub record IsTemplate {P : Type 0} (provenance : Provenance P) (d : Definition) (t : Hidden P) (arguments : List (List (Hidden P))) (template : Result (List (Slot P)) (Failure P)) : Type 0 where
   pub completes : (results : List (Result (List (Hidden P)) (Failure P))) (names : HideSet)
-      → substituted provenance d.form (list_of provenance d t) t arguments results names ≡ completed provenance t names parameters results template
-  pub wanted : (n : ℕ) → list_any (λ m. n == m) parameters ≡ wants n false (parts d.form neither (list_of provenance d t))
-  pub once : IsDistinct (λ n m. n == m) parameters
+      → substituted provenance d.form (list_of provenance d t) t arguments results names ≡ completed provenance t names (wanted_of d.form (list_of provenance d t)) results template
 
--- the call's replacement, once its arguments are expanded
+-- the call's replacement, once its arguments are expanded; its failure is that of the template
 abbrev pub replacement_of : {P : Type 0} → Provenance P → Waiting P → Result (List (Hidden P)) (Failure P)
-replacement_of provenance w = replacement provenance w.head w.names w.expanded w.template
+replacement_of provenance w = result_map (λ slots. hiding provenance w.names (with_space w.head.space (filled_in w.expanded slots))) w.template
 
 -- one step
 pub data Moves {P : Type 0} (provenance : Provenance P) (macros : Macros) : State P → State P → Type 0 where
   stay : (out rest : List (Hidden P)) (t : Hidden P) → case_of macros t rest ≡ stays → Moves provenance macros (scanning out (t ∷ rest)) (scanning (out ++ t ∷ []) rest)
   object : (out rest body : List (Hidden P)) (t : Hidden P) (d : Definition) → case_of macros t rest ≡ replaced d → object_result provenance d t ≡ Ok body
       → Moves provenance macros (scanning out (t ∷ rest)) (scanning out (body ++ rest))
-  gather : (out rest after : List (Hidden P)) (t close : Hidden P) (d : Definition) (arguments : List (List (Hidden P))) (parameters : List ℕ) (template : Result (List (Slot P)) (Failure P))
-      → case_of macros t rest ≡ called d arguments close after → IsTemplate provenance d t arguments parameters template
-      → Moves provenance macros (scanning out (t ∷ rest)) (waiting out after (gathered t arguments close parameters template))
+  gather : (out rest after : List (Hidden P)) (t close : Hidden P) (d : Definition) (arguments : List (List (Hidden P))) (template : Result (List (Slot P)) (Failure P))
+      → case_of macros t rest ≡ called d arguments close after → IsTemplate provenance d t arguments template
+      → Moves provenance macros (scanning out (t ∷ rest)) (waiting out after (gathered provenance d t arguments close template))
   enter : (out work list : List (Hidden P)) (w : Waiting P) (n : ℕ) (others : List (ℕ × List (Hidden P))) → w.wanted ≡ (n, list) ∷ others
       → Moves provenance macros (waiting out work w) (expanding out work (without_first w others) n (scanning [] list))
   leave : (out work list : List (Hidden P)) (w : Waiting P) (n : ℕ) → Moves provenance macros (expanding out work w n (scanning list [])) (waiting out work (with_expanded w n list))
