@@ -4,3 +4,4 @@ pub mod PlainMoves
 pub mod PlainParameters
 pub mod PlainReaches
 pub mod PlainWanted
+pub mod PlainTotal

@@ -1,6 +1,5 @@
 -- The expansion of a list from its first token on, step by step (C11 6.10.3.4), where each argument of a call is expanded before the call is replaced.
-use Rattle.std.specs.Prelude.{◌≡◌, ℕ, ◌==◌, false, List, [], ◌∷◌, ◌++◌, map, Result, Ok, Err, slice_set}
-use Rattle.std.specs.List.{IsDistinct, list_any}
+use Rattle.std.specs.Prelude.{◌≡◌, ℕ, List, [], ◌∷◌, ◌++◌, map, Result, Ok, Err, slice_set}
 use Rattle.c11_macros.specs.Expansion.{call_result, called, case_of, list_of, misfit, object_result, replaced, stays, unclosed}
 use Rattle.c11_macros.specs.Hidden.{Failure, Hidden, HideSet, Provenance, failure_at, meet, with_name}
 use Rattle.c11_macros.specs.Macros.{Definition, Macros}

@@ -1,0 +1,67 @@
+-- Sums over all configurations.
+use Rattle.std.proofs.Common.{◌≡◌, ◌⊎◌, inl, inr, ℕ, zero, suc, ◌+◌, ◌<◌, ◌≤◌, ◌≢◌, List, [], ◌∷◌, length, refl, ap, subst, arith}
+use Rattle.std.proofs.lemmas.Bool.{cases_eq}
+use Rattle.std.specs.Prelude.{slice_index}
+use Rattle.sc_model.specs.Sets.{IsConfig}
+
+-- the sum of f over the numbers below a bound
+abbrev pub sum_below : ℕ → (ℕ → ℕ) → ℕ
+sum_below zero f = 0
+sum_below (suc n) f = sum_below n f + f n
+
+-- the sum of f over the configurations of variables with so many options each
+abbrev pub total : List ℕ → (List ℕ → ℕ) → ℕ
+total [] f = f []
+total (arity ∷ arities) f = sum_below arity (λ option. total arities (λ c. f (option ∷ c)))
+
+below-le : (n : ℕ) (f g : ℕ → ℕ) → ((i : ℕ) → i < n → g i ≤ f i) → sum_below n g ≤ sum_below n f
+below-le zero f g le = omega arith
+below-le (suc n) f g le = omega (arith, below-le n f g (λ i below. le i (omega arith)), le n (omega arith))
+
+below-less : (n : ℕ) (f g : ℕ → ℕ) (k : ℕ) → k < n → ((i : ℕ) → i < n → g i ≤ f i) → g k < f k → sum_below n g < sum_below n f
+below-less zero f g k within le less = absurd (omega arith)
+below-less (suc n) f g k within le less =
+    by (cases_eq k n) (below-le n f g (λ i below. le i (omega arith))) (λ before. below-less n f g k before (λ i below. le i (omega arith)) less)
+  where
+    by : (k ≡ n) ⊎ (k ≢ n) → sum_below n g ≤ sum_below n f → (k < n → sum_below n g < sum_below n f) → sum_below (suc n) g < sum_below (suc n) f
+    by (inl same) others later = let here : g n < f n = subst (λ i. g i < f i) same less in omega arith
+    by (inr differ) others later = omega (arith, later (omega (arith, differ)), le n (omega arith))
+
+-- ---- configurations by their first option
+
+config-cons : (arity option : ℕ) (arities c : List ℕ) → option < arity → IsConfig arities c → IsConfig (arity ∷ arities) (option ∷ c)
+config-cons arity option arities c below config = record {
+  long = ap suc config.long;
+  each = λ v within. by v within;
+}
+  where
+    by : (v : ℕ) → v < suc (length arities) → slice_index (option ∷ c) v < slice_index (arity ∷ arities) v
+    by zero within = below
+    by (suc v) within = config.each v (omega arith)
+
+config-tail : (arity option : ℕ) (arities c : List ℕ) → IsConfig (arity ∷ arities) (option ∷ c) → IsConfig arities c
+config-tail arity option arities c config = record { long = omega (arith, config.long); each = λ v below. config.each (suc v) (omega arith) }
+
+-- ---- sums over configurations
+
+pub total-le : (arities : List ℕ) (f g : List ℕ → ℕ) → ((c : List ℕ) → IsConfig arities c → g c ≤ f c) → total arities g ≤ total arities f
+total-le [] f g le = le [] (record { long = refl; each = λ v below. absurd (omega arith) })
+total-le (arity ∷ arities) f g le =
+    below-le arity (λ option. total arities (λ c. f (option ∷ c))) (λ option. total arities (λ c. g (option ∷ c)))
+    (λ option below. total-le arities (λ c. f (option ∷ c)) (λ c. g (option ∷ c)) (λ c config. le (option ∷ c) (config-cons arity option arities c below config)))
+
+-- a sum of which no part grows and one falls
+pub total-less : (arities : List ℕ) (f g : List ℕ → ℕ) (config : List ℕ) → IsConfig arities config → ((c : List ℕ) → IsConfig arities c → g c ≤ f c) → g config < f config → total arities g < total arities f
+total-less [] f g [] is le less = less
+total-less [] f g (option ∷ c) is le less = absurd (omega (arith, is.long))
+total-less (arity ∷ arities) f g [] is le less = absurd (omega (arith, is.long))
+total-less (arity ∷ arities) f g (option ∷ config) is le less =
+    below-less arity (λ option. total arities (λ c. f (option ∷ c))) (λ option. total arities (λ c. g (option ∷ c))) option (is.each 0 (omega arith))
+    (λ option below. total-le arities (λ c. f (option ∷ c)) (λ c. g (option ∷ c)) (λ c config. le (option ∷ c) (config-cons arity option arities c below config)))
+    (total-less arities (λ c. f (option ∷ c)) (λ c. g (option ∷ c)) config (config-tail arity option arities config is) (λ c config. le (option ∷ c) (config-cons arity option arities c (is.each 0 (omega arith)) config)) less)
+
+pub total-same : (arities : List ℕ) (f g : List ℕ → ℕ) → ((c : List ℕ) → IsConfig arities c → g c ≡ f c) → total arities g ≡ total arities f
+total-same arities f g same =
+    let less = total-le arities f g (λ c config. omega (arith, same c config)) in
+    let more = total-le arities g f (λ c config. omega (arith, same c config)) in
+    omega arith
