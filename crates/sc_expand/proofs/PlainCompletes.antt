@@ -138,3 +138,11 @@ module _ {P : Type 0} (provenance : Provenance P) (macros : Macros) where
 
     pub size-is : (s : State P) (r : Answer) (c : Completes provenance macros s r) → size s ≡ suc (steps c)
     size-is s r c = ap suc (only (ends s).1 r c).1
+
+-- tables that define each name alike leave as many steps
+pub size-same : {P : Type 0} (provenance : Provenance P) (one two : Macros) (names others : List (List ℕ)) (within : IsWithin names one) (within_too : IsWithin others two) → ((name : List ℕ) → one name ≡ two name)
+    → (s : State P) → size provenance one names within s ≡ size provenance two others within_too s
+size-same {P} provenance one two names others within within_too same s =
+    let tables : one ≡ two = λ i name. same name i in
+    subst (λ m. (within_too : IsWithin others m) → size provenance one names within s ≡ size provenance m others within_too s) tables
+    (λ too. let e = ends provenance one others too s in size-is provenance one names within s e.0 e.1) within_too

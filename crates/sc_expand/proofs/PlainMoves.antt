@@ -1,5 +1,5 @@
--- Each step goes on to what the state before it comes to, and has fewer steps before it.
-use Rattle.std.proofs.Common.{◌≡◌, ℕ, zero, suc, ◌+◌, ◌*◌, ◌<◌, true, false, List, [], ◌∷◌, ◌++◌, append_assoc, append-nil, length, map, get_or, Option, Some, None, Result, Ok, Err, refl, sym, ap, ◌∙◌, subst, arith, if◌then◌else◌}
+-- What the state behind a step comes to, the state before it comes to as well, in more steps.
+use Rattle.std.proofs.Common.{◌≡◌, ℕ, zero, suc, ◌+◌, ◌*◌, ◌<◌, Bool, true, false, List, [], ◌∷◌, ◌++◌, append_assoc, append-nil, length, map, get_or, Option, Some, None, Result, Ok, Err, refl, sym, ap, ◌∙◌, subst, arith, if◌then◌else◌}
 use Rattle.std.proofs.lemmas.List.{length-map}
 use Rattle.std.proofs.Math.ListN.{get_or-map}
 use Rattle.c11_macros.proofs.Halting.{halts}
@@ -11,7 +11,7 @@ use Rattle.c11_macros.specs.Substitution.{Slot, argument, neither, parts, wants}
 use Rattle.c11_macros.specs.Trace.{trace, trace_rescan}
 use Rattle.sc_expand.proofs.PlainArguments.{AreKnown, argument-expansions, costs, each-none, each-some, length-costs, length-each, sum-costs, supplied}
 use Rattle.sc_expand.proofs.PlainCompletes.{Completes, after_these, asks, refuses, replaces, resumes, scanned, scans, steps}
-use Rattle.sc_expand.proofs.PlainParameters.{called-fits, wants-below}
+use Rattle.sc_expand.proofs.PlainParameters.{arity, called-fits, wants-below}
 use Rattle.sc_expand.proofs.PlainWanted.{is_among, wanted-apart, wanted-asked}
 use Rattle.sc_expand.specs.Halves.{wanted_of, completed, expansions, list_or_empty}
 use Rattle.sc_expand.specs.Plain as plain
@@ -91,6 +91,32 @@ module _ {P : Type 0} (provenance : Provenance P) (macros : Macros) where
       let inner = subst (λ l. Completes provenance macros (scanning list []) (Ok l)) (append-nil list) (scans list [] (Ok []) expansion.empty) in
       record { completes = resumes out work w n (scanning list []) list r inner c; longer = omega arith }
 
+  -- the wanted arguments of a call, when all are expanded that are asked for
+  module _ (form : Form) (items : List Item) (arguments : List (List (Hidden P))) where
+    abbrev IsWanted : ℕ → Bool → Type 0
+    IsWanted n b = is_among (wanted_of form items) n ≡ b
+
+    wants-at : (n : ℕ) (b : Bool) → IsWanted n b → wants (0 + n) false (parts form neither items) ≡ b
+    wants-at n b is = let same : 0 + n ≡ n = omega arith in ap (λ j. wants j false (parts form neither items)) same ∙ (sym (wanted-asked n form items) ∙ is)
+
+    known-each : length arguments ≡ arity form → (rs : List Answer) (each : Each provenance macros (asked form items 0 arguments) rs) → AreKnown provenance macros arguments rs (wanted_of form items) (costs provenance macros each)
+    known-each fit rs each = record {
+      below = λ n is. omega (arith, below n is, length-costs provenance macros each, length-asked form items 0 arguments);
+      at = λ n is. each-some provenance macros each n (argument arguments n) (asked-some form items 0 arguments n (below n is) (wants-at n true is));
+    }
+      where
+        below : (n : ℕ) → IsWanted n true → n < length arguments
+        below n is = omega (arith, wants-below n form items (sym (wanted-asked n form items) ∙ is), fit)
+
+    -- an argument that isn't wanted stays empty
+    empty-each : (rs : List Answer) (each : Each provenance macros (asked form items 0 arguments) rs) → (length (map {B = List (Hidden P)} (λ a. []) arguments) ≡ length rs)
+        × ((n : ℕ) → IsWanted n false → argument (map (λ a. []) arguments) n ≡ argument (expansions rs) n)
+    empty-each rs each =
+        (length-map arguments (λ a. []) ∙ sym (length-each provenance macros each ∙ length-asked form items 0 arguments),
+        λ n not.
+        get_or-map (λ a. []) arguments n []
+        ∙ sym (argument-expansions rs n ∙ ap list_or_empty (each-none provenance macros each n (asked-none form items 0 arguments n (wants-at n false not)))))
+
   module _ (names : List (List ℕ)) (within : IsWithin names macros) where
     each-of : (wanted : List (Option (List (Hidden P)))) → (rs : List Answer) × Each provenance macros wanted rs
     each-of [] = ([], none)
@@ -107,29 +133,12 @@ module _ {P : Type 0} (provenance : Provenance P) (macros : Macros) where
         let items = list_of provenance d t in
         let hidden : HideSet = with_name (meet t.hide close.hide) t.spelling in
         let each = each-of (asked d.form items 0 arguments) in
-        let long : length arguments ≡ length each.0 = sym (length-each provenance macros each.1 ∙ length-asked d.form items 0 arguments) in
-        let wanted : (n : ℕ) → is_among (wanted_of d.form (list_of provenance d t)) n ≡ true → wants (0 + n) false (parts d.form neither items) ≡ true =
-        λ n among. let same : 0 + n ≡ n = omega arith in ap (λ j. wants j false (parts d.form neither items)) same ∙ (sym (wanted-asked n d.form (list_of provenance d t)) ∙ among) in
-        let below : (n : ℕ) → is_among (wanted_of d.form (list_of provenance d t)) n ≡ true → n < length arguments =
-        λ n among. omega (arith, wants-below n d.form items (sym (wanted-asked n d.form (list_of provenance d t)) ∙ among), called-fits macros t close rest after d arguments is) in
-        let known : AreKnown provenance macros arguments each.0 (wanted_of d.form items) (costs provenance macros each.1) = record {
-          below = λ n among. omega (arith, below n among, length-costs provenance macros each.1, length-asked d.form items 0 arguments);
-          at = λ n among. each-some provenance macros each.1 n (argument arguments n) (asked-some d.form items 0 arguments n (below n among) (wanted n among));
-        } in
         let s = supplied provenance macros t hidden template arguments each.0 out after (wanted_of d.form items) (map (λ a. []) arguments) (costs provenance macros each.1) r (wanted-apart d.form items)
-        (length-costs provenance macros each.1 ∙ sym (length-each provenance macros each.1)) known
-        (length-map arguments (λ a. []) ∙ long, λ n not. unwanted n not items each.0 each.1) c in
+            (length-costs provenance macros each.1 ∙ sym (length-each provenance macros each.1)) (known-each d.form items arguments (called-fits macros t close rest after d arguments is) each.0 each.1)
+            (empty-each d.form items arguments each.0 each.1) c in
         let g = rescans-as (call_result provenance d t arguments close each.0) (completed provenance t hidden (wanted_of d.form items) each.0 template) after s.answer (stands.completes each.0 hidden) s.rescans in
         earlier-by out (t ∷ rest) s.answer r (steps c) (sym s.is) (expansion.call d arguments close after each.0 is each.1 g.0)
         (omega (arith, s.few, sum-costs provenance macros each.1, g.1))
-      where
-        unwanted : (n : ℕ) → is_among (wanted_of d.form (list_of provenance d t)) n ≡ false → (items : List Item) → (rs : List Answer) → Each provenance macros (asked d.form (list_of provenance d t) 0 arguments) rs
-            → argument (map {B = List (Hidden P)} (λ a. []) arguments) n ≡ argument (expansions rs) n
-        unwanted n not items rs each =
-            let same : 0 + n ≡ n = omega arith in
-            let nothing : get_or (asked d.form (list_of provenance d t) 0 arguments) n None ≡ None =
-            asked-none d.form (list_of provenance d t) 0 arguments n (ap (λ j. wants j false (parts d.form neither (list_of provenance d t))) same ∙ (sym (wanted-asked n d.form (list_of provenance d t)) ∙ not)) in
-            get_or-map (λ a. []) arguments n [] ∙ sym (argument-expansions rs n ∙ ap list_or_empty (each-none provenance macros each n nothing))
 
     pub move-back : (s t : State P) → Moves provenance macros s t → (r : Answer) (c : Completes provenance macros t r) → Earlier provenance macros s r (steps c)
     move-back _ _ (plain.stay out rest t is) r c = stay-back out rest t r is c
