@@ -5,3 +5,4 @@ pub mod PlainParameters
 pub mod PlainReaches
 pub mod PlainWanted
 pub mod PlainTotal
+pub mod PlainTables

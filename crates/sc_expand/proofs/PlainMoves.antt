@@ -111,11 +111,12 @@ module _ {P : Type 0} (provenance : Provenance P) (macros : Macros) where
     -- an argument that isn't wanted stays empty
     empty-each : (rs : List Answer) (each : Each provenance macros (asked form items 0 arguments) rs) → (length (map {B = List (Hidden P)} (λ a. []) arguments) ≡ length rs)
         × ((n : ℕ) → IsWanted n false → argument (map (λ a. []) arguments) n ≡ argument (expansions rs) n)
-    empty-each rs each =
-        (length-map arguments (λ a. []) ∙ sym (length-each provenance macros each ∙ length-asked form items 0 arguments),
-        λ n not.
-        get_or-map (λ a. []) arguments n []
-        ∙ sym (argument-expansions rs n ∙ ap list_or_empty (each-none provenance macros each n (asked-none form items 0 arguments n (wants-at n false not)))))
+    empty-each rs each = (
+      length-map arguments (λ a. []) ∙ sym (length-each provenance macros each ∙ length-asked form items 0 arguments),
+      λ n not.
+          get_or-map (λ a. []) arguments n []
+          ∙ sym (argument-expansions rs n ∙ ap list_or_empty (each-none provenance macros each n (asked-none form items 0 arguments n (wants-at n false not)))),
+    )
 
   module _ (names : List (List ℕ)) (within : IsWithin names macros) where
     each-of : (wanted : List (Option (List (Hidden P)))) → (rs : List Answer) × Each provenance macros wanted rs
@@ -134,8 +135,8 @@ module _ {P : Type 0} (provenance : Provenance P) (macros : Macros) where
         let hidden : HideSet = with_name (meet t.hide close.hide) t.spelling in
         let each = each-of (asked d.form items 0 arguments) in
         let s = supplied provenance macros t hidden template arguments each.0 out after (wanted_of d.form items) (map (λ a. []) arguments) (costs provenance macros each.1) r (wanted-apart d.form items)
-            (length-costs provenance macros each.1 ∙ sym (length-each provenance macros each.1)) (known-each d.form items arguments (called-fits macros t close rest after d arguments is) each.0 each.1)
-            (empty-each d.form items arguments each.0 each.1) c in
+        (length-costs provenance macros each.1 ∙ sym (length-each provenance macros each.1)) (known-each d.form items arguments (called-fits macros t close rest after d arguments is) each.0 each.1)
+        (empty-each d.form items arguments each.0 each.1) c in
         let g = rescans-as (call_result provenance d t arguments close each.0) (completed provenance t hidden (wanted_of d.form items) each.0 template) after s.answer (stands.completes each.0 hidden) s.rescans in
         earlier-by out (t ∷ rest) s.answer r (steps c) (sym s.is) (expansion.call d arguments close after each.0 is each.1 g.0)
         (omega (arith, s.few, sum-costs provenance macros each.1, g.1))
