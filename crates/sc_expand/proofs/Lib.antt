@@ -6,3 +6,4 @@ pub mod PlainReaches
 pub mod PlainWanted
 pub mod PlainTotal
 pub mod PlainTables
+pub mod PlainOpen
