@@ -7,3 +7,4 @@ pub mod PlainWanted
 pub mod PlainTotal
 pub mod PlainTables
 pub mod PlainOpen
+pub mod PlainTurns

@@ -1,5 +1,5 @@
 -- Sums over all configurations.
-use Rattle.std.proofs.Common.{◌≡◌, ◌⊎◌, inl, inr, ℕ, zero, suc, ◌+◌, ◌<◌, ◌≤◌, ◌≢◌, List, [], ◌∷◌, length, refl, ap, subst, arith}
+use Rattle.std.proofs.Common.{◌≡◌, ◌⊎◌, inl, inr, ℕ, zero, suc, ◌+◌, ◌<◌, ◌≤◌, ◌≢◌, Bool, true, false, true≢false, List, [], ◌∷◌, length, refl, sym, ap, subst, arith, if◌then◌else◌}
 use Rattle.std.proofs.lemmas.Bool.{cases_eq}
 use Rattle.std.specs.Prelude.{slice_index}
 use Rattle.sc_model.specs.Sets.{IsConfig}
@@ -65,3 +65,30 @@ total-same arities f g same =
     let less = total-le arities f g (λ c config. omega (arith, same c config)) in
     let more = total-le arities g f (λ c config. omega (arith, same c config)) in
     omega arith
+
+-- ---- sums over the configurations that pass a test
+
+abbrev pub total_of : List ℕ → (List ℕ → Bool) → (List ℕ → ℕ) → ℕ
+total_of arities has f = total arities (λ c. if has c then f c else 0)
+
+if-le : (has still : Bool) (x y : ℕ) → (still ≡ true → (has ≡ true) × (y ≤ x)) → (if still then y else 0) ≤ (if has then x else 0)
+if-le true true x y known = (known refl).1
+if-le true false x y known = omega arith
+if-le false true x y known = absurd (true≢false (sym (known refl).0))
+if-le false false x y known = omega arith
+
+if-less : (has still : Bool) (x y : ℕ) → has ≡ true → (still ≡ true → y < x) → 0 < x → (if still then y else 0) < (if has then x else 0)
+if-less true true x y here less some = less refl
+if-less true false x y here less some = some
+if-less false still x y here less some = absurd (true≢false (sym here))
+
+-- fewer configurations, and no more at each of them
+pub total_of-le : (arities : List ℕ) (has still : List ℕ → Bool) (f g : List ℕ → ℕ) → ((c : List ℕ) → IsConfig arities c → still c ≡ true → (has c ≡ true) × (g c ≤ f c)) → total_of arities still g ≤ total_of arities has f
+total_of-le arities has still f g le = total-le arities (λ c. if has c then f c else 0) (λ c. if still c then g c else 0) (λ c config. if-le (has c) (still c) (f c) (g c) (le c config))
+
+-- and less at one of them, or that one left
+pub total_of-less : (arities : List ℕ) (has still : List ℕ → Bool) (f g : List ℕ → ℕ) (config : List ℕ) → IsConfig arities config → ((c : List ℕ) → IsConfig arities c → still c ≡ true → (has c ≡ true) × (g c ≤ f c))
+    → has config ≡ true → (still config ≡ true → g config < f config) → 0 < f config → total_of arities still g < total_of arities has f
+total_of-less arities has still f g config is le here less some =
+    total-less arities (λ c. if has c then f c else 0) (λ c. if still c then g c else 0) config is (λ c config. if-le (has c) (still c) (f c) (g c) (le c config))
+    (if-less (has config) (still config) (f config) (g config) here less some)

@@ -1,0 +1,82 @@
+-- A turn of the loop: at each configuration one step, or none.
+use Rattle.std.proofs.Common.{◌≡◌, ◌⊎◌, inl, inr, ℕ, ◌<◌, ◌≤◌, Bool, true, false, true≢false, List, [], ◌∷◌, sym, subst, arith}
+use Rattle.c11_macros.specs.Expansion.{IsWithin}
+use Rattle.c11_macros.specs.Hidden.{Failure, Hidden, Provenance}
+use Rattle.c11_macros.specs.Macros.{Macros}
+use Rattle.sc_expand.proofs.PlainCompletes.{size}
+use Rattle.sc_expand.proofs.PlainReaches.{Reaches, reaches-move, size-move, size-pos}
+use Rattle.sc_expand.proofs.PlainTotal.{total_of, total_of-le, total_of-less}
+use Rattle.sc_expand.specs.Plain as plain
+use Rattle.sc_expand.specs.Plain.{Fails, Moves, State, Waiting, expanding}
+use Rattle.sc_model.specs.Sets.{IsConfig}
+
+-- ---- calls that wait for one another
+
+-- a call of which an argument is being expanded, what was put out before it, and what follows it
+pub record Pending (P : Type 0) : Type 0 where
+  pub out : List (Hidden P)
+  pub work : List (Hidden P)
+  pub call : Waiting P
+  pub parameter : ℕ
+
+-- the state of the innermost argument under these calls, the outermost first
+abbrev pub under : {P : Type 0} → List (Pending P) → State P → State P
+under [] s = s
+under (p ∷ ps) s = expanding p.out p.work p.call p.parameter (under ps s)
+
+pub move-under : {P : Type 0} (provenance : Provenance P) (macros : Macros) (ps : List (Pending P)) (s t : State P) → Moves provenance macros s t → Moves provenance macros (under ps s) (under ps t)
+move-under provenance macros [] s t m = m
+move-under provenance macros (p ∷ ps) s t m = plain.inside p.out p.work p.call p.parameter (move-under provenance macros ps s t m)
+
+pub fails-under : {P : Type 0} (provenance : Provenance P) (macros : Macros) (ps : List (Pending P)) (s : State P) (failure : Failure P) → Fails provenance macros s failure → Fails provenance macros (under ps s) failure
+fails-under provenance macros [] s failure f = f
+fails-under provenance macros (p ∷ ps) s failure f = plain.inside_fails p.out p.work p.call p.parameter (fails-under provenance macros ps s failure f)
+
+-- ---- all configurations at once
+
+module _ {P : Type 0} (arities : List ℕ) (provenance : Provenance P) (macros : List ℕ → Macros) where
+  -- configurations that are left were there before, and made one step or none
+  pub record IsTurn (has still : List ℕ → Bool) (s t : List ℕ → State P) : Type 0 where
+    pub each : (c : List ℕ) → IsConfig arities c → still c ≡ true → (has c ≡ true) × (Moves provenance (macros c) (s c) (t c) ⊎ (s c ≡ t c))
+
+  -- a configuration that made a step, or left
+  pub record TakesPart (has still : List ℕ → Bool) (s t : List ℕ → State P) (config : List ℕ) : Type 0 where
+    pub listed : IsConfig arities config
+    pub here : has config ≡ true
+    pub moves : still config ≡ true → Moves provenance (macros config) (s config) (t config)
+
+  module _ (names : List (List ℕ)) (within : (c : List ℕ) → IsWithin names (macros c)) where
+    abbrev pub left_at : (List ℕ → State P) → List ℕ → ℕ
+    left_at s c = size provenance (macros c) names (within c) (s c)
+
+    -- how many steps all configurations have left
+    abbrev pub steps_left : (List ℕ → Bool) → (List ℕ → State P) → ℕ
+    steps_left has s = total_of arities has (left_at s)
+
+    step-le : (c : List ℕ) (s t : State P) → Moves provenance (macros c) s t ⊎ (s ≡ t) → size provenance (macros c) names (within c) t ≤ size provenance (macros c) names (within c) s
+    step-le c s t (inl m) = let less = size-move provenance (macros c) names (within c) s t m in omega arith
+    step-le c s t (inr same) = subst (λ u. size provenance (macros c) names (within c) u ≤ size provenance (macros c) names (within c) s) same (omega arith)
+
+    turn-each : (has still : List ℕ → Bool) (s t : List ℕ → State P) → IsTurn has still s t → (c : List ℕ) → IsConfig arities c → still c ≡ true → (has c ≡ true) × (left_at t c ≤ left_at s c)
+    turn-each has still s t turn c config here = let one = turn.each c config here in (one.0, step-le c (s c) (t c) one.1)
+
+    pub turn-le : (has still : List ℕ → Bool) (s t : List ℕ → State P) → IsTurn has still s t → steps_left still t ≤ steps_left has s
+    turn-le has still s t turn = total_of-le arities has still (left_at s) (left_at t) (turn-each has still s t turn)
+
+    pub turn-less : (has still : List ℕ → Bool) (s t : List ℕ → State P) → IsTurn has still s t → (config : List ℕ) → TakesPart has still s t config → steps_left still t < steps_left has s
+    turn-less has still s t turn config part =
+        total_of-less arities has still (left_at s) (left_at t) config part.listed (turn-each has still s t turn) part.here
+        (λ here. size-move provenance (macros config) names (within config) (s config) (t config) (part.moves here)) (size-pos provenance (macros config) names (within config) (s config))
+
+    -- where there is a configuration, something is left
+    pub left-pos : (has : List ℕ → Bool) (s : List ℕ → State P) (config : List ℕ) → IsConfig arities config → has config ≡ true → 0 < steps_left has s
+    left-pos has s config listed here = let less = turn-less has (λ c. false) s s (record { each = λ c config no. absurd (true≢false (sym no)) }) config (record { listed = listed; here = here; moves = λ no. absurd (true≢false (sym no)) }) in omega arith
+
+    pub turn-reaches : (has still : List ℕ → Bool) (s t : List ℕ → State P) (source : List ℕ → List (Hidden P)) → IsTurn has still s t
+        → ((c : List ℕ) → IsConfig arities c → has c ≡ true → Reaches provenance (macros c) (source c) (s c))
+        → (c : List ℕ) → IsConfig arities c → still c ≡ true → Reaches provenance (macros c) (source c) (t c)
+    turn-reaches has still s t source turn reaches c config here = by (turn.each c config here)
+      where
+        by : (has c ≡ true) × (Moves provenance (macros c) (s c) (t c) ⊎ (s c ≡ t c)) → Reaches provenance (macros c) (source c) (t c)
+        by (was, inl m) = reaches-move provenance (macros c) names (within c) (source c) (s c) (t c) (reaches c config was) m
+        by (was, inr same) = subst (Reaches provenance (macros c) (source c)) same (reaches c config was)
