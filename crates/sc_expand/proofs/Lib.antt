@@ -8,3 +8,4 @@ pub mod PlainTotal
 pub mod PlainTables
 pub mod PlainOpen
 pub mod PlainTurns
+pub mod PlainCases

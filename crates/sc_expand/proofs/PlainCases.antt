@@ -1,0 +1,72 @@
+-- What is to be done at a token, by what is known of it.
+use Rattle.std.proofs.Common.{◌≡◌, ℕ, zero, ◌<◌, Bool, true, false, List, [], ◌∷◌, length, codes, Option, Some, None, Result, refl, sym, ap, ◌∙◌, arith, if◌then◌else◌}
+use Rattle.c11_macros.specs.Call.{Call, arguments_for, call_of}
+use Rattle.c11_macros.specs.Expansion.{call_case, called, case_of, defined_case, fitted_case, form_case, is_looked_up, list_of, looked_up_case, misfit, object_result, replaced, stays, unclosed}
+use Rattle.c11_macros.specs.Hidden.{Failure, Hidden, Provenance, with_name}
+use Rattle.c11_macros.specs.Macros.{Definition, Form, Item, Macros, function_like, object_like}
+use Rattle.c11_macros.specs.Results.{result_map}
+use Rattle.c11_macros.specs.Substitution.{Slot, hiding, with_space}
+use Rattle.sc_expand.proofs.PlainParameters.{arity, wants-below}
+use Rattle.sc_expand.proofs.PlainWanted.{among-first, is_among, wanted-asked}
+use Rattle.sc_expand.specs.Halves.{completed, filled_in, wanted_of}
+use Rattle.sc_expand.specs.Plain.{IsTemplate}
+use Rattle.sc_model.specs.Bytes.{same_bytes}
+
+module _ {P : Type 0} (macros : Macros) (t : Hidden P) where
+  pub case-hidden : (rest : List (Hidden P)) → is_looked_up t ≡ false → case_of macros t rest ≡ stays
+  case-hidden rest not = ap (λ b. looked_up_case macros b t.spelling rest) not
+
+  -- a name as its definition says
+  pub case-defined : (rest : List (Hidden P)) (o : Option Definition) → is_looked_up t ≡ true → macros t.spelling ≡ o → case_of macros t rest ≡ defined_case o rest
+  case-defined rest o looked is = ap (λ b. looked_up_case macros b t.spelling rest) looked ∙ ap (λ o. defined_case o rest) is
+
+  pub case-undefined : (rest : List (Hidden P)) → is_looked_up t ≡ true → macros t.spelling ≡ None → case_of macros t rest ≡ stays
+  case-undefined rest looked is = case-defined rest None looked is
+
+  module _ (d : Definition) (looked : is_looked_up t ≡ true) (is : macros t.spelling ≡ Some d) where
+    pub case-formed : (rest : List (Hidden P)) (form : Form) → d.form ≡ form → case_of macros t rest ≡ form_case d form rest
+    case-formed rest form formed = case-defined rest (Some d) looked is ∙ ap (λ f. form_case d f rest) formed
+
+    pub case-object : (rest : List (Hidden P)) → d.form ≡ object_like → case_of macros t rest ≡ replaced d
+    case-object rest formed = case-formed rest object_like formed
+
+    module _ (parameters : List (List ℕ)) (variadic : Bool) (formed : d.form ≡ function_like parameters variadic) where
+      -- nothing follows the name
+      pub case-alone : case_of macros t [] ≡ stays
+      case-alone = case-formed [] (function_like parameters variadic) formed
+
+      -- another token than ( follows it
+      pub case-bare : (u : Hidden P) (us : List (Hidden P)) → same_bytes u.spelling (codes "(") ≡ false → case_of macros t (u ∷ us) ≡ stays
+      case-bare u us other = case-formed (u ∷ us) (function_like parameters variadic) formed ∙ ap (λ b. if b then call_case d parameters variadic (call_of (length parameters) zero us) else stays) other
+
+      module _ (u : Hidden P) (us : List (Hidden P)) (opens : same_bytes u.spelling (codes "(") ≡ true) where
+        pub case-call : (o : Option (Call P)) → call_of (length parameters) zero us ≡ o → case_of macros t (u ∷ us) ≡ call_case d parameters variadic o
+        case-call o call =
+            case-formed (u ∷ us) (function_like parameters variadic) formed
+            ∙ (ap (λ b. if b then call_case d parameters variadic (call_of (length parameters) zero us) else stays) opens ∙ ap (call_case d parameters variadic) call)
+
+        pub case-open : call_of (length parameters) zero us ≡ None → case_of macros t (u ∷ us) ≡ unclosed
+        case-open none = case-call None none
+
+        pub case-misfit : (call : Call P) → call_of (length parameters) zero us ≡ Some call → arguments_for parameters variadic call.arguments ≡ None → case_of macros t (u ∷ us) ≡ misfit
+        case-misfit call some none = case-call (Some call) some ∙ ap (fitted_case d call.close call.rest) none
+
+        pub case-called : (call : Call P) (arguments : List (List (Hidden P))) → call_of (length parameters) zero us ≡ Some call → arguments_for parameters variadic call.arguments ≡ Some arguments
+            → case_of macros t (u ∷ us) ≡ called d arguments call.close call.rest
+        case-called call arguments some fit = case-call (Some call) some ∙ ap (fitted_case d call.close call.rest) fit
+
+-- ---- macros without parameters
+
+pub wanted-none : (form : Form) (items : List Item) → arity form ≡ 0 → wanted_of form items ≡ []
+wanted-none form items none = by (wanted_of form items) (λ n among. wants-below n form items (sym (wanted-asked n form items) ∙ among))
+  where
+    by : (ns : List ℕ) → ((n : ℕ) → is_among ns n ≡ true → n < arity form) → ns ≡ []
+    by [] below = refl
+    by (n ∷ ns) below = absurd (omega (arith, below n (among-first n n ns refl), none))
+
+-- an object-like macro's replacement is its template
+pub object-completes : {P : Type 0} (provenance : Provenance P) (d : Definition) (t : Hidden P) (template : Result (List (Slot P)) (Failure P)) → d.form ≡ object_like → IsTemplate provenance d t [] template
+    → object_result provenance d t ≡ result_map (λ slots. hiding provenance (with_name t.hide t.spelling) (with_space t.space (filled_in [] slots))) template
+object-completes provenance d t template formed stands =
+    stands.completes [] (with_name t.hide t.spelling)
+    ∙ ap (λ ns. completed provenance t (with_name t.hide t.spelling) ns [] template) (wanted-none d.form (list_of provenance d t) (ap arity formed))
