@@ -133,16 +133,16 @@ module _ {P : Type 0} (provenance : Provenance P) (macros : Macros) where
     ends (expanding out work w n s) = let inner = ends s in ends-expanding out work w n s inner.0 inner.1 (λ list. ends-waiting w.wanted out work (with_expanded w n list) refl)
 
     -- one more than the steps of its completion
-    abbrev pub size : State P → ℕ
+    unfoldable pub size : State P → ℕ
     size s = suc (steps (ends s).1)
 
     pub size-is : (s : State P) (r : Answer) (c : Completes provenance macros s r) → size s ≡ suc (steps c)
+    unfolding size
     size-is s r c = ap suc (only (ends s).1 r c).1
 
 -- tables that define each name alike leave as many steps
-pub size-same : {P : Type 0} (provenance : Provenance P) (one two : Macros) (names others : List (List ℕ)) (within : IsWithin names one) (within_too : IsWithin others two) → ((name : List ℕ) → one name ≡ two name)
-    → (s : State P) → size provenance one names within s ≡ size provenance two others within_too s
-size-same {P} provenance one two names others within within_too same s =
-    let tables : one ≡ two = λ i name. same name i in
-    subst (λ m. (within_too : IsWithin others m) → size provenance one names within s ≡ size provenance m others within_too s) tables
-    (λ too. let e = ends provenance one others too s in size-is provenance one names within s e.0 e.1) within_too
+pub size-same : {P : Type 0} (provenance : Provenance P) (macros other : Macros) (names others : List (List ℕ)) (within : IsWithin names macros) (within_other : IsWithin others other)
+    → ((name : List ℕ) → macros name ≡ other name) → (s : State P) → size provenance macros names within s ≡ size provenance other others within_other s
+size-same {P} provenance macros other names others within within_other same s =
+    subst (λ table. (too : IsWithin others table) → size provenance macros names within s ≡ size provenance table others too s) (λ i name. same name i)
+    (λ too. let e = ends provenance macros others too s in size-is provenance macros names within s e.0 e.1 ∙ sym (size-is provenance macros others too s e.0 e.1)) within_other

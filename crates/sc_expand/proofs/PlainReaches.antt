@@ -1,4 +1,5 @@
--- What the loop keeps at a configuration: its state goes on to what the list expands to, and each step leaves fewer.
+-- What the loop keeps at a configuration: its state goes on to what the list expands to, and each
+-- step leaves fewer.
 use Rattle.std.proofs.Common.{ℕ, ◌<◌, List, [], append-nil, Result, Ok, Err, sym, ◌∙◌, subst, arith}
 use Rattle.c11_macros.specs.Expansion.{Expands, IsWithin, empty}
 use Rattle.c11_macros.specs.Hidden.{Failure, Hidden, Provenance}
@@ -35,9 +36,10 @@ module _ {P : Type 0} (provenance : Provenance P) (macros : Macros) where
     size-move s t m =
         let e = ends provenance macros names within t in
         let back = move-back provenance macros names within s t m e.0 e.1 in
-        omega (arith, back.longer, size-is provenance macros names within s e.0 back.completes)
+        omega (arith, back.longer, size-is provenance macros names within s e.0 back.completes, size-is provenance macros names within t e.0 e.1)
 
     pub size-pos : (s : State P) → 0 < size provenance macros names within s
+    unfolding size
     size-pos s = omega arith
 
     -- ---- whole runs

@@ -50,7 +50,7 @@ module _ {P : Type 0} (arities : List ℕ) (provenance : Provenance P) (macros :
     left_at s c = size provenance (macros c) names (within c) (s c)
 
     -- how many steps all configurations have left
-    abbrev pub steps_left : (List ℕ → Bool) → (List ℕ → State P) → ℕ
+    unfoldable pub steps_left : (List ℕ → Bool) → (List ℕ → State P) → ℕ
     steps_left has s = total_of arities has (left_at s)
 
     step-le : (c : List ℕ) (s t : State P) → Moves provenance (macros c) s t ⊎ (s ≡ t) → size provenance (macros c) names (within c) t ≤ size provenance (macros c) names (within c) s
@@ -61,15 +61,18 @@ module _ {P : Type 0} (arities : List ℕ) (provenance : Provenance P) (macros :
     turn-each has still s t turn c config here = let one = turn.each c config here in (one.0, step-le c (s c) (t c) one.1)
 
     pub turn-le : (has still : List ℕ → Bool) (s t : List ℕ → State P) → IsTurn has still s t → steps_left still t ≤ steps_left has s
+    unfolding steps_left
     turn-le has still s t turn = total_of-le arities has still (left_at s) (left_at t) (turn-each has still s t turn)
 
     pub turn-less : (has still : List ℕ → Bool) (s t : List ℕ → State P) → IsTurn has still s t → (config : List ℕ) → TakesPart has still s t config → steps_left still t < steps_left has s
+    unfolding steps_left
     turn-less has still s t turn config part =
         total_of-less arities has still (left_at s) (left_at t) config part.listed (turn-each has still s t turn) part.here
         (λ here. size-move provenance (macros config) names (within config) (s config) (t config) (part.moves here)) (size-pos provenance (macros config) names (within config) (s config))
 
     -- where there is a configuration, something is left
     pub left-pos : (has : List ℕ → Bool) (s : List ℕ → State P) (config : List ℕ) → IsConfig arities config → has config ≡ true → 0 < steps_left has s
+    unfolding steps_left
     left-pos has s config listed here = let less = turn-less has (λ c. false) s s (record { each = λ c config no. absurd (true≢false (sym no)) }) config (record { listed = listed; here = here; moves = λ no. absurd (true≢false (sym no)) }) in omega arith
 
     pub turn-reaches : (has still : List ℕ → Bool) (s t : List ℕ → State P) (source : List ℕ → List (Hidden P)) → IsTurn has still s t

@@ -5,8 +5,8 @@ ghost use Rattle.c11_macros.specs.Hidden.{Failure, Hidden, Provenance};
 ghost use Rattle.c11_macros.specs.Macros.{Macros};
 ghost use Rattle.sc_expand.specs.Plain.{Fails, Leads, Moves, State, scanning};
 
-/// Where finitely many names are defined, what the steps of a list put out is its expansion, and a failure that ends them
-/// is its first cause.
+/// Where finitely many names are defined, what the steps of a list put out is its expansion, and a
+/// failure that ends them is its first.
 pub fn steps_give_the_expansion<P>()
     ensures list { (provenance : Provenance P) (macros : Macros) (names : List (List ℕ)) → IsWithin names macros → (list out : List (Hidden P))
         → Leads provenance macros (scanning [] list) (scanning out []) → Expands provenance macros list (Ok out) }
