@@ -1,4 +1,5 @@
 pub mod Glue
+pub mod Halves
 pub mod Hides
 pub mod Parts
 pub mod Rising
