@@ -6,5 +6,6 @@ pub mod RisingLaws
 pub mod Templates
 pub mod Tokens
 pub mod Turns
+pub mod Wanted
 pub mod SeenLaws
 pub mod Store

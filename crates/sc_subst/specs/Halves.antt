@@ -1,10 +1,12 @@
 -- Substitution in two halves: a template, which asks nothing of what the arguments expand to, and the arguments, put in
 -- where each of those that are wanted expands (C11 6.10.3.1).
-use Rattle.std.specs.Prelude.{ℕ, ◌==◌, ◌||◌, not, Bool, true, false, List, [], ◌∷◌, map, filter, Option, Some, None, Result, Ok, Err, if◌then◌else◌}
+use Rattle.std.specs.Prelude.{ℕ, ◌==◌, ◌||◌, not, Bool, true, false, List, [], ◌∷◌, map, filter, Contains, Option, Some, None, Result, Ok, Err, if◌then◌else◌}
 use Rattle.c11_macros.specs.Hidden.{Hidden, HideSet, Provenance, Failure}
 use Rattle.c11_macros.specs.Macros.{Form, Item}
 use Rattle.c11_macros.specs.Results.{result_map}
 use Rattle.c11_macros.specs.Substitution.{Part, paste, parameter, parts, neither, is_paste_next, Slot, expansion_of, hiding, with_space}
+use Rattle.sc_subst.specs.declared.part.Part as declared
+use Rattle.sc_subst.specs.declared.part.Part.TheVariants as part
 use Rattle.sc_subst.specs.Parts.{filled_in}
 
 -- ---- the arguments that are wanted
@@ -24,6 +26,11 @@ each_once (n ∷ ns) = n ∷ filter (λ m. not (m == n)) (each_once ns)
 -- the parameters whose arguments are expanded for this list, in the order of their first such places
 abbrev pub wanted_of : Form → List Item → List ℕ
 wanted_of form items = each_once (wanted_places false (parts form neither items))
+
+-- the parameter of each argument that is still to be expanded is one of these
+abbrev pub IsWantedPart : List ℕ → declared.Part → Type 0
+IsWantedPart wanted (part.Token t) = Unit {0}
+IsWantedPart wanted (part.Argument n space) = Contains wanted n
 
 -- ---- what the arguments expand to
 

@@ -1,14 +1,16 @@
 //! What replaces a macro's name, before the arguments are known as they expand.
-ghost use Rattle.std.specs.Prelude.{◌≡◌, List, Ok, Err, All, IfErr, IfOk, map};
+ghost use Rattle.std.specs.Prelude.{◌≡◌, List, Result, Ok, Err, All, IfErr, IfOk, map};
 ghost use Rattle.c11_macros.specs.Hidden as model;
-ghost use Rattle.c11_macros.specs.Hidden.{HideSet, Provenance, failure_at};
-ghost use Rattle.c11_macros.specs.Substitution.{hiding, substituted, with_space};
+ghost use Rattle.c11_macros.specs.Hidden.{Failure, HideSet, Provenance, failure_at};
+ghost use Rattle.c11_macros.specs.Substitution.{substituted};
 ghost use Rattle.sc_base.specs.declared.place.Place as declared;
 ghost use Rattle.sc_macro.specs.Seen.{IsHeldForm, IsHeldItem, seen_form, seen_item};
+ghost use Rattle.sc_model.specs.declared.cause.Cause.TheVariants.{BadPaste, BadStringize};
 ghost use Rattle.sc_model.specs.Growth.{Extends};
-ghost use Rattle.sc_subst.specs.Parts.{AreHeldArguments, IsHeldPart, filled_in, seen_arguments, seen_part};
+ghost use Rattle.sc_subst.specs.Halves.{IsWantedPart, completed, wanted_of};
+ghost use Rattle.sc_subst.specs.Parts.{AreHeldArguments, IsHeldPart, seen_arguments, seen_part};
 ghost use Rattle.sc_subst.specs.Seen.{IsHeldHidden, IsHeldSet, Lasting, hide_at, seen_hidden};
-ghost use Rattle.sc_subst.specs.Stops.{OnFault};
+ghost use Rattle.sc_subst.specs.Stops.{OnFault, OnOperator};
 
 use crate::filling::fill;
 use crate::glue::glue;
@@ -19,8 +21,9 @@ use sc_macro::{Form, Item};
 use std::alloc::Global;
 
 /// The template of a list that replaces a macro whose name stands at the place. `raw` has an argument for each parameter,
-/// the one for `...` last. Whatever the other arguments expand to, the template filled with them is the replacement, but
-/// for the white space of the first token and the names that all tokens hide.
+/// the one for `...` last. Whatever the arguments that are wanted expand to, the template filled with them is the
+/// replacement, but for the white space of the first token and the names that all tokens hide; where one of them fails,
+/// its failure is. A fault of `#` comes before the failure of an argument, and a fault of `##` after it.
 pub fn template(
     alloc: Global,
     sets: &mut HideSets,
@@ -33,15 +36,17 @@ pub fn template(
     requires form { IsHeldForm names.old form.now }
     requires items { All (IsHeldItem names.old) items.now }
     requires raw { AreHeldArguments names.old sets.old (map (λ a. a.items) raw.now) }
-    ensures ok { IfOk result (λ parts. Lasting names.new sets.new (λ names sets. (head : model.Hidden declared.Place) (expanded : List (List (model.Hidden declared.Place)))
+    ensures ok { IfOk result (λ parts. Lasting names.new sets.new (λ names sets. (head : model.Hidden declared.Place) (results : List (Result (List (model.Hidden declared.Place)) (Failure declared.Place)))
         (provenance : Provenance declared.Place) (hidden : HideSet) → head.place ≡ place
-        → substituted provenance (seen_form names form.now) (map (seen_item names) items.now) head (seen_arguments names sets (map (λ a. a.items) raw.now)) (map (λ ts. Ok ts) expanded) hidden
-        ≡ Ok (hiding provenance hidden (with_space head.space (filled_in expanded (map (seen_part names sets) parts.items)))))) }
+        → substituted provenance (seen_form names form.now) (map (seen_item names) items.now) head (seen_arguments names sets (map (λ a. a.items) raw.now)) results hidden
+        ≡ completed provenance head hidden (wanted_of (seen_form names form.now) (map (seen_item names) items.now)) results (Ok (map (seen_part names sets) parts.items)))) }
+    ensures wanted { IfOk result (λ parts. All (IsWantedPart (wanted_of (seen_form names.new form.now) (map (seen_item names.new) items.now))) parts.items) }
     ensures own { IfOk result (λ parts. All (IsHeldPart names.new sets.new) parts.items) }
-    ensures err { IfErr result (λ stop. OnFault stop (λ cause. Lasting names.new sets.new (λ names sets. (head : model.Hidden declared.Place) (expanded : List (List (model.Hidden declared.Place)))
-        (provenance : Provenance declared.Place) (hidden : HideSet) → head.place ≡ place
-        → substituted provenance (seen_form names form.now) (map (seen_item names) items.now) head (seen_arguments names sets (map (λ a. a.items) raw.now)) (map (λ ts. Ok ts) expanded) hidden
-        ≡ Err (failure_at cause head)))) }
+    ensures err { IfErr result (λ stop. OnFault stop (λ cause. Lasting names.new sets.new (λ names sets. (head : model.Hidden declared.Place) (results : List (Result (List (model.Hidden declared.Place)) (Failure declared.Place)))
+        (provenance : Provenance declared.Place) (hidden : HideSet) → head.place ≡ place → OnOperator cause
+        (substituted provenance (seen_form names form.now) (map (seen_item names) items.now) head (seen_arguments names sets (map (λ a. a.items) raw.now)) results hidden ≡ Err (failure_at BadStringize head))
+        (substituted provenance (seen_form names form.now) (map (seen_item names) items.now) head (seen_arguments names sets (map (λ a. a.items) raw.now)) results hidden
+        ≡ completed provenance head hidden (wanted_of (seen_form names form.now) (map (seen_item names) items.now)) results (Err (failure_at BadPaste head)))))) }
 
     // at every outcome
     ensures names { Extends names.old names.new }
