@@ -1,5 +1,6 @@
 pub mod Gluing
 pub mod Later
+pub mod PartTurns
 pub mod Pasting
 pub mod Quoting
 pub mod RisingLaws

@@ -1,32 +1,31 @@
--- What an item of a list makes, and what the rest of the list makes behind it.
-use Rattle.std.proofs.Common.{◌≡◌, ℕ, zero, suc, ◌<◌, ◌+◌, ◌-◌, take, add-one, length-drop, ◌&&◌, ◌∷◌, ◌++◌, not, true, false, List, [], length, map, drop, get_or, slice_index_or, append_assoc, Option, Some, Result, Ok, Err, refl, sym, ap, ◌∙◌, arith}
+-- What the tables hold of a definition, and what a part of its list makes.
+use Rattle.std.proofs.Common.{◌≡◌, ℕ, zero, suc, ◌<◌, ◌∷◌, ◌++◌, List, [], length, map, get_or, slice_index_or, append_assoc, Result, Ok, Err, refl, sym, ap, ◌∙◌, arith}
 use Rattle.std.specs.Prelude.{All}
-use Rattle.std.proofs.Math.Seq.{drop-cons}
-use Rattle.std.proofs.lemmas.List.{take_all}
 use Rattle.c11_macros.specs.Hidden as model
-use Rattle.c11_macros.specs.Hidden.{Failure, failure_at}
+use Rattle.c11_macros.specs.Hidden.{Failure}
 use Rattle.c11_macros.specs.Macros as macros
-use Rattle.c11_macros.specs.Results.{result_map, result_and_then}
+use Rattle.c11_macros.specs.Results.{result_map}
 use Rattle.c11_macros.specs.Substitution as substitution
-use Rattle.c11_macros.specs.Substitution.{begins_with_parameter, is_after_paste, is_hash, is_paste, operand_part, parameter_of, parts, slot_of, slots, stringized, listed, filled_by}
+use Rattle.c11_macros.specs.Substitution.{neither, parts, slot_of, stringized, filled_by}
 use Rattle.sc_base.specs.declared.id.Name.{Name}
 use Rattle.sc_base.specs.declared.place.Place.{Place}
-use Rattle.sc_base.proofs.Growth.{Extends-trans}
+use Rattle.sc_base.proofs.Growth.{Extends-within}
 use Rattle.sc_macro.specs.declared.definition.Item.{Item}
 use Rattle.sc_macro.specs.declared.form.Form.{Form}
 use Rattle.sc_macro.specs.declared.form.Form.TheVariants.{Object, Function}
 use Rattle.sc_macro.specs.Seen.{AreHeld, IsHeldForm, IsHeldItem, seen_form, seen_item, text_of, texts_of}
 use Rattle.sc_model.specs.declared.cause.Cause.{Cause}
-use Rattle.sc_model.specs.declared.kind.Kind.TheVariants.{Identifier}
 use Rattle.sc_model.specs.Growth.{Extends}
+use Rattle.sc_model.specs.Token.{name_of}
 use Rattle.sc_subst.specs.declared.hidden.Hidden.{Hidden}
-use Rattle.sc_subst.specs.declared.slots.Before.{Before}
-use Rattle.sc_subst.specs.declared.slots.Before.TheVariants as before
+use Rattle.sc_subst.specs.declared.parts.ListPart.{ListPart}
+use Rattle.sc_subst.specs.declared.parts.ListPart.TheVariants as part
 use Rattle.sc_subst.specs.declared.slots.Slot.{Slot}
 use Rattle.sc_subst.specs.declared.slots.Slot.TheVariants as slot
 use Rattle.sc_subst.specs.declared.stop.SubstStop.{SubstStop}
 use Rattle.sc_subst.specs.declared.stop.SubstStop.TheVariants.{Fault, OutOfMemory}
-use Rattle.sc_subst.specs.Parts.{AreHeldArguments, IsHeldSlot, seen_arguments, seen_before, seen_list, seen_slot, slots_behind}
+use Rattle.sc_subst.specs.ListParts.{IsHeldListPart, seen_list_part}
+use Rattle.sc_subst.specs.Parts.{AreHeldArguments, IsHeldSlot, seen_arguments, seen_list, seen_slot}
 use Rattle.sc_subst.specs.Seen.{IsHeldHidden, Lasting, seen_hidden}
 use Rattle.sc_subst.specs.Stops.{OnFault}
 use Rattle.sc_subst.proofs.Later.{IsHeldHidden-Extends, text_later}
@@ -76,49 +75,53 @@ pub form_later : {names later : List (List ℕ)} (form : Form) → IsHeldForm na
 form_later {names} {later} Object held e = refl
 form_later {names} {later} (Function parameters variadic) held e = ap (λ ts. macros.function_like ts variadic) (parameters_later parameters.keys held e)
 
--- ---- an operand
+-- ---- the parts of a list
 
-not_hash : (b : Before) (item : macros.Item) (n : ℕ) → ((hash : Item) → b ≡ before.Hash hash → ⊥) → operand_part (seen_before b) item (Some n) ≡ substitution.parameter n item.space
-not_hash before.Neither item n h = refl
-not_hash before.Paste item n h = refl
-not_hash (before.Hash hash) item n h = absurd (h hash refl)
+item_held : {names later : List (List ℕ)} (item : Item) → IsHeldItem names item → Extends names later → IsHeldItem later item
+item_held {names} {later} item held e = record {
+  spelling = Extends-within item.spelling.0 held.spelling e;
+  name = Extends-within item.name.0 held.name e;
+  stands_for = text_later item.name held.name e ∙ (held.stands_for ∙ ap name_of (sym (text_later item.spelling held.spelling e)));
+}
 
-module _ (names : List (List ℕ)) (form : Form) (item : Item) (held_form : IsHeldForm names form) (held_item : IsHeldItem names item) where
-  parameter_later : {later : List (List ℕ)} → Extends names later → parameter_of (seen_form later form) (text_of later item.spelling) ≡ parameter_of (seen_form names form) (text_of names item.spelling)
-  parameter_later {later} e =
-      ap (λ f. parameter_of f (text_of later item.spelling)) (form_later form held_form e) ∙ ap (λ t. parameter_of (seen_form names form) t) (text_later item.spelling held_item.spelling e)
+pub list_part_held : {names later : List (List ℕ)} (p : ListPart) → IsHeldListPart names p → Extends names later → IsHeldListPart later p
+list_part_held {names} {later} (part.Token item) held e = item_held item held e
+list_part_held {names} {later} (part.Literal n hash) held e = tt
+list_part_held {names} {later} (part.Parameter n space) held e = tt
+list_part_held {names} {later} part.Paste held e = tt
 
-  -- the slot of an operand, once it is known which parameter it is
-  pub operand_is : (new_names : List (List ℕ)) (sets : List (List Name)) (raw : List (List Hidden)) (b : Before) (place : Place) (found : Option ℕ) (answer : List (List ℕ) → List (List Name) → model.Hidden Place → Result (substitution.Slot Place) (Failure Place))
-      → found ≡ parameter_of (seen_form names form) (text_of names item.spelling) → Extends names new_names
-      → Lasting new_names sets (λ n s. (head : model.Hidden Place) → head.place ≡ place → slot_of head (seen_arguments n s raw) (operand_part (seen_before b) (seen_item n item) found) ≡ answer n s head)
-      → Lasting new_names sets (λ n s. (head : model.Hidden Place) → head.place ≡ place
-      → slot_of head (seen_arguments n s raw) (operand_part (seen_before b) (seen_item n item) (parameter_of (seen_form n form) (seen_item n item).spelling)) ≡ answer n s head)
-  operand_is new_names sets raw b place found answer is e claim = record {
-    at = λ n s en es head at.
-        ap (λ p. slot_of head (seen_arguments n s raw) (operand_part (seen_before b) (seen_item n item) p)) (parameter_later (Extends-trans e en) ∙ sym is) ∙ claim.at n s en es head at;
-  }
+list_part_later : {names later : List (List ℕ)} (p : ListPart) → IsHeldListPart names p → Extends names later → seen_list_part later p ≡ seen_list_part names p
+list_part_later {names} {later} (part.Token item) held e = ap substitution.token (item_later item held e)
+list_part_later {names} {later} (part.Literal n hash) held e = refl
+list_part_later {names} {later} (part.Parameter n space) held e = refl
+list_part_later {names} {later} part.Paste held e = refl
 
-pub wanted_is : (n : ℕ) (b : Before) (names : List (List ℕ)) (sets : List (List Name)) (raw : List (List Hidden)) (item : Item) (place : Place) → ((hash : Item) → b ≡ before.Hash hash → ⊥)
-    → Lasting names sets (λ ns s. (head : model.Hidden Place) → head.place ≡ place → slot_of head (seen_arguments ns s raw) (operand_part (seen_before b) (seen_item ns item) (Some n)) ≡ Ok (seen_slot ns s (slot.Parameter n item.space)))
-wanted_is n b names sets raw item place h = record { at = λ ns s en es head at. ap (slot_of head (seen_arguments ns s raw)) (not_hash b (seen_item ns item) n h) }
+list_parts_later : {names later : List (List ℕ)} (ps : List ListPart) → All (IsHeldListPart names) ps → Extends names later → map (seen_list_part later) ps ≡ map (seen_list_part names) ps
+list_parts_later {names} {later} [] held e = refl
+list_parts_later {names} {later} (p ∷ ps) held e =
+    ap (λ q. q ∷ map (seen_list_part later) ps) (list_part_later p (held 0 p (omega arith)) e)
+    ∙ ap (λ qs. seen_list_part names p ∷ qs) (list_parts_later ps (λ k d h. held (suc k) d (omega arith)) e)
+
+-- what the parts of a list are stays while the table grows
+pub parts_later : {names later : List (List ℕ)} (ps : List ListPart) (form : Form) (items : List Item) → All (IsHeldListPart names) ps → IsHeldForm names form → All (IsHeldItem names) items
+    → map (seen_list_part names) ps ≡ parts (seen_form names form) neither (map (seen_item names) items) → Extends names later
+    → map (seen_list_part later) ps ≡ parts (seen_form later form) neither (map (seen_item later) items)
+parts_later {names} {later} ps form items held held_form held_items is e =
+    list_parts_later ps held e ∙ (is
+    ∙ (ap (λ is. parts (seen_form names form) neither is) (sym (items_later items held_items e)) ∙ ap (λ f. parts f neither (map (seen_item later) items)) (sym (form_later form held_form e))))
 
 -- the literal of an argument, whatever was answered
-pub literal_is : (n : ℕ) (hash : Item) (names : List (List ℕ)) (sets : List (List Name)) (raw : List (List Hidden)) (item : Item) (place : Place)
+pub literal_is : (n : ℕ) (hash : Item) (names : List (List ℕ)) (sets : List (List Name)) (raw : List (List Hidden)) (place : Place)
     (answer : List (List ℕ) → List (List Name) → model.Hidden Place → Result (model.Hidden Place) (Failure Place))
     → Lasting names sets (λ ns s. (head : model.Hidden Place) → head.place ≡ place → stringized head hash.space (map (seen_hidden ns s) (substitution.argument raw n)) ≡ answer ns s head)
     → Lasting names sets (λ ns s. (head : model.Hidden Place) → head.place ≡ place
-    → slot_of head (seen_arguments ns s raw) (operand_part (seen_before (before.Hash hash)) (seen_item ns item) (Some n)) ≡ result_map filled_by (answer ns s head))
-literal_is n hash names sets raw item place answer claim = record {
+    → slot_of head (seen_arguments ns s raw) (substitution.literal n hash.space) ≡ result_map filled_by (answer ns s head))
+literal_is n hash names sets raw place answer claim = record {
   at = λ ns s en es head at.
       ap (λ ts. result_map filled_by (stringized head hash.space ts)) (argument_seen ns s raw n) ∙ ap (result_map filled_by) (claim.at ns s en es head at);
 }
 
 -- ---- an item and the rest
-
-result_map_none : {S E : Type 0} (r : Result (List S) E) → r ≡ result_map (λ ss. [] ++ ss) r
-result_map_none {S} {E} (Ok a) = refl
-result_map_none {S} {E} (Err e) = refl
 
 result_map_twice : {S E : Type 0} (made more : List S) (q : Result (List S) E) → result_map (λ ss. made ++ ss) (result_map (λ ss. more ++ ss) q) ≡ result_map (λ ss. (made ++ more) ++ ss) q
 result_map_twice {S} {E} made more (Ok a) = ap Ok (sym (append_assoc made more a))
@@ -133,57 +136,6 @@ turned {S} {E} whole rest left made more new h k e =
 -- a failure of the rest is one of the whole
 pub fails : {S E : Type 0} (whole rest : Result (List S) E) (made : List S) (e : E) → whole ≡ result_map (λ ss. made ++ ss) rest → rest ≡ Err e → whole ≡ Err e
 fails {S} {E} whole rest made e h k = h ∙ ap (result_map (λ ss. made ++ ss)) k
-
-parts-hash : (form : macros.Form) (b : substitution.Before) (item : macros.Item) (items : List macros.Item) → (is_paste item && not (is_after_paste b)) ≡ false
-    → (is_hash item && begins_with_parameter form items) ≡ true → parts form b (item ∷ items) ≡ parts form (substitution.after_hash item.space) items
-parts-hash form b item items h k = rw (h, k) refl
-
-parts-operand : (form : macros.Form) (b : substitution.Before) (item : macros.Item) (items : List macros.Item) → (is_paste item && not (is_after_paste b)) ≡ false
-    → (is_hash item && begins_with_parameter form items) ≡ false → parts form b (item ∷ items) ≡ operand_part b item (parameter_of form item.spelling) ∷ parts form substitution.neither items
-parts-operand form b item items h k = rw (h, k) refl
-
-module _ (names : List (List ℕ)) (form : Form) (item : Item) (rest : List Item) (held_form : IsHeldForm names form) (held_item : IsHeldItem names item) (held_rest : All (IsHeldItem names) rest) (b : Before)
-    (no_paste : false ≡ (is_paste (seen_item names item) && not (is_after_paste (seen_before b)))) where
-  paste_later : {later : List (List ℕ)} → Extends names later → (is_paste (seen_item later item) && not (is_after_paste (seen_before b))) ≡ false
-  paste_later {later} e = ap (λ i. is_paste i && not (is_after_paste (seen_before b))) (item_later item held_item e) ∙ sym no_paste
-
-  hash_later : {later : List (List ℕ)} → Extends names later → (is_hash (seen_item later item) && begins_with_parameter (seen_form later form) (map (seen_item later) rest))
-      ≡ (is_hash (seen_item names item) && begins_with_parameter (seen_form names form) (map (seen_item names) rest))
-  hash_later {later} e =
-      ap (λ i. is_hash i && begins_with_parameter (seen_form later form) (map (seen_item later) rest)) (item_later item held_item e)
-      ∙ (ap (λ f. is_hash (seen_item names item) && begins_with_parameter f (map (seen_item later) rest)) (form_later form held_form e)
-      ∙ ap (λ is. is_hash (seen_item names item) && begins_with_parameter (seen_form names form) is) (items_later rest held_rest e))
-
-  pub hash_is : (sets : List (List Name)) (raw : List (List Hidden)) (place : Place) → true ≡ (is_hash (seen_item names item) && begins_with_parameter (seen_form names form) (map (seen_item names) rest))
-      → Lasting names sets (λ n s. (head : model.Hidden Place) → head.place ≡ place → slots_behind n s form raw head b (item ∷ rest) ≡ result_map (λ ss. [] ++ ss) (slots_behind n s form raw head (before.Hash item) rest))
-  hash_is sets raw place hash = record {
-    at = λ n s en es head at.
-        ap (slots head (seen_arguments n s raw)) (parts-hash (seen_form n form) (seen_before b) (seen_item n item) (map (seen_item n) rest) (paste_later en) (hash_later en ∙ sym hash))
-        ∙ result_map_none (slots_behind n s form raw head (before.Hash item) rest);
-  }
-
-  pub operand_then : (new_names : List (List ℕ)) (sets : List (List Name)) (raw : List (List Hidden)) (place : Place) (answer : List (List ℕ) → List (List Name) → model.Hidden Place → Result (substitution.Slot Place) (Failure Place))
-      → false ≡ (is_hash (seen_item names item) && begins_with_parameter (seen_form names form) (map (seen_item names) rest)) → Extends names new_names
-      → Lasting new_names sets (λ n s. (head : model.Hidden Place) → head.place ≡ place
-      → slot_of head (seen_arguments n s raw) (operand_part (seen_before b) (seen_item n item) (parameter_of (seen_form n form) (seen_item n item).spelling)) ≡ answer n s head)
-      → Lasting new_names sets (λ n s. (head : model.Hidden Place) → head.place ≡ place
-      → slots_behind n s form raw head b (item ∷ rest) ≡ result_and_then (λ x. result_map (λ ss. x ∷ ss) (slots_behind n s form raw head before.Neither rest)) (answer n s head))
-  operand_then new_names sets raw place answer hash e claim = record {
-    at = λ n s en es head at.
-        ap (slots head (seen_arguments n s raw)) (parts-operand (seen_form n form) (seen_before b) (seen_item n item) (map (seen_item n) rest) (paste_later (Extends-trans e en)) (hash_later (Extends-trans e en) ∙ sym hash))
-        ∙ ap (result_and_then (λ x. result_map (λ ss. x ∷ ss) (slots_behind n s form raw head before.Neither rest))) (claim.at n s en es head at);
-  }
-
-abbrev pub blank_item : Item
-blank_item = record { kind = Identifier; name = record { 0 = 0 }; spelling = record { 0 = 0 }; space = false }
-
-pub from_item : (items : List Item) (i : ℕ) → i < length items → drop i items ≡ get_or items i blank_item ∷ take (length items - (i + 1)) (drop (i + 1) items)
-from_item items i h =
-    drop-cons items i blank_item h
-    ∙ ap (λ is. get_or items i blank_item ∷ is) (ap (λ k. drop k items) (sym (add-one i)) ∙ sym (take_all (length items - (i + 1)) (drop (i + 1) items) (omega (arith, length-drop (i + 1) items))))
-
-pub tail_is : (items : List Item) (i : ℕ) → take (length items - (i + 1)) (drop (i + 1) items) ≡ drop (i + 1) items
-tail_is items i = take_all (length items - (i + 1)) (drop (i + 1) items) (omega (arith, length-drop (i + 1) items))
 
 pub slot_later : {names later : List (List ℕ)} {sets later_sets : List (List Name)} (s : Slot) → IsHeldSlot names sets s → Extends names later → Extends sets later_sets → IsHeldSlot later later_sets s
 slot_later {names} {later} {sets} {later_sets} (slot.Token t) held e s = IsHeldHidden-Extends t held e s

@@ -1,8 +1,10 @@
 -- Which arguments a template has a place for, and which are wanted.
-use Rattle.std.proofs.Common.{◌≡◌, ℕ, zero, suc, ◌<◌, ◌≤◌, ◌+◌, ◌==◌, ◌||◌, ◌&&◌, not, Bool, true, false, List, [], ◌∷◌, ◌++◌, map, filter, length, length-append, get_or, append_assoc, Result, Ok, Err, if◌then◌else◌, inl, inr, refl, sym, ap, subst, ◌∙◌, arith}
-use Rattle.std.specs.Prelude.{All, Contains, IfOk}
+use Rattle.std.proofs.Common.{◌≡◌, ℕ, zero, suc, ◌<◌, ◌≤◌, ◌+◌, ◌-◌, take, drop, Option, None, ◌==◌, ◌||◌, ◌&&◌, not, Bool, true, false, List, [], ◌∷◌, ◌++◌, map, filter, length, length-append, get_or, append_assoc, Result, Ok, Err, if◌then◌else◌, inl, inr, refl, sym, ap, subst, ◌∙◌, arith}
+use Rattle.std.specs.Prelude.{All, Contains, IfOk, Some}
+use Rattle.std.specs.List.{list_any}
 use Rattle.std.proofs.lemmas.Bool.{cases_Bool, eqb-true, or_parts, true≢false}
 use Rattle.std.proofs.lemmas.Bool.Decides.{nat_tests}
+use Rattle.std.proofs.lemmas.List.{append-nil}
 use Rattle.std.proofs.lemmas.List.Elements.{All-cons, Contains-append_right}
 use Rattle.c11_macros.specs.Hidden as model
 use Rattle.c11_macros.specs.Hidden.{Failure}
@@ -12,9 +14,13 @@ use Rattle.c11_macros.specs.Substitution.{all_glued, argument, begins_paste, slo
 use Rattle.sc_base.specs.declared.id.Name.{Name}
 use Rattle.sc_subst.specs.declared.part.Part.{Part}
 use Rattle.sc_subst.specs.declared.part.Part.TheVariants as part
+use Rattle.sc_subst.specs.declared.parts.ListPart.{ListPart}
+use Rattle.sc_subst.specs.declared.parts.ListPart.TheVariants as list
 use Rattle.sc_subst.specs.Glue.{argument_pieces, pieces_in}
 use Rattle.sc_subst.specs.Halves.{IsWantedPart, each_once, wanted_places}
+use Rattle.sc_subst.specs.ListParts.{is_paste_part, place_of, seen_list_part, with_one_more}
 use Rattle.sc_subst.specs.Parts.{filled_in, seen_part}
+use Rattle.sc_subst.proofs.Gluing.{from_at, tail_at}
 use Rattle.sc_subst.proofs.Templates.{wanted_slots, wants_are}
 
 abbrev has : List ℕ → ℕ → Bool
@@ -23,6 +29,12 @@ has (m ∷ ms) n = (m == n) || has ms n
 
 itself : (n : ℕ) → (n == n) ≡ true
 itself n = grind (arith, nat_tests)
+
+turned : (m n : ℕ) → (m == n) ≡ (n == m)
+turned m n = elim (cases_Bool (n == m)) [
+  | inl same ↦ (let is : (m == n) ≡ true = ap (λ k. m == k) (eqb-true n m same) ∙ itself m in is ∙ sym same)
+  | inr apart ↦ (let is : (m == n) ≡ false = grind (arith, nat_tests) in is ∙ sym apart)
+]
 
 -- ---- the arguments tell which of them stand in a template
 
@@ -121,11 +133,8 @@ has_once : (ns : List ℕ) (n : ℕ) → has ns n ≡ true → has (each_once ns
 has_once [] n h = absurd (true≢false (sym h))
 has_once (m ∷ ns) n h = elim (cases_Bool (m == n)) [
   | inl same ↦ rw same refl
-  | inr apart ↦ rw apart (contains_kept n m (swapped m n apart) (each_once ns) (has_once ns n (rw apart at h)))
+  | inr apart ↦ rw apart (contains_kept n m (turned n m ∙ apart) (each_once ns) (has_once ns n (rw apart at h)))
 ]
-  where
-    swapped : (m n : ℕ) → (m == n) ≡ false → (n == m) ≡ false
-    swapped m n h = grind (arith, nat_tests)
 
 contains : (ns : List ℕ) (n : ℕ) → has ns n ≡ true → Contains ns n
 contains [] n h = absurd (true≢false (sym h))
@@ -165,3 +174,85 @@ parts_wanted names sets wanted (part.Argument n space ∷ ps) h =
     either : (a b : Bool) → b ≡ true → (a || b) ≡ true
     either true b k = refl
     either false b k = k
+
+-- ---- wanted arguments, gathered one by one
+
+neither_is : (a b : Bool) → (not b && not a) ≡ not (a || b)
+neither_is true true = refl
+neither_is true false = refl
+neither_is false true = refl
+neither_is false false = refl
+
+-- those that are not there yet, behind those that are
+abbrev pub added : List ℕ → List ℕ → List ℕ
+added seen [] = seen
+added seen (n ∷ ns) = added (with_one_more seen (Some n)) ns
+
+any_has : (ns : List ℕ) (n : ℕ) → list_any (λ m. m == n) ns ≡ has ns n
+any_has [] n = refl
+any_has (m ∷ ms) n = ap (λ b. (m == n) || b) (any_has ms n)
+
+-- names left out twice
+left_out : (p q r : ℕ → Bool) → ((n : ℕ) → (q n && p n) ≡ r n) → (ns : List ℕ) → filter p (filter q ns) ≡ filter r ns
+left_out p q r same [] = refl
+left_out p q r same (n ∷ ns) = elim (cases_Bool (q n)) [
+  | inl is ↦ (
+      let here : p n ≡ r n = ap (λ b. b && p n) (sym is) ∙ same n in
+      rw (is, here) (elim (cases_Bool (r n)) [ inl kept ↦ rw kept (ap (λ ms. n ∷ ms) (left_out p q r same ns)) | inr out ↦ rw out (left_out p q r same ns) ]))
+  | inr other ↦ (
+      let here : r n ≡ false = sym (same n) ∙ ap (λ b. b && p n) other in
+      rw (other, here) (left_out p q r same ns))
+]
+
+has_push : (seen : List ℕ) (m n : ℕ) → has (seen ++ m ∷ []) n ≡ (has seen n || (m == n))
+has_push [] m n = grind (arith, nat_tests)
+has_push (x ∷ xs) m n = elim (cases_Bool (x == n)) [ inl here ↦ rw here refl | inr other ↦ rw other (has_push xs m n) ]
+
+pub added_is : (seen ns : List ℕ) → added seen ns ≡ seen ++ filter (λ n. not (has seen n)) (each_once ns)
+added_is seen [] = sym (append-nil seen)
+added_is seen (m ∷ ns) = elim (cases_Bool (has seen m)) [
+  | inl is ↦ rw (any_has seen m, is) (added_is seen ns ∙ ap (λ xs. seen ++ xs) (sym (left_out (λ n. not (has seen n)) (λ n. not (n == m)) (λ n. not (has seen n)) (known is) (each_once ns))))
+  | inr other ↦ rw (any_has seen m, other) (added_is (seen ++ m ∷ []) ns
+      ∙ (append_assoc seen (m ∷ []) (filter (λ n. not (has (seen ++ m ∷ []) n)) (each_once ns))
+      ∙ ap (λ xs. seen ++ (m ∷ xs)) (sym (left_out (λ n. not (has seen n)) (λ n. not (n == m)) (λ n. not (has (seen ++ m ∷ []) n)) fresh (each_once ns)))))
+]
+  where
+    known : has seen m ≡ true → (n : ℕ) → (not (n == m) && not (has seen n)) ≡ not (has seen n)
+    known is n = elim (cases_Bool (n == m)) [
+      | inl same ↦ rw same (sym (ap not (ap (has seen) (eqb-true n m same) ∙ is)))
+      | inr apart ↦ rw apart refl
+    ]
+
+    fresh : (n : ℕ) → (not (n == m) && not (has seen n)) ≡ not (has (seen ++ m ∷ []) n)
+    fresh n = ap (λ b. not b && not (has seen n)) (turned n m) ∙ (neither_is (has seen n) (m == n) ∙ ap not (sym (has_push seen m n)))
+
+pub all_added : (ns : List ℕ) → added [] ns ≡ each_once ns
+all_added ns = added_is [] ns ∙ every (each_once ns)
+  where
+    every : (ms : List ℕ) → filter (λ n. not (has [] n)) ms ≡ ms
+    every [] = refl
+    every (m ∷ ms) = ap (λ xs. m ∷ xs) (every ms)
+
+wanted_step : (names : List (List ℕ)) (wanted : List ℕ) (behind : Bool) (p : ListPart) (ps : List substitution.Part)
+    → added wanted (wanted_places behind (seen_list_part names p ∷ ps)) ≡ added (with_one_more wanted (place_of behind (seen_list_part names p) ps)) (wanted_places (is_paste_part p) ps)
+wanted_step names wanted behind (list.Token item) ps = refl
+wanted_step names wanted behind (list.Literal n hash) ps = refl
+wanted_step names wanted behind (list.Parameter n space) ps = at (behind || substitution.is_paste_next ps)
+  where
+    at : (beside : Bool) → added wanted (if beside then wanted_places false ps else n ∷ wanted_places false ps) ≡ added (with_one_more wanted (if beside then None else Some n)) (wanted_places false ps)
+    at true = refl
+    at false = refl
+wanted_step names wanted behind list.Paste ps = refl
+
+-- one turn of the loop
+pub wanted_turn : (names : List (List ℕ)) (parts : List ListPart) (i : ℕ) (d : ListPart) (wanted new : List ℕ) (behind next : Bool) (found : Option ℕ) → i < length parts
+    → found ≡ place_of behind (seen_list_part names (get_or parts i d)) (map (seen_list_part names) (take (length parts - (i + 1)) (drop (i + 1) parts))) → new ≡ with_one_more wanted found
+    → next ≡ is_paste_part (get_or parts i d)
+    → added new (wanted_places next (map (seen_list_part names) (drop (i + 1) parts))) ≡ added wanted (wanted_places behind (map (seen_list_part names) (drop i parts)))
+wanted_turn names parts i d wanted new behind next found h is more beside =
+    let see : ListPart → substitution.Part = seen_list_part names in
+    let rest : List ListPart = take (length parts - (i + 1)) (drop (i + 1) parts) in
+    ap (λ ps. added new (wanted_places next (map see ps))) (sym (tail_at parts i))
+    ∙ (ap (λ ns. added ns (wanted_places next (map see rest))) (more ∙ ap (with_one_more wanted) is)
+    ∙ (ap (λ b. added (with_one_more wanted (place_of behind (see (get_or parts i d)) (map see rest))) (wanted_places b (map see rest))) beside
+    ∙ (sym (wanted_step names wanted behind (get_or parts i d) (map see rest)) ∙ ap (λ ps. added wanted (wanted_places behind (map see ps))) (sym (from_at parts i d h)))))

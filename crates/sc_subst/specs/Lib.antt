@@ -1,6 +1,7 @@
 pub mod Glue
 pub mod Halves
 pub mod Hides
+pub mod ListParts
 pub mod Parts
 pub mod Rising
 pub mod Seen

@@ -1,18 +1,13 @@
 -- A replacement in the making: its slots, its template, and what fills it.
-use Rattle.std.specs.Prelude.{All, ℕ, Bool, List, [], ◌∷◌, ◌++◌, map, Option, Some, None, Result}
+use Rattle.std.specs.Prelude.{All, ℕ, Bool, List, [], ◌∷◌, ◌++◌, map}
 use Rattle.c11_macros.specs.Hidden as model
 use Rattle.c11_macros.specs.Substitution as substitution
 use Rattle.c11_macros.specs.Substitution.{argument, with_space}
 use Rattle.sc_base.specs.declared.id.Name.{Name}
 use Rattle.sc_base.specs.declared.place.Place.{Place}
-use Rattle.sc_macro.specs.declared.definition.Item.{Item}
-use Rattle.sc_macro.specs.declared.form.Form.{Form}
-use Rattle.sc_macro.specs.Seen.{seen_form, seen_item}
 use Rattle.sc_subst.specs.declared.hidden.Hidden.{Hidden}
 use Rattle.sc_subst.specs.declared.part.Part.{Part}
 use Rattle.sc_subst.specs.declared.part.Part.TheVariants as part
-use Rattle.sc_subst.specs.declared.slots.Before.{Before}
-use Rattle.sc_subst.specs.declared.slots.Before.TheVariants as before
 use Rattle.sc_subst.specs.declared.slots.Slot.{Slot}
 use Rattle.sc_subst.specs.declared.slots.Slot.TheVariants as slot
 use Rattle.sc_subst.specs.Seen.{IsHeldHidden, seen_hidden}
@@ -26,11 +21,6 @@ seen_arguments names sets lists = map (seen_list names sets) lists
 abbrev pub AreHeldArguments : List (List ℕ) → List (List Name) → List (List Hidden) → Type 0
 AreHeldArguments names sets lists = All (All (IsHeldHidden names sets)) lists
 
-abbrev pub seen_before : Before → substitution.Before
-seen_before before.Neither = substitution.neither
-seen_before before.Paste = substitution.after_paste
-seen_before (before.Hash item) = substitution.after_hash item.space
-
 abbrev pub seen_slot : List (List ℕ) → List (List Name) → Slot → substitution.Slot Place
 seen_slot names sets (slot.Token t) = substitution.filled_by (seen_hidden names sets t)
 seen_slot names sets (slot.Parameter parameter space) = substitution.for_parameter parameter space
@@ -39,19 +29,6 @@ seen_slot names sets slot.Paste = substitution.for_paste
 abbrev pub IsHeldSlot : List (List ℕ) → List (List Name) → Slot → Type 0
 IsHeldSlot names sets (slot.Token t) = IsHeldHidden names sets t
 IsHeldSlot names sets _ = Unit {0}
-
-abbrev pub seen_made : List (List ℕ) → List (List Name) → Option Slot → List (substitution.Slot Place)
-seen_made names sets None = []
-seen_made names sets (Some s) = seen_slot names sets s ∷ []
-
-abbrev pub IsHeldMade : List (List ℕ) → List (List Name) → Option Slot → Type 0
-IsHeldMade names sets None = Unit {0}
-IsHeldMade names sets (Some s) = IsHeldSlot names sets s
-
--- the slots that the rest of a list makes behind such an item
-abbrev pub slots_behind : List (List ℕ) → List (List Name) → Form → List (List Hidden) → model.Hidden Place → Before → List Item → Result (List (substitution.Slot Place)) (model.Failure Place)
-slots_behind names sets form raw head before items =
-    substitution.slots head (seen_arguments names sets raw) (substitution.parts (seen_form names form) (seen_before before) (map (seen_item names) items))
 
 -- a part of a template as a slot
 abbrev pub seen_part : List (List ℕ) → List (List Name) → Part → substitution.Slot Place

@@ -1,22 +1,22 @@
 //! The list of a macro, with a string literal in the place of each `#` with its parameter.
-ghost use Rattle.std.specs.Prelude.{◌≡◌, ℕ, ◌&&◌, ◌++◌, ◌∷◌, [], List, Ok, Err, All, IfErr, IfOk, OnOk, map, not};
+ghost use Rattle.std.specs.Prelude.{◌≡◌, ℕ, List, Ok, Err, All, IfErr, IfOk, map};
 ghost use Rattle.c11_macros.specs.Hidden as model;
 ghost use Rattle.c11_macros.specs.Hidden.{failure_at};
-ghost use Rattle.c11_macros.specs.Results.{result_map};
 ghost use Rattle.c11_macros.specs.Substitution as substitution;
-ghost use Rattle.c11_macros.specs.Substitution.{begins_with_parameter, is_after_paste, is_hash, is_paste, listed, operand_part, parameter_of, slot_of};
-ghost use Rattle.sc_base.specs.declared.id.Name as Name;
+ghost use Rattle.c11_macros.specs.Substitution.{listed, neither, slot_of, slots};
 ghost use Rattle.sc_base.specs.declared.place.Place as declared;
 ghost use Rattle.sc_macro.specs.Seen.{IsHeldForm, IsHeldItem, seen_form, seen_item};
 ghost use Rattle.sc_model.specs.Growth.{Extends};
-ghost use Rattle.sc_subst.specs.Parts.{AreHeldArguments, IsHeldMade, IsHeldSlot, seen_arguments, seen_before, seen_made, seen_slot, slots_behind};
+ghost use Rattle.sc_subst.specs.ListParts.{IsHeldListPart, seen_list_part};
+ghost use Rattle.sc_subst.specs.Parts.{AreHeldArguments, IsHeldSlot, seen_arguments, seen_slot};
 ghost use Rattle.sc_subst.specs.Seen.{IsHeldHidden, Lasting, seen_hidden};
 ghost use Rattle.sc_subst.specs.Stops.{OnFault};
 
+use crate::parts::{ListPart, parts};
 use crate::{Hidden, HideSets, SubstStop, stringize};
 use sc_base::{Names, Place, Token};
 use sc_macro::{Form, Item};
-use std::alloc::{AllocError, Global};
+use std::alloc::Global;
 
 /// What stands in a list: a token, a parameter that is still to be replaced, or a `##`.
 #[derive(Clone, Copy, Debug, PartialEq, Eq)]
@@ -24,14 +24,6 @@ pub enum Slot {
     Token(Hidden),
     Parameter { parameter: usize, space: bool },
     Paste,
-}
-
-/// What stands before an item: neither operator, a `##`, or a `#` that makes a literal of it.
-#[derive(Clone, Copy, Debug, PartialEq, Eq)]
-pub enum Before {
-    Neither,
-    Paste,
-    Hash(Item),
 }
 
 /// The argument of a parameter.
@@ -58,157 +50,76 @@ pub fn slots(
     requires items { All (IsHeldItem names.old) items.now }
     requires raw { AreHeldArguments names.old sets.now (map (λ a. a.items) raw.now) }
     ensures ok { IfOk result (λ made. Lasting names.new sets.now (λ names sets. (head : model.Hidden declared.Place) → head.place ≡ place
-        → slots_behind names sets form.now (map (λ a. a.items) raw.now) head Before.Neither items.now ≡ Ok (map (seen_slot names sets) made.items))) }
+        → slots head (seen_arguments names sets (map (λ a. a.items) raw.now)) (substitution.parts (seen_form names form.now) neither (map (seen_item names) items.now)) ≡ Ok (map (seen_slot names sets) made.items))) }
     ensures own { IfOk result (λ made. All (IsHeldSlot names.new sets.now) made.items) }
     ensures err { IfErr result (λ stop. OnFault stop (λ cause. Lasting names.new sets.now (λ names sets. (head : model.Hidden declared.Place) → head.place ≡ place
-        → slots_behind names sets form.now (map (λ a. a.items) raw.now) head Before.Neither items.now ≡ Err (failure_at cause head)))) }
+        → slots head (seen_arguments names sets (map (λ a. a.items) raw.now)) (substitution.parts (seen_form names form.now) neither (map (seen_item names) items.now)) ≡ Err (failure_at cause head)))) }
+
+    // at every outcome
+    ensures names { Extends names.old names.new }
+{
+    let parts = parts(alloc, names, form, items)?;
+    slots_from(alloc, sets, names, &parts, raw, place)
+}
+
+fn slots_from(
+    alloc: Global,
+    sets: &HideSets,
+    names: &mut Names,
+    parts: &[ListPart],
+    raw: &[Vec<Hidden>],
+    place: Place,
+) -> Result<Vec<Slot>, SubstStop>
+    requires parts { All (IsHeldListPart names.old) parts.now }
+    requires raw { AreHeldArguments names.old sets.now (map (λ a. a.items) raw.now) }
+    ensures ok { IfOk result (λ made. Lasting names.new sets.now (λ names sets. (head : model.Hidden declared.Place) → head.place ≡ place
+        → slots head (seen_arguments names sets (map (λ a. a.items) raw.now)) (map (seen_list_part names) parts.now) ≡ Ok (map (seen_slot names sets) made.items))) }
+    ensures own { IfOk result (λ made. All (IsHeldSlot names.new sets.now) made.items) }
+    ensures err { IfErr result (λ stop. OnFault stop (λ cause. Lasting names.new sets.now (λ names sets. (head : model.Hidden declared.Place) → head.place ≡ place
+        → slots head (seen_arguments names sets (map (λ a. a.items) raw.now)) (map (seen_list_part names) parts.now) ≡ Err (failure_at cause head)))) }
 
     // at every outcome
     ensures names { Extends names.old names.new }
 {
     let mut made = Vec::new(alloc);
-    let mut before = Before::Neither;
-    for (i, item) in items.iter().enumerate() {
-        let rest = &items[i + 1..];
-        let turn = match next(alloc, sets, names, form, item, rest, raw, place, before) {
-            Ok(turn) => turn,
+    for part in parts {
+        match slot_from(alloc, sets, names, part, raw, place) {
+            Ok(slot) => made.push(slot)?,
             Err(stop) => return Err(stop),
-        };
-        before = turn.before;
-        push(&mut made, turn.made)?;
+        }
     }
     Ok(made)
 }
 
-fn push(made: &mut Vec<Slot>, slot: Option<Slot>) -> Result<(), AllocError>
-    ensures is { OnOk result ((names : List (List ℕ)) (sets : List (List Name.Name)) → map (seen_slot names sets) made.new.items ≡ map (seen_slot names sets) made.old.items ++ seen_made names sets slot) }
-    ensures own { OnOk result ((names : List (List ℕ)) (sets : List (List Name.Name)) → All (IsHeldSlot names sets) made.old.items → IsHeldMade names sets slot → All (IsHeldSlot names sets) made.new.items) }
-{
-    if let Some(slot) = slot {
-        made.push(slot)?;
-    }
-    Ok(())
-}
-
-/// What an item makes, and what stands before the next one.
-#[derive(Clone, Copy)]
-struct Turn {
-    made: Option<Slot>,
-    before: Before,
-}
-
-fn next(
+fn slot_from(
     alloc: Global,
     sets: &HideSets,
     names: &mut Names,
-    form: &Form,
-    item: &Item,
-    rest: &[Item],
+    part: &ListPart,
     raw: &[Vec<Hidden>],
     place: Place,
-    before: Before,
-) -> Result<Turn, SubstStop>
-    requires form { IsHeldForm names.old form.now }
-    requires item { IsHeldItem names.old item.now }
-    requires rest { All (IsHeldItem names.old) rest.now }
-    requires raw { AreHeldArguments names.old sets.now (map (λ a. a.items) raw.now) }
-    ensures ok { IfOk result (λ turn. Lasting names.new sets.now (λ names sets. (head : model.Hidden declared.Place) → head.place ≡ place
-        → slots_behind names sets form.now (map (λ a. a.items) raw.now) head before (item.now ∷ rest.now)
-        ≡ result_map (λ ss. seen_made names sets turn.made ++ ss) (slots_behind names sets form.now (map (λ a. a.items) raw.now) head turn.before rest.now))) }
-    ensures own { IfOk result (λ turn. IsHeldMade names.new sets.now turn.made) }
-    ensures err { IfErr result (λ stop. OnFault stop (λ cause. Lasting names.new sets.now (λ names sets. (head : model.Hidden declared.Place) → head.place ≡ place
-        → slots_behind names sets form.now (map (λ a. a.items) raw.now) head before (item.now ∷ rest.now) ≡ Err (failure_at cause head)))) }
-
-    // at every outcome
-    ensures names { Extends names.old names.new }
-{
-    if pastes(names, item, before) {
-        return Ok(Turn {
-            made: Some(Slot::Paste),
-            before: Before::Paste,
-        });
-    }
-    if stringizes(names, form, item, rest) {
-        return Ok(Turn {
-            made: None,
-            before: Before::Hash(*item),
-        });
-    }
-    match operand(alloc, sets, names, form, item, raw, place, before) {
-        Ok(slot) => Ok(Turn {
-            made: Some(slot),
-            before: Before::Neither,
-        }),
-        Err(stop) => Err(stop),
-    }
-}
-
-/// Whether the item is a `##` that joins its neighbours.
-fn pastes(names: &Names, item: &Item, before: Before) -> bool
-    requires { IsHeldItem names.now item.now }
-    ensures { result ≡ (is_paste (seen_item names.now item.now) && not (is_after_paste (seen_before before))) }
-{
-    item.is_paste(names) && !matches!(before, Before::Paste)
-}
-
-/// Whether the item is a `#` with its parameter.
-fn stringizes(names: &Names, form: &Form, item: &Item, rest: &[Item]) -> bool
-    requires form { IsHeldForm names.now form.now }
-    requires item { IsHeldItem names.now item.now }
-    requires rest { All (IsHeldItem names.now) rest.now }
-    ensures { result ≡ (is_hash (seen_item names.now item.now) && begins_with_parameter (seen_form names.now form.now) (map (seen_item names.now) rest.now)) }
-{
-    item.is_hash(names) && begins_with_parameter(names, form, rest)
-}
-
-fn begins_with_parameter(names: &Names, form: &Form, list: &[Item]) -> bool
-    requires form { IsHeldForm names.now form.now }
-    requires list { All (IsHeldItem names.now) list.now }
-    ensures { result ≡ begins_with_parameter (seen_form names.now form.now) (map (seen_item names.now) list.now) }
-{
-    match list {
-        [] => false,
-        [first, ..] => form.parameter(names, first.spelling).is_some(),
-    }
-}
-
-/// The slot of an item that is no operator.
-fn operand(
-    alloc: Global,
-    sets: &HideSets,
-    names: &mut Names,
-    form: &Form,
-    item: &Item,
-    raw: &[Vec<Hidden>],
-    place: Place,
-    before: Before,
 ) -> Result<Slot, SubstStop>
-    requires form { IsHeldForm names.old form.now }
-    requires item { IsHeldItem names.old item.now }
+    requires part { IsHeldListPart names.old part.now }
     requires raw { AreHeldArguments names.old sets.now (map (λ a. a.items) raw.now) }
     ensures ok { IfOk result (λ slot. Lasting names.new sets.now (λ names sets. (head : model.Hidden declared.Place) → head.place ≡ place
-        → slot_of head (seen_arguments names sets (map (λ a. a.items) raw.now))
-        (operand_part (seen_before before) (seen_item names item.now) (parameter_of (seen_form names form.now) (seen_item names item.now).spelling)) ≡ Ok (seen_slot names sets slot))) }
+        → slot_of head (seen_arguments names sets (map (λ a. a.items) raw.now)) (seen_list_part names part.now) ≡ Ok (seen_slot names sets slot))) }
     ensures own { IfOk result (IsHeldSlot names.new sets.now) }
     ensures err { IfErr result (λ stop. OnFault stop (λ cause. Lasting names.new sets.now (λ names sets. (head : model.Hidden declared.Place) → head.place ≡ place
-        → slot_of head (seen_arguments names sets (map (λ a. a.items) raw.now))
-        (operand_part (seen_before before) (seen_item names item.now) (parameter_of (seen_form names form.now) (seen_item names item.now).spelling)) ≡ Err (failure_at cause head)))) }
+        → slot_of head (seen_arguments names sets (map (λ a. a.items) raw.now)) (seen_list_part names part.now) ≡ Err (failure_at cause head)))) }
 
     // at every outcome
     ensures names { Extends names.old names.new }
 {
-    let Some(parameter) = form.parameter(names, item.spelling) else {
-        return Ok(Slot::Token(own_token(sets, item, place)));
-    };
-    let Before::Hash(hash) = before else {
-        return Ok(Slot::Parameter {
-            parameter,
-            space: item.space,
-        });
-    };
-    match stringize(alloc, sets, names, argument(raw, parameter), &hash, place) {
-        Ok(literal) => Ok(Slot::Token(literal)),
-        Err(stop) => Err(stop),
+    match *part {
+        ListPart::Token(item) => Ok(Slot::Token(own_token(sets, &item, place))),
+        ListPart::Parameter { parameter, space } => Ok(Slot::Parameter { parameter, space }),
+        ListPart::Paste => Ok(Slot::Paste),
+        ListPart::Literal { parameter, hash } => {
+            match stringize(alloc, sets, names, argument(raw, parameter), &hash, place) {
+                Ok(literal) => Ok(Slot::Token(literal)),
+                Err(stop) => Err(stop),
+            }
+        }
     }
 }
 

@@ -1,31 +1,37 @@
-use Rattle.std.proofs.Common.{◌∙◌, ◌++◌, map, drop, ap}
-use Rattle.c11_macros.specs.Hidden.{failure_at}
-use Rattle.c11_macros.specs.Results.{result_map}
-use Rattle.sc_base.proofs.Growth.{Extends-refl, Extends-trans}
-use Rattle.sc_subst.specs.Parts.{seen_made, seen_slot, slots_behind}
-use Rattle.sc_subst.proofs.Turns.{held_slots, turned, fails, on_fault, from_item, tail_is}
+use Rattle.std.proofs.Common.{◌≡◌, ◌∙◌, List, map, sym, ap, subst}
+use Rattle.std.specs.Prelude.{All}
+use Rattle.c11_macros.specs.Substitution as substitution
+use Rattle.c11_macros.specs.Substitution.{neither}
+use Rattle.sc_base.proofs.Growth.{Extends-trans}
+use Rattle.sc_macro.specs.Seen.{seen_form, seen_item}
+use Rattle.sc_subst.specs.ListParts.{IsHeldListPart, seen_list_part}
+use Rattle.sc_subst.specs.Parts.{seen_arguments}
+use Rattle.sc_subst.proofs.Store.{if_err, if_ok}
+use Rattle.sc_subst.proofs.Turns.{on_fault, parts_later}
 use Rattle.sc_subst.proofs.slots.slots.Goals as goal
 
-pub returns-in-Err-clause-err : goal.returns-in-Err-clause-err
-returns-in-Err-clause-err c =
-    on_fault _ _ c.in-Err.stop
+pub slots_from-requires : goal.slots_from-requires
+slots_from-requires c = record { parts = subst (All (IsHeldListPart c.args.names.now)) (sym c.deref.ensures.value) c.in_ok-parts.ensures.own; raw = c.requires.raw }
+
+pub returns-clause-ok : goal.returns-clause-ok
+returns-clause-ok c =
+    if_ok _ _ c.slots_from.result
+    (λ made h. record {
+      at = λ n s en es head at.
+          ap (substitution.slots head (seen_arguments n s (map (λ a. a.items) c.args.raw.now)))
+          (sym (parts_later c.in_ok-parts.parts.items c.args.form.now c.args.items.now c.in_ok-parts.ensures.own c.requires.form c.requires.items c.in_ok-parts.ensures.is (Extends-trans c.slots_from.ensures.names en))
+          ∙ ap (map (seen_list_part n)) (sym c.deref.ensures.value))
+          ∙ h.at n s en es head at;
+    }) c.slots_from.ensures.ok
+
+pub returns-clause-err : goal.returns-clause-err
+returns-clause-err c =
+    if_err _ _ c.slots_from.result
+    (λ stop k. on_fault _ _ stop
     (λ cause h. record {
       at = λ n s en es head at.
-          fails _ (slots_behind n s c.args.form.now (map (λ a. a.items) c.args.raw.now) head c.loop-i.before (drop c.loop-i.i c.args.items.now)) (map (seen_slot n s) c.loop-i.made.items) (failure_at cause head)
-          (c.loop-i.invariant.is.at n s (Extends-trans c.next.ensures.names en) es head at)
-          (ap (slots_behind n s c.args.form.now (map (λ a. a.items) c.args.raw.now) head c.loop-i.before) (from_item c.args.items.now c.loop-i.i c.loop-i-test.true) ∙ h.at n s en es head at);
-    }) c.in-Err.ensures.err
-
-pub loop-i-preserved : goal.loop-i-preserved
-loop-i-preserved c = record {
-  grows = Extends-trans c.loop-i.invariant.grows c.next.ensures.names;
-  own = c.in_ok-push.ensures.own c.next.new.names c.args.sets.now (held_slots c.loop-i.made.items c.loop-i.invariant.own c.next.ensures.names (Extends-refl c.args.sets.now)) c.in-Ok.ensures.own;
-  is = record {
-    at = λ n s en es head at.
-        turned _ (slots_behind n s c.args.form.now (map (λ a. a.items) c.args.raw.now) head c.loop-i.before (drop c.loop-i.i c.args.items.now)) _ (map (seen_slot n s) c.loop-i.made.items)
-        (seen_made n s c.in-Ok.turn.made) (map (seen_slot n s) c.push.new.made.items) (c.loop-i.invariant.is.at n s (Extends-trans c.next.ensures.names en) es head at)
-        (ap (slots_behind n s c.args.form.now (map (λ a. a.items) c.args.raw.now) head c.loop-i.before) (from_item c.args.items.now c.loop-i.i c.loop-i-test.true)
-        ∙ (c.in-Ok.ensures.ok.at n s en es head at ∙ ap (λ is. result_map (λ ss. seen_made n s c.in-Ok.turn.made ++ ss) (slots_behind n s c.args.form.now (map (λ a. a.items) c.args.raw.now) head c.in-Ok.turn.before is)) (tail_is c.args.items.now c.loop-i.i)))
-        (c.in_ok-push.ensures.is n s);
-  };
-}
+          ap (substitution.slots head (seen_arguments n s (map (λ a. a.items) c.args.raw.now)))
+          (sym (parts_later c.in_ok-parts.parts.items c.args.form.now c.args.items.now c.in_ok-parts.ensures.own c.requires.form c.requires.items c.in_ok-parts.ensures.is (Extends-trans c.slots_from.ensures.names en))
+          ∙ ap (map (seen_list_part n)) (sym c.deref.ensures.value))
+          ∙ h.at n s en es head at;
+    }) k) c.slots_from.ensures.err
