@@ -114,7 +114,7 @@ fn is_quoted(kind: Kind) -> bool
     matches!(kind, Kind::Character | Kind::Text)
 }
 
-fn push_escaped(bytes: &mut Vec<u8>, text: &[u8]) -> Result<(), AllocError>
+pub fn push_escaped(bytes: &mut Vec<u8>, text: &[u8]) -> Result<(), AllocError>
     ensures { OnOk result (bytes.new.items ≡ bytes.old.items ++ escaped text.now) }
 {
     for b in text {
