@@ -178,15 +178,9 @@ fn wants(behind: bool, part: &ListPart, rest: &[ListPart]) -> Option<usize>
 {
     let beside = is_beside(behind, rest);
     match *part {
-        ListPart::Parameter { parameter, .. } => unless(beside, parameter),
+        ListPart::Parameter { parameter, .. } if !beside => Some(parameter),
         _ => None,
     }
-}
-
-fn unless(beside: bool, parameter: usize) -> Option<usize>
-    ensures { result ≡ (if beside then None else Some parameter) }
-{
-    if beside { None } else { Some(parameter) }
 }
 
 /// Whether a `##` stands before or behind.
