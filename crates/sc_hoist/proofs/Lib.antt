@@ -1,3 +1,5 @@
 pub mod BranchLemmas
+pub mod CallLemmas
 pub mod PartLemmas
 pub mod PlaceLemmas
+pub mod StateLemmas

@@ -1,3 +1,5 @@
 pub mod Branches
+pub mod Calls
 pub mod Leaves
 pub mod Places
+pub mod Reading

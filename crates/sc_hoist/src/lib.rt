@@ -3,10 +3,16 @@
 
 mod branch;
 mod division;
+mod ending;
+mod laws;
 mod line_branches;
 mod partition;
+mod state;
+mod states;
 mod token_list;
 
 pub use branch::{Branch, Ends};
+pub use ending::{CallEnds, call_ends};
+pub use laws::call_is_closed_where_its_arguments_end;
 pub use line_branches::lines;
 pub use token_list::TokenList;
