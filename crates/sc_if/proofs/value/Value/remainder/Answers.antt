@@ -1,0 +1,16 @@
+use Rattle.std.proofs.Common.{◌∙◌, sym, ap, refl, rules, false, FitsSigned}
+use Rattle.std.proofs.lemmas.Int.{to_z-of_z}
+use Rattle.std.specs.Int.{w64}
+use Rattle.c11_expressions.specs.Arithmetic.{remainder, typed}
+use Rattle.c11_macros.specs.Results.{result_map}
+use Rattle.sc_if.specs.Seen.{seen_value}
+use Rattle.sc_if.proofs.Division.{remains, in_pair, second-zero}
+use Rattle.sc_if.proofs.value.Value.remainder.Goals as goal
+
+pub returns-in-Signed : goal.returns-in-Signed
+returns-in-Signed c =
+    let first_fits : FitsSigned w64 c.in-Signed.x = search rules in
+    let fits : FitsSigned w64 c.in-Signed.y = search rules in
+    let nonzero = second-zero (seen_value c.args.self) (seen_value c.args.other) _ c.in-Signed.ensures (cc (c.is_zero.ensures, c.if-is_zero.false)) refl in
+    c.fitted.ensures.exact ∙ ap (result_map (typed false)) (remains _ _ _ nonzero fits (simp to_z-of_z at c.checked_rem.ensures))
+    ∙ sym (in_pair remainder (seen_value c.args.self) (seen_value c.args.other) _ c.in-Signed.ensures)
