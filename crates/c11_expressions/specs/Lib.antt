@@ -1,1 +1,3 @@
 pub mod Arithmetic
+pub mod Expressions
+pub mod Grammar

@@ -2,7 +2,11 @@
 #![tactic(auto)]
 
 mod binary;
+mod laws;
+mod punctuator;
 mod unary;
 
 pub use binary::Binary;
+pub use laws::symbols_have_one_outcome;
+pub use punctuator::Punctuator;
 pub use unary::Unary;
