@@ -1,1 +1,5 @@
+pub mod Frames
+pub mod Operands
 pub mod Seen
+pub mod Stops
+pub mod Symbols

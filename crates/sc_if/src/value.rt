@@ -2,7 +2,7 @@
 ghost use Rattle.std.specs.Prelude.{◌≡◌, ◌<◌, ◌^◌, ◌||◌, pos, ◌*ℤ◌, false, ℕ, Ok, Result, IfOk, FitsSigned, ℤ, ok_or};
 ghost use Rattle.std.specs.Int.{w64, int_shr};
 ghost use Rattle.std.specs.Option.{SomeIff};
-ghost use Rattle.c11_expressions.specs.Arithmetic.{binary_value, bits_of, fitted, is_zero, shifted, truth, typed, unary_value, with_bits};
+ghost use Rattle.c11_expressions.specs.Arithmetic.{binary_value, bits_of, converted, fitted, is_zero, shifted, truth, typed, unary_value, with_bits};
 ghost use Rattle.c11_expressions.specs.declared.binary.Binary.TheVariants as binary;
 ghost use Rattle.c11_expressions.specs.declared.unary.Unary.TheVariants as unary;
 ghost use Rattle.c11_macros.specs.Results.{result_and_then, result_map};
@@ -10,6 +10,7 @@ ghost use Rattle.sc_model.specs.declared.cause.Cause.{Cause};
 ghost use Rattle.sc_if.specs.Seen.{IsPairOf, seen_result, seen_value};
 
 use crate::pair::Pair;
+use c11_expressions::{Binary, Unary};
 use sc_model::Cause;
 
 /// An integer of `intmax_t` or of `uintmax_t`, which have 64 bits (C11 6.10.1p4).
@@ -43,6 +44,44 @@ impl Value {
         Value::Signed(i64::from(holds))
     }
 
+    /// What the operator makes of it.
+    pub fn unary(self, op: Unary) -> Result<Value, Cause>
+        ensures { seen_result result ≡ unary_value op (seen_value self) }
+    {
+        match op {
+            Unary::Plus => Ok(self),
+            Unary::Minus => self.minus(),
+            Unary::Complement => Ok(self.complement()),
+            Unary::Not => Ok(self.not()),
+        }
+    }
+
+    /// What the operator makes of both.
+    pub fn binary(self, op: Binary, other: Value) -> Result<Value, Cause>
+        ensures { seen_result result ≡ binary_value op (seen_value self) (seen_value other) }
+    {
+        match op {
+            Binary::Multiply => self.multiply(other),
+            Binary::Divide => self.divide(other),
+            Binary::Remainder => self.remainder(other),
+            Binary::Add => self.add(other),
+            Binary::Subtract => self.subtract(other),
+            Binary::ShiftLeft => self.shift_left(other),
+            Binary::ShiftRight => self.shift_right(other),
+            Binary::Less => Ok(self.less(other)),
+            Binary::LessOrEqual => Ok(self.less_or_equal(other)),
+            Binary::Greater => Ok(self.greater(other)),
+            Binary::GreaterOrEqual => Ok(self.greater_or_equal(other)),
+            Binary::Equal => Ok(self.equal(other)),
+            Binary::NotEqual => Ok(self.not_equal(other)),
+            Binary::BitAnd => Ok(self.bit_and(other)),
+            Binary::BitXor => Ok(self.bit_xor(other)),
+            Binary::BitOr => Ok(self.bit_or(other)),
+            Binary::And => Ok(Value::truth(!self.is_zero() && !other.is_zero())),
+            Binary::Or => Ok(Value::truth(!self.is_zero() || !other.is_zero())),
+        }
+    }
+
     /// The same bits as an unsigned number.
     fn bits(self) -> u64
         ensures { result ≡ bits_of (seen_value self).number }
@@ -50,6 +89,17 @@ impl Value {
         match self {
             Value::Signed(n) => n.cast_unsigned(),
             Value::Unsigned(n) => n,
+        }
+    }
+
+    /// The number in the unsigned type, where the other type is it.
+    pub(crate) fn converted(self, other_unsigned: bool) -> Value
+        ensures { seen_value result ≡ typed ((seen_value self).unsigned || other_unsigned) (converted ((seen_value self).unsigned || other_unsigned) (seen_value self).number) }
+    {
+        if other_unsigned {
+            Value::Unsigned(self.bits())
+        } else {
+            self
         }
     }
 
