@@ -9,3 +9,5 @@ pub mod PlainTables
 pub mod PlainOpen
 pub mod PlainTurns
 pub mod PlainCases
+pub mod Parting
+pub mod WorkListLemmas

@@ -1,2 +1,4 @@
 pub mod Halves
 pub mod Plain
+pub mod Arguments
+pub mod Parting

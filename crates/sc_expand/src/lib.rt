@@ -1,6 +1,9 @@
 //! Macro expansion of C11 (6.10.3.4).
 #![tactic(auto)]
 
+mod arguments;
 mod laws;
+mod role;
+mod work_list;
 
 pub use laws::{steps_end, steps_give_the_expansion};

@@ -1,0 +1,62 @@
+-- A list whose first items are restricted to a condition, one after the other.
+use Rattle.std.proofs.Common.{◌≡◌, ◌<◌, ◌≤◌, ℕ, ◌+◌, ◌&&◌, Bool, true, false, List, [], ◌∷◌, ◌++◌, All, map, take, drop, length, get_or, set, if◌then◌else◌, ap, sym, ◌∙◌, refl, subst, arith, add-zero}
+use Rattle.std.proofs.lemmas.List.{take_more_set, map-set, set-get_or, drop-set-lt, drop-drop, get_or-drop, length-map}
+use Rattle.std.proofs.lemmas.List.Elements.{All-take, All-set}
+use Rattle.sc_base.specs.declared.id.Cond.{Cond}
+use Rattle.sc_guarded.proofs.ItemLemmas.{items_at-append, items_at-Keeps, items_at-take}
+use Rattle.sc_guarded.specs.Items.{items_at}
+use Rattle.sc_model.proofs.SetLemmas.{Keeps-trans, IsConfig-Keeps}
+use Rattle.sc_model.specs.Sets.{Sets, IsConfig, IsCond, Denotes, Keeps}
+
+module _ {T : Type 0} where
+  -- the first n items stand where they and the condition did
+  pub record Restricted (first now : Sets) (by n : ℕ) (before after : List (Cond × T)) : Type 0 where
+    pub keeps : Keeps first now
+    pub items : map (λ (item : Cond × T). item.1) after ≡ map (λ (item : Cond × T). item.1) before
+    pub rest : drop n after ≡ drop n before
+    pub own : All (λ (item : Cond × T). IsCond now item.0.0) after
+    pub at : (c : List ℕ) → IsConfig first.arities c → items_at now (take n after) c ≡ (if first.has by c then items_at first (take n before) c else [])
+
+  one_more : (by has : Bool) (xs : List T) (x : T) → (if by then xs else []) ++ (if has && by then x ∷ [] else []) ≡ (if by then xs ++ (if has then x ∷ [] else []) else [])
+  one_more true true xs x = refl
+  one_more true false xs x = refl
+  one_more false true xs x = refl
+  one_more false false xs x = refl
+
+  get_or_first : (xs : List (Cond × T)) (n : ℕ) (d : Cond × T) → get_or (drop n xs) 0 d ≡ get_or xs n d
+  get_or_first xs n d = get_or-drop n xs 0 d ∙ ap (λ m. get_or xs m d) (add-zero n)
+
+  item_stays : (xs : List (Cond × T)) (i : ℕ) (cond : Cond) (x : Cond × T) → x ≡ get_or xs i x → map (λ (item : Cond × T). item.1) (set xs i (cond, x.1)) ≡ map (λ (item : Cond × T). item.1) xs
+  item_stays xs i cond x is =
+      let f : Cond × T → T = λ item. item.1 in
+      map-set f xs i (cond, x.1) ∙ (sym (map-set f xs i x) ∙ ap (map f) (ap (set xs i) is ∙ set-get_or xs i x))
+
+  -- one item more is restricted
+  pub restricted_more : (first old new : Sets) (by n : ℕ) (before after : List (Cond × T)) (x : Cond × T) (made : Cond) → Restricted first old by n before after → n < length after → x ≡ get_or after n x
+      → All (λ (item : Cond × T). IsCond first item.0.0) before → IsCond first by → Keeps old new → IsCond new made.0
+      → Denotes new made.0 (λ c. old.has x.0.0 c && old.has by c) → Restricted first new by (n + 1) before (set after n (made, x.1))
+  restricted_more first old new by n before after x made was within is own by_own keeps made_own told =
+      let item : Cond × T → T = λ item. item.1 in
+      let P : Cond × T → Type 0 = λ item. IsCond new item.0.0 in
+      let F : Cond × T → Type 0 = λ item. IsCond first item.0.0 in
+      let place : get_or before n x ≡ get_or after n x = sym (get_or_first before n x) ∙ (ap (λ l. get_or l 0 x) (sym was.rest) ∙ get_or_first after n x) in
+      let long : length before ≡ length after = sym (length-map before item) ∙ (ap length (sym was.items) ∙ length-map after item) in
+      let x_before : x ≡ get_or before n x = is ∙ sym place in
+      let low : n < length before = subst (λ m. n < m) (sym long) within in
+      let x_own : IsCond first x.0.0 = subst F (sym x_before) (own n x low) in
+      record {
+        keeps = Keeps-trans was.keeps keeps;
+        items = item_stays after n made x is ∙ was.items;
+        rest = drop-set-lt (n + 1) after n (made, x.1) (omega arith) ∙ (sym (drop-drop 1 n after) ∙ (ap (drop 1) was.rest ∙ drop-drop 1 n before));
+        own = All-set P after n (made, x.1) made_own (λ k d h. keeps.own _ (was.own k d h));
+        at = λ c listed.
+            let here : IsConfig old.arities c = IsConfig-Keeps was.keeps listed in
+            let test : new.has made.0 c ≡ (first.has x.0.0 c && first.has by c) = told.at c (IsConfig-Keeps keeps here)
+            ∙ (ap (λ b. b && old.has by c) (was.keeps.at x.0.0 c x_own listed) ∙ ap (λ b. first.has x.0.0 c && b) (was.keeps.at by c by_own listed)) in
+            ap (λ l. items_at new l c) (take_more_set after n (made, x.1) within)
+            ∙ (items_at-append new (take n after) ((made, x.1) ∷ []) c
+            ∙ (ap (λ l. l ++ (if new.has made.0 c then x.1 ∷ [] else [])) (items_at-Keeps (take n after) c keeps (All-take (λ (item : Cond × T). IsCond old item.0.0) n after was.own) here ∙ was.at c listed)
+            ∙ (ap (λ b. (if first.has by c then items_at first (take n before) c else []) ++ (if b then x.1 ∷ [] else [])) test
+            ∙ (one_more (first.has by c) (first.has x.0.0 c) (items_at first (take n before) c) x.1
+            ∙ ap (λ l. if first.has by c then l else []) (sym (items_at-take first before n x c low x_before))))));
+      }

@@ -1,0 +1,5 @@
+use Rattle.std.proofs.Common.{◌≡◌, ◌++◌, drop}
+use Rattle.sc_expand.proofs.work_list.WorkList.put_first.Given as goal
+
+abbrev pub invariant-loop-index : goal.invariant-loop-index
+invariant-loop-index l = l.self-inside.tokens.items ≡ drop l.index l.tokens ++ l.initial.self-inside.tokens.items

@@ -1,0 +1,104 @@
+//! The arguments of a call (C11 6.10.3p4, p10 to p12).
+ghost use Rattle.std.specs.Prelude.{◌≡◌, ℕ, zero, ◌+◌, ◌^◌, ◌<◌, ◌≤◌, ◌↔◌, ◌++◌, ◌∷◌, [], List, All, map, length, IsTrue, IfOk, OnOk};
+ghost use Rattle.sc_base.specs.declared.id.Name as declared_name;
+ghost use Rattle.sc_base.specs.declared.place.Place as declared_place;
+ghost use Rattle.c11_macros.specs.Hidden as hidden;
+ghost use Rattle.sc_expand.specs.Arguments as model;
+ghost use Rattle.sc_expand.specs.Arguments.{IsParting, seen_role};
+ghost use Rattle.sc_expand.specs.Parting.{AreHeldIn, parted_with};
+ghost use Rattle.sc_subst.specs.Parts.{seen_arguments, seen_list};
+ghost use Rattle.sc_subst.specs.Seen.{IsHeldHidden, seen_hidden};
+
+use crate::role::{Role, role_of};
+use sc_base::{Names, OutOfMemory};
+use sc_subst::Hidden;
+use std::alloc::Global;
+
+/// Tokens between the parentheses of a call, as far as they are parted.
+#[derive(Drop)]
+pub struct Parting {
+    pub arguments: Vec<Vec<Hidden>>,
+    /// The argument that the next token may belong to.
+    pub last: Vec<Hidden>,
+    /// How many commas may still part arguments.
+    pub commas: usize,
+    /// How many inner parentheses are open.
+    pub depth: usize,
+}
+
+/// The tokens between the parentheses of a call, parted at so many commas outside inner ones.
+pub fn parted(
+    alloc: Global,
+    names: &Names,
+    between: &[Hidden],
+    commas: usize,
+) -> Result<Vec<Vec<Hidden>>, OutOfMemory>
+    requires { All (λ h. h.token.spelling.0 < length names.now) between.now }
+    ensures is { IfOk result (λ made. (sets : List (List declared_name.Name)) → seen_arguments names.now sets (map (λ a. a.items) made.items) ≡ model.parted commas 0 (seen_list names.now sets between.now)) }
+    ensures own { IfOk result (λ made. (sets : List (List declared_name.Name)) → All (IsHeldHidden names.now sets) between.now → All (λ a. All (IsHeldHidden names.now sets) a.items) made.items) }
+{
+    let mut parting = Parting {
+        arguments: Vec::new(alloc),
+        last: Vec::new(alloc),
+        commas,
+        depth: 0,
+    };
+    for hidden in between {
+        parting.take(alloc, names, *hidden)?;
+    }
+    let arguments = parting.finish()?;
+    Ok(arguments)
+}
+
+impl Parting {
+    /// The next token parts two arguments, or belongs to one.
+    fn take(&mut self, alloc: Global, names: &Names, next: Hidden) -> Result<(), OutOfMemory>
+        requires name { next.token.spelling.0 < length names.now }
+        requires deep { self.old.depth + 1 < 2 ^ 64 }
+        ensures is { OnOk result ((sets : List (List declared_name.Name)) (rest : List (hidden.Hidden declared_place.Place))
+            → parted_with names.now sets self.old (seen_hidden names.now sets next ∷ rest) ≡ parted_with names.now sets self.new rest) }
+        ensures own { OnOk result ((sets : List (List declared_name.Name)) → IsHeldHidden names.now sets next → AreHeldIn names.now sets self.old → AreHeldIn names.now sets self.new) }
+        ensures deep { OnOk result (self.new.depth ≤ self.old.depth + 1) }
+    {
+        let role = role_of(names, next.token.spelling);
+        if parts(role, self.commas, self.depth) {
+            self.arguments
+                .push(std::mem::replace(&mut self.last, Vec::new(alloc)))?;
+            self.commas -= 1;
+            Ok(())
+        } else {
+            self.last.push(next)?;
+            self.depth = depth_behind(role, self.depth);
+            Ok(())
+        }
+    }
+
+    /// The arguments, once all tokens were taken.
+    fn finish(self) -> Result<Vec<Vec<Hidden>>, OutOfMemory>
+        ensures is { IfOk result (λ made. (names : List (List ℕ)) (sets : List (List declared_name.Name)) → seen_arguments names sets (map (λ a. a.items) made.items) ≡ parted_with names sets self []) }
+        ensures own { IfOk result (λ made. (names : List (List ℕ)) (sets : List (List declared_name.Name)) → AreHeldIn names sets self → All (λ a. All (IsHeldHidden names sets) a.items) made.items) }
+    {
+        let mut arguments = self.arguments;
+        arguments.push(self.last)?;
+        Ok(arguments)
+    }
+}
+
+/// Whether a token parts two arguments.
+fn parts(role: Role, commas: usize, depth: usize) -> bool
+    ensures { IsTrue result ↔ IsParting (seen_role role) commas depth }
+{
+    depth == 0 && commas > 0 && matches!(role, Role::Comma)
+}
+
+/// The depth of inner parentheses behind a token.
+fn depth_behind(role: Role, depth: usize) -> usize
+    requires { depth + 1 < 2 ^ 64 }
+    ensures { result ≡ model.depth_behind (seen_role role) depth }
+{
+    match role {
+        Role::Opening => depth + 1,
+        Role::Closing => depth.saturating_sub(1),
+        _ => depth,
+    }
+}
