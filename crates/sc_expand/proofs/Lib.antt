@@ -11,3 +11,4 @@ pub mod PlainTurns
 pub mod PlainCases
 pub mod Parting
 pub mod WorkListLemmas
+pub mod PlainNames

@@ -1,5 +1,5 @@
 -- The arguments of a call one after the other, and the results of all that are expanded alone.
-use Rattle.std.proofs.Common.{◌≡◌, ℕ, zero, suc, ◌+◌, ◌*◌, ◌<◌, ◌≤◌, ◌==◌, Bool, true, false, List, [], ◌∷◌, length, map, sum, get_or, set, Option, Some, None, Result, Ok, Err, refl, sym, ap, ◌∙◌, subst, arith}
+use Rattle.std.proofs.Common.{◌≡◌, ℕ, zero, suc, ◌+◌, ◌*◌, ◌<◌, ◌≤◌, ◌==◌, Bool, true, false, List, [], ◌∷◌, ◌++◌, length, map, sum, get_or, set, Option, Some, None, Result, Ok, Err, refl, sym, ap, ◌∙◌, subst, arith}
 use Rattle.std.proofs.lemmas.Bool.{eqb-true, eqb-false, true≢false}
 use Rattle.std.proofs.lemmas.List.{ext_get_or, get_or-set_other, get_or-set_same, length-map, length-set}
 use Rattle.std.proofs.lemmas.List.Sums.{sum_by-cons, sum_by-set}
@@ -10,7 +10,8 @@ use Rattle.c11_macros.specs.Hidden.{Failure, Hidden, HideSet, Provenance}
 use Rattle.c11_macros.specs.Macros.{Macros}
 use Rattle.c11_macros.specs.Substitution.{Slot, argument, expansion_of}
 use Rattle.c11_macros.specs.Trace.{trace, trace_each, trace_rescan}
-use Rattle.sc_expand.proofs.PlainCompletes.{Completes, Waits, after_these, refuses, resumes, scanned, steps, waits, waits_for, waits_none}
+use Rattle.sc_expand.proofs.PlainCompletes.{Completes, Waits, after_these, looked, refuses, resumes, scanned, steps, waits, waits_for, waits_none}
+use Rattle.sc_expand.proofs.PlainNames.{Covers, covers-back, covers-both, covers-front, covers-same, covers-then}
 use Rattle.sc_expand.specs.Halves.{completed, unless_failed, expansions, failure_or, first_failure, list_or_empty}
 use Rattle.sc_expand.proofs.PlainWanted.{AreApart, among-first, among-later, is_among, not-among}
 use Rattle.sc_expand.specs.Plain.{Waiting, expanding, replacement_of, scanning, waiting}
@@ -47,18 +48,23 @@ module _ {P : Type 0} (provenance : Provenance P) (macros : Macros) where
   length-each (passed e) = ap suc (length-each e)
   length-each (expanded d e) = ap suc (length-each e)
 
-  -- an argument with its expansion, at this cost
-  pub record Known (list : List (Hidden P)) (r : Answer) (cost : ℕ) : Type 0 where
+  -- an argument with its expansion, at this cost, among whose names are those that it looks up
+  pub record Known (list : List (Hidden P)) (r : Answer) (cost : ℕ) (names : List (List ℕ)) : Type 0 where
     pub expands : Expands provenance macros list r
     pub is : cost ≡ (trace expands).steps + 1
+    pub covers : Covers names (trace expands).looked_up
 
   pub each-some : {asks : List (Option (List (Hidden P)))} {rs : List Answer} (e : Each provenance macros asks rs) (n : ℕ) (list : List (Hidden P)) → get_or asks n None ≡ Some list
-      → Known list (expansion_of rs n) (get_or (costs e) n 0)
+      → Known list (expansion_of rs n) (get_or (costs e) n 0) (trace_each e).looked_up
   each-some none n list is = cc
   each-some (passed e) zero list is = cc
   each-some (passed e) (suc n) list is = each-some e n list is
-  each-some (expanded {argument = a} {r} d e) zero list is = let same : a ≡ list = cc in subst (λ l. Known l r ((trace d).steps + 1)) same (record { expands = d; is = refl })
-  each-some (expanded d e) (suc n) list is = each-some e n list is
+  each-some (expanded {argument = a} {r} d e) zero list is =
+      let same : a ≡ list = cc in
+      subst (λ l. Known l r ((trace d).steps + 1) ((trace d).looked_up ++ (trace_each e).looked_up)) same (record { expands = d; is = refl; covers = covers-front (trace d).looked_up (trace_each e).looked_up })
+  each-some (expanded d e) (suc n) list is =
+      let known = each-some e n list is in
+      record { expands = known.expands; is = known.is; covers = covers-then (covers-back (trace d).looked_up (trace_each e).looked_up) known.covers }
 
   pub each-none : {asks : List (Option (List (Hidden P)))} {rs : List Answer} (e : Each provenance macros asks rs) (n : ℕ) → get_or asks n None ≡ None → expansion_of rs n ≡ Ok []
   each-none none n is = refl
@@ -70,26 +76,28 @@ module _ {P : Type 0} (provenance : Provenance P) (macros : Macros) where
   -- ---- the arguments one after the other
 
   -- these parameters are places of arguments, of which each expands alone to its result
-  pub record AreKnown (arguments : List (List (Hidden P))) (results : List Answer) (ps cs : List ℕ) : Type 0 where
+  pub record AreKnown (arguments : List (List (Hidden P))) (results : List Answer) (ps cs : List ℕ) (all : List (List ℕ)) : Type 0 where
     pub below : (n : ℕ) → is_among ps n ≡ true → n < length cs
-    pub at : (n : ℕ) → is_among ps n ≡ true → Known (argument arguments n) (expansion_of results n) (get_or cs n 0)
+    pub at : (n : ℕ) → is_among ps n ≡ true → Known (argument arguments n) (expansion_of results n) (get_or cs n 0) all
 
-  known-later : (arguments : List (List (Hidden P))) (results : List Answer) (n : ℕ) (ps cs : List ℕ) → is_among ps n ≡ false → AreKnown arguments results (n ∷ ps) cs
-      → AreKnown arguments results ps (set cs n 0)
-  known-later arguments results n ps cs out known = record {
+  known-later : (arguments : List (List (Hidden P))) (results : List Answer) (n : ℕ) (ps cs : List ℕ) (all : List (List ℕ)) → is_among ps n ≡ false → AreKnown arguments results (n ∷ ps) cs all
+      → AreKnown arguments results ps (set cs n 0) all
+  known-later arguments results n ps cs all out known = record {
     below = λ m is. omega (arith, known.below m (among-later m n ps is), length-set cs n 0);
-    at = λ m is. subst (Known (argument arguments m) (expansion_of results m)) (sym (get_or-set_other cs n m 0 0 (λ same. true≢false (sym is ∙ (ap (is_among ps) same ∙ out))))) (known.at m (among-later m n ps is));
+    at = λ m is. subst (λ cost. Known (argument arguments m) (expansion_of results m) cost all) (sym (get_or-set_other cs n m 0 0 (λ same. true≢false (sym is ∙ (ap (is_among ps) same ∙ out))))) (known.at m (among-later m n ps is));
   }
 
-  -- a call's replacement is scanned with the rest, in so many steps after those of its arguments
-  pub record Supplied (out work : List (Hidden P)) (made r : Answer) (count cost : ℕ) : Type 0 where
+  -- a call's replacement is scanned with the rest, in so many steps after those of its arguments, and
+  -- looks up other names than theirs
+  pub record Supplied (out work : List (Hidden P)) (made r : Answer) (count cost : ℕ) (all names : List (List ℕ)) : Type 0 where
     pub answer : Answer
     pub rescans : Rescans provenance macros made work answer
     pub is : r ≡ after_these out answer
     pub few : count ≤ 1 + 2 * (cost + (trace_rescan rescans).steps)
+    pub covers : Covers (all ++ (trace_rescan rescans).looked_up) names
 
   module _ (t : Hidden P) (names : HideSet) (template : Result (List (Slot P)) (Failure P)) (arguments : List (List (Hidden P)))
-      (results : List Answer) (out work : List (Hidden P)) where
+      (results : List Answer) (out work : List (Hidden P)) (all : List (List ℕ)) where
     -- the call when it waits for the arguments of these parameters
     abbrev pub call_with : List ℕ → List (List (Hidden P)) → Waiting P
     call_with ps xs = record { head = t; template = template; wanted = map (λ n. (n, argument arguments n)) ps; expanded = xs; names = names }
@@ -108,49 +116,51 @@ module _ {P : Type 0} (provenance : Provenance P) (macros : Macros) where
             (get_or-set_same xs n list [] (omega (arith, filled.0)) ∙ sym (argument-expansions results n ∙ ap list_or_empty is))
         by m not false there = get_or-set_other xs n m list [] (eqb-false m n there) ∙ filled.1 m (not-among m n ps (eqb-false m n there) not)
 
-    abbrev Replaced : List ℕ → Answer → ℕ → ℕ → Type 0
-    Replaced ps r count cost = Supplied out work (completed provenance t names ps results template) r count cost
+    abbrev Replaced : List ℕ → Answer → ℕ → ℕ → List (List ℕ) → Type 0
+    Replaced ps r count cost looks = Supplied out work (completed provenance t names ps results template) r count cost all looks
 
     -- one argument, and then the others
-    argued : (n : ℕ) (ps : List ℕ) (xs : List (List (Hidden P))) (cs : List ℕ) (r : Answer) → n < length cs → Known (argument arguments n) (expansion_of results n) (get_or cs n 0)
-        → ((list : List (Hidden P)) → expansion_of results n ≡ Ok list → (c : Completes provenance macros (waiting out work (call_with ps (set xs n list))) r) → Replaced ps r (steps c) (sum (set cs n 0)))
-        → (c : Completes provenance macros (expanding out work (call_with ps xs) n (scanning [] (argument arguments n))) r) → Replaced (n ∷ ps) r (1 + steps c) (sum cs)
+    argued : (n : ℕ) (ps : List ℕ) (xs : List (List (Hidden P))) (cs : List ℕ) (r : Answer) → n < length cs → Known (argument arguments n) (expansion_of results n) (get_or cs n 0) all
+        → ((list : List (Hidden P)) → expansion_of results n ≡ Ok list → (c : Completes provenance macros (waiting out work (call_with ps (set xs n list))) r) → Replaced ps r (steps c) (sum (set cs n 0)) (looked c))
+        → (c : Completes provenance macros (expanding out work (call_with ps xs) n (scanning [] (argument arguments n))) r) → Replaced (n ∷ ps) r (1 + steps c) (sum cs) (looked c)
     argued n ps xs cs r below known later (resumes o k w m s list q c d) =
         let first = scanned c in
         let same = one known.expands first.answer first.expands in
+        let told = covers-then known.covers (covers-same (ap (λ x. x.looked_up) same.trace ∙ sym first.named)) in
         let is : expansion_of results n ≡ Ok list = same.answer ∙ sym (first.is ∙ after-none first.answer) in
         let more = later list is d in
-        let all : completed provenance t names (n ∷ ps) results template ≡ completed provenance t names ps results template =
+        let whole : completed provenance t names (n ∷ ps) results template ≡ completed provenance t names ps results template =
         ap (λ e. unless_failed (failure_or e (first_failure ps results)) (replacement_of provenance (call_with [] (expansions results)))) is in
-        subst (λ made. Supplied out work made r (1 + (1 + (steps c + steps d))) (sum cs)) (sym all)
-        (record { answer = more.answer; rescans = more.rescans; is = more.is; few = omega (arith, first.counted, ap (λ x. x.steps) same.trace, known.is, more.few, sum_by-set (λ k. k) cs n 0 0 below) })
+        subst (λ made. Supplied out work made r (1 + (1 + (steps c + steps d))) (sum cs) all (looked c ++ looked d)) (sym whole)
+        (record { answer = more.answer; rescans = more.rescans; is = more.is; covers = covers-both (covers-then (covers-front all (trace_rescan more.rescans).looked_up) told) more.covers; few = omega (arith, first.counted, ap (λ x. x.steps) same.trace, known.is, more.few, sum_by-set (λ k. k) cs n 0 0 below) })
     argued n ps xs cs r below known later (refuses o k w m s failure c) =
         let first = scanned c in
         let same = one known.expands first.answer first.expands in
+        let told = covers-then known.covers (covers-same (ap (λ x. x.looked_up) same.trace ∙ sym first.named)) in
         let is : expansion_of results n ≡ Err failure = same.answer ∙ sym (first.is ∙ after-none first.answer) in
-        let all : completed provenance t names (n ∷ ps) results template ≡ Err failure =
+        let whole : completed provenance t names (n ∷ ps) results template ≡ Err failure =
         ap (λ e. unless_failed (failure_or e (first_failure ps results)) (replacement_of provenance (call_with [] (expansions results)))) is in
-        subst (λ made. Supplied out work made (Err failure) (1 + (1 + steps c)) (sum cs)) (sym all)
-        (record { answer = Err failure; rescans = refused failure; is = refl; few = omega (arith, first.counted, ap (λ x. x.steps) same.trace, known.is, sum_by-set (λ k. k) cs n 0 0 below) })
+        subst (λ made. Supplied out work made (Err failure) (1 + (1 + steps c)) (sum cs) all (looked c)) (sym whole)
+        (record { answer = Err failure; rescans = refused failure; is = refl; covers = covers-then (covers-front all []) told; few = omega (arith, first.counted, ap (λ x. x.steps) same.trace, known.is, sum_by-set (λ k. k) cs n 0 0 below) })
 
-    all-supplied : (xs : List (List (Hidden P))) (cs : List ℕ) (r : Answer) (count : ℕ) → xs ≡ expansions results → Waits provenance macros out work (call_with [] xs) [] r count → Replaced [] r count (sum cs)
-    all-supplied xs cs r count same (waits_none a g) =
-        subst (λ l. Supplied out work (replacement_of provenance (call_with [] l)) (after_these out a) (1 + 2 * (trace_rescan g).steps) (sum cs)) same
-        (record { answer = a; rescans = g; is = refl; few = omega arith })
+    all-supplied : (xs : List (List (Hidden P))) (cs : List ℕ) (r : Answer) (count : ℕ) (looks : List (List ℕ)) → xs ≡ expansions results → Waits provenance macros out work (call_with [] xs) [] r count looks → Replaced [] r count (sum cs) looks
+    all-supplied xs cs r count looks same (waits_none a g) =
+        subst (λ l. Supplied out work (replacement_of provenance (call_with [] l)) (after_these out a) (1 + 2 * (trace_rescan g).steps) (sum cs) all (trace_rescan g).looked_up) same
+        (record { answer = a; rescans = g; is = refl; few = omega arith; covers = covers-back all (trace_rescan g).looked_up })
 
-    one-supplied : (n : ℕ) (ps : List ℕ) (xs : List (List (Hidden P))) (cs : List ℕ) (r : Answer) (count : ℕ)
-        → ((c : Completes provenance macros (expanding out work (call_with ps xs) n (scanning [] (argument arguments n))) r) → Replaced (n ∷ ps) r (1 + steps c) (sum cs))
-        → Waits provenance macros out work (call_with (n ∷ ps) xs) ((n, argument arguments n) ∷ map (λ n. (n, argument arguments n)) ps) r count → Replaced (n ∷ ps) r count (sum cs)
-    one-supplied n ps xs cs r count by (waits_for first others q c) = by c
+    one-supplied : (n : ℕ) (ps : List ℕ) (xs : List (List (Hidden P))) (cs : List ℕ) (r : Answer) (count : ℕ) (looks : List (List ℕ))
+        → ((c : Completes provenance macros (expanding out work (call_with ps xs) n (scanning [] (argument arguments n))) r) → Replaced (n ∷ ps) r (1 + steps c) (sum cs) (looked c))
+        → Waits provenance macros out work (call_with (n ∷ ps) xs) ((n, argument arguments n) ∷ map (λ n. (n, argument arguments n)) ps) r count looks → Replaced (n ∷ ps) r count (sum cs) looks
+    one-supplied n ps xs cs r count looks by (waits_for first others q c) = by c
 
     pub supplied : (ps : List ℕ) (xs : List (List (Hidden P))) (cs : List ℕ) (r : Answer) → AreApart ps → length cs ≡ length results
-        → AreKnown arguments results ps cs → IsFilled ps xs → (c : Completes provenance macros (waiting out work (call_with ps xs)) r) → Replaced ps r (steps c) (sum cs)
+        → AreKnown arguments results ps cs all → IsFilled ps xs → (c : Completes provenance macros (waiting out work (call_with ps xs)) r) → Replaced ps r (steps c) (sum cs) (looked c)
     supplied [] xs cs r once long known filled c =
-        all-supplied xs cs r (steps c) (ext_get_or [] xs (expansions results) (filled.0 ∙ sym (length-map results list_or_empty)) (λ i below. filled.1 i refl)) (waits c)
+        all-supplied xs cs r (steps c) (looked c) (ext_get_or [] xs (expansions results) (filled.0 ∙ sym (length-map results list_or_empty)) (λ i below. filled.1 i refl)) (waits c)
     supplied (n ∷ ps) xs cs r once long known filled c =
         let here : is_among (n ∷ ps) n ≡ true = among-first n n ps refl in
-        one-supplied n ps xs cs r (steps c)
+        one-supplied n ps xs cs r (steps c) (looked c)
         (argued n ps xs cs r (known.below n here) (known.at n here)
-        (λ list is d. supplied ps (set xs n list) (set cs n 0) r once.1 (length-set cs n 0 ∙ long) (known-later arguments results n ps cs once.0 known)
+        (λ list is d. supplied ps (set xs n list) (set cs n 0) r once.1 (length-set cs n 0 ∙ long) (known-later arguments results n ps cs all once.0 known)
         (filled-later n ps xs list (omega (arith, known.below n here, long)) is filled) d))
         (waits c)

@@ -8,9 +8,10 @@ use Rattle.c11_macros.specs.Expansion.{Each, Expands, IsWithin, Rescans, asked, 
 use Rattle.c11_macros.specs.Hidden.{Failure, Hidden, HideSet, Provenance, failure_at, meet, with_name}
 use Rattle.c11_macros.specs.Macros.{Definition, Form, Item, Macros}
 use Rattle.c11_macros.specs.Substitution.{Slot, argument, neither, parts, wants}
-use Rattle.c11_macros.specs.Trace.{trace, trace_rescan}
+use Rattle.c11_macros.specs.Trace.{taking, trace, trace_each, trace_rescan}
 use Rattle.sc_expand.proofs.PlainArguments.{AreKnown, argument-expansions, costs, each-none, each-some, length-costs, length-each, sum-costs, supplied}
-use Rattle.sc_expand.proofs.PlainCompletes.{Completes, after_these, asks, refuses, replaces, resumes, scanned, scans, steps}
+use Rattle.sc_expand.proofs.PlainCompletes.{Completes, after_these, asks, looked, refuses, replaces, resumes, scanned, scans, steps}
+use Rattle.sc_expand.proofs.PlainNames.{Covers, covers-back, covers-both, covers-front, covers-same, covers-then}
 use Rattle.sc_expand.proofs.PlainParameters.{arity, called-fits, wants-below}
 use Rattle.sc_expand.proofs.PlainWanted.{is_among, wanted-apart, wanted-asked}
 use Rattle.sc_expand.specs.Halves.{wanted_of, completed, expansions, list_or_empty}
@@ -48,48 +49,53 @@ after-stay : {P : Type 0} (out : List (Hidden P)) (t : Hidden P) (r : Result (Li
 after-stay out t (Ok list) = ap Ok (sym (append_assoc out (t ∷ []) list))
 after-stay out t (Err failure) = refl
 
--- the state completes so, in more steps than this
-pub record Earlier {P : Type 0} (provenance : Provenance P) (macros : Macros) (s : State P) (r : Result (List (Hidden P)) (Failure P)) (count : ℕ) : Type 0 where
+-- the state completes so, in more steps than this, and looks up these names
+pub record Earlier {P : Type 0} (provenance : Provenance P) (macros : Macros) (s : State P) (r : Result (List (Hidden P)) (Failure P)) (count : ℕ) (names : List (List ℕ)) : Type 0 where
   pub completes : Completes provenance macros s r
   pub longer : count < steps completes
+  pub covers : Covers (looked completes) names
 
 module _ {P : Type 0} (provenance : Provenance P) (macros : Macros) where
   abbrev Answer : Type 0
   Answer = Result (List (Hidden P)) (Failure P)
 
-  -- a replacement that is equal is scanned again as well, in as many steps
-  rescans-as : (made other : Answer) (rest : List (Hidden P)) (r : Answer) → made ≡ other → (g : Rescans provenance macros other rest r) → (h : Rescans provenance macros made rest r) × ((trace_rescan h).steps ≡ (trace_rescan g).steps)
-  rescans-as made other rest r same g = subst (λ m. (h : Rescans provenance macros m rest r) × ((trace_rescan h).steps ≡ (trace_rescan g).steps)) (sym same) (g, refl)
+  -- a replacement that is equal is scanned again as well, by the same trace
+  rescans-as : (made other : Answer) (rest : List (Hidden P)) (r : Answer) → made ≡ other → (g : Rescans provenance macros other rest r)
+      → (h : Rescans provenance macros made rest r) × ((trace_rescan h).steps ≡ (trace_rescan g).steps) × ((trace_rescan h).looked_up ≡ (trace_rescan g).looked_up)
+  rescans-as made other rest r same g =
+      subst (λ m. (h : Rescans provenance macros m rest r) × ((trace_rescan h).steps ≡ (trace_rescan g).steps) × ((trace_rescan h).looked_up ≡ (trace_rescan g).looked_up)) (sym same) (g, refl, refl)
 
   -- a list's expansion, as a completion with another answer
-  earlier-by : (out work : List (Hidden P)) (r q : Answer) (count : ℕ) → after_these out r ≡ q → (d : Expands provenance macros work r) → count < 2 * (trace d).steps → Earlier provenance macros (scanning out work) q count
-  earlier-by out work r q count is d less = subst (λ a. Earlier provenance macros (scanning out work) a count) is (record { completes = scans out work r d; longer = less })
+  earlier-by : (out work : List (Hidden P)) (r q : Answer) (count : ℕ) (names : List (List ℕ)) → after_these out r ≡ q → (d : Expands provenance macros work r) → count < 2 * (trace d).steps → Covers (trace d).looked_up names
+      → Earlier provenance macros (scanning out work) q count names
+  earlier-by out work r q count names is d less covers = subst (λ a. Earlier provenance macros (scanning out work) a count names) is (record { completes = scans out work r d; longer = less; covers = covers })
 
-  stay-back : (out rest : List (Hidden P)) (t : Hidden P) (r : Answer) → case_of macros t rest ≡ expansion.stays → (c : Completes provenance macros (scanning (out ++ t ∷ []) rest) r) → Earlier provenance macros (scanning out (t ∷ rest)) r (steps c)
+  stay-back : (out rest : List (Hidden P)) (t : Hidden P) (r : Answer) → case_of macros t rest ≡ expansion.stays → (c : Completes provenance macros (scanning (out ++ t ∷ []) rest) r) → Earlier provenance macros (scanning out (t ∷ rest)) r (steps c) (looked c)
   stay-back out rest t r is c =
       let s = scanned c in
-      earlier-by out (t ∷ rest) (with_first t s.answer) r (steps c) (after-stay out t s.answer ∙ sym s.is) (expansion.stay is s.expands) (omega (arith, s.counted))
+      earlier-by out (t ∷ rest) (with_first t s.answer) r (steps c) (looked c) (after-stay out t s.answer ∙ sym s.is) (expansion.stay is s.expands) (omega (arith, s.counted)) (covers-then (covers-back (taking t).looked_up (trace s.expands).looked_up) (covers-same (sym s.named)))
 
   object-back : (out rest body : List (Hidden P)) (t : Hidden P) (d : Definition) (r : Answer) → case_of macros t rest ≡ expansion.replaced d → object_result provenance d t ≡ Ok body
-      → (c : Completes provenance macros (scanning out (body ++ rest)) r) → Earlier provenance macros (scanning out (t ∷ rest)) r (steps c)
+      → (c : Completes provenance macros (scanning out (body ++ rest)) r) → Earlier provenance macros (scanning out (t ∷ rest)) r (steps c) (looked c)
   object-back out rest body t d r is made c =
       let s = scanned c in
       let g = rescans-as (object_result provenance d t) (Ok body) rest s.answer made (on s.expands) in
-      earlier-by out (t ∷ rest) s.answer r (steps c) (sym s.is) (expansion.object d is g.0) (omega (arith, s.counted, g.1))
+      earlier-by out (t ∷ rest) s.answer r (steps c) (looked c) (sym s.is) (expansion.object d is g.0) (omega (arith, s.counted, g.1))
+      (covers-then (covers-back (taking t).looked_up (trace_rescan g.0).looked_up) (covers-same (g.2 ∙ sym s.named)))
 
   replace-back : (out work body : List (Hidden P)) (w : Waiting P) (r : Answer) → w.wanted ≡ [] → replacement_of provenance w ≡ Ok body → (c : Completes provenance macros (scanning out (body ++ work)) r)
-      → Earlier provenance macros (waiting out work w) r (steps c)
+      → Earlier provenance macros (waiting out work w) r (steps c) (looked c)
   replace-back out work body w r all made c =
       let s = scanned c in
       let g = rescans-as (replacement_of provenance w) (Ok body) work s.answer made (on s.expands) in
-      subst (λ a. Earlier provenance macros (waiting out work w) a (steps c)) (sym s.is)
-      (record { completes = replaces out work w s.answer all g.0; longer = omega (arith, s.counted, g.1) })
+      subst (λ a. Earlier provenance macros (waiting out work w) a (steps c) (looked c)) (sym s.is)
+      (record { completes = replaces out work w s.answer all g.0; longer = omega (arith, s.counted, g.1); covers = covers-same (g.2 ∙ sym s.named) })
 
   leave-back : (out work list : List (Hidden P)) (w : Waiting P) (n : ℕ) (r : Answer) (c : Completes provenance macros (waiting out work (with_expanded w n list)) r)
-      → Earlier provenance macros (expanding out work w n (scanning list [])) r (steps c)
+      → Earlier provenance macros (expanding out work w n (scanning list [])) r (steps c) (looked c)
   leave-back out work list w n r c =
       let inner = subst (λ l. Completes provenance macros (scanning list []) (Ok l)) (append-nil list) (scans list [] (Ok []) expansion.empty) in
-      record { completes = resumes out work w n (scanning list []) list r inner c; longer = omega arith }
+      record { completes = resumes out work w n (scanning list []) list r inner c; longer = omega arith; covers = covers-back (looked inner) (looked c) }
 
   -- the wanted arguments of a call, when all are expanded that are asked for
   module _ (form : Form) (items : List Item) (arguments : List (List (Hidden P))) where
@@ -99,7 +105,7 @@ module _ {P : Type 0} (provenance : Provenance P) (macros : Macros) where
     wants-at : (n : ℕ) (b : Bool) → IsWanted n b → wants (0 + n) false (parts form neither items) ≡ b
     wants-at n b is = let same : 0 + n ≡ n = omega arith in ap (λ j. wants j false (parts form neither items)) same ∙ (sym (wanted-asked n form items) ∙ is)
 
-    known-each : length arguments ≡ arity form → (rs : List Answer) (each : Each provenance macros (asked form items 0 arguments) rs) → AreKnown provenance macros arguments rs (wanted_of form items) (costs provenance macros each)
+    known-each : length arguments ≡ arity form → (rs : List Answer) (each : Each provenance macros (asked form items 0 arguments) rs) → AreKnown provenance macros arguments rs (wanted_of form items) (costs provenance macros each) (trace_each each).looked_up
     known-each fit rs each = record {
       below = λ n is. omega (arith, below n is, length-costs provenance macros each, length-asked form items 0 arguments);
       at = λ n is. each-some provenance macros each n (argument arguments n) (asked-some form items 0 arguments n (below n is) (wants-at n true is));
@@ -129,31 +135,32 @@ module _ {P : Type 0} (provenance : Provenance P) (macros : Macros) where
 
     gather-back : (out rest after : List (Hidden P)) (t close : Hidden P) (d : Definition) (arguments : List (List (Hidden P))) (template : Result (List (Slot P)) (Failure P)) (r : Answer)
         → case_of macros t rest ≡ called d arguments close after → IsTemplate provenance d t arguments template
-        → (c : Completes provenance macros (waiting out after (gathered provenance d t arguments close template)) r) → Earlier provenance macros (scanning out (t ∷ rest)) r (steps c)
+        → (c : Completes provenance macros (waiting out after (gathered provenance d t arguments close template)) r) → Earlier provenance macros (scanning out (t ∷ rest)) r (steps c) (looked c)
     gather-back out rest after t close d arguments template r is stands c =
         let items = list_of provenance d t in
         let hidden : HideSet = with_name (meet t.hide close.hide) t.spelling in
         let each = each-of (asked d.form items 0 arguments) in
-        let s = supplied provenance macros t hidden template arguments each.0 out after (wanted_of d.form items) (map (λ a. []) arguments) (costs provenance macros each.1) r (wanted-apart d.form items)
+        let s = supplied provenance macros t hidden template arguments each.0 out after (trace_each each.1).looked_up (wanted_of d.form items) (map (λ a. []) arguments) (costs provenance macros each.1) r (wanted-apart d.form items)
         (length-costs provenance macros each.1 ∙ sym (length-each provenance macros each.1)) (known-each d.form items arguments (called-fits macros t close rest after d arguments is) each.0 each.1)
         (empty-each d.form items arguments each.0 each.1) c in
         let g = rescans-as (call_result provenance d t arguments close each.0) (completed provenance t hidden (wanted_of d.form items) each.0 template) after s.answer (stands.completes each.0 hidden) s.rescans in
-        earlier-by out (t ∷ rest) s.answer r (steps c) (sym s.is) (expansion.call d arguments close after each.0 is each.1 g.0)
+        earlier-by out (t ∷ rest) s.answer r (steps c) (looked c) (sym s.is) (expansion.call d arguments close after each.0 is each.1 g.0)
         (omega (arith, s.few, sum-costs provenance macros each.1, g.1))
+        (covers-then (covers-back ((taking t).looked_up ++ []) ((trace_each each.1).looked_up ++ (trace_rescan g.0).looked_up)) (covers-then (covers-same (ap (λ names. (trace_each each.1).looked_up ++ names) g.2)) s.covers))
 
-    pub move-back : (s t : State P) → Moves provenance macros s t → (r : Answer) (c : Completes provenance macros t r) → Earlier provenance macros s r (steps c)
+    pub move-back : (s t : State P) → Moves provenance macros s t → (r : Answer) (c : Completes provenance macros t r) → Earlier provenance macros s r (steps c) (looked c)
     move-back _ _ (plain.stay out rest t is) r c = stay-back out rest t r is c
     move-back _ _ (plain.object out rest body t d is made) r c = object-back out rest body t d r is made c
     move-back _ _ (plain.gather out rest after t close d arguments template is stands) r c = gather-back out rest after t close d arguments template r is stands c
-    move-back _ _ (plain.enter out work list w n others is) r c = record { completes = asks out work w (n, list) others r is c; longer = omega arith }
+    move-back _ _ (plain.enter out work list w n others is) r c = record { completes = asks out work w (n, list) others r is c; longer = omega arith; covers = covers-same refl }
     move-back _ _ (plain.leave out work list w n) r c = leave-back out work list w n r c
     move-back _ _ (plain.replace out work body w all made) r c = replace-back out work body w r all made c
     move-back _ _ (plain.inside out work w n {s} {t} m) r c = inside-back out work w n s t r (move-back s t m) c
       where
-        inside-back : (out work : List (Hidden P)) (w : Waiting P) (n : ℕ) (s t : State P) (r : Answer) → ((q : Answer) (c : Completes provenance macros t q) → Earlier provenance macros s q (steps c))
-            → (c : Completes provenance macros (expanding out work w n t) r) → Earlier provenance macros (expanding out work w n s) r (steps c)
-        inside-back out work w n s t r back (resumes o k v m u list q c d) = let e = back (Ok list) c in record { completes = resumes out work w n s list r e.completes d; longer = omega (arith, e.longer) }
-        inside-back out work w n s t r back (refuses o k v m u failure c) = let e = back (Err failure) c in record { completes = refuses out work w n s failure e.completes; longer = omega (arith, e.longer) }
+        inside-back : (out work : List (Hidden P)) (w : Waiting P) (n : ℕ) (s t : State P) (r : Answer) → ((q : Answer) (c : Completes provenance macros t q) → Earlier provenance macros s q (steps c) (looked c))
+            → (c : Completes provenance macros (expanding out work w n t) r) → Earlier provenance macros (expanding out work w n s) r (steps c) (looked c)
+        inside-back out work w n s t r back (resumes o k v m u list q c d) = let e = back (Ok list) c in record { completes = resumes out work w n s list r e.completes d; longer = omega (arith, e.longer); covers = covers-both (covers-then (covers-front (looked e.completes) (looked d)) e.covers) (covers-back (looked e.completes) (looked d)) }
+        inside-back out work w n s t r back (refuses o k v m u failure c) = let e = back (Err failure) c in record { completes = refuses out work w n s failure e.completes; longer = omega (arith, e.longer); covers = e.covers }
 
     pub fails-back : (s : State P) (failure : Failure P) → Fails provenance macros s failure → Completes provenance macros s (Err failure)
     fails-back _ _ (plain.bad_object out rest t d failure is made) = scans out (t ∷ rest) (Err failure) (expansion.object d is (rescans-as (object_result provenance d t) (Err failure) rest (Err failure) made (refused failure)).0)
