@@ -12,3 +12,4 @@ pub mod PlainCases
 pub mod Parting
 pub mod WorkListLemmas
 pub mod PlainNames
+pub mod PlainAgreement

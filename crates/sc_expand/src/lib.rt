@@ -6,4 +6,4 @@ mod laws;
 mod role;
 mod work_list;
 
-pub use laws::{steps_end, steps_give_the_expansion};
+pub use laws::{steps_depend_on_the_names_looked_up, steps_end, steps_give_the_expansion};
