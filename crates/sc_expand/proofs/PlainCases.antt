@@ -1,7 +1,9 @@
 -- What is to be done at a token, by what is known of it.
-use Rattle.std.proofs.Common.{◌≡◌, ℕ, zero, ◌<◌, Bool, true, false, List, [], ◌∷◌, length, codes, Option, Some, None, Result, refl, sym, ap, ◌∙◌, arith, if◌then◌else◌}
+use Rattle.std.proofs.Common.{◌≡◌, ℕ, zero, ◌<◌, Bool, true, false, List, [], ◌∷◌, length, codes, Option, Some, None, Result, Ok, refl, sym, ap, ◌∙◌, arith, if◌then◌else◌}
+use Rattle.std.proofs.lemmas.List.Elements.{All-head, All-tail}
+use Rattle.std.specs.List.{All}
 use Rattle.c11_macros.specs.Call.{Call, arguments_for, call_of}
-use Rattle.c11_macros.specs.Expansion.{call_case, called, case_of, defined_case, fitted_case, form_case, is_looked_up, list_of, looked_up_case, misfit, object_result, replaced, stays, unclosed}
+use Rattle.c11_macros.specs.Expansion.{Expands, empty, stay, call_case, called, case_of, defined_case, fitted_case, form_case, is_looked_up, list_of, looked_up_case, misfit, object_result, replaced, stays, unclosed}
 use Rattle.c11_macros.specs.Hidden.{Failure, Hidden, Provenance, with_name}
 use Rattle.c11_macros.specs.Macros.{Definition, Form, Item, Macros, function_like, object_like}
 use Rattle.c11_macros.specs.Results.{result_map}
@@ -70,3 +72,22 @@ pub object-completes : {P : Type 0} (provenance : Provenance P) (d : Definition)
 object-completes provenance d t template formed stands =
     stands.completes [] (with_name t.hide t.spelling)
     ∙ ap (λ ns. completed provenance t (with_name t.hide t.spelling) ns [] template) (wanted-none d.form (list_of provenance d t) (ap arity formed))
+
+-- ---- names that are not defined
+
+-- the token is no defined name, or hides it
+abbrev pub IsUndefined : {P : Type 0} → Macros → Hidden P → Type 0
+IsUndefined macros t = is_looked_up t ≡ true → macros t.spelling ≡ None
+
+pub undefined-stays : {P : Type 0} (macros : Macros) (t : Hidden P) (rest : List (Hidden P)) → IsUndefined macros t → case_of macros t rest ≡ stays
+undefined-stays macros t rest undefined = by (is_looked_up t) undefined
+  where
+    by : (b : Bool) → (b ≡ true → macros t.spelling ≡ None) → looked_up_case macros b t.spelling rest ≡ stays
+    by true none = ap (λ o. defined_case o rest) (none refl)
+    by false none = refl
+
+-- a list without defined names stays as it is
+pub undefined-expands : {P : Type 0} (provenance : Provenance P) (macros : Macros) (ts : List (Hidden P)) → All (IsUndefined macros) ts → Expands provenance macros ts (Ok ts)
+undefined-expands provenance macros [] undefined = empty
+undefined-expands provenance macros (t ∷ ts) undefined =
+    stay (undefined-stays macros t ts (All-head (IsUndefined macros) t ts undefined)) (undefined-expands provenance macros ts (All-tail (IsUndefined macros) t ts undefined))

@@ -1,5 +1,5 @@
 -- What the state behind a step comes to, the state before it comes to as well, in more steps.
-use Rattle.std.proofs.Common.{◌≡◌, ℕ, zero, suc, ◌+◌, ◌*◌, ◌<◌, Bool, true, false, List, [], ◌∷◌, ◌++◌, append_assoc, append-nil, length, map, get_or, Option, Some, None, Result, Ok, Err, refl, sym, ap, ◌∙◌, subst, arith, if◌then◌else◌}
+use Rattle.std.proofs.Common.{◌≡◌, ℕ, zero, suc, ◌+◌, ◌*◌, ◌<◌, Bool, true, false, List, [], ◌∷◌, ◌++◌, append_assoc, append-nil, length, map, sum, get_or, Option, Some, None, Result, Ok, Err, refl, sym, ap, ◌∙◌, subst, arith, if◌then◌else◌}
 use Rattle.std.proofs.lemmas.List.{length-map}
 use Rattle.std.proofs.Math.ListN.{get_or-map}
 use Rattle.c11_macros.proofs.Halting.{halts}
@@ -9,7 +9,7 @@ use Rattle.c11_macros.specs.Hidden.{Failure, Hidden, HideSet, Provenance, failur
 use Rattle.c11_macros.specs.Macros.{Definition, Form, Item, Macros}
 use Rattle.c11_macros.specs.Substitution.{Slot, argument, neither, parts, wants}
 use Rattle.c11_macros.specs.Trace.{taking, trace, trace_each, trace_rescan}
-use Rattle.sc_expand.proofs.PlainArguments.{AreKnown, argument-expansions, costs, each-none, each-some, length-costs, length-each, sum-costs, supplied}
+use Rattle.sc_expand.proofs.PlainArguments.{AreKnown, Supplied, argument-expansions, costs, each-none, each-some, length-costs, length-each, sum-costs, supplied}
 use Rattle.sc_expand.proofs.PlainCompletes.{Completes, after_these, asks, looked, refuses, replaces, resumes, scanned, scans, steps}
 use Rattle.sc_expand.proofs.PlainNames.{Covers, covers-back, covers-both, covers-front, covers-same, covers-then}
 use Rattle.sc_expand.proofs.PlainParameters.{arity, called-fits, wants-below}
@@ -124,6 +124,18 @@ module _ {P : Type 0} (provenance : Provenance P) (macros : Macros) where
           ∙ sym (argument-expansions rs n ∙ ap list_or_empty (each-none provenance macros each n (asked-none form items 0 arguments n (wants-at n false not)))),
     )
 
+  -- a call as its arguments expand
+  called-back : (out rest after : List (Hidden P)) (t close : Hidden P) (d : Definition) (arguments : List (List (Hidden P))) (template : Result (List (Slot P)) (Failure P)) (r : Answer) (count : ℕ) (names : List (List ℕ))
+      → case_of macros t rest ≡ called d arguments close after → IsTemplate provenance d t arguments template → (rs : List Answer) (each : Each provenance macros (asked d.form (list_of provenance d t) 0 arguments) rs)
+      → Supplied provenance macros out after (completed provenance t (with_name (meet t.hide close.hide) t.spelling) (wanted_of d.form (list_of provenance d t)) rs template) r count (sum (costs provenance macros each)) (trace_each each).looked_up names
+      → Earlier provenance macros (scanning out (t ∷ rest)) r count names
+  called-back out rest after t close d arguments template r count names is stands rs each s =
+      let set : HideSet = with_name (meet t.hide close.hide) t.spelling in
+      let g = rescans-as (call_result provenance d t arguments close rs) (completed provenance t set (wanted_of d.form (list_of provenance d t)) rs template) after s.answer (stands.completes rs set) s.rescans in
+      let front = covers-back ((taking t).looked_up ++ []) ((trace_each each).looked_up ++ (trace_rescan g.0).looked_up) in
+      let back = covers-same (ap (λ names. (trace_each each).looked_up ++ names) g.2) in
+      earlier-by out (t ∷ rest) s.answer r count names (sym s.is) (expansion.call d arguments close after rs is each g.0) (omega (arith, s.few, sum-costs provenance macros each, g.1)) (covers-then front (covers-then back s.covers))
+
   module _ (names : List (List ℕ)) (within : IsWithin names macros) where
     each-of : (wanted : List (Option (List (Hidden P)))) → (rs : List Answer) × Each provenance macros wanted rs
     each-of [] = ([], none)
@@ -136,17 +148,14 @@ module _ {P : Type 0} (provenance : Provenance P) (macros : Macros) where
     gather-back : (out rest after : List (Hidden P)) (t close : Hidden P) (d : Definition) (arguments : List (List (Hidden P))) (template : Result (List (Slot P)) (Failure P)) (r : Answer)
         → case_of macros t rest ≡ called d arguments close after → IsTemplate provenance d t arguments template
         → (c : Completes provenance macros (waiting out after (gathered provenance d t arguments close template)) r) → Earlier provenance macros (scanning out (t ∷ rest)) r (steps c) (looked c)
-    gather-back out rest after t close d arguments template r is stands c =
-        let items = list_of provenance d t in
-        let hidden : HideSet = with_name (meet t.hide close.hide) t.spelling in
-        let each = each-of (asked d.form items 0 arguments) in
-        let s = supplied provenance macros t hidden template arguments each.0 out after (trace_each each.1).looked_up (wanted_of d.form items) (map (λ a. []) arguments) (costs provenance macros each.1) r (wanted-apart d.form items)
-        (length-costs provenance macros each.1 ∙ sym (length-each provenance macros each.1)) (known-each d.form items arguments (called-fits macros t close rest after d arguments is) each.0 each.1)
-        (empty-each d.form items arguments each.0 each.1) c in
-        let g = rescans-as (call_result provenance d t arguments close each.0) (completed provenance t hidden (wanted_of d.form items) each.0 template) after s.answer (stands.completes each.0 hidden) s.rescans in
-        earlier-by out (t ∷ rest) s.answer r (steps c) (looked c) (sym s.is) (expansion.call d arguments close after each.0 is each.1 g.0)
-        (omega (arith, s.few, sum-costs provenance macros each.1, g.1))
-        (covers-then (covers-back ((taking t).looked_up ++ []) ((trace_each each.1).looked_up ++ (trace_rescan g.0).looked_up)) (covers-then (covers-same (ap (λ names. (trace_each each.1).looked_up ++ names) g.2)) s.covers))
+    gather-back out rest after t close d arguments template r is stands c = by (each-of (asked d.form (list_of provenance d t) 0 arguments))
+      where
+        by : ((rs : List Answer) × Each provenance macros (asked d.form (list_of provenance d t) 0 arguments) rs) → Earlier provenance macros (scanning out (t ∷ rest)) r (steps c) (looked c)
+        by (rs, each) =
+            called-back out rest after t close d arguments template r (steps c) (looked c) is stands rs each
+            (supplied provenance macros t (with_name (meet t.hide close.hide) t.spelling) template arguments rs out after (trace_each each).looked_up (wanted_of d.form (list_of provenance d t)) (map (λ a. []) arguments) (costs provenance macros each) r
+            (wanted-apart d.form (list_of provenance d t)) (length-costs provenance macros each ∙ sym (length-each provenance macros each))
+            (known-each d.form (list_of provenance d t) arguments (called-fits macros t close rest after d arguments is) rs each) (empty-each d.form (list_of provenance d t) arguments rs each) c)
 
     pub move-back : (s t : State P) → Moves provenance macros s t → (r : Answer) (c : Completes provenance macros t r) → Earlier provenance macros s r (steps c) (looked c)
     move-back _ _ (plain.stay out rest t is) r c = stay-back out rest t r is c

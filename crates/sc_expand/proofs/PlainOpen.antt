@@ -1,5 +1,5 @@
 -- A list with an open end: what its steps say whatever follows it.
-use Rattle.std.proofs.Common.{◌≡◌, ℕ, zero, suc, Bool, true, false, List, [], ◌∷◌, ◌++◌, append_assoc, length, codes, Option, Some, None, Result, Err, refl, sym, subst, if◌then◌else◌}
+use Rattle.std.proofs.Common.{◌≡◌, ℕ, zero, suc, Bool, true, false, List, [], ◌∷◌, ◌++◌, append_assoc, append-nil, length, codes, Option, Some, None, Result, Err, refl, sym, ap, subst, if◌then◌else◌}
 use Rattle.c11_macros.specs.Call.{Call, Role, apart, arguments_for, call_of, call_step, closing, comma, onto, onto_argument, opening, other, role_of}
 use Rattle.c11_macros.specs.Expansion.{Case, Expands, IsWithin, call_case, called, case_of, defined_case, fitted_case, form_case, is_looked_up, looked_up_case, misfit, replaced, stays, unclosed}
 use Rattle.c11_macros.specs.Hidden.{Failure, Hidden, Provenance}
@@ -150,6 +150,11 @@ module _ {P : Type 0} (provenance : Provenance P) (macros : Macros) where
   fails-more _ _ (plain.bad_paste out work w failure all made) lasting more = plain.bad_paste out (work ++ more) w failure all made
   fails-more _ _ (plain.inside_fails out work w n f) lasting more = plain.inside_fails out (work ++ more) w n f
 
+  followed-none : (s : State P) → followed_by [] s ≡ s
+  followed-none (scanning out work) = ap (scanning out) (append-nil work)
+  followed-none (waiting out work w) = ap (λ l. waiting out l w) (append-nil work)
+  followed-none (expanding out work w n s) = ap (λ l. expanding out l w n s) (append-nil work)
+
   -- ---- what the loop keeps
 
   -- whatever follows, the state goes on to what the list expands to
@@ -158,6 +163,10 @@ module _ {P : Type 0} (provenance : Provenance P) (macros : Macros) where
 
   pub open-start : (source : List (Hidden P)) → ReachesOpen source (scanning [] source)
   open-start source = record { before = λ more. reaches-start provenance macros (source ++ more) }
+
+  -- nothing follows
+  pub open-closed : (source : List (Hidden P)) (s : State P) → ReachesOpen source s → Reaches provenance macros source s
+  open-closed source s reaches = subst (λ t. Reaches provenance macros source t) (followed-none s) (subst (λ l. Reaches provenance macros l (followed_by [] s)) (append-nil source) (reaches.before []))
 
   -- what is left to scan, with what follows, tells the expansion
   pub open-rest : (source out rest : List (Hidden P)) → ReachesOpen source (scanning out rest)
