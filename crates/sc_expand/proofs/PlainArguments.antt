@@ -12,7 +12,7 @@ use Rattle.c11_macros.specs.Substitution.{Slot, argument, expansion_of}
 use Rattle.c11_macros.specs.Trace.{trace, trace_each, trace_rescan}
 use Rattle.sc_expand.proofs.PlainCompletes.{Completes, Waits, after_these, looked, refuses, resumes, scanned, steps, waits, waits_for, waits_none}
 use Rattle.sc_expand.proofs.PlainNames.{Covers, covers-back, covers-both, covers-front, covers-same, covers-then}
-use Rattle.sc_expand.specs.Halves.{completed, unless_failed, expansions, failure_or, first_failure, list_or_empty}
+use Rattle.sc_subst.specs.Halves.{completed, unless_failed, expansions, failure_or, first_failure, list_or_empty}
 use Rattle.sc_expand.proofs.PlainWanted.{AreApart, among-first, among-later, is_among, not-among}
 use Rattle.sc_expand.specs.Plain.{Waiting, expanding, replacement_of, scanning, waiting}
 

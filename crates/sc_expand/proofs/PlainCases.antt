@@ -10,7 +10,8 @@ use Rattle.c11_macros.specs.Results.{result_map}
 use Rattle.c11_macros.specs.Substitution.{Slot, hiding, with_space}
 use Rattle.sc_expand.proofs.PlainParameters.{arity, wants-below}
 use Rattle.sc_expand.proofs.PlainWanted.{among-first, is_among, wanted-asked}
-use Rattle.sc_expand.specs.Halves.{completed, filled_in, wanted_of}
+use Rattle.sc_subst.specs.Halves.{completed, wanted_of}
+use Rattle.sc_subst.specs.Parts.{filled_in}
 use Rattle.sc_expand.specs.Plain.{IsTemplate}
 use Rattle.sc_model.specs.Bytes.{same_bytes}
 

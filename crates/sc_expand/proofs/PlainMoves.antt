@@ -14,7 +14,7 @@ use Rattle.sc_expand.proofs.PlainCompletes.{Completes, after_these, asks, looked
 use Rattle.sc_expand.proofs.PlainNames.{Covers, covers-back, covers-both, covers-front, covers-same, covers-then}
 use Rattle.sc_expand.proofs.PlainParameters.{arity, called-fits, wants-below}
 use Rattle.sc_expand.proofs.PlainWanted.{is_among, wanted-apart, wanted-asked}
-use Rattle.sc_expand.specs.Halves.{wanted_of, completed, expansions, list_or_empty}
+use Rattle.sc_subst.specs.Halves.{wanted_of, completed, expansions, list_or_empty}
 use Rattle.sc_expand.specs.Plain as plain
 use Rattle.sc_model.specs.declared.cause.Cause.TheVariants.{UnterminatedCall, WrongArguments}
 use Rattle.sc_expand.specs.Plain.{Fails, IsTemplate, Moves, State, Waiting, expanding, gathered, replacement_of, scanning, waiting, with_expanded, without_first}

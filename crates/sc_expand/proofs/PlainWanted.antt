@@ -5,7 +5,7 @@ use Rattle.std.proofs.lemmas.Map.Views.{any-filter_same}
 use Rattle.std.specs.List.{list_any}
 use Rattle.c11_macros.specs.Macros.{Form, Item}
 use Rattle.c11_macros.specs.Substitution.{Part, is_paste_next, literal, neither, parameter, parts, paste, token, wants}
-use Rattle.sc_expand.specs.Halves.{each_once, wanted_of, wanted_places}
+use Rattle.sc_subst.specs.Halves.{each_once, wanted_of, wanted_places}
 
 -- the number is among these
 abbrev pub is_among : List ℕ → ℕ → Bool

@@ -1,4 +1,3 @@
-pub mod Halves
 pub mod Plain
 pub mod Arguments
 pub mod Parting

@@ -6,7 +6,8 @@ use Rattle.c11_macros.specs.Hidden.{Failure, Hidden, HideSet, Provenance, failur
 use Rattle.c11_macros.specs.Macros.{Definition, Macros}
 use Rattle.c11_macros.specs.Results.{result_map}
 use Rattle.c11_macros.specs.Substitution.{Slot, argument, hiding, substituted, with_space}
-use Rattle.sc_expand.specs.Halves.{completed, filled_in, wanted_of}
+use Rattle.sc_subst.specs.Halves.{completed, wanted_of}
+use Rattle.sc_subst.specs.Parts.{filled_in}
 use Rattle.sc_model.specs.declared.cause.Cause.TheVariants.{UnterminatedCall, WrongArguments}
 
 -- a call that was taken out of its list and waits for its arguments
