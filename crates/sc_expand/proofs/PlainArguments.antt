@@ -48,7 +48,7 @@ module _ {P : Type 0} (provenance : Provenance P) (macros : Macros) where
   length-each (passed e) = ap suc (length-each e)
   length-each (expanded d e) = ap suc (length-each e)
 
-  -- an argument with its expansion, at this cost, among whose names are those that it looks up
+  -- an argument with its expansion, at this cost, which looks up some of these names
   pub record Known (list : List (Hidden P)) (r : Answer) (cost : ℕ) (names : List (List ℕ)) : Type 0 where
     pub expands : Expands provenance macros list r
     pub is : cost ≡ (trace expands).steps + 1
@@ -87,8 +87,8 @@ module _ {P : Type 0} (provenance : Provenance P) (macros : Macros) where
     at = λ m is. subst (λ cost. Known (argument arguments m) (expansion_of results m) cost all) (sym (get_or-set_other cs n m 0 0 (λ same. true≢false (sym is ∙ (ap (is_among ps) same ∙ out))))) (known.at m (among-later m n ps is));
   }
 
-  -- a call's replacement is scanned with the rest, in so many steps after those of its arguments, and
-  -- looks up other names than theirs
+  -- A call's replacement is scanned with the rest, in so many steps after those of its arguments. All
+  -- names that are looked up are those of the arguments and of this scan.
   pub record Supplied (out work : List (Hidden P)) (made r : Answer) (count cost : ℕ) (all names : List (List ℕ)) : Type 0 where
     pub answer : Answer
     pub rescans : Rescans provenance macros made work answer

@@ -13,6 +13,8 @@ use Rattle.sc_expand.specs.Plain.{State, Waiting, expanding, replacement_of, sca
 abbrev pub after_these : {P : Type 0} → List (Hidden P) → Result (List (Hidden P)) (Failure P) → Result (List (Hidden P)) (Failure P)
 after_these out r = result_map (λ ts. out ++ ts) r
 
+-- The state comes to this list, or to this failure: what is put out stands before what the rest
+-- expands to, and the arguments of a call expand one after the other, up to the first that fails.
 pub data Completes {P : Type 0} (provenance : Provenance P) (macros : Macros) : State P → Result (List (Hidden P)) (Failure P) → Type 0 where
   scans : (out work : List (Hidden P)) (r : Result (List (Hidden P)) (Failure P)) → Expands provenance macros work r → Completes provenance macros (scanning out work) (after_these out r)
   replaces : (out work : List (Hidden P)) (w : Waiting P) (r : Result (List (Hidden P)) (Failure P)) → w.wanted ≡ []
@@ -23,6 +25,7 @@ pub data Completes {P : Type 0} (provenance : Provenance P) (macros : Macros) : 
       → Completes provenance macros (waiting out work (with_expanded w n list)) r → Completes provenance macros (expanding out work w n s) r
   refuses : (out work : List (Hidden P)) (w : Waiting P) (n : ℕ) (s : State P) (failure : Failure P) → Completes provenance macros s (Err failure) → Completes provenance macros (expanding out work w n s) (Err failure)
 
+-- how many steps that takes at most
 abbrev pub steps : {P : Type 0} {provenance : Provenance P} {macros : Macros} {s : State P} {r : Result (List (Hidden P)) (Failure P)} → Completes provenance macros s r → ℕ
 steps (scans out work r d) = 2 * (trace d).steps
 steps (replaces out work w r none g) = 1 + 2 * (trace_rescan g).steps
@@ -30,7 +33,7 @@ steps (asks out work w first others r some c) = 1 + steps c
 steps (resumes out work w n s list r c d) = 1 + (steps c + steps d)
 steps (refuses out work w n s failure c) = 1 + steps c
 
--- the names that it looks up
+-- the names that are looked up
 abbrev pub looked : {P : Type 0} {provenance : Provenance P} {macros : Macros} {s : State P} {r : Result (List (Hidden P)) (Failure P)} → Completes provenance macros s r → List (List ℕ)
 looked (scans out work r d) = (trace d).looked_up
 looked (replaces out work w r none g) = (trace_rescan g).looked_up
