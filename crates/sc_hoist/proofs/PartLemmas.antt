@@ -6,7 +6,7 @@ use Rattle.std.proofs.lemmas.List.Elements.{All-head, All-tail}
 use Rattle.sc_base.specs.declared.id.Cond.{Cond}
 use Rattle.sc_hoist.specs.declared.branch.Branch.{Branch}
 use Rattle.sc_hoist.specs.Branches.{lists_at, AreBranches, HasLists}
-use Rattle.sc_hoist.specs.Leaves.{AreLeaves, Agree, SameBelow, placed}
+use Rattle.sc_hoist.specs.Leaves.{AreLeaves, AreMet, Agree, SameBelow, placed}
 use Rattle.sc_hoist.specs.Places.{places_from}
 use Rattle.sc_hoist.proofs.PlaceLemmas.{SameBelow-places}
 use Rattle.sc_model.proofs.SetLemmas.{IsConfig-kept}
@@ -103,7 +103,7 @@ first_of (x ∷ xs) k within = x
 
 -- Branches with the lists of the configurations so far. Those with equal whole lists are together.
 pub record ArePartsOf (first now : Sets) (cond : ℕ) (part whole : List ℕ → List ℕ) (branches : List Branch) : Type 0 where
-  pub leaves : AreLeaves now branches
+  pub met : AreMet now branches
   pub lists : (c : List ℕ) → IsConfig first.arities c → lists_at now branches c ≡ (if first.has cond c then part c ∷ [] else [])
   pub agree : (c d : List ℕ) → IsConfig first.arities c → IsConfig first.arities d → first.has cond c ≡ first.has cond d → whole c ≡ whole d → Agree now branches c d
 
@@ -121,7 +121,7 @@ module _ {first now : Sets} {cond : ℕ} {part whole : List ℕ → List ℕ} {b
   pub HasLists-parts : Keeps first now → HasOptions first.arities → ArePartsOf first now cond part whole branches → (n : ℕ) → n ≤ length branches → HasLists first cond whole n
   HasLists-parts keeps options parts n most =
       let here : HasOptions now.arities = subst HasOptions (sym keeps.arities) options in
-      let picked = chosen now branches here parts.leaves.some in
+      let picked = chosen now branches here parts.met.some in
       record {
         configs = picked.configs;
         many = omega (arith, picked.long);
@@ -146,11 +146,11 @@ pub AreBranches-parts : {first now : Sets} {cond : ℕ} {list : List ℕ → Lis
 AreBranches-parts {first} {now} {cond} {list} {branches} keeps options parts =
     let here : HasOptions now.arities = subst HasOptions (sym keeps.arities) options in
     record {
-      own = parts.leaves.own;
-      some = parts.leaves.some;
+      own = parts.met.own;
+      some = parts.met.some;
       apart = λ i j x order within same.
-          let a = met now (get_or branches i x).cond.0 here (parts.leaves.some i x (omega arith)) in
-          let b = met now (get_or branches j x).cond.0 here (parts.leaves.some j x within) in
+          let a = met now (get_or branches i x).cond.0 here (parts.met.some i x (omega arith)) in
+          let b = met now (get_or branches j x).cond.0 here (parts.met.some j x within) in
           let a_listed = IsConfig-kept keeps a.listed in
           let b_listed = IsConfig-kept keeps b.listed in
           let at_a = one_list now branches a.config (first.has cond a.config) (list a.config) (parts.lists a.config a_listed) i x (omega arith) a.has in
@@ -169,7 +169,7 @@ pub ArePartsOf-items : {first now : Sets} {cond : ℕ} (n : ℕ) (items : List C
     → ((c d : List ℕ) → IsConfig first.arities c → IsConfig first.arities d → first.has cond c ≡ first.has cond d → SameBelow first items i c d → Agree now branches c d)
     → ArePartsOf first now cond (λ c. places_from first n (take i items) c) (λ c. places_from first n items c) branches
 ArePartsOf-items {first} n items i branches within leaves lists agree = record {
-  leaves = leaves;
+  met = record { own = leaves.own; some = leaves.some };
   lists = lists;
   agree = λ c d c_listed d_listed same equal. agree c d c_listed d_listed same (SameBelow-places first n items c d i within equal);
 }
@@ -178,7 +178,7 @@ ArePartsOf-items {first} n items i branches within leaves lists agree = record {
 pub ArePartsOf-all : {first now : Sets} {cond : ℕ} (n : ℕ) (items : List Cond) (i : ℕ) (branches : List Branch) → i ≡ length items → ArePartsOf first now cond (λ c. places_from first n (take i items) c) (λ c. places_from first n items c) branches
     → ArePartsOf first now cond (λ c. places_from first n items c) (λ c. places_from first n items c) branches
 ArePartsOf-all {first} {now} {cond} n items i branches end parts = record {
-  leaves = parts.leaves;
+  met = parts.met;
   lists = λ c listed. let past : length items ≤ i = omega arith in
       parts.lists c listed ∙ ap (λ (ks : List Cond). if first.has cond c then places_from first n ks c ∷ [] else []) (take_all i items past);
   agree = parts.agree;

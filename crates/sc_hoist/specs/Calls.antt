@@ -86,6 +86,10 @@ abbrev pub ends_at : Sets → List Branch → List ℕ → List Ends
 ends_at s [] c = []
 ends_at s (branch ∷ branches) c = if s.has branch.cond.0 c then branch.ends ∷ ends_at s branches c else ends_at s branches c
 
+-- the branch, whose calls end in this way
+abbrev pub with_ends : Ends → Branch → Branch
+with_ends ends branch = record branch { ends = ends }
+
 -- A call of these tokens is closed where this index says so, and what follows it is left.
 abbrev pub ClosesAt : {P : Type 0} → List (Hidden P) → Option ℕ → Option (Call P) → Type 0
 ClosesAt ts None None = Unit {0}

@@ -10,6 +10,11 @@ pub record AreLeaves (s : Sets) (branches : List Branch) : Type 0 where
   pub some : All (λ branch. IsNever s branch.cond.0 → ⊥) branches
   pub ends : All (λ branch. branch.ends ≡ NoCall) branches
 
+-- each branch has a condition that was made, and a configuration
+pub record AreMet (s : Sets) (branches : List Branch) : Type 0 where
+  pub own : All (λ branch. IsCond s branch.cond.0) branches
+  pub some : All (λ branch. IsNever s branch.cond.0 → ⊥) branches
+
 -- each branch has both configurations or neither
 pub record Agree (s : Sets) (branches : List Branch) (c d : List ℕ) : Type 0 where
   pub each : All (λ branch. s.has branch.cond.0 c ≡ s.has branch.cond.0 d) branches

@@ -1,3 +1,4 @@
+pub mod Added
 pub mod Branches
 pub mod Calls
 pub mod Leaves

@@ -9,7 +9,7 @@ use Rattle.sc_hoist.specs.declared.state.Role.TheVariants.{Opening, Closing, Oth
 use Rattle.sc_hoist.specs.declared.state.State.{State}
 use Rattle.sc_hoist.specs.declared.state.State.TheVariants.{Alone, Inside, Closed, Bare}
 use Rattle.sc_hoist.specs.declared.state.Test.{Test}
-use Rattle.sc_hoist.specs.declared.state.Test.TheVariants.{IsClosed, IsStill, IsBare, IsAlone, Takes}
+use Rattle.sc_hoist.specs.declared.state.Test.TheVariants.{IsClosed, IsStill, IsBare, IsAlone, IsNoCall, Takes}
 use Rattle.sc_hoist.specs.declared.states.Entry.{Entry}
 use Rattle.sc_model.specs.Bytes.{same_bytes}
 use Rattle.sc_model.specs.Sets.{Sets, IsCond}
@@ -60,6 +60,7 @@ passes IsClosed state = is_end closed (end_in state)
 passes IsStill state = is_end still (end_in state)
 passes IsBare state = is_end bare (end_in state)
 passes IsAlone state = is_end alone (end_in state)
+passes IsNoCall state = is_end bare (end_in state) || is_end alone (end_in state)
 passes (Takes role) state = takes role state
 
 -- the state once the items were read that the configuration has

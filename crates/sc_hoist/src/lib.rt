@@ -2,6 +2,8 @@
 #![tactic(auto)]
 
 mod branch;
+mod call_branches;
+mod call_items;
 mod division;
 mod ending;
 mod laws;
@@ -12,6 +14,7 @@ mod states;
 mod token_list;
 
 pub use branch::{Branch, Ends};
+pub use call_branches::calls;
 pub use ending::{CallEnds, call_ends};
 pub use laws::call_is_closed_where_its_arguments_end;
 pub use line_branches::lines;

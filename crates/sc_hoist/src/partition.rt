@@ -2,6 +2,7 @@ ghost use Rattle.std.specs.Prelude.{◌≡◌, ℕ, ◌+◌, ◌^◌, ◌<◌, �
 ghost use Rattle.sc_model.specs.Sets.{IsConfig, IsCond, Keeps};
 ghost use Rattle.sc_hoist.specs.declared.branch.Ends.TheVariants.{NoCall};
 ghost use Rattle.sc_hoist.specs.Branches.{lists_at, AreBranches, Refuses};
+ghost use Rattle.sc_hoist.specs.Leaves.{Agree};
 ghost use Rattle.sc_hoist.specs.Places.{places_from};
 
 use crate::Branch;
@@ -27,6 +28,9 @@ pub fn branches_of<C: Conditions>(
         ≡ (if (C.sets conds.old).has cond.0 c then places_from (C.sets conds.old) from items.now c ∷ [] else [])) }
     ensures branches { IfOk result (λ r. AreBranches (C.sets conds.new) r.items) }
     ensures ends { IfOk result (λ r. All (λ branch. branch.ends ≡ NoCall) r.items) }
+    ensures agree { IfOk result (λ r. (c d : List ℕ) → IsConfig (C.sets conds.old).arities c → IsConfig (C.sets conds.old).arities d
+        → (C.sets conds.old).has cond.0 c ≡ (C.sets conds.old).has cond.0 d
+        → places_from (C.sets conds.old) from items.now c ≡ places_from (C.sets conds.old) from items.now d → Agree (C.sets conds.new) r.items c d) }
     ensures few { IfOk result (λ r. length r.items ≤ limit) }
     ensures refused { IfErr result (λ stop. Refuses (C.sets conds.old) cond.0 (λ c. places_from (C.sets conds.old) from items.now c) limit stop) }
 
@@ -48,7 +52,7 @@ pub fn branches_of<C: Conditions>(
 }
 
 /// Whether there are more branches than the limit.
-fn is_full(branches: &[Branch], limit: usize) -> bool
+pub fn is_full(branches: &[Branch], limit: usize) -> bool
     ensures { IsTrue result ↔ limit < length branches.now }
 {
     branches.len() > limit

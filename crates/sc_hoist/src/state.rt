@@ -32,6 +32,8 @@ pub enum Test {
     IsStill,
     IsBare,
     IsAlone,
+    /// No parenthesis follows the name.
+    IsNoCall,
     /// Whether the next token, of this role, is one of the call.
     Takes(Role),
 }
@@ -80,6 +82,7 @@ impl State {
             Test::IsStill => matches!(self, State::Inside(_)),
             Test::IsBare => matches!(self, State::Bare),
             Test::IsAlone => matches!(self, State::Alone),
+            Test::IsNoCall => matches!(self, State::Alone | State::Bare),
             Test::Takes(role) => self.takes(role),
         }
     }

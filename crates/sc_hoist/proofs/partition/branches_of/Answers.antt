@@ -78,3 +78,8 @@ returns-then-is_full-2-clause-refused g c =
     let was = c.loop-index.invariant in
     let many : c.args.limit < length c.loop-index.branches.items = subst (λ (bs : List Branch). c.args.limit < length bs) c.deref-2.ensures.value (c.is_full-2.ensures.0 c.if-is_full-2.true) in
     (refl, HasLists-parts was.keeps c.has_options.ensures (ArePartsOf-items c.args.from c.args.items.now c.loop-index.index c.loop-index.branches.items (omega arith) was.leaves was.lists was.agree) (c.args.limit + 1) (omega arith))
+
+pub returns-clause-agree : goal.returns-clause-agree
+returns-clause-agree g c =
+    let was = c.loop-index.invariant in
+    (ArePartsOf-items c.args.from c.args.items.now c.loop-index.index c.loop-index.branches.items (omega arith) was.leaves was.lists was.agree).agree
