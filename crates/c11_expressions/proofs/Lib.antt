@@ -1,2 +1,3 @@
+pub mod Evaluating
 pub mod Reader
 pub mod Reading

@@ -4,8 +4,10 @@ use Rattle.std.specs.Option.{option_and_then}
 use Rattle.c11_expressions.specs.declared.binary.Binary.{Binary}
 use Rattle.c11_expressions.specs.declared.punctuator.Punctuator.TheVariants as punctuator
 use Rattle.c11_expressions.specs.declared.unary.Unary.{Unary}
+use Rattle.c11_expressions.specs.Evaluates.{Spelled}
 use Rattle.c11_expressions.specs.Expressions.{Outcome, constant_outcome, unary_outcome, binary_outcome, conditional_outcome}
 use Rattle.c11_expressions.specs.Grammar.{Symbol, operand, mark, as_unary, level_of}
+use Rattle.c11_expressions.specs.Symbols.{symbol_of}
 
 pub data Frame : Type 0 where
   parenthesis : Frame
@@ -97,3 +99,15 @@ finished (having fs x) = at_end (settled 0 fs x).frames (settled 0 fs x).operand
 
 abbrev pub reading : List Symbol → Option Outcome
 reading ts = option_and_then finished (run (wanting []) ts)
+
+-- ---- the same for tokens
+
+abbrev pub read_token : State → Spelled → Option State
+read_token s t = option_and_then (step s) (symbol_of t.kind t.spelling)
+
+abbrev pub run_tokens : State → List Spelled → Option State
+run_tokens s [] = Some s
+run_tokens s (t ∷ ts) = option_and_then (λ n. run_tokens n ts) (read_token s t)
+
+abbrev pub reading_tokens : List Spelled → Option Outcome
+reading_tokens ts = option_and_then finished (run_tokens (wanting []) ts)

@@ -1,3 +1,6 @@
 pub mod Arithmetic
+pub mod Constants
+pub mod Evaluates
 pub mod Expressions
 pub mod Grammar
+pub mod Symbols

@@ -1,9 +1,17 @@
 //! Laws about the definitions, each the contract of a function without code.
-ghost use Rattle.std.specs.Prelude.{List, ◌≡◌};
+ghost use Rattle.std.specs.Prelude.{◌≡◌, List, Result};
+ghost use Rattle.c11_expressions.specs.Arithmetic.{Typed};
+ghost use Rattle.c11_expressions.specs.Evaluates.{Evaluates, Spelled};
 ghost use Rattle.c11_expressions.specs.Expressions.{Expression, outcome};
 ghost use Rattle.c11_expressions.specs.Grammar.{Phrase, Symbol};
+ghost use Rattle.sc_model.specs.declared.cause.Cause.{Cause};
 
 /// Whatever expression the symbols are, evaluating it gives the same.
 pub fn symbols_have_one_outcome()
     ensures { (ts : List Symbol) (a b : Expression) → Phrase 0 ts a → Phrase 0 ts b → outcome a ≡ outcome b }
+{}
+
+/// Tokens come to one result.
+pub fn tokens_have_one_result()
+    ensures { (ts : List Spelled) (r s : Result Typed Cause) → Evaluates ts r → Evaluates ts s → r ≡ s }
 {}

@@ -1,12 +1,14 @@
 //! The expression of `#if` (C11 6.10.1, 6.5, 6.6), as definitions.
 #![tactic(auto)]
 
+mod base;
 mod binary;
 mod laws;
 mod punctuator;
 mod unary;
 
+pub use base::Base;
 pub use binary::Binary;
-pub use laws::symbols_have_one_outcome;
+pub use laws::{symbols_have_one_outcome, tokens_have_one_result};
 pub use punctuator::Punctuator;
 pub use unary::Unary;

@@ -1,0 +1,84 @@
+-- What tokens come to is what reading them finds.
+use Rattle.std.proofs.Common.{◌≡◌, List, [], ◌∷◌, Option, Some, None, Result, Err, refl, sym, ap, ◌∙◌, subst, map, IfSome}
+use Rattle.std.specs.Option.{option_and_then}
+use Rattle.c11_expressions.specs.Arithmetic.{Typed}
+use Rattle.c11_expressions.specs.Evaluates.{Spelled, IsExpression, Evaluates, evaluated, refused}
+use Rattle.c11_expressions.specs.Expressions.{Expression, Outcome, outcome, result_of}
+use Rattle.c11_expressions.specs.Grammar.{Symbol}
+use Rattle.c11_expressions.specs.Symbols.{symbol_of}
+use Rattle.c11_expressions.proofs.Reader.{State, wanting, step, run, finished, reading, run_tokens, reading_tokens}
+use Rattle.c11_expressions.proofs.Reading.{Found, found, reads}
+use Rattle.sc_model.specs.declared.cause.Cause.{Cause}
+use Rattle.sc_model.specs.declared.cause.Cause.TheVariants.{BadIf}
+
+abbrev symbols_of : List Spelled → List (Option Symbol)
+symbols_of ts = map (λ t. symbol_of t.kind t.spelling) ts
+
+-- the symbols that tokens are, and what reading them gives
+record Symbols (s n : State) (ts : List Spelled) : Type 0 where
+  symbols : List Symbol
+  each : symbols_of ts ≡ map Some symbols
+  runs : run s symbols ≡ Some n
+
+run-symbols : (s : State) (ts : List Spelled) (ss : List Symbol) → symbols_of ts ≡ map Some ss → run_tokens s ts ≡ run s ss
+run-symbols s [] [] e = refl
+run-symbols s [] (y ∷ ys) e = absurd (cc)
+run-symbols s (t ∷ ts) [] e = absurd (cc)
+run-symbols s (t ∷ ts) (y ∷ ys) e =
+    let head : symbol_of t.kind t.spelling ≡ Some y = cc in
+    let tail : symbols_of ts ≡ map Some ys = cc in
+    ap (λ o. option_and_then (λ n. run_tokens n ts) (option_and_then (step s) o)) head ∙ by (step s y) (λ n. run-symbols n ts ys tail)
+  where
+    by : (o : Option State) → ((n : State) → run_tokens n ts ≡ run n ys) → option_and_then (λ n. run_tokens n ts) o ≡ option_and_then (λ n. run n ys) o
+    by None same = refl
+    by (Some n) same = same n
+
+symbols-none : (s n : State) (t : Spelled) (ts : List Spelled) (o : Option Symbol) → symbol_of t.kind t.spelling ≡ o
+    → ((y : Symbol) (m : State) → step s y ≡ Some m → run_tokens m ts ≡ Some n → symbol_of t.kind t.spelling ≡ Some y → Symbols s n (t ∷ ts))
+    → option_and_then (λ m. run_tokens m ts) (option_and_then (step s) o) ≡ Some n → Symbols s n (t ∷ ts)
+symbols-none s n t ts None is go e = absurd (cc)
+symbols-none s n t ts (Some y) is go e = by (step s y) refl e
+  where
+    by : (o : Option State) → step s y ≡ o → option_and_then (λ m. run_tokens m ts) o ≡ Some n → Symbols s n (t ∷ ts)
+    by None k e = absurd (cc)
+    by (Some m) k e = go y m k e is
+
+symbols-run : (s n : State) (ts : List Spelled) → run_tokens s ts ≡ Some n → Symbols s n ts
+symbols-run s n [] e = record { symbols = []; each = refl; runs = e }
+symbols-run s n (t ∷ ts) e = symbols-none s n t ts (symbol_of t.kind t.spelling) refl (λ y m k r is. onto s n t ts y m k is (symbols-run m n ts r)) e
+  where
+    onto : (s n : State) (t : Spelled) (ts : List Spelled) (y : Symbol) (m : State) → step s y ≡ Some m → symbol_of t.kind t.spelling ≡ Some y → Symbols m n ts → Symbols s n (t ∷ ts)
+    onto s n t ts y m k is rest = record { symbols = y ∷ rest.symbols; each = cc (is, rest.each); runs = ap (option_and_then (λ m. run m rest.symbols)) k ∙ rest.runs }
+
+-- an expression is read
+pub reads_tokens : (ts : List Spelled) (e : Expression) → IsExpression ts e → reading_tokens ts ≡ Some (outcome e)
+reads_tokens ts e is = ap (option_and_then finished) (run-symbols (wanting []) ts is.symbols is.each) ∙ reads is.symbols e is.form
+
+-- what is read is an expression
+pub evaluates_ok : (ts : List Spelled) (o : Outcome) → reading_tokens ts ≡ Some o → Evaluates ts (result_of o)
+evaluates_ok ts o e = by (run_tokens (wanting []) ts) refl e
+  where
+    final : (n : State) → Symbols (wanting []) n ts → finished n ≡ Some o → Evaluates ts (result_of o)
+    final n s e =
+        let same : reading s.symbols ≡ Some o = ap (option_and_then finished) s.runs ∙ e in
+        let f : Found s.symbols o = subst (λ x. IfSome x (Found s.symbols)) same (found s.symbols) in
+        subst (λ x. Evaluates ts (result_of x)) (sym f.is) (evaluated f.expression (record { symbols = s.symbols; each = s.each; form = f.form }))
+
+    by : (r : Option State) → run_tokens (wanting []) ts ≡ r → option_and_then finished r ≡ Some o → Evaluates ts (result_of o)
+    by None k e = absurd (cc)
+    by (Some n) k e = final n (symbols-run (wanting []) n ts k) e
+
+pub evaluates_err : (ts : List Spelled) → reading_tokens ts ≡ None → Evaluates ts (Err BadIf)
+evaluates_err ts none = refused (λ e is. absurd (clash (reading_tokens ts) none (reads_tokens ts e is)))
+  where
+    clash : {o : Outcome} → (r : Option Outcome) → r ≡ None → r ≡ Some o → ⊥
+    clash r a b = cc
+
+-- tokens come to one result
+pub one_result : (ts : List Spelled) (r s : Result Typed Cause) → Evaluates ts r → Evaluates ts s → r ≡ s
+one_result ts r s (evaluated a is) (evaluated b at) =
+    let same : Some (outcome a) ≡ Some (outcome b) = sym (reads_tokens ts a is) ∙ reads_tokens ts b at in
+    let o : outcome a ≡ outcome b = cc in ap result_of o
+one_result ts r s (evaluated a is) (refused none) = absurd (none a is)
+one_result ts r s (refused none) (evaluated b at) = absurd (none b at)
+one_result ts r s (refused none) (refused other) = refl
