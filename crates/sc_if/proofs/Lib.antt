@@ -1,3 +1,5 @@
 pub mod Decided
 pub mod Division
+pub mod Numbers
+pub mod Refusals
 pub mod Stacks
