@@ -22,7 +22,7 @@ blank_part = list.Token blank_item
 -- one turn of the loop
 pub parts_turn : (names : List (List ℕ)) (form : Form) (items : List Item) (i : ℕ) (before : Before) (turn : Turn) (made new : List ListPart) → i < length items
     → (let whole = substitution.parts (seen_form names form) substitution.neither (map (seen_item names) items) in
-      whole ≡ map (seen_list_part names) made ++ substitution.parts (seen_form names form) (seen_before before) (map (seen_item names) (drop i items)))
+    whole ≡ map (seen_list_part names) made ++ substitution.parts (seen_form names form) (seen_before before) (map (seen_item names) (drop i items)))
     → substitution.parts (seen_form names form) (seen_before before) (map (seen_item names) (get_or items i blank_item ∷ take (length items - (i + 1)) (drop (i + 1) items)))
     ≡ map (seen_list_part names) (option_to_list turn.made) ++ substitution.parts (seen_form names form) (seen_before turn.before) (map (seen_item names) (take (length items - (i + 1)) (drop (i + 1) items)))
     → map (seen_list_part names) new ≡ map (seen_list_part names) made ++ map (seen_list_part names) (option_to_list turn.made)

@@ -1,6 +1,6 @@
 -- Substitution in two halves: a template, and what fills it, are the replacement of the definition, whatever the
 -- arguments expand to.
-use Rattle.std.proofs.Common.{◌≡◌, ℕ, zero, suc, ◌<◌, ◌==◌, ◌||◌, not, Bool, true, false, List, [], ◌∷◌, ◌++◌, map, filter, length, Option, Some, None, Result, Ok, Err, if◌then◌else◌, inl, inr, refl, sym, ap, subst, ◌∙◌, arith}
+use Rattle.std.proofs.Common.{◌≡◌, ℕ, zero, suc, ◌==◌, ◌||◌, not, Bool, true, false, List, [], ◌∷◌, ◌++◌, map, filter, Option, Some, None, Result, Ok, Err, if◌then◌else◌, inl, inr, refl, sym, ap, subst, ◌∙◌}
 use Rattle.std.specs.Prelude.{IfOk, IfErr}
 use Rattle.std.proofs.lemmas.Bool.{cases_Bool, eqb-true}
 use Rattle.c11_macros.specs.Hidden as model
@@ -17,7 +17,7 @@ use Rattle.sc_subst.specs.Glue.{argument_pieces, pieces_in}
 use Rattle.sc_subst.specs.Halves.{completed, each_once, expansions, failure_or, first_failure, list_or_empty, unless_failed, wanted_of, wanted_places}
 use Rattle.sc_subst.specs.Parts.{filled_in}
 use Rattle.sc_subst.specs.Stops.{OnOperator}
-use Rattle.sc_subst.proofs.Store.{if_ok, if_err}
+use Rattle.sc_subst.proofs.Store.{if_ok}
 
 if_mapped : {A B E : Type 0} (f : A → B) (P : B → Type 0) (r : Result A E) → IfOk r (λ a. P (f a)) → IfOk (result_map f r) P
 if_mapped {A} {B} {E} f P (Ok a) h = h

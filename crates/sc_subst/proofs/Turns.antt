@@ -1,5 +1,5 @@
 -- What the tables hold of a definition, and what a part of its list makes.
-use Rattle.std.proofs.Common.{◌≡◌, ℕ, zero, suc, ◌<◌, ◌∷◌, ◌++◌, List, [], length, map, get_or, slice_index_or, append_assoc, Result, Ok, Err, refl, sym, ap, ◌∙◌, arith}
+use Rattle.std.proofs.Common.{◌≡◌, ℕ, zero, suc, ◌∷◌, ◌++◌, List, [], map, get_or, slice_index_or, append_assoc, Result, Ok, Err, refl, sym, ap, ◌∙◌, arith}
 use Rattle.std.specs.Prelude.{All}
 use Rattle.c11_macros.specs.Hidden as model
 use Rattle.c11_macros.specs.Hidden.{Failure}
@@ -25,7 +25,7 @@ use Rattle.sc_subst.specs.declared.slots.Slot.TheVariants as slot
 use Rattle.sc_subst.specs.declared.stop.SubstStop.{SubstStop}
 use Rattle.sc_subst.specs.declared.stop.SubstStop.TheVariants.{Fault, OutOfMemory}
 use Rattle.sc_subst.specs.ListParts.{IsHeldListPart, seen_list_part}
-use Rattle.sc_subst.specs.Parts.{AreHeldArguments, IsHeldSlot, seen_arguments, seen_list, seen_slot}
+use Rattle.sc_subst.specs.Parts.{AreHeldArguments, IsHeldSlot, seen_arguments, seen_list}
 use Rattle.sc_subst.specs.Seen.{IsHeldHidden, Lasting, seen_hidden}
 use Rattle.sc_subst.specs.Stops.{OnFault}
 use Rattle.sc_subst.proofs.Later.{IsHeldHidden-Extends, text_later}

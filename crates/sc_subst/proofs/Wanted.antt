@@ -1,5 +1,5 @@
 -- Which arguments a template has a place for, and which are wanted.
-use Rattle.std.proofs.Common.{◌≡◌, ℕ, zero, suc, ◌<◌, ◌≤◌, ◌+◌, ◌-◌, take, drop, Option, None, ◌==◌, ◌||◌, ◌&&◌, not, Bool, true, false, List, [], ◌∷◌, ◌++◌, map, filter, length, length-append, get_or, append_assoc, Result, Ok, Err, if◌then◌else◌, inl, inr, refl, sym, ap, subst, ◌∙◌, arith}
+use Rattle.std.proofs.Common.{◌≡◌, ℕ, zero, suc, ◌<◌, ◌≤◌, ◌+◌, ◌-◌, take, drop, Option, None, ◌==◌, ◌||◌, ◌&&◌, not, Bool, true, false, List, [], ◌∷◌, ◌++◌, map, filter, length, length-append, get_or, append_assoc, Result, Ok, if◌then◌else◌, inl, inr, refl, sym, ap, subst, ◌∙◌, arith}
 use Rattle.std.specs.Prelude.{All, Contains, IfOk, Some}
 use Rattle.std.specs.List.{list_any}
 use Rattle.std.proofs.lemmas.Bool.{cases_Bool, eqb-true, or_parts, true≢false}
@@ -153,7 +153,7 @@ module _ {P : Type 0} (head : model.Hidden P) (raw : List (List (model.Hidden P)
     | inl wanted ↦ wanted
     | inr other ↦ (
         let same : filled_in (only n head) template ≡ filled_in [] template =
-            ok_same {E = Failure P} _ _ (sym (is (only n head)) ∙ (ap (λ qs. result_map tokens_of (all_glued head qs)) (same_pieces raw n head false ss other) ∙ is [])) in
+        ok_same {E = Failure P} _ _ (sym (is (only n head)) ∙ (ap (λ qs. result_map tokens_of (all_glued head qs)) (same_pieces raw n head false ss other) ∙ is [])) in
         let less = longer n head template h in
         let lengths = ap length same in
         absurd (omega arith))

@@ -1,4 +1,4 @@
-use Rattle.sc_subst.proofs.PartTurns.{blank_item, parts_turn}
+use Rattle.sc_subst.proofs.PartTurns.{parts_turn}
 use Rattle.sc_subst.proofs.parts.parts.Goals as goal
 
 pub loop-i-preserved : goal.loop-i-preserved

@@ -1,4 +1,4 @@
-use Rattle.std.proofs.Common.{◌∙◌, map, Ok, Err, sym, ap, subst}
+use Rattle.std.proofs.Common.{◌∙◌, map, Ok, sym, ap, subst}
 use Rattle.std.specs.Prelude.{All}
 use Rattle.c11_macros.specs.Substitution.{hiding, with_space}
 use Rattle.sc_base.proofs.Growth.{Extends-trans}

@@ -11,7 +11,7 @@ use Rattle.sc_model.specs.declared.cause.Cause.TheVariants.{BadPaste, BadStringi
 use Rattle.sc_model.specs.declared.kind.Kind.TheVariants.{Identifier}
 use Rattle.sc_subst.specs.Glue.{pieces_in}
 use Rattle.sc_subst.specs.Halves.{expansions, wanted_of}
-use Rattle.sc_subst.specs.Parts.{IsHeldSlot, filled_in, seen_arguments, seen_part, seen_slot}
+use Rattle.sc_subst.specs.Parts.{IsHeldSlot, seen_arguments, seen_part, seen_slot}
 use Rattle.sc_subst.proofs.Gluing.{arguments_later}
 use Rattle.sc_subst.proofs.Store.{if_err, if_ok}
 use Rattle.sc_subst.proofs.Templates.{by_hash, by_paste, cause_of, glue_fails, in_halves, refused, slots_fail}
