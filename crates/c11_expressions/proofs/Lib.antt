@@ -1,3 +1,4 @@
 pub mod Evaluating
+pub mod OneLine
 pub mod Reader
 pub mod Reading

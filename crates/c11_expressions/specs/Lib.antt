@@ -3,4 +3,5 @@ pub mod Constants
 pub mod Evaluates
 pub mod Expressions
 pub mod Grammar
+pub mod Lines
 pub mod Symbols

@@ -9,6 +9,6 @@ mod unary;
 
 pub use base::Base;
 pub use binary::Binary;
-pub use laws::{symbols_have_one_outcome, tokens_have_one_result};
+pub use laws::{lines_have_one_answer, symbols_have_one_outcome, tokens_have_one_result};
 pub use punctuator::Punctuator;
 pub use unary::Unary;
