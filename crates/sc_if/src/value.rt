@@ -50,9 +50,9 @@ impl Value {
     {
         match op {
             Unary::Plus => Ok(self),
-            Unary::Minus => self.minus(),
+            Unary::Minus => self.negative(),
             Unary::Complement => Ok(self.complement()),
-            Unary::Not => Ok(self.not()),
+            Unary::Not => Ok(self.negation()),
         }
     }
 
@@ -61,11 +61,11 @@ impl Value {
         ensures { seen_result result ≡ binary_value op (seen_value self) (seen_value other) }
     {
         match op {
-            Binary::Multiply => self.multiply(other),
-            Binary::Divide => self.divide(other),
+            Binary::Multiply => self.product(other),
+            Binary::Divide => self.quotient(other),
             Binary::Remainder => self.remainder(other),
-            Binary::Add => self.add(other),
-            Binary::Subtract => self.subtract(other),
+            Binary::Add => self.sum(other),
+            Binary::Subtract => self.difference(other),
             Binary::ShiftLeft => self.shift_left(other),
             Binary::ShiftRight => self.shift_right(other),
             Binary::Less => Ok(self.less(other)),
@@ -121,7 +121,7 @@ impl Value {
         number.map(Value::Signed).ok_or(Cause::IfOverflow)
     }
 
-    pub fn minus(self) -> Result<Value, Cause>
+    pub fn negative(self) -> Result<Value, Cause>
         ensures { seen_result result ≡ unary_value unary.Minus (seen_value self) }
     {
         match self {
@@ -139,13 +139,13 @@ impl Value {
         }
     }
 
-    pub fn not(self) -> Value
+    pub fn negation(self) -> Value
         ensures { Ok (seen_value result) ≡ unary_value unary.Not (seen_value self) }
     {
         Value::truth(self.is_zero())
     }
 
-    pub fn multiply(self, other: Value) -> Result<Value, Cause>
+    pub fn product(self, other: Value) -> Result<Value, Cause>
         ensures { seen_result result ≡ binary_value binary.Multiply (seen_value self) (seen_value other) }
     {
         match self.with(other) {
@@ -154,7 +154,7 @@ impl Value {
         }
     }
 
-    pub fn divide(self, other: Value) -> Result<Value, Cause>
+    pub fn quotient(self, other: Value) -> Result<Value, Cause>
         ensures { seen_result result ≡ binary_value binary.Divide (seen_value self) (seen_value other) }
     {
         if other.is_zero() {
@@ -178,7 +178,7 @@ impl Value {
         }
     }
 
-    pub fn add(self, other: Value) -> Result<Value, Cause>
+    pub fn sum(self, other: Value) -> Result<Value, Cause>
         ensures { seen_result result ≡ binary_value binary.Add (seen_value self) (seen_value other) }
     {
         match self.with(other) {
@@ -187,7 +187,7 @@ impl Value {
         }
     }
 
-    pub fn subtract(self, other: Value) -> Result<Value, Cause>
+    pub fn difference(self, other: Value) -> Result<Value, Cause>
         ensures { seen_result result ≡ binary_value binary.Subtract (seen_value self) (seen_value other) }
     {
         match self.with(other) {
@@ -213,7 +213,7 @@ impl Value {
         ensures { seen_result result ≡ result_map (typed (seen_value self).unsigned) (fitted (seen_value self).unsigned ((seen_value self).number *ℤ pos (2 ^ count))) }
     {
         match self {
-            Value::Signed(n) => Value::fitted(product(n, 1 << count)),
+            Value::Signed(n) => Value::fitted(signed_product(n, 1 << count)),
             Value::Unsigned(n) => Ok(Value::Unsigned(n << count)),
         }
     }
@@ -314,7 +314,7 @@ impl Value {
 }
 
 /// The product, where it fits.
-fn product(x: i64, y: u64) -> Option<i64>
+fn signed_product(x: i64, y: u64) -> Option<i64>
     ensures { SomeIff result (FitsSigned w64 (x *ℤ pos y)) (x *ℤ pos y) }
 {
     i64::try_from(i128::from(x) * i128::from(y)).ok()

@@ -5,7 +5,7 @@ use Rattle.c11_expressions.specs.Arithmetic.{quotient, typed}
 use Rattle.c11_macros.specs.Results.{result_map}
 use Rattle.sc_if.specs.Seen.{seen_value}
 use Rattle.sc_if.proofs.Division.{divides, in_pair, second-zero}
-use Rattle.sc_if.proofs.value.Value.divide.Goals as goal
+use Rattle.sc_if.proofs.value.Value.quotient.Goals as goal
 
 pub returns-in-Signed : goal.returns-in-Signed
 returns-in-Signed c =
