@@ -1,4 +1,5 @@
--- Reading an expression from left to right: what waits for the rest, innermost first, and the operand that was read last.
+-- Reading an expression from left to right: what waits for the rest, innermost first, and the
+-- operand that was read last.
 use Rattle.std.specs.Prelude.{ℕ, nat_le, List, [], ◌∷◌, Bool, true, false, Option, Some, None, if◌then◌else◌}
 use Rattle.std.specs.Option.{option_and_then}
 use Rattle.c11_expressions.specs.declared.binary.Binary.{Binary}

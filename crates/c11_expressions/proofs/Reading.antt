@@ -20,7 +20,8 @@ abbrev pub Waits : ℕ → List Frame → Type 0
 Waits n [] = Unit {0}
 Waits n (f ∷ fs) = (p : ℕ) → 1 ≤ p → p ≤ 10 → n ≤ p → binds p f ≡ false
 
--- reading the symbols under these frames leaves others that come to the same before a symbol of this level or a looser one
+-- reading the symbols under these frames leaves others that come to the same before a symbol of
+-- this level or a looser one
 record Arrives (n : ℕ) (fs : List Frame) (ts : List Symbol) (x : Outcome) : Type 0 where
   frames : List Frame
   operand : Outcome
@@ -135,7 +136,8 @@ data Under : List Frame → List Symbol → Type 0 where
   parted : (fs : List Frame) (ts cs xs : List Symbol) (x y : Outcome) (c a : Expression) → Under fs ts → needed fs ≡ 0 → Phrase 1 cs c → Phrase 0 xs a
       → x ≡ outcome c → y ≡ outcome a → Under (branch x y ∷ fs) (ts ++ (cs ++ mark punctuator.Question ∷ (xs ++ mark punctuator.Colon ∷ [])))
 
--- the symbols are those of the frames, and then an operand that they take, of this level or a tighter one
+-- the symbols are those of the frames, and then an operand that they take, of this level or a
+-- tighter one
 record Has (p : ℕ) (fs : List Frame) (x : Outcome) (ts : List Symbol) : Type 0 where
   first : List Symbol
   last : List Symbol

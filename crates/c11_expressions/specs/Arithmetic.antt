@@ -54,7 +54,8 @@ abbrev pub converted : Bool → ℤ → ℤ
 converted true n = pos (bits_of n)
 converted false n = n
 
--- the result of an operation in a type: modulo 2 ^ 64 where unsigned (6.2.5p9), else it has to fit (6.5p5)
+-- the result of an operation in a type: modulo 2 ^ 64 where unsigned (6.2.5p9), else it has to fit
+-- (6.5p5)
 abbrev pub fitted : Bool → ℤ → Result ℤ Cause
 fitted true n = Ok (pos (bits_of n))
 fitted false n = if is_signed n then Ok n else Err IfOverflow

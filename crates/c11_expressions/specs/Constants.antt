@@ -1,4 +1,5 @@
--- The values of integer constants and of character constants of one character (C11 6.4.4.1, 6.4.4.4) in #if.
+-- The values of integer constants and of character constants of one character (C11 6.4.4.1,
+-- 6.4.4.4) in #if.
 use Rattle.std.specs.Prelude.{ℕ, ◌+◌, ◌-◌, ◌*◌, ◌^◌, ◌==◌, nat_le, nat_lt, ◌&&◌, ◌||◌, Bool, true, false, pos, List, [], ◌∷◌, length, codes, Option, Some, None, option_map, if◌then◌else◌}
 use Rattle.std.specs.Option.{option_and_then}
 use Rattle.c11_expressions.specs.Arithmetic.{Typed, typed}

@@ -19,7 +19,8 @@ pub record IsExpression (ts : List Spelled) (e : Expression) : Type 0 where
   pub each : map (λ t. symbol_of t.kind t.spelling) ts ≡ map Some symbols
   pub form : Phrase 0 symbols e
 
--- the value of the expression that they are, or the cause of its first fault; where they are none, that is the cause
+-- the value of the expression that they are, or the cause of its first fault; where they are none,
+-- that is the cause
 pub data Evaluates (ts : List Spelled) : Result Typed Cause → Type 0 where
   evaluated : (e : Expression) → IsExpression ts e → Evaluates ts (result_of (outcome e))
   refused : ((e : Expression) → IsExpression ts e → ⊥) → Evaluates ts (Err BadIf)

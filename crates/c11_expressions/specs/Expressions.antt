@@ -13,8 +13,8 @@ pub data Expression : Type 0 where
   binary : Binary → Expression → Expression → Expression
   conditional : Expression → Expression → Expression → Expression
 
--- An expression's type, which does not hang on its evaluation, and the number that evaluating it gives or the cause of
--- the first fault.
+-- An expression's type, which does not hang on its evaluation, and the number that evaluating it
+-- gives or the cause of the first fault.
 pub record Outcome : Type 0 where
   pub unsigned : Bool
   pub number : Result ℤ Cause

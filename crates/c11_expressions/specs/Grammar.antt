@@ -1,5 +1,5 @@
--- The grammar of the expressions of #if: that of 6.5.15 with constants for operands, without the comma and
--- assignment (6.6p3), casts, sizeof, ++ and --.
+-- The grammar of the expressions of #if: that of 6.5.15 with constants for operands, without the
+-- comma and assignment (6.6p3), casts, sizeof, ++ and --.
 use Rattle.std.specs.Prelude.{ℕ, suc, List, [], ◌∷◌, ◌++◌, Option, Some, None, ◌≡◌}
 use Rattle.c11_expressions.specs.Arithmetic.{Typed}
 use Rattle.c11_expressions.specs.declared.binary.Binary.{Binary}
@@ -43,7 +43,8 @@ as_unary (Infix binary.Add) = Some sign.Plus
 as_unary (Infix binary.Subtract) = Some sign.Minus
 as_unary _ = None
 
--- the symbols are an expression of this level: 0 conditional (6.5.15), then those of the operators, 11 unary (6.5.3), 12 primary (6.5.1)
+-- the symbols are an expression of this level: 0 conditional (6.5.15), then those of the operators,
+-- 11 unary (6.5.3), 12 primary (6.5.1)
 pub data Phrase : ℕ → List Symbol → Expression → Type 0 where
   number : (v : Typed) → Phrase 12 (operand v ∷ []) (constant v)
   parenthesized : (ts : List Symbol) (e : Expression) → Phrase 0 ts e → Phrase 12 (mark Open ∷ (ts ++ mark Close ∷ [])) e

@@ -1,4 +1,5 @@
--- The line of an #if or #elif (C11 6.10.1): `defined` is replaced, macros are expanded, and what is left is evaluated.
+-- The line of an #if or #elif (C11 6.10.1): `defined` is replaced, macros are expanded, and what is
+-- left is evaluated.
 use Rattle.std.specs.Prelude.{◌≡◌, ◌&&◌, not, Bool, true, false, List, [], ◌∷◌, map, codes, is_some, Result, Ok, Err, if◌then◌else◌}
 use Rattle.std.specs.List.{list_any}
 use Rattle.c11_expressions.specs.Arithmetic.{Typed, is_zero}
@@ -32,7 +33,8 @@ definedness macros t name = record {
 abbrev pub before : {P : Type 0} → Hidden P → Result (List (Hidden P)) Cause → Result (List (Hidden P)) Cause
 before t r = result_map (λ ts. t ∷ ts) r
 
--- the list with each `defined NAME` and each `defined ( NAME )` replaced; no other `defined` may stand there
+-- the list with each `defined NAME` and each `defined ( NAME )` replaced; no other `defined` may
+-- stand there
 module _ {P : Type 0} (macros : Macros) where
   abbrev mutual
     pub without_defined : List (Hidden P) → Result (List (Hidden P)) Cause
@@ -62,7 +64,8 @@ abbrev pub verdict : {P : Type 0} → P → Result Typed Cause → Result Bool (
 verdict hash (Ok v) = Ok (not (is_zero v.number))
 verdict hash (Err cause) = Err (failure cause hash)
 
--- what an expansion comes to: its own refusal, or one at the # of the line where `defined` is left, or the verdict
+-- what an expansion comes to: its own refusal, or one at the # of the line where `defined` is left,
+-- or the verdict
 pub data Comes {P : Type 0} (hash : P) : Result (List (Hidden P)) (Failure P) → Result Bool (Failure P) → Type 0 where
   unexpanded : (refusal : Failure P) → Comes hash (Err refusal) (Err refusal)
   left_over : (ts : List (Hidden P)) → list_any is_defined ts ≡ true → Comes hash (Ok ts) (Err (failure DefinedFromMacro hash))
