@@ -1,6 +1,7 @@
-ghost use Rattle.std.specs.Prelude.{◌≡◌, ◌<◌, ◌&&◌, ◌||◌, [], ◌∷◌, Bool, Some, length, slice_get, IfOk};
+ghost use Rattle.std.specs.Prelude.{◌≡◌, ◌<◌, ◌&&◌, ◌||◌, [], ◌∷◌, Bool, Some, length, slice_get, IfOk, OnErr};
 ghost use Rattle.std.specs.List.{list_any};
 ghost use Rattle.sc_base.specs.declared.id.Name as declared;
+ghost use Rattle.sc_base.specs.Interns.{Interns};
 ghost use Rattle.sc_model.specs.Growth.{Extends};
 ghost use Rattle.sc_subst.specs.Hides.{IsCanonical, set_at};
 ghost use Rattle.sc_subst.specs.Rising.{IsRising, has_name};
@@ -64,6 +65,8 @@ impl HideSets {
         ensures own { IfOk result (λ made. made.0 < length self.new) }
         ensures exact { IfOk result (λ made. (test : declared.Name → Bool)
             → list_any test (set_at self.new made.0) ≡ (list_any test (set_at self.old set.0) || test name)) }
+        ensures adds { IfOk result (λ made. Interns self.old self.new (set_at self.new made.0)) }
+        ensures err { OnErr result (self.new ≡ self.old) }
 
         // at every outcome
         ensures grows { Extends self.old self.new }
@@ -79,6 +82,8 @@ impl HideSets {
         ensures own { IfOk result (λ made. made.0 < length self.new) }
         ensures exact { IfOk result (λ made. (name : declared.Name)
             → has_name (set_at self.new made.0) name ≡ (has_name (set_at self.old one.0) name && has_name (set_at self.old two.0) name)) }
+        ensures adds { IfOk result (λ made. Interns self.old self.new (set_at self.new made.0)) }
+        ensures err { OnErr result (self.new ≡ self.old) }
 
         // at every outcome
         ensures grows { Extends self.old self.new }
@@ -95,6 +100,8 @@ impl HideSets {
         ensures own { IfOk result (λ made. made.0 < length self.new) }
         ensures exact { IfOk result (λ made. (test : declared.Name → Bool)
             → list_any test (set_at self.new made.0) ≡ (list_any test (set_at self.old one.0) || list_any test (set_at self.old two.0))) }
+        ensures adds { IfOk result (λ made. Interns self.old self.new (set_at self.new made.0)) }
+        ensures err { OnErr result (self.new ≡ self.old) }
 
         // at every outcome
         ensures grows { Extends self.old self.new }
@@ -109,6 +116,8 @@ impl HideSets {
         requires { IsRising set.items }
         ensures own { IfOk result (λ made. made.0 < length self.new) }
         ensures is { IfOk result (λ made. set_at self.new made.0 ≡ set.items) }
+        ensures adds { IfOk result (λ made. Interns self.old self.new (set_at self.new made.0)) }
+        ensures err { OnErr result (self.new ≡ self.old) }
 
         // at every outcome
         ensures grows { Extends self.old self.new }
