@@ -1,5 +1,5 @@
 -- Branches whose calls end in one way, put behind others.
-use Rattle.std.proofs.Common.{◌≡◌, ℕ, ◌+◌, ◌<◌, ◌≤◌, ◌&&◌, Bool, true, false, List, [], ◌∷◌, ◌++◌, All, length, map, take, drop, get_or, refl, ap, sym, subst, ◌∙◌, arith, if◌then◌else◌}
+use Rattle.std.proofs.Common.{◌≡◌, ℕ, ◌+◌, ◌<◌, ◌&&◌, Bool, true, false, List, [], ◌∷◌, ◌++◌, All, length, map, drop, get_or, refl, ap, sym, subst, ◌∙◌, arith, if◌then◌else◌}
 use Rattle.std.proofs.lemmas.Bool.{and_parts}
 use Rattle.std.proofs.lemmas.List.Elements.{All-head, All-tail, All-append, All-map, All-nil}
 use Rattle.sc_base.specs.declared.id.Cond.{Cond}
@@ -11,10 +11,9 @@ use Rattle.sc_hoist.specs.declared.branch.Ends.{Ends}
 use Rattle.sc_hoist.specs.declared.branch.Ends.TheVariants as ends
 use Rattle.sc_hoist.specs.declared.state.State.{State}
 use Rattle.sc_hoist.specs.declared.state.State.TheVariants.{Alone, Inside, Closed, Bare}
-use Rattle.sc_hoist.specs.declared.state.Test.{Test}
 use Rattle.sc_hoist.specs.declared.state.Test.TheVariants.{IsClosed, IsStill, IsNoCall}
-use Rattle.sc_hoist.specs.Branches.{lists_at, Refuses, HasLists}
-use Rattle.sc_hoist.specs.Calls.{call_end, call_end_at, call_places, ends_at, ends_of, spelled_at, with_ends}
+use Rattle.sc_hoist.specs.Branches.{lists_at, Refuses}
+use Rattle.sc_hoist.specs.Calls.{call_end_at, call_places, ends_at, ends_of, with_ends}
 use Rattle.sc_hoist.specs.Leaves.{Agree, AreMet}
 use Rattle.sc_hoist.specs.Places.{places_from}
 use Rattle.sc_hoist.specs.Reading.{AreEntries, end_in, in_states, passes, state_after, taken_from}

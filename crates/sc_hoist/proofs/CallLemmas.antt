@@ -1,5 +1,5 @@
 -- The end of a call, found by reading it.
-use Rattle.std.proofs.Common.{◌≡◌, ℕ, zero, suc, ◌+◌, ◌-◌, ◌==◌, ◌<◌, ◌≤◌, ◌&&◌, Bool, true, false, List, [], ◌∷◌, length, codes, map, take, refl, ap, sym, subst, ◌∙◌, arith, Option, Some, None, if◌then◌else◌}
+use Rattle.std.proofs.Common.{◌≡◌, ℕ, zero, suc, ◌+◌, ◌-◌, ◌==◌, Bool, true, false, List, [], ◌∷◌, length, codes, map, refl, ap, sym, ◌∙◌, arith, Option, Some, None, if◌then◌else◌}
 use Rattle.std.proofs.lemmas.Bool.{eqb-true}
 use Rattle.std.specs.Option.{option_map}
 use Rattle.c11_macros.specs.Call.{Call, Role, opening, closing, comma, other, role_of, call_of, call_step, onto, apart}
@@ -8,9 +8,8 @@ use Rattle.sc_base.specs.declared.id.Cond.{Cond}
 use Rattle.sc_base.specs.declared.token.Token.{Token}
 use Rattle.sc_base.specs.Seen.{text_at}
 use Rattle.sc_guarded.specs.Items.{items_at}
-use Rattle.sc_hoist.specs.Calls.{CallEnd, closed, still, bare, alone, closing_at, closing_step, opened_end, opened_length, call_end, call_length, ClosesAt, spelled_at}
-use Rattle.sc_hoist.specs.Places.{places_from}
-use Rattle.sc_hoist.specs.Reading.{role_in, step, takes, end_in, is_final, state_after, taken_from}
+use Rattle.sc_hoist.specs.Calls.{CallEnd, closed, bare, closing_at, closing_step, opened_end, opened_length, call_end, call_length, ClosesAt, spelled_at}
+use Rattle.sc_hoist.specs.Reading.{role_in, step, takes, end_in, is_final, state_after}
 use Rattle.sc_hoist.specs.declared.state.Role as declared
 use Rattle.sc_hoist.specs.declared.state.Role.TheVariants.{Opening, Closing, Other}
 use Rattle.sc_hoist.specs.declared.state.State.{State}

@@ -1,11 +1,10 @@
 -- Configurations with the same places have calls that end alike, and are in one branch.
-use Rattle.std.proofs.Common.{◌≡◌, ℕ, zero, suc, ◌+◌, ◌-◌, ◌==◌, ◌<◌, ◌≤◌, ◌&&◌, Bool, true, false, List, [], ◌∷◌, ◌++◌, length, take, drop, map, refl, ap, sym, subst, ◌∙◌, arith, if◌then◌else◌}
+use Rattle.std.proofs.Common.{◌≡◌, ℕ, zero, suc, ◌+◌, ◌-◌, ◌==◌, ◌≤◌, ◌&&◌, Bool, true, false, List, [], ◌∷◌, take, map, refl, ap, sym, ◌∙◌, arith, if◌then◌else◌}
 use Rattle.sc_base.specs.declared.id.Cond.{Cond}
 use Rattle.sc_base.specs.declared.token.Token.{Token}
 use Rattle.sc_base.specs.Seen.{text_at}
 use Rattle.sc_guarded.specs.Items.{items_at}
-use Rattle.sc_hoist.specs.declared.branch.Ends.{Ends}
-use Rattle.sc_hoist.specs.Calls.{CallEnd, closed, still, bare, alone, call_end, call_length, ends_of, spelled_at}
+use Rattle.sc_hoist.specs.Calls.{call_end, ends_of, spelled_at}
 use Rattle.sc_hoist.specs.Places.{places_from}
 use Rattle.sc_hoist.specs.Reading.{role_in, step, takes, end_in, state_after, taken_from}
 use Rattle.sc_hoist.specs.declared.state.Role as declared

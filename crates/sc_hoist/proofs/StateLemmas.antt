@@ -2,9 +2,9 @@
 use Rattle.std.proofs.Common.{◌≡◌, ℕ, zero, suc, ◌+◌, ◌-◌, ◌==◌, ◌<◌, ◌≤◌, ◌&&◌, ◌||◌, not, Bool, true, false, List, [], ◌∷◌, ◌++◌, All, length, take, drop, set, get_or, slice_get, Some, refl, ap, sym, subst, ◌∙◌, arith, if◌then◌else◌}
 use Rattle.std.proofs.lemmas.List.{take_more, drop_more}
 use Rattle.std.proofs.lemmas.Option.{slice_get_within, get_or_from_slice_get}
-use Rattle.std.proofs.lemmas.List.Elements.{All-nil, All-head, All-tail, All-push, All-set}
+use Rattle.std.proofs.lemmas.List.Elements.{All-nil, All-head, All-tail, All-push}
 use Rattle.sc_base.specs.declared.id.Cond.{Cond}
-use Rattle.sc_hoist.specs.Reading.{AreEntries, AreShallow, depth_of, in_states, end_in, is_final, role_in, state_after, step}
+use Rattle.sc_hoist.specs.Reading.{AreEntries, depth_of, in_states, end_in, is_final, role_in, state_after, step}
 use Rattle.sc_hoist.specs.declared.state.Role.{Role}
 use Rattle.sc_hoist.specs.declared.state.State.{State}
 use Rattle.sc_hoist.specs.declared.states.Entry.{Entry}

@@ -1,10 +1,10 @@
-use Rattle.std.proofs.Common.{◌≡◌, ℕ, ◌+◌, ◌<◌, ◌^◌, ◌∙◌, List, All, length, subst, ap, sym, arith}
+use Rattle.std.proofs.Common.{◌∙◌, List, All, subst, sym}
 use Rattle.std.proofs.lemmas.Result.{err_from_is_err_and}
 use Rattle.sc_base.specs.declared.id.Cond.{Cond}
 use Rattle.sc_hoist.specs.Places.{places_from}
-use Rattle.sc_hoist.specs.Reading.{AreEntries, in_states, passes}
+use Rattle.sc_hoist.specs.Reading.{in_states, passes}
 use Rattle.sc_hoist.proofs.CallBranchLemmas.{AreMet-Keeps, AreMet-more, Agree-more, Refuses-wider, ends_at-more, has_state, lists_at-more, part_is, places_seen}
-use Rattle.sc_model.proofs.SetLemmas.{Keeps-trans, IsConfig-Keeps, IsConfig-kept}
+use Rattle.sc_model.proofs.SetLemmas.{Keeps-trans, IsConfig-Keeps}
 use Rattle.sc_model.specs.Sets.{IsCond}
 use Rattle.sc_hoist.proofs.call_branches.add_branches.Goals as goal
 

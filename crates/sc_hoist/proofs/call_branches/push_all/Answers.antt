@@ -1,4 +1,4 @@
-use Rattle.std.proofs.Common.{◌≡◌, ℕ, ◌++◌, ◌∷◌, [], ◌∙◌, List, map, ap, sym, append-nil, append_assoc, length, refl, arith}
+use Rattle.std.proofs.Common.{◌≡◌, ◌++◌, ◌∷◌, [], ◌∙◌, List, map, ap, sym, append-nil, append_assoc, length, refl, arith}
 use Rattle.std.specs.Vec.Iter.{into_iter_items}
 use Rattle.sc_hoist.specs.declared.branch.Branch.{Branch}
 use Rattle.sc_hoist.specs.Calls.{with_ends}

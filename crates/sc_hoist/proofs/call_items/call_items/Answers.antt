@@ -1,12 +1,11 @@
-use Rattle.std.proofs.Common.{◌≡◌, ℕ, ◌+◌, ◌<◌, ◌≤◌, ◌∙◌, ◌&&◌, ◌∷◌, ◌++◌, [], Bool, List, All, drop, get_or, length, length-append, slice_get, Some, ap, subst, sym, arith, true}
+use Rattle.std.proofs.Common.{◌≡◌, ℕ, ◌+◌, ◌<◌, ◌≤◌, ◌∙◌, ◌&&◌, ◌∷◌, ◌++◌, [], List, All, drop, length, length-append, slice_get, Some, ap, subst, sym, arith, true}
 use Rattle.std.proofs.lemmas.List.{drop_all}
 use Rattle.std.proofs.lemmas.List.Elements.{All-push}
 use Rattle.std.proofs.lemmas.Option.{slice_get_within, get_or_from_slice_get}
 use Rattle.sc_base.specs.declared.id.Cond.{Cond}
 use Rattle.sc_base.specs.declared.token.Token.{Token}
 use Rattle.sc_hoist.specs.Places.{places_from}
-use Rattle.sc_hoist.specs.Reading.{in_states, is_final, passes, state_after, takes, taken_from}
-use Rattle.sc_hoist.specs.declared.state.State.{State}
+use Rattle.sc_hoist.specs.Reading.{in_states, is_final, state_after, takes, taken_from}
 use Rattle.sc_hoist.specs.declared.state.State.TheVariants.{Alone}
 use Rattle.sc_hoist.specs.declared.states.Entry.{Entry}
 use Rattle.sc_hoist.proofs.ItemLemmas.{IsRead-all, IsRead-final, IsRead-more, places_from-Keeps, places_more}

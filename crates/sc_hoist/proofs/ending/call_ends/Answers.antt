@@ -1,4 +1,4 @@
-use Rattle.std.proofs.Common.{◌≡◌, ◌+◌, List, drop, subst}
+use Rattle.std.proofs.Common.{◌+◌, List, drop, subst}
 use Rattle.sc_hoist.specs.Calls.{closed, still, bare, alone}
 use Rattle.sc_hoist.specs.declared.state.Test.TheVariants.{IsClosed, IsStill, IsBare, IsAlone}
 use Rattle.sc_hoist.specs.declared.states.Entry.{Entry}

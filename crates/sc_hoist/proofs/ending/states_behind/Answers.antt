@@ -1,13 +1,12 @@
-use Rattle.std.proofs.Common.{◌≡◌, ◌+◌, ◌<◌, ◌≤◌, ◌∙◌, ◌&&◌, ◌∷◌, [], Bool, List, All, drop, get_or, length, ap, subst, sym, arith, true}
+use Rattle.std.proofs.Common.{◌≡◌, ◌+◌, ◌<◌, ◌≤◌, ◌∙◌, ◌&&◌, List, All, drop, length, ap, subst, sym, arith, true}
 use Rattle.std.proofs.lemmas.List.{drop_all}
 use Rattle.std.proofs.lemmas.Option.{slice_get_within, get_or_from_slice_get}
 use Rattle.sc_base.specs.declared.id.Cond.{Cond}
 use Rattle.sc_base.specs.declared.token.Token.{Token}
 use Rattle.sc_hoist.specs.Reading.{in_states, is_final, state_after}
-use Rattle.sc_hoist.specs.declared.state.State.{State}
 use Rattle.sc_hoist.specs.declared.state.State.TheVariants.{Alone}
 use Rattle.sc_hoist.specs.declared.states.Entry.{Entry}
-use Rattle.sc_hoist.proofs.StateLemmas.{in_states-final, in_states-one, read_more}
+use Rattle.sc_hoist.proofs.StateLemmas.{in_states-final, read_more}
 use Rattle.sc_model.proofs.SetLemmas.{Keeps-trans, IsConfig-Keeps}
 use Rattle.sc_model.specs.Sets.{IsCond}
 use Rattle.sc_hoist.proofs.ending.states_behind.Goals as goal

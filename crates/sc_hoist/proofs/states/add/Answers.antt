@@ -1,4 +1,4 @@
-use Rattle.std.proofs.Common.{◌≡◌, ◌∙◌, ◌||◌, ◌&&◌, Bool, List, ap}
+use Rattle.std.proofs.Common.{◌∙◌, List, ap}
 use Rattle.sc_hoist.specs.declared.states.Entry.{Entry}
 use Rattle.sc_hoist.specs.Reading.{in_states}
 use Rattle.sc_hoist.proofs.StateLemmas.{in_states-push}

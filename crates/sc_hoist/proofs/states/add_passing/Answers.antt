@@ -1,4 +1,4 @@
-use Rattle.std.proofs.Common.{◌≡◌, ◌∙◌, ◌||◌, ◌&&◌, Bool, ap, sym}
+use Rattle.std.proofs.Common.{◌∙◌, ◌||◌, ◌&&◌, Bool, ap, sym}
 use Rattle.sc_model.proofs.SetLemmas.{Denotes-self, IsConfig-Keeps}
 use Rattle.sc_hoist.proofs.states.add_passing.Goals as goal
 

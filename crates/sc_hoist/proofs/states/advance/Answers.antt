@@ -1,6 +1,5 @@
-use Rattle.std.proofs.Common.{◌≡◌, ◌+◌, ◌≤◌, ◌∙◌, Bool, List, All, get_or, if◌then◌else◌, subst, sym, arith}
-use Rattle.sc_hoist.specs.Reading.{AreShallow, depth_of, in_states, step}
-use Rattle.sc_hoist.specs.declared.state.State.{State}
+use Rattle.std.proofs.Common.{◌≡◌, ◌≤◌, All, get_or, if◌then◌else◌, subst, sym, arith}
+use Rattle.sc_hoist.specs.Reading.{depth_of, in_states, step}
 use Rattle.sc_hoist.specs.declared.states.Entry.{Entry}
 use Rattle.sc_hoist.proofs.StateLemmas.{advanced, in_states-same, unmoved}
 use Rattle.sc_model.proofs.SetLemmas.{Keeps-trans, IsConfig-Keeps}

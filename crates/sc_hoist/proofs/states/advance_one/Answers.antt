@@ -1,4 +1,4 @@
-use Rattle.std.proofs.Common.{◌≡◌, ◌+◌, ◌≤◌, ◌∙◌, subst, sym, arith}
+use Rattle.std.proofs.Common.{◌+◌, ◌≤◌, subst, sym, arith}
 use Rattle.sc_hoist.specs.Reading.{depth_of}
 use Rattle.sc_hoist.specs.declared.state.State.{State}
 use Rattle.sc_hoist.proofs.StateLemmas.{depth_of-step}

@@ -1,4 +1,4 @@
-use Rattle.std.proofs.Common.{◌≡◌, ◌∙◌, ◌||◌, ◌&&◌, Bool, ap}
+use Rattle.std.proofs.Common.{◌∙◌, ◌||◌, ◌&&◌, Bool, ap}
 use Rattle.sc_hoist.specs.Reading.{in_states}
 use Rattle.sc_hoist.proofs.StateLemmas.{AreEntries-Keeps, both_parts, in_states-Keeps}
 use Rattle.sc_model.proofs.SetLemmas.{Keeps-trans, IsConfig-Keeps, Denotes-self, Denotes-Keeps}

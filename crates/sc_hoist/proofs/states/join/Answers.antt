@@ -1,4 +1,4 @@
-use Rattle.std.proofs.Common.{◌≡◌, ◌∙◌, ◌||◌, ◌&&◌, Bool, List, set, get_or, ap, sym, subst}
+use Rattle.std.proofs.Common.{◌≡◌, ◌∙◌, ◌||◌, ◌&&◌, Bool, get_or, ap, sym, subst}
 use Rattle.sc_hoist.specs.declared.states.Entry.{Entry}
 use Rattle.sc_hoist.specs.declared.state.State.{State}
 use Rattle.sc_hoist.specs.Reading.{in_states}

@@ -1,4 +1,4 @@
-use Rattle.std.proofs.Common.{◌≡◌, ◌∙◌, ◌||◌, ◌&&◌, Bool, get_or, take, ap, sym}
+use Rattle.std.proofs.Common.{◌∙◌, ◌||◌, ◌&&◌, Bool, get_or, take, ap, sym}
 use Rattle.sc_hoist.specs.declared.state.State.TheVariants.{Alone}
 use Rattle.sc_hoist.specs.declared.states.Entry.{Entry}
 use Rattle.sc_hoist.specs.Reading.{passes, in_states}
