@@ -96,7 +96,7 @@ fn set_first_space(tokens: &mut [Hidden], space: bool)
 }
 
 /// The tokens, which hide these names too.
-fn hide_all(
+pub fn hide_all(
     alloc: Global,
     sets: &mut HideSets,
     names: &Names,

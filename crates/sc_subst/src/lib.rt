@@ -15,7 +15,7 @@ mod slots;
 mod sorted;
 mod stop;
 
-pub use filling::fill;
+pub use filling::{fill, hide_all};
 pub use hidden::{Hidden, Hide};
 pub use hide_sets::HideSets;
 pub use lists::items_at;
