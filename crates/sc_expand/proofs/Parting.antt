@@ -1,5 +1,5 @@
 -- The tokens between the parentheses of a call, parted, are its arguments (C11 6.10.3p11).
-use Rattle.std.proofs.Common.{◌≡◌, ◌<◌, ◌≤◌, ℕ, zero, suc, ◌+◌, ◌-◌, List, [], ◌∷◌, ◌++◌, length, Option, Some, None, ap, sym, ◌∙◌, refl, subst, arith, map, Vec, Global}
+use Rattle.std.proofs.Common.{◌≡◌, ◌<◌, ℕ, zero, suc, ◌+◌, ◌-◌, List, [], ◌∷◌, ◌++◌, length, Option, Some, None, ap, sym, ◌∙◌, refl, arith, map, Vec, Global}
 use Rattle.std.proofs.lemmas.List.{length-append, append_assoc, append-nil, map-append}
 use Rattle.c11_macros.specs.Call.{Call, call_of, call_step, onto, apart, Role, opening, closing, comma, other, role_of, onto_argument}
 use Rattle.c11_macros.specs.Hidden.{Hidden}

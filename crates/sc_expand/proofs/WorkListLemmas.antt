@@ -1,5 +1,5 @@
 -- A list whose first items are restricted to a condition, one after the other.
-use Rattle.std.proofs.Common.{◌≡◌, ◌<◌, ◌≤◌, ℕ, ◌+◌, ◌&&◌, Bool, true, false, List, [], ◌∷◌, ◌++◌, All, map, take, drop, length, get_or, set, if◌then◌else◌, ap, sym, ◌∙◌, refl, subst, arith, add-zero}
+use Rattle.std.proofs.Common.{◌≡◌, ◌<◌, ℕ, ◌+◌, ◌&&◌, Bool, true, false, List, [], ◌∷◌, ◌++◌, All, map, take, drop, length, get_or, set, if◌then◌else◌, ap, sym, ◌∙◌, refl, subst, arith, add-zero}
 use Rattle.std.proofs.lemmas.List.{take_more_set, map-set, set-get_or, drop-set-lt, drop-drop, get_or-drop, length-map}
 use Rattle.std.proofs.lemmas.List.Elements.{All-take, All-set}
 use Rattle.sc_base.specs.declared.id.Cond.{Cond}

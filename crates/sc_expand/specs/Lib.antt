@@ -1,3 +1,10 @@
 pub mod Plain
 pub mod Arguments
 pub mod Parting
+pub mod Seen
+pub mod Turn
+pub mod Machine
+pub mod Filling
+pub mod Beginning
+pub mod Gather
+pub mod Taking

@@ -1,5 +1,10 @@
 //! The arguments of a call (C11 6.10.3p4, p10 to p12).
-ghost use Rattle.std.specs.Prelude.{◌≡◌, ℕ, zero, ◌+◌, ◌^◌, ◌<◌, ◌≤◌, ◌↔◌, ◌++◌, ◌∷◌, [], List, All, map, length, IsTrue, IfOk, OnOk};
+ghost use Rattle.std.specs.Prelude.{◌≡◌, ℕ, zero, ◌+◌, ◌^◌, ◌<◌, ◌≤◌, ◌↔◌, ◌++◌, ◌∷◌, [], Bool, List, All, map, length, IsTrue, IfOk, IfSome, OnOk};
+ghost use Rattle.std.specs.Option.{option_map};
+ghost use Rattle.c11_macros.specs.Call as call;
+ghost use Rattle.c11_macros.specs.Call.{arguments_for};
+ghost use Rattle.c11_macros.specs.Macros.{function_like};
+ghost use Rattle.sc_macro.specs.Seen.{seen_form};
 ghost use Rattle.sc_base.specs.declared.id.Name as declared_name;
 ghost use Rattle.sc_base.specs.declared.place.Place as declared_place;
 ghost use Rattle.c11_macros.specs.Hidden as hidden;
@@ -11,8 +16,73 @@ ghost use Rattle.sc_subst.specs.Seen.{IsHeldHidden, seen_hidden};
 
 use crate::role::{Role, role_of};
 use sc_base::{Names, OutOfMemory};
+use sc_macro::Form;
 use sc_subst::Hidden;
 use std::alloc::Global;
+
+/// The arguments of a call of a function-like macro, by the tokens between its parentheses: one for
+/// each parameter, that for `...` last. `None` where so many do not fit.
+pub fn arguments(
+    alloc: Global,
+    names: &Names,
+    between: &[Hidden],
+    form: &Form,
+) -> Result<Option<Vec<Vec<Hidden>>>, OutOfMemory>
+    requires { All (λ h. h.token.spelling.0 < length names.now) between.now }
+    ensures is { IfOk result (λ fit. (sets : List (List declared_name.Name)) (parameters : List (List ℕ)) (variadic : Bool) → seen_form names.now form.now ≡ function_like parameters variadic
+        → option_map (λ made. seen_arguments names.now sets (map (λ a. a.items) made.items)) fit ≡ arguments_for parameters variadic (model.parted (length parameters) 0 (seen_list names.now sets between.now))) }
+    ensures own { IfOk result (λ fit. (sets : List (List declared_name.Name)) → All (IsHeldHidden names.now sets) between.now
+        → IfSome fit (λ made. All (λ a. All (IsHeldHidden names.now sets) a.items) made.items)) }
+{
+    match form {
+        Form::Object => Ok(None),
+        Form::Function {
+            parameters,
+            variadic,
+        } => {
+            let parted = parted(alloc, names, between, parameters.len())?;
+            let fit = fitted(alloc, parted, parameters.len(), *variadic)?;
+            Ok(fit)
+        }
+    }
+}
+
+/// The arguments for so many parameters, where so many are given. None need be given for `...`.
+fn fitted(
+    alloc: Global,
+    given: Vec<Vec<Hidden>>,
+    parameters: usize,
+    variadic: bool,
+) -> Result<Option<Vec<Vec<Hidden>>>, OutOfMemory>
+    requires { parameters + 1 < 2 ^ 64 }
+    ensures is { IfOk result (λ fit. (names : List (List ℕ)) (sets : List (List declared_name.Name)) (texts : List (List ℕ)) → length texts ≡ parameters
+        → option_map (λ made. seen_arguments names sets (map (λ a. a.items) made.items)) fit ≡ arguments_for texts variadic (seen_arguments names sets (map (λ a. a.items) given.items))) }
+    ensures own { IfOk result (λ fit. (names : List (List ℕ)) (sets : List (List declared_name.Name)) → All (λ a. All (IsHeldHidden names sets) a.items) given.items
+        → IfSome fit (λ made. All (λ a. All (IsHeldHidden names sets) a.items) made.items)) }
+{
+    if parameters == 0 && !variadic && is_nothing(&given) {
+        return Ok(Some(Vec::new(alloc)));
+    }
+    if variadic && given.len() == parameters {
+        let mut all = given;
+        all.push(Vec::new(alloc))?;
+        return Ok(Some(all));
+    }
+    if given.len() == parameters || (variadic && given.len() == parameters + 1) {
+        return Ok(Some(given));
+    }
+    Ok(None)
+}
+
+/// Whether nothing stands between the parentheses.
+fn is_nothing(given: &[Vec<Hidden>]) -> bool
+    ensures { (names : List (List ℕ)) (sets : List (List declared_name.Name)) → result ≡ call.is_nothing (seen_arguments names sets (map (λ a. a.items) given.now)) }
+{
+    match given {
+        [only] => only.is_empty(),
+        _ => false,
+    }
+}
 
 /// Tokens between the parentheses of a call, as far as they are parted.
 #[derive(Drop)]

@@ -1,4 +1,4 @@
-use Rattle.std.proofs.Common.{◌≡◌, ◌∙◌, ◌+◌, ◌++◌, [], List, All, map, drop, length, sym, ap, subst, arith, Vec, Global}
+use Rattle.std.proofs.Common.{◌∙◌, ◌+◌, ◌++◌, All, map, drop, sym, ap, subst, arith, Vec, Global}
 use Rattle.std.proofs.lemmas.List.{drop_more, drop_all}
 use Rattle.std.proofs.lemmas.List.Elements.{All-nil}
 use Rattle.sc_expand.proofs.Parting.{begun-parted}

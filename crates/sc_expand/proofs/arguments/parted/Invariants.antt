@@ -1,4 +1,4 @@
-use Rattle.std.proofs.Common.{◌≡◌, ℕ, ◌≤◌, List, All, drop}
+use Rattle.std.proofs.Common.{◌≡◌, ◌≤◌, List, All, drop}
 use Rattle.sc_base.specs.declared.id.Name as declared_name
 use Rattle.sc_expand.specs.Arguments as model
 use Rattle.sc_expand.specs.Parting.{AreHeldIn, parted_with}

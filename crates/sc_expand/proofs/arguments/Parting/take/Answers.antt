@@ -1,7 +1,6 @@
-use Rattle.std.proofs.Common.{◌≡◌, ◌∙◌, ◌++◌, ◌∷◌, [], ◌-◌, ℕ, List, map, All, IsTrue, Vec, Global, sym, ap, subst, arith, refl}
+use Rattle.std.proofs.Common.{◌≡◌, ◌∙◌, ◌++◌, ◌∷◌, [], ◌-◌, map, All, IsTrue, Vec, Global, sym, ap, subst, refl}
 use Rattle.std.proofs.lemmas.List.Elements.{All-nil, All-push}
 use Rattle.c11_macros.specs.Call.{Role, role_of}
-use Rattle.sc_base.specs.Seen.{text_at}
 use Rattle.sc_expand.proofs.Parting.{parted_apart, parted_onto, seen_arguments-push, seen_list-push}
 use Rattle.sc_expand.specs.Arguments.{IsParting, begun_with, parted}
 use Rattle.sc_expand.specs.Arguments as model

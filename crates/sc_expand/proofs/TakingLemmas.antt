@@ -1,0 +1,283 @@
+-- Taking the first token of a list: what the parts of it come to together.
+use Rattle.std.proofs.Common.{◌≡◌, ℕ, ◌<◌, get_or, zero, suc, ◌==◌, ◌||◌, ◌&&◌, not, Bool, true, false, List, [], ◌∷◌, ◌++◌, All, map, length, refl, sym, ap, subst, ◌∙◌, arith, if◌then◌else◌}
+use Rattle.std.specs.List.{list_any}
+use Rattle.std.proofs.lemmas.Bool.{true≢false}
+use Rattle.c11_macros.specs.Hidden as model
+use Rattle.c11_macros.specs.Hidden.{Failure, HideSet, Provenance, failure_at, no_names, with_name}
+use Rattle.c11_macros.specs.Macros.{Form, Item}
+use Rattle.c11_macros.specs.Results.{result_and_then, result_map}
+use Rattle.c11_macros.specs.Substitution.{Part, Piece, Slot, all_glued, argument, argument_pieces, begins_paste, filled, filled_by, for_parameter, for_paste, glued, hiding, is_text_kind, joined, literal, neither, operator, parameter, parts, paste, pasted_as, piece, placemarker, slot_of, slots, spellings, substituted, token, tokens_of, with_space}
+use Rattle.c11_tokens.specs.Relex.{relexed}
+use Rattle.sc_base.specs.declared.place.Place.{Place}
+use Rattle.sc_model.specs.declared.cause.Cause.TheVariants.{BadStringize}
+use Rattle.sc_model.specs.declared.kind.Kind.{Kind}
+use Rattle.sc_model.specs.declared.kind.Kind.TheVariants.{Text}
+use Rattle.sc_subst.specs.declared.hidden.Hidden.{Hidden}
+use Rattle.std.specs.Prelude.{IfOk, Result, Ok, Err, Option, Some, None}
+use Rattle.std.proofs.lemmas.List.Elements.{All-nil, All-cons, All-head, All-tail}
+use Rattle.sc_base.specs.declared.id.Cond.{Cond}
+use Rattle.sc_expand.proofs.SeenLemmas.{AreHeld-nil}
+use Rattle.sc_expand.specs.Seen as seen
+use Rattle.sc_expand.specs.Seen.{IsHeldToken, Stores, seen_at}
+use Rattle.sc_guarded.proofs.ItemLemmas.{items_at-under}
+use Rattle.sc_model.specs.Sets.{IsCond}
+use Rattle.c11_macros.specs.Macros as macros
+use Rattle.c11_macros.specs.Macros.{list_at}
+use Rattle.sc_base.proofs.Growth.{Extends-refl}
+use Rattle.sc_macro.specs.declared.definition.Definition.{Definition}
+use Rattle.sc_macro.specs.declared.definition.Item as declared_item
+use Rattle.sc_macro.specs.Seen.{IsHeldDefinition, IsHeldItem, seen_form, seen_item, seen_replacement}
+use Rattle.sc_model.specs.Growth.{Extends}
+use Rattle.sc_model.specs.Token as Position
+use Rattle.sc_subst.proofs.Later.{hide_later, text_later}
+use Rattle.sc_subst.proofs.Turns.{items_later}
+use Rattle.sc_subst.specs.declared.hidden.Hide.{Hide}
+use Rattle.sc_table.proofs.Growth.{seen_definition-Extends}
+use Rattle.sc_subst.specs.Seen.{IsHeldHidden, IsHeldSet, hide_at, seen_hidden}
+use Rattle.sc_base.specs.declared.id.Name.{Name}
+use Rattle.sc_macro.proofs.Texts.{same_id}
+use Rattle.sc_macro.specs.Seen.{AreHeld, text_of}
+use Rattle.sc_model.proofs.ByteLemmas.{same_bytes-refl, same_bytes-true}
+use Rattle.sc_model.specs.Bytes.{same_bytes}
+use Rattle.sc_model.specs.Growth.{IsOneToOne}
+use Rattle.sc_subst.proofs.SeenLaws.{held_tail, held_union, same_sets}
+use Rattle.sc_subst.specs.Rising.{has_name}
+use Rattle.sc_subst.specs.Seen.{texts_in}
+use Rattle.std.proofs.lemmas.Bool.{eqb-true}
+use Rattle.sc_base.specs.Seen.{text_at}
+use Rattle.std.proofs.lemmas.Bool.Decides.{nat_tests}
+
+-- names are one to one, so a set has a name where it has its text
+pub same_test : (names : List (List ℕ)) (set : List Name) (name : Name) → IsOneToOne names → AreHeld names set → name.0 < length names
+    → has_name set name ≡ texts_in names set (text_of names name)
+same_test names [] name apart held own = refl
+same_test names (x ∷ xs) name apart held own =
+    let rest = same_test names xs name apart (held_tail names x xs held) own in
+    ap (λ b. b || has_name xs name) (by (x.0 == name.0) refl (same_bytes (text_of names x) (text_of names name)) refl) ∙ ap (λ b. same_bytes (text_of names x) (text_of names name) || b) rest
+  where
+    by : (a : Bool) → (x.0 == name.0) ≡ a → (b : Bool) → same_bytes (text_of names x) (text_of names name) ≡ b → a ≡ b
+    by true is true same = refl
+    by false is false same = refl
+    by true is false same = absurd (true≢false (sym (same_bytes-refl (text_of names name)) ∙ (ap (λ n. same_bytes (text_at names n) (text_of names name)) (sym (eqb-true x.0 name.0 is)) ∙ same)))
+    by false is true same =
+        let one : x.0 ≡ name.0 = same_id names x.0 name.0 apart (held 0 x (omega arith)) own (same_bytes-true _ _ same) in
+        absurd (grind (arith, nat_tests))
+
+pub or_true : (a b : Bool) → b ≡ true → (a || b) ≡ true
+or_true true b is = refl
+or_true false b is = is
+
+pub or_false : (b : Bool) → (b || false) ≡ b
+or_false true = refl
+or_false false = refl
+
+-- a set with one name more
+module _ (names : List (List ℕ)) (one made : List Name) (name : Name) (exact : (test : Name → Bool) → list_any test made ≡ (list_any test one || test name)) where
+  pub held_with : AreHeld names one → name.0 < length names → AreHeld names made
+  held_with held own = held_union names one (name ∷ []) made held (λ k d h. by k d h) (λ test. exact test ∙ ap (λ b. list_any test one || b) (sym (or_false (test name))))
+    where
+      by : (k : ℕ) (d : Name) → k < 1 → (get_or (name ∷ []) k d).0 < length names
+      by zero d h = own
+      by (suc k) d h = absurd (omega (arith, h))
+
+  pub seen_with : texts_in names made ≡ with_name (texts_in names one) (text_of names name)
+  seen_with = same_sets _ _ (λ text. exact (λ n. same_bytes (text_of names n) text))
+
+-- ---- where the tokens of a replacement stand
+
+abbrev Each : {A : Type 0} → (A → Type 0) → List A → Type 0
+Each Q [] = Unit {0}
+Each Q (x ∷ xs) = Q x × Each Q xs
+
+each-all : {A : Type 0} (Q : A → Type 0) (xs : List A) → Each Q xs → All Q xs
+each-all Q [] each = All-nil Q
+each-all Q (x ∷ xs) each = All-cons Q x xs each.0 (each-all Q xs each.1)
+
+each-append : {A : Type 0} (Q : A → Type 0) (xs ys : List A) → Each Q xs → Each Q ys → Each Q (xs ++ ys)
+each-append Q [] ys one two = two
+each-append Q (x ∷ xs) ys one two = (one.0, each-append Q xs ys one.1 two)
+
+each-before : {A E : Type 0} (Q : A → Type 0) (here : List A) (o : Result (List A) E) → Each Q here → IfOk o (Each Q) → IfOk (result_map (λ rest. here ++ rest) o) (Each Q)
+each-before Q here (Ok xs) one two = each-append Q here xs one two
+each-before Q here (Err e) one two = tt
+
+each-first : {A E : Type 0} (Q : A → Type 0) (x : A) (o : Result (List A) E) → Q x → IfOk o (Each Q) → IfOk (result_map (λ rest. x ∷ rest) o) (Each Q)
+each-first Q x (Ok xs) one two = (one, two)
+each-first Q x (Err e) one two = tt
+
+each-then : {A E : Type 0} (Q : A → Type 0) (r : Result A E) (o : Result (List A) E) → IfOk r Q → IfOk o (Each Q) → IfOk (result_and_then (λ x. result_map (λ rest. x ∷ rest) o) r) (Each Q)
+each-then Q (Ok x) o one two = each-first Q x o one two
+each-then Q (Err e) o one two = tt
+
+ok-then : {A B E : Type 0} (Q : A → Type 0) (R : B → Type 0) (f : A → Result B E) (r : Result A E) → IfOk r Q → ((a : A) → Q a → IfOk (f a) R) → IfOk (result_and_then f r) R
+ok-then Q R f (Ok a) one two = two a one
+ok-then Q R f (Err e) one two = tt
+
+module _ {P : Type 0} (provenance : Provenance P) (mark : (p : P) → provenance.mark p ≡ p) (head : model.Hidden P) where
+  abbrev Placed : model.Hidden P → Type 0
+  Placed t = t.place ≡ head.place
+
+  abbrev SlotPlaced : Slot P → Type 0
+  SlotPlaced (filled_by t) = Placed t
+  SlotPlaced _ = Unit {0}
+
+  abbrev PiecePlaced : Piece P → Type 0
+  PiecePlaced (piece t) = Placed t
+  PiecePlaced _ = Unit {0}
+
+  abbrev none : List (List (model.Hidden P))
+  none = []
+
+  literal-placed : (space : Bool) (spelling : List ℕ) (b : Bool)
+      → IfOk (result_map (λ t. filled_by t) (if b then Ok (record { kind = Text; spelling = spelling; space = space; place = head.place; hide = no_names }) else Err (failure_at BadStringize head))) SlotPlaced
+  literal-placed space spelling true = refl
+  literal-placed space spelling false = tt
+
+  slot-placed : (p : Part) → IfOk (slot_of head [] p) SlotPlaced
+  slot-placed (token item) = refl
+  slot-placed (literal n space) = literal-placed space (34 ∷ spellings (argument none n) ++ 34 ∷ []) (is_text_kind (relexed (34 ∷ spellings (argument none n) ++ 34 ∷ [])))
+  slot-placed (parameter n space) = tt
+  slot-placed paste = tt
+
+  slots-placed : (ps : List Part) → IfOk (slots head [] ps) (Each SlotPlaced)
+  slots-placed [] = tt
+  slots-placed (p ∷ ps) = each-then SlotPlaced (slot_of head [] p) (slots head [] ps) (slot-placed p) (slots-placed ps)
+
+  no-pieces : (beside : Bool) (n : ℕ) (space : Bool) → IfOk (argument_pieces beside [] [] n space) (Each PiecePlaced)
+  no-pieces true zero space = (tt, tt)
+  no-pieces true (suc n) space = (tt, tt)
+  no-pieces false zero space = tt
+  no-pieces false (suc n) space = tt
+
+  filled-placed : (behind : Bool) (ss : List (Slot P)) → Each SlotPlaced ss → IfOk (filled [] [] behind ss) (Each PiecePlaced)
+  filled-placed behind [] placed = tt
+  filled-placed behind (filled_by t ∷ ss) placed = each-first PiecePlaced (piece t) (filled [] [] false ss) placed.0 (filled-placed false ss placed.1)
+  filled-placed behind (for_paste ∷ ss) placed = each-first PiecePlaced operator (filled [] [] true ss) tt (filled-placed true ss placed.1)
+  filled-placed behind (for_parameter n space ∷ ss) placed =
+      ok-then (Each PiecePlaced) (Each PiecePlaced) (λ here. result_map (λ rest. here ++ rest) (filled [] [] false ss)) (argument_pieces (behind || begins_paste ss) [] [] n space)
+      (no-pieces (behind || begins_paste ss) n space) (λ here one. each-before PiecePlaced here (filled [] [] false ss) one (filled-placed false ss placed.1))
+
+  joined-placed : (left right : Piece P) → PiecePlaced left → PiecePlaced right → IfOk (joined head left right) PiecePlaced
+  joined-placed (piece l) (piece r) one two = by (relexed (l.spelling ++ r.spelling))
+    where
+      by : (o : Option Kind) → IfOk (pasted_as head l r o) PiecePlaced
+      by None = tt
+      by (Some kind) = one
+  joined-placed (piece l) operator one two = one
+  joined-placed (piece l) placemarker one two = one
+  joined-placed operator right one two = two
+  joined-placed placemarker right one two = two
+
+  glued-placed : (left : Piece P) (ps : List (Piece P)) → PiecePlaced left → Each PiecePlaced ps → IfOk (glued head left ps) (Each PiecePlaced)
+  glued-placed left [] one rest = (one, tt)
+  glued-placed left (operator ∷ []) one rest = (one, tt)
+  glued-placed left (operator ∷ (right ∷ ps)) one rest =
+      ok-then PiecePlaced (Each PiecePlaced) (λ p. glued head p ps) (joined head left right) (joined-placed left right one rest.1.0) (λ p placed. glued-placed p ps placed rest.1.1)
+  glued-placed left (piece t ∷ ps) one rest = each-first PiecePlaced left (glued head (piece t) ps) one (glued-placed (piece t) ps rest.0 rest.1)
+  glued-placed left (placemarker ∷ ps) one rest = each-first PiecePlaced left (glued head placemarker ps) one (glued-placed placemarker ps tt rest.1)
+
+  all-placed : (ps : List (Piece P)) → Each PiecePlaced ps → IfOk (all_glued head ps) (Each PiecePlaced)
+  all-placed [] rest = tt
+  all-placed (p ∷ ps) rest = glued-placed p ps rest.0 rest.1
+
+  tokens-placed : (ps : List (Piece P)) → Each PiecePlaced ps → Each Placed (tokens_of ps)
+  tokens-placed [] rest = tt
+  tokens-placed (piece t ∷ ps) rest = (rest.0, tokens-placed ps rest.1)
+  tokens-placed (operator ∷ ps) rest = tokens-placed ps rest.1
+  tokens-placed (placemarker ∷ ps) rest = tokens-placed ps rest.1
+
+  hidden-placed : (names : HideSet) (ts : List (model.Hidden P)) → Each Placed ts → Each Placed (hiding provenance names ts)
+  hidden-placed names [] rest = tt
+  hidden-placed names (t ∷ ts) rest = (mark t.place ∙ rest.0, hidden-placed names ts rest.1)
+
+  spaced-placed : (space : Bool) (ts : List (model.Hidden P)) → Each Placed ts → Each Placed (with_space space ts)
+  spaced-placed space [] rest = tt
+  spaced-placed space (t ∷ ts) rest = rest
+
+  made-placed : (names : HideSet) (r : Result (List (Piece P)) (Failure P)) → IfOk r (Each PiecePlaced) → IfOk (result_map (λ pieces. hiding provenance names (with_space head.space (tokens_of pieces))) r) (Each Placed)
+  made-placed names (Ok ps) rest = hidden-placed names (with_space head.space (tokens_of ps)) (spaced-placed head.space (tokens_of ps) (tokens-placed ps rest))
+  made-placed names (Err e) rest = tt
+
+  -- without arguments all tokens stand where the macro's name does
+  placed-alone : (form : Form) (items : List Item) (names : HideSet) → IfOk (substituted provenance form items head [] [] names) (Each Placed)
+  placed-alone form items names = made-placed names _ (ok-then (Each PiecePlaced) (Each PiecePlaced) (all_glued head) (result_and_then (filled [] [] false) (slots head [] (parts form neither items)))
+      (ok-then (Each SlotPlaced) (Each PiecePlaced) (filled [] [] false) (slots head [] (parts form neither items)) (slots-placed (parts form neither items)) (λ ss placed. filled-placed false ss placed)) (λ ps placed. all-placed ps placed))
+
+-- the tokens that were made stand where the macro's name does
+pub placed-made : (see : Hidden → model.Hidden Place) (place : Place) → ((h : Hidden) → (see h).place ≡ h.token.place) → (r : Result (List (model.Hidden Place)) (Failure Place)) (made : List Hidden)
+    → IfOk r (Each (λ t. t.place ≡ place)) → r ≡ Ok (map see made) → All (λ h. h.token.place ≡ place) made
+placed-made see place is r made placed same = each-all (λ h. h.token.place ≡ place) made (back made (subst (λ o. IfOk o (Each (λ t. t.place ≡ place))) same placed))
+  where
+    back : (xs : List Hidden) → Each (λ t. t.place ≡ place) (map see xs) → Each (λ h. h.token.place ≡ place) xs
+    back [] each = tt
+    back (x ∷ xs) each = (sym (is x) ∙ each.0, back xs each.1)
+
+-- the same question of tables that grew
+pub same-result : {P : Type 0} (provenance : Provenance P) (head : model.Hidden P) {f g : Form} {is js : List Item} {m n : HideSet} (r : Result (List (model.Hidden P)) (Failure P))
+    → f ≡ g → is ≡ js → m ≡ n → substituted provenance f is head [] [] m ≡ r → substituted provenance g js head [] [] n ≡ r
+same-result provenance head r f i h given = sym (λ k. substituted provenance (f k) (i k) head [] [] (h k)) ∙ given
+
+-- ---- lists of tokens
+
+pub AreHeld-under : (st : Stores) (files : ℕ) (cond : Cond) (list : List Hidden) → IsCond st.sets cond.0 → All (IsHeldHidden st.names st.hides) list → All (λ h. h.token.place.file.0 < files) list
+    → seen.AreHeld st files (map (λ t. (cond, t)) list)
+AreHeld-under st files cond [] own held filed = AreHeld-nil st files
+AreHeld-under st files cond (x ∷ xs) own held filed =
+    let F : Hidden → Type 0 = λ h. h.token.place.file.0 < files in
+    let H : Hidden → Type 0 = IsHeldHidden st.names st.hides in
+    let rest = AreHeld-under st files cond xs own (All-tail H x xs held) (All-tail F x xs filed) in
+    record {
+      own = All-cons (λ (item : Cond × Hidden). IsCond st.sets item.0.0) (cond, x) (map (λ t. (cond, t)) xs) own rest.own;
+      held = All-cons (λ (item : Cond × Hidden). IsHeldToken st files item.1) (cond, x) (map (λ t. (cond, t)) xs) (record { held = All-head H x xs held; file = All-head F x xs filed }) rest.held;
+    }
+
+pub seen-under : (st : Stores) (cond : Cond) (list : List Hidden) (c : List ℕ) (b : Bool) → st.sets.has cond.0 c ≡ b
+    → seen_at st (map (λ t. (cond, t)) list) c ≡ (if b then map (seen_hidden st.names st.hides) list else [])
+seen-under st cond list c b is = ap (map (seen_hidden st.names st.hides)) (items_at-under st.sets cond list c) ∙ by (st.sets.has cond.0 c) b is
+  where
+    by : (a b : Bool) → a ≡ b → map (seen_hidden st.names st.hides) (if a then list else []) ≡ (if b then map (seen_hidden st.names st.hides) list else [])
+    by true true is = refl
+    by false false is = refl
+    by true false is = absurd (true≢false is)
+    by false true is = absurd (true≢false (sym is))
+
+pub file-placed : (place : Place) (files : ℕ) (list : List Hidden) → place.file.0 < files → All (λ h. h.token.place ≡ place) list → All (λ h. h.token.place.file.0 < files) list
+file-placed place files list own placed = λ k d h. subst (λ p. p.file.0 < files) (sym (placed k d h)) own
+
+pub AreHeld-single : (st : Stores) (files : ℕ) (cond : Cond) (t : Hidden) → IsCond st.sets cond.0 → IsHeldToken st files t → seen.AreHeld st files ((cond, t) ∷ [])
+AreHeld-single st files cond t own held = record {
+  own = All-cons (λ (item : Cond × Hidden). IsCond st.sets item.0.0) (cond, t) [] own (All-nil (λ (item : Cond × Hidden). IsCond st.sets item.0.0));
+  held = All-cons (λ (item : Cond × Hidden). IsHeldToken st files item.1) (cond, t) [] held (All-nil (λ (item : Cond × Hidden). IsHeldToken st files item.1));
+}
+
+pub placed-result : (provenance : Provenance Place) → ((p : Place) → provenance.mark p ≡ p) → (head : model.Hidden Place) (see : Hidden → model.Hidden Place) → ((h : Hidden) → (see h).place ≡ h.token.place)
+    → (form : Form) (items : List Item) (names : HideSet) (made : List Hidden) → substituted provenance form items head [] [] names ≡ Ok (map see made) → All (λ h. h.token.place ≡ head.place) made
+placed-result provenance mark head see is form items names made same =
+    placed-made see head.place is (substituted provenance form items head [] [] names) made (placed-alone provenance mark head form items names) same
+
+-- ---- what a replacement is made of, as the tables grow
+
+pub grown-form : {names later : List (List ℕ)} (d : Definition) → IsHeldDefinition names d → Extends names later → seen_form later d.form ≡ seen_form names d.form
+grown-form d held e = ap (λ (d : macros.Definition). d.form) (seen_definition-Extends e d held)
+
+pub grown-list : {names mid later : List (List ℕ)} (d : Definition) (items : List declared_item.Item) (place : Position.Place) → IsHeldDefinition names d → All (IsHeldItem mid) items → Extends names mid → Extends mid later
+    → map (seen_item mid) items ≡ list_at (seen_replacement mid d.replacement) place → map (seen_item later) items ≡ list_at (seen_replacement names d.replacement) place
+grown-list d items place held own e f is = items_later items own f ∙ (is ∙ ap (λ (d : macros.Definition). list_at d.replacement place) (seen_definition-Extends e d held))
+
+pub grown-hide : {names mid later : List (List ℕ)} {sets mid_sets later_sets : List (List Name)} (head : Hidden) (hide : Hide) → IsHeldHidden names sets head → Extends names mid → Extends mid later → Extends mid_sets later_sets
+    → IsHeldSet mid mid_sets hide.0 → hide_at mid mid_sets hide.0 ≡ with_name (hide_at mid sets head.hide.0) (text_of mid head.token.spelling)
+    → hide_at later later_sets hide.0 ≡ with_name (hide_at names sets head.hide.0) (text_of names head.token.spelling)
+grown-hide {names} {mid} {later} {sets} {mid_sets} {later_sets} head hide held e f g own is =
+    let one = hide_later head.hide.0 held.hide e (Extends-refl sets) in
+    let text = text_later head.token.spelling held.token.spelling e in
+    hide_later hide.0 own f g ∙ (is ∙ λ i. with_name (one i) (text i))
+
+pub gone : (a b : Bool) → b ≡ true → (a && not b) ≡ false
+gone true true is = refl
+gone false true is = refl
+gone a false is = absurd (true≢false (sym is))
+
+pub stays-there : (a b : Bool) → b ≡ false → (a && not b) ≡ a
+stays-there true false is = refl
+stays-there false false is = refl
+stays-there a true is = absurd (true≢false is)

@@ -1,0 +1,119 @@
+-- What taking a name comes to, by what its parts did.
+use Rattle.std.proofs.Common.{◌≡◌, ◌∙◌, ◌∷◌, ◌++◌, ℕ, Bool, true, false, List, [], All, Some, Result, Ok, Err, ap, refl, sym, subst, length, map, append-nil, ◌≤◌, arith, if◌then◌else◌}
+use Rattle.std.specs.Prelude.{OnOk}
+use Rattle.std.proofs.lemmas.List.Elements.{All-head}
+use Rattle.c11_macros.specs.Defines.{is_function_like}
+use Rattle.c11_macros.specs.Expansion.{is_looked_up, object_result}
+use Rattle.c11_macros.specs.Hidden.{Hidden, Provenance}
+use Rattle.c11_macros.specs.Macros.{Definition, Form, Macros, function_like, object_like}
+use Rattle.sc_base.specs.declared.id.Cond.{Cond}
+use Rattle.sc_base.specs.declared.place.Place.{Place}
+use Rattle.sc_expand.proofs.PlainCases.{case-object}
+use Rattle.sc_expand.specs.Gather as gathers
+use Rattle.sc_expand.specs.Gather.{Gathers}
+use Rattle.sc_expand.specs.Plain.{Fails, Moves, State, Waiting, bad_object, gather, gathered, object, scanning, stay}
+use Rattle.sc_expand.specs.Seen.{Stores, View, seen_at, state_by, state_of}
+use Rattle.sc_guarded.specs.Items.{items_at}
+use Rattle.sc_subst.specs.Seen.{seen_hidden}
+use Rattle.sc_expand.specs.Taking as taking
+use Rattle.sc_expand.specs.Taking.{Comes, Replaces, Step, has_first}
+use Rattle.sc_expand.specs.Turn.{At, Turn, failed, moved}
+use Rattle.sc_model.specs.Sets.{Sets, IsCond, IsConfig, Keeps}
+use Rattle.sc_subst.specs.declared.hidden.Hidden as declared
+
+pub on-ok : {A E P Q : Type 0} (r : Result A E) → (P → Q) → OnOk r P → OnOk r Q
+on-ok (Ok a) f h = f h
+on-ok (Err e) f h = tt
+
+pub both-on-ok : {A E P Q R : Type 0} (r : Result A E) → (P → Q → R) → OnOk r P → OnOk r Q → OnOk r R
+both-on-ok (Ok a) f h k = f h k
+both-on-ok (Err e) f h k = tt
+
+pub has_first-Keeps : {old new : Sets} → Keeps old new → (list : List (Cond × declared.Hidden)) → All (λ (item : Cond × declared.Hidden). IsCond old item.0.0) list → (c : List ℕ) → IsConfig old.arities c → has_first new list c ≡ has_first old list c
+has_first-Keeps keeps [] own c listed = refl
+has_first-Keeps {old} {new} keeps (x ∷ xs) own c listed = keeps.at x.0.0 c (All-head (λ (item : Cond × declared.Hidden). IsCond old item.0.0) x xs own) listed
+
+pub same-step : {a b : At} {f g s t : Bool} {m n : List (Hidden Place)} → a ≡ b → f ≡ g → s ≡ t → m ≡ n
+    → (let one : Step = record { at = a; first = f; stays = s; made = m } in one) ≡ record { at = b; first = g; stays = t; made = n }
+same-step p q r u = λ i. record { at = p i; first = q i; stays = r i; made = u i }
+
+state-scanning : (v : View) (ws : List (Hidden Place)) → v.work ≡ ws → v.calls ≡ [] → scanning v.out ws ≡ state_of v
+state-scanning v ws work calls = sym (ap (λ l. state_by v.out l v.calls) work ∙ ap (state_by v.out ws) calls)
+
+object-form : (f : Form) → is_function_like f ≡ false → f ≡ object_like
+object-form object_like is = refl
+object-form (function_like ps variadic) is = absurd (cc)
+
+module _ (provenance : Provenance Place) (macros : Macros) (t : Hidden Place) (rest : List (Hidden Place)) where
+  pub object-comes : (d : Definition) (a b : At) (before after : List (Hidden Place)) (first stays : Bool) → is_looked_up t ≡ true → macros t.spelling ≡ Some d → is_function_like d.form ≡ false
+      → a.view.work ≡ t ∷ rest → a.view.calls ≡ [] → before ≡ [] → first ≡ true → stays ≡ false → Replaces (object_result provenance d t) a b before after
+      → Comes provenance macros t rest a (record { at = b; first = first; stays = stays; made = after })
+  object-comes d a b before after first stays looked is formed work calls none f s (taking.put_in body ok same made) =
+      taking.put d body (case-object macros t d looked is rest (object-form d.form formed)) ok (same-step same f s (made ∙ ap (λ l. l ++ body) none))
+  object-comes d a b before after first stays looked is formed work calls none f s (taking.refused failure err live failures) =
+      taking.failed failure (subst (λ s. Fails provenance macros s failure) (state-scanning a.view (t ∷ rest) work calls)
+      (bad_object a.view.out rest t d failure (case-object macros t d looked is rest (object-form d.form formed)) err)) live failures
+
+  pub called-comes : (a b now : At) (uncalled first stays : Bool) (made : List (Hidden Place)) → now ≡ b → a.live ≡ true → (b.live ≡ true → first ≡ uncalled) → stays ≡ uncalled → made ≡ []
+      → Gathers provenance macros t rest a b uncalled → Comes provenance macros t rest a (record { at = now; first = first; stays = stays; made = made })
+  called-comes a b now uncalled first stays made is live f s m (gathers.uncalled case same) =
+      taking.kept case (same-step (is ∙ same) (f (ap (λ (x : At). x.live) same ∙ live)) s m)
+  called-comes a b now uncalled first stays made is live f s m (gathers.taken_out d arguments close after template case stands same) =
+      taking.taken_out d arguments close after template case stands (same-step (is ∙ same) (f (ap (λ (x : At). x.live) same ∙ live)) s m)
+  called-comes a b now uncalled first stays made is live f s m (gathers.failed failure fails dead failures) =
+      taking.failed failure fails (ap (λ (x : At). x.live) is ∙ dead) (ap (λ (x : At). x.failures) is ∙ failures)
+
+-- ---- the end of a turn
+
+-- the name is no longer first: it is put out where it stays, and what replaces it is before what was left
+pub record Ends (t x : Hidden Place) (left : List (Hidden Place)) (s : Step) (b : At) : Type 0 where
+  pub live : b.live ≡ s.at.live
+  pub failures : b.failures ≡ s.at.failures
+  pub out : b.view.out ≡ s.at.view.out ++ (if s.stays then t ∷ [] else [])
+  pub calls : b.view.calls ≡ s.at.view.calls
+  pub work : b.view.work ≡ s.made ++ left
+  pub first : s.at.view.work ≡ (if s.first then x ∷ left else left)
+
+state-is : (v : View) (out ws : List (Hidden Place)) (calls : List (Waiting Place)) → v.out ≡ out → v.work ≡ ws → v.calls ≡ calls → state_by out ws calls ≡ state_of v
+state-is v out ws calls o w c = sym (ap (λ l. state_by l v.work v.calls) o ∙ (ap (λ l. state_by out l v.calls) w ∙ ap (state_by out ws) c))
+
+module _ (provenance : Provenance Place) (macros : Macros) (t x : Hidden Place) (rest left : List (Hidden Place)) (a b : At) (live : a.live ≡ true) (work : a.view.work ≡ t ∷ rest) (calls : a.view.calls ≡ []) where
+  same-left : a.view.work ≡ x ∷ left → left ≡ rest
+  same-left is = let both : x ∷ left ≡ t ∷ rest = sym is ∙ work in cc
+
+  few : (l : List (Waiting Place)) (m : List (Waiting Place)) → l ≡ m → length m ≤ 1 → length l ≤ 1
+  few l m is h = subst (λ l. length l ≤ 1) (sym is) h
+
+  begins : (s : State Place) → Moves provenance macros (scanning a.view.out (t ∷ rest)) s → Moves provenance macros (state_of a.view) s
+  begins s m = subst (λ u. Moves provenance macros u s) (state-scanning a.view (t ∷ rest) work calls) m
+
+  pub comes-turn : (s : Step) → Comes provenance macros t rest a s → Ends t x left s b → Turn provenance macros a b true
+  comes-turn s (taking.kept case same) ends =
+      let e = subst (λ s. Ends t x left s b) same ends in
+      moved live (e.live ∙ live) e.failures
+      (begins (state_of b.view) (subst (λ u. Moves provenance macros (scanning a.view.out (t ∷ rest)) u)
+      (state-is b.view (a.view.out ++ t ∷ []) rest [] e.out (e.work ∙ same-left e.first) (e.calls ∙ calls)) (stay a.view.out rest t case)))
+      (few b.view.calls [] (e.calls ∙ calls) (omega arith))
+  comes-turn s (taking.put d body case ok same) ends =
+      let e = subst (λ s. Ends t x left s b) same ends in
+      moved live (e.live ∙ live) e.failures
+      (begins (state_of b.view) (subst (λ u. Moves provenance macros (scanning a.view.out (t ∷ rest)) u)
+      (state-is b.view a.view.out (body ++ rest) [] (e.out ∙ append-nil a.view.out) (e.work ∙ ap (λ l. body ++ l) (same-left e.first)) (e.calls ∙ calls)) (object a.view.out rest body t d case ok)))
+      (few b.view.calls [] (e.calls ∙ calls) (omega arith))
+  comes-turn s (taking.taken_out d arguments close after template case stands same) ends =
+      let e = subst (λ s. Ends t x left s b) same ends in
+      let w = gathered provenance d t arguments close template in
+      moved live (e.live ∙ live) e.failures
+      (begins (state_of b.view) (subst (λ u. Moves provenance macros (scanning a.view.out (t ∷ rest)) u)
+      (state-is b.view a.view.out after (w ∷ []) (e.out ∙ append-nil a.view.out) (e.work ∙ sym e.first) e.calls) (gather a.view.out rest after t close d arguments template case stands)))
+      (few b.view.calls (w ∷ []) e.calls (omega arith))
+  comes-turn s (taking.failed failure fails dead failures) ends = failed failure live (ends.live ∙ dead) (ends.failures ∙ failures) fails
+
+-- the first token of a list, and those behind it
+pub seen-first : (st : Stores) (first : Cond × declared.Hidden) (list : List (Cond × declared.Hidden)) (c : List ℕ)
+    → seen_at st (first ∷ list) c ≡ (if st.sets.has first.0.0 c then seen_hidden st.names st.hides first.1 ∷ seen_at st list c else seen_at st list c)
+seen-first st first list c = by (st.sets.has first.0.0 c)
+  where
+    by : (b : Bool) → map (seen_hidden st.names st.hides) (if b then first.1 ∷ items_at st.sets list c else items_at st.sets list c) ≡ (if b then seen_hidden st.names st.hides first.1 ∷ seen_at st list c else seen_at st list c)
+    by true = refl
+    by false = refl

@@ -1,0 +1,60 @@
+use Rattle.std.proofs.Common.{◌≡◌, ◌++◌, All, Result, Ok, Err, OnOk, map, refl, sym, ap, subst, ◌∙◌}
+use Rattle.sc_base.proofs.Growth.{Extends-refl}
+use Rattle.sc_expand.proofs.MachineReplaces.{refused-turn, replaced-turn}
+use Rattle.sc_expand.proofs.SeenLemmas.{AreHeld-append, IsHeldExpansion-Grows}
+use Rattle.sc_expand.specs.Seen.{AreHeld, Grows, IsHeldPartIn, IsHeldTemplate, seen_template, stores}
+use Rattle.sc_subst.specs.Parts.{seen_part}
+use Rattle.sc_expand.proofs.expansion.Expansion.replace.Goals as goal
+
+on-ok : {T E A B : Type 0} (r : Result T E) → OnOk r A → (A → B) → OnOk r B
+on-ok (Ok x) a f = f a
+on-ok (Err e) a f = tt
+
+on-both : {T E A B C : Type 0} (r : Result T E) → OnOk r A → OnOk r B → (A → B → C) → OnOk r C
+on-both (Ok x) a b f = f a b
+on-both (Err e) a b f = tt
+
+pub returns-in-Parts-clause-held : goal.returns-in-Parts-clause-held
+returns-in-Parts-clause-held g c = λ files held held_call.
+    let old = stores (g.C.Conditions.sets c.args.conds.now) c.args.names.now c.args.self.now.sets in
+    let new = stores (g.C.Conditions.sets c.fill.new.conds) c.args.names.now c.fill.new.sets in
+    let grows : Grows old new = record { sets = c.in_ok-made-in-Parts.ensures.keeps; names = Extends-refl c.args.names.now; hides = c.in_ok-made-in-Parts.ensures.sets } in
+    let later = IsHeldExpansion-Grows grows c.args.self.now held in
+    let parts : All (IsHeldPartIn old files) c.deref.result.now = subst (All (IsHeldPartIn old files)) (sym c.deref.ensures.value) (subst (IsHeldTemplate old files) c.in-Parts.is held_call.template) in
+    let made = c.in_ok-made-in-Parts.ensures.held files parts held_call in
+    let work : c.put_first.new.self ≡ c.in_ok-made-in-Parts.made.items ++ c.args.self.now.top.work = c.in_ok-put_first-in-Parts.ensures ∙ ap (λ l. l ++ c.args.self.now.top.work) c.deref-in-Parts.ensures.value in
+    record {
+      refusals = later.refusals;
+      top = record { work = subst (AreHeld new files) (sym work) (AreHeld-append c.in_ok-made-in-Parts.made.items c.args.self.now.top.work made later.top.work); out = later.top.out; calls = later.top.calls };
+      below = later.below;
+    }
+
+pub returns-in-Parts-clause-turns : goal.returns-in-Parts-clause-turns
+returns-in-Parts-clause-turns g c = λ table macros config listed.
+    let old = stores (g.C.Conditions.sets c.args.conds.now) c.args.names.now c.args.self.now.sets in
+    let new = stores (g.C.Conditions.sets c.fill.new.conds) c.args.names.now c.fill.new.sets in
+    let grows : Grows old new = record { sets = c.in_ok-made-in-Parts.ensures.keeps; names = Extends-refl c.args.names.now; hides = c.in_ok-made-in-Parts.ensures.sets } in
+    let work : c.put_first.new.self ≡ c.in_ok-made-in-Parts.made.items ++ c.args.self.now.top.work = c.in_ok-put_first-in-Parts.ensures ∙ ap (λ l. l ++ c.args.self.now.top.work) c.deref-in-Parts.ensures.value in
+    replaced-turn grows c.requires.held.0 c.args.self.now (record c.args.self.now { sets = c.fill.new.sets; top = record c.args.self.now.top { work = c.put_first.new.self } }) c.args.call c.requires.held.1.0 refl refl c.requires.wanted
+    table macros config listed c.in_ok-made-in-Parts.made.items work refl c.deref.result.now
+    (ap (seen_template old c.args.call.head.token.place) c.in-Parts.is ∙ ap (λ l. Ok (map (seen_part old.names old.hides) l)) (sym c.deref.ensures.value))
+    (λ has. c.requires.live config listed has) (λ has. c.requires.calls config listed has)
+    (λ has. c.in_ok-made-in-Parts.ensures.is config listed has) (λ absent. c.in_ok-made-in-Parts.ensures.none config listed absent)
+
+pub returns-clause-held : goal.returns-clause-held
+returns-clause-held g c = on-ok c.refuse.result c.refuse.ensures.held (λ refused. λ files held held_call.
+    let old = stores (g.C.Conditions.sets c.args.conds.now) c.args.names.now c.args.self.now.sets in
+    let new = stores (g.C.Conditions.sets c.refuse.new.conds) c.args.names.now c.args.self.now.sets in
+    let grows : Grows old new = record { sets = c.refuse.ensures.keeps; names = Extends-refl c.args.names.now; hides = Extends-refl c.args.self.now.sets } in
+    let later = IsHeldExpansion-Grows grows c.args.self.now held in
+    record { refusals = refused files held_call.head.file held.refusals; top = later.top; below = later.below })
+
+pub returns-clause-turns : goal.returns-clause-turns
+returns-clause-turns g c = on-both c.refuse.result c.refuse.ensures.live c.refuse.ensures.failures (λ live failures. λ table macros config listed.
+    let old = stores (g.C.Conditions.sets c.args.conds.now) c.args.names.now c.args.self.now.sets in
+    let new = stores (g.C.Conditions.sets c.refuse.new.conds) c.args.names.now c.args.self.now.sets in
+    let grows : Grows old new = record { sets = c.refuse.ensures.keeps; names = Extends-refl c.args.names.now; hides = Extends-refl c.args.self.now.sets } in
+    refused-turn grows c.requires.held.0 c.args.self.now (record c.args.self.now { refusals = c.refuse.new.self }) c.args.call c.requires.held.1.0 refl refl c.requires.wanted
+    table macros config listed c.in-Refused.cause refl (ap (seen_template old c.args.call.head.token.place) c.in-Refused.is) live
+    (failures config listed c.requires.held.1.0.refusals.own)
+    (λ has. c.requires.live config listed has) (λ has. c.requires.calls config listed has))

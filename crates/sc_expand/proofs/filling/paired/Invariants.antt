@@ -1,0 +1,10 @@
+use Rattle.std.proofs.Common.{◌≡◌, map, take}
+use Rattle.sc_base.specs.declared.id.Cond.{Cond}
+use Rattle.sc_subst.specs.declared.hidden.Hidden.{Hidden}
+use Rattle.sc_expand.proofs.filling.paired.Given as goal
+
+abbrev pub invariant-loop-index : goal.invariant-loop-index
+invariant-loop-index l = record {
+  conditions : map (λ (item : Cond × Hidden). item.0) l.made.items ≡ take l.index (map (λ (item : Cond × Hidden). item.0) l.list);
+  tokens : map (λ (item : Cond × Hidden). item.1) l.made.items ≡ take l.index (map (λ (t : Hidden). t) l.tokens);
+}

@@ -1,0 +1,62 @@
+-- What taking the first token of a list comes to at a configuration.
+use Rattle.std.specs.Prelude.{◌≡◌, Bool, true, false, ℕ, List, [], ◌∷◌, ◌++◌, Result, Ok, Err}
+use Rattle.c11_macros.specs.Expansion.{case_of, called, object_result, replaced, stays}
+use Rattle.c11_macros.specs.Hidden as model
+use Rattle.c11_macros.specs.Hidden.{Failure, Provenance}
+use Rattle.c11_macros.specs.Macros.{Definition, Macros}
+use Rattle.c11_macros.specs.Substitution.{Slot}
+use Rattle.sc_base.specs.declared.id.Cond.{Cond}
+use Rattle.sc_base.specs.declared.place.Place.{Place}
+use Rattle.sc_expand.specs.declared.expansion.Expansion.{Expansion}
+use Rattle.sc_expand.specs.declared.taking.Taken.{Taken}
+use Rattle.sc_expand.specs.Gather.{without_call}
+use Rattle.sc_expand.specs.Machine.{at}
+use Rattle.sc_expand.specs.Plain.{Fails, IsTemplate, gathered}
+use Rattle.sc_expand.specs.Seen.{AreHeld, Stores, seen_at, state_of}
+use Rattle.sc_expand.specs.Turn.{At}
+use Rattle.sc_model.specs.Sets.{Sets, IsCond}
+use Rattle.sc_subst.specs.declared.hidden.Hidden.{Hidden}
+
+-- the first token of the list is the configuration's
+abbrev pub has_first : Sets → List (Cond × Hidden) → List ℕ → Bool
+has_first s [] c = false
+has_first s (item ∷ items) c = s.has item.0.0 c
+
+-- the configuration, whether it has the first token still, whether the token stays, and what replaces it
+pub record Step : Type 0 where
+  pub at : At
+  pub first : Bool
+  pub stays : Bool
+  pub made : List (model.Hidden Place)
+
+abbrev pub step_at : Stores → Expansion → Taken → List ℕ → Step
+step_at st e taken c = record { at = at st e c; first = has_first st.sets e.top.work c; stays = st.sets.has taken.stays.0 c; made = seen_at st taken.made.items c }
+
+pub record IsHeldTaken (st : Stores) (files : ℕ) (taken : Taken) : Type 0 where
+  pub stays : IsCond st.sets taken.stays.0
+  pub made : AreHeld st files taken.made.items
+
+-- the token stands first at a configuration that takes part, no call waits, and nothing is known of the token yet
+pub record IsBegun (t : model.Hidden Place) (a : Step) : Type 0 where
+  pub live : a.at.live ≡ true
+  pub rest : List (model.Hidden Place)
+  pub work : a.at.view.work ≡ t ∷ rest
+  pub calls : a.at.view.calls ≡ []
+  pub first : a.first ≡ true
+  pub stays : a.stays ≡ false
+  pub made : a.made ≡ []
+
+-- What taking the token comes to, with this behind it: it stays, is replaced, is taken out with its call, or is refused.
+pub data Comes (provenance : Provenance Place) (macros : Macros) (t : model.Hidden Place) (rest : List (model.Hidden Place)) (a : At) (b : Step) : Type 0 where
+  kept : case_of macros t rest ≡ stays → b ≡ record { at = a; first = true; stays = true; made = [] } → Comes provenance macros t rest a b
+  put : (d : Definition) (body : List (model.Hidden Place)) → case_of macros t rest ≡ replaced d → object_result provenance d t ≡ Ok body
+      → b ≡ record { at = a; first = true; stays = false; made = body } → Comes provenance macros t rest a b
+  taken_out : (d : Definition) (arguments : List (List (model.Hidden Place))) (close : model.Hidden Place) (after : List (model.Hidden Place)) (template : Result (List (Slot Place)) (Failure Place))
+      → case_of macros t rest ≡ called d arguments close after → IsTemplate provenance d t arguments template
+      → b ≡ record { at = without_call a (gathered provenance d t arguments close template) after; first = false; stays = false; made = [] } → Comes provenance macros t rest a b
+  failed : (failure : Failure Place) → Fails provenance macros (state_of a.view) failure → b.at.live ≡ false → b.at.failures ≡ a.failures ++ failure ∷ [] → Comes provenance macros t rest a b
+
+-- an object-like macro's name is replaced, or refused
+pub data Replaces (r : Result (List (model.Hidden Place)) (Failure Place)) (a b : At) (before after : List (model.Hidden Place)) : Type 0 where
+  put_in : (body : List (model.Hidden Place)) → r ≡ Ok body → b ≡ a → after ≡ before ++ body → Replaces r a b before after
+  refused : (failure : Failure Place) → r ≡ Err failure → b.live ≡ false → b.failures ≡ a.failures ++ failure ∷ [] → Replaces r a b before after
