@@ -6,4 +6,5 @@ pub mod Macros
 pub mod Results
 pub mod Same
 pub mod Substitution
+pub mod Text
 pub mod Trace
