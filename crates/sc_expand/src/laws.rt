@@ -1,10 +1,15 @@
 //! Laws about the definitions, each the contract of a function without code.
-ghost use Rattle.std.specs.Prelude.{ℕ, ◌<◌, [], Err, List, Ok, Result};
+ghost use Rattle.std.specs.Prelude.{◌≡◌, ℕ, ◌<◌, true, [], Err, List, All, Ok, Result, map};
 ghost use Rattle.c11_macros.specs.Expansion.{Expands, IsWithin};
 ghost use Rattle.c11_macros.specs.Hidden.{Failure, Hidden, Provenance};
 ghost use Rattle.c11_macros.specs.Macros.{Macros};
+ghost use Rattle.c11_macros.specs.Text.{TextExpands};
 ghost use Rattle.c11_macros.specs.Trace.{Agree, trace};
+ghost use Rattle.sc_expand.specs.Moved.{IsKept, moved, moved_answer};
+ghost use Rattle.sc_expand.specs.OneLine.{AreOneLine, IsInPlace, IsOneLine};
 ghost use Rattle.sc_expand.specs.Plain.{Fails, Leads, Moves, State, scanning};
+ghost use Rattle.sc_model.specs.Bytes.{has_no_newline};
+ghost use Rattle.sc_model.specs.Token.{Token};
 
 /// Where finitely many names are defined, what the steps of a list put out is its expansion, and a
 /// failure that ends them is its first.
@@ -27,4 +32,19 @@ pub fn steps_depend_on_the_names_looked_up<P>()
     ensures { (provenance : Provenance P) (one two : Macros) (names : List (List ℕ)) → IsWithin names one → (list : List (Hidden P)) (r : Result (List (Hidden P)) (Failure P))
         (d : Expands provenance one list r) → Agree one two (trace d).looked_up → (s : State P)
         → Leads provenance one (scanning [] list) s → Leads provenance two (scanning [] list) s }
+{}
+
+/// What a list expands to does not depend on what is kept of the places of its tokens.
+pub fn expansion_commutes_with_maps_of_places<P, Q>()
+    ensures { (one : Provenance P) (two : Provenance Q) (f : P → Q) → IsKept one two f → (macros : Macros) (ts : List (Hidden P)) (r : Result (List (Hidden P)) (Failure P))
+        → Expands one macros ts r → Expands two macros (map (moved f) ts) (moved_answer f r) }
+{}
+
+/// Where the tokens of a list, the names of their files and the macros' lists have no newline in
+/// them, what the list expands to has none.
+pub fn expansion_stays_on_one_line<P>()
+    ensures list { (provenance : Provenance P) → IsInPlace provenance → (macros : Macros) → AreOneLine macros → (list out : List (Hidden P)) → All (IsOneLine provenance) list
+        → Expands provenance macros list (Ok out) → All (IsOneLine provenance) out }
+    ensures text { (macros : Macros) → AreOneLine macros → (text output : List Token) → All (λ t. has_no_newline t.spelling ≡ true) text → All (λ t. has_no_newline t.place.file ≡ true) text
+        → TextExpands macros text (Ok output) → All (λ t. has_no_newline t.spelling ≡ true) output }
 {}

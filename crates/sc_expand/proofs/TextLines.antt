@@ -1,0 +1,210 @@
+-- What a text expands to stands on one line, where its tokens and the macros' lists do; and which macros' lists do.
+use Rattle.std.proofs.Common.{◌≡◌, ℕ, ◌&&◌, not, Bool, true, false, List, [], ◌∷◌, ◌++◌, All, IfOk, map, codes, decimal, Option, Some, None, Result, Ok, Err, refl, sym, ap, subst, ◌∙◌, slice_get, if◌then◌else◌}
+use Rattle.std.proofs.lemmas.Bool.{true_from_ne_false, true≢false}
+use Rattle.std.proofs.lemmas.List.Elements.{All-from_recursion, All-map, All-weaker, recursion_from_All}
+use Rattle.std.specs.List.{AllByRecursion as Every}
+use Rattle.std.specs.Map.{update}
+use Rattle.std.specs.Option.{IfSome, option_and_then, option_or}
+use Rattle.c11_macros.specs.Defines.{Defined, Head, define, define_by, fits, head_of, is_parameter, is_protected, is_spelled, item_of, list_from, parameters, parameters_after, reads}
+use Rattle.c11_macros.specs.Expansion.{Expands}
+use Rattle.c11_macros.specs.Hidden.{Failure, Hidden}
+use Rattle.c11_macros.specs.Macros.{Definition, Form, Item, Macros, definition_named, definition_of, escaped, function_like, initial_macros, items, number_item, object_like, predefined_macros, string_item, variable_definition}
+use Rattle.c11_macros.specs.Text.{TextExpands, place_alone, text_of_answer, token_of, unhidden}
+use Rattle.c11_tokens.specs.Lex.{is_identifier_kind}
+use Rattle.sc_base.specs.declared.id.Cond.{Cond}
+use Rattle.sc_base.specs.declared.token.Token as base_token
+use Rattle.sc_base.specs.Seen.{seen, text_at}
+use Rattle.sc_expand.proofs.PlainLines.{both, decimal-plain, escaped-plain, every-map, quoted-plain, stays-on_one_line}
+use Rattle.sc_expand.specs.Answers.{IsExpanded, Stands}
+use Rattle.sc_expand.specs.OneLine.{AreOneLine, IsOneLine, IsOneLineList}
+use Rattle.sc_guarded.specs.declared.expanded.Expanded.{Expanded}
+use Rattle.sc_guarded.specs.Items.{faults_at, items_at, seen_fault}
+use Rattle.sc_model.specs.declared.cause.Cause.{Cause}
+use Rattle.sc_model.specs.declared.cause.Cause.TheVariants.{BadDefine, ProtectedName}
+use Rattle.sc_model.specs.declared.variable_option.VariableOption.{VariableOption}
+use Rattle.sc_model.specs.declared.variable_option.VariableOption.TheVariants.{Number, Undefined}
+use Rattle.sc_model.specs.Bytes.{has_no_newline, same_bytes}
+use Rattle.sc_model.specs.Fault.{Fault}
+use Rattle.sc_model.specs.Sets.{IsConfig, IsNever, Sets}
+use Rattle.sc_model.specs.Space.{Space, Variable}
+use Rattle.sc_model.specs.Token.{Place, Token}
+
+-- a token that is spelled on one line
+abbrev pub PlainToken : Token → Type 0
+PlainToken t = has_no_newline t.spelling ≡ true
+
+-- ---- the expansion of a text
+
+module _ (macros : Macros) (lists : AreOneLine macros) where
+  -- what a text expands to is spelled on one line
+  pub text-stays_on_one_line : (text output : List Token) → All PlainToken text → All (λ (t : Token). has_no_newline t.place.file ≡ true) text → TextExpands macros text (Ok output) → All PlainToken output
+  text-stays_on_one_line text output spelled named d = by d.answer d.expands d.is
+    where
+      begun : All (IsOneLine place_alone) (map unhidden text)
+      begun = All-map (IsOneLine place_alone) unhidden text (λ k t h. record { spelling = spelled k t h; file = named k t h })
+
+      by : (answer : Result (List (Hidden Place)) (Failure Place)) → Expands place_alone macros (map unhidden text) answer → Ok output ≡ text_of_answer answer → All PlainToken output
+      by (Ok out) e is =
+          let same : output ≡ map token_of out = cc in
+          let plain = stays-on_one_line place_alone macros lists (record { place = λ p. refl }) (map unhidden text) out begun e in
+          subst (All PlainToken) (sym same)
+          (All-map PlainToken token_of out (All-weaker (IsOneLine place_alone) (λ (t : Hidden Place). has_no_newline t.spelling ≡ true) (λ t h. h.spelling) out plain))
+      by (Err failure) e is = absurd (cc)
+
+-- ---- definitions
+
+abbrev PlainDefinition : Definition → Type 0
+PlainDefinition d = IsOneLineList d.replacement
+
+abbrev PlainItem : Item → Type 0
+PlainItem i = has_no_newline i.spelling ≡ true
+
+one_line-from : (macros : Macros) → ((name : List ℕ) → IfSome (macros name) PlainDefinition) → AreOneLine macros
+one_line-from macros h = record { each = λ name d is. subst (λ (o : Option Definition). IfSome o PlainDefinition) is (h name) }
+
+some-from : (o : Option Definition) → ((d : Definition) → o ≡ Some d → PlainDefinition d) → IfSome o PlainDefinition
+some-from None h = tt
+some-from (Some d) h = h d refl
+
+-- one item alone
+one-plain : (item : Item) → PlainItem item → All PlainItem (item ∷ [])
+one-plain item h = All-from_recursion PlainItem (item ∷ []) (h, tt)
+
+-- a macro more, in the place of another or not, and a macro less
+pub update-one_line : (macros : Macros) (name : List ℕ) (o : Option Definition) → AreOneLine macros → IfSome o PlainDefinition → AreOneLine (update same_bytes macros name o)
+update-one_line macros name o lists h =
+    one_line-from (update same_bytes macros name o)
+    (λ other. both (λ (p : Option Definition). IfSome p PlainDefinition) (same_bytes name other) o (macros other) h (some-from (macros other) (lists.each other)))
+
+-- ---- what a line defines
+
+abbrev PlainTokens : List Token → Type 0
+PlainTokens = Every PlainToken
+
+abbrev PlainHead : Option Head → Type 0
+PlainHead o = IfSome o (λ head. PlainTokens head.rest)
+
+parameters_after-plain : (before : List (List ℕ)) (ts : List Token) → PlainTokens ts → PlainHead (parameters_after before ts)
+parameters_after-plain before [] h = tt
+parameters_after-plain before (t ∷ []) h = tt
+parameters_after-plain before (t ∷ (u ∷ ts)) h =
+    let last : Option Head = if is_spelled (codes "...") t && is_spelled (codes ")") u then Some (record { form = function_like before true; rest = ts }) else None in
+    let one : Option Head = Some (record { form = function_like (before ++ t.spelling ∷ []) false; rest = ts }) in
+    both PlainHead (is_parameter before t && is_spelled (codes ",") u) (parameters_after (before ++ t.spelling ∷ []) ts) (if is_parameter before t && is_spelled (codes ")") u then one else last)
+    (parameters_after-plain (before ++ t.spelling ∷ []) ts h.1.1)
+    (both PlainHead (is_parameter before t && is_spelled (codes ")") u) one last h.1.1
+    (both PlainHead (is_spelled (codes "...") t && is_spelled (codes ")") u) (Some (record { form = function_like before true; rest = ts })) None h.1.1 tt))
+
+parameters-plain : (ts : List Token) → PlainTokens ts → PlainHead (parameters ts)
+parameters-plain [] h = tt
+parameters-plain (t ∷ ts) h =
+    both PlainHead (is_spelled (codes ")") t) (Some (record { form = function_like [] false; rest = ts })) (parameters_after [] (t ∷ ts)) h.1 (parameters_after-plain [] (t ∷ ts) h)
+
+head-plain : (ts : List Token) → PlainTokens ts → PlainHead (head_of ts)
+head-plain [] h = tt
+head-plain (t ∷ ts) h =
+    both PlainHead (is_spelled (codes "(") t && not t.space) (parameters ts) (Some (record { form = object_like; rest = t ∷ ts })) (parameters-plain ts h.1) h
+
+list_from-plain : (ts : List Token) → PlainTokens ts → Every PlainItem (list_from ts)
+list_from-plain [] h = tt
+list_from-plain (t ∷ ts) h = (h.0, every-map PlainToken PlainItem item_of (λ u k. k) ts h.1)
+
+abbrev PlainDefined : Result Defined Cause → Type 0
+PlainDefined r = IfOk r (λ d. PlainDefinition d.definition)
+
+define-plain : (name : Token) (form : Form) (list : List Item) → Every PlainItem list → PlainDefined (define name form list)
+define-plain name form list h =
+    let made : Result Defined Cause = Ok (record { name = name.spelling; definition = record { form = form; replacement = items list } }) in
+    both PlainDefined (not (fits form list)) (Err BadDefine) (if is_protected name.spelling then Err ProtectedName else made) tt
+    (both PlainDefined (is_protected name.spelling) (Err ProtectedName) made tt (All-from_recursion PlainItem list h))
+
+define_by-plain : (name : Token) (o : Option Head) → PlainHead o → PlainDefined (define_by name o)
+define_by-plain name None h = tt
+define_by-plain name (Some head) h = define-plain name head.form (list_from head.rest) (list_from-plain head.rest h)
+
+reads-plain : (ts : List Token) → PlainTokens ts → PlainDefined (reads ts)
+reads-plain [] h = tt
+reads-plain (name ∷ rest) h =
+    both PlainDefined (is_identifier_kind name.kind) (define_by name (head_of rest)) (Err BadDefine) (define_by-plain name (head_of rest) (head-plain rest h.1)) tt
+
+-- the list of a macro that is defined on one line
+pub reads-one_line : (line : List Token) (d : Defined) → All PlainToken line → reads line ≡ Ok d → IsOneLineList d.definition.replacement
+reads-one_line line d h is = subst PlainDefined is (reads-plain line (recursion_from_All PlainToken line h))
+
+-- ---- the macros with which a configuration starts
+
+named-plain : (macros : List (List ℕ × Definition)) → Every (λ (m : List ℕ × Definition). PlainDefinition m.1) macros → (name : List ℕ) → IfSome (definition_named macros name) PlainDefinition
+named-plain [] h name = tt
+named-plain (m ∷ ms) h name = both (λ (o : Option Definition). IfSome o PlainDefinition) (same_bytes name m.0) (Some m.1) (definition_named ms name) h.0 (named-plain ms h.1 name)
+
+string-plain : (text : List ℕ) → has_no_newline text ≡ true → All PlainItem (string_item text)
+string-plain text h = All-from_recursion PlainItem (string_item text) (quoted-plain (escaped text) (escaped-plain text h), tt)
+
+number-plain : (text : List ℕ) → has_no_newline text ≡ true → All PlainItem (number_item text)
+number-plain text h = All-from_recursion PlainItem (number_item text) (h, tt)
+
+option-plain : (o : Option VariableOption) → IfSome (option_and_then definition_of o) PlainDefinition
+option-plain None = tt
+option-plain (Some Undefined) = tt
+option-plain (Some (Number n)) = number-plain (decimal n) (decimal-plain n)
+
+variable-plain : (variables : List Variable) (config name : List ℕ) → IfSome (variable_definition variables config name) PlainDefinition
+variable-plain [] config name = tt
+variable-plain (v ∷ vs) [] name = tt
+variable-plain (v ∷ vs) (k ∷ ks) name =
+    both (λ (o : Option Definition). IfSome o PlainDefinition) (same_bytes v.name name) (option_and_then definition_of (slice_get v.options k)) (variable_definition vs ks name)
+    (option-plain (slice_get v.options k)) (variable-plain vs ks name)
+
+either-plain : (o p : Option Definition) → IfSome o PlainDefinition → IfSome p PlainDefinition → IfSome (option_or o p) PlainDefinition
+either-plain None p h k = k
+either-plain (Some d) p h k = h
+
+pub initial-one_line : (space : Space) (config : List ℕ) → has_no_newline space.date ≡ true → has_no_newline space.time ≡ true → AreOneLine (initial_macros space config)
+initial-one_line space config date time =
+    let one = number-plain (codes "1") refl in
+    let predefined : Every (λ (m : List ℕ × Definition). PlainDefinition m.1) (predefined_macros space.date space.time) =
+    (tt, (tt, (string-plain space.date date, (string-plain space.time time, (one, (number-plain (codes "201112L") refl, (one, tt))))))) in
+    one_line-from (initial_macros space config)
+    (λ name. either-plain (definition_named (predefined_macros space.date space.time) name) (variable_definition space.variables config name)
+    (named-plain (predefined_macros space.date space.time) predefined name) (variable-plain space.variables config name))
+
+-- ---- the lists of all configurations
+
+every-unmap : {A B : Type 0} (C : B → Type 0) (g : A → B) (xs : List A) → Every C (map g xs) → Every (λ x. C (g x)) xs
+every-unmap C g [] h = tt
+every-unmap C g (x ∷ xs) h = (h.0, every-unmap C g xs h.1)
+
+passes-every : {A : Type 0} (s : Sets) (test : A → Bool) (list : List (Cond × A)) → Every (λ (item : Cond × A). IsNever s item.0.0 → ⊥) list
+    → ((c : List ℕ) → IsConfig s.arities c → Every (λ x. test x ≡ true) (items_at s list c)) → Every (λ (item : Cond × A). test item.1 ≡ true) list
+passes-every s test [] some h = tt
+passes-every {A} s test (item ∷ more) some h = (true_from_ne_false (test item.1) (λ fails. some.0 (record { none = λ c listed. never c listed fails })), passes-every s test more some.1 (λ c listed. rest (s.has item.0.0 c) c (h c listed)))
+  where
+    rest : (b : Bool) (c : List ℕ) → Every (λ x. test x ≡ true) (if b then item.1 ∷ items_at s more c else items_at s more c) → Every (λ x. test x ≡ true) (items_at s more c)
+    rest true c k = k.1
+    rest false c k = k
+
+    has : (b : Bool) (c : List ℕ) → Every (λ x. test x ≡ true) (if b then item.1 ∷ items_at s more c else items_at s more c) → test item.1 ≡ false → b ≡ false
+    has true c k fails = absurd (true≢false (sym k.0 ∙ fails))
+    has false c k fails = refl
+
+    never : (c : List ℕ) → IsConfig s.arities c → test item.1 ≡ false → s.has item.0.0 c ≡ false
+    never c listed fails = has (s.has item.0.0 c) c (h c listed) fails
+
+-- An item that some configuration has passes a test that the items of each configuration pass.
+pub passes-all : {A : Type 0} (s : Sets) (test : A → Bool) (list : List (Cond × A)) → All (λ (item : Cond × A). IsNever s item.0.0 → ⊥) list
+    → ((c : List ℕ) → IsConfig s.arities c → All (λ x. test x ≡ true) (items_at s list c)) → All (λ (item : Cond × A). test item.1 ≡ true) list
+passes-all {A} s test list some h =
+    All-from_recursion (λ (item : Cond × A). test item.1 ≡ true) list
+    (passes-every s test list (recursion_from_All (λ (item : Cond × A). IsNever s item.0.0 → ⊥) list some) (λ c listed. recursion_from_All (λ x. test x ≡ true) (items_at s list c) (h c listed)))
+
+-- the tokens of a configuration that is not refused are spelled on one line, where what its text expands to is
+pub expanded-stays_on_one_line : (s : Sets) (names files : List (List ℕ)) (e : Expanded) (macros : Macros) (text : List Token) (c : List ℕ) → IsExpanded s names files e macros text c → faults_at s e.faults.items c ≡ []
+    → ((output : List Token) → TextExpands macros text (Ok output) → All PlainToken output) → All (λ (t : base_token.Token). has_no_newline (text_at names t.spelling.0) ≡ true) (items_at s e.list c)
+expanded-stays_on_one_line s names files e macros text c expanded none plain = by expanded.answer expanded.expands expanded.stands
+  where
+    by : (answer : Result (List Token) Fault) → TextExpands macros text answer → Stands answer (map (seen names files) (items_at s e.list c)) (map (seen_fault files) (faults_at s e.faults.items c))
+        → All (λ (t : base_token.Token). has_no_newline (text_at names t.spelling.0) ≡ true) (items_at s e.list c)
+    by (Ok output) d stands =
+        All-from_recursion (λ (t : base_token.Token). has_no_newline (text_at names t.spelling.0) ≡ true) (items_at s e.list c)
+        (every-unmap PlainToken (seen names files) (items_at s e.list c) (subst PlainTokens (sym stands.0) (recursion_from_All PlainToken output (plain output d))))
+    by (Err fault) d stands = let empty : [] ≡ fault ∷ [] = sym (ap (map (seen_fault files)) none) ∙ stands in absurd (cc)
