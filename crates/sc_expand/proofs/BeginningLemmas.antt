@@ -19,7 +19,9 @@ use Rattle.sc_expand.proofs.Parting.{parted_call}
 use Rattle.sc_expand.specs.Arguments.{parted}
 use Rattle.sc_expand.specs.Plain.{IsTemplate, gathered}
 use Rattle.sc_model.specs.Bytes.{same_bytes}
+use Rattle.sc_expand.specs.Called.{tokens_in}
 use Rattle.sc_expand.specs.Beginning.{Begins, IsRefused, IsTemplateOf, token_at, tokens_of, with_argument}
+use Rattle.sc_expand.specs.Taking.{has_first}
 use Rattle.sc_expand.specs.Seen.{AreHeld, IsHeldCall, IsHeldTemplate, IsHeldToken, Stores, seen_at, seen_template, seen_wanted, stores, waiting_at}
 use Rattle.sc_expand.specs.declared.call.Call.{Call}
 use Rattle.sc_expand.specs.declared.call.Template.{Template}
@@ -209,6 +211,11 @@ module _ (first names : List (List ℕ)) (old mid sets : List (List Name)) (grow
     expanded = held_expanded (stores s names sets) files call.expanded.items empty;
   }
 
+pub files_of : (st : Stores) (files : ℕ) (raw : List (Vec Hidden Global)) → All (λ (a : Vec Hidden Global). All (IsHeldToken st files) a.items) raw
+    → All (λ (a : Vec Hidden Global). All (λ (h : Hidden). h.token.place.file.0 < files) a.items) raw
+files_of st files raw held = All-weaker (λ (a : Vec Hidden Global). All (IsHeldToken st files) a.items) (λ a. All (λ h. h.token.place.file.0 < files) a.items)
+    (λ a own. All-weaker (IsHeldToken st files) (λ h. h.token.place.file.0 < files) (λ h held. held.file) a.items own) raw held
+
 -- ---- the call as one configuration has it
 
 module _ (names : List (List ℕ)) (sets : List (List Name)) (provenance : Provenance Place) (d : Definition) where
@@ -287,15 +294,11 @@ pub tokens_at_places : (s : Sets) (list : List (Cond × Hidden)) (other : Cond �
     → map (token_at list other) (places_from s n (map (λ (x : Cond × Hidden). x.0) (drop n list)) c) ≡ items_at s (drop n list) c
 tokens_at_places s list other c n = tokens_from s list other c (drop n list) n refl
 
--- the tokens of a list, as sc_hoist reads them
-abbrev pub tokens_in : List (Cond × Hidden) → List (Cond × Token)
-tokens_in list = map (λ (x : Cond × Hidden). (x.0, x.1.token)) list
-
-same_conds : (list : List (Cond × Hidden)) → map (λ (x : Cond × Token). x.0) (drop 1 (tokens_in list)) ≡ map (λ (x : Cond × Hidden). x.0) (drop 1 list)
+pub same_conds : (list : List (Cond × Hidden)) → map (λ (x : Cond × Token). x.0) (drop 1 (tokens_in list)) ≡ map (λ (x : Cond × Hidden). x.0) (drop 1 list)
 same_conds [] = refl
 same_conds (x ∷ xs) = map-map (λ (x : Cond × Token). x.0) (λ (x : Cond × Hidden). (x.0, x.1.token)) xs
 
-map_of_take : {A B : Type 0} (f : A → B) (k : ℕ) (xs : List A) → map f (take k xs) ≡ take k (map f xs)
+pub map_of_take : {A B : Type 0} (f : A → B) (k : ℕ) (xs : List A) → map f (take k xs) ≡ take k (map f xs)
 map_of_take f zero xs = refl
 map_of_take f (suc k) [] = refl
 map_of_take f (suc k) (x ∷ xs) = ap (λ r. f x ∷ r) (map_of_take f k xs)
@@ -347,3 +350,13 @@ taken_out old now before after n by c keeps listed own rest restricted =
     choose : (b : Bool) → (if not b then items_at old (take n before) c else []) ++ items_at old (drop n before) c ≡ (if b then items_at old (drop n before) c else items_at old before c)
     choose true = refl
     choose false = sym (items_at-append old (take n before) (drop n before) c) ∙ ap (λ l. items_at old l c) (take-append-drop n before)
+
+-- where a configuration has none of the first tokens, it has not the first
+pub first_gone : (s : Sets) (list : List (Cond × Hidden)) (n : ℕ) (c : List ℕ) → 0 < n → items_at s (take n list) c ≡ [] → has_first s list c ≡ false
+first_gone s [] n c some none = refl
+first_gone s (x ∷ xs) zero c some none = absurd (omega (arith, some))
+first_gone s (x ∷ xs) (suc n) c some none = by (s.has x.0.0 c) none
+  where
+    by : (b : Bool) → (if b then x.1 ∷ items_at s (take n xs) c else items_at s (take n xs) c) ≡ [] → b ≡ false
+    by true e = absurd (cc)
+    by false e = refl

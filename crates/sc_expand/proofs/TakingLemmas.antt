@@ -1,19 +1,14 @@
 -- Taking the first token of a list: what the parts of it come to together.
-use Rattle.std.proofs.Common.{◌≡◌, ℕ, ◌<◌, get_or, zero, suc, ◌==◌, ◌||◌, ◌&&◌, not, Bool, true, false, List, [], ◌∷◌, ◌++◌, All, map, length, refl, sym, ap, subst, ◌∙◌, arith, if◌then◌else◌}
+use Rattle.std.proofs.Common.{◌≡◌, ℕ, ◌<◌, get_or, zero, suc, ◌==◌, ◌||◌, ◌&&◌, not, Bool, true, false, List, [], ◌∷◌, All, map, length, refl, sym, ap, subst, ◌∙◌, arith, if◌then◌else◌}
 use Rattle.std.specs.List.{list_any}
 use Rattle.std.proofs.lemmas.Bool.{true≢false}
 use Rattle.c11_macros.specs.Hidden as model
 use Rattle.c11_macros.specs.Hidden.{Failure, HideSet, Provenance, failure_at, no_names, with_name}
 use Rattle.c11_macros.specs.Macros.{Form, Item}
-use Rattle.c11_macros.specs.Results.{result_and_then, result_map}
-use Rattle.c11_macros.specs.Substitution.{Part, Piece, Slot, all_glued, argument, argument_pieces, begins_paste, filled, filled_by, for_parameter, for_paste, glued, hiding, is_text_kind, joined, literal, neither, operator, parameter, parts, paste, pasted_as, piece, placemarker, slot_of, slots, spellings, substituted, token, tokens_of, with_space}
-use Rattle.c11_tokens.specs.Relex.{relexed}
+use Rattle.c11_macros.specs.Substitution.{substituted}
 use Rattle.sc_base.specs.declared.place.Place.{Place}
-use Rattle.sc_model.specs.declared.cause.Cause.TheVariants.{BadStringize}
-use Rattle.sc_model.specs.declared.kind.Kind.{Kind}
-use Rattle.sc_model.specs.declared.kind.Kind.TheVariants.{Text}
 use Rattle.sc_subst.specs.declared.hidden.Hidden.{Hidden}
-use Rattle.std.specs.Prelude.{IfOk, Result, Ok, Err, Option, Some, None}
+use Rattle.std.specs.Prelude.{Result}
 use Rattle.std.proofs.lemmas.List.Elements.{All-nil, All-cons, All-head, All-tail}
 use Rattle.sc_base.specs.declared.id.Cond.{Cond}
 use Rattle.sc_expand.proofs.SeenLemmas.{AreHeld-nil}
@@ -83,135 +78,6 @@ module _ (names : List (List ℕ)) (one made : List Name) (name : Name) (exact :
   pub seen_with : texts_in names made ≡ with_name (texts_in names one) (text_of names name)
   seen_with = same_sets _ _ (λ text. exact (λ n. same_bytes (text_of names n) text))
 
--- ---- where the tokens of a replacement stand
-
-abbrev Each : {A : Type 0} → (A → Type 0) → List A → Type 0
-Each Q [] = Unit {0}
-Each Q (x ∷ xs) = Q x × Each Q xs
-
-each-all : {A : Type 0} (Q : A → Type 0) (xs : List A) → Each Q xs → All Q xs
-each-all Q [] each = All-nil Q
-each-all Q (x ∷ xs) each = All-cons Q x xs each.0 (each-all Q xs each.1)
-
-each-append : {A : Type 0} (Q : A → Type 0) (xs ys : List A) → Each Q xs → Each Q ys → Each Q (xs ++ ys)
-each-append Q [] ys one two = two
-each-append Q (x ∷ xs) ys one two = (one.0, each-append Q xs ys one.1 two)
-
-each-before : {A E : Type 0} (Q : A → Type 0) (here : List A) (o : Result (List A) E) → Each Q here → IfOk o (Each Q) → IfOk (result_map (λ rest. here ++ rest) o) (Each Q)
-each-before Q here (Ok xs) one two = each-append Q here xs one two
-each-before Q here (Err e) one two = tt
-
-each-first : {A E : Type 0} (Q : A → Type 0) (x : A) (o : Result (List A) E) → Q x → IfOk o (Each Q) → IfOk (result_map (λ rest. x ∷ rest) o) (Each Q)
-each-first Q x (Ok xs) one two = (one, two)
-each-first Q x (Err e) one two = tt
-
-each-then : {A E : Type 0} (Q : A → Type 0) (r : Result A E) (o : Result (List A) E) → IfOk r Q → IfOk o (Each Q) → IfOk (result_and_then (λ x. result_map (λ rest. x ∷ rest) o) r) (Each Q)
-each-then Q (Ok x) o one two = each-first Q x o one two
-each-then Q (Err e) o one two = tt
-
-ok-then : {A B E : Type 0} (Q : A → Type 0) (R : B → Type 0) (f : A → Result B E) (r : Result A E) → IfOk r Q → ((a : A) → Q a → IfOk (f a) R) → IfOk (result_and_then f r) R
-ok-then Q R f (Ok a) one two = two a one
-ok-then Q R f (Err e) one two = tt
-
-module _ {P : Type 0} (provenance : Provenance P) (mark : (p : P) → provenance.mark p ≡ p) (head : model.Hidden P) where
-  abbrev Placed : model.Hidden P → Type 0
-  Placed t = t.place ≡ head.place
-
-  abbrev SlotPlaced : Slot P → Type 0
-  SlotPlaced (filled_by t) = Placed t
-  SlotPlaced _ = Unit {0}
-
-  abbrev PiecePlaced : Piece P → Type 0
-  PiecePlaced (piece t) = Placed t
-  PiecePlaced _ = Unit {0}
-
-  abbrev none : List (List (model.Hidden P))
-  none = []
-
-  literal-placed : (space : Bool) (spelling : List ℕ) (b : Bool)
-      → IfOk (result_map (λ t. filled_by t) (if b then Ok (record { kind = Text; spelling = spelling; space = space; place = head.place; hide = no_names }) else Err (failure_at BadStringize head))) SlotPlaced
-  literal-placed space spelling true = refl
-  literal-placed space spelling false = tt
-
-  slot-placed : (p : Part) → IfOk (slot_of head [] p) SlotPlaced
-  slot-placed (token item) = refl
-  slot-placed (literal n space) = literal-placed space (34 ∷ spellings (argument none n) ++ 34 ∷ []) (is_text_kind (relexed (34 ∷ spellings (argument none n) ++ 34 ∷ [])))
-  slot-placed (parameter n space) = tt
-  slot-placed paste = tt
-
-  slots-placed : (ps : List Part) → IfOk (slots head [] ps) (Each SlotPlaced)
-  slots-placed [] = tt
-  slots-placed (p ∷ ps) = each-then SlotPlaced (slot_of head [] p) (slots head [] ps) (slot-placed p) (slots-placed ps)
-
-  no-pieces : (beside : Bool) (n : ℕ) (space : Bool) → IfOk (argument_pieces beside [] [] n space) (Each PiecePlaced)
-  no-pieces true zero space = (tt, tt)
-  no-pieces true (suc n) space = (tt, tt)
-  no-pieces false zero space = tt
-  no-pieces false (suc n) space = tt
-
-  filled-placed : (behind : Bool) (ss : List (Slot P)) → Each SlotPlaced ss → IfOk (filled [] [] behind ss) (Each PiecePlaced)
-  filled-placed behind [] placed = tt
-  filled-placed behind (filled_by t ∷ ss) placed = each-first PiecePlaced (piece t) (filled [] [] false ss) placed.0 (filled-placed false ss placed.1)
-  filled-placed behind (for_paste ∷ ss) placed = each-first PiecePlaced operator (filled [] [] true ss) tt (filled-placed true ss placed.1)
-  filled-placed behind (for_parameter n space ∷ ss) placed =
-      ok-then (Each PiecePlaced) (Each PiecePlaced) (λ here. result_map (λ rest. here ++ rest) (filled [] [] false ss)) (argument_pieces (behind || begins_paste ss) [] [] n space)
-      (no-pieces (behind || begins_paste ss) n space) (λ here one. each-before PiecePlaced here (filled [] [] false ss) one (filled-placed false ss placed.1))
-
-  joined-placed : (left right : Piece P) → PiecePlaced left → PiecePlaced right → IfOk (joined head left right) PiecePlaced
-  joined-placed (piece l) (piece r) one two = by (relexed (l.spelling ++ r.spelling))
-    where
-      by : (o : Option Kind) → IfOk (pasted_as head l r o) PiecePlaced
-      by None = tt
-      by (Some kind) = one
-  joined-placed (piece l) operator one two = one
-  joined-placed (piece l) placemarker one two = one
-  joined-placed operator right one two = two
-  joined-placed placemarker right one two = two
-
-  glued-placed : (left : Piece P) (ps : List (Piece P)) → PiecePlaced left → Each PiecePlaced ps → IfOk (glued head left ps) (Each PiecePlaced)
-  glued-placed left [] one rest = (one, tt)
-  glued-placed left (operator ∷ []) one rest = (one, tt)
-  glued-placed left (operator ∷ (right ∷ ps)) one rest =
-      ok-then PiecePlaced (Each PiecePlaced) (λ p. glued head p ps) (joined head left right) (joined-placed left right one rest.1.0) (λ p placed. glued-placed p ps placed rest.1.1)
-  glued-placed left (piece t ∷ ps) one rest = each-first PiecePlaced left (glued head (piece t) ps) one (glued-placed (piece t) ps rest.0 rest.1)
-  glued-placed left (placemarker ∷ ps) one rest = each-first PiecePlaced left (glued head placemarker ps) one (glued-placed placemarker ps tt rest.1)
-
-  all-placed : (ps : List (Piece P)) → Each PiecePlaced ps → IfOk (all_glued head ps) (Each PiecePlaced)
-  all-placed [] rest = tt
-  all-placed (p ∷ ps) rest = glued-placed p ps rest.0 rest.1
-
-  tokens-placed : (ps : List (Piece P)) → Each PiecePlaced ps → Each Placed (tokens_of ps)
-  tokens-placed [] rest = tt
-  tokens-placed (piece t ∷ ps) rest = (rest.0, tokens-placed ps rest.1)
-  tokens-placed (operator ∷ ps) rest = tokens-placed ps rest.1
-  tokens-placed (placemarker ∷ ps) rest = tokens-placed ps rest.1
-
-  hidden-placed : (names : HideSet) (ts : List (model.Hidden P)) → Each Placed ts → Each Placed (hiding provenance names ts)
-  hidden-placed names [] rest = tt
-  hidden-placed names (t ∷ ts) rest = (mark t.place ∙ rest.0, hidden-placed names ts rest.1)
-
-  spaced-placed : (space : Bool) (ts : List (model.Hidden P)) → Each Placed ts → Each Placed (with_space space ts)
-  spaced-placed space [] rest = tt
-  spaced-placed space (t ∷ ts) rest = rest
-
-  made-placed : (names : HideSet) (r : Result (List (Piece P)) (Failure P)) → IfOk r (Each PiecePlaced) → IfOk (result_map (λ pieces. hiding provenance names (with_space head.space (tokens_of pieces))) r) (Each Placed)
-  made-placed names (Ok ps) rest = hidden-placed names (with_space head.space (tokens_of ps)) (spaced-placed head.space (tokens_of ps) (tokens-placed ps rest))
-  made-placed names (Err e) rest = tt
-
-  -- without arguments all tokens stand where the macro's name does
-  placed-alone : (form : Form) (items : List Item) (names : HideSet) → IfOk (substituted provenance form items head [] [] names) (Each Placed)
-  placed-alone form items names = made-placed names _ (ok-then (Each PiecePlaced) (Each PiecePlaced) (all_glued head) (result_and_then (filled [] [] false) (slots head [] (parts form neither items)))
-      (ok-then (Each SlotPlaced) (Each PiecePlaced) (filled [] [] false) (slots head [] (parts form neither items)) (slots-placed (parts form neither items)) (λ ss placed. filled-placed false ss placed)) (λ ps placed. all-placed ps placed))
-
--- the tokens that were made stand where the macro's name does
-pub placed-made : (see : Hidden → model.Hidden Place) (place : Place) → ((h : Hidden) → (see h).place ≡ h.token.place) → (r : Result (List (model.Hidden Place)) (Failure Place)) (made : List Hidden)
-    → IfOk r (Each (λ t. t.place ≡ place)) → r ≡ Ok (map see made) → All (λ h. h.token.place ≡ place) made
-placed-made see place is r made placed same = each-all (λ h. h.token.place ≡ place) made (back made (subst (λ o. IfOk o (Each (λ t. t.place ≡ place))) same placed))
-  where
-    back : (xs : List Hidden) → Each (λ t. t.place ≡ place) (map see xs) → Each (λ h. h.token.place ≡ place) xs
-    back [] each = tt
-    back (x ∷ xs) each = (sym (is x) ∙ each.0, back xs each.1)
-
 -- the same question of tables that grew
 pub same-result : {P : Type 0} (provenance : Provenance P) (head : model.Hidden P) {f g : Form} {is js : List Item} {m n : HideSet} (r : Result (List (model.Hidden P)) (Failure P))
     → f ≡ g → is ≡ js → m ≡ n → substituted provenance f is head [] [] m ≡ r → substituted provenance g js head [] [] n ≡ r
@@ -249,11 +115,6 @@ AreHeld-single st files cond t own held = record {
   own = All-cons (λ (item : Cond × Hidden). IsCond st.sets item.0.0) (cond, t) [] own (All-nil (λ (item : Cond × Hidden). IsCond st.sets item.0.0));
   held = All-cons (λ (item : Cond × Hidden). IsHeldToken st files item.1) (cond, t) [] held (All-nil (λ (item : Cond × Hidden). IsHeldToken st files item.1));
 }
-
-pub placed-result : (provenance : Provenance Place) → ((p : Place) → provenance.mark p ≡ p) → (head : model.Hidden Place) (see : Hidden → model.Hidden Place) → ((h : Hidden) → (see h).place ≡ h.token.place)
-    → (form : Form) (items : List Item) (names : HideSet) (made : List Hidden) → substituted provenance form items head [] [] names ≡ Ok (map see made) → All (λ h. h.token.place ≡ head.place) made
-placed-result provenance mark head see is form items names made same =
-    placed-made see head.place is (substituted provenance form items head [] [] names) made (placed-alone provenance mark head form items names) same
 
 -- ---- what a replacement is made of, as the tables grow
 

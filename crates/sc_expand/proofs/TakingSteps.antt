@@ -1,5 +1,5 @@
 -- What taking a name comes to, by what its parts did.
-use Rattle.std.proofs.Common.{◌≡◌, ◌∙◌, ◌∷◌, ◌++◌, ℕ, Bool, true, false, List, [], All, Some, Result, Ok, Err, ap, refl, sym, subst, length, map, append-nil, ◌≤◌, arith, if◌then◌else◌}
+use Rattle.std.proofs.Common.{◌≡◌, ◌∙◌, ◌∷◌, ◌++◌, ℕ, Bool, true, false, List, [], All, Some, Result, Ok, Err, ap, refl, sym, subst, length, take, get_or, zero, suc, ◌<◌, true≢false, map, append-nil, ◌≤◌, arith, if◌then◌else◌}
 use Rattle.std.specs.Prelude.{OnOk}
 use Rattle.std.proofs.lemmas.List.Elements.{All-head}
 use Rattle.c11_macros.specs.Defines.{is_function_like}
@@ -37,7 +37,7 @@ pub same-step : {a b : At} {f g s t : Bool} {m n : List (Hidden Place)} → a �
     → (let one : Step = record { at = a; first = f; stays = s; made = m } in one) ≡ record { at = b; first = g; stays = t; made = n }
 same-step p q r u = λ i. record { at = p i; first = q i; stays = r i; made = u i }
 
-state-scanning : (v : View) (ws : List (Hidden Place)) → v.work ≡ ws → v.calls ≡ [] → scanning v.out ws ≡ state_of v
+pub state-scanning : (v : View) (ws : List (Hidden Place)) → v.work ≡ ws → v.calls ≡ [] → scanning v.out ws ≡ state_of v
 state-scanning v ws work calls = sym (ap (λ l. state_by v.out l v.calls) work ∙ ap (state_by v.out ws) calls)
 
 object-form : (f : Form) → is_function_like f ≡ false → f ≡ object_like
@@ -117,3 +117,22 @@ seen-first st first list c = by (st.sets.has first.0.0 c)
     by : (b : Bool) → map (seen_hidden st.names st.hides) (if b then first.1 ∷ items_at st.sets list c else items_at st.sets list c) ≡ (if b then seen_hidden st.names st.hides first.1 ∷ seen_at st list c else seen_at st list c)
     by true = refl
     by false = refl
+
+-- a list with one item at most, of which this is the next: none came before it
+pub none-before : {T : Type 0} (s : Sets) (xs : List (Cond × T)) (i : ℕ) (x : Cond × T) (c : List ℕ) → i < length xs → x ≡ get_or xs i x → s.has x.0.0 c ≡ true → length (items_at s xs c) ≤ 1
+    → (items_at s (take i xs) c ≡ []) × (length (items_at s xs c) ≡ 1)
+none-before s [] i x c within is has one = absurd (omega (arith, within))
+none-before s (y ∷ ys) zero x c within is has one =
+    let here : s.has y.0.0 c ≡ true = ap (λ p. s.has p.0.0 c) (sym is) ∙ has in
+    (refl, by (s.has y.0.0 c) here one)
+  where
+    by : (b : Bool) → b ≡ true → length (if b then y.1 ∷ items_at s ys c else items_at s ys c) ≤ 1 → length (if b then y.1 ∷ items_at s ys c else items_at s ys c) ≡ 1
+    by true h le = omega (arith, le)
+    by false h le = absurd (true≢false (sym h))
+none-before s (y ∷ ys) (suc i) x c within is has one = by (s.has y.0.0 c) one (λ le. none-before s ys i x c (omega (arith, within)) is has le)
+  where
+    by : (b : Bool) → length (if b then y.1 ∷ items_at s ys c else items_at s ys c) ≤ 1
+        → (length (items_at s ys c) ≤ 1 → (items_at s (take i ys) c ≡ []) × (length (items_at s ys c) ≡ 1))
+        → ((if b then y.1 ∷ items_at s (take i ys) c else items_at s (take i ys) c) ≡ []) × (length (if b then y.1 ∷ items_at s ys c else items_at s ys c) ≡ 1)
+    by false le later = later le
+    by true le later = (let two = (later (omega (arith, le))).1 in absurd (omega (arith, two, le)))

@@ -22,7 +22,7 @@ use Rattle.sc_model.specs.Sets.{Sets, IsCond, Keeps}
 use Rattle.sc_subst.specs.declared.hidden.Hidden.{Hidden}
 use Rattle.sc_subst.specs.declared.part.Part.{Part}
 use Rattle.sc_subst.specs.declared.part.Part.TheVariants as part
-use Rattle.sc_subst.specs.Parts.{IsHeldPart, seen_list, seen_part}
+use Rattle.sc_subst.specs.Parts.{seen_list, seen_part}
 use Rattle.sc_subst.specs.Seen.{IsHeldHidden, IsHeldSet, hide_at, seen_hidden}
 
 -- the stores that ids are of: conditions, texts, and hide sets
@@ -90,11 +90,6 @@ IsHeldPartIn st files (part.Argument parameter space) = Unit {0}
 abbrev pub IsHeldTemplate : Stores → ℕ → Template → Type 0
 IsHeldTemplate st files (Parts parts) = All (IsHeldPartIn st files) parts.items
 IsHeldTemplate st files (Refused cause) = Unit {0}
-
--- the same wherever its tokens stand
-abbrev pub IsStoredTemplate : Stores → Template → Type 0
-IsStoredTemplate st (Parts parts) = All (IsHeldPart st.names st.hides) parts.items
-IsStoredTemplate st (Refused cause) = Unit {0}
 
 pub record IsHeldCall (st : Stores) (files : ℕ) (call : Call) : Type 0 where
   pub own : IsCond st.sets call.cond.0

@@ -1,5 +1,12 @@
 -- What taking the first token of a list comes to at a configuration.
-use Rattle.std.specs.Prelude.{◌≡◌, Bool, true, false, ℕ, List, [], ◌∷◌, ◌++◌, Result, Ok, Err}
+use Rattle.std.specs.Prelude.{◌≡◌, Bool, true, false, ℕ, List, [], ◌∷◌, ◌++◌, map, Option, Result, Ok, Err}
+use Rattle.std.specs.Option.{option_map}
+use Rattle.std.specs.declared.rc.Rc.{Rc}
+use Rattle.std.proofs.Common.{Global}
+use Rattle.sc_guarded.specs.Items.{items_at}
+use Rattle.sc_macro.specs.declared.definition.Definition as declared
+use Rattle.sc_macro.specs.Seen.{seen_definition, text_of}
+use Rattle.sc_subst.specs.Seen.{seen_hidden}
 use Rattle.c11_macros.specs.Expansion.{case_of, called, object_result, replaced, stays}
 use Rattle.c11_macros.specs.Hidden as model
 use Rattle.c11_macros.specs.Hidden.{Failure, Provenance}
@@ -12,9 +19,9 @@ use Rattle.sc_expand.specs.declared.taking.Taken.{Taken}
 use Rattle.sc_expand.specs.Gather.{without_call}
 use Rattle.sc_expand.specs.Machine.{at}
 use Rattle.sc_expand.specs.Plain.{Fails, IsTemplate, gathered}
-use Rattle.sc_expand.specs.Seen.{AreHeld, Stores, seen_at, state_of}
+use Rattle.sc_expand.specs.Seen.{AreHeld, Stores, provenance_of, seen_at, state_of}
 use Rattle.sc_expand.specs.Turn.{At}
-use Rattle.sc_model.specs.Sets.{Sets, IsCond}
+use Rattle.sc_model.specs.Sets.{Sets, IsCond, IsConfig}
 use Rattle.sc_subst.specs.declared.hidden.Hidden.{Hidden}
 
 -- the first token of the list is the configuration's
@@ -31,6 +38,10 @@ pub record Step : Type 0 where
 
 abbrev pub step_at : Stores → Expansion → Taken → List ℕ → Step
 step_at st e taken c = record { at = at st e c; first = has_first st.sets e.top.work c; stays = st.sets.has taken.stays.0 c; made = seen_at st taken.made.items c }
+
+-- nothing is known of the token yet
+abbrev pub untaken : Stores → Expansion → List ℕ → Step
+untaken st e c = record { at = at st e c; first = has_first st.sets e.top.work c; stays = false; made = [] }
 
 pub record IsHeldTaken (st : Stores) (files : ℕ) (taken : Taken) : Type 0 where
   pub stays : IsCond st.sets taken.stays.0
@@ -60,3 +71,10 @@ pub data Comes (provenance : Provenance Place) (macros : Macros) (t : model.Hidd
 pub data Replaces (r : Result (List (model.Hidden Place)) (Failure Place)) (a b : At) (before after : List (model.Hidden Place)) : Type 0 where
   put_in : (body : List (model.Hidden Place)) → r ≡ Ok body → b ≡ a → after ≡ before ++ body → Replaces r a b before after
   refused : (failure : Failure Place) → r ≡ Err failure → b.live ≡ false → b.failures ≡ a.failures ++ failure ∷ [] → Replaces r a b before after
+
+-- Of the parts of a look-up these were taken: a configuration of one of them has come to something, and each other is as it was.
+pub record AreTaken (files : List (List ℕ)) (old st : Stores) (was now : Expansion) (before after : Taken) (head : Hidden) (parts : List (Cond × Option (Rc declared.Definition Global))) : Type 0 where
+  pub comes : (c : List ℕ) (macros : Macros) (rest : List (model.Hidden Place)) → IsConfig old.sets.arities c → (at old was c).view.work ≡ seen_hidden old.names old.hides head ∷ rest
+      → map (option_map (λ shared. seen_definition old.names shared.value)) (items_at old.sets parts c) ≡ macros (text_of old.names head.token.spelling) ∷ []
+      → Comes (provenance_of files) macros (seen_hidden old.names old.hides head) rest (at old was c) (step_at st now after c)
+  pub others : (c : List ℕ) → IsConfig old.sets.arities c → items_at old.sets parts c ≡ [] → step_at st now after c ≡ step_at old was before c

@@ -1,5 +1,5 @@
 //! How a call begins: what replaces it but for its arguments, and which of these are wanted.
-ghost use Rattle.std.specs.Prelude.{◌≡◌, ◌<◌, ◌≤◌, ℕ, ◌&&◌, ◌||◌, ◌++◌, ◌∷◌, [], Bool, List, Result, Ok, Err, All, map, drop, if◌then◌else◌, reverse, length, IfOk, IfSome, IfNone, OnOk};
+ghost use Rattle.std.specs.Prelude.{◌≡◌, ◌<◌, ◌≤◌, ℕ, ◌&&◌, ◌||◌, ◌++◌, ◌∷◌, [], Bool, true, false, List, Result, Ok, Err, All, map, drop, if◌then◌else◌, reverse, length, IfOk, IfSome, IfNone, OnOk};
 ghost use Rattle.c11_macros.specs.Hidden as model;
 ghost use Rattle.c11_macros.specs.Hidden.{Failure, HideSet, Provenance, failure_at, meet, with_name};
 ghost use Rattle.c11_macros.specs.Expansion.{call_result, list_of};
@@ -8,7 +8,9 @@ ghost use Rattle.sc_base.specs.declared.id.Cond as declared_cond;
 ghost use Rattle.sc_base.specs.declared.id.Name as declared_name;
 ghost use Rattle.sc_base.specs.declared.place.Place as declared_place;
 ghost use Rattle.sc_expand.specs.Beginning.{Begins, IsRefused, IsTemplateOf, token_at, tokens_of, with_argument};
-ghost use Rattle.sc_expand.specs.Seen.{IsHeldCall, IsHeldTemplate, IsHeldToken, IsStoredTemplate, Stores, seen_at, seen_wanted, stores};
+ghost use Rattle.sc_expand.specs.Having.{has_each};
+ghost use Rattle.sc_expand.specs.Seen.{IsHeldCall, IsHeldTemplate, IsHeldToken, Stores, seen_at, seen_wanted, stores};
+ghost use Rattle.sc_expand.specs.Taking.{has_first};
 ghost use Rattle.sc_guarded.specs.Items.{items_at};
 ghost use Rattle.sc_macro.specs.Seen.{IsHeldForm, IsHeldItem, seen_definition, seen_form, seen_item, text_of};
 ghost use Rattle.sc_model.specs.declared.cause.Cause.TheVariants.{BadStringize};
@@ -45,7 +47,8 @@ fn template_of(
     requires raw { AreHeldArguments names.old sets.old (map (λ a. a.items) raw.now) }
     ensures some { IfOk result (λ made. IfSome made (λ template. Lasting names.new sets.new (λ names sets. IsTemplateOf names sets (seen_form names form.now) (map (seen_item names) items.now)
         (seen_arguments names sets (map (λ a. a.items) raw.now)) place template))) }
-    ensures held { IfOk result (λ made. IfSome made (λ template. (s : Sets) → IsStoredTemplate (stores s names.new sets.new) template)) }
+    ensures held { IfOk result (λ made. IfSome made (λ template. (s : Sets) (files : ℕ) → place.file.0 < files → All (λ a. All (λ h. h.token.place.file.0 < files) a.items) raw.now
+        → IsHeldTemplate (stores s names.new sets.new) files template)) }
     ensures none { IfOk result (λ made. IfNone made (Lasting names.new sets.new (λ names sets. (head : model.Hidden declared_place.Place) (results : List (Result (List (model.Hidden declared_place.Place)) (Failure declared_place.Place)))
         (provenance : Provenance declared_place.Place) (hidden : HideSet) → head.place ≡ place
         → substituted provenance (seen_form names form.now) (map (seen_item names) items.now) head (seen_arguments names sets (map (λ a. a.items) raw.now)) results hidden ≡ Err (failure_at BadStringize head)))) }
@@ -192,6 +195,10 @@ pub fn take_out<C: Conditions>(
     requires cond_own { IsCond (C.sets conds.old) cond.0 }
     ensures taken { OnOk result ((c : List ℕ) → IsConfig (C.sets conds.old).arities c → items_at (C.sets conds.new) list.new c
         ≡ (if (C.sets conds.old).has cond.0 c then items_at (C.sets conds.old) (drop count list.old) c else items_at (C.sets conds.old) list.old c)) }
+    ensures others { OnOk result ((c : List ℕ) → IsConfig (C.sets conds.old).arities c → (C.sets conds.old).has cond.0 c ≡ false
+        → has_each (C.sets conds.new) list.new c ≡ has_each (C.sets conds.old) list.old c) }
+    ensures first { OnOk result ((c : List ℕ) → IsConfig (C.sets conds.old).arities c → (C.sets conds.old).has cond.0 c ≡ true → 0 < count
+        → has_first (C.sets conds.new) list.new c ≡ false) }
     ensures own { OnOk result (All (λ item. IsCond (C.sets conds.new) item.0.0) list.new) }
 
     // at every outcome
@@ -223,7 +230,7 @@ pub fn begin_call(
     requires raw { AreHeldArguments names.old sets.old (map (λ a. a.items) raw.now) }
     ensures some { IfOk result (λ made. IfSome made (λ call. Begins names.new sets.new (seen_form names.new form.now) (map (seen_item names.new) items.now) cond head close (map (λ a. a.items) raw.now) call)) }
     ensures held { IfOk result (λ made. IfSome made (λ call. (s : Sets) (files : ℕ) → IsCond s cond.0 → IsHeldToken (stores s names.old sets.old) files head
-        → All (λ a. All (IsHeldToken (stores s names.old sets.old) files) a.items) raw.now → IsHeldTemplate (stores s names.new sets.new) files call.template → IsHeldCall (stores s names.new sets.new) files call)) }
+        → All (λ a. All (IsHeldToken (stores s names.old sets.old) files) a.items) raw.now → IsHeldCall (stores s names.new sets.new) files call)) }
     ensures none { IfOk result (λ made. IfNone made ((at : model.Hidden declared_place.Place) (results : List (Result (List (model.Hidden declared_place.Place)) (Failure declared_place.Place)))
         (provenance : Provenance declared_place.Place) (hidden : HideSet) → at.place ≡ head.token.place
         → substituted provenance (seen_form names.new form.now) (map (seen_item names.new) items.now) at (seen_arguments names.new sets.new (map (λ a. a.items) raw.now)) results hidden ≡ Err (failure_at BadStringize at))) }

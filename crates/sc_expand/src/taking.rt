@@ -1,4 +1,4 @@
-ghost use Rattle.std.specs.Prelude.{◌≡◌, ℕ, ◌<◌, ◌++◌, ◌∷◌, [], List, All, true, false, Some, Ok, Err, length, drop, map, slice_get, IfErr, IfOk, IfSome, OnOk, if◌then◌else◌};
+ghost use Rattle.std.specs.Prelude.{◌≡◌, ℕ, ◌<◌, ◌≤◌, ◌++◌, ◌∷◌, [], List, All, true, false, Some, Ok, Err, length, drop, map, slice_get, IfErr, IfOk, IfSome, OnOk, if◌then◌else◌};
 ghost use Rattle.std.specs.Option.{option_map};
 ghost use Rattle.c11_macros.specs.Defines.{is_function_like};
 ghost use Rattle.c11_macros.specs.Expansion as expansion;
@@ -8,13 +8,17 @@ ghost use Rattle.c11_macros.specs.Hidden.{failure_at, with_name};
 ghost use Rattle.c11_macros.specs.Macros.{Macros};
 ghost use Rattle.sc_base.specs.declared.id.Name as declared_name;
 ghost use Rattle.sc_base.specs.declared.place.Place.{Place};
+ghost use Rattle.sc_base.specs.declared.stop.Stop.TheVariants as declared_stop;
 ghost use Rattle.sc_expand.specs.Machine.{IsHeldExpansion, at};
+ghost use Rattle.sc_expand.specs.Running.{PutsOut};
 ghost use Rattle.sc_expand.specs.Seen.{AreHeld, IsHeldToken, provenance_of, seen_at, stores};
-ghost use Rattle.sc_expand.specs.Taking.{Comes, IsBegun, IsHeldTaken, Replaces, step_at};
+ghost use Rattle.sc_expand.specs.Stops.{StopsBy};
+ghost use Rattle.sc_expand.specs.Taking.{Comes, IsBegun, IsHeldTaken, Replaces, step_at, untaken};
 ghost use Rattle.sc_expand.specs.Turn.{Turn};
+ghost use Rattle.sc_guarded.specs.Items.{items_at};
 ghost use Rattle.sc_macro.specs.Seen.{IsHeldDefinition, seen_definition, text_of};
 ghost use Rattle.sc_model.specs.Growth.{Extends};
-ghost use Rattle.sc_model.specs.Sets.{Sets, IsConfig, IsCond, Keeps};
+ghost use Rattle.sc_model.specs.Sets.{Sets, IsConfig, IsCond, IsNever, Keeps};
 ghost use Rattle.sc_subst.specs.Seen.{IsHeldHidden, IsHeldSet, hide_at, seen_hidden};
 ghost use Rattle.sc_subst.specs.Stops.{OnFault};
 ghost use Rattle.sc_table.specs.Table.{IsTable, macros_at};
@@ -38,6 +42,133 @@ pub struct Taken {
 }
 
 impl Expansion {
+    /// Takes the first token of the list, in all configurations that have it.
+    pub fn take<C: Conditions>(
+        &mut self,
+        conds: &mut C,
+        table: &MacroTable,
+        names: &mut Names,
+        files: &Files,
+        has: Cond,
+        token: Hidden,
+        limit: usize,
+    ) -> Result<(), Stop>
+        requires held { IsHeldExpansion (stores (C.sets conds.old) names.old self.old.sets) (length files.now) self.old }
+        requires first { slice_get self.old.top.work 0 ≡ Some (has, token) }
+        requires calls { self.old.top.calls.items ≡ [] }
+        requires table { IsTable (C.sets conds.old) names.old table.now }
+        ensures held { OnOk result (IsHeldExpansion (stores (C.sets conds.new) names.new self.new.sets) (length files.now) self.new) }
+        ensures below { OnOk result (self.new.below ≡ self.old.below) }
+        ensures turns { OnOk result ((c : List ℕ) → IsConfig (C.sets conds.old).arities c
+            → Turn (provenance_of files.now) (macros_at (C.sets conds.old) names.old table.now c)
+            (at (stores (C.sets conds.old) names.old self.old.sets) self.old c) (at (stores (C.sets conds.new) names.new self.new.sets) self.new c) ((C.sets conds.old).has has.0 c)) }
+        ensures out { OnOk result (PutsOut (stores (C.sets conds.old) names.old self.old.sets) (stores (C.sets conds.new) names.new self.new.sets) self.old.refusals.live.0 self.old.top.out self.new.top.out) }
+        ensures stops { IfErr result (StopsBy (C.sets conds.old).arities limit) }
+
+        // at every outcome
+        ensures keeps { Keeps (C.sets conds.old) (C.sets conds.new) }
+        ensures names { Extends names.old names.new }
+        ensures sets { Extends self.old.sets self.new.sets }
+    {
+        let cond = conds.apply_and(has, self.refusals.live)?;
+        let taken = self.take_under(conds, table, names, files, cond, token, limit)?;
+        self.put_out(conds, token, &taken)?;
+        Ok(())
+    }
+
+    /// Takes the first token of the list, in the configurations of a condition.
+    fn take_under<C: Conditions>(
+        &mut self,
+        conds: &mut C,
+        table: &MacroTable,
+        names: &mut Names,
+        files: &Files,
+        cond: Cond,
+        token: Hidden,
+        limit: usize,
+    ) -> Result<Taken, Stop>
+        requires held { IsHeldExpansion (stores (C.sets conds.old) names.old self.old.sets) (length files.now) self.old }
+        requires first { slice_get (map (λ item. item.1) self.old.top.work) 0 ≡ Some token }
+        requires cond_own { IsCond (C.sets conds.old) cond.0 }
+        requires token { IsHeldToken (stores (C.sets conds.old) names.old self.old.sets) (length files.now) token }
+        requires table { IsTable (C.sets conds.old) names.old table.now }
+        requires begun { (c : List ℕ) → IsConfig (C.sets conds.old).arities c → (C.sets conds.old).has cond.0 c ≡ true
+            → IsBegun (seen_hidden names.old self.old.sets token) (untaken (stores (C.sets conds.old) names.old self.old.sets) self.old c) }
+        ensures held { IfOk result (λ taken. IsHeldExpansion (stores (C.sets conds.new) names.new self.new.sets) (length files.now) self.new) }
+        ensures taken { IfOk result (λ taken. IsHeldTaken (stores (C.sets conds.new) names.new self.new.sets) (length files.now) taken) }
+        ensures below { IfOk result (λ taken. self.new.below ≡ self.old.below) }
+        ensures out { OnOk result (self.new.top.out ≡ self.old.top.out) }
+        ensures items { IfOk result (λ taken. map (λ item. item.1) self.new.top.work ≡ map (λ item. item.1) self.old.top.work) }
+        ensures comes { IfOk result (λ taken. (c : List ℕ) (macros : Macros) (rest : List (model.Hidden Place)) → IsConfig (C.sets conds.old).arities c → (C.sets conds.old).has cond.0 c ≡ true
+            → (at (stores (C.sets conds.old) names.old self.old.sets) self.old c).view.work ≡ seen_hidden names.old self.old.sets token ∷ rest
+            → macros (text_of names.old token.token.spelling) ≡ macros_at (C.sets conds.old) names.old table.now c (text_of names.old token.token.spelling)
+            → Comes (provenance_of files.now) macros (seen_hidden names.old self.old.sets token) rest
+            (at (stores (C.sets conds.old) names.old self.old.sets) self.old c) (step_at (stores (C.sets conds.new) names.new self.new.sets) self.new taken c)) }
+        ensures others { IfOk result (λ taken. (c : List ℕ) → IsConfig (C.sets conds.old).arities c → (C.sets conds.old).has cond.0 c ≡ false
+            → step_at (stores (C.sets conds.new) names.new self.new.sets) self.new taken c ≡ untaken (stores (C.sets conds.old) names.old self.old.sets) self.old c) }
+        ensures stops { IfErr result (StopsBy (C.sets conds.old).arities limit) }
+
+        // at every outcome
+        ensures keeps { Keeps (C.sets conds.old) (C.sets conds.new) }
+        ensures names { Extends names.old names.new }
+        ensures sets { Extends self.old.sets self.new.sets }
+    {
+        if is_looked_up(&self.sets, names, token) {
+            return self.take_name(conds, table, names, files, cond, token, limit);
+        }
+        Ok(Taken {
+            stays: cond,
+            made: Vec::new(self.alloc),
+        })
+    }
+
+    /// Takes a name that may be a macro's, in the configurations of a condition.
+    fn take_name<C: Conditions>(
+        &mut self,
+        conds: &mut C,
+        table: &MacroTable,
+        names: &mut Names,
+        files: &Files,
+        cond: Cond,
+        head: Hidden,
+        limit: usize,
+    ) -> Result<Taken, Stop>
+        requires held { IsHeldExpansion (stores (C.sets conds.old) names.old self.old.sets) (length files.now) self.old }
+        requires first { slice_get (map (λ item. item.1) self.old.top.work) 0 ≡ Some head }
+        requires cond_own { IsCond (C.sets conds.old) cond.0 }
+        requires head { IsHeldToken (stores (C.sets conds.old) names.old self.old.sets) (length files.now) head }
+        requires table { IsTable (C.sets conds.old) names.old table.now }
+        requires name { expansion.is_looked_up (seen_hidden names.old self.old.sets head) ≡ true }
+        requires begun { (c : List ℕ) → IsConfig (C.sets conds.old).arities c → (C.sets conds.old).has cond.0 c ≡ true
+            → IsBegun (seen_hidden names.old self.old.sets head) (untaken (stores (C.sets conds.old) names.old self.old.sets) self.old c) }
+        ensures held { IfOk result (λ taken. IsHeldExpansion (stores (C.sets conds.new) names.new self.new.sets) (length files.now) self.new) }
+        ensures taken { IfOk result (λ taken. IsHeldTaken (stores (C.sets conds.new) names.new self.new.sets) (length files.now) taken) }
+        ensures below { IfOk result (λ taken. self.new.below ≡ self.old.below) }
+        ensures out { OnOk result (self.new.top.out ≡ self.old.top.out) }
+        ensures items { IfOk result (λ taken. map (λ item. item.1) self.new.top.work ≡ map (λ item. item.1) self.old.top.work) }
+        ensures comes { IfOk result (λ taken. (c : List ℕ) (macros : Macros) (rest : List (model.Hidden Place)) → IsConfig (C.sets conds.old).arities c → (C.sets conds.old).has cond.0 c ≡ true
+            → (at (stores (C.sets conds.old) names.old self.old.sets) self.old c).view.work ≡ seen_hidden names.old self.old.sets head ∷ rest
+            → macros (text_of names.old head.token.spelling) ≡ macros_at (C.sets conds.old) names.old table.now c (text_of names.old head.token.spelling)
+            → Comes (provenance_of files.now) macros (seen_hidden names.old self.old.sets head) rest
+            (at (stores (C.sets conds.old) names.old self.old.sets) self.old c) (step_at (stores (C.sets conds.new) names.new self.new.sets) self.new taken c)) }
+        ensures others { IfOk result (λ taken. (c : List ℕ) → IsConfig (C.sets conds.old).arities c → (C.sets conds.old).has cond.0 c ≡ false
+            → step_at (stores (C.sets conds.new) names.new self.new.sets) self.new taken c ≡ untaken (stores (C.sets conds.old) names.old self.old.sets) self.old c) }
+        ensures stops { IfErr result (StopsBy (C.sets conds.old).arities limit) }
+
+        // at every outcome
+        ensures keeps { Keeps (C.sets conds.old) (C.sets conds.new) }
+        ensures names { Extends names.old names.new }
+        ensures sets { Extends self.old.sets self.new.sets }
+    {
+        let mut taken = Taken {
+            stays: conds.never(),
+            made: Vec::new(self.alloc),
+        };
+        let parts = table.lookup(conds, names, head.token.spelling, cond)?;
+        self.take_parts(conds, names, files, &parts, head, &mut taken, limit)?;
+        Ok(taken)
+    }
+
     /// The name is no longer first: it is put out where it stays, and what replaces it is first.
     fn put_out<C: Conditions>(
         &mut self,
@@ -55,6 +186,7 @@ impl Expansion {
             ≡ seen_at (stores (C.sets conds.now) names self.old.sets) self.old.top.out c ++ (if (C.sets conds.now).has taken.now.stays.0 c then seen_hidden names self.old.sets token ∷ [] else [])) }
         ensures held { OnOk result ((names : List (List ℕ)) (files : ℕ) → IsHeldToken (stores (C.sets conds.now) names self.old.sets) files token
             → AreHeld (stores (C.sets conds.now) names self.old.sets) files self.old.top.out → AreHeld (stores (C.sets conds.now) names self.old.sets) files self.new.top.out) }
+        ensures some { OnOk result (All (λ item. IsNever (C.sets conds.now) item.0.0 → ⊥) self.old.top.out → All (λ item. IsNever (C.sets conds.now) item.0.0 → ⊥) self.new.top.out) }
 
         // at every outcome
         ensures sets { self.new.sets ≡ self.old.sets }
@@ -63,6 +195,151 @@ impl Expansion {
         push_token(conds, &mut self.top.out, taken.stays, token)?;
         self.top.work.put_first(&taken.made)?;
         Ok(())
+    }
+
+    /// Takes a name, each configuration as it defines it.
+    fn take_parts<C: Conditions>(
+        &mut self,
+        conds: &mut C,
+        names: &mut Names,
+        files: &Files,
+        parts: &[(Cond, Option<Rc<Definition>>)],
+        head: Hidden,
+        taken: &mut Taken,
+        limit: usize,
+    ) -> Result<(), Stop>
+        requires held { IsHeldExpansion (stores (C.sets conds.old) names.old self.old.sets) (length files.now) self.old }
+        requires first { slice_get (map (λ item. item.1) self.old.top.work) 0 ≡ Some head }
+        requires taken { IsHeldTaken (stores (C.sets conds.old) names.old self.old.sets) (length files.now) taken.old }
+        requires head { IsHeldToken (stores (C.sets conds.old) names.old self.old.sets) (length files.now) head }
+        requires own { All (λ part. IsCond (C.sets conds.old) part.0.0) parts.now }
+        requires definitions { All (λ part. IfSome part.1 (λ shared. IsHeldDefinition names.old shared.value)) parts.now }
+        requires name { expansion.is_looked_up (seen_hidden names.old self.old.sets head) ≡ true }
+        requires one { (c : List ℕ) → IsConfig (C.sets conds.old).arities c → length (items_at (C.sets conds.old) parts.now c) ≤ 1 }
+        requires begun { (c : List ℕ) → IsConfig (C.sets conds.old).arities c → length (items_at (C.sets conds.old) parts.now c) ≡ 1
+            → IsBegun (seen_hidden names.old self.old.sets head) (step_at (stores (C.sets conds.old) names.old self.old.sets) self.old taken.old c) }
+        ensures held { OnOk result (IsHeldExpansion (stores (C.sets conds.new) names.new self.new.sets) (length files.now) self.new) }
+        ensures taken { OnOk result (IsHeldTaken (stores (C.sets conds.new) names.new self.new.sets) (length files.now) taken.new) }
+        ensures below { OnOk result (self.new.below ≡ self.old.below) }
+        ensures out { OnOk result (self.new.top.out ≡ self.old.top.out) }
+        ensures items { OnOk result (map (λ item. item.1) self.new.top.work ≡ map (λ item. item.1) self.old.top.work) }
+        ensures comes { OnOk result ((c : List ℕ) (macros : Macros) (rest : List (model.Hidden Place)) → IsConfig (C.sets conds.old).arities c
+            → (at (stores (C.sets conds.old) names.old self.old.sets) self.old c).view.work ≡ seen_hidden names.old self.old.sets head ∷ rest
+            → map (option_map (λ shared. seen_definition names.old shared.value)) (items_at (C.sets conds.old) parts.now c) ≡ macros (text_of names.old head.token.spelling) ∷ []
+            → Comes (provenance_of files.now) macros (seen_hidden names.old self.old.sets head) rest
+            (at (stores (C.sets conds.old) names.old self.old.sets) self.old c) (step_at (stores (C.sets conds.new) names.new self.new.sets) self.new taken.new c)) }
+        ensures others { OnOk result ((c : List ℕ) → IsConfig (C.sets conds.old).arities c → items_at (C.sets conds.old) parts.now c ≡ []
+            → step_at (stores (C.sets conds.new) names.new self.new.sets) self.new taken.new c ≡ step_at (stores (C.sets conds.old) names.old self.old.sets) self.old taken.old c) }
+        ensures stops { IfErr result (StopsBy (C.sets conds.old).arities limit) }
+
+        // at every outcome
+        ensures keeps { Keeps (C.sets conds.old) (C.sets conds.new) }
+        ensures names { Extends names.old names.new }
+        ensures sets { Extends self.old.sets self.new.sets }
+    {
+        for part in parts {
+            self.take_part(conds, names, files, part.0, &part.1, head, taken, limit)?;
+        }
+        Ok(())
+    }
+
+    /// Takes a name in configurations that define it alike, or not at all.
+    fn take_part<C: Conditions>(
+        &mut self,
+        conds: &mut C,
+        names: &mut Names,
+        files: &Files,
+        cond: Cond,
+        definition: &Option<Rc<Definition>>,
+        head: Hidden,
+        taken: &mut Taken,
+        limit: usize,
+    ) -> Result<(), Stop>
+        requires held { IsHeldExpansion (stores (C.sets conds.old) names.old self.old.sets) (length files.now) self.old }
+        requires first { slice_get (map (λ item. item.1) self.old.top.work) 0 ≡ Some head }
+        requires taken { IsHeldTaken (stores (C.sets conds.old) names.old self.old.sets) (length files.now) taken.old }
+        requires cond_own { IsCond (C.sets conds.old) cond.0 }
+        requires head { IsHeldToken (stores (C.sets conds.old) names.old self.old.sets) (length files.now) head }
+        requires definition { IfSome definition.now (λ shared. IsHeldDefinition names.old shared.value) }
+        requires name { expansion.is_looked_up (seen_hidden names.old self.old.sets head) ≡ true }
+        requires begun { (c : List ℕ) → IsConfig (C.sets conds.old).arities c → (C.sets conds.old).has cond.0 c ≡ true
+            → IsBegun (seen_hidden names.old self.old.sets head) (step_at (stores (C.sets conds.old) names.old self.old.sets) self.old taken.old c) }
+        ensures held { OnOk result (IsHeldExpansion (stores (C.sets conds.new) names.new self.new.sets) (length files.now) self.new) }
+        ensures taken { OnOk result (IsHeldTaken (stores (C.sets conds.new) names.new self.new.sets) (length files.now) taken.new) }
+        ensures below { OnOk result (self.new.below ≡ self.old.below) }
+        ensures out { OnOk result (self.new.top.out ≡ self.old.top.out) }
+        ensures items { OnOk result (map (λ item. item.1) self.new.top.work ≡ map (λ item. item.1) self.old.top.work) }
+        ensures comes { OnOk result ((c : List ℕ) (macros : Macros) (rest : List (model.Hidden Place)) → IsConfig (C.sets conds.old).arities c → (C.sets conds.old).has cond.0 c ≡ true
+            → (at (stores (C.sets conds.old) names.old self.old.sets) self.old c).view.work ≡ seen_hidden names.old self.old.sets head ∷ rest
+            → macros (text_of names.old head.token.spelling) ≡ option_map (λ shared. seen_definition names.old shared.value) definition.now
+            → Comes (provenance_of files.now) macros (seen_hidden names.old self.old.sets head) rest
+            (at (stores (C.sets conds.old) names.old self.old.sets) self.old c) (step_at (stores (C.sets conds.new) names.new self.new.sets) self.new taken.new c)) }
+        ensures others { OnOk result ((c : List ℕ) → IsConfig (C.sets conds.old).arities c → (C.sets conds.old).has cond.0 c ≡ false
+            → step_at (stores (C.sets conds.new) names.new self.new.sets) self.new taken.new c ≡ step_at (stores (C.sets conds.old) names.old self.old.sets) self.old taken.old c) }
+        ensures stops { IfErr result (StopsBy (C.sets conds.old).arities limit) }
+
+        // at every outcome
+        ensures keeps { Keeps (C.sets conds.old) (C.sets conds.new) }
+        ensures names { Extends names.old names.new }
+        ensures sets { Extends self.old.sets self.new.sets }
+    {
+        match definition {
+            None => {
+                taken.stays = conds.apply_or(taken.stays, cond)?;
+                Ok(())
+            }
+            Some(shared) => self.take_defined(
+                conds, names, files, cond, shared, head, taken, limit,
+            ),
+        }
+    }
+
+    /// Takes a macro's name: its calls leave the list, or its list replaces it.
+    fn take_defined<C: Conditions>(
+        &mut self,
+        conds: &mut C,
+        names: &mut Names,
+        files: &Files,
+        cond: Cond,
+        definition: &Definition,
+        head: Hidden,
+        taken: &mut Taken,
+        limit: usize,
+    ) -> Result<(), Stop>
+        requires held { IsHeldExpansion (stores (C.sets conds.old) names.old self.old.sets) (length files.now) self.old }
+        requires first { slice_get (map (λ item. item.1) self.old.top.work) 0 ≡ Some head }
+        requires taken { IsHeldTaken (stores (C.sets conds.old) names.old self.old.sets) (length files.now) taken.old }
+        requires cond_own { IsCond (C.sets conds.old) cond.0 }
+        requires head { IsHeldToken (stores (C.sets conds.old) names.old self.old.sets) (length files.now) head }
+        requires definition { IsHeldDefinition names.old definition.now }
+        requires name { expansion.is_looked_up (seen_hidden names.old self.old.sets head) ≡ true }
+        requires begun { (c : List ℕ) → IsConfig (C.sets conds.old).arities c → (C.sets conds.old).has cond.0 c ≡ true
+            → IsBegun (seen_hidden names.old self.old.sets head) (step_at (stores (C.sets conds.old) names.old self.old.sets) self.old taken.old c) }
+        ensures held { OnOk result (IsHeldExpansion (stores (C.sets conds.new) names.new self.new.sets) (length files.now) self.new) }
+        ensures taken { OnOk result (IsHeldTaken (stores (C.sets conds.new) names.new self.new.sets) (length files.now) taken.new) }
+        ensures below { OnOk result (self.new.below ≡ self.old.below) }
+        ensures out { OnOk result (self.new.top.out ≡ self.old.top.out) }
+        ensures items { OnOk result (map (λ item. item.1) self.new.top.work ≡ map (λ item. item.1) self.old.top.work) }
+        ensures comes { OnOk result ((c : List ℕ) (macros : Macros) (rest : List (model.Hidden Place)) → IsConfig (C.sets conds.old).arities c → (C.sets conds.old).has cond.0 c ≡ true
+            → (at (stores (C.sets conds.old) names.old self.old.sets) self.old c).view.work ≡ seen_hidden names.old self.old.sets head ∷ rest
+            → macros (text_of names.old head.token.spelling) ≡ Some (seen_definition names.old definition.now)
+            → Comes (provenance_of files.now) macros (seen_hidden names.old self.old.sets head) rest
+            (at (stores (C.sets conds.old) names.old self.old.sets) self.old c) (step_at (stores (C.sets conds.new) names.new self.new.sets) self.new taken.new c)) }
+        ensures others { OnOk result ((c : List ℕ) → IsConfig (C.sets conds.old).arities c → (C.sets conds.old).has cond.0 c ≡ false
+            → step_at (stores (C.sets conds.new) names.new self.new.sets) self.new taken.new c ≡ step_at (stores (C.sets conds.old) names.old self.old.sets) self.old taken.old c) }
+        ensures stops { IfErr result (StopsBy (C.sets conds.old).arities limit) }
+
+        // at every outcome
+        ensures keeps { Keeps (C.sets conds.old) (C.sets conds.new) }
+        ensures names { Extends names.old names.new }
+        ensures sets { Extends self.old.sets self.new.sets }
+    {
+        if definition.form.is_function_like() {
+            let uncalled = self.gather(conds, names, files, cond, definition, head, limit)?;
+            taken.stays = conds.apply_or(taken.stays, uncalled)?;
+            return Ok(());
+        }
+        self.put_object(conds, names, files, cond, definition, head, &mut taken.made)
     }
 
     /// Adds the list that replaces an object-like macro's name, or refuses it.
@@ -93,6 +370,7 @@ impl Expansion {
         ensures others { OnOk result ((c : List ℕ) → IsConfig (C.sets conds.old).arities c → (C.sets conds.old).has cond.0 c ≡ false
             → (at (stores (C.sets conds.new) names.new self.new.sets) self.new c ≡ at (stores (C.sets conds.old) names.old self.old.sets) self.old c)
             × (seen_at (stores (C.sets conds.new) names.new self.new.sets) made.new.items c ≡ seen_at (stores (C.sets conds.old) names.old self.old.sets) made.old.items c)) }
+        ensures stops { IfErr result (λ stop. stop ≡ declared_stop.OutOfMemory) }
 
         // at every outcome
         ensures keeps { Keeps (C.sets conds.old) (C.sets conds.new) }
@@ -126,6 +404,7 @@ fn push_token<C: Conditions>(
         ≡ seen_at (stores (C.sets conds.now) names sets) list.old c ++ (if (C.sets conds.now).has cond.0 c then seen_hidden names sets token ∷ [] else [])) }
     ensures held { OnOk result ((names : List (List ℕ)) (sets : List (List declared_name.Name)) (files : ℕ) → IsHeldToken (stores (C.sets conds.now) names sets) files token
         → AreHeld (stores (C.sets conds.now) names sets) files list.old → AreHeld (stores (C.sets conds.now) names sets) files list.new) }
+    ensures some { OnOk result (All (λ item. IsNever (C.sets conds.now) item.0.0 → ⊥) list.old → All (λ item. IsNever (C.sets conds.now) item.0.0 → ⊥) list.new) }
 {
     if conds.is_never(cond) {
         return Ok(());

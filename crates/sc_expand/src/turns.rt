@@ -2,6 +2,7 @@
 ghost use Rattle.std.specs.Prelude.{◌≡◌, ℕ, ◌++◌, ◌∷◌, [], List, true, map, slice_set, IfOk, OnOk};
 ghost use Rattle.c11_macros.specs.Macros.{Macros};
 ghost use Rattle.sc_expand.specs.Machine.{IsHeldExpansion, IsResumed, Progress, at, at_call};
+ghost use Rattle.sc_expand.specs.Running.{put_out};
 ghost use Rattle.sc_expand.specs.Seen.{IsHeldCall, calls_at, provenance_of, stores};
 ghost use Rattle.sc_expand.specs.Turn.{Turn};
 ghost use Rattle.sc_model.specs.Growth.{Extends};
@@ -80,6 +81,7 @@ impl Expansion {
         ensures held { OnOk result ((files : ℕ) → IsHeldExpansion (stores (C.sets conds.old) names.now self.old.sets) files self.old
             → IsHeldCall (stores (C.sets conds.old) names.now self.old.sets) files call → IsHeldExpansion (stores (C.sets conds.new) names.now self.new.sets) files self.new) }
         ensures below { OnOk result (self.new.below ≡ self.old.below) }
+        ensures out { OnOk result (self.new.top.out ≡ self.old.top.out) }
         ensures turns { OnOk result ((files : List (List ℕ)) (macros : Macros) (c : List ℕ) → IsConfig (C.sets conds.old).arities c
             → Turn (provenance_of files) macros (at_call (stores (C.sets conds.old) names.now self.old.sets) self.old call c)
             (at (stores (C.sets conds.new) names.now self.new.sets) self.new c) ((C.sets conds.old).has call.cond.0 c)) }
@@ -121,6 +123,7 @@ impl Expansion {
             self.old.below.items self.new.below.items
             (at_call (stores (C.sets conds.old) names.now self.old.sets) self.old call c)
             (at (stores (C.sets conds.new) names.now self.new.sets) self.new c) ((C.sets conds.old).has call.cond.0 c)) }
+        ensures out { OnOk result (put_out self.new ≡ put_out self.old) }
 
         // at every outcome
         ensures keeps { Keeps (C.sets conds.old) (C.sets conds.new) }

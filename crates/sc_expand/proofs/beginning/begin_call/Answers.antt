@@ -2,7 +2,7 @@ use Rattle.std.proofs.Common.{◌∙◌, map, sym, Vec, Global}
 use Rattle.std.proofs.lemmas.List.{length-map}
 use Rattle.std.proofs.lemmas.List.Elements.{All-weaker}
 use Rattle.sc_base.proofs.Growth.{Extends-refl}
-use Rattle.sc_expand.proofs.BeginningLemmas.{begins, held_call, in_none, in_some, tokens_later}
+use Rattle.sc_expand.proofs.BeginningLemmas.{begins, files_of, held_call, in_none, in_some, tokens_later}
 use Rattle.sc_expand.specs.declared.call.Call.{Call}
 use Rattle.sc_expand.specs.Seen.{stores}
 use Rattle.sc_macro.specs.Seen.{seen_form, seen_item}
@@ -30,10 +30,11 @@ returns-in_ok-expanded-in-Some-clause-some c =
     (c.in_ok-expanded-in-Some.ensures.len ∙ sym (length-map c.args.raw.now lists)) c.in_ok-expanded-in-Some.ensures.empty
 
 pub returns-in_ok-expanded-in-Some-clause-held : goal.returns-in_ok-expanded-in-Some-clause-held
-returns-in_ok-expanded-in-Some-clause-held c = λ s files own head raw template.
+returns-in_ok-expanded-in-Some-clause-held c = λ s files own head raw.
     let call : Call = record { cond = c.args.cond; head = c.args.head; hide = c.in_ok-hide.hide; template = c.in-Some.template; wanted = c.in_ok-wanted-in-Some.wanted; expanded = c.in_ok-expanded-in-Some.expanded } in
     held_call c.args.names.now c.template_of.new.names c.args.sets.now c.hide_of_call.new.sets c.template_of.new.sets c.template_of.ensures.names c.hide_of_call.ensures.sets c.template_of.ensures.sets
-    s files call own head c.in_ok-hide.ensures.held template
+    s files call own head c.in_ok-hide.ensures.held
+    (in_some _ c.in_ok-made.made c.in-Some.template c.in-Some.is c.in_ok-made.ensures.held s files head.file (files_of (stores s c.args.names.now c.args.sets.now) files c.args.raw.now raw))
     (c.in_ok-wanted-in-Some.ensures.own (stores s c.template_of.new.names c.template_of.new.sets) files
     (tokens_later c.args.names.now c.template_of.new.names c.args.sets.now c.hide_of_call.new.sets c.template_of.new.sets c.template_of.ensures.names c.hide_of_call.ensures.sets c.template_of.ensures.sets s files c.args.raw.now raw))
     c.in_ok-expanded-in-Some.ensures.empty

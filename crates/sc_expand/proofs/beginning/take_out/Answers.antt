@@ -1,7 +1,8 @@
-use Rattle.std.proofs.Common.{◌≡◌, ◌∙◌, [], not, take, if◌then◌else◌}
+use Rattle.std.proofs.Common.{◌≡◌, ◌∙◌, [], false, true, not, ap, take, if◌then◌else◌}
 use Rattle.std.proofs.lemmas.List.Elements.{All-take}
 use Rattle.sc_base.specs.declared.id.Cond.{Cond}
-use Rattle.sc_expand.proofs.BeginningLemmas.{taken_out}
+use Rattle.sc_expand.proofs.BeginningLemmas.{first_gone, taken_out}
+use Rattle.sc_expand.proofs.WorkListLemmas.{has_each-Keeps}
 use Rattle.sc_guarded.proofs.ItemLemmas.{items_at-Keeps}
 use Rattle.sc_guarded.specs.Items.{items_at}
 use Rattle.sc_model.proofs.SetLemmas.{Denotes-self, IsConfig-Keeps, Keeps-trans}
@@ -22,3 +23,22 @@ returns-clause-taken g c = λ x listed.
     let same : items_at mid (take n list) x ≡ items_at old (take n list) x = items_at-Keeps (take n list) x first (All-take (λ (item : Cond × Hidden). IsCond old item.0.0) n list c.requires.own) listed in
     taken_out old now list c.restrict_before.new.self n (old.has c.args.cond.0 x) x (Keeps-trans first c.in_ok-restrict_before.ensures.keeps) listed c.requires.own c.in_ok-restrict_before.ensures.rest
     (c.in_ok-restrict_before.ensures.restricted x here ∙ (λ i. if test i then same i else []))
+
+pub returns-clause-others : goal.returns-clause-others
+returns-clause-others g c = λ x listed no.
+    let old = g.C.Conditions.sets c.args.conds.now in
+    let mid = g.C.Conditions.sets c.negate.new.self in
+    let first = c.in_ok-others.ensures.keeps in
+    let here = IsConfig-Keeps first listed in
+    let test : mid.has c.in_ok-others.others.0 x ≡ true = (c.in_ok-others.ensures.meaning _ (Denotes-self old c.args.cond.0 c.requires.cond_own)).at x here ∙ ap not no in
+    c.in_ok-restrict_before.ensures.others x here test ∙ has_each-Keeps c.args.list.now x first c.requires.own listed
+
+pub returns-clause-first : goal.returns-clause-first
+returns-clause-first g c = λ x listed has some.
+    let old = g.C.Conditions.sets c.args.conds.now in
+    let mid = g.C.Conditions.sets c.negate.new.self in
+    let now = g.C.Conditions.sets c.restrict_before.new.conds in
+    let first = c.in_ok-others.ensures.keeps in
+    let here = IsConfig-Keeps first listed in
+    let test : mid.has c.in_ok-others.others.0 x ≡ false = (c.in_ok-others.ensures.meaning _ (Denotes-self old c.args.cond.0 c.requires.cond_own)).at x here ∙ ap not has in
+    first_gone now c.restrict_before.new.self c.args.count x some (c.in_ok-restrict_before.ensures.restricted x here ∙ ap (λ b. if b then items_at mid (take c.args.count c.args.list.now) x else []) test)

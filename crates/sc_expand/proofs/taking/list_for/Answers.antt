@@ -3,7 +3,8 @@ use Rattle.std.specs.Cow.{cow_slice_items}
 use Rattle.c11_macros.specs.Hidden.{failure_at}
 use Rattle.sc_base.proofs.Growth.{Extends-refl, Extends-trans}
 use Rattle.sc_base.specs.Seen.{seen_place}
-use Rattle.sc_expand.proofs.TakingLemmas.{grown-form, grown-hide, grown-list, placed-result, same-result}
+use Rattle.sc_expand.proofs.Placing.{placed-result}
+use Rattle.sc_expand.proofs.TakingLemmas.{grown-form, grown-hide, grown-list, same-result}
 use Rattle.sc_expand.specs.Seen.{provenance_of}
 use Rattle.sc_macro.specs.Seen.{seen_form, seen_item}
 use Rattle.sc_subst.proofs.Store.{if_err, if_ok}

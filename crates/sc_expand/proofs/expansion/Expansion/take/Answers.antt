@@ -1,0 +1,131 @@
+use Rattle.std.proofs.Common.{◌≡◌, ◌∙◌, All, List, ap, drop, length, sym, subst}
+use Rattle.std.specs.Prelude.{slice_get}
+use Rattle.sc_base.proofs.Growth.{Extends-refl}
+use Rattle.sc_base.specs.declared.id.Cond.{Cond}
+use Rattle.sc_expand.proofs.PuttingOut.{some-Keeps}
+use Rattle.sc_expand.proofs.SeenLemmas.{IsHeldExpansion-Grows, IsTable-Grows, seen_at-append, token-Grows}
+use Rattle.sc_expand.proofs.TakingTurns.{both_true, first-begun, first-held, first-own, first-token, put-ends, put-held, refused-out, take-turn}
+use Rattle.sc_expand.specs.Machine.{IsHeldExpansion, at}
+use Rattle.sc_expand.specs.Seen.{Grows, provenance_of, seen_at, stores}
+use Rattle.sc_expand.specs.Turn.{Turn}
+use Rattle.sc_model.proofs.SetLemmas.{Denotes-self, IsConfig-Keeps, IsConfig-kept, Keeps-trans}
+use Rattle.sc_model.specs.Sets.{IsNever, Keeps}
+use Rattle.sc_subst.specs.declared.hidden.Hidden.{Hidden}
+use Rattle.sc_table.specs.Table.{macros_at}
+use Rattle.sc_expand.proofs.expansion.Expansion.take.Goals as goal
+
+pub take_under-requires-clause-held : goal.take_under-requires-clause-held
+take_under-requires-clause-held g c =
+    let n = c.args.names.now in
+    let h = c.args.self.now.sets in
+    let grows : Grows (stores (g.C.Conditions.sets c.args.conds.now) n h) (stores (g.C.Conditions.sets c.apply_and.new.self) n h) = record { sets = c.apply_and.ensures.keeps; names = Extends-refl n; hides = Extends-refl h } in
+    IsHeldExpansion-Grows grows c.args.self.now c.requires.held
+
+pub take_under-requires-clause-first : goal.take_under-requires-clause-first
+take_under-requires-clause-first g c = first-token c.args.self.now.top.work (c.args.has, c.args.token) c.requires.first
+
+pub take_under-requires-clause-token : goal.take_under-requires-clause-token
+take_under-requires-clause-token g c =
+    let s = g.C.Conditions.sets c.args.conds.now in
+    let n = c.args.names.now in
+    let h = c.args.self.now.sets in
+    let grows : Grows (stores s n h) (stores (g.C.Conditions.sets c.apply_and.new.self) n h) = record { sets = c.apply_and.ensures.keeps; names = Extends-refl n; hides = Extends-refl h } in
+    token-Grows grows c.args.token (first-held (stores s n h) (length c.args.files.now) c.args.self.now.top.work (c.args.has, c.args.token) c.requires.first c.requires.held.top.work)
+
+pub take_under-requires-clause-table : goal.take_under-requires-clause-table
+take_under-requires-clause-table g c =
+    let n = c.args.names.now in
+    let h = c.args.self.now.sets in
+    let grows : Grows (stores (g.C.Conditions.sets c.args.conds.now) n h) (stores (g.C.Conditions.sets c.apply_and.new.self) n h) = record { sets = c.apply_and.ensures.keeps; names = Extends-refl n; hides = Extends-refl h } in
+    IsTable-Grows grows c.requires.table
+
+pub take_under-requires-clause-begun : goal.take_under-requires-clause-begun
+take_under-requires-clause-begun g c = λ x listed has.
+    let s0 = g.C.Conditions.sets c.args.conds.now in
+    let s1 = g.C.Conditions.sets c.apply_and.new.self in
+    let n = c.args.names.now in
+    let h = c.args.self.now.sets in
+    let e = c.args.self.now in
+    let item : Cond × Hidden = (c.args.has, c.args.token) in
+    let own = first-own (stores s0 n h) (length c.args.files.now) e.top.work item c.requires.first c.requires.held.top.work in
+    let live = c.requires.held.refusals.live in
+    let first = IsConfig-kept c.apply_and.ensures.keeps listed in
+    let meets = c.in_ok-cond.ensures.meaning _ _ (Denotes-self s0 c.args.has.0 own) (Denotes-self s0 e.refusals.live.0 live) in
+    let both = both_true (s0.has c.args.has.0 x) (s0.has e.refusals.live.0 x) (sym (meets.at x listed) ∙ has) in
+    first-begun (stores s1 n h) e item x c.requires.first c.requires.calls (c.apply_and.ensures.keeps.at c.args.has.0 x own first ∙ both.0) (c.apply_and.ensures.keeps.at e.refusals.live.0 x live first ∙ both.1)
+
+pub returns-in_err-put_out-clause-keeps : goal.returns-in_err-put_out-clause-keeps
+returns-in_err-put_out-clause-keeps g c = Keeps-trans c.apply_and.ensures.keeps c.take_under.ensures.keeps
+
+pub returns-clause-keeps : goal.returns-clause-keeps
+returns-clause-keeps g c = Keeps-trans c.apply_and.ensures.keeps c.take_under.ensures.keeps
+
+pub returns-clause-held : goal.returns-clause-held
+returns-clause-held g c =
+    let s0 = g.C.Conditions.sets c.args.conds.now in
+    let s2 = g.C.Conditions.sets c.take_under.new.conds in
+    let n = c.take_under.new.names in
+    let h = c.take_under.new.self.sets in
+    let files = length c.args.files.now in
+    let put = c.in_ok-put_out.ensures in
+    let all : Grows (stores s0 c.args.names.now c.args.self.now.sets) (stores s2 n h) =
+    record { sets = Keeps-trans c.apply_and.ensures.keeps c.take_under.ensures.keeps; names = c.take_under.ensures.names; hides = c.take_under.ensures.sets } in
+    let token = token-Grows all c.args.token
+    (first-held (stores s0 c.args.names.now c.args.self.now.sets) files c.args.self.now.top.work (c.args.has, c.args.token) c.requires.first c.requires.held.top.work) in
+    let held = c.in_ok-taken.ensures.held in
+    subst (λ hides. IsHeldExpansion (stores s2 n hides) files c.put_out.new.self) (sym put.sets)
+    (put-held (stores s2 n h) c.take_under.new.self c.put_out.new.self c.in_ok-taken.taken c.args.token put.refusals put.calls put.work files put.below held c.in_ok-taken.ensures.taken
+    (put.held n files token held.top.out))
+
+pub returns-clause-turns : goal.returns-clause-turns
+returns-clause-turns g c = λ x listed.
+    let s0 = g.C.Conditions.sets c.args.conds.now in
+    let s1 = g.C.Conditions.sets c.apply_and.new.self in
+    let s2 = g.C.Conditions.sets c.take_under.new.conds in
+    let n = c.args.names.now in
+    let h = c.args.self.now.sets in
+    let n2 = c.take_under.new.names in
+    let h2 = c.take_under.new.self.sets in
+    let st = stores s2 n2 h2 in
+    let was = c.args.self.now in
+    let now = c.take_under.new.self in
+    let next = c.put_out.new.self in
+    let taken = c.in_ok-taken.taken in
+    let item : Cond × Hidden = (c.args.has, c.args.token) in
+    let put = c.in_ok-put_out.ensures in
+    let grows : Grows (stores s1 n h) st = record { sets = c.take_under.ensures.keeps; names = c.take_under.ensures.names; hides = c.take_under.ensures.sets } in
+    let own = first-own (stores s0 n h) (length c.args.files.now) was.top.work item c.requires.first c.requires.held.top.work in
+    let meets = c.in_ok-cond.ensures.meaning _ _ (Denotes-self s0 c.args.has.0 own) (Denotes-self s0 was.refusals.live.0 c.requires.held.refusals.live) in
+    let listed2 = IsConfig-Keeps c.take_under.ensures.keeps (IsConfig-Keeps c.apply_and.ensures.keeps listed) in
+    let first = ap (λ l. slice_get l 0) c.in_ok-taken.ensures.items ∙ first-token was.top.work item c.requires.first in
+    let ends = put-ends st now next taken c.args.token put.refusals put.calls put.work x first (put.out n2 x listed2) (seen_at-append st taken.made.items (drop 1 now.top.work) x) in
+    subst (λ hides. Turn (provenance_of c.args.files.now) (macros_at s0 n c.args.table.now x) (at (stores s0 n h) was x) (at (stores s2 n2 hides) next x) (s0.has c.args.has.0 x)) (sym put.sets)
+    (take-turn s0 s1 n h st c.args.files.now c.args.table.now c.apply_and.ensures.keeps grows was now next taken item c.in_ok-cond.cond c.requires.held c.requires.table c.requires.first c.requires.calls meets
+    c.in_ok-taken.ensures.comes c.in_ok-taken.ensures.others x (seen_at st (drop 1 now.top.work) x) listed ends)
+
+pub returns-clause-out : goal.returns-clause-out
+returns-clause-out g c =
+    let s0 = g.C.Conditions.sets c.args.conds.now in
+    let s1 = g.C.Conditions.sets c.apply_and.new.self in
+    let s2 = g.C.Conditions.sets c.take_under.new.conds in
+    let n = c.args.names.now in
+    let h = c.args.self.now.sets in
+    let n2 = c.take_under.new.names in
+    let st = stores s2 n2 c.take_under.new.self.sets in
+    let was = c.args.self.now in
+    let next = c.put_out.new.self in
+    let item : Cond × Hidden = (c.args.has, c.args.token) in
+    let put = c.in_ok-put_out.ensures in
+    let grows : Grows (stores s1 n h) st = record { sets = c.take_under.ensures.keeps; names = c.take_under.ensures.names; hides = c.take_under.ensures.sets } in
+    let own = first-own (stores s0 n h) (length c.args.files.now) was.top.work item c.requires.first c.requires.held.top.work in
+    let meets = c.in_ok-cond.ensures.meaning _ _ (Denotes-self s0 c.args.has.0 own) (Denotes-self s0 was.refusals.live.0 c.requires.held.refusals.live) in
+    let all : Keeps s0 s2 = Keeps-trans c.apply_and.ensures.keeps c.take_under.ensures.keeps in
+    let Some : List (Cond × Hidden) → Type 0 = All (λ (item : Cond × Hidden). IsNever s2 item.0.0 → ⊥) in
+    record {
+      apart = λ x listed dead.
+          let listed2 = IsConfig-Keeps c.take_under.ensures.keeps (IsConfig-Keeps c.apply_and.ensures.keeps listed) in
+          subst (λ hides. seen_at (stores s2 n2 hides) next.top.out x ≡ seen_at (stores s0 n h) was.top.out x) (sym put.sets)
+          (refused-out s0 s1 n h st c.args.files.now c.args.table.now c.apply_and.ensures.keeps grows was c.take_under.new.self next c.in_ok-taken.taken item c.in_ok-cond.cond c.requires.held meets
+          c.in_ok-taken.ensures.others x listed dead (put.out n2 x listed2));
+      some = λ before. put.some (subst Some (sym c.in_ok-taken.ensures.out) (some-Keeps all was.top.out c.requires.held.top.out.own before));
+    }

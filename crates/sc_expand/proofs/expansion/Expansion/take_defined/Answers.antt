@@ -1,0 +1,95 @@
+use Rattle.std.proofs.Common.{◌∙◌, ◌||◌, ap, sym}
+use Rattle.sc_base.proofs.Growth.{Extends-refl}
+use Rattle.sc_expand.proofs.SeenLemmas.{AreHeld-Grows, IsHeldExpansion-Grows, at-Grows, seen_at-Grows}
+use Rattle.sc_expand.proofs.TakingLemmas.{or_false}
+use Rattle.sc_expand.proofs.TakingSteps.{both-on-ok, called-comes, has_first-Keeps, object-comes, same-step}
+use Rattle.sc_expand.specs.Machine.{at}
+use Rattle.sc_expand.specs.Seen.{Grows, provenance_of, stores}
+use Rattle.sc_expand.specs.Taking.{has_first}
+use Rattle.sc_macro.specs.Seen.{seen_definition}
+use Rattle.sc_model.proofs.SetLemmas.{Denotes-self, IsConfig-Keeps, Keeps-trans}
+use Rattle.sc_subst.specs.Seen.{seen_hidden}
+use Rattle.sc_expand.proofs.expansion.Expansion.take_defined.Goals as goal
+
+pub returns-in_err-taken-clause-keeps : goal.returns-in_err-taken-clause-keeps
+returns-in_err-taken-clause-keeps g c = Keeps-trans c.gather.ensures.keeps c.apply_or.ensures.keeps
+
+pub returns-then-is_function_like-clause-keeps : goal.returns-then-is_function_like-clause-keeps
+returns-then-is_function_like-clause-keeps g c = Keeps-trans c.gather.ensures.keeps c.apply_or.ensures.keeps
+
+pub returns-then-is_function_like-clause-held : goal.returns-then-is_function_like-clause-held
+returns-then-is_function_like-clause-held g c =
+    let n = c.gather.new.names in
+    let h = c.gather.new.self.sets in
+    let later : Grows (stores (g.C.Conditions.sets c.gather.new.conds) n h) (stores (g.C.Conditions.sets c.apply_or.new.self) n h) = record { sets = c.apply_or.ensures.keeps; names = Extends-refl n; hides = Extends-refl h } in
+    IsHeldExpansion-Grows later c.gather.new.self c.in_ok-uncalled.ensures.held
+
+pub returns-then-is_function_like-clause-taken : goal.returns-then-is_function_like-clause-taken
+returns-then-is_function_like-clause-taken g c =
+    let all : Grows (stores (g.C.Conditions.sets c.args.conds.now) c.args.names.now c.args.self.now.sets) (stores (g.C.Conditions.sets c.apply_or.new.self) c.gather.new.names c.gather.new.self.sets) =
+    record { sets = Keeps-trans c.gather.ensures.keeps c.apply_or.ensures.keeps; names = c.gather.ensures.names; hides = c.gather.ensures.sets } in
+    record { stays = c.in_ok-taken.ensures.own; made = AreHeld-Grows all c.args.taken.now.made.items c.requires.taken.made }
+
+pub returns-then-is_function_like-clause-comes : goal.returns-then-is_function_like-clause-comes
+returns-then-is_function_like-clause-comes g c = λ x macros rest listed has work is.
+    let s0 = g.C.Conditions.sets c.args.conds.now in
+    let s1 = g.C.Conditions.sets c.gather.new.conds in
+    let s2 = g.C.Conditions.sets c.apply_or.new.self in
+    let n = c.gather.new.names in
+    let h = c.gather.new.self.sets in
+    let later : Grows (stores s1 n h) (stores s2 n h) = record { sets = c.apply_or.ensures.keeps; names = Extends-refl n; hides = Extends-refl h } in
+    let all : Grows (stores s0 c.args.names.now c.args.self.now.sets) (stores s2 n h) = record { sets = Keeps-trans c.gather.ensures.keeps c.apply_or.ensures.keeps; names = c.gather.ensures.names; hides = c.gather.ensures.sets } in
+    let begun = c.requires.begun x listed has in
+    let mid = IsConfig-Keeps c.gather.ensures.keeps listed in
+    let e = c.gather.new.self in
+    let held = c.in_ok-uncalled.ensures.held in
+    let told = c.in_ok-taken.ensures.meaning _ _ (Denotes-self s1 c.args.taken.now.stays.0 (c.gather.ensures.keeps.own _ c.requires.taken.stays)) (Denotes-self s1 c.in_ok-uncalled.uncalled.0 c.in_ok-uncalled.ensures.own) in
+    let stays = told.at x (IsConfig-Keeps c.apply_or.ensures.keeps mid)
+    ∙ ap (λ b. b || s1.has c.in_ok-uncalled.uncalled.0 x) (c.gather.ensures.keeps.at c.args.taken.now.stays.0 x c.requires.taken.stays listed ∙ begun.stays) in
+    called-comes (provenance_of c.args.files.now) macros (seen_hidden c.args.names.now c.args.self.now.sets c.args.head) rest
+    (at (stores s0 c.args.names.now c.args.self.now.sets) c.args.self.now x) (at (stores s1 n h) e x) (at (stores s2 n h) e x) (s1.has c.in_ok-uncalled.uncalled.0 x)
+    _ _ _ (at-Grows later x mid e held) begun.live
+    (λ live. has_first-Keeps c.apply_or.ensures.keeps e.top.work held.top.work.own x mid ∙ c.in_ok-uncalled.ensures.first_called x listed has live)
+    stays (seen_at-Grows all x listed c.args.taken.now.made.items c.requires.taken.made ∙ begun.made)
+    (c.in_ok-uncalled.ensures.gathers x macros rest listed has work c.requires.name is)
+
+pub returns-then-is_function_like-clause-others : goal.returns-then-is_function_like-clause-others
+returns-then-is_function_like-clause-others g c = λ x listed no.
+    let s0 = g.C.Conditions.sets c.args.conds.now in
+    let s1 = g.C.Conditions.sets c.gather.new.conds in
+    let s2 = g.C.Conditions.sets c.apply_or.new.self in
+    let n = c.gather.new.names in
+    let h = c.gather.new.self.sets in
+    let later : Grows (stores s1 n h) (stores s2 n h) = record { sets = c.apply_or.ensures.keeps; names = Extends-refl n; hides = Extends-refl h } in
+    let all : Grows (stores s0 c.args.names.now c.args.self.now.sets) (stores s2 n h) = record { sets = Keeps-trans c.gather.ensures.keeps c.apply_or.ensures.keeps; names = c.gather.ensures.names; hides = c.gather.ensures.sets } in
+    let mid = IsConfig-Keeps c.gather.ensures.keeps listed in
+    let e = c.gather.new.self in
+    let held = c.in_ok-uncalled.ensures.held in
+    let other = c.in_ok-uncalled.ensures.others x listed no in
+    let was = c.gather.ensures.keeps.at c.args.taken.now.stays.0 x c.requires.taken.stays listed in
+    let told = c.in_ok-taken.ensures.meaning _ _ (Denotes-self s1 c.args.taken.now.stays.0 (c.gather.ensures.keeps.own _ c.requires.taken.stays)) (Denotes-self s1 c.in_ok-uncalled.uncalled.0 c.in_ok-uncalled.ensures.own) in
+    same-step (at-Grows later x mid e held ∙ other.0)
+    (has_first-Keeps c.apply_or.ensures.keeps e.top.work held.top.work.own x mid ∙ c.in_ok-uncalled.ensures.first_others x listed no)
+    (told.at x (IsConfig-Keeps c.apply_or.ensures.keeps mid) ∙ (ap (λ b. b || s1.has c.in_ok-uncalled.uncalled.0 x) was ∙ (ap (λ b. s0.has c.args.taken.now.stays.0 x || b) other.1 ∙ or_false (s0.has c.args.taken.now.stays.0 x))))
+    (seen_at-Grows all x listed c.args.taken.now.made.items c.requires.taken.made)
+
+pub returns-clause-comes : goal.returns-clause-comes
+returns-clause-comes g c = both-on-ok c.put_object.result
+    (λ replaces top x macros rest listed has work is.
+    let s1 = g.C.Conditions.sets c.put_object.new.conds in
+    let begun = c.requires.begun x listed has in
+    let first = ap (λ f. has_first s1 f.work x) top ∙ (has_first-Keeps c.put_object.ensures.keeps c.args.self.now.top.work c.requires.held.top.work.own x listed ∙ begun.first) in
+    let stays = c.put_object.ensures.keeps.at c.args.taken.now.stays.0 x c.requires.taken.stays listed ∙ begun.stays in
+    let formed = sym (c.is_function_like.ensures c.args.names.now) ∙ c.if-is_function_like.false in
+    object-comes (provenance_of c.args.files.now) macros (seen_hidden c.args.names.now c.args.self.now.sets c.args.head) rest (seen_definition c.args.names.now c.args.definition.now)
+    (at (stores (g.C.Conditions.sets c.args.conds.now) c.args.names.now c.args.self.now.sets) c.args.self.now x) _ _ _ _ _ c.requires.name is formed work begun.calls begun.made first stays (replaces x listed has))
+    c.put_object.ensures.replaces c.put_object.ensures.top
+
+pub returns-clause-others : goal.returns-clause-others
+returns-clause-others g c = both-on-ok c.put_object.result
+    (λ others top x listed no.
+    let s1 = g.C.Conditions.sets c.put_object.new.conds in
+    let first = ap (λ f. has_first s1 f.work x) top ∙ has_first-Keeps c.put_object.ensures.keeps c.args.self.now.top.work c.requires.held.top.work.own x listed in
+    let other = others x listed no in
+    same-step other.0 first (c.put_object.ensures.keeps.at c.args.taken.now.stays.0 x c.requires.taken.stays listed) other.1)
+    c.put_object.ensures.others c.put_object.ensures.top

@@ -1,0 +1,66 @@
+use Rattle.std.proofs.Common.{◌∙◌, ◌∷◌, [], ap, map, subst, sym, if◌then◌else◌}
+use Rattle.sc_base.proofs.Growth.{Extends-refl}
+use Rattle.sc_expand.proofs.SeenLemmas.{IsHeldExpansion-Grows, at-Grows}
+use Rattle.sc_expand.proofs.TakingParts.{none-found, one-found, seen_by, still-untaken}
+use Rattle.sc_expand.specs.Seen.{Grows, provenance_of, stores}
+use Rattle.sc_expand.specs.Taking.{Comes, IsBegun, step_at}
+use Rattle.sc_expand.specs.Turn.{At}
+use Rattle.sc_guarded.specs.Items.{items_at}
+use Rattle.sc_macro.specs.Seen.{text_of}
+use Rattle.sc_model.proofs.SetLemmas.{IsConfig-Keeps, IsConfig-kept, Keeps-trans}
+use Rattle.sc_subst.specs.Seen.{seen_hidden}
+use Rattle.sc_table.specs.Table.{macros_at}
+use Rattle.sc_expand.proofs.expansion.Expansion.take_name.Goals as goal
+
+pub take_parts-requires-clause-held : goal.take_parts-requires-clause-held
+take_parts-requires-clause-held g c =
+    let n = c.args.names.now in
+    let h = c.args.self.now.sets in
+    let grows : Grows (stores (g.C.Conditions.sets c.args.conds.now) n h) (stores (g.C.Conditions.sets c.lookup.new.conds) n h) = record { sets = c.lookup.ensures.keeps; names = Extends-refl n; hides = Extends-refl h } in
+    IsHeldExpansion-Grows grows c.args.self.now c.requires.held
+
+pub take_parts-requires-clause-begun : goal.take_parts-requires-clause-begun
+take_parts-requires-clause-begun g c = λ x listed one.
+    let s1 = g.C.Conditions.sets c.lookup.new.conds in
+    let n = c.args.names.now in
+    let h = c.args.self.now.sets in
+    let grows : Grows (stores (g.C.Conditions.sets c.args.conds.now) n h) (stores s1 n h) = record { sets = c.lookup.ensures.keeps; names = Extends-refl n; hides = Extends-refl h } in
+    let first = IsConfig-kept c.lookup.ensures.keeps listed in
+    let found = ap (λ l. map (seen_by n) (items_at s1 l x)) c.deref.ensures.value ∙ c.in_ok-parts.ensures.parts x first in
+    let has = one-found (seen_by n) (items_at s1 c.deref.result.now x) _ _ found one in
+    subst (IsBegun (seen_hidden n h c.args.head)) (sym (still-untaken grows c.args.self.now (record { stays = c.never.result; made = c.new.result }) c.requires.held c.never.ensures.meaning c.new.ensures.items x first))
+    (c.requires.begun x first has)
+
+pub returns-in_err-take_parts-clause-keeps : goal.returns-in_err-take_parts-clause-keeps
+returns-in_err-take_parts-clause-keeps g c = Keeps-trans c.lookup.ensures.keeps c.take_parts.ensures.keeps
+
+pub returns-clause-keeps : goal.returns-clause-keeps
+returns-clause-keeps g c = Keeps-trans c.lookup.ensures.keeps c.take_parts.ensures.keeps
+
+pub returns-clause-comes : goal.returns-clause-comes
+returns-clause-comes g c = λ x macros rest listed has work is.
+    let s0 = g.C.Conditions.sets c.args.conds.now in
+    let s1 = g.C.Conditions.sets c.lookup.new.conds in
+    let n = c.args.names.now in
+    let h = c.args.self.now.sets in
+    let text = text_of n c.args.head.token.spelling in
+    let grows : Grows (stores s0 n h) (stores s1 n h) = record { sets = c.lookup.ensures.keeps; names = Extends-refl n; hides = Extends-refl h } in
+    let now = stores (g.C.Conditions.sets c.take_parts.new.conds) c.take_parts.new.names c.take_parts.new.self.sets in
+    let same = at-Grows grows x listed c.args.self.now c.requires.held in
+    let found = ap (λ l. map (seen_by n) (items_at s1 l x)) c.deref.ensures.value
+    ∙ (c.in_ok-parts.ensures.parts x listed ∙ (ap (λ b. if b then macros_at s0 n c.args.table.now x text ∷ [] else []) has ∙ ap (λ m. m ∷ []) (sym is))) in
+    subst (λ a. Comes (provenance_of c.args.files.now) macros (seen_hidden n h c.args.head) rest a (step_at now c.take_parts.new.self c.take_parts.new.taken x)) same
+    (c.in_ok-take_parts.ensures.comes x macros rest (IsConfig-Keeps c.lookup.ensures.keeps listed) (ap (λ (a : At). a.view.work) same ∙ work) found)
+
+pub returns-clause-others : goal.returns-clause-others
+returns-clause-others g c = λ x listed no.
+    let s0 = g.C.Conditions.sets c.args.conds.now in
+    let s1 = g.C.Conditions.sets c.lookup.new.conds in
+    let n = c.args.names.now in
+    let h = c.args.self.now.sets in
+    let text = text_of n c.args.head.token.spelling in
+    let grows : Grows (stores s0 n h) (stores s1 n h) = record { sets = c.lookup.ensures.keeps; names = Extends-refl n; hides = Extends-refl h } in
+    let found = ap (λ l. map (seen_by n) (items_at s1 l x)) c.deref.ensures.value
+    ∙ (c.in_ok-parts.ensures.parts x listed ∙ ap (λ b. if b then macros_at s0 n c.args.table.now x text ∷ [] else []) no) in
+    c.in_ok-take_parts.ensures.others x (IsConfig-Keeps c.lookup.ensures.keeps listed) (none-found (seen_by n) (items_at s1 c.deref.result.now x) found)
+    ∙ still-untaken grows c.args.self.now (record { stays = c.never.result; made = c.new.result }) c.requires.held c.never.ensures.meaning c.new.ensures.items x listed

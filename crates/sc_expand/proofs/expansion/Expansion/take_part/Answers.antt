@@ -1,0 +1,53 @@
+use Rattle.std.proofs.Common.{◌∙◌, ◌||◌, Some, ap, sym}
+use Rattle.std.specs.Option.{option_map}
+use Rattle.sc_base.proofs.Growth.{Extends-refl}
+use Rattle.sc_expand.proofs.PlainCases.{case-undefined}
+use Rattle.sc_expand.proofs.SeenLemmas.{IsHeldExpansion-Grows, at-Grows, seen_at-Grows}
+use Rattle.sc_expand.proofs.TakingLemmas.{or_false, or_true}
+use Rattle.sc_expand.proofs.TakingSteps.{has_first-Keeps, on-ok, same-step}
+use Rattle.sc_expand.specs.Seen.{Grows, stores}
+use Rattle.sc_expand.specs.Taking.{kept}
+use Rattle.sc_macro.specs.Seen.{seen_definition}
+use Rattle.sc_model.proofs.SetLemmas.{Denotes-self, IsConfig-Keeps}
+use Rattle.sc_subst.specs.Seen.{seen_hidden}
+use Rattle.sc_expand.proofs.expansion.Expansion.take_part.Goals as goal
+
+pub returns-in_ok-taken-in-None-clause-held : goal.returns-in_ok-taken-in-None-clause-held
+returns-in_ok-taken-in-None-clause-held g c =
+    let n = c.args.names.now in
+    let h = c.args.self.now.sets in
+    let grows : Grows (stores (g.C.Conditions.sets c.args.conds.now) n h) (stores (g.C.Conditions.sets c.apply_or.new.self) n h) = record { sets = c.apply_or.ensures.keeps; names = Extends-refl n; hides = Extends-refl h } in
+    IsHeldExpansion-Grows grows c.args.self.now c.requires.held
+
+pub returns-in_ok-taken-in-None-clause-comes : goal.returns-in_ok-taken-in-None-clause-comes
+returns-in_ok-taken-in-None-clause-comes g c = λ x macros rest listed has work is.
+    let s = g.C.Conditions.sets c.args.conds.now in
+    let n = c.args.names.now in
+    let h = c.args.self.now.sets in
+    let e = c.args.self.now in
+    let grows : Grows (stores s n h) (stores (g.C.Conditions.sets c.apply_or.new.self) n h) = record { sets = c.apply_or.ensures.keeps; names = Extends-refl n; hides = Extends-refl h } in
+    let begun = c.requires.begun x listed has in
+    let told = c.in_ok-taken-in-None.ensures.meaning _ _ (Denotes-self s c.args.taken.now.stays.0 c.requires.taken.stays) (Denotes-self s c.args.cond.0 c.requires.cond_own) in
+    kept (case-undefined macros (seen_hidden n h c.args.head) rest c.requires.name (is ∙ ap (option_map (λ shared. seen_definition n shared.value)) c.in-None.is))
+    (same-step (at-Grows grows x listed e c.requires.held) (has_first-Keeps c.apply_or.ensures.keeps e.top.work c.requires.held.top.work.own x listed ∙ begun.first)
+    (told.at x (IsConfig-Keeps c.apply_or.ensures.keeps listed) ∙ or_true (s.has c.args.taken.now.stays.0 x) (s.has c.args.cond.0 x) has)
+    (seen_at-Grows grows x listed c.args.taken.now.made.items c.requires.taken.made ∙ begun.made))
+
+pub returns-in_ok-taken-in-None-clause-others : goal.returns-in_ok-taken-in-None-clause-others
+returns-in_ok-taken-in-None-clause-others g c = λ x listed no.
+    let s = g.C.Conditions.sets c.args.conds.now in
+    let n = c.args.names.now in
+    let h = c.args.self.now.sets in
+    let e = c.args.self.now in
+    let grows : Grows (stores s n h) (stores (g.C.Conditions.sets c.apply_or.new.self) n h) = record { sets = c.apply_or.ensures.keeps; names = Extends-refl n; hides = Extends-refl h } in
+    let told = c.in_ok-taken-in-None.ensures.meaning _ _ (Denotes-self s c.args.taken.now.stays.0 c.requires.taken.stays) (Denotes-self s c.args.cond.0 c.requires.cond_own) in
+    same-step (at-Grows grows x listed e c.requires.held) (has_first-Keeps c.apply_or.ensures.keeps e.top.work c.requires.held.top.work.own x listed)
+    (told.at x (IsConfig-Keeps c.apply_or.ensures.keeps listed) ∙ (ap (λ b. s.has c.args.taken.now.stays.0 x || b) no ∙ or_false (s.has c.args.taken.now.stays.0 x)))
+    (seen_at-Grows grows x listed c.args.taken.now.made.items c.requires.taken.made)
+
+pub returns-in-Some-clause-comes : goal.returns-in-Some-clause-comes
+returns-in-Some-clause-comes g c = on-ok c.take_defined.result
+    (λ comes x macros rest listed has work is.
+    let n = c.args.names.now in
+    comes x macros rest listed has work (is ∙ (ap (option_map (λ shared. seen_definition n shared.value)) c.in-Some.is ∙ ap (λ d. Some (seen_definition n d)) (sym c.deref.ensures))))
+    c.take_defined.ensures.comes

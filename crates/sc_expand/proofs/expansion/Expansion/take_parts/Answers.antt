@@ -1,0 +1,66 @@
+use Rattle.std.proofs.Common.{◌≡◌, ◌∙◌, ap, length, map, take, true, sym, subst}
+use Rattle.std.proofs.lemmas.List.{take_all}
+use Rattle.std.specs.Prelude.{IfSome, slice_get}
+use Rattle.c11_macros.specs.Expansion.{is_looked_up}
+use Rattle.sc_expand.proofs.SeenLemmas.{Grows-trans, seen_hidden-Grows, token-Grows}
+use Rattle.sc_expand.proofs.TakingParts.{part-taken, seen_by}
+use Rattle.sc_expand.proofs.TakingSteps.{none-before}
+use Rattle.sc_expand.specs.Seen.{Grows, stores}
+use Rattle.sc_expand.specs.Taking.{IsBegun, step_at}
+use Rattle.sc_guarded.specs.Items.{items_at}
+use Rattle.sc_macro.specs.Seen.{IsHeldDefinition}
+use Rattle.sc_model.proofs.SetLemmas.{IsConfig-kept}
+use Rattle.sc_model.specs.Sets.{IsCond}
+use Rattle.sc_subst.specs.Seen.{seen_hidden}
+use Rattle.sc_expand.proofs.expansion.Expansion.take_parts.Goals as goal
+
+pub take_part-requires-clause-name : goal.take_part-requires-clause-name
+take_part-requires-clause-name g c = subst (λ t. is_looked_up t ≡ true) (sym (seen_hidden-Grows c.loop-part.invariant.grows c.args.head c.requires.head)) c.requires.name
+
+pub take_part-requires-clause-begun : goal.take_part-requires-clause-begun
+take_part-requires-clause-begun g c = λ x listed has.
+    let s = g.C.Conditions.sets c.args.conds.now in
+    let part = c.part-item.result in
+    let was = c.loop-part.invariant in
+    let first = IsConfig-kept was.grows.sets listed in
+    let own : IsCond s part.0.0 = subst (λ p. IsCond s p.0.0) (sym c.part-item.is) (c.requires.own c.loop-part.part-index part c.loop-part-test.true) in
+    let none = none-before s c.args.parts.now c.loop-part.part-index part x c.loop-part-test.true c.part-item.is (sym (was.grows.sets.at part.0.0 x own first) ∙ has) (c.requires.one x first) in
+    let t = seen_hidden c.args.names.now c.args.self.now.sets c.args.head in
+    subst (IsBegun (seen_hidden c.loop-part.names c.loop-part.self.sets c.args.head)) (sym (was.done.others x first none.0))
+    (subst (λ u. IsBegun u (step_at (stores s c.args.names.now c.args.self.now.sets) c.args.self.now c.args.taken.now x)) (sym (seen_hidden-Grows was.grows c.args.head c.requires.head)) (c.requires.begun x first none.1))
+
+pub take_part-requires-clause-first : goal.take_part-requires-clause-first
+take_part-requires-clause-first g c = ap (λ l. slice_get l 0) c.loop-part.invariant.items ∙ c.requires.first
+
+pub take_part-requires-clause-head : goal.take_part-requires-clause-head
+take_part-requires-clause-head g c = token-Grows c.loop-part.invariant.grows c.args.head c.requires.head
+
+pub loop-part-preserved : goal.loop-part-preserved
+loop-part-preserved g c =
+    let s0 = g.C.Conditions.sets c.args.conds.now in
+    let was = c.loop-part.invariant in
+    let ensures = c.in_ok-take_part.ensures in
+    let step : Grows (stores (g.C.Conditions.sets c.loop-part.conds) c.loop-part.names c.loop-part.self.sets) (stores (g.C.Conditions.sets c.take_part.new.conds) c.take_part.new.names c.take_part.new.self.sets) =
+    record { sets = ensures.keeps; names = ensures.names; hides = ensures.sets } in
+    record {
+      grows = Grows-trans was.grows step;
+      held = ensures.held;
+      taken = ensures.taken;
+      below = ensures.below ∙ was.below;
+      out = ensures.out ∙ was.out;
+      items = ensures.items ∙ was.items;
+      done = part-taken c.args.files.now _ _ _ c.args.self.now c.loop-part.self c.take_part.new.self c.args.taken.now c.loop-part.taken c.take_part.new.taken c.args.head c.args.parts.now c.loop-part.part-index c.part-item.result
+          (length c.args.files.now) c.loop-part-test.true c.part-item.is was.grows c.requires.head
+          (subst (λ p. IsCond s0 p.0.0) (sym c.part-item.is) (c.requires.own c.loop-part.part-index c.part-item.result c.loop-part-test.true))
+          (subst (λ p. IfSome p.1 (λ shared. IsHeldDefinition c.args.names.now shared.value)) (sym c.part-item.is) (c.requires.definitions c.loop-part.part-index c.part-item.result c.loop-part-test.true))
+          c.requires.one was.done ensures.comes ensures.others;
+    }
+
+pub returns-clause-items : goal.returns-clause-items
+returns-clause-items g c = c.loop-part.invariant.items
+
+pub returns-clause-comes : goal.returns-clause-comes
+returns-clause-comes g c = λ x macros rest listed work found.
+    let all : take c.loop-part.part-index c.args.parts.now ≡ c.args.parts.now = take_all c.loop-part.part-index c.args.parts.now c.loop-part-test.false in
+    c.loop-part.invariant.done.comes x macros rest listed work
+    (ap (λ l. map (seen_by c.args.names.now) (items_at (g.C.Conditions.sets c.args.conds.now) l x)) all ∙ found)

@@ -1,0 +1,21 @@
+use Rattle.std.proofs.Common.{◌≡◌, length, map, take}
+use Rattle.sc_base.specs.declared.id.Cond.{Cond}
+use Rattle.sc_expand.specs.Machine.{IsHeldExpansion}
+use Rattle.sc_expand.specs.Seen.{Grows, stores}
+use Rattle.sc_expand.specs.Taking.{AreTaken, IsHeldTaken}
+use Rattle.sc_subst.specs.declared.hidden.Hidden.{Hidden}
+use Rattle.sc_expand.proofs.expansion.Expansion.take_parts.Given as goal
+
+abbrev pub invariant-loop-part : goal.invariant-loop-part
+invariant-loop-part g l =
+    let old = stores (g.C.Conditions.sets l.fn.conds) l.fn.names l.fn.self.sets in
+    let now = stores (g.C.Conditions.sets l.conds) l.names l.self.sets in
+    record {
+      grows : Grows old now;
+      held : IsHeldExpansion now (length l.files) l.self;
+      taken : IsHeldTaken now (length l.files) l.taken;
+      below : l.self.below ≡ l.fn.self.below;
+      out : l.self.top.out ≡ l.fn.self.top.out;
+      items : map (λ (item : Cond × Hidden). item.1) l.self.top.work ≡ map (λ (item : Cond × Hidden). item.1) l.fn.self.top.work;
+      done : AreTaken l.files old now l.fn.self l.self l.fn.taken l.taken l.head (take l.part-index l.parts);
+    }
