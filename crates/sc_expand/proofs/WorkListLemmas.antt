@@ -1,12 +1,20 @@
 -- A list whose first items are restricted to a condition, one after the other.
 use Rattle.std.proofs.Common.{◌≡◌, ◌<◌, ℕ, ◌+◌, ◌&&◌, Bool, true, false, List, [], ◌∷◌, ◌++◌, All, map, take, drop, length, get_or, set, if◌then◌else◌, ap, sym, ◌∙◌, refl, subst, arith, add-zero}
 use Rattle.std.proofs.lemmas.List.{take_more_set, map-set, set-get_or, drop-set-lt, drop-drop, get_or-drop, length-map}
-use Rattle.std.proofs.lemmas.List.Elements.{All-take, All-set}
+use Rattle.std.proofs.lemmas.List.Elements.{All-head, All-tail, All-take, All-set}
 use Rattle.sc_base.specs.declared.id.Cond.{Cond}
 use Rattle.sc_guarded.proofs.ItemLemmas.{items_at-append, items_at-Keeps, items_at-take}
 use Rattle.sc_guarded.specs.Items.{items_at}
+use Rattle.sc_expand.specs.Having.{has_each}
+use Rattle.std.proofs.Math.ListN.{get_or-map}
 use Rattle.sc_model.proofs.SetLemmas.{Keeps-trans, IsConfig-Keeps}
 use Rattle.sc_model.specs.Sets.{Sets, IsConfig, IsCond, Denotes, Keeps}
+
+and_true : (a b : Bool) → b ≡ true → (a && b) ≡ a
+and_true true true is = refl
+and_true false true is = refl
+and_true true false is = is
+and_true false false is = refl
 
 module _ {T : Type 0} where
   -- the first n items stand where they and the condition did
@@ -16,6 +24,15 @@ module _ {T : Type 0} where
     pub rest : drop n after ≡ drop n before
     pub own : All (λ (item : Cond × T). IsCond now item.0.0) after
     pub at : (c : List ℕ) → IsConfig first.arities c → items_at now (take n after) c ≡ (if first.has by c then items_at first (take n before) c else [])
+    pub same : (c : List ℕ) → IsConfig first.arities c → first.has by c ≡ true → has_each now after c ≡ has_each first before c
+
+  pub has_each-Keeps : {old new : Sets} (items : List (Cond × T)) (c : List ℕ) → Keeps old new → All (λ (item : Cond × T). IsCond old item.0.0) items → IsConfig old.arities c → has_each new items c ≡ has_each old items c
+  has_each-Keeps [] c keeps own listed = refl
+  has_each-Keeps {old} {new} (x ∷ xs) c keeps own listed =
+      let P : Cond × T → Type 0 = λ item. IsCond old item.0.0 in
+      let first = keeps.at x.0.0 c (All-head P x xs own) listed in
+      let rest = has_each-Keeps xs c keeps (All-tail P x xs own) listed in
+      λ i. first i ∷ rest i
 
   one_more : (by has : Bool) (xs : List T) (x : T) → (if by then xs else []) ++ (if has && by then x ∷ [] else []) ≡ (if by then xs ++ (if has then x ∷ [] else []) else [])
   one_more true true xs x = refl
@@ -44,6 +61,9 @@ module _ {T : Type 0} where
       let x_before : x ≡ get_or before n x = is ∙ sym place in
       let low : n < length before = subst (λ m. n < m) (sym long) within in
       let x_own : IsCond first x.0.0 = subst F (sym x_before) (own n x low) in
+      let met : (c : List ℕ) → IsConfig first.arities c → new.has made.0 c ≡ (first.has x.0.0 c && first.has by c) = λ c listed. (
+      let here : IsConfig old.arities c = IsConfig-Keeps was.keeps listed in
+      told.at c (IsConfig-Keeps keeps here) ∙ (λ i. was.keeps.at x.0.0 c x_own listed i && was.keeps.at by c by_own listed i)) in
       record {
         keeps = Keeps-trans was.keeps keeps;
         items = item_stays after n made x is ∙ was.items;
@@ -51,12 +71,18 @@ module _ {T : Type 0} where
         own = All-set P after n (made, x.1) made_own (λ k d h. keeps.own _ (was.own k d h));
         at = λ c listed.
             let here : IsConfig old.arities c = IsConfig-Keeps was.keeps listed in
-            let test : new.has made.0 c ≡ (first.has x.0.0 c && first.has by c) = told.at c (IsConfig-Keeps keeps here)
-            ∙ (ap (λ b. b && old.has by c) (was.keeps.at x.0.0 c x_own listed) ∙ ap (λ b. first.has x.0.0 c && b) (was.keeps.at by c by_own listed)) in
+            let test : new.has made.0 c ≡ (first.has x.0.0 c && first.has by c) = met c listed in
             ap (λ l. items_at new l c) (take_more_set after n (made, x.1) within)
             ∙ (items_at-append new (take n after) ((made, x.1) ∷ []) c
             ∙ (ap (λ l. l ++ (if new.has made.0 c then x.1 ∷ [] else [])) (items_at-Keeps (take n after) c keeps (All-take (λ (item : Cond × T). IsCond old item.0.0) n after was.own) here ∙ was.at c listed)
             ∙ (ap (λ b. (if first.has by c then items_at first (take n before) c else []) ++ (if b then x.1 ∷ [] else [])) test
             ∙ (one_more (first.has by c) (first.has x.0.0 c) (items_at first (take n before) c) x.1
             ∙ ap (λ l. if first.has by c then l else []) (sym (items_at-take first before n x c low x_before))))));
+        same = λ c listed has.
+            let f : Cond × T → Bool = λ item. new.has item.0.0 c in
+            let g : Cond × T → Bool = λ item. first.has item.0.0 c in
+            let here : IsConfig old.arities c = IsConfig-Keeps was.keeps listed in
+            let each : map f after ≡ map g before = has_each-Keeps after c keeps was.own here ∙ was.same c listed has in
+            let value : new.has made.0 c ≡ get_or (map g before) n (g x) = met c listed ∙ (and_true (first.has x.0.0 c) (first.has by c) has ∙ (ap g x_before ∙ sym (get_or-map g before n x))) in
+            map-set f after n (made, x.1) ∙ ((λ i. set (each i) n (value i)) ∙ set-get_or (map g before) n (g x));
       }

@@ -9,8 +9,6 @@ use std::alloc::Global;
 #[derive(Drop)]
 pub struct Expansion {
     pub alloc: Global,
-    /// How many branches one call may have.
-    pub limit: usize,
     pub sets: HideSets,
     pub refusals: Refusals,
     /// The list that is being expanded.

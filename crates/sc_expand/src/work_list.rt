@@ -1,4 +1,5 @@
-ghost use Rattle.std.specs.Prelude.{◌≡◌, ℕ, ◌<◌, ◌≤◌, ◌++◌, [], List, All, map, take, drop, length, slice_get, if◌then◌else◌, Some, OnOk};
+ghost use Rattle.std.specs.Prelude.{◌≡◌, ℕ, ◌^◌, ◌<◌, ◌≤◌, ◌++◌, [], List, All, map, take, drop, length, slice_get, if◌then◌else◌, true, Some, OnOk};
+ghost use Rattle.sc_expand.specs.Having.{has_each};
 ghost use Rattle.sc_guarded.specs.Items.{items_at};
 ghost use Rattle.sc_model.specs.Sets.{IsConfig, IsCond, Keeps};
 
@@ -42,6 +43,13 @@ impl WorkList {
         ensures { result ≡ length self.now }
     {
         self.tokens.len()
+    }
+
+    /// A list has no more tokens than an index can tell.
+    pub fn is_small(&self)
+        ensures { length self.now < 2 ^ 64 }
+    {
+        let _ = self.len();
     }
 
     /// The token of an index, with its condition.
@@ -94,6 +102,8 @@ impl WorkList {
         ensures restricted { OnOk result ((c : List ℕ) → IsConfig (C.sets conds.old).arities c
             → items_at (C.sets conds.new) (take count self.new) c
             ≡ (if (C.sets conds.old).has by.0 c then items_at (C.sets conds.old) (take count self.old) c else [])) }
+        ensures others { OnOk result ((c : List ℕ) → IsConfig (C.sets conds.old).arities c → (C.sets conds.old).has by.0 c ≡ true
+            → has_each (C.sets conds.new) self.new c ≡ has_each (C.sets conds.old) self.old c) }
 
         // at every outcome
         ensures items { map (λ item. item.1) self.new ≡ map (λ item. item.1) self.old }

@@ -1,0 +1,83 @@
+use Rattle.std.proofs.Common.{ℕ, ◌+◌, ◌-◌, ◌<◌, All, length, drop, take, map, sym, ap, subst, ◌∙◌, arith, if◌then◌else◌}
+use Rattle.std.proofs.lemmas.List.Elements.{All-cons, All-drop, All-take}
+use Rattle.sc_expand.proofs.GatherPlaces.{branch-placed, call-taken, held-at, held-same, held-tokens, places-below, places-three}
+use Rattle.sc_expand.specs.Beginning.{token_at}
+use Rattle.sc_guarded.specs.Items.{items_at}
+use Rattle.sc_subst.specs.declared.hidden.Hidden.{Hidden}
+use Rattle.sc_subst.specs.Seen.{seen_hidden}
+use Rattle.sc_expand.specs.Seen.{IsHeldToken, stores}
+use Rattle.sc_expand.proofs.expansion.Expansion.take_call.Goals as goal
+
+pub slice_bounds-tokens_at-count : goal.slice_bounds-tokens_at-count
+slice_bounds-tokens_at-count g c =
+    let three = places-three (stores (g.C.Conditions.sets c.args.conds.now) c.args.names.now c.args.self.now.sets) c.args.self.now c.args.branch.now c.requires.branch in
+    omega (arith, three, c.len-last.ensures, c.deref.ensures.len, ap length c.deref.ensures.value)
+
+pub slice_bounds-tokens_at-start : goal.slice_bounds-tokens_at-start
+slice_bounds-tokens_at-start g c =
+    let three = places-three (stores (g.C.Conditions.sets c.args.conds.now) c.args.names.now c.args.self.now.sets) c.args.self.now c.args.branch.now c.requires.branch in
+    omega (arith, three, c.len-last.ensures, c.deref.ensures.len, ap length c.deref.ensures.value)
+
+pub tokens_at-requires : goal.tokens_at-requires
+tokens_at-requires g c =
+    let P : ℕ → Type 0 = λ p. p < length c.args.self.now.top.work in
+    let below = places-below (stores (g.C.Conditions.sets c.args.conds.now) c.args.names.now c.args.self.now.sets) c.args.self.now c.args.branch.now c.requires.branch in
+    All-take P (c.len-last.result - 1 - 2) (drop 2 c.deref.result.now) (All-drop P 2 c.deref.result.now (subst (All P) (sym c.deref.ensures.value) below))
+
+pub item-requires : goal.item-requires
+item-requires g c =
+    let st = stores (g.C.Conditions.sets c.args.conds.now) c.args.names.now c.args.self.now.sets in
+    let P : ℕ → Type 0 = λ p. p < length c.args.self.now.top.work in
+    let three = places-three st c.args.self.now c.args.branch.now c.requires.branch in
+    let end = c.index-end.result.now in
+    subst P (sym c.index-end.ensures) (places-below st c.args.self.now c.args.branch.now c.requires.branch (c.len-last.result - 1) end (omega (arith, three, c.len-last.ensures, c.deref.ensures.len, ap length c.deref.ensures.value)))
+
+pub overflow_add-end : goal.overflow_add-end
+overflow_add-end g c =
+    let st = stores (g.C.Conditions.sets c.args.conds.now) c.args.names.now c.args.self.now.sets in
+    let P : ℕ → Type 0 = λ p. p < length c.args.self.now.top.work in
+    let three = places-three st c.args.self.now c.args.branch.now c.requires.branch in
+    let end = c.index-end.result.now in
+    let low = subst P (sym c.index-end.ensures) (places-below st c.args.self.now c.args.branch.now c.requires.branch (c.len-last.result - 1) end (omega (arith, three, c.len-last.ensures, c.deref.ensures.len, ap length c.deref.ensures.value))) in
+    omega (arith, low, c.is_small.ensures)
+
+pub take_out-requires-clause-count : goal.take_out-requires-clause-count
+take_out-requires-clause-count g c =
+    let st = stores (g.C.Conditions.sets c.args.conds.now) c.args.names.now c.args.self.now.sets in
+    let P : ℕ → Type 0 = λ p. p < length c.args.self.now.top.work in
+    let three = places-three st c.args.self.now c.args.branch.now c.requires.branch in
+    let end = c.index-end.result.now in
+    let low = subst P (sym c.index-end.ensures) (places-below st c.args.self.now c.args.branch.now c.requires.branch (c.len-last.result - 1) end (omega (arith, three, c.len-last.ensures, c.deref.ensures.len, ap length c.deref.ensures.value))) in
+    omega (arith, low)
+
+pub returns-clause-call : goal.returns-clause-call
+returns-clause-call g c = λ x listed has.
+    let s = g.C.Conditions.sets c.args.conds.now in
+    let st = stores s c.args.names.now c.args.self.now.sets in
+    let list = c.args.self.now.top.work in
+    let end = c.index-end.result.now in
+    let counted = c.len-last.ensures ∙ (sym c.deref.ensures.len ∙ ap length c.deref.ensures.value) in
+    let follows = c.in_ok-take_out.ensures.taken x listed ∙ ap (λ b. if b then items_at s (drop (end + 1) list) x else items_at s list x) has in
+    call-taken st list _ c.args.branch.now.places.items x c.in_ok-between.between.items c.item.result end c.len-last.result (branch-placed st c.args.self.now c.args.branch.now c.requires.branch x listed has)
+    counted c.index-end.ensures (λ other. c.in_ok-between.ensures other ∙ ap (λ l. map (token_at list other) (take (c.len-last.result - 1 - 2) (drop 2 l))) c.deref.ensures.value) c.item.ensures
+    (ap (map (seen_hidden st.names st.hides)) follows)
+
+pub returns-clause-own : goal.returns-clause-own
+returns-clause-own g c = λ files held.
+    let st = stores (g.C.Conditions.sets c.args.conds.now) c.args.names.now c.args.self.now.sets in
+    let list = c.args.self.now.top.work in
+    let P : ℕ → Type 0 = λ p. p < length list in
+    let H : Hidden → Type 0 = IsHeldToken st files in
+    let below = places-below st c.args.self.now c.args.branch.now c.requires.branch in
+    let places = take (c.len-last.result - 1 - 2) (drop 2 c.deref.result.now) in
+    let all = All-take P (c.len-last.result - 1 - 2) (drop 2 c.deref.result.now) (All-drop P 2 c.deref.result.now (subst (All P) (sym c.deref.ensures.value) below)) in
+    All-cons H c.item.result.1 c.in_ok-between.between.items (held-at H list c.index-end.result.now c.item.result held.held c.item.ensures)
+    (subst (All H) (sym (c.in_ok-between.ensures c.item.result)) (held-tokens H list c.item.result places held.held all))
+
+pub returns-clause-held : goal.returns-clause-held
+returns-clause-held g c = λ files held.
+    let st = stores (g.C.Conditions.sets c.args.conds.now) c.args.names.now c.args.self.now.sets in
+    record {
+      own = c.in_ok-take_out.ensures.own;
+      held = λ k d h. (let it = held-same (IsHeldToken st files) c.args.self.now.top.work c.take_out.new.list c.take_out.ensures.items held.held k d h in record { held = it.held; file = it.file });
+    }

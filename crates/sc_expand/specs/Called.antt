@@ -1,0 +1,89 @@
+-- Calls that are taken out of a list, each in the configurations that have its tokens.
+use Rattle.std.specs.Prelude.{◌≡◌, ℕ, true, false, List, [], ◌∷◌, ◌++◌, Some, Result, Err, codes, map}
+use Rattle.c11_macros.specs.Call.{Call, call_of}
+use Rattle.c11_macros.specs.Expansion.{call_result, is_looked_up, list_of}
+use Rattle.c11_macros.specs.Hidden as model
+use Rattle.c11_macros.specs.Hidden.{Failure, Provenance}
+use Rattle.c11_macros.specs.Macros.{Definition, Macros}
+use Rattle.c11_macros.specs.Substitution.{Slot}
+use Rattle.sc_base.specs.declared.id.Cond.{Cond}
+use Rattle.sc_base.specs.declared.place.Place.{Place}
+use Rattle.sc_base.specs.declared.token.Token.{Token}
+use Rattle.sc_expand.specs.declared.expansion.Expansion.{Expansion}
+use Rattle.sc_expand.specs.Gather.{Gathers}
+use Rattle.sc_expand.specs.Having.{has_each}
+use Rattle.sc_expand.specs.Machine.{at, with_call}
+use Rattle.sc_expand.specs.Plain.{IsTemplate, gathered}
+use Rattle.sc_expand.specs.Seen.{Stores, calls_at}
+use Rattle.sc_expand.specs.Taking.{has_first}
+use Rattle.sc_expand.specs.Turn.{At}
+use Rattle.sc_hoist.specs.Branches.{lists_at}
+use Rattle.sc_hoist.specs.Calls.{call_end_at, call_places, closed}
+use Rattle.sc_hoist.specs.declared.branch.Branch.{Branch}
+use Rattle.sc_macro.specs.declared.definition.Item as declared_item
+use Rattle.sc_macro.specs.declared.form.Form as declared_form
+use Rattle.sc_macro.specs.Seen.{seen_form, seen_item, text_of}
+use Rattle.sc_model.specs.Bytes.{same_bytes}
+use Rattle.sc_model.specs.Sets.{IsCond, IsConfig, IsNever}
+use Rattle.sc_subst.specs.declared.hidden.Hidden.{Hidden}
+use Rattle.sc_subst.specs.Seen.{seen_hidden}
+
+-- ---- the call behind a name
+
+-- the call whose opening parenthesis stands before these tokens is closed, and this follows it
+pub record EndsBefore {P : Type 0} (commas : ℕ) (ts after : List (model.Hidden P)) : Type 0 where
+  pub call : Call P
+  pub is : call_of commas 0 ts ≡ Some call
+  pub rest : call.rest ≡ after
+
+-- these tokens are a parenthesis that opens a call, what stands between, the one that closes it, and what follows
+pub record IsCall {P : Type 0} (ts between : List (model.Hidden P)) (close : model.Hidden P) (after : List (model.Hidden P)) : Type 0 where
+  pub opener : model.Hidden P
+  pub is : ts ≡ opener ∷ (between ++ close ∷ after)
+  pub opens : same_bytes opener.spelling (codes "(") ≡ true
+  pub ends : (commas : ℕ) → EndsBefore commas (between ++ close ∷ after) after
+
+-- ---- the configurations of a branch
+
+-- the tokens of a list without their hide sets
+abbrev pub tokens_in : List (Cond × Hidden) → List (Cond × Token)
+tokens_in list = map (λ item. (item.0, item.1.token)) list
+
+-- a name stands first at the configuration and is called, the tokens of the call stand at these places, and no other call waits
+pub record IsCalled (st : Stores) (e : Expansion) (places c : List ℕ) : Type 0 where
+  pub stands : has_first st.sets e.top.work c ≡ true
+  pub stand_at : places ≡ call_places st.sets st.names (tokens_in e.top.work) 0 c
+  pub closed : call_end_at st.sets st.names (tokens_in e.top.work) 0 c ≡ closed
+  pub live : st.sets.has e.refusals.live.0 c ≡ true
+  pub calls : calls_at st e.top.calls.items c ≡ []
+
+-- some configurations, and each of them has the call
+pub record IsBranch (st : Stores) (e : Expansion) (branch : Branch) : Type 0 where
+  pub own : IsCond st.sets branch.cond.0
+  pub some : IsNever st.sets branch.cond.0 → ⊥
+  pub each : (c : List ℕ) → IsConfig st.sets.arities c → st.sets.has branch.cond.0 c ≡ true → IsCalled st e branch.places.items c
+
+-- ---- what taking a call out does
+
+-- the call of the name with these arguments begins to wait for them, or a # in the macro's list fails
+pub data Begins (provenance : Provenance Place) (d : Definition) (t close : model.Hidden Place) (arguments : List (List (model.Hidden Place))) (a b : At) : Type 0 where
+  waits : (template : Result (List (Slot Place)) (Failure Place)) → IsTemplate provenance d t arguments template
+      → b ≡ record a { view = with_call a.view (gathered provenance d t arguments close template) } → Begins provenance d t close arguments a b
+  refused : (failure : Failure Place) → ((expanded : List (Result (List (model.Hidden Place)) (Failure Place))) → call_result provenance d t arguments close expanded ≡ Err failure)
+      → b.live ≡ false → b.failures ≡ a.failures ++ failure ∷ [] → Begins provenance d t close arguments a b
+
+-- the name is looked up, and is that of a macro with this form and this list
+pub record IsMacro (st : Stores) (provenance : Provenance Place) (macros : Macros) (form : declared_form.Form) (items : List declared_item.Item) (head : Hidden) (d : Definition) : Type 0 where
+  pub looked_up : is_looked_up (seen_hidden st.names st.hides head) ≡ true
+  pub defined : macros (text_of st.names head.token.spelling) ≡ Some d
+  pub formed : d.form ≡ seen_form st.names form
+  pub list : list_of provenance d (seen_hidden st.names st.hides head) ≡ map (seen_item st.names) items
+
+-- the calls of these branches were taken out: a configuration of one of them made its step, and each other is as it was
+pub record AreGathered (old st : Stores) (was now : Expansion) (form : declared_form.Form) (items : List declared_item.Item) (head : Hidden) (branches : List Branch) : Type 0 where
+  pub gathers : (c place : List ℕ) (provenance : Provenance Place) (macros : Macros) (d : Definition) (rest : List (model.Hidden Place)) → IsConfig old.sets.arities c
+      → lists_at old.sets branches c ≡ place ∷ [] → (at old was c).view.work ≡ seen_hidden old.names old.hides head ∷ rest → IsMacro old provenance macros form items head d
+      → Gathers provenance macros (seen_hidden old.names old.hides head) rest (at old was c) (at st now c) false
+  pub first : (c place : List ℕ) → IsConfig old.sets.arities c → lists_at old.sets branches c ≡ place ∷ [] → has_first st.sets now.top.work c ≡ false
+  pub others : (c : List ℕ) → IsConfig old.sets.arities c → lists_at old.sets branches c ≡ []
+      → (at st now c ≡ at old was c) × (has_each st.sets now.top.work c ≡ has_each old.sets was.top.work c)

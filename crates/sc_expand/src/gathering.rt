@@ -1,0 +1,279 @@
+ghost use Rattle.std.specs.Prelude.{◌≡◌, ℕ, ◌≤◌, ◌∷◌, [], List, All, true, false, Some, length, drop, map, slice_get, IfOk, IfErr, OnOk, IsTrue};
+ghost use Rattle.c11_macros.specs.Expansion.{is_looked_up, list_of};
+ghost use Rattle.c11_macros.specs.Hidden as model;
+ghost use Rattle.c11_macros.specs.Hidden.{Provenance};
+ghost use Rattle.c11_macros.specs.Macros as model_macros;
+ghost use Rattle.c11_macros.specs.Macros.{Macros};
+ghost use Rattle.c11_macros.specs.Defines.{is_function_like};
+ghost use Rattle.sc_base.specs.declared.place.Place.{Place};
+ghost use Rattle.sc_expand.specs.Called.{AreGathered, Begins, IsBranch, IsCall};
+ghost use Rattle.sc_expand.specs.Gather.{Gathers};
+ghost use Rattle.sc_hoist.specs.Branches.{lists_at};
+ghost use Rattle.sc_expand.specs.Machine.{IsHeldExpansion, at};
+ghost use Rattle.sc_expand.specs.Having.{has_each};
+ghost use Rattle.sc_expand.specs.Seen.{AreHeld, IsHeldToken, provenance_of, seen_at, stores};
+ghost use Rattle.sc_expand.specs.Stops.{StopsBy};
+ghost use Rattle.sc_expand.specs.Taking.{has_first};
+ghost use Rattle.sc_macro.specs.Seen.{IsHeldDefinition, IsHeldForm, IsHeldItem, seen_definition, seen_form, seen_item, text_of};
+ghost use Rattle.sc_model.specs.Growth.{Extends};
+ghost use Rattle.sc_model.specs.Sets.{IsConfig, IsCond, Keeps};
+ghost use Rattle.sc_subst.specs.Parts.{AreHeldArguments, seen_arguments, seen_list};
+ghost use Rattle.sc_subst.specs.Seen.{IsHeldHidden, seen_hidden};
+
+use crate::arguments::arguments;
+use crate::beginning::{begin_call, take_out, tokens_at};
+use crate::expansion::Expansion;
+use sc_base::{Cause, Cond, Files, Names, OutOfMemory, Stop};
+use sc_hoist::{Branch, call_ends, calls};
+use sc_macro::{Definition, Form, Item};
+use sc_presence::Conditions;
+use sc_subst::{Hidden, items_at};
+
+impl Expansion {
+    /// Takes the calls of a function-like macro whose name stands first out of the list, a branch
+    /// for each different list of tokens. The result are the configurations of `cond` in which the
+    /// name is not called.
+    pub fn gather<C: Conditions>(
+        &mut self,
+        conds: &mut C,
+        names: &mut Names,
+        files: &Files,
+        cond: Cond,
+        definition: &Definition,
+        head: Hidden,
+        limit: usize,
+    ) -> Result<Cond, Stop>
+        requires held { IsHeldExpansion (stores (C.sets conds.old) names.old self.old.sets) (length files.now) self.old }
+        requires cond_own { IsCond (C.sets conds.old) cond.0 }
+        requires head { slice_get (map (λ item. item.1) self.old.top.work) 0 ≡ Some head }
+        requires stands { (c : List ℕ) → IsConfig (C.sets conds.old).arities c → (C.sets conds.old).has cond.0 c ≡ true → has_first (C.sets conds.old) self.old.top.work c ≡ true }
+        requires definition { IsHeldDefinition names.old definition.now }
+        requires function { IsTrue (is_function_like (seen_definition names.old definition.now).form) }
+        requires first { (c : List ℕ) → IsConfig (C.sets conds.old).arities c → (C.sets conds.old).has cond.0 c ≡ true
+            → (rest : List (model.Hidden Place)) × ((at (stores (C.sets conds.old) names.old self.old.sets) self.old c).view.work ≡ seen_hidden names.old self.old.sets head ∷ rest) }
+        requires live { (c : List ℕ) → IsConfig (C.sets conds.old).arities c → (C.sets conds.old).has cond.0 c ≡ true → (C.sets conds.old).has self.old.refusals.live.0 c ≡ true }
+        requires calls { (c : List ℕ) → IsConfig (C.sets conds.old).arities c → (C.sets conds.old).has cond.0 c ≡ true
+            → (at (stores (C.sets conds.old) names.old self.old.sets) self.old c).view.calls ≡ [] }
+        ensures held { OnOk result (IsHeldExpansion (stores (C.sets conds.new) names.new self.new.sets) (length files.now) self.new) }
+        ensures below { OnOk result (self.new.below ≡ self.old.below) }
+        ensures out { OnOk result (self.new.top.out ≡ self.old.top.out) }
+        ensures items { OnOk result (map (λ item. item.1) self.new.top.work ≡ map (λ item. item.1) self.old.top.work) }
+        ensures own { IfOk result (λ uncalled. IsCond (C.sets conds.new) uncalled.0) }
+        ensures gathers { IfOk result (λ uncalled. (c : List ℕ) (macros : Macros) (rest : List (model.Hidden Place)) → IsConfig (C.sets conds.old).arities c
+            → (C.sets conds.old).has cond.0 c ≡ true → (at (stores (C.sets conds.old) names.old self.old.sets) self.old c).view.work ≡ seen_hidden names.old self.old.sets head ∷ rest
+            → is_looked_up (seen_hidden names.old self.old.sets head) ≡ true → macros (text_of names.old head.token.spelling) ≡ Some (seen_definition names.old definition.now)
+            → Gathers (provenance_of files.now) macros (seen_hidden names.old self.old.sets head) rest
+            (at (stores (C.sets conds.old) names.old self.old.sets) self.old c) (at (stores (C.sets conds.new) names.new self.new.sets) self.new c) ((C.sets conds.new).has uncalled.0 c)) }
+        ensures others { IfOk result (λ uncalled. (c : List ℕ) → IsConfig (C.sets conds.old).arities c → (C.sets conds.old).has cond.0 c ≡ false
+            → (at (stores (C.sets conds.new) names.new self.new.sets) self.new c ≡ at (stores (C.sets conds.old) names.old self.old.sets) self.old c) × ((C.sets conds.new).has uncalled.0 c ≡ false)) }
+        ensures first_called { IfOk result (λ uncalled. (c : List ℕ) → IsConfig (C.sets conds.old).arities c → (C.sets conds.old).has cond.0 c ≡ true
+            → (C.sets conds.new).has self.new.refusals.live.0 c ≡ true → has_first (C.sets conds.new) self.new.top.work c ≡ (C.sets conds.new).has uncalled.0 c) }
+        ensures first_others { OnOk result ((c : List ℕ) → IsConfig (C.sets conds.old).arities c → (C.sets conds.old).has cond.0 c ≡ false
+            → has_first (C.sets conds.new) self.new.top.work c ≡ has_first (C.sets conds.old) self.old.top.work c) }
+        ensures stops { IfErr result (StopsBy (C.sets conds.old).arities limit) }
+
+        // at every outcome
+        ensures keeps { Keeps (C.sets conds.old) (C.sets conds.new) }
+        ensures names { Extends names.old names.new }
+        ensures sets { Extends self.old.sets self.new.sets }
+    {
+        let place = head.token.place;
+        let alloc = self.alloc;
+        let work = &self.top.work;
+        let ends = call_ends(alloc, conds, names, work, 0, cond)?;
+        let branches = calls(alloc, conds, names, work, 0, ends.closed, limit)?;
+        self.refusals
+            .refuse(conds, ends.still, Cause::UnterminatedCall, place)?;
+        let items = items_at(alloc, names, files, &definition.replacement, place)?;
+        self.gather_calls(conds, names, &branches, &definition.form, &items, head)?;
+        let uncalled = conds.apply_or(ends.bare, ends.alone)?;
+        Ok(uncalled)
+    }
+}
+
+/// The tokens of a call behind its opening parenthesis.
+#[derive(Drop)]
+pub struct CallTokens {
+    pub between: Vec<Hidden>,
+    pub close: Hidden,
+}
+
+impl Expansion {
+    /// Takes the calls of branches out of the list, one after the other.
+    fn gather_calls<C: Conditions>(
+        &mut self,
+        conds: &mut C,
+        names: &mut Names,
+        branches: &[Branch],
+        form: &Form,
+        items: &[Item],
+        head: Hidden,
+    ) -> Result<(), OutOfMemory>
+        requires held { (files : ℕ) × IsHeldExpansion (stores (C.sets conds.old) names.old self.old.sets) files self.old }
+        requires head { slice_get (map (λ item. item.1) self.old.top.work) 0 ≡ Some head }
+        requires form { IsHeldForm names.old form.now }
+        requires function { IsTrue (is_function_like (seen_form names.old form.now)) }
+        requires items { All (IsHeldItem names.old) items.now }
+        requires branches { All (IsBranch (stores (C.sets conds.old) names.old self.old.sets) self.old) branches.now }
+        requires one { (c : List ℕ) → IsConfig (C.sets conds.old).arities c → length (lists_at (C.sets conds.old) branches.now c) ≤ 1 }
+        ensures held { OnOk result ((files : ℕ) → IsHeldExpansion (stores (C.sets conds.old) names.old self.old.sets) files self.old → IsHeldExpansion (stores (C.sets conds.new) names.new self.new.sets) files self.new) }
+        ensures below { OnOk result (self.new.below ≡ self.old.below) }
+        ensures out { OnOk result (self.new.top.out ≡ self.old.top.out) }
+        ensures tokens { OnOk result (map (λ item. item.1) self.new.top.work ≡ map (λ item. item.1) self.old.top.work) }
+        ensures gathered { OnOk result (AreGathered (stores (C.sets conds.old) names.old self.old.sets) (stores (C.sets conds.new) names.new self.new.sets) self.old self.new form.now items.now head branches.now) }
+
+        // at every outcome
+        ensures keeps { Keeps (C.sets conds.old) (C.sets conds.new) }
+        ensures names { Extends names.old names.new }
+        ensures sets { Extends self.old.sets self.new.sets }
+    {
+        for branch in branches {
+            self.gather_call(conds, names, branch, form, items, head)?;
+        }
+        Ok(())
+    }
+
+    /// Takes the call of a branch out of the list. It waits for its arguments, or is refused.
+    fn gather_call<C: Conditions>(
+        &mut self,
+        conds: &mut C,
+        names: &mut Names,
+        branch: &Branch,
+        form: &Form,
+        items: &[Item],
+        head: Hidden,
+    ) -> Result<(), OutOfMemory>
+        requires held { (files : ℕ) × IsHeldExpansion (stores (C.sets conds.old) names.old self.old.sets) files self.old }
+        requires head { slice_get (map (λ item. item.1) self.old.top.work) 0 ≡ Some head }
+        requires form { IsHeldForm names.old form.now }
+        requires function { IsTrue (is_function_like (seen_form names.old form.now)) }
+        requires items { All (IsHeldItem names.old) items.now }
+        requires branch { IsBranch (stores (C.sets conds.old) names.old self.old.sets) self.old branch.now }
+        ensures held { OnOk result ((files : ℕ) → IsHeldExpansion (stores (C.sets conds.old) names.old self.old.sets) files self.old → IsHeldExpansion (stores (C.sets conds.new) names.new self.new.sets) files self.new) }
+        ensures below { OnOk result (self.new.below ≡ self.old.below) }
+        ensures out { OnOk result (self.new.top.out ≡ self.old.top.out) }
+        ensures tokens { OnOk result (map (λ item. item.1) self.new.top.work ≡ map (λ item. item.1) self.old.top.work) }
+        ensures gathered { OnOk result (AreGathered (stores (C.sets conds.old) names.old self.old.sets) (stores (C.sets conds.new) names.new self.new.sets) self.old self.new form.now items.now head (branch.now ∷ [])) }
+
+        // at every outcome
+        ensures keeps { Keeps (C.sets conds.old) (C.sets conds.new) }
+        ensures names { Extends names.old names.new }
+        ensures sets { Extends self.old.sets self.new.sets }
+    {
+        let place = head.token.place;
+        let call = self.take_call(conds, names, branch)?;
+        let fit = arguments(self.alloc, names, &call.between, form)?;
+        match fit {
+            Some(raw) => self.begin(
+                conds,
+                names,
+                branch.cond,
+                form,
+                items,
+                head,
+                call.close,
+                &raw,
+            ),
+            None => self
+                .refusals
+                .refuse(conds, branch.cond, Cause::WrongArguments, place),
+        }
+    }
+
+    /// Takes the tokens of a branch's call out of the list.
+    fn take_call<C: Conditions>(
+        &mut self,
+        conds: &mut C,
+        names: &Names,
+        branch: &Branch,
+    ) -> Result<CallTokens, OutOfMemory>
+        requires held { (files : ℕ) × IsHeldExpansion (stores (C.sets conds.old) names.now self.old.sets) files self.old }
+        requires branch { IsBranch (stores (C.sets conds.old) names.now self.old.sets) self.old branch.now }
+        ensures call { IfOk result (λ call. (c : List ℕ) → IsConfig (C.sets conds.old).arities c → (C.sets conds.old).has branch.now.cond.0 c ≡ true
+            → IsCall (seen_at (stores (C.sets conds.old) names.now self.old.sets) (drop 1 self.old.top.work) c) (seen_list names.now self.old.sets call.between.items) (seen_hidden names.now self.old.sets call.close)
+            (seen_at (stores (C.sets conds.new) names.now self.new.sets) self.new.top.work c)) }
+        ensures own { IfOk result (λ call. (files : ℕ) → AreHeld (stores (C.sets conds.old) names.now self.old.sets) files self.old.top.work → All (IsHeldToken (stores (C.sets conds.old) names.now self.old.sets) files) (call.close ∷ call.between.items)) }
+        ensures held { OnOk result ((files : ℕ) → AreHeld (stores (C.sets conds.old) names.now self.old.sets) files self.old.top.work → AreHeld (stores (C.sets conds.new) names.now self.new.sets) files self.new.top.work) }
+        ensures others { OnOk result ((c : List ℕ) → IsConfig (C.sets conds.old).arities c → (C.sets conds.old).has branch.now.cond.0 c ≡ false
+            → (seen_at (stores (C.sets conds.new) names.now self.new.sets) self.new.top.work c ≡ seen_at (stores (C.sets conds.old) names.now self.old.sets) self.old.top.work c)
+            × (has_each (C.sets conds.new) self.new.top.work c ≡ has_each (C.sets conds.old) self.old.top.work c)) }
+        ensures first { OnOk result ((c : List ℕ) → IsConfig (C.sets conds.old).arities c → (C.sets conds.old).has branch.now.cond.0 c ≡ true
+            → has_first (C.sets conds.new) self.new.top.work c ≡ false) }
+        ensures top { OnOk result (self.new.top ≡ record self.old.top { work = self.new.top.work }) }
+        ensures refusals { OnOk result (self.new.refusals ≡ self.old.refusals) }
+        ensures below { OnOk result (self.new.below ≡ self.old.below) }
+        ensures tokens { OnOk result (map (λ item. item.1) self.new.top.work ≡ map (λ item. item.1) self.old.top.work) }
+
+        // at every outcome
+        ensures keeps { Keeps (C.sets conds.old) (C.sets conds.new) }
+        ensures sets { self.new.sets ≡ self.old.sets }
+    {
+        let _ = names;
+        self.top.work.is_small();
+        let last = branch.places.len() - 1;
+        let end = branch.places[last];
+        let between = tokens_at(self.alloc, &self.top.work, &branch.places[2..last])?;
+        let (_, close) = self.top.work.item(end);
+        take_out(conds, &mut self.top.work, end + 1, branch.cond)?;
+        Ok(CallTokens { between, close })
+    }
+
+    /// A call with these arguments begins to wait for them, or is refused for a `#` that fails.
+    fn begin<C: Conditions>(
+        &mut self,
+        conds: &mut C,
+        names: &mut Names,
+        cond: Cond,
+        form: &Form,
+        items: &[Item],
+        head: Hidden,
+        close: Hidden,
+        raw: &[Vec<Hidden>],
+    ) -> Result<(), OutOfMemory>
+        requires held { (files : ℕ) × IsHeldExpansion (stores (C.sets conds.old) names.old self.old.sets) files self.old }
+        requires cond_own { IsCond (C.sets conds.old) cond.0 }
+        requires form { IsHeldForm names.old form.now }
+        requires items { All (IsHeldItem names.old) items.now }
+        requires head { IsHeldHidden names.old self.old.sets head }
+        requires close { IsHeldHidden names.old self.old.sets close }
+        requires raw { AreHeldArguments names.old self.old.sets (map (λ a. a.items) raw.now) }
+        ensures held { OnOk result ((files : ℕ) → IsHeldExpansion (stores (C.sets conds.old) names.old self.old.sets) files self.old → IsHeldToken (stores (C.sets conds.old) names.old self.old.sets) files head
+            → All (λ a. All (IsHeldToken (stores (C.sets conds.old) names.old self.old.sets) files) a.items) raw.now → IsHeldExpansion (stores (C.sets conds.new) names.new self.new.sets) files self.new) }
+        ensures begins { OnOk result ((c : List ℕ) (provenance : Provenance Place) (d : model_macros.Definition) → IsConfig (C.sets conds.old).arities c → (C.sets conds.old).has cond.0 c ≡ true
+            → d.form ≡ seen_form names.new form.now → list_of provenance d (seen_hidden names.new self.new.sets head) ≡ map (seen_item names.new) items.now
+            → Begins provenance d (seen_hidden names.new self.new.sets head) (seen_hidden names.new self.new.sets close) (seen_arguments names.new self.new.sets (map (λ a. a.items) raw.now))
+            (at (stores (C.sets conds.old) names.old self.old.sets) self.old c) (at (stores (C.sets conds.new) names.new self.new.sets) self.new c)) }
+        ensures others { OnOk result ((c : List ℕ) → IsConfig (C.sets conds.old).arities c → (C.sets conds.old).has cond.0 c ≡ false
+            → at (stores (C.sets conds.new) names.new self.new.sets) self.new c ≡ at (stores (C.sets conds.old) names.old self.old.sets) self.old c) }
+        ensures work { OnOk result (self.new.top.work ≡ self.old.top.work) }
+        ensures below { OnOk result (self.new.below ≡ self.old.below) }
+        ensures out { OnOk result (self.new.top.out ≡ self.old.top.out) }
+
+        // at every outcome
+        ensures keeps { Keeps (C.sets conds.old) (C.sets conds.new) }
+        ensures names { Extends names.old names.new }
+        ensures sets { Extends self.old.sets self.new.sets }
+    {
+        let place = head.token.place;
+        let made = begin_call(
+            self.alloc,
+            &mut self.sets,
+            names,
+            cond,
+            form,
+            items,
+            head,
+            close,
+            raw,
+        )?;
+        match made {
+            Some(call) => {
+                self.top.calls.push(call)?;
+                Ok(())
+            }
+            None => self
+                .refusals
+                .refuse(conds, cond, Cause::BadStringize, place),
+        }
+    }
+}
