@@ -2,9 +2,16 @@ pub mod Plain
 pub mod Arguments
 pub mod Parting
 pub mod Seen
+pub mod Having
 pub mod Turn
 pub mod Machine
 pub mod Filling
 pub mod Beginning
 pub mod Gather
 pub mod Taking
+pub mod Called
+pub mod Stops
+pub mod Answers
+pub mod Running
+pub mod Moved
+pub mod OneLine

@@ -5,14 +5,21 @@
 mod arguments;
 mod beginning;
 mod call;
+mod expanding;
 mod expansion;
 mod filling;
 mod frame;
+mod gathering;
 mod laws;
 mod refusals;
 mod role;
+mod running;
 mod taking;
 mod turns;
 mod work_list;
 
-pub use laws::{steps_depend_on_the_names_looked_up, steps_end, steps_give_the_expansion};
+pub use expanding::expand;
+pub use laws::{
+    expansion_commutes_with_maps_of_places, expansion_stays_on_one_line,
+    steps_depend_on_the_names_looked_up, steps_end, steps_give_the_expansion,
+};

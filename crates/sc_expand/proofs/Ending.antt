@@ -1,0 +1,28 @@
+-- How an expansion begins and ends: tokens get an empty hide set, and lose their hide sets.
+use Rattle.std.proofs.Common.{◌≡◌, ℕ, ◌+◌, List, [], ◌∷◌, ◌++◌, All, map, take, Some, slice_get, sym, ap, subst, ◌∙◌}
+use Rattle.std.proofs.lemmas.List.{map-append, take_more}
+use Rattle.std.proofs.lemmas.List.Elements.{All-push}
+use Rattle.std.proofs.lemmas.Option.{get_or_from_slice_get, slice_get_within}
+use Rattle.sc_base.specs.declared.id.Cond.{Cond}
+use Rattle.sc_base.specs.declared.token.Token.{Token}
+use Rattle.sc_subst.specs.declared.hidden.Hidden.{Hidden}
+
+-- without its hide set
+abbrev pub bared : Cond × Hidden → Cond × Token
+bared item = (item.0, item.1.token)
+
+pub take-next : {A : Type 0} (xs : List A) (i : ℕ) (x : A) → slice_get xs i ≡ Some x → take (i + 1) xs ≡ take i xs ++ x ∷ []
+take-next xs i x is = take_more xs i x (slice_get_within xs i x is) ∙ ap (λ y. take i xs ++ y ∷ []) (get_or_from_slice_get xs i x x is)
+
+pub begun-next : (items later : List (Cond × Hidden)) (list : List (Cond × Token)) (i : ℕ) (cond : Cond) (t : Token) (h : Hidden) → map bared items ≡ take i list → slice_get list i ≡ Some (cond, t) → h.token ≡ t
+    → later ≡ items ++ (cond, h) ∷ [] → map bared later ≡ take (i + 1) list
+begun-next items later list i cond t h before at same pushed =
+    ap (map bared) pushed ∙ (map-append bared items ((cond, h) ∷ []) ∙ (ap (λ l. l ++ (cond, h.token) ∷ []) before ∙ (ap (λ (u : Token). take i list ++ (cond, u) ∷ []) same ∙ sym (take-next list i (cond, t) at))))
+
+pub All-later : {A : Type 0} (P : A → Type 0) (items later : List A) (x : A) → All P items → P x → later ≡ items ++ x ∷ [] → All P later
+All-later P items later x all here pushed = subst (All P) (sym pushed) (All-push P items x all here)
+
+pub finished-next : (list later : List (Cond × Token)) (out : List (Cond × Hidden)) (i : ℕ) (cond : Cond) (h : Hidden) → list ≡ map bared (take i out) → slice_get out i ≡ Some (cond, h)
+    → later ≡ list ++ (cond, h.token) ∷ [] → later ≡ map bared (take (i + 1) out)
+finished-next list later out i cond h before at pushed =
+    pushed ∙ (ap (λ l. l ++ (cond, h.token) ∷ []) before ∙ (sym (map-append bared (take i out) ((cond, h) ∷ [])) ∙ ap (map bared) (sym (take-next out i (cond, h) at))))

@@ -1,0 +1,171 @@
+-- What taking the calls of a name out comes to, by how each configuration's call goes on.
+use Rattle.std.proofs.Common.{◌≡◌, ℕ, ◌&&◌, ◌||◌, Bool, true, false, List, [], ◌∷◌, ◌++◌, All, map, Some, IsTrue, refl, sym, ap, subst, ◌∙◌, true≢false, if◌then◌else◌}
+use Rattle.c11_macros.specs.Defines.{is_function_like}
+use Rattle.c11_macros.specs.Expansion.{is_looked_up}
+use Rattle.c11_macros.specs.Hidden as model
+use Rattle.c11_macros.specs.Hidden.{Failure, Provenance, failure_at}
+use Rattle.c11_macros.specs.Macros.{Definition, Macros, list_at}
+use Rattle.sc_base.specs.declared.id.Cond.{Cond}
+use Rattle.sc_base.specs.declared.place.Place.{Place}
+use Rattle.sc_base.specs.declared.stop.Stop.{Stop}
+use Rattle.sc_base.specs.declared.stop.Stop.TheVariants.{BranchesFull, ReadFault, OutOfMemory}
+use Rattle.sc_expand.proofs.GatherBranches.{first-of-each}
+use Rattle.sc_expand.proofs.GatherCases.{case-still, case-uncalled-alone, case-uncalled-bare, spellings}
+use Rattle.sc_expand.proofs.GatherPlaces.{spelled-behind}
+use Rattle.sc_expand.proofs.GatherTaking.{function-form, rest-is}
+use Rattle.sc_expand.proofs.TakingSteps.{state-scanning}
+use Rattle.sc_expand.specs.Called.{AreGathered, IsMacro, tokens_in}
+use Rattle.sc_expand.specs.declared.expansion.Expansion.{Expansion}
+use Rattle.sc_expand.specs.Gather as gathers
+use Rattle.sc_expand.specs.Gather.{Gathers}
+use Rattle.sc_expand.specs.Having.{has_each}
+use Rattle.sc_expand.specs.Machine.{at}
+use Rattle.sc_expand.specs.Plain.{Fails, open_call}
+use Rattle.sc_expand.specs.Seen.{Stores, seen_at}
+use Rattle.sc_expand.specs.Stops.{StopsBy}
+use Rattle.sc_expand.specs.Taking.{has_first}
+use Rattle.sc_expand.specs.Turn.{At}
+use Rattle.sc_hoist.specs.Branches.{Refuses, lists_at}
+use Rattle.sc_hoist.specs.Calls.{CallEnd, alone, bare, call_end, call_end_at, closed, is_end, still}
+use Rattle.sc_hoist.specs.declared.branch.Branch.{Branch}
+use Rattle.sc_macro.specs.declared.definition.Item as declared_item
+use Rattle.sc_macro.specs.declared.form.Form as declared_form
+use Rattle.sc_base.proofs.Growth.{Extends-refl}
+use Rattle.sc_base.specs.declared.id.Name.{Name}
+use Rattle.sc_expand.proofs.TakingLemmas.{grown-list}
+use Rattle.sc_macro.specs.declared.definition.Definition as declared_definition
+use Rattle.sc_macro.specs.Seen.{IsHeldDefinition, IsHeldItem, seen_definition, seen_item, seen_replacement, text_of}
+use Rattle.sc_model.specs.Growth.{Extends}
+use Rattle.sc_subst.proofs.Turns.{form_later}
+use Rattle.sc_model.specs.declared.cause.Cause.TheVariants.{UnterminatedCall}
+use Rattle.sc_model.specs.Sets.{Sets, IsConfig}
+use Rattle.sc_subst.proofs.Later.{hidden_later, text_later}
+use Rattle.sc_subst.specs.declared.hidden.Hidden.{Hidden}
+use Rattle.sc_subst.specs.Seen.{IsHeldHidden, seen_hidden}
+
+-- ---- why there is no answer
+
+-- different lists of places are those of different configurations
+pub stops-by : (s : Sets) (arities : List ℕ) (cond : ℕ) (list : List ℕ → List ℕ) (limit : ℕ) (stop : Stop) → s.arities ≡ arities → Refuses s cond list limit stop → StopsBy arities limit stop
+stops-by s arities cond list limit (BranchesFull count) same is = (
+  is.0,
+  record {
+    configs = is.1.configs;
+    many = is.1.many;
+    listed = subst (λ n. All (IsConfig n) is.1.configs) same is.1.listed;
+    apart = λ i j d before within e. is.1.apart i j d before within (ap list e);
+  },
+)
+stops-by s arities cond list limit ReadFault same is = is
+stops-by s arities cond list limit OutOfMemory same is = tt
+
+pub end-is : (one two : CallEnd) → is_end one two ≡ true → two ≡ one
+end-is closed closed is = refl
+end-is still still is = refl
+end-is bare bare is = refl
+end-is alone alone is = refl
+end-is closed still is = absurd (cc)
+end-is closed bare is = absurd (cc)
+end-is closed alone is = absurd (cc)
+end-is still closed is = absurd (cc)
+end-is still bare is = absurd (cc)
+end-is still alone is = absurd (cc)
+end-is bare closed is = absurd (cc)
+end-is bare still is = absurd (cc)
+end-is bare alone is = absurd (cc)
+end-is alone closed is = absurd (cc)
+end-is alone still is = absurd (cc)
+end-is alone bare is = absurd (cc)
+
+pub both : (a b : Bool) → (a && b) ≡ true → (a ≡ true) × (b ≡ true)
+both true true is = (refl, refl)
+both true false is = absurd (cc)
+both false b is = absurd (cc)
+
+-- ---- one configuration
+
+-- what the parts of it came to, where the name is called so
+pub record Ending (old mid now new : Stores) (e0 e1 e2 : Expansion) (branches : List Branch) (failure : Failure Place) (c place : List ℕ) (refused uncalled has : Bool) (end : CallEnd) : Type 0 where
+  pub lists : lists_at mid.sets branches c ≡ (if has && is_end closed end then place ∷ [] else [])
+  pub refused_is : refused ≡ (has && is_end still end)
+  pub uncalled_is : uncalled ≡ ((has && is_end bare end) || (has && is_end alone end))
+  pub other : refused ≡ false → at mid e1 c ≡ at old e0 c
+  pub dead : refused ≡ true → (at mid e1 c).live ≡ false
+  pub failures : refused ≡ true → (at mid e1 c).failures ≡ (at old e0 c).failures ++ failure ∷ []
+  pub each : has_each mid.sets e1.top.work c ≡ has_each old.sets e0.top.work c
+  pub last : at new e2 c ≡ at now e2 c
+  pub last_each : has_each new.sets e2.top.work c ≡ has_each now.sets e2.top.work c
+
+module _ (old mid now new : Stores) (e0 e1 e2 : Expansion) (branches : List Branch) (form : declared_form.Form) (items : List declared_item.Item) (head : Hidden) (c place : List ℕ) (refused uncalled : Bool)
+    (listed : IsConfig mid.sets.arities c) (done : AreGathered mid now e1 e2 form items head branches) where
+  abbrev failure : Failure Place
+  failure = failure_at UnterminatedCall (seen_hidden old.names old.hides head)
+
+  abbrev Ended : Bool → CallEnd → Type 0
+  Ended has end = Ending old mid now new e0 e1 e2 branches failure c place refused uncalled has end
+
+  -- where no branch has it, it is as it was but for what was refused
+  untaken : (has : Bool) (end : CallEnd) → Ended has end → (has && is_end closed end) ≡ false → (at new e2 c ≡ at mid e1 c) × (has_each new.sets e2.top.work c ≡ has_each old.sets e0.top.work c)
+  untaken has end is none =
+      let other = done.others c listed (is.lists ∙ ap (λ b. if b then place ∷ [] else []) none) in
+      (is.last ∙ other.0, is.last_each ∙ (other.1 ∙ is.each))
+
+  pub ended-other : (end : CallEnd) → Ended false end → ((at new e2 c ≡ at old e0 c) × (uncalled ≡ false)) × (has_first new.sets e2.top.work c ≡ has_first old.sets e0.top.work c)
+  ended-other end is =
+      let same = untaken false end is refl in
+      ((same.0 ∙ is.other is.refused_is, is.uncalled_is), first-of-each new.sets old.sets e2.top.work e0.top.work c same.1)
+
+  pub ended-first : (end : CallEnd) → Ended true end → has_first old.sets e0.top.work c ≡ true → (at new e2 c).live ≡ true → has_first new.sets e2.top.work c ≡ uncalled
+  ended-first closed is stands live = first-of-each new.sets now.sets e2.top.work e2.top.work c is.last_each ∙ (done.first c place listed is.lists ∙ sym is.uncalled_is)
+  ended-first still is stands live = let gone = ap (λ (a : At). a.live) (untaken true still is refl).0 ∙ is.dead is.refused_is in absurd (true≢false (sym live ∙ gone))
+  ended-first bare is stands live = first-of-each new.sets old.sets e2.top.work e0.top.work c (untaken true bare is refl).1 ∙ (stands ∙ sym is.uncalled_is)
+  ended-first alone is stands live = first-of-each new.sets old.sets e2.top.work e0.top.work c (untaken true alone is refl).1 ∙ (stands ∙ sym is.uncalled_is)
+
+  module _ (provenance : Provenance Place) (macros : Macros) (d : Definition) (rest : List (model.Hidden Place)) (work : (at old e0 c).view.work ≡ seen_hidden old.names old.hides head ∷ rest) (calls : (at old e0 c).view.calls ≡ [])
+      (same : seen_hidden mid.names mid.hides head ≡ seen_hidden old.names old.hides head) (looked : is_looked_up (seen_hidden old.names old.hides head) ≡ true)
+      (defined : macros (seen_hidden old.names old.hides head).spelling ≡ Some d) (function : IsTrue (is_function_like d.form)) (macro : IsMacro mid provenance macros form items head d) where
+    abbrev t : model.Hidden Place
+    t = seen_hidden old.names old.hides head
+
+    pub ended-gathers : (end : CallEnd) → Ended true end → call_end (spellings rest) ≡ end → Gathers provenance macros t rest (at old e0 c) (at new e2 c) uncalled
+    ended-gathers closed is ends =
+        let here = is.other is.refused_is in
+        let it = done.gathers c place provenance macros d rest listed is.lists (ap (λ (a : At). a.view.work) here ∙ (work ∙ ap (λ t. t ∷ rest) (sym same))) macro in
+        let one = subst (λ t. Gathers provenance macros t rest (at mid e1 c) (at now e2 c) false) same it in
+        let two = subst (λ a. Gathers provenance macros t rest a (at now e2 c) false) here one in
+        let three = subst (λ b. Gathers provenance macros t rest (at old e0 c) b false) (sym is.last) two in
+        subst (Gathers provenance macros t rest (at old e0 c) (at new e2 c)) (sym is.uncalled_is) three
+    ended-gathers still is ends =
+        let f = function-form d.form function in
+        let case = case-still macros t d looked defined f.parameters f.variadic f.is rest ends in
+        let left = (untaken true still is refl).0 in
+        let a = at old e0 c in
+        let fails = subst (λ s. Fails provenance macros s failure) (state-scanning a.view (t ∷ rest) work calls) (open_call a.view.out rest t case) in
+        let it = gathers.failed failure fails (ap (λ (a : At). a.live) left ∙ is.dead is.refused_is) (ap (λ (a : At). a.failures) left ∙ is.failures is.refused_is) in
+        subst (Gathers provenance macros t rest (at old e0 c) (at new e2 c)) (sym is.uncalled_is) it
+    ended-gathers bare is ends =
+        let f = function-form d.form function in
+        let case = case-uncalled-bare macros t d looked defined f.parameters f.variadic f.is rest ends in
+        subst (Gathers provenance macros t rest (at old e0 c) (at new e2 c)) (sym is.uncalled_is) (gathers.uncalled case ((untaken true bare is refl).0 ∙ is.other is.refused_is))
+    ended-gathers alone is ends =
+        let f = function-form d.form function in
+        let case = case-uncalled-alone macros t d looked defined f.parameters f.variadic f.is rest ends in
+        subst (Gathers provenance macros t rest (at old e0 c) (at new e2 c)) (sym is.uncalled_is) (gathers.uncalled case ((untaken true alone is refl).0 ∙ is.other is.refused_is))
+
+-- how the call goes on, by what follows the name
+pub end-behind : (st : Stores) (list : List (Cond × Hidden)) (c : List ℕ) (t : model.Hidden Place) (rest : List (model.Hidden Place)) → has_first st.sets list c ≡ true → seen_at st list c ≡ t ∷ rest
+    → call_end (spellings rest) ≡ call_end_at st.sets st.names (tokens_in list) 0 c
+end-behind st list c t rest has is = ap (λ l. call_end (spellings l)) (rest-is st list c t rest has is) ∙ ap call_end (sym (spelled-behind st.names st.sets c st.hides list))
+
+-- the macro whose list was made is that of the name
+pub macro-is : (s : Sets) (names later : List (List ℕ)) (hides : List (List Name)) (provenance : Provenance Place) (macros : Macros) (definition : declared_definition.Definition) (head : Hidden) (items : List declared_item.Item)
+    → IsHeldHidden names hides head → IsHeldDefinition names definition → All (IsHeldItem later) items → Extends names later
+    → is_looked_up (seen_hidden names hides head) ≡ true → macros (text_of names head.token.spelling) ≡ Some (seen_definition names definition)
+    → map (seen_item later) items ≡ list_at (seen_replacement later definition.replacement) (provenance.place head.token.place)
+    → IsMacro (record { sets = s; names = later; hides = hides }) provenance macros definition.form items head (seen_definition names definition)
+macro-is s names later hides provenance macros definition head items head_held held own e looked defined made = record {
+  looked_up = ap is_looked_up (hidden_later head head_held e (Extends-refl hides)) ∙ looked;
+  defined = ap macros (text_later head.token.spelling head_held.token.spelling e) ∙ defined;
+  formed = sym (form_later definition.form held.form e);
+  list = sym (grown-list definition items (provenance.place head.token.place) held own e (Extends-refl later) made);
+}

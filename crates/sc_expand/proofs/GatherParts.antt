@@ -1,0 +1,261 @@
+-- The parts of the configurations of a name, by how its call goes on.
+use Rattle.std.proofs.Common.{◌≡◌, ℕ, ◌≤◌, ◌&&◌, ◌||◌, not, Bool, true, false, List, [], ◌∷◌, ◌++◌, All, length, get_or, sym, ap, subst, ◌∙◌, arith, if◌then◌else◌, map, Some, IsTrue}
+use Rattle.c11_macros.specs.Defines.{is_function_like}
+use Rattle.c11_macros.specs.Expansion.{is_looked_up}
+use Rattle.c11_macros.specs.Hidden as model
+use Rattle.c11_macros.specs.Hidden.{Failure, failure_at}
+use Rattle.c11_macros.specs.Macros.{Macros, list_at}
+use Rattle.sc_base.proofs.Growth.{Extends-refl}
+use Rattle.sc_base.specs.declared.fault.Fault.{Fault}
+use Rattle.sc_base.specs.declared.place.Place.{Place}
+use Rattle.sc_expand.proofs.GatherBranches.{called-later, spelled-same}
+use Rattle.sc_expand.proofs.GatherEnds.{Ending, both, end-behind, end-is, ended-first, ended-gathers, ended-other, macro-is}
+use Rattle.sc_expand.proofs.GatherSteps.{refused-failures, refused-live, refused-other}
+use Rattle.sc_expand.proofs.SeenLemmas.{Grows-trans, IsHeldExpansion-Grows, at-Grows}
+use Rattle.sc_expand.proofs.TakingSteps.{has_first-Keeps}
+use Rattle.sc_expand.proofs.WorkListLemmas.{has_each-Keeps}
+use Rattle.sc_expand.specs.Called.{AreGathered, IsBranch, IsCalled, tokens_in}
+use Rattle.sc_expand.specs.Gather.{Gathers}
+use Rattle.sc_expand.specs.declared.expansion.Expansion.{Expansion}
+use Rattle.sc_expand.specs.declared.refusals.Refusals.{Refusals}
+use Rattle.sc_expand.specs.Machine.{IsHeldExpansion, at}
+use Rattle.sc_expand.specs.Seen.{Grows, IsHeldRefusals, Stores, failures_at, provenance_of, stores}
+use Rattle.sc_expand.specs.Taking.{has_first}
+use Rattle.sc_expand.specs.Turn.{At}
+use Rattle.sc_hoist.proofs.BranchLemmas.{lists_at-Keeps}
+use Rattle.sc_hoist.proofs.PartLemmas.{one_list}
+use Rattle.sc_hoist.specs.Branches.{AreBranches, lists_at}
+use Rattle.sc_hoist.specs.Calls.{alone, bare, call_end, call_end_at, call_places, closed, is_end, still}
+use Rattle.sc_hoist.specs.declared.branch.Branch.{Branch}
+use Rattle.sc_base.specs.Seen.{seen_place}
+use Rattle.sc_macro.specs.declared.definition.Definition as declared_definition
+use Rattle.sc_macro.specs.declared.definition.Item as declared_item
+use Rattle.sc_macro.specs.Seen.{IsHeldDefinition, IsHeldItem, seen_definition, seen_form, seen_item, seen_replacement, text_of}
+use Rattle.sc_model.specs.declared.cause.Cause.TheVariants.{UnterminatedCall}
+use Rattle.sc_subst.proofs.Later.{hidden_later}
+use Rattle.sc_subst.specs.declared.hidden.Hidden.{Hidden}
+use Rattle.sc_subst.specs.Seen.{IsHeldHidden, seen_hidden}
+use Rattle.sc_model.proofs.SetLemmas.{Denotes-Keeps, IsConfig-Keeps, IsConfig-kept, Keeps-trans}
+use Rattle.sc_model.specs.Growth.{Extends}
+use Rattle.sc_model.specs.Sets.{Denotes, IsCond, IsConfig, Keeps, Sets}
+
+-- the configurations were parted, and those of a call that is not closed were refused
+pub record Parted (s0 s1 s2 s3 : Sets) (names later : List (List ℕ)) (files : ℕ) (e : Expansion) (r : Refusals) (cond closes stays_open : ℕ) (branches : List Branch) (failure : Failure Place) : Type 0 where
+  pub first : Keeps s0 s1
+  pub second : Keeps s1 s2
+  pub third : Keeps s2 s3
+  pub longer : Extends names later
+  pub held : IsHeldExpansion (stores s0 names e.sets) files e
+  pub closed_is : Denotes s1 closes (λ c. s0.has cond c && is_end closed (call_end_at s0 names (tokens_in e.top.work) 0 c))
+  pub open_is : Denotes s1 stays_open (λ c. s0.has cond c && is_end still (call_end_at s0 names (tokens_in e.top.work) 0 c))
+  pub lists : (c : List ℕ) → IsConfig s1.arities c → lists_at s2 branches c ≡ (if s1.has closes c then call_places s1 names (tokens_in e.top.work) 0 c ∷ [] else [])
+  pub are : AreBranches s2 branches
+  pub live : Denotes s3 r.live.0 (λ c. s2.has e.refusals.live.0 c && not (s2.has stays_open c))
+  pub failures : (c : List ℕ) → IsConfig s2.arities c → All (λ (f : Fault). IsCond s2 f.cond.0) e.refusals.faults.items
+      → failures_at s3 r.faults.items c ≡ failures_at s2 e.refusals.faults.items c ++ (if s2.has stays_open c then failure ∷ [] else [])
+
+module _ {s0 s1 s2 s3 : Sets} {names later : List (List ℕ)} {files : ℕ} {e : Expansion} {r : Refusals} {cond closes stays_open : ℕ} {branches : List Branch} {failure : Failure Place}
+    (parts : Parted s0 s1 s2 s3 names later files e r cond closes stays_open branches failure) where
+  abbrev st0 : Stores
+  st0 = stores s0 names e.sets
+
+  abbrev st1 : Stores
+  st1 = stores s1 names e.sets
+
+  abbrev st2 : Stores
+  st2 = stores s2 names e.sets
+
+  abbrev st3 : Stores
+  st3 = stores s3 later e.sets
+
+  abbrev refused : Expansion
+  refused = record e { refusals = r }
+
+  g01 : Grows st0 st1
+  g01 = record { sets = parts.first; names = Extends-refl names; hides = Extends-refl e.sets }
+
+  g12 : Grows st1 st2
+  g12 = record { sets = parts.second; names = Extends-refl names; hides = Extends-refl e.sets }
+
+  g23 : Grows st2 st3
+  g23 = record { sets = parts.third; names = parts.longer; hides = Extends-refl e.sets }
+
+  pub g02 : Grows st0 st2
+  g02 = Grows-trans g01 g12
+
+  pub g03 : Grows st0 st3
+  g03 = Grows-trans g02 g23
+
+  held1 : IsHeldExpansion st1 files e
+  held1 = IsHeldExpansion-Grows g01 e parts.held
+
+  held2 : IsHeldExpansion st2 files e
+  held2 = IsHeldExpansion-Grows g12 e held1
+
+  other : (c : List ℕ) → IsConfig s2.arities c → s2.has stays_open c ≡ false → at st3 refused c ≡ at st2 e c
+  other = refused-other g23 e held2 r stays_open failure parts.live parts.failures
+
+  pub one-at-most : (c : List ℕ) → IsConfig s3.arities c → length (lists_at s3 branches c) ≤ 1
+  one-at-most c listed =
+      let listed2 = IsConfig-kept parts.third listed in
+      let listed1 = IsConfig-kept parts.second listed2 in
+      let place = call_places s1 names (tokens_in e.top.work) 0 c in
+      let is = lists_at-Keeps branches c parts.third parts.are.own listed2 ∙ parts.lists c listed1 in
+      subst (λ l. length l ≤ 1) (sym is) (few-of (s1.has closes c) place)
+    where
+      few-of : (b : Bool) (place : List ℕ) → length (if b then place ∷ [] else []) ≤ 1
+      few-of true place = omega arith
+      few-of false place = omega arith
+
+  module _ (stands : (c : List ℕ) → IsConfig s0.arities c → s0.has cond c ≡ true → has_first s0 e.top.work c ≡ true)
+      (lives : (c : List ℕ) → IsConfig s0.arities c → s0.has cond c ≡ true → s0.has e.refusals.live.0 c ≡ true)
+      (waits : (c : List ℕ) → IsConfig s0.arities c → s0.has cond c ≡ true → (at st0 e c).view.calls ≡ []) where
+    branch-called : (c places : List ℕ) → IsConfig s1.arities c → s1.has closes c ≡ true → places ≡ call_places s1 names (tokens_in e.top.work) 0 c → IsCalled st3 refused places c
+    branch-called c places listed1 has is =
+        let listed0 = IsConfig-kept parts.first listed1 in
+        let listed2 = IsConfig-Keeps parts.second listed1 in
+        let end = call_end_at s0 names (tokens_in e.top.work) 0 c in
+        let two = both (s0.has cond c) (is_end closed end) (sym (parts.closed_is.at c listed1) ∙ has) in
+        let ends = end-is closed end two.1 in
+        let no_fault : s2.has stays_open c ≡ false = parts.second.at stays_open c parts.open_is.own listed1 ∙ (parts.open_is.at c listed1 ∙ (λ i. two.0 i && is_end still (ends i))) in
+        let first = stands c listed0 two.0 in
+        let own = parts.held.top.work.own in
+        let same1 = at-Grows g01 c listed0 e parts.held in
+        let each1 = has_each-Keeps e.top.work c parts.first own listed0 in
+        let called : IsCalled st1 e places c = record {
+          stands = has_first-Keeps parts.first e.top.work own c listed0 ∙ first;
+          stand_at = is;
+          closed = ap call_end (spelled-same st0 st1 e e c same1 each1 first) ∙ ends;
+          live = parts.first.at e.refusals.live.0 c parts.held.refusals.live listed0 ∙ lives c listed0 two.0;
+          calls = ap (λ (a : At). a.view.calls) same1 ∙ waits c listed0 two.0;
+        } in
+        called-later st1 st3 e refused c (other c listed2 no_fault ∙ at-Grows g12 c listed1 e held1) (has_each-Keeps e.top.work c (Keeps-trans parts.second parts.third) held1.top.work.own listed1) places called
+
+    pub are-branches : All (IsBranch st3 refused) branches
+    are-branches = λ k d h. record {
+      own = parts.third.own _ (parts.are.own k d h);
+      some = λ never. parts.are.some k d h (record { none = λ c listed. sym (parts.third.at _ c (parts.are.own k d h) listed) ∙ never.none c (IsConfig-Keeps parts.third listed) });
+      each = λ c listed has.
+          let listed2 = IsConfig-kept parts.third listed in
+          let listed1 = IsConfig-kept parts.second listed2 in
+          let had = sym (parts.third.at (get_or branches k d).cond.0 c (parts.are.own k d h) listed2) ∙ has in
+          let list = one_list s2 branches c (s1.has closes c) (call_places s1 names (tokens_in e.top.work) 0 c) (parts.lists c listed1) k d h had in
+          branch-called c (get_or branches k d).places.items listed1 list.0 list.1;
+    }
+
+  -- ---- the end
+
+  ending-at : (s4 s5 : Sets) (last_names : List (List ℕ)) (e2 : Expansion) (uncalled : ℕ) → Keeps s3 s4 → Keeps s4 s5 → IsHeldExpansion (stores s4 last_names e2.sets) files e2
+      → Denotes s5 uncalled (λ c. (s0.has cond c && is_end bare (call_end_at s0 names (tokens_in e.top.work) 0 c)) || (s0.has cond c && is_end alone (call_end_at s0 names (tokens_in e.top.work) 0 c)))
+      → (c : List ℕ) → IsConfig s0.arities c
+      → Ending st0 st3 (stores s4 last_names e2.sets) (stores s5 last_names e2.sets) e refused e2 branches failure c (call_places s1 names (tokens_in e.top.work) 0 c) (s2.has stays_open c) (s5.has uncalled c)
+      (s0.has cond c) (call_end_at s0 names (tokens_in e.top.work) 0 c)
+  ending-at s4 s5 last_names e2 uncalled fourth fifth held4 told c listed0 =
+      let listed1 = IsConfig-Keeps parts.first listed0 in
+      let listed2 = IsConfig-Keeps parts.second listed1 in
+      let listed3 = IsConfig-Keeps parts.third listed2 in
+      let listed4 = IsConfig-Keeps fourth listed3 in
+      let listed5 = IsConfig-Keeps fifth listed4 in
+      let place = call_places s1 names (tokens_in e.top.work) 0 c in
+      let g45 : Grows (stores s4 last_names e2.sets) (stores s5 last_names e2.sets) = record { sets = fifth; names = Extends-refl last_names; hides = Extends-refl e2.sets } in
+      let same = at-Grows g02 c listed0 e parts.held in
+      record {
+        lists = lists_at-Keeps branches c parts.third parts.are.own listed2 ∙ (parts.lists c listed1 ∙ ap (λ b. if b then place ∷ [] else []) (parts.closed_is.at c listed1));
+        refused_is = parts.second.at stays_open c parts.open_is.own listed1 ∙ parts.open_is.at c listed1;
+        uncalled_is = told.at c listed5;
+        other = λ lacks. other c listed2 lacks ∙ same;
+        dead = λ has. refused-live g23 e held2 r stays_open failure parts.live parts.failures c listed2 has;
+        failures = λ has. refused-failures g23 e held2 r stays_open failure parts.live parts.failures c listed2 has ∙ ap (λ (a : At). a.failures ++ failure ∷ []) same;
+        each = has_each-Keeps e.top.work c (Keeps-trans parts.first (Keeps-trans parts.second parts.third)) parts.held.top.work.own listed0;
+        last = at-Grows g45 c listed4 e2 held4;
+        last_each = has_each-Keeps e2.top.work c fifth held4.top.work.own listed4;
+      }
+
+  pub ending : (s4 s5 : Sets) (last_names : List (List ℕ)) (e2 : Expansion) (uncalled : ℕ) → Keeps s3 s4 → Keeps s4 s5 → IsHeldExpansion (stores s4 last_names e2.sets) files e2
+      → Denotes s5 uncalled (λ c. (s0.has cond c && is_end bare (call_end_at s0 names (tokens_in e.top.work) 0 c)) || (s0.has cond c && is_end alone (call_end_at s0 names (tokens_in e.top.work) 0 c)))
+      → (c : List ℕ) → IsConfig s0.arities c → (has : Bool) → s0.has cond c ≡ has
+      → Ending st0 st3 (stores s4 last_names e2.sets) (stores s5 last_names e2.sets) e refused e2 branches failure c (call_places s1 names (tokens_in e.top.work) 0 c) (s2.has stays_open c) (s5.has uncalled c)
+      has (call_end_at s0 names (tokens_in e.top.work) 0 c)
+  ending s4 s5 last_names e2 uncalled fourth fifth held4 told c listed has is =
+      let place = call_places s1 names (tokens_in e.top.work) 0 c in
+      let end = call_end_at s0 names (tokens_in e.top.work) 0 c in
+      subst (λ b. Ending st0 st3 (stores s4 last_names e2.sets) (stores s5 last_names e2.sets) e refused e2 branches failure c place (s2.has stays_open c) (s5.has uncalled c) b end) is
+      (ending-at s4 s5 last_names e2 uncalled fourth fifth held4 told c listed)
+
+  pub parted-config : (c : List ℕ) → IsConfig s0.arities c → IsConfig s3.arities c
+  parted-config c listed = IsConfig-Keeps parts.third (IsConfig-Keeps parts.second (IsConfig-Keeps parts.first listed))
+
+  pub parted-held : (IsHeldRefusals s2 files e.refusals → IsHeldRefusals s3 files r) → IsHeldExpansion st3 files refused
+  parted-held keeps =
+      let all = IsHeldExpansion-Grows g03 e parts.held in
+      record { refusals = keeps held2.refusals; top = all.top; below = all.below }
+
+-- ---- all configurations
+
+-- what was promised of the branches that were found is so of them where they are read
+pub parted-by : (s0 s1 s2 s3 : Sets) (names later : List (List ℕ)) (files : ℕ) (e : Expansion) (r : Refusals) (cond closes stays_open : ℕ) (found branches : List Branch) (failure : Failure Place) → branches ≡ found
+    → Keeps s0 s1 → Keeps s1 s2 → Keeps s2 s3 → Extends names later → IsHeldExpansion (stores s0 names e.sets) files e
+    → Denotes s1 closes (λ c. s0.has cond c && is_end closed (call_end_at s0 names (tokens_in e.top.work) 0 c))
+    → Denotes s1 stays_open (λ c. s0.has cond c && is_end still (call_end_at s0 names (tokens_in e.top.work) 0 c))
+    → ((c : List ℕ) → IsConfig s1.arities c → lists_at s2 found c ≡ (if s1.has closes c then call_places s1 names (tokens_in e.top.work) 0 c ∷ [] else [])) → AreBranches s2 found
+    → Denotes s3 r.live.0 (λ c. s2.has e.refusals.live.0 c && not (s2.has stays_open c))
+    → ((c : List ℕ) → IsConfig s2.arities c → All (λ (f : Fault). IsCond s2 f.cond.0) e.refusals.faults.items
+    → failures_at s3 r.faults.items c ≡ failures_at s2 e.refusals.faults.items c ++ (if s2.has stays_open c then failure ∷ [] else []))
+    → Parted s0 s1 s2 s3 names later files e r cond closes stays_open branches failure
+parted-by s0 s1 s2 s3 names later files e r cond closes stays_open found branches failure value first second third longer held closed_is open_is lists are live failures = record {
+  first = first;
+  second = second;
+  third = third;
+  longer = longer;
+  held = held;
+  closed_is = closed_is;
+  open_is = open_is;
+  lists = λ c listed. ap (λ bs. lists_at s2 bs c) value ∙ lists c listed;
+  are = subst (AreBranches s2) (sym value) are;
+  live = live;
+  failures = failures;
+}
+
+-- what gathering comes to, whatever the configuration
+pub record IsGathered (s0 s5 : Sets) (names last : List (List ℕ)) (files : List (List ℕ)) (e0 e4 : Expansion) (cond uncalled : ℕ) (definition : declared_definition.Definition) (head : Hidden) : Type 0 where
+  pub gathers : (c : List ℕ) (macros : Macros) (rest : List (model.Hidden Place)) → IsConfig s0.arities c → s0.has cond c ≡ true
+      → (at (stores s0 names e0.sets) e0 c).view.work ≡ seen_hidden names e0.sets head ∷ rest → is_looked_up (seen_hidden names e0.sets head) ≡ true
+      → macros (text_of names head.token.spelling) ≡ Some (seen_definition names definition)
+      → Gathers (provenance_of files) macros (seen_hidden names e0.sets head) rest (at (stores s0 names e0.sets) e0 c) (at (stores s5 last e4.sets) e4 c) (s5.has uncalled c)
+  pub others : (c : List ℕ) → IsConfig s0.arities c → s0.has cond c ≡ false
+      → ((at (stores s5 last e4.sets) e4 c ≡ at (stores s0 names e0.sets) e0 c) × (s5.has uncalled c ≡ false)) × (has_first s5 e4.top.work c ≡ has_first s0 e0.top.work c)
+  pub first : (c : List ℕ) → IsConfig s0.arities c → s0.has cond c ≡ true → s5.has e4.refusals.live.0 c ≡ true → has_first s5 e4.top.work c ≡ s5.has uncalled c
+
+module _ {s0 s1 s2 s3 : Sets} {names later : List (List ℕ)} {e : Expansion} {r : Refusals} {cond closes stays_open : ℕ} {branches : List Branch} (files : List (List ℕ)) (head : Hidden)
+    (parts : Parted s0 s1 s2 s3 names later (length files) e r cond closes stays_open branches (failure_at UnterminatedCall (seen_hidden names e.sets head)))
+    (head_held : IsHeldHidden names e.sets head) (definition : declared_definition.Definition) (items made : List declared_item.Item) (is_definition : IsHeldDefinition names definition) (value : items ≡ made) (own : All (IsHeldItem later) made)
+    (list : map (seen_item later) made ≡ list_at (seen_replacement later definition.replacement) (seen_place files head.token.place)) (function : IsTrue (is_function_like (seen_form names definition.form)))
+    (stands : (c : List ℕ) → IsConfig s0.arities c → s0.has cond c ≡ true → has_first s0 e.top.work c ≡ true) (waits : (c : List ℕ) → IsConfig s0.arities c → s0.has cond c ≡ true → (at (stores s0 names e.sets) e c).view.calls ≡ [])
+    (s4 s5 : Sets) (last : List (List ℕ)) (e4 : Expansion) (bares alones uncalled : ℕ) (fourth : Keeps s3 s4) (fifth : Keeps s4 s5) (held4 : IsHeldExpansion (stores s4 last e4.sets) (length files) e4)
+    (bare_is : Denotes s1 bares (λ c. s0.has cond c && is_end bare (call_end_at s0 names (tokens_in e.top.work) 0 c))) (alone_is : Denotes s1 alones (λ c. s0.has cond c && is_end alone (call_end_at s0 names (tokens_in e.top.work) 0 c)))
+    (meaning : (f g : List ℕ → Bool) → Denotes s4 bares f → Denotes s4 alones g → Denotes s5 uncalled (λ c. f c || g c))
+    (done : AreGathered (stores s3 later e.sets) (stores s4 last e4.sets) (record e { refusals = r }) e4 definition.form items head branches) where
+  ended : (c : List ℕ) → IsConfig s0.arities c → (has : Bool) → s0.has cond c ≡ has
+      → Ending (stores s0 names e.sets) (stores s3 later e.sets) (stores s4 last e4.sets) (stores s5 last e4.sets) e (record e { refusals = r }) e4 branches (failure_at UnterminatedCall (seen_hidden names e.sets head)) c
+      (call_places s1 names (tokens_in e.top.work) 0 c) (s2.has stays_open c) (s5.has uncalled c) has (call_end_at s0 names (tokens_in e.top.work) 0 c)
+  ended =
+      let mid = Keeps-trans parts.second (Keeps-trans parts.third fourth) in
+      ending parts s4 s5 last e4 uncalled fourth fifth held4 (meaning _ _ (Denotes-Keeps mid bare_is) (Denotes-Keeps mid alone_is))
+
+  pub is-gathered : IsGathered s0 s5 names last files e e4 cond uncalled definition head
+  is-gathered = record {
+    gathers = λ c macros rest listed has work looked is.
+        let st0 = stores s0 names e.sets in
+        let provenance = provenance_of files in
+        let here = ap (map (seen_item later)) value ∙ list in
+        let macro = macro-is s3 names later e.sets provenance macros definition head items head_held is_definition (subst (All (IsHeldItem later)) (sym value) own) parts.longer looked is here in
+        ended-gathers st0 (stores s3 later e.sets) (stores s4 last e4.sets) (stores s5 last e4.sets) e (record e { refusals = r }) e4 branches definition.form items head c (call_places s1 names (tokens_in e.top.work) 0 c) (s2.has stays_open c)
+        (s5.has uncalled c) (parted-config parts c listed) done provenance macros (seen_definition names definition) rest work (waits c listed has) (hidden_later head head_held parts.longer (Extends-refl e.sets)) looked is function macro
+        (call_end_at s0 names (tokens_in e.top.work) 0 c) (ended c listed true has) (end-behind st0 e.top.work c (seen_hidden names e.sets head) rest (stands c listed has) work);
+    others = λ c listed lacks.
+        ended-other (stores s0 names e.sets) (stores s3 later e.sets) (stores s4 last e4.sets) (stores s5 last e4.sets) e (record e { refusals = r }) e4 branches definition.form items head c (call_places s1 names (tokens_in e.top.work) 0 c)
+        (s2.has stays_open c) (s5.has uncalled c) (parted-config parts c listed) done (call_end_at s0 names (tokens_in e.top.work) 0 c) (ended c listed false lacks);
+    first = λ c listed has live.
+        ended-first (stores s0 names e.sets) (stores s3 later e.sets) (stores s4 last e4.sets) (stores s5 last e4.sets) e (record e { refusals = r }) e4 branches definition.form items head c (call_places s1 names (tokens_in e.top.work) 0 c)
+        (s2.has stays_open c) (s5.has uncalled c) (parted-config parts c listed) done (call_end_at s0 names (tokens_in e.top.work) 0 c) (ended c listed true has) (stands c listed has) live;
+  }

@@ -1,0 +1,71 @@
+-- What a call that begins to wait, or is refused, changes at a configuration.
+use Rattle.std.proofs.Common.{◌≡◌, ℕ, ◌&&◌, not, Bool, true, false, List, [], ◌∷◌, ◌++◌, All, sym, ap, subst, ◌∙◌, append-nil, Vec, Global, if◌then◌else◌}
+use Rattle.std.proofs.lemmas.List.Elements.{All-append, All-cons, All-nil}
+use Rattle.c11_macros.specs.Hidden.{Failure}
+use Rattle.sc_base.specs.declared.fault.Fault.{Fault}
+use Rattle.sc_base.specs.declared.place.Place.{Place}
+use Rattle.sc_expand.proofs.MachineCalls.{calls_at-append}
+use Rattle.sc_expand.proofs.SeenLemmas.{IsHeldExpansion-Grows, at-Grows, view_at-Grows}
+use Rattle.sc_expand.proofs.TakingLemmas.{gone, stays-there}
+use Rattle.sc_expand.specs.declared.call.Call.{Call}
+use Rattle.sc_expand.specs.declared.expansion.Expansion.{Expansion}
+use Rattle.sc_expand.specs.declared.refusals.Refusals.{Refusals}
+use Rattle.sc_expand.specs.Machine.{IsHeldExpansion, at, with_call}
+use Rattle.sc_expand.specs.Plain.{Waiting}
+use Rattle.sc_expand.specs.Seen.{Grows, IsHeldCall, IsHeldFrame, Stores, calls_at, failures_at, waiting_at}
+use Rattle.sc_expand.specs.Turn.{At}
+use Rattle.sc_model.proofs.SetLemmas.{IsConfig-Keeps}
+use Rattle.sc_model.specs.Sets.{Denotes, IsCond, IsConfig}
+
+module _ {old new : Stores} (grows : Grows old new) {files : ℕ} (e : Expansion) (held : IsHeldExpansion old files e) where
+  -- ---- one call more
+
+  module _ (call : Call) (calls : Vec Call Global) (is : calls.items ≡ e.top.calls.items ++ call ∷ []) where
+    abbrev pub pushed : Expansion
+    pushed = record e { top = record e.top { calls = calls } }
+
+    abbrev more : Bool → List ℕ → List (Waiting Place)
+    more b c = if b then waiting_at new call c ∷ [] else []
+
+    pushed-calls : (c : List ℕ) (b : Bool) → new.sets.has call.cond.0 c ≡ b → calls_at new calls.items c ≡ calls_at new e.top.calls.items c ++ more b c
+    pushed-calls c b has = ap (λ l. calls_at new l c) is ∙ (calls_at-append new c e.top.calls.items (call ∷ []) ∙ ap (λ b. calls_at new e.top.calls.items c ++ more b c) has)
+
+    pub pushed-at : (c : List ℕ) (w : Waiting Place) → IsConfig old.sets.arities c → new.sets.has call.cond.0 c ≡ true → waiting_at new call c ≡ w
+        → at new pushed c ≡ record (at old e c) { view = with_call (at old e c).view w }
+    pushed-at c w listed has waits =
+        let put : At → At = λ a. record a { view = with_call a.view w } in
+        let calls_are = pushed-calls c true has ∙ ap (λ w. calls_at new e.top.calls.items c ++ w ∷ []) waits in
+        (λ i. record (at new e c) { view = record (at new e c).view { calls = calls_are i } }) ∙ ap put (at-Grows grows c listed e held)
+
+    pub pushed-other : (c : List ℕ) → IsConfig old.sets.arities c → new.sets.has call.cond.0 c ≡ false → at new pushed c ≡ at old e c
+    pushed-other c listed lacks =
+        let calls_are = pushed-calls c false lacks ∙ append-nil (calls_at new e.top.calls.items c) in
+        (λ i. record (at new e c) { view = record (at new e c).view { calls = calls_are i } }) ∙ at-Grows grows c listed e held
+
+    pub pushed-held : IsHeldCall new files call → IsHeldFrame new files (record e.top { calls = calls })
+    pushed-held own =
+        let later = (IsHeldExpansion-Grows grows e held).top in
+        record {
+          work = later.work;
+          out = later.out;
+          calls = subst (All (IsHeldCall new files)) (sym is) (All-append (IsHeldCall new files) e.top.calls.items (call ∷ []) later.calls (All-cons (IsHeldCall new files) call [] own (All-nil (IsHeldCall new files))));
+        }
+
+  -- ---- configurations that are refused
+
+  module _ (r : Refusals) (cond : ℕ) (failure : Failure Place) (live : Denotes new.sets r.live.0 (λ c. old.sets.has e.refusals.live.0 c && not (old.sets.has cond c)))
+      (failures : (c : List ℕ) → IsConfig old.sets.arities c → All (λ (f : Fault). IsCond old.sets f.cond.0) e.refusals.faults.items
+      → failures_at new.sets r.faults.items c ≡ failures_at old.sets e.refusals.faults.items c ++ (if old.sets.has cond c then failure ∷ [] else [])) where
+    pub refused-live : (c : List ℕ) → IsConfig old.sets.arities c → old.sets.has cond c ≡ true → new.sets.has r.live.0 c ≡ false
+    refused-live c listed has = live.at c (IsConfig-Keeps grows.sets listed) ∙ gone (old.sets.has e.refusals.live.0 c) (old.sets.has cond c) has
+
+    pub refused-failures : (c : List ℕ) → IsConfig old.sets.arities c → old.sets.has cond c ≡ true → failures_at new.sets r.faults.items c ≡ (at old e c).failures ++ failure ∷ []
+    refused-failures c listed has = failures c listed held.refusals.own ∙ ap (λ b. failures_at old.sets e.refusals.faults.items c ++ (if b then failure ∷ [] else [])) has
+
+    pub refused-other : (c : List ℕ) → IsConfig old.sets.arities c → old.sets.has cond c ≡ false → at new (record e { refusals = r }) c ≡ at old e c
+    refused-other c listed lacks =
+        let lives = live.at c (IsConfig-Keeps grows.sets listed) ∙ stays-there (old.sets.has e.refusals.live.0 c) (old.sets.has cond c) lacks in
+        let view = view_at-Grows grows c listed e.top held.top in
+        let none = failures c listed held.refusals.own
+        ∙ (ap (λ b. failures_at old.sets e.refusals.faults.items c ++ (if b then failure ∷ [] else [])) lacks ∙ append-nil (failures_at old.sets e.refusals.faults.items c)) in
+        λ i. record { live = lives i; view = view i; failures = none i }

@@ -1,0 +1,251 @@
+-- The call of a branch is taken out of its list, and begins to wait or is refused.
+use Rattle.std.proofs.Common.{◌≡◌, ℕ, Bool, true, false, List, [], ◌∷◌, ◌++◌, All, map, drop, length, Option, Some, None, Result, Ok, Err, IsTrue, slice_get, refl, sym, ap, subst, ◌∙◌, if◌then◌else◌}
+use Rattle.std.specs.Prelude.{OnOk}
+use Rattle.std.proofs.lemmas.List.Elements.{All-head, All-tail}
+use Rattle.c11_macros.specs.Call.{arguments_for}
+use Rattle.c11_macros.specs.Defines.{is_function_like}
+use Rattle.c11_macros.specs.Expansion.{called, case_of, fitted_case, list_of, misfit}
+use Rattle.c11_macros.specs.Hidden as model
+use Rattle.c11_macros.specs.Hidden.{Provenance, failure_at}
+use Rattle.c11_macros.specs.Macros.{Definition, Form, Macros, function_like, object_like}
+use Rattle.sc_base.proofs.Growth.{Extends-refl, Extends-trans}
+use Rattle.sc_base.specs.declared.id.Cond.{Cond}
+use Rattle.sc_base.specs.declared.id.Name.{Name}
+use Rattle.sc_base.specs.declared.place.Place.{Place}
+use Rattle.sc_expand.proofs.GatherCases.{case-closed}
+use Rattle.sc_expand.proofs.SeenLemmas.{IsHeldExpansion-Grows, at-Grows}
+use Rattle.sc_expand.proofs.TakingSteps.{has_first-Keeps, seen-first, state-scanning}
+use Rattle.sc_expand.proofs.WorkListLemmas.{has_each-Keeps}
+use Rattle.sc_expand.specs.Arguments.{parted}
+use Rattle.sc_expand.specs.Called.{AreGathered, Begins, IsBranch, IsCall, IsMacro, refused, waits}
+use Rattle.sc_expand.specs.declared.expansion.Expansion.{Expansion}
+use Rattle.sc_expand.specs.Gather as gathers
+use Rattle.sc_expand.specs.Gather.{Gathers}
+use Rattle.sc_expand.specs.Having.{has_each}
+use Rattle.sc_expand.specs.Machine.{IsHeldExpansion, at, with_call}
+use Rattle.sc_expand.specs.Plain.{Fails, bad_stringize, gathered, miscounted}
+use Rattle.sc_expand.specs.Seen.{AreHeld, Grows, IsHeldEnclosing, IsHeldFrame, IsHeldRefusals, Stores, failures_at, seen_at, stores, view_at}
+use Rattle.sc_expand.specs.Taking.{has_first}
+use Rattle.sc_expand.specs.Turn.{At}
+use Rattle.sc_hoist.specs.Branches.{lists_at}
+use Rattle.sc_hoist.specs.declared.branch.Branch.{Branch}
+use Rattle.sc_macro.specs.declared.definition.Item as declared_item
+use Rattle.sc_macro.specs.declared.form.Form as declared_form
+use Rattle.sc_macro.specs.Seen.{IsHeldForm, IsHeldItem, seen_form, seen_item}
+use Rattle.sc_model.proofs.SetLemmas.{IsConfig-Keeps}
+use Rattle.sc_model.specs.declared.cause.Cause.TheVariants.{WrongArguments}
+use Rattle.sc_model.specs.Growth.{Extends}
+use Rattle.sc_model.specs.Sets.{Sets, IsConfig, Keeps}
+use Rattle.sc_subst.proofs.Later.{hidden_later}
+use Rattle.sc_subst.proofs.Turns.{form_later, items_later}
+use Rattle.sc_subst.specs.declared.hidden.Hidden.{Hidden}
+use Rattle.sc_subst.specs.Parts.{AreHeldArguments, seen_arguments, seen_list}
+use Rattle.sc_subst.specs.Seen.{IsHeldHidden, seen_hidden}
+
+pub three-on-ok : {A E P Q R S : Type 0} (r : Result A E) → (P → Q → R → S) → OnOk r P → OnOk r Q → OnOk r R → OnOk r S
+three-on-ok (Ok a) f p q x = f p q x
+three-on-ok (Err e) f p q x = tt
+
+-- ---- one configuration
+
+module _ (provenance : Provenance Place) (macros : Macros) (t : model.Hidden Place) (rest after : List (model.Hidden Place)) (a mid b : At) (work : a.view.work ≡ t ∷ rest) (calls : a.view.calls ≡ [])
+    (taken : mid ≡ record a { view = record a.view { work = after } }) where
+  -- a call that begins was taken out
+  begun-gathers : (d : Definition) (close : model.Hidden Place) (arguments : List (List (model.Hidden Place))) → case_of macros t rest ≡ called d arguments close after
+      → Begins provenance d t close arguments mid b → Gathers provenance macros t rest a b false
+  begun-gathers d close arguments case (waits template stands same) =
+      let w = gathered provenance d t arguments close template in
+      let put : At → At = λ m. record m { view = with_call m.view w } in
+      gathers.taken_out d arguments close after template case stands (same ∙ (ap put taken ∙ (λ i. record a { view = record a.view { work = after; calls = calls i ++ w ∷ [] } })))
+  begun-gathers d close arguments case (refused failure each dead failures) =
+      gathers.failed failure (subst (λ s. Fails provenance macros s failure) (state-scanning a.view (t ∷ rest) work calls) (bad_stringize a.view.out rest after t close d arguments failure case each))
+      dead (failures ∙ ap (λ (m : At). m.failures ++ failure ∷ []) taken)
+
+  -- another number of arguments is a failure
+  misfit-gathers : case_of macros t rest ≡ misfit → b.live ≡ false → b.failures ≡ mid.failures ++ failure_at WrongArguments t ∷ [] → Gathers provenance macros t rest a b false
+  misfit-gathers case dead failures =
+      let failure = failure_at WrongArguments t in
+      gathers.failed failure (subst (λ s. Fails provenance macros s failure) (state-scanning a.view (t ∷ rest) work calls) (miscounted a.view.out rest t case))
+      dead (failures ∙ ap (λ (m : At). m.failures ++ failure ∷ []) taken)
+
+-- ---- lists
+
+pub rest-is : (st : Stores) (list : List (Cond × Hidden)) (c : List ℕ) (t : model.Hidden Place) (rest : List (model.Hidden Place)) → has_first st.sets list c ≡ true → seen_at st list c ≡ t ∷ rest → rest ≡ seen_at st (drop 1 list) c
+rest-is st [] c t rest has is = absurd (cc)
+rest-is st (x ∷ xs) c t rest has is =
+    let two : seen_hidden st.names st.hides x.1 ∷ seen_at st xs c ≡ t ∷ rest =
+    sym (seen-first st x xs c ∙ ap (λ b. if b then seen_hidden st.names st.hides x.1 ∷ seen_at st xs c else seen_at st xs c) has) ∙ is in
+    cc
+
+pub head-held : (P : Hidden → Type 0) (list : List (Cond × Hidden)) (h : Hidden) → All (λ (item : Cond × Hidden). P item.1) list → slice_get (map (λ (item : Cond × Hidden). item.1) list) 0 ≡ Some h → P h
+head-held P [] h held is = absurd (cc)
+head-held P (x ∷ xs) h held is = let same : x.1 ≡ h = cc in subst P same (All-head (λ (item : Cond × Hidden). P item.1) x xs held)
+
+one-has : {A : Type 0} (b : Bool) (x y : A) → (if b then x ∷ [] else []) ≡ y ∷ [] → b ≡ true
+one-has true x y is = refl
+one-has false x y is = absurd (cc)
+
+none-has : {A : Type 0} (b : Bool) (x : A) → (if b then x ∷ [] else []) ≡ [] → b ≡ false
+none-has true x is = absurd (cc)
+none-has false x is = refl
+
+pub record IsFunction (f : Form) : Type 0 where
+  pub parameters : List (List ℕ)
+  pub variadic : Bool
+  pub is : f ≡ function_like parameters variadic
+
+pub function-form : (f : Form) → IsTrue (is_function_like f) → IsFunction f
+function-form object_like is = absurd (cc)
+function-form (function_like parameters variadic) is = record { parameters = parameters; variadic = variadic; is = refl }
+
+seen_list-later : {names later : List (List ℕ)} {sets later_sets : List (List Name)} (list : List Hidden) → All (IsHeldHidden names sets) list → Extends names later → Extends sets later_sets
+    → seen_list later later_sets list ≡ seen_list names sets list
+seen_list-later [] held e f = refl
+seen_list-later {names} {later} {sets} {later_sets} (x ∷ xs) held e f =
+    let H : Hidden → Type 0 = IsHeldHidden names sets in
+    let first = hidden_later x (All-head H x xs held) e f in
+    let rest = seen_list-later xs (All-tail H x xs held) e f in
+    λ i. first i ∷ rest i
+
+seen_arguments-later : {names later : List (List ℕ)} {sets later_sets : List (List Name)} (lists : List (List Hidden)) → AreHeldArguments names sets lists → Extends names later → Extends sets later_sets
+    → seen_arguments later later_sets lists ≡ seen_arguments names sets lists
+seen_arguments-later [] held e f = refl
+seen_arguments-later {names} {later} {sets} {later_sets} (x ∷ xs) held e f =
+    let H : List Hidden → Type 0 = All (IsHeldHidden names sets) in
+    let first = seen_list-later x (All-head H x xs held) e f in
+    let rest = seen_arguments-later xs (All-tail H x xs held) e f in
+    λ i. first i ∷ rest i
+
+abbrev pub seen_fit : List (List ℕ) → List (List Name) → Option (List (List Hidden)) → Option (List (List (model.Hidden Place)))
+seen_fit names sets None = None
+seen_fit names sets (Some raw) = Some (seen_arguments names sets raw)
+
+-- ---- the call has left the list
+
+pub record HasLeft (s0 s1 : Sets) (names : List (List ℕ)) (e0 e1 : Expansion) (branch : Branch) (between : List Hidden) (close : Hidden) : Type 0 where
+  pub keeps : Keeps s0 s1
+  pub sets : e1.sets ≡ e0.sets
+  pub top : e1.top ≡ record e0.top { work = e1.top.work }
+  pub refusals : e1.refusals ≡ e0.refusals
+  pub below : e1.below ≡ e0.below
+  pub call : (c : List ℕ) → IsConfig s0.arities c → s0.has branch.cond.0 c ≡ true
+      → IsCall (seen_at (stores s0 names e0.sets) (drop 1 e0.top.work) c) (seen_list names e0.sets between) (seen_hidden names e0.sets close) (seen_at (stores s1 names e1.sets) e1.top.work c)
+  pub others : (c : List ℕ) → IsConfig s0.arities c → s0.has branch.cond.0 c ≡ false
+      → (seen_at (stores s1 names e1.sets) e1.top.work c ≡ seen_at (stores s0 names e0.sets) e0.top.work c) × (has_each s1 e1.top.work c ≡ has_each s0 e0.top.work c)
+  pub first : (c : List ℕ) → IsConfig s0.arities c → s0.has branch.cond.0 c ≡ true → has_first s1 e1.top.work c ≡ false
+
+pub left-by : (s0 s1 : Sets) (names : List (List ℕ)) (e0 e1 : Expansion) (branch : Branch) (between : List Hidden) (close : Hidden) → Keeps s0 s1 → e1.sets ≡ e0.sets → e1.top ≡ record e0.top { work = e1.top.work }
+    → e1.refusals ≡ e0.refusals → e1.below ≡ e0.below
+    → ((c : List ℕ) → IsConfig s0.arities c → s0.has branch.cond.0 c ≡ true
+    → IsCall (seen_at (stores s0 names e0.sets) (drop 1 e0.top.work) c) (seen_list names e0.sets between) (seen_hidden names e0.sets close) (seen_at (stores s1 names e1.sets) e1.top.work c))
+    → ((c : List ℕ) → IsConfig s0.arities c → s0.has branch.cond.0 c ≡ false
+    → (seen_at (stores s1 names e1.sets) e1.top.work c ≡ seen_at (stores s0 names e0.sets) e0.top.work c) × (has_each s1 e1.top.work c ≡ has_each s0 e0.top.work c))
+    → ((c : List ℕ) → IsConfig s0.arities c → s0.has branch.cond.0 c ≡ true → has_first s1 e1.top.work c ≡ false) → HasLeft s0 s1 names e0 e1 branch between close
+left-by s0 s1 names e0 e1 branch between close keeps sets top refusals below call others first =
+    record { keeps = keeps; sets = sets; top = top; refusals = refusals; below = below; call = call; others = others; first = first }
+
+module _ {s0 s1 : Sets} {names : List (List ℕ)} {e0 e1 : Expansion} {branch : Branch} {between : List Hidden} {close : Hidden} (left : HasLeft s0 s1 names e0 e1 branch between close)
+    (files : ℕ) (held : IsHeldExpansion (stores s0 names e0.sets) files e0) where
+  abbrev old : Stores
+  old = stores s0 names e0.sets
+
+  abbrev mid : Stores
+  mid = stores s1 names e1.sets
+
+  pub left-grows : Grows old mid
+  left-grows = record { sets = left.keeps; names = Extends-refl names; hides = subst (Extends e0.sets) (sym left.sets) (Extends-refl e0.sets) }
+
+  pub left-held : AreHeld mid files e1.top.work → IsHeldExpansion mid files e1
+  left-held work =
+      let later = IsHeldExpansion-Grows left-grows e0 held in
+      record {
+        refusals = subst (IsHeldRefusals s1 files) (sym left.refusals) later.refusals;
+        top = subst (IsHeldFrame mid files) (sym left.top) (record { work = work; out = later.top.out; calls = later.top.calls });
+        below = subst (λ b. All (IsHeldEnclosing mid files) b.items) (sym left.below) later.below;
+      }
+
+  left-at : (c : List ℕ) → IsConfig s0.arities c → (ws : List (model.Hidden Place)) → seen_at mid e1.top.work c ≡ ws → at mid e1 c ≡ record (at old e0 c) { view = record (at old e0 c).view { work = ws } }
+  left-at c listed ws is =
+      let put : At → List (model.Hidden Place) → At = λ a l. record a { view = record a.view { work = l } } in
+      let one : at mid e1 c ≡ put (at mid e0 c) (seen_at mid e1.top.work c) =
+      λ i. record { live = s1.has (left.refusals i).live.0 c; view = view_at mid (left.top i) c; failures = failures_at s1 (left.refusals i).faults.items c } in
+      one ∙ (λ i. put (at-Grows left-grows c listed e0 held i) (is i))
+
+  pub left-other : (c : List ℕ) → IsConfig s0.arities c → s0.has branch.cond.0 c ≡ false → at mid e1 c ≡ at old e0 c
+  left-other c listed lacks = left-at c listed (seen_at old e0.top.work c) (left.others c listed lacks).0
+
+  -- what is to be done at the name of the call
+  module _ (form : declared_form.Form) (items : List declared_item.Item) (head : Hidden) (is_branch : IsBranch old e0 branch) (function : IsTrue (is_function_like (seen_form names form))) (fit : Option (List (List Hidden)))
+      (fits : (parameters : List (List ℕ)) (variadic : Bool) → seen_form names form ≡ function_like parameters variadic
+      → seen_fit names e0.sets fit ≡ arguments_for parameters variadic (parted (length parameters) 0 (seen_list names e0.sets between))) where
+    left-case : (c : List ℕ) (provenance : Provenance Place) (macros : Macros) (d : Definition) (rest : List (model.Hidden Place)) → IsConfig s0.arities c → s0.has branch.cond.0 c ≡ true
+        → (at old e0 c).view.work ≡ seen_hidden names e0.sets head ∷ rest → IsMacro old provenance macros form items head d
+        → case_of macros (seen_hidden names e0.sets head) rest ≡ fitted_case d (seen_hidden names e0.sets close) (seen_at mid e1.top.work c) (seen_fit names e0.sets fit)
+    left-case c provenance macros d rest listed has work is =
+        let t = seen_hidden names e0.sets head in
+        let f = function-form (seen_form names form) function in
+        let after = seen_at mid e1.top.work c in
+        let behind = rest-is old e0.top.work c t rest (is_branch.each c listed has).stands work in
+        ap (case_of macros t) behind
+        ∙ (case-closed macros t d is.looked_up is.defined f.parameters f.variadic (is.formed ∙ f.is) (seen_at old (drop 1 e0.top.work) c) (seen_list names e0.sets between) (seen_hidden names e0.sets close) after (left.call c listed has)
+        ∙ ap (fitted_case d (seen_hidden names e0.sets close) after) (sym (fits f.parameters f.variadic f.is)))
+
+    module _ (here : AreHeld mid files e1.top.work) (names2 : List (List ℕ)) (s2 : Sets) (e2 : Expansion) (grows : Grows mid (stores s2 names2 e2.sets)) (same : e2.top.work ≡ e1.top.work)
+        (others : (c : List ℕ) → IsConfig s1.arities c → s1.has branch.cond.0 c ≡ false → at (stores s2 names2 e2.sets) e2 c ≡ at mid e1 c) where
+      abbrev new : Stores
+      new = stores s2 names2 e2.sets
+
+      has-later : (c : List ℕ) → IsConfig s0.arities c → s1.has branch.cond.0 c ≡ s0.has branch.cond.0 c
+      has-later c listed = left.keeps.at branch.cond.0 c is_branch.own listed
+
+      gathered-first : (c place : List ℕ) → IsConfig s0.arities c → lists_at s0 (branch ∷ []) c ≡ place ∷ [] → has_first s2 e2.top.work c ≡ false
+      gathered-first c place listed lists =
+          ap (λ l. has_first s2 l c) same ∙ (has_first-Keeps grows.sets e1.top.work here.own c (IsConfig-Keeps left.keeps listed) ∙ left.first c listed (one-has (s0.has branch.cond.0 c) branch.places.items place lists))
+
+      gathered-others : (c : List ℕ) → IsConfig s0.arities c → lists_at s0 (branch ∷ []) c ≡ [] → (at new e2 c ≡ at old e0 c) × (has_each s2 e2.top.work c ≡ has_each s0 e0.top.work c)
+      gathered-others c listed lists =
+          let lacks = none-has (s0.has branch.cond.0 c) branch.places.items lists in
+          let listed1 = IsConfig-Keeps left.keeps listed in (
+            others c listed1 (has-later c listed ∙ lacks) ∙ left-other c listed lacks,
+            ap (λ l. has_each s2 l c) same ∙ (has_each-Keeps e1.top.work c grows.sets here.own listed1 ∙ (left.others c listed lacks).1),
+          )
+
+      pub begun-gathered : (raw : List (List Hidden)) → fit ≡ Some raw → IsHeldHidden names e0.sets head → IsHeldHidden names e0.sets close → AreHeldArguments names e0.sets raw → IsHeldForm names form → All (IsHeldItem names) items
+          → ((c : List ℕ) (provenance : Provenance Place) (d : Definition) → IsConfig s1.arities c → s1.has branch.cond.0 c ≡ true → d.form ≡ seen_form names2 form
+          → list_of provenance d (seen_hidden names2 e2.sets head) ≡ map (seen_item names2) items
+          → Begins provenance d (seen_hidden names2 e2.sets head) (seen_hidden names2 e2.sets close) (seen_arguments names2 e2.sets raw) (at mid e1 c) (at new e2 c))
+          → AreGathered old new e0 e2 form items head (branch ∷ [])
+      begun-gathered raw some head_held close_held raw_held form_held items_held begins = record {
+        gathers = λ c place provenance macros d rest listed lists work is.
+            let has = one-has (s0.has branch.cond.0 c) branch.places.items place lists in
+            let later = Extends-trans left-grows.hides grows.hides in
+            let t = seen_hidden names e0.sets head in
+            let x = seen_hidden names e0.sets close in
+            let arguments = seen_arguments names e0.sets raw in
+            let after = seen_at mid e1.top.work c in
+            let B : model.Hidden Place → model.Hidden Place → List (List (model.Hidden Place)) → Type 0 = λ t x l. Begins provenance d t x l (at mid e1 c) (at new e2 c) in
+            let begun = begins c provenance d (IsConfig-Keeps left.keeps listed) (has-later c listed ∙ has) (is.formed ∙ sym (form_later form form_held grows.names)) (is.list ∙ sym (items_later items items_held grows.names)) in
+            let one = subst (λ t. B t (seen_hidden names2 e2.sets close) (seen_arguments names2 e2.sets raw)) (hidden_later head head_held grows.names later) begun in
+            let two = subst (λ x. B t x (seen_arguments names2 e2.sets raw)) (hidden_later close close_held grows.names later) one in
+            let three = subst (λ l. B t x l) (seen_arguments-later raw raw_held grows.names later) two in
+            let case = left-case c provenance macros d rest listed has work is ∙ ap (λ o. fitted_case d x after (seen_fit names e0.sets o)) some in
+            begun-gathers provenance macros t rest after (at old e0 c) (at mid e1 c) (at new e2 c) work (is_branch.each c listed has).calls (left-at c listed after refl) d x arguments case three;
+        first = gathered-first;
+        others = gathered-others;
+      }
+
+      pub misfit-gathered : fit ≡ None → ((c : List ℕ) → IsConfig s1.arities c → s1.has branch.cond.0 c ≡ true → (at new e2 c).live ≡ false)
+          → ((c : List ℕ) → IsConfig s1.arities c → s1.has branch.cond.0 c ≡ true → (at new e2 c).failures ≡ (at mid e1 c).failures ++ failure_at WrongArguments (seen_hidden names e0.sets head) ∷ [])
+          → AreGathered old new e0 e2 form items head (branch ∷ [])
+      misfit-gathered none dead failures = record {
+        gathers = λ c place provenance macros d rest listed lists work is.
+            let has = one-has (s0.has branch.cond.0 c) branch.places.items place lists in
+            let listed1 = IsConfig-Keeps left.keeps listed in
+            let has1 = has-later c listed ∙ has in
+            let t = seen_hidden names e0.sets head in
+            let after = seen_at mid e1.top.work c in
+            let case = left-case c provenance macros d rest listed has work is ∙ ap (λ o. fitted_case d (seen_hidden names e0.sets close) after (seen_fit names e0.sets o)) none in
+            misfit-gathers provenance macros t rest after (at old e0 c) (at mid e1 c) (at new e2 c) work (is_branch.each c listed has).calls (left-at c listed after refl) case (dead c listed1 has1) (failures c listed1 has1);
+        first = gathered-first;
+        others = gathered-others;
+      }

@@ -1,0 +1,272 @@
+-- What drops out of the frame on top, with all that is next for refused configurations alone, and what
+-- does not: no configuration that was not refused moves.
+use Rattle.std.proofs.Common.{◌≡◌, ℕ, ◌<◌, ◌-◌, ◌&&◌, Bool, true, false, true≢false, List, [], ◌∷◌, ◌++◌, All, drop, length, map, length-append, append-nil, Option, Some, None, slice_get, sum_by, refl, sym, ap, subst, ◌∙◌, arith, if◌then◌else◌}
+use Rattle.std.proofs.lemmas.List.Elements.{All-pop}
+use Rattle.std.proofs.lemmas.List.Sums.{sum_by-append}
+use Rattle.std.proofs.lemmas.Option.{get_or_from_slice_get, slice_get_within}
+use Rattle.c11_macros.specs.Hidden.{Provenance}
+use Rattle.c11_macros.specs.Macros.{Macros}
+use Rattle.sc_base.specs.declared.id.Cond.{Cond}
+use Rattle.sc_base.specs.declared.place.Place.{Place}
+use Rattle.sc_expand.proofs.MachineCalls.{calls_at-append, leave-other}
+use Rattle.sc_expand.proofs.MachineLemmas.{Stands-Grows, state_in-Grows}
+use Rattle.sc_expand.proofs.SeenLemmas.{AreHeld-tail, IsHeldExpansion-Grows, at-Grows}
+use Rattle.sc_expand.specs.declared.call.Call.{Call}
+use Rattle.sc_expand.specs.declared.expansion.Expansion.{Expansion}
+use Rattle.sc_expand.specs.declared.frame.Enclosing.{Enclosing}
+use Rattle.sc_expand.specs.declared.frame.Frame.{Frame}
+use Rattle.sc_expand.specs.Machine.{IsHeldExpansion, Progress, Stands, at, fails, gone, rests, state_in, steps}
+use Rattle.sc_expand.specs.Plain.{Fails, Moves}
+use Rattle.sc_expand.specs.Running as running
+use Rattle.sc_expand.specs.Running.{IsDropped, IsReady, IsRested, frame_weight, last_of, next_by, next_of, put_by, put_out, weight}
+use Rattle.sc_expand.specs.Seen.{AreHeld, Grows, IsHeldCall, IsHeldEnclosing, IsHeldFrame, IsHeldRefusals, Stores, calls_at, failures_at, seen_at, view_at, waiting_at}
+use Rattle.sc_expand.specs.Turn.{At}
+use Rattle.sc_guarded.specs.Items.{items_at}
+use Rattle.sc_model.proofs.SetLemmas.{IsConfig-Keeps, IsConfig-kept}
+use Rattle.sc_model.proofs.ListLemmas.{slice_get-seam}
+use Rattle.sc_model.specs.Sets.{Sets, Denotes, IsCond, IsConfig, IsNever, Keeps}
+use Rattle.sc_subst.specs.declared.hidden.Hidden.{Hidden}
+use Rattle.sc_subst.specs.Seen.{seen_hidden}
+
+-- ---- what is next
+
+pub last-is : {A : Type 0} (xs : List A) (x : A) → last_of (xs ++ x ∷ []) ≡ Some x
+last-is [] x = refl
+last-is {A} (y ∷ ys) x = ap (λ n. slice_get ((y ∷ ys) ++ x ∷ []) n) (long (y ∷ ys)) ∙ slice_get-seam (y ∷ ys) x []
+  where
+    long : (zs : List A) → length (zs ++ x ∷ []) - 1 ≡ length zs
+    long zs = omega (arith, length-append zs (x ∷ []))
+
+pub next-call : (e : Expansion) (calls : List Call) (k : Call) → e.top.calls.items ≡ calls ++ k ∷ [] → next_of e ≡ Some k.cond
+next-call e calls k is = ap (λ ks. next_by (last_of ks) (slice_get e.top.work 0) (last_of e.below.items)) is ∙ ap (λ r. next_by r (slice_get e.top.work 0) (last_of e.below.items)) (last-is calls k)
+
+pub next-token : (e : Expansion) (item : Cond × Hidden) (rest : List (Cond × Hidden)) → e.top.calls.items ≡ [] → e.top.work ≡ item ∷ rest → next_of e ≡ Some item.0
+next-token e item rest none is =
+    ap (λ (ks : List Call). next_by (last_of ks) (slice_get e.top.work 0) (last_of e.below.items)) none ∙ ap (λ (ts : List (Cond × Hidden)). next_by None (slice_get ts 0) (last_of e.below.items)) is
+
+pub next-argument : (e : Expansion) (below : List Enclosing) (o : Enclosing) → e.top.calls.items ≡ [] → e.top.work ≡ [] → e.below.items ≡ below ++ o ∷ [] → next_of e ≡ Some o.call.cond
+next-argument e below o none empty is =
+    ap (λ (ks : List Call). next_by (last_of ks) (slice_get e.top.work 0) (last_of e.below.items)) none
+    ∙ (ap (λ (ts : List (Cond × Hidden)). next_by None (slice_get ts 0) (last_of e.below.items)) empty
+    ∙ (ap (λ es. next_by None None (last_of es)) is ∙ ap (λ r. next_by None None r) (last-is below o)))
+
+some-same : {A : Type 0} {x y : A} → Some x ≡ Some y → x ≡ y
+some-same is = cc
+
+never-both : (a b : Bool) → (a ≡ true → b ≡ true → ⊥) → (a && b) ≡ false
+never-both true true not = absurd (not refl refl)
+never-both true false not = refl
+never-both false b not = refl
+
+pub All-here : {A : Type 0} (P : A → Type 0) (xs : List A) (i : ℕ) (x : A) → slice_get xs i ≡ Some x → All P xs → P x
+All-here P xs i x is all = subst P (get_or_from_slice_get xs i x x is) (all i x (slice_get_within xs i x is))
+
+-- ---- what was put out
+
+pub put-same : (below : List Enclosing) (t u : Frame) → t.out ≡ u.out → put_by below t ≡ put_by below u
+put-same [] t u same = same
+put-same (e ∷ es) t u same = refl
+
+pub put-less : (below : List Enclosing) (o : Enclosing) (t : Frame) → put_by (below ++ o ∷ []) t ≡ put_by below o.frame
+put-less [] o t = refl
+put-less (e ∷ es) o t = refl
+
+-- ---- one turn after another
+
+module _ {provenance : Provenance Place} {macros : Macros} {old mid new : Stores} {c : List ℕ} {one two three : List Enclosing} {x y z : At} where
+  -- where a configuration rested, the next turn is the only one
+  pub progress-then : (first second : Bool) → first ≡ false → Progress provenance macros old mid c one two x y first → Progress provenance macros mid new c two three y z second → Progress provenance macros old new c one three x z second
+  progress-then first second not (rests still same stays) (rests still' same' stays') =
+      rests (still' ∙ still) (same' ∙ same) (λ live stands. let r = stays live stands in let q = stays' (still ∙ live) r.0 in (q.0, r.1 ∙ q.1))
+  progress-then first second not (rests still same stays) (gone was ended same') = gone (sym still ∙ was) ended (same' ∙ same)
+  progress-then first second not (rests still same stays) (steps was now same' move) =
+      steps (sym still ∙ was) now (same' ∙ same) (λ stands. let r = stays (sym still ∙ was) stands in let q = move r.0 in (q.0, subst (λ s. Moves provenance macros s (state_in new three z.view c)) (sym r.1) q.1))
+  progress-then first second not (rests still same stays) (fails failure was ended same' f) =
+      fails failure (sym still ∙ was) ended (same' ∙ ap (λ l. l ++ failure ∷ []) same) (λ stands. let r = stays (sym still ∙ was) stands in subst (λ s. Fails provenance macros s failure) (sym r.1) (f r.0))
+  progress-then first second not (gone was ended same) (rests still' same' stays') = gone was (still' ∙ ended) (same' ∙ same)
+  progress-then first second not (gone was ended same) (gone was' ended' same') = gone was ended' (same' ∙ same)
+  progress-then first second not (gone was ended same) (steps was' now same' move) = absurd (true≢false (sym was' ∙ ended))
+  progress-then first second not (gone was ended same) (fails failure was' ended' same' f) = absurd (true≢false (sym was' ∙ ended))
+  progress-then first second not (steps was now same move) q = absurd (true≢false not)
+  progress-then first second not (fails failure was ended same f) q = absurd (true≢false not)
+
+-- ---- nothing happens
+
+module _ {old new : Stores} (grows : Grows old new) (e : Expansion) where
+  pub rested-Grows : IsRested old new e e
+  rested-Grows = record {
+    refusals = refl;
+    sets = refl;
+    out = refl;
+    held = λ files held. IsHeldExpansion-Grows grows e held;
+    progress = λ files provenance macros c held listed.
+        let now = at-Grows grows c listed e held in
+        let view = ap (λ a. a.view) now in
+        rests (ap (λ a. a.live) now) (ap (λ a. a.failures) now) (λ live stands. (
+          subst (Stands new c e.below.items) (sym view) (Stands-Grows grows files c listed held.below stands),
+          sym (ap (λ v. state_in new e.below.items v c) view ∙ state_in-Grows grows files c listed e.below.items (view_at old e.top c) held.below),
+        ));
+  }
+
+-- ---- what is next drops out, and only refused configurations have it
+
+module _ (st : Stores) (e after : Expansion) (refusals : after.refusals ≡ e.refusals) (sets : after.sets ≡ e.sets) where
+  other : {A : Type 0} (b : Bool) (x y : A) → (b ≡ true → ⊥) → (if b then x else y) ≡ y
+  other true x y not = absurd (not refl)
+  other false x y not = refl
+
+  absent : (b : Bool) → (b ≡ true → ⊥) → b ≡ false
+  absent true not = absurd (not refl)
+  absent false not = refl
+
+  -- a configuration that has it was refused
+  by_view : {provenance : Provenance Place} {macros : Macros} (c : List ℕ)
+      → (st.sets.has e.refusals.live.0 c ≡ true → Stands st c e.below.items (view_at st e.top c)
+      → Stands st c after.below.items (view_at st after.top c) × (state_in st e.below.items (view_at st e.top c) c ≡ state_in st after.below.items (view_at st after.top c) c))
+      → Progress provenance macros st st c e.below.items after.below.items (at st e c) (at st after c) false
+  by_view c stays = rests (ap (λ r. st.sets.has r.live.0 c) refusals) (ap (λ r. failures_at st.sets r.faults.items c) refusals) stays
+
+  same_view : (c : List ℕ) → after.below ≡ e.below → view_at st after.top c ≡ view_at st e.top c → Stands st c e.below.items (view_at st e.top c)
+      → Stands st c after.below.items (view_at st after.top c) × (state_in st e.below.items (view_at st e.top c) c ≡ state_in st after.below.items (view_at st after.top c) c)
+  same_view c below view stands = (
+    subst (λ bs. Stands st c bs (view_at st after.top c)) (sym (ap (λ b. b.items) below)) (subst (Stands st c e.below.items) (sym view) stands),
+    ap (λ v. state_in st e.below.items v c) (sym view) ∙ ap (λ bs. state_in st bs (view_at st after.top c) c) (sym (ap (λ b. b.items) below)),
+  )
+
+  -- the first token, also where calls wait
+  pub rested-token : (item : Cond × Hidden) → ((c : List ℕ) → IsConfig st.sets.arities c → st.sets.has item.0.0 c ≡ true → st.sets.has e.refusals.live.0 c ≡ true → ⊥)
+      → e.top.work ≡ item ∷ after.top.work → after.top.calls.items ≡ e.top.calls.items → after.top.out ≡ e.top.out → after.below ≡ e.below → IsRested st st e after
+  rested-token item never work calls out below = record {
+    refusals = refusals;
+    sets = sets;
+    out = ap (λ b. put_by b.items after.top) below ∙ put-same e.below.items after.top e.top out;
+    held = λ files held. record {
+      refusals = subst (IsHeldRefusals st.sets files) (sym refusals) held.refusals;
+      top = record {
+        work = AreHeld-tail item after.top.work (subst (AreHeld st files) work held.top.work);
+        out = subst (AreHeld st files) (sym out) held.top.out;
+        calls = subst (All (IsHeldCall st files)) (sym calls) held.top.calls;
+      };
+      below = subst (λ b. All (IsHeldEnclosing st files) b.items) (sym below) held.below;
+    };
+    progress = λ files provenance macros c held listed. by_view c (λ live. same_view c below (
+        let fewer : seen_at st after.top.work c ≡ seen_at st e.top.work c = sym (
+        ap (λ l. seen_at st l c) work
+        ∙ ap (map (seen_hidden st.names st.hides)) (other (st.sets.has item.0.0 c) (item.1 ∷ items_at st.sets after.top.work c) (items_at st.sets after.top.work c) (λ has. never c listed has live))) in
+        let first = ap (λ l. seen_at st l c) out in
+        let third = ap (λ l. calls_at st l c) calls in
+        λ i. record { out = first i; work = fewer i; calls = third i }));
+  }
+
+  pub rested-dropped : ((cond : Cond) → next_of e ≡ Some cond → (c : List ℕ) → IsConfig st.sets.arities c → st.sets.has cond.0 c ≡ true → st.sets.has e.refusals.live.0 c ≡ true → ⊥)
+      → IsDropped e after → IsRested st st e after
+  rested-dropped never (running.call k calls work out below) = record {
+    refusals = refusals;
+    sets = sets;
+    out = ap (λ b. put_by b.items after.top) below ∙ put-same e.below.items after.top e.top out;
+    held = λ files held. record {
+      refusals = subst (IsHeldRefusals st.sets files) (sym refusals) held.refusals;
+      top = record {
+        work = subst (AreHeld st files) (sym work) held.top.work;
+        out = subst (AreHeld st files) (sym out) held.top.out;
+        calls = (All-pop (IsHeldCall st files) e.top.calls.items after.top.calls.items (Some k) calls held.top.calls).0;
+      };
+      below = subst (λ b. All (IsHeldEnclosing st files) b.items) (sym below) held.below;
+    };
+    progress = λ files provenance macros c held listed. by_view c (λ live. same_view c below (
+        let fewer : calls_at st after.top.calls.items c ≡ calls_at st e.top.calls.items c = sym (
+        ap (λ ks. calls_at st ks c) calls ∙ (calls_at-append st c after.top.calls.items (k ∷ [])
+        ∙ (ap (λ ws. calls_at st after.top.calls.items c ++ ws) (other (st.sets.has k.cond.0 c) (waiting_at st k c ∷ []) [] (λ has. never k.cond (next-call e after.top.calls.items k calls) c listed has live))
+        ∙ append-nil (calls_at st after.top.calls.items c)))) in
+        let first = ap (λ l. seen_at st l c) out in
+        let second = ap (λ l. seen_at st l c) work in
+        λ i. record { out = first i; work = second i; calls = fewer i }));
+  }
+  rested-dropped never (running.token item none later work out below) =
+      rested-token item (λ c listed has live. never item.0 (next-token e item after.top.work none work) c listed has live) work (later ∙ sym none) out below
+  rested-dropped never (running.argument o none empty below top) = record {
+    refusals = refusals;
+    sets = sets;
+    out = ap (λ t. put_by after.below.items t) top ∙ (sym (put-less after.below.items o e.top) ∙ sym (ap (λ bs. put_by bs e.top) below));
+    held = λ files held.
+        let popped = All-pop (IsHeldEnclosing st files) e.below.items after.below.items (Some o) below held.below in
+        record {
+          refusals = subst (IsHeldRefusals st.sets files) (sym refusals) held.refusals;
+          top = subst (IsHeldFrame st files) (sym top) popped.1.frame;
+          below = popped.0;
+        };
+    progress = λ files provenance macros c held listed. by_view c (λ live stands.
+        let not = absent (st.sets.has o.call.cond.0 c) (λ has. never o.call.cond (next-argument e after.below.items o none empty below) c listed has live) in
+        let r = leave-other st c o provenance macros after.below.items (view_at st e.top c) not (subst (λ bs. Stands st c bs (view_at st e.top c)) below stands) in (
+          subst (λ t. Stands st c after.below.items (view_at st t c)) (sym top) r.0,
+          ap (λ bs. state_in st bs (view_at st e.top c) c) below ∙ (r.1 ∙ ap (λ t. state_in st after.below.items (view_at st t c) c) (sym top)),
+        ));
+  }
+
+-- ---- one after the other
+
+pub rested-then : {old mid new : Stores} {one two three : Expansion} → Grows old mid → IsRested old mid one two → IsRested mid new two three → IsRested old new one three
+rested-then {old} {mid} {new} {one} {two} {three} grows a b = record {
+  refusals = b.refusals ∙ a.refusals;
+  sets = b.sets ∙ a.sets;
+  out = b.out ∙ a.out;
+  held = λ files held. b.held files (a.held files held);
+  progress = λ files provenance macros c held listed.
+      progress-then false false refl (a.progress files provenance macros c held listed) (b.progress files provenance macros c (a.held files held) (IsConfig-Keeps grows.sets listed));
+}
+
+-- ---- it grows lighter
+
+pub weight-dropped : (e after : Expansion) → IsDropped e after → weight after < weight e
+weight-dropped e after (running.call k calls work out below) =
+    omega (arith, ap length calls, length-append after.top.calls.items (k ∷ []), ap length work, ap (λ b. sum_by (λ (o : Enclosing). frame_weight o.frame) b.items) below)
+weight-dropped e after (running.token item none later work out below) =
+    omega (arith, ap length none, ap length later, ap length work, ap (λ b. sum_by (λ (o : Enclosing). frame_weight o.frame) b.items) below)
+weight-dropped e after (running.argument o none empty below top) =
+    omega (arith, ap length none, ap length empty, ap frame_weight top, ap (sum_by (λ (o : Enclosing). frame_weight o.frame)) below, sum_by-append (λ (o : Enclosing). frame_weight o.frame) after.below.items (o ∷ []))
+
+-- ---- whether not all that have what is next were refused
+
+module _ {st : Stores} {files : ℕ} (e : Expansion) (held : IsHeldExpansion st files e) where
+  pub next-own : (cond : Cond) → next_of e ≡ Some cond → IsCond st.sets cond.0
+  next-own cond is = by (last_of e.top.calls.items) (slice_get e.top.work 0) (last_of e.below.items) refl refl refl is
+    where
+      by : (call : Option Call) (first : Option (Cond × Hidden)) (o : Option Enclosing) → last_of e.top.calls.items ≡ call → slice_get e.top.work 0 ≡ first → last_of e.below.items ≡ o → next_by call first o ≡ Some cond → IsCond st.sets cond.0
+      by (Some k) first o here work below is = subst (λ (x : Cond). IsCond st.sets x.0) (some-same is) (All-here (IsHeldCall st files) e.top.calls.items (length e.top.calls.items - 1) k here held.top.calls).own
+      by None (Some item) o here work below is = subst (λ (x : Cond). IsCond st.sets x.0) (some-same is) (All-here (λ (item : Cond × Hidden). IsCond st.sets item.0.0) e.top.work 0 item work held.top.work.own)
+      by None None (Some o) here work below is = subst (λ (x : Cond). IsCond st.sets x.0) (some-same is) (All-here (IsHeldEnclosing st files) e.below.items (length e.below.items - 1) o below held.below).call.own
+      by None None None here work below is = absurd (cc)
+
+module _ {old new : Sets} (keeps : Keeps old new) (e : Expansion) (next met : Cond) (is : next_of e ≡ Some next) (own : IsCond old next.0) (live_own : IsCond old e.refusals.live.0)
+    (both : Denotes new met.0 (λ c. old.has next.0 c && old.has e.refusals.live.0 c)) where
+  pub ready-some : (IsNever new met.0 → ⊥) → IsReady new e
+  ready-some not = record {
+    some = λ cond other none. not (record {
+      none = λ c listed.
+          let was = IsConfig-kept keeps listed in
+          let same : next ≡ cond = some-same (sym is ∙ other) in
+          both.at c listed ∙ never-both (old.has next.0 c) (old.has e.refusals.live.0 c)
+          (λ has live. none c listed (subst (λ (x : Cond). new.has x.0 c ≡ true) same (keeps.at next.0 c own was ∙ has)) (keeps.at e.refusals.live.0 c live_own was ∙ live));
+    });
+  }
+
+  pub never-next : IsNever new met.0 → (cond : Cond) → next_of e ≡ Some cond → (c : List ℕ) → IsConfig new.arities c → new.has cond.0 c ≡ true → new.has e.refusals.live.0 c ≡ true → ⊥
+  never-next never cond other c listed has live =
+      let was = IsConfig-kept keeps listed in
+      let same : next ≡ cond = some-same (sym is ∙ other) in
+      let first : old.has next.0 c ≡ true = sym (keeps.at next.0 c own was) ∙ subst (λ (x : Cond). new.has x.0 c ≡ true) (sym same) has in
+      let second : old.has e.refusals.live.0 c ≡ true = sym (keeps.at e.refusals.live.0 c live_own was) ∙ live in
+      true≢false ((λ i. sym first i && sym second i) ∙ (sym (both.at c listed) ∙ never.none c listed))
+
+-- two conditions that no configuration has both
+pub never-at : {old new : Sets} → Keeps old new → (a b met : Cond) → IsCond old a.0 → IsCond old b.0 → Denotes new met.0 (λ c. old.has a.0 c && old.has b.0 c) → IsNever new met.0
+    → (c : List ℕ) → IsConfig new.arities c → new.has a.0 c ≡ true → new.has b.0 c ≡ true → ⊥
+never-at {old} {new} keeps a b met own other both never c listed has live =
+    let was = IsConfig-kept keeps listed in
+    let first : old.has a.0 c ≡ true = sym (keeps.at a.0 c own was) ∙ has in
+    let second : old.has b.0 c ≡ true = sym (keeps.at b.0 c other was) ∙ live in
+    true≢false ((λ i. sym first i && sym second i) ∙ (sym (both.at c listed) ∙ never.none c listed))
+
+pub first-is : {A : Type 0} (xs : List A) (x : A) → slice_get xs 0 ≡ Some x → xs ≡ x ∷ drop 1 xs
+first-is [] x is = cc
+first-is (y ∷ ys) x is = ap (λ z. z ∷ ys) (some-same is)

@@ -1,0 +1,108 @@
+-- One part more of what a look-up gives is taken.
+use Rattle.std.proofs.Common.{◌≡◌, ◌∙◌, ◌∷◌, ◌++◌, ℕ, ◌+◌, ◌<◌, ◌≤◌, Bool, true, false, List, [], Option, Some, None, ap, refl, sym, subst, length, take, get_or, map, append-nil, arith, if◌then◌else◌}
+use Rattle.std.proofs.Common.{Global}
+use Rattle.std.proofs.lemmas.List.{take_more}
+use Rattle.std.specs.Option.{option_map}
+use Rattle.std.specs.Prelude.{IfSome}
+use Rattle.std.specs.declared.rc.Rc.{Rc}
+use Rattle.c11_macros.specs.Hidden.{Hidden}
+use Rattle.c11_macros.specs.Macros.{Macros}
+use Rattle.c11_macros.specs.Macros as model
+use Rattle.sc_base.specs.declared.id.Cond.{Cond}
+use Rattle.sc_base.specs.declared.place.Place.{Place}
+use Rattle.sc_expand.proofs.SeenLemmas.{at-Grows, seen_hidden-Grows}
+use Rattle.sc_expand.proofs.TakingSteps.{has_first-Keeps, none-before, same-step}
+use Rattle.sc_expand.specs.Machine.{IsHeldExpansion, at}
+use Rattle.sc_expand.specs.Seen.{Grows, IsHeldToken, Stores, provenance_of, seen_at}
+use Rattle.sc_expand.specs.Taking.{AreTaken, Comes, Step, step_at, untaken}
+use Rattle.sc_expand.specs.Turn.{At}
+use Rattle.sc_expand.specs.declared.expansion.Expansion.{Expansion}
+use Rattle.sc_expand.specs.declared.taking.Taken.{Taken}
+use Rattle.sc_guarded.proofs.ItemLemmas.{items_at-append}
+use Rattle.sc_guarded.specs.Items.{items_at}
+use Rattle.sc_macro.specs.declared.definition.Definition.{Definition}
+use Rattle.sc_macro.specs.Seen.{IsHeldDefinition, seen_definition, text_of}
+use Rattle.sc_model.proofs.SetLemmas.{IsConfig-Keeps}
+use Rattle.sc_model.specs.Growth.{Extends}
+use Rattle.sc_model.specs.Sets.{Denotes, IsCond, IsConfig, Sets}
+use Rattle.sc_subst.specs.declared.hidden.Hidden as declared
+use Rattle.sc_subst.specs.Seen.{seen_hidden}
+use Rattle.sc_table.proofs.Growth.{seen_definition-Extends}
+
+abbrev pub seen_by : List (List ℕ) → Option (Rc Definition Global) → Option model.Definition
+seen_by names o = option_map (λ shared. seen_definition names shared.value) o
+
+seen_by-Extends : {names more : List (List ℕ)} → Extends names more → (o : Option (Rc Definition Global)) → IfSome o (λ shared. IsHeldDefinition names shared.value) → seen_by more o ≡ seen_by names o
+seen_by-Extends grows None held = refl
+seen_by-Extends grows (Some shared) held = ap (λ d. Some d) (seen_definition-Extends grows shared.value held)
+
+-- the items of one part more
+with-next : (s : Sets) (parts : List (Cond × Option (Rc Definition Global))) (i : ℕ) (part : Cond × Option (Rc Definition Global)) (c : List ℕ) → i < length parts → part ≡ get_or parts i part
+    → items_at s (take (i + 1) parts) c ≡ items_at s (take i parts) c ++ (if s.has part.0.0 c then part.1 ∷ [] else [])
+with-next s parts i part c within is =
+    ap (λ l. items_at s l c) (take_more parts i part within ∙ ap (λ p. take i parts ++ p ∷ []) (sym is)) ∙ items_at-append s (take i parts) (part ∷ []) c
+
+module _ (files : List (List ℕ)) (old mid new : Stores) (was now next : Expansion) (before after later : Taken) (head : declared.Hidden) (parts : List (Cond × Option (Rc Definition Global))) (i : ℕ) (part : Cond × Option (Rc Definition Global)) where
+  abbrev Taken_by : (b : Bool) → (c : List ℕ) (macros : Macros) (rest : List (Hidden Place)) → Type 0
+  Taken_by b c macros rest = map (seen_by old.names) (items_at old.sets (take i parts) c ++ (if b then part.1 ∷ [] else [])) ≡ macros (text_of old.names head.token.spelling) ∷ []
+
+  pub part-taken : (counted : ℕ) → i < length parts → part ≡ get_or parts i part → Grows old mid → IsHeldToken old counted head → IsCond old.sets part.0.0 → IfSome part.1 (λ shared. IsHeldDefinition old.names shared.value)
+      → ((c : List ℕ) → IsConfig old.sets.arities c → length (items_at old.sets parts c) ≤ 1) → AreTaken files old mid was now before after head (take i parts)
+      → ((c : List ℕ) (macros : Macros) (rest : List (Hidden Place)) → IsConfig mid.sets.arities c → mid.sets.has part.0.0 c ≡ true → (at mid now c).view.work ≡ seen_hidden mid.names mid.hides head ∷ rest
+      → macros (text_of mid.names head.token.spelling) ≡ seen_by mid.names part.1 → Comes (provenance_of files) macros (seen_hidden mid.names mid.hides head) rest (at mid now c) (step_at new next later c))
+      → ((c : List ℕ) → IsConfig mid.sets.arities c → mid.sets.has part.0.0 c ≡ false → step_at new next later c ≡ step_at mid now after c)
+      → AreTaken files old new was next before later head (take (i + 1) parts)
+  part-taken counted within is grows held own definition one done comes others = record {
+    comes = λ c macros rest listed work found.
+        came c macros rest listed work (old.sets.has part.0.0 c) refl (ap (map (seen_by old.names)) (sym (with-next old.sets parts i part c within is)) ∙ found);
+    others = λ c listed none. left c listed (old.sets.has part.0.0 c) refl (sym (with-next old.sets parts i part c within is) ∙ none);
+  }
+    where
+      t : Hidden Place
+      t = seen_hidden mid.names mid.hides head
+
+      same : t ≡ seen_hidden old.names old.hides head
+      same = seen_hidden-Grows grows head held
+
+      has : (c : List ℕ) → IsConfig old.sets.arities c → (b : Bool) → old.sets.has part.0.0 c ≡ b → mid.sets.has part.0.0 c ≡ b
+      has c listed b is = grows.sets.at part.0.0 c own listed ∙ is
+
+      came : (c : List ℕ) (macros : Macros) (rest : List (Hidden Place)) → IsConfig old.sets.arities c → (at old was c).view.work ≡ seen_hidden old.names old.hides head ∷ rest → (b : Bool) → old.sets.has part.0.0 c ≡ b
+          → Taken_by b c macros rest → Comes (provenance_of files) macros (seen_hidden old.names old.hides head) rest (at old was c) (step_at new next later c)
+      came c macros rest listed work true here found =
+          let none = none-before old.sets parts i part c within is here (one c listed) in
+          let kept : at mid now c ≡ at old was c = ap (λ (s : Step). s.at) (done.others c listed none.0) in
+          let only : seen_by old.names part.1 ∷ [] ≡ macros (text_of old.names head.token.spelling) ∷ [] = ap (λ l. map (seen_by old.names) (l ++ part.1 ∷ [])) (sym none.0) ∙ found in
+          let told : macros (text_of old.names head.token.spelling) ≡ seen_by old.names part.1 = cc in
+          let came = comes c macros rest (IsConfig-Keeps grows.sets listed) (has c listed true here) (ap (λ (a : At). a.view.work) kept ∙ (work ∙ ap (λ t. t ∷ rest) (sym same)))
+          (ap (λ (t : Hidden Place). macros t.spelling) same ∙ (told ∙ sym (seen_by-Extends grows.names part.1 definition))) in
+          subst (λ t. Comes (provenance_of files) macros t rest (at old was c) (step_at new next later c)) same (subst (λ a. Comes (provenance_of files) macros t rest a (step_at new next later c)) kept came)
+      came c macros rest listed work false elsewhere found =
+          subst (Comes (provenance_of files) macros (seen_hidden old.names old.hides head) rest (at old was c)) (sym (others c (IsConfig-Keeps grows.sets listed) (has c listed false elsewhere)))
+          (done.comes c macros rest listed work (ap (map (seen_by old.names)) (sym (append-nil (items_at old.sets (take i parts) c))) ∙ found))
+
+      left : (c : List ℕ) → IsConfig old.sets.arities c → (b : Bool) → old.sets.has part.0.0 c ≡ b → items_at old.sets (take i parts) c ++ (if b then part.1 ∷ [] else []) ≡ [] → step_at new next later c ≡ step_at old was before c
+      left c listed true here none = absurd (no_item (items_at old.sets (take i parts) c) none)
+        where
+          no_item : (l : List (Option (Rc Definition Global))) → l ++ part.1 ∷ [] ≡ [] → ⊥
+          no_item [] none = cc
+          no_item (x ∷ xs) none = cc
+      left c listed false elsewhere none =
+          others c (IsConfig-Keeps grows.sets listed) (has c listed false elsewhere) ∙ done.others c listed (sym (append-nil (items_at old.sets (take i parts) c)) ∙ none)
+
+-- ---- what a look-up gives
+
+pub none-found : {A B : Type 0} (f : A → B) (xs : List A) → map f xs ≡ [] → xs ≡ []
+none-found f [] is = refl
+none-found f (x ∷ xs) is = cc
+
+pub one-found : {A B : Type 0} (f : A → B) (xs : List A) (b : Bool) (y : B) → map f xs ≡ (if b then y ∷ [] else []) → length xs ≡ 1 → b ≡ true
+one-found f xs true y is one = refl
+one-found f xs false y is one = let none = none-found f xs is in absurd (omega (arith, one, ap length none))
+
+-- the stores grew, and nothing is known of the token still
+pub still-untaken : {old new : Stores} {files : ℕ} → Grows old new → (e : Expansion) (taken : Taken) → IsHeldExpansion old files e → Denotes old.sets taken.stays.0 (λ c. false) → taken.made.items ≡ []
+    → (c : List ℕ) → IsConfig old.sets.arities c → step_at new e taken c ≡ untaken old e c
+still-untaken {old} {new} grows e taken held never none c listed =
+    same-step (at-Grows grows c listed e held) (has_first-Keeps grows.sets e.top.work held.top.work.own c listed)
+    (grows.sets.at taken.stays.0 c never.own listed ∙ never.at c listed) (ap (λ l. seen_at new l c) none)

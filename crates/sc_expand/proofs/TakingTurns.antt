@@ -1,0 +1,178 @@
+-- A turn that takes the first token of a list, by what taking the token comes to.
+use Rattle.std.proofs.Common.{◌≡◌, ◌∙◌, ◌∷◌, ◌++◌, ◌&&◌, ℕ, Bool, true, false, List, [], All, Some, ap, refl, sym, subst, length, drop, map, append-nil, true≢false, if◌then◌else◌}
+use Rattle.std.proofs.lemmas.List.Elements.{All-drop, All-head}
+use Rattle.std.specs.Prelude.{slice_get}
+use Rattle.c11_macros.specs.Hidden.{Hidden, Provenance}
+use Rattle.c11_macros.specs.Macros.{Macros}
+use Rattle.sc_base.proofs.Growth.{Extends-refl}
+use Rattle.sc_base.specs.declared.id.Cond.{Cond}
+use Rattle.sc_base.specs.declared.id.Name.{Name}
+use Rattle.sc_base.specs.declared.place.Place.{Place}
+use Rattle.sc_expand.proofs.SeenLemmas.{AreHeld-append, at-Grows, macros_at-Grows, seen_hidden-Grows, token-Grows}
+use Rattle.sc_expand.proofs.TakingSteps.{Ends, comes-turn, has_first-Keeps, same-step, seen-first}
+use Rattle.sc_expand.specs.Machine.{IsHeldExpansion, at}
+use Rattle.sc_expand.specs.Seen.{AreHeld, Grows, IsHeldCall, IsHeldEnclosing, IsHeldRefusals, IsHeldToken, Stores, View, calls_at, failures_at, provenance_of, seen_at, stores}
+use Rattle.sc_expand.specs.Taking.{Comes, IsBegun, IsHeldTaken, Step, has_first, step_at, untaken}
+use Rattle.sc_expand.specs.Turn.{At, Turn, over, passed}
+use Rattle.sc_expand.specs.declared.expansion.Expansion.{Expansion}
+use Rattle.sc_expand.specs.declared.taking.Taken.{Taken}
+use Rattle.sc_macro.specs.Seen.{text_of}
+use Rattle.sc_model.proofs.SetLemmas.{IsConfig-Keeps}
+use Rattle.sc_model.specs.Sets.{Denotes, IsCond, IsConfig, Keeps, Sets}
+use Rattle.sc_subst.specs.declared.hidden.Hidden as declared
+use Rattle.sc_subst.specs.Seen.{seen_hidden}
+use Rattle.sc_table.specs.declared.table.MacroTable.{MacroTable}
+use Rattle.sc_table.specs.Table.{IsTable, macros_at}
+
+pub both_true : (a b : Bool) → (a && b) ≡ true → (a ≡ true) × (b ≡ true)
+both_true true b is = (refl, is)
+both_true false b is = absurd (true≢false (sym is))
+
+not_both : (a b : Bool) → b ≡ false → (a && b) ≡ false
+not_both true b is = is
+not_both false b is = refl
+
+-- ---- the first item of a list
+
+pub first-of : {A : Type 0} (xs : List A) (x : A) → slice_get xs 0 ≡ Some x → xs ≡ x ∷ drop 1 xs
+first-of [] x is = absurd (cc)
+first-of (y ∷ ys) x is = let same : y ≡ x = cc in ap (λ z. z ∷ ys) same
+
+pub first-token : (work : List (Cond × declared.Hidden)) (item : Cond × declared.Hidden) → slice_get work 0 ≡ Some item → slice_get (map (λ (x : Cond × declared.Hidden). x.1) work) 0 ≡ Some item.1
+first-token work item is = ap (λ l. slice_get (map (λ (x : Cond × declared.Hidden). x.1) l) 0) (first-of work item is)
+
+pub first-held : (st : Stores) (files : ℕ) (work : List (Cond × declared.Hidden)) (item : Cond × declared.Hidden) → slice_get work 0 ≡ Some item → AreHeld st files work → IsHeldToken st files item.1
+first-held st files work item is held = All-head (λ (x : Cond × declared.Hidden). IsHeldToken st files x.1) item (drop 1 work) (subst (All (λ (x : Cond × declared.Hidden). IsHeldToken st files x.1)) (first-of work item is) held.held)
+
+pub first-own : (st : Stores) (files : ℕ) (work : List (Cond × declared.Hidden)) (item : Cond × declared.Hidden) → slice_get work 0 ≡ Some item → AreHeld st files work → IsCond st.sets item.0.0
+first-own st files work item is held = All-head (λ (x : Cond × declared.Hidden). IsCond st.sets x.0.0) item (drop 1 work) (subst (All (λ (x : Cond × declared.Hidden). IsCond st.sets x.0.0)) (first-of work item is) held.own)
+
+pub first-begun : (st : Stores) (e : Expansion) (item : Cond × declared.Hidden) (c : List ℕ) → slice_get e.top.work 0 ≡ Some item → e.top.calls.items ≡ [] → st.sets.has item.0.0 c ≡ true → st.sets.has e.refusals.live.0 c ≡ true
+    → IsBegun (seen_hidden st.names st.hides item.1) (untaken st e c)
+first-begun st e item c is none has live =
+    let left = seen_at st (drop 1 e.top.work) c in
+    let t = seen_hidden st.names st.hides item.1 in
+    record {
+      live = live;
+      rest = left;
+      work = ap (λ l. seen_at st l c) (first-of e.top.work item is) ∙ (seen-first st item (drop 1 e.top.work) c ∙ ap (λ b. if b then t ∷ left else left) has);
+      calls = ap (λ l. calls_at st l c) none;
+      first = ap (λ l. has_first st.sets l c) (first-of e.top.work item is) ∙ has;
+      stays = refl;
+      made = refl;
+    }
+
+-- the list at a configuration, by whether this has the first item
+seen-by-first : (st : Stores) (work : List (Cond × declared.Hidden)) (token : declared.Hidden) (c : List ℕ) → slice_get (map (λ (x : Cond × declared.Hidden). x.1) work) 0 ≡ Some token
+    → seen_at st work c ≡ (if has_first st.sets work c then seen_hidden st.names st.hides token ∷ seen_at st (drop 1 work) c else seen_at st (drop 1 work) c)
+seen-by-first st [] token c is = absurd (cc)
+seen-by-first st (x ∷ xs) token c is =
+    let same : x.1 ≡ token = cc in
+    seen-first st x xs c ∙ ap (λ h. if st.sets.has x.0.0 c then seen_hidden st.names st.hides h ∷ seen_at st xs c else seen_at st xs c) same
+
+-- ---- the token is put out
+
+module _ (st : Stores) (now next : Expansion) (taken : Taken) (token : declared.Hidden) (refusals : next.refusals ≡ now.refusals) (calls : next.top.calls ≡ now.top.calls)
+    (work : next.top.work ≡ taken.made.items ++ drop 1 now.top.work) where
+  pub put-ends : (c : List ℕ) → slice_get (map (λ (x : Cond × declared.Hidden). x.1) now.top.work) 0 ≡ Some token
+      → seen_at st next.top.out c ≡ seen_at st now.top.out c ++ (if st.sets.has taken.stays.0 c then seen_hidden st.names st.hides token ∷ [] else [])
+      → seen_at st (taken.made.items ++ drop 1 now.top.work) c ≡ seen_at st taken.made.items c ++ seen_at st (drop 1 now.top.work) c
+      → Ends (seen_hidden st.names st.hides token) (seen_hidden st.names st.hides token) (seen_at st (drop 1 now.top.work) c) (step_at st now taken c) (at st next c)
+  put-ends c first out parted = record {
+    live = ap (λ r. st.sets.has r.live.0 c) refusals;
+    failures = ap (λ r. failures_at st.sets r.faults.items c) refusals;
+    out = out;
+    calls = ap (λ l. calls_at st l.items c) calls;
+    work = ap (λ l. seen_at st l c) work ∙ parted;
+    first = seen-by-first st now.top.work token c first;
+  }
+
+  pub put-held : (files : ℕ) → next.below ≡ now.below → IsHeldExpansion st files now → IsHeldTaken st files taken → AreHeld st files next.top.out → IsHeldExpansion st files next
+  put-held files below held made out = record {
+    refusals = subst (IsHeldRefusals st.sets files) (sym refusals) held.refusals;
+    top = record {
+      work = subst (AreHeld st files) (sym work) (AreHeld-append taken.made.items (drop 1 now.top.work) made.made (record {
+        own = All-drop (λ (x : Cond × declared.Hidden). IsCond st.sets x.0.0) 1 now.top.work held.top.work.own;
+        held = All-drop (λ (x : Cond × declared.Hidden). IsHeldToken st files x.1) 1 now.top.work held.top.work.held;
+      }));
+      out = out;
+      calls = subst (λ l. All (IsHeldCall st files) l.items) (sym calls) held.top.calls;
+    };
+    below = subst (λ l. All (IsHeldEnclosing st files) l.items) (sym below) held.below;
+  }
+
+-- ---- the turn
+
+same-view : (v w : View) (left : List (Hidden Place)) → w.out ≡ v.out ++ [] → w.work ≡ left → v.work ≡ left → w.calls ≡ v.calls → w ≡ v
+same-view v w left out work is calls = λ i. record { out = (out ∙ append-nil v.out) i; work = (work ∙ sym is) i; calls = calls i }
+
+-- by whether the configuration has the token, and whether it was refused
+turn-by : (provenance : Provenance Place) (macros : Macros) (t x : Hidden Place) (left : List (Hidden Place)) (a b : At) (s : Step) (has live : Bool) → a.live ≡ live → a.view.calls ≡ []
+    → (has ≡ true → live ≡ true → (rest : List (Hidden Place)) × (a.view.work ≡ t ∷ rest × Comes provenance macros t rest a s))
+    → ((has && live) ≡ false → s ≡ record { at = a; first = has; stays = false; made = [] }) → Ends t x left s b → Turn provenance macros a b has
+turn-by provenance macros t x left a b s true true is calls comes others ends =
+    let came = comes refl refl in
+    comes-turn provenance macros t x came.0 left a b is came.1.0 calls s came.1.1 ends
+turn-by provenance macros t x left a b s true false is calls comes others ends =
+    let e = subst (λ s. Ends t x left s b) (others refl) ends in
+    over is (e.live ∙ is) e.failures
+turn-by provenance macros t x left a b s false true is calls comes others ends =
+    let e = subst (λ s. Ends t x left s b) (others refl) ends in
+    passed e.live e.failures (λ live. same-view a.view b.view left e.out e.work e.first e.calls)
+turn-by provenance macros t x left a b s false false is calls comes others ends =
+    let e = subst (λ s. Ends t x left s b) (others refl) ends in
+    passed e.live e.failures (λ live. absurd (true≢false (sym live ∙ is)))
+
+-- the stores grew, and nothing is known of the token still
+untaken-Grows : {old new : Stores} {files : ℕ} → Grows old new → (e : Expansion) → IsHeldExpansion old files e → (c : List ℕ) → IsConfig old.sets.arities c → untaken new e c ≡ untaken old e c
+untaken-Grows grows e held c listed = same-step (at-Grows grows c listed e held) (has_first-Keeps grows.sets e.top.work held.top.work.own c listed) refl refl
+
+module _ (s0 s1 : Sets) (n : List (List ℕ)) (h : List (List Name)) (st : Stores) (files : List (List ℕ)) (table : MacroTable) (keeps : Keeps s0 s1) (grows : Grows (stores s1 n h) st) (was now next : Expansion) (taken : Taken)
+    (item : Cond × declared.Hidden) (cond : Cond) where
+  pub take-turn : IsHeldExpansion (stores s0 n h) (length files) was → IsTable s0 n table → slice_get was.top.work 0 ≡ Some item → was.top.calls.items ≡ []
+      → Denotes s1 cond.0 (λ c. s0.has item.0.0 c && s0.has was.refusals.live.0 c)
+      → ((c : List ℕ) (macros : Macros) (rest : List (Hidden Place)) → IsConfig s1.arities c → s1.has cond.0 c ≡ true → (at (stores s1 n h) was c).view.work ≡ seen_hidden n h item.1 ∷ rest
+      → macros (text_of n item.1.token.spelling) ≡ macros_at s1 n table c (text_of n item.1.token.spelling)
+      → Comes (provenance_of files) macros (seen_hidden n h item.1) rest (at (stores s1 n h) was c) (step_at st now taken c))
+      → ((c : List ℕ) → IsConfig s1.arities c → s1.has cond.0 c ≡ false → step_at st now taken c ≡ untaken (stores s1 n h) was c)
+      → (c : List ℕ) (left : List (Hidden Place)) → IsConfig s0.arities c
+      → Ends (seen_hidden st.names st.hides item.1) (seen_hidden st.names st.hides item.1) left (step_at st now taken c) (at st next c)
+      → Turn (provenance_of files) (macros_at s0 n table c) (at (stores s0 n h) was c) (at st next c) (s0.has item.0.0 c)
+  take-turn held is_table first none meets comes others c left listed ends =
+      let st0 = stores s0 n h in
+      let a = at st0 was c in
+      let macros = macros_at s0 n table c in
+      let t = seen_hidden n h item.1 in
+      let u = seen_hidden st.names st.hides item.1 in
+      let s = step_at st now taken c in
+      let grew : Grows st0 (stores s1 n h) = record { sets = keeps; names = Extends-refl n; hides = Extends-refl h } in
+      let listed1 = IsConfig-Keeps keeps listed in
+      let kept = at-Grows grew c listed was held in
+      let same : u ≡ t = seen_hidden-Grows grows item.1 (token-Grows grew item.1 (first-held st0 (length files) was.top.work item first held.top.work)) in
+      let firsts : has_first s0 was.top.work c ≡ s0.has item.0.0 c = ap (λ l. has_first s0 l c) (first-of was.top.work item first) in
+      turn-by (provenance_of files) macros t u left a (at st next c) s (s0.has item.0.0 c) (s0.has was.refusals.live.0 c) refl (ap (λ l. calls_at st0 l c) none)
+      (λ has live.
+      let begun = first-begun st0 was item c first none has live in
+      let both : s1.has cond.0 c ≡ true = meets.at c listed1 ∙ (λ i. has i && live i) in (
+        begun.rest,
+        (
+          begun.work,
+          subst (λ a. Comes (provenance_of files) macros t begun.rest a s) kept
+              (comes c macros begun.rest listed1 both (ap (λ (a : At). a.view.work) kept ∙ begun.work) (sym (macros_at-Grows grew is_table c (text_of n item.1.token.spelling) listed))),
+        ),
+      ))
+      (λ no. others c listed1 (meets.at c listed1 ∙ no) ∙ (untaken-Grows grew was held c listed ∙ same-step refl firsts refl refl))
+      (subst (λ v. Ends v u left s (at st next c)) same ends)
+
+  -- a configuration that was refused puts out nothing more
+  pub refused-out : IsHeldExpansion (stores s0 n h) (length files) was → Denotes s1 cond.0 (λ c. s0.has item.0.0 c && s0.has was.refusals.live.0 c)
+      → ((c : List ℕ) → IsConfig s1.arities c → s1.has cond.0 c ≡ false → step_at st now taken c ≡ untaken (stores s1 n h) was c)
+      → (c : List ℕ) → IsConfig s0.arities c → s0.has was.refusals.live.0 c ≡ false
+      → seen_at st next.top.out c ≡ seen_at st now.top.out c ++ (if st.sets.has taken.stays.0 c then seen_hidden st.names st.hides item.1 ∷ [] else [])
+      → seen_at st next.top.out c ≡ seen_at (stores s0 n h) was.top.out c
+  refused-out held meets others c listed dead out =
+      let grew : Grows (stores s0 n h) (stores s1 n h) = record { sets = keeps; names = Extends-refl n; hides = Extends-refl h } in
+      let listed1 = IsConfig-Keeps keeps listed in
+      let same = others c listed1 (meets.at c listed1 ∙ not_both (s0.has item.0.0 c) (s0.has was.refusals.live.0 c) dead) ∙ untaken-Grows grew was held c listed in
+      out
+      ∙ (ap (λ (s : Step). s.at.view.out ++ (if s.stays then seen_hidden st.names st.hides item.1 ∷ [] else [])) same ∙ append-nil (seen_at (stores s0 n h) was.top.out c))

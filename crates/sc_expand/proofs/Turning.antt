@@ -1,0 +1,190 @@
+-- A turn of the loop, by what it takes.
+use Rattle.std.proofs.Common.{◌≡◌, inl, inr, ℕ, ◌≤◌, Bool, true, false, true≢false, List, [], ◌∷◌, ◌++◌, All, length, append-nil, Option, Some, None, option_to_list, slice_get, refl, sym, ap, subst, ◌∙◌, arith, if◌then◌else◌}
+use Rattle.std.proofs.lemmas.List.Elements.{All-head, All-pop}
+use Rattle.std.specs.Global.{Vec}
+use Rattle.c11_macros.specs.Hidden.{Provenance}
+use Rattle.c11_macros.specs.Macros.{Macros}
+use Rattle.sc_base.specs.declared.id.Cond.{Cond}
+use Rattle.sc_base.specs.declared.place.Place.{Place}
+use Rattle.sc_expand.proofs.Dropping.{IsNone}
+use Rattle.sc_expand.proofs.MachineCalls.{calls_at-append, last-alone}
+use Rattle.sc_expand.proofs.MachineLeaves.{left-held, left-progress}
+use Rattle.sc_expand.proofs.MachineLemmas.{stands-cases, turn-progress}
+use Rattle.sc_expand.proofs.Rests.{next-argument, next-call, put-less, put-same}
+use Rattle.sc_expand.proofs.SeenLemmas.{seen_at-Grows}
+use Rattle.sc_expand.specs.declared.call.Call.{Call}
+use Rattle.sc_expand.specs.declared.expansion.Expansion.{Expansion}
+use Rattle.sc_expand.specs.declared.frame.Enclosing.{Enclosing}
+use Rattle.sc_expand.specs.declared.frame.Frame.{Frame}
+use Rattle.sc_expand.specs.Machine.{IsExpansion, IsHeldExpansion, IsResumed, Progress, Stands, at, at_call, rests, state_in, with_call}
+use Rattle.sc_expand.specs.Running.{IsReady, IsTurned, PutsOut, last_of, next_by, next_of, put_by, put_out}
+use Rattle.sc_expand.specs.Seen.{AreHeld, Grows, IsHeldCall, IsHeldEnclosing, IsHeldFrame, Stores, View, calls_at, provenance_of, view_at, waiting_at}
+use Rattle.sc_expand.specs.Turn.{Turn}
+use Rattle.sc_model.proofs.SetLemmas.{IsConfig-Keeps}
+use Rattle.sc_model.specs.Sets.{IsConfig}
+use Rattle.sc_subst.specs.declared.hidden.Hidden.{Hidden}
+
+-- the calls on top are these
+abbrev pub with_calls : Expansion → Vec Call → Expansion
+with_calls e calls = record e { top = record e.top { calls = calls } }
+
+-- and the lists below
+abbrev pub with_below : Expansion → Vec Call → Vec Enclosing → Expansion
+with_below e calls below = record e { top = record e.top { calls = calls }; below = below }
+
+-- ---- what was put out
+
+put_by-held : {st : Stores} {files : ℕ} (below : List Enclosing) (top : Frame) → All (IsHeldEnclosing st files) below → IsHeldFrame st files top → AreHeld st files (put_by below top)
+put_by-held {st} {files} [] top held here = here.out
+put_by-held {st} {files} (e ∷ es) top held here = (All-head (IsHeldEnclosing st files) e es held).frame.out
+
+module _ {old new : Stores} (grows : Grows old new) {files : ℕ} (live : ℕ) where
+  pub puts-nothing : (list : List (Cond × Hidden)) → AreHeld old files list → PutsOut old new live list list
+  puts-nothing list held = record {
+    apart = λ c listed refused. seen_at-Grows grows c listed list held;
+    some = λ some. λ k d h never. some k d h (record { none = λ c listed. sym (grows.sets.at _ c (held.own k d h) listed) ∙ never.none c (IsConfig-Keeps grows.sets listed) });
+  }
+
+  -- the list below all others is as it was
+  pub puts-same : (e after : Expansion) → IsHeldExpansion old files e → put_out after ≡ put_out e → PutsOut old new live (put_out e) (put_out after)
+  puts-same e after held same = subst (PutsOut old new live (put_out e)) (sym same) (puts-nothing (put_out e) (put_by-held e.below.items e.top held.below held.top))
+
+  -- only the list on top is another
+  pub puts-top : (e after : Expansion) → IsHeldExpansion old files e → after.below ≡ e.below → PutsOut old new live e.top.out after.top.out → PutsOut old new live (put_out e) (put_out after)
+  puts-top e after held below puts = subst (λ b. PutsOut old new live (put_out e) (put_by b.items after.top)) (sym below) (by e.below.items held.below)
+    where
+      by : (bs : List Enclosing) → All (IsHeldEnclosing old files) bs → PutsOut old new live (put_by bs e.top) (put_by bs after.top)
+      by [] own = puts
+      by (b ∷ bs) own = puts-nothing b.frame.out (All-head (IsHeldEnclosing old files) b bs own).frame.out
+
+-- ---- what is known before a turn
+
+pub next-first : (e : Expansion) (item : Cond × Hidden) → e.top.calls.items ≡ [] → slice_get e.top.work 0 ≡ Some item → next_of e ≡ Some item.0
+next-first e item none first =
+    ap (λ (ks : List Call). next_by (last_of ks) (slice_get e.top.work 0) (last_of e.below.items)) none ∙ ap (λ r. next_by None r (last_of e.below.items)) first
+
+module _ (st : Stores) (c : List ℕ) where
+  few-calls : {below : List Enclosing} {v : View} → Stands st c below v → length v.calls ≤ 1
+  few-calls stands = elim (stands-cases st c stands) [ inl top ↦ top.1 | inr below ↦ subst (λ (v : View). length v.calls ≤ 1) (sym below.1) (omega arith) ]
+
+  module _ (e : Expansion) (calls : Vec Call) (call : Call) (popped : e.top.calls.items ≡ calls.items ++ call ∷ []) where
+    pub calls-popped : calls_at st e.top.calls.items c ≡ calls_at st calls.items c ++ (if st.sets.has call.cond.0 c then waiting_at st call c ∷ [] else [])
+    calls-popped = ap (λ l. calls_at st l c) popped ∙ calls_at-append st c calls.items (call ∷ [])
+
+    -- a configuration of the call has no other
+    pub call-alone : Stands st c e.below.items (view_at st e.top c) → st.sets.has call.cond.0 c ≡ true → calls_at st calls.items c ≡ []
+    call-alone stands has =
+        let whole = calls-popped ∙ ap (λ b. calls_at st calls.items c ++ (if b then waiting_at st call c ∷ [] else [])) has in
+        last-alone (calls_at st calls.items c) (waiting_at st call c) (subst (λ l. length l ≤ 1) whole (few-calls stands))
+
+    pub at_call-popped : at_call st (with_calls e calls) call c ≡ at st e c
+    at_call-popped =
+        ap (λ v. record (at st e c) { view = v }) (by (st.sets.has call.cond.0 c)
+        ∙ ap (λ l. record (view_at st e.top c) { calls = l }) (sym calls-popped))
+      where
+        v : View
+        v = view_at st (record e.top { calls = calls }) c
+
+        by : (b : Bool) → (if b then with_call v (waiting_at st call c) else v) ≡ record (view_at st e.top c) { calls = calls_at st calls.items c ++ (if b then waiting_at st call c ∷ [] else []) }
+        by true = refl
+        by false = ap (λ l. record (view_at st e.top c) { calls = l }) (sym (append-nil (calls_at st calls.items c)))
+
+  -- no call was popped
+  pub at-none : (e : Expansion) (calls : Vec Call) → IsNone Call e.top.calls.items calls.items → at st (with_calls e calls) c ≡ at st e c
+  at-none e calls none = ap (λ l. record (at st e c) { view = record (view_at st e.top c) { calls = calls_at st l c } }) (none.after ∙ sym none.before)
+
+-- ---- held
+
+module _ {st : Stores} {files : ℕ} (e : Expansion) (held : IsHeldExpansion st files e) (calls : Vec Call) where
+  pub popped-held : (r : Option Call) → e.top.calls.items ≡ calls.items ++ option_to_list r → IsHeldExpansion st files (with_calls e calls)
+  popped-held r popped = record {
+    refusals = held.refusals;
+    top = record { work = held.top.work; out = held.top.out; calls = (All-pop (IsHeldCall st files) e.top.calls.items calls.items r popped held.top.calls).0 };
+    below = held.below;
+  }
+
+  pub call-held : (call : Call) → e.top.calls.items ≡ calls.items ++ call ∷ [] → IsHeldCall st files call
+  call-held call popped = (All-pop (IsHeldCall st files) e.top.calls.items calls.items (Some call) popped held.top.calls).1
+
+  pub below-held : (r : Option Call) (below : Vec Enclosing) (o : Option Enclosing) → e.top.calls.items ≡ calls.items ++ option_to_list r → e.below.items ≡ below.items ++ option_to_list o → IsHeldExpansion st files (with_below e calls below)
+  below-held r below o popped less = record {
+    refusals = held.refusals;
+    top = (popped-held r popped).top;
+    below = (All-pop (IsHeldEnclosing st files) e.below.items below.items o less held.below).0;
+  }
+
+  pub enclosing-held : (below : Vec Enclosing) (o : Enclosing) → e.below.items ≡ below.items ++ o ∷ [] → IsHeldEnclosing st files o
+  enclosing-held below o less = (All-pop (IsHeldEnclosing st files) e.below.items below.items (Some o) less held.below).1
+
+-- ---- turns
+
+module _ {old new : Stores} (grows : Grows old new) (files : List (List ℕ)) (macros : List ℕ → Macros) (e after : Expansion) (is : IsExpansion old (length files) e) where
+  prov : Provenance Place
+  prov = provenance_of files
+
+  -- a turn of the configurations that have what is next
+  next-turn : (next : Cond) → next_of e ≡ Some next → IsReady old.sets e
+      → ((c : List ℕ) → IsConfig old.sets.arities c → Progress (provenance_of files) (macros c) old new c e.below.items after.below.items (at old e c) (at new after c) (old.sets.has next.0 c)) → IsTurned files macros old new e after true
+  next-turn next here ready progress = record {
+    takes = λ c. old.sets.has next.0 c;
+    progress = progress;
+    some = λ went. ready.some next here;
+    ended = λ not. absurd (true≢false not);
+  }
+
+  pub called-turn : (calls : Vec Call) (call : Call) → e.top.calls.items ≡ calls.items ++ call ∷ [] → IsReady old.sets e
+      → ((c : List ℕ) → IsConfig old.sets.arities c → Progress (provenance_of files) (macros c) old new c e.below.items after.below.items (at_call old (with_calls e calls) call c) (at new after c) (old.sets.has call.cond.0 c))
+      → IsTurned files macros old new e after true
+  called-turn calls call popped ready progress = next-turn call.cond (next-call e calls.items call popped) ready
+      (λ c listed. subst (λ a. Progress (provenance_of files) (macros c) old new c e.below.items after.below.items a (at new after c) (old.sets.has call.cond.0 c)) (at_call-popped old c e calls call popped) (progress c listed))
+
+  pub taken-turn : (calls : Vec Call) → IsNone Call e.top.calls.items calls.items → (item : Cond × Hidden) → slice_get e.top.work 0 ≡ Some item → after.below ≡ e.below → IsReady old.sets e
+      → ((c : List ℕ) → IsConfig old.sets.arities c → Turn (provenance_of files) (macros c) (at old (with_calls e calls) c) (at new after c) (old.sets.has item.0.0 c)) → IsTurned files macros old new e after true
+  taken-turn calls none item first below ready turns = next-turn item.0 (next-first e item none.before first) ready
+      (λ c listed.
+      let progress = turn-progress (provenance_of files) (macros c) grows (length files) c listed e.below.items is.held.below (turns c listed) in
+      subst (λ b. Progress (provenance_of files) (macros c) old new c e.below.items b.items (at old e c) (at new after c) (old.sets.has item.0.0 c)) (sym below)
+      (subst (λ a. Progress (provenance_of files) (macros c) old new c e.below.items e.below.items a (at new after c) (old.sets.has item.0.0 c)) (at-none old c e calls none) progress))
+
+-- a finished argument is left
+module _ (st : Stores) (files : List (List ℕ)) (macros : List ℕ → Macros) (e after : Expansion) (is : IsExpansion st (length files) e) where
+  pub left-turn : (below : Vec Enclosing) (o : Enclosing) → e.top.calls.items ≡ [] → e.top.work ≡ [] → e.below.items ≡ below.items ++ o ∷ [] → IsReady st.sets e
+      → IsResumed o e.top.out after.top.calls.items → after.top.work ≡ o.frame.work → after.top.out ≡ o.frame.out → after.refusals ≡ e.refusals → after.below ≡ below → IsTurned files macros st st e after true
+  left-turn below o none empty less ready resumed work out refusals later = record {
+    takes = λ c. st.sets.has o.call.cond.0 c;
+    progress = λ c listed.
+        subst (λ b. Progress (provenance_of files) (macros c) st st c e.below.items b.items (at st e c) (at st after c) (st.sets.has o.call.cond.0 c)) (sym later)
+        (subst (λ bs. Progress (provenance_of files) (macros c) st st c bs below.items (at st e c) (at st after c) (st.sets.has o.call.cond.0 c)) (sym less)
+        (left-progress (provenance_of files) (macros c) st c below.items o e after resumed work out refusals empty none));
+    some = λ went. ready.some o.call.cond (next-argument e below.items o none empty less);
+    ended = λ not. absurd (true≢false not);
+  }
+
+  pub left-still : (calls : Vec Call) (r : Option Call) (below : Vec Enclosing) (o : Enclosing) → e.top.calls.items ≡ calls.items ++ option_to_list r → e.top.work ≡ [] → IsNone Call e.top.calls.items calls.items → e.below.items ≡ below.items ++ o ∷ []
+      → IsResumed o e.top.out after.top.calls.items → after.top.work ≡ o.frame.work → after.top.out ≡ o.frame.out → after.refusals ≡ e.refusals → after.below ≡ below → IsHeldExpansion st (length files) after
+  left-still calls r below o popped empty none less resumed work out refusals later =
+      left-held (provenance_of files) (macros []) st [] below.items o (with_below e calls below) after resumed work out refusals empty none.after (length files)
+      (below-held e is.held calls r below (Some o) popped less) (enclosing-held e is.held calls below o less) later
+
+  pub left-out : (below : Vec Enclosing) (o : Enclosing) → e.below.items ≡ below.items ++ o ∷ [] → after.top.out ≡ o.frame.out → after.below ≡ below → put_out after ≡ put_out e
+  left-out below o less out later =
+      ap (λ b. put_by b.items after.top) later ∙ (put-same below.items after.top o.frame out ∙ (sym (put-less below.items o e.top) ∙ sym (ap (λ bs. put_by bs e.top) less)))
+
+  -- nothing was left
+  pub no-turn : (calls : Vec Call) (below : Vec Enclosing) → IsNone Call e.top.calls.items calls.items → e.top.work ≡ [] → IsNone Enclosing e.below.items below.items → IsTurned files macros st st e (with_below e calls below) false
+  no-turn calls below none empty less = record {
+    takes = λ c. false;
+    progress = λ c listed.
+        let same = at-none st c e calls none in
+        let view = ap (λ a. a.view) same in
+        let lists = less.after ∙ sym less.before in
+        rests refl refl (λ live stands. (
+          subst (λ bs. Stands st c bs (view_at st (record e.top { calls = calls }) c)) (sym lists) (subst (Stands st c e.below.items) (sym view) stands),
+          ap (λ v. state_in st e.below.items v c) (sym view) ∙ ap (λ bs. state_in st bs (view_at st (record e.top { calls = calls }) c) c) (sym lists),
+        ));
+    some = λ went. absurd (true≢false (sym went));
+    ended = λ went. record { below = less.after; work = empty; calls = none.after };
+  }
+
+  pub no-out : (calls : Vec Call) (below : Vec Enclosing) → IsNone Enclosing e.below.items below.items → put_out (with_below e calls below) ≡ put_out e
+  no-out calls below less = ap (λ bs. put_by bs (record e.top { calls = calls })) (less.after ∙ sym less.before) ∙ put-same e.below.items (record e.top { calls = calls }) e.top refl

@@ -1,0 +1,55 @@
+use Rattle.std.proofs.Common.{length, ◌∙◌}
+use Rattle.sc_expand.proofs.ExpandLemmas.{answer-held, answer-some, done-empty, done-expanded, started-held}
+use Rattle.sc_expand.specs.Seen.{stores}
+use Rattle.sc_table.proofs.Growth.{macros_at-Extends, macros_at-Keeps, IsTable-Extends, IsTable-Keeps}
+use Rattle.sc_table.specs.Table.{macros_at}
+use Rattle.sc_expand.proofs.expanding.expand.Goals as goal
+
+pub run-requires-clause-held : goal.run-requires-clause-held
+run-requires-clause-held g c =
+    let e = c.in_ok-expansion.ensures in
+    started-held (g.C.Conditions.sets c.args.conds.now) c.args.names.now (length c.args.files.now) c.in_ok-expansion.expansion c.args.list.now c.args.live e.untouched e.live e.tokens (e.held c.args.names.now c.requires.held)
+    c.requires.own c.requires.placed c.requires.live_own
+
+pub run-requires-clause-untouched : goal.run-requires-clause-untouched
+run-requires-clause-untouched g c = c.in_ok-expansion.ensures.untouched
+
+pub returns-clause-expands : goal.returns-clause-expands
+returns-clause-expands g c = λ config listed here.
+    let e = c.in_ok-expansion.ensures in
+    let f = c.in_ok-expanded.ensures in
+    done-expanded (g.C.Conditions.sets c.args.conds.now) (g.C.Conditions.sets c.run.new.conds) c.args.names.now c.run.new.names c.args.files.now (macros_at (g.C.Conditions.sets c.args.conds.now) c.args.names.now c.args.table.now config) config
+    c.in_ok-expansion.expansion c.run.new.self c.args.list.now c.args.live c.in_ok-expanded.expanded e.tokens e.unhidden e.live f.list f.faults (c.in_ok-run.ensures.done config listed) here
+
+pub returns-clause-others : goal.returns-clause-others
+returns-clause-others g c = λ config listed other.
+    let e = c.in_ok-expansion.ensures in
+    let f = c.in_ok-expanded.ensures in
+    done-empty (g.C.Conditions.sets c.args.conds.now) (g.C.Conditions.sets c.run.new.conds) c.args.names.now c.run.new.names c.args.files.now (macros_at (g.C.Conditions.sets c.args.conds.now) c.args.names.now c.args.table.now config) config
+    c.in_ok-expansion.expansion c.run.new.self c.args.list.now c.args.live c.in_ok-expanded.expanded e.tokens e.unhidden e.live f.list f.faults (c.in_ok-run.ensures.done config listed) e.untouched c.in_ok-run.ensures.out listed other
+
+pub returns-clause-held : goal.returns-clause-held
+returns-clause-held g c = answer-held (g.C.Conditions.sets c.run.new.conds) c.run.new.names (length c.args.files.now) c.run.new.self c.in_ok-expanded.expanded c.in_ok-run.ensures.held c.in_ok-expanded.ensures.list c.in_ok-expanded.ensures.faults
+
+pub returns-clause-some : goal.returns-clause-some
+returns-clause-some g c =
+    answer-some (stores (g.C.Conditions.sets c.args.conds.now) c.args.names.now c.in_ok-expansion.expansion.sets) (stores (g.C.Conditions.sets c.run.new.conds) c.run.new.names c.run.new.self.sets) c.in_ok-expansion.expansion.refusals.live.0
+    c.in_ok-expansion.expansion c.run.new.self c.in_ok-expanded.expanded c.in_ok-expansion.ensures.untouched c.in_ok-run.ensures.out c.in_ok-expanded.ensures.list
+
+pub returns-clause-table : goal.returns-clause-table
+returns-clause-table g c = IsTable-Extends c.run.ensures.names (IsTable-Keeps c.run.ensures.keeps c.requires.table)
+
+pub returns-clause-still : goal.returns-clause-still
+returns-clause-still g c = λ config text listed. macros_at-Extends c.run.ensures.names (IsTable-Keeps c.run.ensures.keeps c.requires.table) config text ∙ macros_at-Keeps {names = c.args.names.now} c.run.ensures.keeps c.requires.table config text listed
+
+pub returns-in_err-run-clause-table : goal.returns-in_err-run-clause-table
+returns-in_err-run-clause-table g c = IsTable-Extends c.run.ensures.names (IsTable-Keeps c.run.ensures.keeps c.requires.table)
+
+pub returns-in_err-run-clause-still : goal.returns-in_err-run-clause-still
+returns-in_err-run-clause-still g c = λ config text listed. macros_at-Extends c.run.ensures.names (IsTable-Keeps c.run.ensures.keeps c.requires.table) config text ∙ macros_at-Keeps {names = c.args.names.now} c.run.ensures.keeps c.requires.table config text listed
+
+pub returns-in_err-expanded-clause-table : goal.returns-in_err-expanded-clause-table
+returns-in_err-expanded-clause-table g c = IsTable-Extends c.run.ensures.names (IsTable-Keeps c.run.ensures.keeps c.requires.table)
+
+pub returns-in_err-expanded-clause-still : goal.returns-in_err-expanded-clause-still
+returns-in_err-expanded-clause-still g c = λ config text listed. macros_at-Extends c.run.ensures.names (IsTable-Keeps c.run.ensures.keeps c.requires.table) config text ∙ macros_at-Keeps {names = c.args.names.now} c.run.ensures.keeps c.requires.table config text listed

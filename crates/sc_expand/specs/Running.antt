@@ -1,0 +1,104 @@
+-- The turns of an expansion, from the first to the last.
+use Rattle.std.specs.Prelude.{◌≡◌, ℕ, ◌+◌, ◌-◌, ◌++◌, Bool, true, false, List, [], ◌∷◌, All, Option, Some, None, Ok, Err, length, slice_get, sum_by}
+use Rattle.c11_macros.specs.Expansion.{Expands}
+use Rattle.c11_macros.specs.Hidden as model
+use Rattle.c11_macros.specs.Hidden.{Failure, Provenance}
+use Rattle.c11_macros.specs.Macros.{Macros}
+use Rattle.sc_base.specs.declared.id.Cond.{Cond}
+use Rattle.sc_base.specs.declared.place.Place.{Place}
+use Rattle.sc_expand.specs.declared.call.Call.{Call}
+use Rattle.sc_expand.specs.declared.expansion.Expansion.{Expansion}
+use Rattle.sc_expand.specs.declared.frame.Enclosing.{Enclosing}
+use Rattle.sc_expand.specs.declared.frame.Frame.{Frame}
+use Rattle.sc_expand.specs.Machine.{IsHeldExpansion, Progress, at}
+use Rattle.sc_expand.specs.Seen.{Stores, provenance_of, seen_at}
+use Rattle.sc_model.specs.Sets.{Sets, IsConfig, IsNever}
+use Rattle.sc_subst.specs.declared.hidden.Hidden.{Hidden}
+
+-- ---- what is next
+
+abbrev pub last_of : {A : Type 0} → List A → Option A
+last_of xs = slice_get xs (length xs - 1)
+
+-- a call that waits comes before the first token, and the call of the list below after all
+abbrev pub next_by : Option Call → Option (Cond × Hidden) → Option Enclosing → Option Cond
+next_by (Some call) first enclosing = Some call.cond
+next_by None (Some item) enclosing = Some item.0
+next_by None None (Some e) = Some e.call.cond
+next_by None None None = None
+
+-- the configurations that have what the next turn takes
+abbrev pub next_of : Expansion → Option Cond
+next_of e = next_by (last_of e.top.calls.items) (slice_get e.top.work 0) (last_of e.below.items)
+
+-- not all configurations that have what is next were refused
+pub record IsReady (s : Sets) (e : Expansion) : Type 0 where
+  pub some : (cond : Cond) → next_of e ≡ Some cond → ((c : List ℕ) → IsConfig s.arities c → s.has cond.0 c ≡ true → s.has e.refusals.live.0 c ≡ true → ⊥) → ⊥
+
+-- the tokens, calls and lists that are left
+abbrev pub frame_weight : Frame → ℕ
+frame_weight frame = length frame.work + length frame.calls.items + 1
+
+abbrev pub weight : Expansion → ℕ
+weight e = frame_weight e.top + sum_by (λ o. frame_weight o.frame) e.below.items
+
+-- The call, the token or the argument that is next is gone.
+pub data IsDropped (e after : Expansion) : Type 0 where
+  call : (k : Call) → e.top.calls.items ≡ after.top.calls.items ++ k ∷ [] → after.top.work ≡ e.top.work → after.top.out ≡ e.top.out → after.below ≡ e.below → IsDropped e after
+  token : (item : Cond × Hidden) → e.top.calls.items ≡ [] → after.top.calls.items ≡ [] → e.top.work ≡ item ∷ after.top.work → after.top.out ≡ e.top.out → after.below ≡ e.below → IsDropped e after
+  argument : (o : Enclosing) → e.top.calls.items ≡ [] → e.top.work ≡ [] → e.below.items ≡ after.below.items ++ o ∷ [] → after.top ≡ o.frame → IsDropped e after
+
+-- ---- what was put out
+
+-- what the list below all others was expanded to
+abbrev pub put_by : List Enclosing → Frame → List (Cond × Hidden)
+put_by [] top = top.out
+put_by (e ∷ es) top = e.frame.out
+
+abbrev pub put_out : Expansion → List (Cond × Hidden)
+put_out e = put_by e.below.items e.top
+
+-- A refused configuration has no more than it had, and each token is some configuration's.
+pub record PutsOut (old new : Stores) (live : ℕ) (before after : List (Cond × Hidden)) : Type 0 where
+  pub apart : (c : List ℕ) → IsConfig old.sets.arities c → old.sets.has live c ≡ false → seen_at new after c ≡ seen_at old before c
+  pub some : All (λ item. IsNever old.sets item.0.0 → ⊥) before → All (λ item. IsNever new.sets item.0.0 → ⊥) after
+
+-- ---- turns
+
+-- each configuration that was not refused is where it was, and so is what was put out
+pub record IsRested (old new : Stores) (e after : Expansion) : Type 0 where
+  pub refusals : after.refusals ≡ e.refusals
+  pub sets : after.sets ≡ e.sets
+  pub out : put_out after ≡ put_out e
+  pub held : (files : ℕ) → IsHeldExpansion old files e → IsHeldExpansion new files after
+  pub progress : (files : ℕ) (provenance : Provenance Place) (macros : Macros) (c : List ℕ) → IsHeldExpansion old files e → IsConfig old.sets.arities c
+      → Progress provenance macros old new c e.below.items after.below.items (at old e c) (at new after c) false
+
+-- nothing is left to be expanded
+pub record HasEnded (e : Expansion) : Type 0 where
+  pub below : e.below.items ≡ []
+  pub work : e.top.work ≡ []
+  pub calls : e.top.calls.items ≡ []
+
+-- What a turn does at each configuration. There was one if some configuration took part that was not refused.
+pub record IsTurned (files : List (List ℕ)) (macros : List ℕ → Macros) (old new : Stores) (e after : Expansion) (went : Bool) : Type 0 where
+  pub takes : List ℕ → Bool
+  pub progress : (c : List ℕ) → IsConfig old.sets.arities c
+      → Progress (provenance_of files) (macros c) old new c e.below.items after.below.items (at old e c) (at new after c) (takes c)
+  pub some : went ≡ true → ((c : List ℕ) → IsConfig old.sets.arities c → takes c ≡ true → old.sets.has e.refusals.live.0 c ≡ true → ⊥) → ⊥
+  pub ended : went ≡ false → HasEnded after
+
+-- ---- whole runs
+
+-- nothing was expanded yet
+pub record IsUntouched (e : Expansion) : Type 0 where
+  pub below : e.below.items ≡ []
+  pub out : e.top.out ≡ []
+  pub calls : e.top.calls.items ≡ []
+  pub faults : e.refusals.faults.items ≡ []
+
+-- A configuration that takes part has what the list expands to, or its failure alone; another has no failure.
+pub data IsDone (provenance : Provenance Place) (macros : Macros) (source out : List (model.Hidden Place)) (failures : List (Failure Place)) : Bool → Type 0 where
+  unasked : failures ≡ [] → IsDone provenance macros source out failures false
+  expanded : failures ≡ [] → Expands provenance macros source (Ok out) → IsDone provenance macros source out failures true
+  refused : (failure : Failure Place) → failures ≡ failure ∷ [] → Expands provenance macros source (Err failure) → IsDone provenance macros source out failures true

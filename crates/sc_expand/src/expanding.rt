@@ -1,0 +1,121 @@
+//! Macro expansion of a list of tokens that differ by configuration.
+ghost use Rattle.std.specs.Prelude.{◌≡◌, ℕ, ◌<◌, [], List, All, true, false, length, map, IfErr, IfOk};
+ghost use Rattle.sc_base.specs.Seen.{IsHeld, seen};
+ghost use Rattle.sc_expand.specs.Answers.{IsEmpty, IsExpanded, IsHeldAnswer};
+ghost use Rattle.sc_expand.specs.Running.{IsUntouched};
+ghost use Rattle.sc_expand.specs.Stops.{StopsBy};
+ghost use Rattle.sc_guarded.specs.Items.{items_at};
+ghost use Rattle.sc_model.specs.Growth.{Extends};
+ghost use Rattle.sc_model.specs.Sets.{IsConfig, IsCond, IsNever, Keeps};
+ghost use Rattle.sc_subst.specs.Hides.{set_at};
+ghost use Rattle.sc_subst.specs.Seen.{IsHeldHidden};
+ghost use Rattle.sc_table.specs.Table.{IsTable, macros_at};
+
+use crate::expansion::Expansion;
+use crate::frame::Frame;
+use crate::refusals::Refusals;
+use crate::work_list::WorkList;
+use sc_base::{Cond, Files, Names, OutOfMemory, Stop, Token};
+use sc_guarded::{Expanded, Guarded};
+use sc_presence::Conditions;
+use sc_subst::{Hidden, HideSets};
+use sc_table::MacroTable;
+use std::alloc::Global;
+
+/// Expands a list in the configurations of `live`, with the macros that each of them has in the
+/// table. A configuration has its first fault, and then its tokens don't count, or none.
+pub fn expand<C: Conditions>(
+    alloc: Global,
+    conds: &mut C,
+    table: &MacroTable,
+    list: &Guarded<Token>,
+    live: Cond,
+    limit: usize,
+    names: &mut Names,
+    files: &Files,
+) -> Result<Expanded, Stop>
+    requires table { IsTable (C.sets conds.old) names.old table.now }
+    requires own { All (λ item. IsCond (C.sets conds.old) item.0.0) list.now }
+    requires held { All (λ item. IsHeld names.old item.1) list.now }
+    requires placed { All (λ item. item.1.place.file.0 < length files.now) list.now }
+    requires live_own { IsCond (C.sets conds.old) live.0 }
+    ensures expands { IfOk result (λ e. (c : List ℕ) → IsConfig (C.sets conds.old).arities c → (C.sets conds.old).has live.0 c ≡ true
+        → IsExpanded (C.sets conds.new) names.new files.now e (macros_at (C.sets conds.old) names.old table.now c) (map (seen names.old files.now) (items_at (C.sets conds.old) list.now c)) c) }
+    ensures others { IfOk result (λ e. (c : List ℕ) → IsConfig (C.sets conds.old).arities c → (C.sets conds.old).has live.0 c ≡ false → IsEmpty (C.sets conds.new) e c) }
+    ensures held { IfOk result (IsHeldAnswer (C.sets conds.new) names.new (length files.now)) }
+    ensures some { IfOk result (λ e. All (λ item. IsNever (C.sets conds.new) item.0.0 → ⊥) e.list) }
+    ensures stops { IfErr result (StopsBy (C.sets conds.old).arities limit) }
+
+    // at every outcome
+    ensures keeps { Keeps (C.sets conds.old) (C.sets conds.new) }
+    ensures names { Extends names.old names.new }
+    ensures table { IsTable (C.sets conds.new) names.new table.now }
+    ensures still { (c text : List ℕ) → IsConfig (C.sets conds.old).arities c → macros_at (C.sets conds.new) names.new table.now c text ≡ macros_at (C.sets conds.old) names.old table.now c text }
+{
+    let mut expansion = started(alloc, list, live)?;
+    expansion.run(conds, table, names, files, limit)?;
+    let expanded = finished(expansion)?;
+    Ok(expanded)
+}
+
+/// The expansion of a list before its first turn.
+fn started(alloc: Global, list: &Guarded<Token>, live: Cond) -> Result<Expansion, OutOfMemory>
+    ensures untouched { IfOk result IsUntouched }
+    ensures live { IfOk result (λ e. e.refusals.live ≡ live) }
+    ensures tokens { IfOk result (λ e. map (λ item. (item.0, item.1.token)) e.top.work ≡ list.now) }
+    ensures unhidden { IfOk result (λ e. All (λ item. set_at e.sets item.1.hide.0 ≡ []) e.top.work) }
+    ensures held { IfOk result (λ e. (names : List (List ℕ)) → All (λ item. IsHeld names item.1) list.now → All (λ item. IsHeldHidden names e.sets item.1) e.top.work) }
+{
+    let sets = HideSets::new(alloc)?;
+    let items = unhidden(alloc, &sets, list)?;
+    let mut work = WorkList::new(alloc);
+    work.put_first(&items)?;
+    Ok(Expansion {
+        alloc,
+        sets,
+        refusals: Refusals {
+            live,
+            faults: Vec::new(alloc),
+        },
+        top: Frame {
+            work,
+            out: Guarded::new(alloc)?,
+            calls: Vec::new(alloc),
+        },
+        below: Vec::new(alloc),
+    })
+}
+
+/// The tokens of a list, which hide no name.
+fn unhidden(
+    alloc: Global,
+    sets: &HideSets,
+    list: &Guarded<Token>,
+) -> Result<Vec<(Cond, Hidden)>, OutOfMemory>
+    ensures tokens { IfOk result (λ made. map (λ item. (item.0, item.1.token)) made.items ≡ list.now) }
+    ensures unhidden { IfOk result (λ made. All (λ item. set_at sets.now item.1.hide.0 ≡ []) made.items) }
+    ensures held { IfOk result (λ made. (names : List (List ℕ)) → All (λ item. IsHeld names item.1) list.now → All (λ item. IsHeldHidden names sets.now item.1) made.items) }
+{
+    let mut items = Vec::new(alloc);
+    for index in 0..list.len() {
+        let (cond, token) = list.item(index);
+        items.push((cond, Hidden::new(sets, *token)))?;
+    }
+    Ok(items)
+}
+
+/// What the list has become, without hide sets.
+fn finished(expansion: Expansion) -> Result<Expanded, OutOfMemory>
+    ensures list { IfOk result (λ e. e.list ≡ map (λ item. (item.0, item.1.token)) expansion.top.out) }
+    ensures faults { IfOk result (λ e. e.faults ≡ expansion.refusals.faults) }
+{
+    let mut list = Guarded::new(expansion.alloc)?;
+    for index in 0..expansion.top.out.len() {
+        let (cond, hidden) = expansion.top.out.item(index);
+        list.push(cond, hidden.token)?;
+    }
+    Ok(Expanded {
+        list,
+        faults: expansion.refusals.faults,
+    })
+}
