@@ -14,9 +14,11 @@ use Rattle.c11_tokens.specs.Lex.{Lexed}
 use Rattle.c11_directives.specs.Lines.{Line, hash_of, conditional_of, Group, Branches, empty, plain, section, closing, otherwise, alternative, Tree}
 use Rattle.sc_model.specs.Outside.{Files, largest_file}
 use Rattle.sc_model.specs.Fault.{Fault, first_place, fault_at}
-use Rattle.c11_directives.specs.Pre.{Context, State, place_in, put_out, Becomes, unexpanded, Closes, closed, refused, RefusedAt, operand_of, Decides, if_defined, if_undefined, no_name, expression, with_macro, Defines, fresh, again, redefined, undefined, is_barrier, is_ignored, is_refused, behind_name, Changes, ignored, not_carried_out, defines, defines_nothing, undefines, with_macros, Steps, text, null, stopped, changed, not_changed, Walks, done, line, line_stops, taken, taken_stops, passed, passed_stops, head_stops, WalksBranches, none_taken, last_taken, later_taken, later_passed, later_stops, File, Searches, inside, file_lines, Enters, Includes, output_of, Pre}
+use Rattle.c11_directives.specs.Pre.{Context, State, place_in, put_out, Closes, closed, refused, RefusedAt, operand_of, Decides, if_defined, if_undefined, no_name, expression, with_macro, Defines, fresh, again, redefined, undefined, is_barrier, is_ignored, is_refused, behind_name, Changes, ignored, not_carried_out, defines, defines_nothing, undefines, with_macros, Steps, text, null, stopped, changed, not_changed, Walks, done, line, line_stops, taken, taken_stops, passed, passed_stops, head_stops, WalksBranches, none_taken, last_taken, later_taken, later_passed, later_stops, File, Searches, inside, file_lines, Enters, Includes, output_of, Pre}
 use Rattle.sc_model.specs.Space.{Space}
 use Rattle.c11_macros.specs.Macros.{Definition, Macros}
+use Rattle.c11_macros.specs.Text.{TextExpands, text_of_answer}
+use Rattle.c11_macros.proofs.OneAnswer.{one}
 use Rattle.sc_model.specs.Token.{Position, Place, Token}
 use Rattle.c11_tokens.proofs.LexLaws.{lexes-unique}
 use Rattle.c11_directives.proofs.NestLaws.{tree-unique}
@@ -52,17 +54,17 @@ module _ {A B E F : Type 0} {told : E → F} {R : Result A E → Type 0} {S : A 
 abbrev same : Fault → Fault
 same fault = fault
 
-becomes-is : {macros : Macros} {run : List Token} {r : Result (List Token) Fault} → Becomes macros run r → r ≡ Ok run
-becomes-is unexpanded = refl
+text-sole : {macros : Macros} {text : List Token} {r : Result (List Token) Fault} → TextExpands macros text r → Sole (TextExpands macros text) r
+text-sole d s e = d.is ∙ (ap text_of_answer (one d.expands e.answer e.expands).answer ∙ sym e.is)
 
 closes-sole : {s : State} {r : Result State Fault} → Closes s r → Sole (Closes s) r
 closes-sole {s} (closed output b) _ (closed output' b') =
-    let oks : Ok output ≡ Ok output' = becomes-is b ∙ sym (becomes-is b') in
-    let one : output ≡ output' = cc in
-    ap (λ ts. Ok (put_out s ts)) one
-closes-sole (closed output b) _ (refused fault b') = let first = becomes-is b in let second = becomes-is b' in cc
-closes-sole (refused fault b) _ (closed output b') = let first = becomes-is b in let second = becomes-is b' in cc
-closes-sole (refused fault b) _ (refused fault' b') = let first = becomes-is b in let second = becomes-is b' in cc
+    let oks : Ok output ≡ Ok output' = text-sole b (Ok output') b' in
+    let outputs : output ≡ output' = cc in
+    ap (λ ts. Ok (put_out s ts)) outputs
+closes-sole (closed output b) _ (refused fault b') = let other = text-sole b (Err fault) b' in cc
+closes-sole (refused fault b) _ (closed output b') = let other = text-sole b (Ok output) b' in cc
+closes-sole (refused fault b) _ (refused fault' b') = let errs = text-sole b (Err fault') b' in cc
 
 -- the refusal of a directive, which has a first token
 abbrev refusal : State → Line → Cause → Fault

@@ -14,6 +14,7 @@ use Rattle.sc_model.specs.Outside.{Files, largest_file}
 use Rattle.sc_model.specs.Space.{Space}
 use Rattle.c11_macros.specs.Defines.{Defined, is_protected, reads}
 use Rattle.c11_macros.specs.Macros.{Definition, Macros, initial_macros}
+use Rattle.c11_macros.specs.Text.{TextExpands}
 use Rattle.sc_model.specs.Bytes.{same_bytes}
 use Rattle.sc_model.specs.Token.{Position, Place, Lexeme, Token, in_file}
 
@@ -46,10 +47,6 @@ pub record State : Type 0 where
 abbrev pub place_in : State → Token → Place
 place_in s t = t.place
 
--- What a run becomes. Its tokens stay as they are.
-pub data Becomes (macros : Macros) (run : List Token) : Result (List Token) Fault → Type 0 where
-  unexpanded : Becomes macros run (Ok run)
-
 -- the line is text
 abbrev pub with_text : State → Line → State
 with_text s line = record s { run = s.run ++ line.tokens }
@@ -58,10 +55,10 @@ with_text s line = record s { run = s.run ++ line.tokens }
 abbrev pub put_out : State → List Token → State
 put_out s output = record s { run = []; output = s.output ++ output }
 
--- a barrier closes the run, which is put out as what it becomes
+-- a barrier closes the run, which is put out as what it expands to
 pub data Closes (s : State) : Result State Fault → Type 0 where
-  closed : (output : List Token) → Becomes s.macros s.run (Ok output) → Closes s (Ok (put_out s output))
-  refused : (fault : Fault) → Becomes s.macros s.run (Err fault) → Closes s (Err fault)
+  closed : (output : List Token) → TextExpands s.macros s.run (Ok output) → Closes s (Ok (put_out s output))
+  refused : (fault : Fault) → TextExpands s.macros s.run (Err fault) → Closes s (Err fault)
 
 -- a refusal at the # of a directive
 pub record RefusedAt (s : State) (line : Line) (cause : Cause) (fault : Fault) : Type 0 where
