@@ -1,32 +1,34 @@
 -- That the walk of a file's lines is the ordinary one.
-use Rattle.std.proofs.Common.{◌≡◌, ℕ, ◌<◌, List, [], ◌++◌, map, Option, Some, None, Ok, Err, refl, sym, ap, ◌∙◌, subst}
-use Rattle.std.specs.Option.{option_to_list}
-use Rattle.std.specs.Prelude.{length, is_none}
+use Rattle.std.proofs.Common.{◌≡◌, ℕ, ◌<◌, List, [], Option, Some, None, Result, Ok, Err, refl, sym, subst, ◌∙◌}
+use Rattle.std.specs.Prelude.{length}
 use Rattle.sc_prep.specs.declared.prepared.Prepared.{Prepared}
-use Rattle.sc_prep.specs.Machine.{closing_run, run, start}
-use Rattle.sc_prep.specs.Simulates.{IsOutcomeOf}
+use Rattle.sc_prep.specs.Machine.{closing_run, RunExpands, Runs, start}
+use Rattle.sc_prep.specs.Simulates.{IsBegun, IsOutcomeOf, Ends}
 use Rattle.sc_prep.specs.Preprocesses.{IsOrdinary, IsRefused}
-use Rattle.sc_prep.proofs.Machine.{HaveHashes, given, follows}
-use Rattle.sc_guarded.specs.Items.{items_at, faults_at, seen_fault}
-use Rattle.sc_base.specs.Seen.{seen}
+use Rattle.sc_prep.proofs.Machine.{HaveHashes, after, given, inert_closing, follows}
 use Rattle.c11_tokens.specs.Lex.{Lexed}
 use Rattle.c11_directives.specs.Lines.{Line, Group, IsTree, Tree}
 use Rattle.sc_model.specs.Outside.{Files, largest_file}
 use Rattle.sc_model.specs.Fault.{Fault, first_place}
-use Rattle.c11_directives.specs.Pre.{State, Walks, closed, unexpanded, File, found, file_lines, Enters, stopped, walked, Includes, entered, context_of, initial_state, Pre}
+use Rattle.c11_directives.specs.Pre.{State, Walks, put_out, closed, refused, File, found, file_lines, Enters, stopped, walked, Includes, entered, context_of, initial_state, Pre}
 use Rattle.sc_model.specs.Sets.{Sets}
 use Rattle.sc_model.specs.Space.{Space}
-use Rattle.sc_model.specs.Token.{Lexeme}
+use Rattle.sc_model.specs.Token.{Lexeme, Token}
+use Rattle.sc_model.specs.Growth.{Extends}
+use Rattle.c11_macros.specs.Macros.{initial_macros}
+use Rattle.sc_table.specs.declared.table.MacroTable.{MacroTable}
+use Rattle.sc_table.specs.Table.{IsTable, macros_at}
+use Rattle.sc_table.proofs.Growth.{macros_at-Extends}
 
 -- what stands at a configuration that is refused
 pub refused-ordinary : (s : Sets) (names files : List (List ℕ)) (p : Prepared) (space : Space) (outside : Files) (main config : List ℕ) (fault : Fault)
     → ((s : State) → Includes (context_of space outside) main (first_place main) s (Err fault))
     → IsRefused s names files p fault config → IsOrdinary s names files p (Pre space outside main config) config
-refused-ordinary s names files p space outside main config fault includes refused = record {
+refused-ordinary s names files p space outside main config fault includes is = record {
   answer = Err fault;
   preprocessed = record { end = Err fault; walked = includes (initial_state space main config); is = refl };
-  stands = refused.faults;
-  live = refused.live;
+  stands = is.faults;
+  live = is.live;
 }
 
 module _ (space : Space) (outside : Files) (main bytes : List ℕ) where
@@ -40,39 +42,54 @@ module _ (space : Space) (outside : Files) (main bytes : List ℕ) where
 
     module _ (s : Sets) (names files : List (List ℕ)) (config : List ℕ) (lexemes : List Lexeme) (group : Group) (small : largest_file < length bytes → ⊥)
         (lexed : Lexed bytes (Ok lexemes)) (tree : Tree (file_lines (context_of space outside) main_file lexemes) (Ok group)) where
+      -- the last run is closed at the end
       ends_ordinary : (p : Prepared) (end : State) (fault : Option Fault) → Walks (context_of space outside) group (initial_state space main config) (given end fault)
-          → map (seen names files) (items_at s p.list config) ≡ end.output ++ end.run
-          → map (seen_fault files) (faults_at s p.faults.items config) ≡ option_to_list fault
-          → s.has p.live.0 config ≡ is_none fault
+          → (r : Result (List Token) Fault) → RunExpands (after [] end fault) r → IsOutcomeOf s names files p config (closing_run (after [] end fault) r)
           → IsOrdinary s names files p (Pre space outside main config) config
-      ends_ordinary p end None walks items faults live = record {
-        answer = Ok (end.output ++ end.run);
+      ends_ordinary p end None walks (Ok output) expands outcome = record {
+        answer = Ok (put_out end output).output;
         preprocessed = record {
-          end = Ok (closing_run end);
-          walked = enters-main (initial_state space main config) (walked lexemes group end small lexed tree walks (closed end.run unexpanded));
+          end = Ok (put_out end output);
+          walked = enters-main (initial_state space main config) (walked lexemes group end small lexed tree walks (closed output (expands refl)));
           is = refl;
         };
-        stands = (items, faults);
-        live = live;
+        stands = (outcome.output refl, outcome.fault);
+        live = outcome.live;
       }
-      ends_ordinary p end (Some fault) walks items faults live = record {
+      ends_ordinary p end None walks (Err fault) expands outcome = record {
         answer = Err fault;
         preprocessed = record {
           end = Err fault;
-          walked = enters-main (initial_state space main config) (stopped lexemes group fault small lexed tree walks);
+          walked = enters-main (initial_state space main config) (walked lexemes group end small lexed tree walks (refused fault (expands refl)));
           is = refl;
         };
-        stands = faults;
-        live = live;
+        stands = outcome.fault;
+        live = outcome.live;
       }
+      ends_ordinary p end (Some fault) walks r expands outcome =
+          let same = subst (IsOutcomeOf s names files p config) (inert_closing (after [] end (Some fault)) r refl) outcome in
+          record {
+            answer = Err fault;
+            preprocessed = record {
+              end = Err fault;
+              walked = enters-main (initial_state space main config) (stopped lexemes group fault small lexed tree walks);
+              is = refl;
+            };
+            stands = same.fault;
+            live = same.live;
+          }
 
-      -- what the machine gives on the group's lines
+      -- what the machine gives on the group's lines, whose last run is closed at the end
       pub outcome-ordinary : (p : Prepared) (lines : List Line) → HaveHashes lines → IsTree lines group
-          → IsOutcomeOf s names files p config (run (start (initial_state space main config)) lines)
-          → IsOrdinary s names files p (Pre space outside main config) config
-      outcome-ordinary p lines have is_tree outcome =
+          → Ends s names files p config (initial_state space main config) lines → IsOrdinary s names files p (Pre space outside main config) config
+      outcome-ordinary p lines have is_tree ends =
           let first = initial_state space main config in
-          let f = follows (context_of space outside) group is_tree.grouped (subst HaveHashes (sym is_tree.whole) have) first in
-          let ran = ap (run (start first)) (sym is_tree.whole) ∙ f.machine [] in
-          ends_ordinary p f.end f.fault f.walks (outcome.output ∙ ap (λ m. m.state.output ++ m.state.run) ran)
-          (outcome.fault ∙ ap (λ m. option_to_list m.fault) ran) (outcome.live ∙ ap (λ m. is_none m.fault) ran)
+          let whole = subst (λ ls. Runs (start first) ls ends.end) (sym is_tree.whole) ends.runs in
+          let e = follows (context_of space outside) group is_tree.grouped (subst HaveHashes (sym is_tree.whole) have) first [] ends.end whole in
+          ends_ordinary p e.end e.fault e.walks ends.answer (subst (λ m. RunExpands m ends.answer) e.is ends.expands)
+          (subst (λ m. IsOutcomeOf s names files p config (closing_run m ends.answer)) e.is ends.outcome)
+
+-- the macros of a table that was made from a space are its first ones
+pub begins-as : {s : Sets} {names more : List (List ℕ)} {table : MacroTable} (space : Space) (main config : List ℕ) → Extends names more → IsTable s names table
+    → ((name : List ℕ) → macros_at s names table config name ≡ initial_macros space config name) → IsBegun s more table config (initial_state space main config)
+begins-as space main config grows is initial = record { macros = λ name. macros_at-Extends grows is config name ∙ initial name; output = refl; run = refl }

@@ -1,6 +1,12 @@
+pub mod CloseMoves
+pub mod FileTokens
 pub mod FileWalk
+pub mod Held
 pub mod LineSteps
 pub mod Machine
 pub mod Passing
-pub mod Printing
+pub mod Plain
+pub mod PlainRuns
+pub mod RunLemmas
+pub mod TakeLine
 pub mod WalkMoves

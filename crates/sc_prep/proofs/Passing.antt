@@ -1,5 +1,5 @@
 -- Lines that are passed over where a machine doesn't act leave it as it is.
-use Rattle.std.proofs.Common.{◌≡◌, ℕ, ◌+◌, ◌-◌, take, ◌<◌, ◌≤◌, ◌&&◌, not, Bool, true, false, List, [], ◌∷◌, length, Option, Some, None, get_or, refl, sym, ap, ◌∙◌, inl, inr, arith}
+use Rattle.std.proofs.Common.{◌≡◌, ℕ, ◌+◌, ◌-◌, take, ◌<◌, ◌≤◌, ◌&&◌, not, Bool, true, false, List, ◌∷◌, length, Option, Some, None, get_or, refl, sym, ap, ◌∙◌, subst, inl, inr, arith}
 use Rattle.std.proofs.Math.Seq.{take-add}
 use Rattle.std.proofs.lemmas.Bool.{cases_lt}
 use Rattle.std.proofs.lemmas.List.{take_more, get_or_past}
@@ -15,9 +15,9 @@ use Rattle.sc_lines.specs.Branches.{begins_branch, ends_branch, IsNextBranch, Cl
 use Rattle.sc_lines.specs.Judges.{no_line, line_at}
 use Rattle.sc_lines.proofs.Judging.{same_at, same_length}
 use Rattle.sc_model.specs.declared.cause.Cause.TheVariants.{BadDirective}
-use Rattle.sc_prep.specs.Machine.{Machine, acts, turned, opened, next_branch, ended, refusing, step, run}
+use Rattle.sc_prep.specs.Machine.{Machine, acts, turned, opened, next_branch, ended, refusing, step, Takes, Runs}
 use Rattle.sc_prep.specs.Passes.{StandFor, EndsAt, PassesOver, nothing, whole_group, plain_line, whole_section}
-use Rattle.sc_prep.proofs.Machine.{run-append, step_is, inert, inert_refusing, inert_plain, inert_opens, and_false}
+use Rattle.sc_prep.proofs.Machine.{runs-join, runs-once, conditional_taken, step_is, inert_run, inert_taken, inert_refusing, inert_plain, inert_opens, and_false}
 
 -- ---- the machine
 
@@ -55,63 +55,57 @@ module _ (ms : List Line) where
 
   module _ (m : Machine) where
     -- the machine before the line of a number
-    abbrev before : ℕ → Machine
-    before i = run m (take i ms)
+    abbrev Before : ℕ → Machine → Type 0
+    Before i n = Runs m (take i ms) n
 
-    pub one-more : (i : ℕ) → i < length ms → before (i + 1) ≡ step (before i) (line_at ms i)
-    one-more i within = ap (run m) (take_more ms i no_line within) ∙ run-append m (take i ms) (line_at ms i ∷ [])
+    pub one-more : (i : ℕ) {n o : Machine} → i < length ms → Before i n → Takes n (line_at ms i) o → Before (i + 1) o
+    one-more i {o = o} within before taking = subst (λ ls. Runs m ls o) (sym (take_more ms i no_line within)) (runs-join (take i ms) before (runs-once taking))
 
-    group-passed : (group : Group) (i j : ℕ) → i ≤ j → IsTree (slice_range ms i j) group → acts (before i) ≡ false → before j ≡ before i
-    group-passed group i j up tree inactive =
+    group-passed : (group : Group) (i j : ℕ) (n : Machine) → i ≤ j → IsTree (slice_range ms i j) group → acts n ≡ false → Before i n → Before j n
+    group-passed group i j n up tree inactive before =
         let size : j ≡ i + (j - i) = omega (arith, up) in
-        ap before size
-        ∙ (ap (run m) (take-add i (j - i) ms)
-        ∙ (run-append m (take i ms) (slice_range ms i j)
-        ∙ (ap (run (before i)) (sym tree.whole) ∙ inert group tree.grouped (before i) inactive)))
+        let still : Runs n (slice_range ms i j) n = subst (λ ls. Runs n ls n) tree.whole (inert_run group tree.grouped n inactive) in
+        subst (λ k. Before k n) (sym size) (subst (λ ls. Runs m ls n) (sym (take-add i (j - i) ms)) (runs-join (take i ms) before still))
 
-    branch-passed : (i j : ℕ) → IsNextBranch ms i j → acts (before (i + 1)) ≡ false → before j ≡ before (i + 1)
-    branch-passed i j next inactive =
+    branch-passed : (i j : ℕ) (n : Machine) → IsNextBranch ms i j → acts n ≡ false → Before (i + 1) n → Before j n
+    branch-passed i j n next inactive before =
         let after = next.after in
-        group-passed next.between.0 (i + 1) j (omega (arith, after)) next.between.1 inactive
+        group-passed next.between.0 (i + 1) j n (omega (arith, after)) next.between.1 inactive before
 
     -- the branches of a section
-    branches-passed : {i e : ℕ} → ClosesAt ms i e → (n : Machine) (a u : Bool) (ss : List (Bool × Bool)) → before (i + 1) ≡ n → n.sections ≡ (a, u) ∷ ss
-        → acts n ≡ false → (u && is_none n.fault) ≡ false → before (e + 1) ≡ turned n a ss
-    branches-passed {i} {e} (last_branch next endif) n a u ss at s inactive later =
-        one-more e (ends-within e next.ends)
-        ∙ (ap (λ k. step k (line_at ms e)) (branch-passed i e next (ap acts at ∙ inactive) ∙ at)
-        ∙ (step_is n (line_at ms e) endif ∙ ap (ended n) s))
-    branches-passed {i} {e} (more_branches {j = j} next closes) n a u ss at s inactive later =
-        let begins = closes-begins closes in
+    branches-passed : {i e : ℕ} → ClosesAt ms i e → (n : Machine) (a u : Bool) (ss : List (Bool × Bool)) → Before (i + 1) n → n.sections ≡ (a, u) ∷ ss
+        → acts n ≡ false → (u && is_none n.fault) ≡ false → Before (e + 1) (turned n a ss)
+    branches-passed {i} {e} (last_branch next endif) n a u ss before s inactive later =
+        one-more e (ends-within e next.ends) (branch-passed i e n next inactive before)
+        (subst (Takes n (line_at ms e)) (step_is n (line_at ms e) endif ∙ ap (ended n) s) (conditional_taken endif))
+    branches-passed {i} {e} (more_branches {j = j} next closes) n a u ss before s inactive later =
         let turn = turned n u ((a, false) ∷ ss) in
         branches-passed closes turn a false ss
-        (one-more j (ends-within j next.ends)
-        ∙ (ap (λ k. step k (line_at ms j)) (branch-passed i j next (ap acts at ∙ inactive) ∙ at)
-        ∙ branch-inert n (line_at ms j) _ a u ss refl begins next.ends s later))
+        (one-more j (ends-within j next.ends) (branch-passed i j n next inactive before)
+        (subst (Takes n (line_at ms j)) (branch-inert n (line_at ms j) _ a u ss refl (closes-begins closes) next.ends s later) (inert_taken n (line_at ms j) inactive)))
         refl later refl
 
-    section-passed : (i e : ℕ) → i < length ms → Opens (line_at ms i) → ClosesAt ms i e → acts (before i) ≡ false → before (e + 1) ≡ before i
-    section-passed i e within opens closes inactive =
-        let n = before i in
+    section-passed : (i e : ℕ) (n : Machine) → i < length ms → Opens (line_at ms i) → ClosesAt ms i e → acts n ≡ false → Before i n → Before (e + 1) n
+    section-passed i e n within opens closes inactive before =
         let o = inert_opens n (line_at ms i) opens inactive in
-        branches-passed closes (opened n o.test) n.active (n.active && not o.test) n.sections (one-more i within ∙ o.opens) refl
+        branches-passed closes (opened n o.test) n.active (n.active && not o.test) n.sections
+        (one-more i within before (subst (Takes n (line_at ms i)) o.opens (inert_taken n (line_at ms i) inactive))) refl
         (and_false n.active o.test (is_none n.fault) inactive) (and_false n.active (not o.test) (is_none n.fault) inactive)
 
-    pub over-passed : (i : ℕ) {j : ℕ} → PassesOver ms i j → acts (before i) ≡ false → before j ≡ before i
-    over-passed i nothing inactive = refl
-    over-passed i {j} (whole_group group up tree) inactive = group-passed group i j up tree inactive
-    over-passed i (plain_line {j} over within none) inactive =
-        let same = over-passed i over inactive in
-        one-more j within ∙ (ap (λ n. step n (line_at ms j)) same ∙ (step_is (before i) (line_at ms j) none ∙ inert_plain (before i) (line_at ms j) inactive))
-    over-passed i (whole_section {j} {e} over within opens closes) inactive =
-        let same = over-passed i over inactive in
-        section-passed j e within opens closes (ap acts same ∙ inactive) ∙ same
+    pub over-passed : (i : ℕ) {j : ℕ} (n : Machine) → PassesOver ms i j → acts n ≡ false → Before i n → Before j n
+    over-passed i n nothing inactive before = before
+    over-passed i {j} n (whole_group group up tree) inactive before = group-passed group i j n up tree inactive before
+    over-passed i n (plain_line {j} over within none) inactive before =
+        let same = step_is n (line_at ms j) none ∙ inert_plain n (line_at ms j) inactive in
+        one-more j within (over-passed i n over inactive before) (subst (Takes n (line_at ms j)) same (inert_taken n (line_at ms j) inactive))
+    over-passed i n (whole_section {j} {e} over within opens closes) inactive before =
+        section-passed j e n within opens closes inactive (over-passed i n over inactive before)
 
     -- the machine before the next line that it takes
-    pub next-passed : (i next : ℕ) (is_passed : Bool) → MatchBool is_passed (EndsAt ms (i + 1) next) (next ≡ i + 1) → (is_passed ≡ true → acts (before (i + 1)) ≡ false)
-        → before next ≡ before (i + 1)
-    next-passed i next true goes inactive = over-passed (i + 1) goes.over (inactive refl)
-    next-passed i next false goes inactive = ap before goes
+    pub next-passed : (i next : ℕ) (is_passed : Bool) (n : Machine) → MatchBool is_passed (EndsAt ms (i + 1) next) (next ≡ i + 1) → (is_passed ≡ true → acts n ≡ false)
+        → Before (i + 1) n → Before next n
+    next-passed i next true n goes inactive before = over-passed (i + 1) n goes.over (inactive refl) before
+    next-passed i next false n goes inactive before = subst (λ k. Before k n) (sym goes) before
 
   -- ---- the numbers of lines
 

@@ -1,5 +1,5 @@
 -- What one move of the walk of all configurations does at each of them.
-use Rattle.std.proofs.Common.{◌≡◌, ℕ, ◌&&◌, not, Bool, true, false, List, [], ◌∷◌, ◌++◌, map, reverse, Option, Some, None, Vec, Global, append-nil, append_assoc, refl, sym, ap, ◌∙◌, subst}
+use Rattle.std.proofs.Common.{◌≡◌, ℕ, ◌&&◌, not, Bool, true, false, List, [], ◌∷◌, ◌++◌, map, reverse, Option, Some, None, Vec, Global, append-nil, refl, sym, ap, ◌∙◌, subst}
 use Rattle.std.proofs.lemmas.List.{reverse-append, map-append}
 use Rattle.std.proofs.lemmas.List.Elements.{All-head, All-tail, All-push, All-pop, All-append, All-map, All-weaker}
 use Rattle.std.specs.Option.{option_to_list}
@@ -8,35 +8,35 @@ use Rattle.sc_model.specs.declared.cause.Cause.{Cause}
 use Rattle.sc_table.specs.declared.table.MacroTable.{MacroTable}
 use Rattle.sc_table.specs.Change.{IsOther}
 use Rattle.sc_table.specs.Table.{IsTable, IsStill, macros_at}
-use Rattle.sc_table.proofs.Growth.{IsTable-Keeps, macros_at-Extends, macros_at-Keeps}
+use Rattle.sc_table.proofs.Growth.{IsTable-Keeps, macros_at-Keeps}
 use Rattle.sc_base.specs.declared.fault.Fault as base
 use Rattle.sc_base.specs.declared.id.Cond.{Cond}
 use Rattle.sc_prep.specs.declared.walk.Section.{Section}
 use Rattle.sc_prep.specs.declared.walk.Walk.{Walk}
-use Rattle.sc_prep.specs.Machine.{Machine, acts, acting, opened, next_branch, ended, turned, refusing, refusing_if, refusal, acting_unless, changing, closing_run, defined_as, defined_over, is_taken, plain_by}
-use Rattle.sc_prep.specs.Simulates.{section_at, IsBegun, Simulates, OwnsSection, Owns, SimulatesStep}
+use Rattle.sc_prep.specs.Machine.{Machine, acts, acting, opened, next_branch, ended, turned, refusing, refusing_if, refusal, acting_unless, changing, defined_as, defined_over, is_taken, plain_by}
+use Rattle.sc_prep.specs.Closes.{RefusesEach, has_none}
+use Rattle.sc_prep.specs.Simulates.{section_at, Simulates, OwnsSection, Owns, SimulatesStep}
 use Rattle.sc_lines.specs.Nests.{seen_line}
 use Rattle.std.specs.Map.{update}
-use Rattle.std.specs.Prelude.{◌↔◌, cond, Result, Ok, Err}
+use Rattle.std.specs.Prelude.{◌↔◌, cond, Ok, Err}
 use Rattle.sc_model.specs.declared.cause.Cause.TheVariants.{BadDirective, Redefined, ProtectedName}
 use Rattle.sc_model.specs.Bytes.{same_bytes}
 use Rattle.c11_directives.specs.declared.directive.Directive.{Directive}
 use Rattle.c11_directives.specs.declared.directive.Directive.TheVariants as directive
-use Rattle.c11_directives.specs.Pre.{State, initial_state, with_text, undefined, with_macro, without_macro, with_macros, is_refused}
+use Rattle.c11_directives.specs.Pre.{State, with_text, undefined, with_macro, without_macro, with_macros, is_refused}
 use Rattle.c11_macros.specs.Defines.{Defined, is_protected}
 use Rattle.c11_macros.specs.Same.{same_definition}
 use Rattle.c11_macros.proofs.SameLaws.{same_definition-true, same_definition-false}
-use Rattle.c11_macros.specs.Macros.{Definition, Macros, initial_macros}
+use Rattle.c11_macros.specs.Macros.{Definition, Macros}
 use Rattle.c11_directives.specs.Lines.{Line}
 use Rattle.sc_guarded.proofs.ItemLemmas.{under, map-one, items_at-append, items_at-Keeps, items_at-under, faults_at-append, faults_at-Keeps}
 use Rattle.sc_guarded.specs.Items.{items_at, faults_at, seen_fault}
 use Rattle.sc_base.specs.declared.token.Token.{Token}
 use Rattle.sc_base.specs.Seen.{seen}
-use Rattle.sc_model.proofs.SetLemmas.{IsConfig-Keeps}
-use Rattle.sc_model.specs.Growth.{Extends}
-use Rattle.sc_model.specs.Space.{Space}
+use Rattle.sc_model.proofs.SetLemmas.{IsConfig-Keeps, IsConfig-kept}
 use Rattle.sc_model.specs.Sets.{Sets, IsConfig, IsCond, IsNever, Denotes, Keeps}
 use Rattle.sc_prep.proofs.Machine.{inert_acting, inert_changing}
+use Rattle.sc_prep.proofs.RunLemmas.{denotes-as, is_empty-one}
 
 map-reverse : {A B : Type 0} (f : A → B) (xs : List A) → map f (reverse xs) ≡ reverse (map f xs)
 map-reverse f [] = refl
@@ -58,6 +58,7 @@ module _ {old new : Sets} (keeps : Keeps old new) where
     group = keeps.own w.group.0 o.group;
     acting = keeps.own w.acting.0 o.acting;
     sections = All-weaker (OwnsSection old) (OwnsSection new) section-kept w.sections.items o.sections;
+    gathered = All-weaker (λ (item : Cond × Token). IsCond old item.0.0) (λ (item : Cond × Token). IsCond new item.0.0) (λ item own. keeps.own item.0.0 own) w.gathered o.gathered;
     prepared = record {
       list = All-weaker (λ (item : Cond × Token). IsCond old item.0.0) (λ (item : Cond × Token). IsCond new item.0.0) (λ item own. keeps.own item.0.0 own) w.prepared.list o.prepared.list;
       faults = All-weaker (λ (f : base.Fault). IsCond old f.cond.0) (λ (f : base.Fault). IsCond new f.cond.0) (λ f own. keeps.own f.cond.0 own) w.prepared.faults.items o.prepared.faults;
@@ -86,17 +87,12 @@ module _ {old new : Sets} (keeps : Keeps old new) where
     sections = sections-kept config listed w.sections.items owns.sections ∙ simulates.sections;
     prepared = record {
       live = keeps.at w.prepared.live.0 config owns.prepared.live listed ∙ simulates.prepared.live;
-      output = ap (map (seen names files)) (items_at-Keeps w.prepared.list config keeps owns.prepared.list listed) ∙ simulates.prepared.output;
+      output = λ none. ap (map (seen names files)) (items_at-Keeps w.prepared.list config keeps owns.prepared.list listed) ∙ simulates.prepared.output none;
       fault = ap (map (seen_fault files)) (faults_at-Keeps w.prepared.faults.items config keeps owns.prepared.faults listed) ∙ simulates.prepared.fault;
     };
+    run = λ none. ap (map (seen names files)) (items_at-Keeps w.gathered config keeps owns.gathered listed) ∙ simulates.run none;
     macros = λ name. macros_at-Keeps keeps is config name listed ∙ simulates.macros name;
   }
-
--- ---- the walk begins
-
-pub begins-as : {s : Sets} {names more : List (List ℕ)} {table : MacroTable} (space : Space) (main config : List ℕ) → Extends names more → IsTable s names table
-    → ((name : List ℕ) → macros_at s names table config name ≡ initial_macros space config name) → IsBegun s more table config (initial_state space main config)
-begins-as space main config grows is initial = record { macros = λ name. macros_at-Extends grows is config name ∙ initial name; empty = refl }
 
 -- ---- a section begins
 
@@ -113,6 +109,7 @@ begins names {old} {new} keeps w owns t group untaken acting sections items dg d
         group = dg.own;
         acting = dl.own;
         sections = subst (All (OwnsSection new)) (sym items) (All-push (OwnsSection new) w.sections.items (record { around = w.group; untaken = untaken }) kept.sections (record { around = kept.group; untaken = du.own }));
+        gathered = kept.gathered;
         prepared = kept.prepared;
       };
       table = IsTable-Keeps keeps;
@@ -129,6 +126,7 @@ begins names {old} {new} keeps w owns t group untaken acting sections items dg d
                 ∙ (ap (λ b. (b, new.has untaken.0 config) ∷ m.sections) same.active
                 ∙ ap (λ b. (m.active, b) ∷ m.sections) (du.at config now ∙ ap (λ b. b && not (t config)) simulates.active))));
             prepared = record { live = same.prepared.live; output = same.prepared.output; fault = same.prepared.fault };
+            run = same.run;
             macros = same.macros;
           };
     }
@@ -156,7 +154,7 @@ module _ {old new : Sets} (keeps : Keeps old new) (w : Walk) (owns : Owns old w)
   turns names group acting sections own dl owned next becomes =
       let kept = owns-kept keeps w owns in
       record {
-        owns = record { group = keeps.own group.0 own; acting = dl.own; sections = owned; prepared = kept.prepared };
+        owns = record { group = keeps.own group.0 own; acting = dl.own; sections = owned; gathered = kept.gathered; prepared = kept.prepared };
         table = IsTable-Keeps keeps;
         at = λ files config m listed is simulates.
             let same = simulates-kept keeps w owns names files config m listed is simulates in
@@ -166,6 +164,7 @@ module _ {old new : Sets} (keeps : Keeps old new) (w : Walk) (owns : Owns old w)
               acting = dl.at config (IsConfig-Keeps keeps listed) ∙ ap (λ b. old.has group.0 config && b) simulates.prepared.live;
               sections = refl;
               prepared = record { live = same.prepared.live; output = same.prepared.output; fault = same.prepared.fault };
+              run = same.run;
               macros = same.macros;
             });
       }
@@ -229,25 +228,35 @@ acts_none true true (Some y) e = cc
 acts_none true false f e = cc
 acts_none false a f e = cc
 
+none_before : {F : Type 0} (b : Bool) (f : Option F) (x : F) → (if b then Some x else f) ≡ None → f ≡ None
+none_before true f x none = absurd (cc)
+none_before false f x none = none
+
 -- a part of the configurations that take the line is refused at its #
 pub refuses : (names : List (List ℕ)) {old new : Sets} (keeps : Keeps old new) (w : Walk) (owns : Owns old w) (part : Cond) (t : List ℕ → Bool) (cause : Cause) (token : Token) (tokens : List Token)
-    (fault : base.Fault) (live acting : Cond) (faults : Vec base.Fault Global)
-    → Denotes old part.0 (λ c. t c && old.has w.acting.0 c)
-    → fault ≡ record { cond = part; cause = cause; place = token.place } → faults.items ≡ w.prepared.faults.items ++ fault ∷ []
-    → Denotes new live.0 (λ c. old.has w.prepared.live.0 c && not (t c && old.has w.acting.0 c)) → Denotes new acting.0 (λ c. old.has w.acting.0 c && not (t c && old.has w.acting.0 c))
-    → SimulatesStep names old w new (record w { acting = acting; prepared = record w.prepared { faults = faults; live = live } })
-    (λ files config m. refusing_if (t config) m (seen_line names files (token ∷ tokens)) cause)
-refuses names {old} {new} keeps w owns part t cause token tokens fault live acting faults dp is_fault items dl da =
+    (next : Walk) → Denotes old part.0 (λ c. t c && old.has w.acting.0 c)
+    → RefusesEach old w (record { cond = part; cause = cause; place = token.place } ∷ []) new next
+    → SimulatesStep names old w new next (λ files config m. refusing_if (t config) m (seen_line names files (token ∷ tokens)) cause)
+refuses names {old} {new} keeps w owns part t cause token tokens next dp refused =
     let IsOwn : base.Fault → Type 0 = λ f. IsCond new f.cond.0 in
+    let own : base.Fault = record { cond = part; cause = cause; place = token.place } in
+    let none : (c : List ℕ) → IsConfig new.arities c → has_none old (own ∷ []) c ≡ not (t c && old.has w.acting.0 c) =
+    λ c listed. sym (is_empty-one (old.has part.0 c) own) ∙ ap not (dp.at c (IsConfig-kept keeps listed)) in
+    let dl = denotes-as (λ c. old.has w.prepared.live.0 c && has_none old (own ∷ []) c) (λ c. old.has w.prepared.live.0 c && not (t c && old.has w.acting.0 c))
+    (λ c listed. ap (λ b. old.has w.prepared.live.0 c && b) (none c listed)) refused.live in
+    let da = denotes-as (λ c. old.has w.acting.0 c && has_none old (own ∷ []) c) (λ c. old.has w.acting.0 c && not (t c && old.has w.acting.0 c))
+    (λ c listed. ap (λ b. old.has w.acting.0 c && b) (none c listed)) refused.acting in
     let kept = owns-kept keeps w owns in
-    record {
+    subst (λ (v : Walk). SimulatesStep names old w new v (λ files config m. refusing_if (t config) m (seen_line names files (token ∷ tokens)) cause)) (sym refused.same)
+    (record {
       owns = record {
         group = kept.group;
         acting = da.own;
         sections = kept.sections;
+        gathered = kept.gathered;
         prepared = record {
           list = kept.prepared.list;
-          faults = subst (All IsOwn) (sym items) (All-push IsOwn w.prepared.faults.items fault kept.prepared.faults (subst IsOwn (sym is_fault) (keeps.own part.0 dp.own)));
+          faults = subst (All IsOwn) (sym refused.faults) (All-push IsOwn w.prepared.faults.items own kept.prepared.faults (keeps.own part.0 dp.own));
           live = dl.own;
         };
       };
@@ -256,7 +265,6 @@ refuses names {old} {new} keeps w owns part t cause token tokens fault live acti
           let now : IsConfig new.arities config = IsConfig-Keeps keeps listed in
           let same = simulates-kept keeps w owns names files config m listed is simulates in
           let x = refusal m.state (seen_line names files (token ∷ tokens)) cause in
-          let own : base.Fault = record { cond = part; cause = cause; place = token.place } in
           let at_part : new.has part.0 config ≡ (t config && acts m) = keeps.at part.0 config dp.own listed ∙ (dp.at config listed ∙ ap (λ b. t config && b) simulates.acting) in
           record {
             active = same.active;
@@ -265,18 +273,19 @@ refuses names {old} {new} keeps w owns part t cause token tokens fault live acti
             prepared = record {
               live = dl.at config now ∙ (ap (λ b. b && not (t config && old.has w.acting.0 config)) simulates.prepared.live
                   ∙ (ap (λ b. is_none m.fault && not (t config && b)) simulates.acting ∙ live_after (t config) m.active m.fault x));
-              output = same.prepared.output;
+              output = λ fault_none. same.prepared.output (none_before (t config && acts m) m.fault x fault_none);
               fault =
-                  ap (λ fs. map (seen_fault files) (faults_at new fs config)) (items ∙ ap (λ f. w.prepared.faults.items ++ f ∷ []) is_fault)
+                  ap (λ fs. map (seen_fault files) (faults_at new fs config)) refused.faults
                   ∙ (ap (map (seen_fault files)) (faults_at-append new w.prepared.faults.items (own ∷ []) config)
                   ∙ (map-append (seen_fault files) (faults_at new w.prepared.faults.items config) (faults_at new (own ∷ []) config)
                   ∙ (ap (λ fs. fs ++ map (seen_fault files) (faults_at new (own ∷ []) config)) same.prepared.fault
                   ∙ (ap (λ fs. option_to_list m.fault ++ fs) (map-one (seen_fault files) (new.has part.0 config) own ∙ ap (λ b. if b then seen_fault files own ∷ [] else []) at_part)
                   ∙ fault_after (t config && acts m) m.fault x (acts_none (t config) m.active m.fault)))));
             };
+            run = λ fault_none. same.run (none_before (t config && acts m) m.fault x fault_none);
             macros = same.macros;
           };
-    }
+    })
 
 refusing_none : (b : Bool) (m : Machine) (l : Line) (cause : Cause) → (b && acts m) ≡ false → refusing_if b m l cause ≡ m
 refusing_none b m l cause e = ap (λ c. record m { fault = if c then Some (refusal m.state l cause) else m.fault }) e
@@ -292,22 +301,26 @@ refuses-none names s w owns part t cause dp never line = record {
       subst (Simulates s names files w config) (sym (refusing_none (t config) m (seen_line names files line) cause inactive)) simulates;
 }
 
--- ---- tokens are put out
+-- ---- tokens are gathered
 
 chosen_end : {A B : Type 0} (f : A → B) (b : Bool) (xs ys : List A) → map f (xs ++ (if b then ys else [])) ≡ (if b then map f xs ++ map f ys else map f xs)
 chosen_end f true xs ys = map-append f xs ys
 chosen_end f false xs ys = ap (map f) (append-nil xs)
 
-text_after : (b : Bool) (s : State) (l : Line) → (if b then (s.output ++ s.run) ++ l.tokens else s.output ++ s.run) ≡ (if b then with_text s l else s).output ++ (if b then with_text s l else s).run
-text_after true s l = append_assoc s.output s.run l.tokens
+text_after : (b : Bool) (s : State) (l : Line) → (if b then s.run ++ l.tokens else s.run) ≡ (if b then with_text s l else s).run
+text_after true s l = refl
 text_after false s l = refl
+
+text_output : (b : Bool) (s : State) (l : Line) → s.output ≡ (if b then with_text s l else s).output
+text_output true s l = refl
+text_output false s l = refl
 
 text_macros : (b : Bool) (s : State) (l : Line) → (if b then with_text s l else s).macros ≡ s.macros
 text_macros true s l = refl
 text_macros false s l = refl
 
-pub puts : (names : List (List ℕ)) (s : Sets) (w : Walk) (owns : Owns s w) (tokens : List Token) (list : List (Cond × Token)) → list ≡ w.prepared.list ++ under w.acting tokens
-    → SimulatesStep names s w s (record w { prepared = record w.prepared { list = list } }) (λ files config m. acting m (λ state. with_text state (seen_line names files tokens)))
+pub puts : (names : List (List ℕ)) (s : Sets) (w : Walk) (owns : Owns s w) (tokens : List Token) (list : List (Cond × Token)) → list ≡ w.gathered ++ under w.acting tokens
+    → SimulatesStep names s w s (record w { gathered = list }) (λ files config m. acting m (λ state. with_text state (seen_line names files tokens)))
 puts names s w owns tokens list items =
     let IsOwn : Cond × Token → Type 0 = λ item. IsCond s item.0.0 in
     record {
@@ -315,11 +328,8 @@ puts names s w owns tokens list items =
         group = owns.group;
         acting = owns.acting;
         sections = owns.sections;
-        prepared = record {
-          list = subst (All IsOwn) (sym items) (All-append IsOwn w.prepared.list (under w.acting tokens) owns.prepared.list (All-map IsOwn (λ t. (w.acting, t)) tokens (λ k d h. owns.acting)));
-          faults = owns.prepared.faults;
-          live = owns.prepared.live;
-        };
+        gathered = subst (All IsOwn) (sym items) (All-append IsOwn w.gathered (under w.acting tokens) owns.gathered (All-map IsOwn (λ t. (w.acting, t)) tokens (λ k d h. owns.acting)));
+        prepared = owns.prepared;
       };
       table = λ is. is;
       at = λ files config m listed is simulates. record {
@@ -328,19 +338,20 @@ puts names s w owns tokens list items =
         sections = simulates.sections;
         prepared = record {
           live = simulates.prepared.live;
-          output =
-              ap (λ xs. map (seen names files) (items_at s xs config)) items
-              ∙ (ap (map (seen names files)) (items_at-append s w.prepared.list (under w.acting tokens) config ∙ ap (λ xs. items_at s w.prepared.list config ++ xs) (items_at-under s w.acting tokens config ∙ ap (λ b. if b then tokens else []) simulates.acting))
-              ∙ (chosen_end (seen names files) (acts m) (items_at s w.prepared.list config) tokens
-              ∙ (ap (λ xs. if acts m then xs ++ map (seen names files) tokens else xs) simulates.prepared.output
-              ∙ text_after (acts m) m.state (seen_line names files tokens))));
+          output = λ none. simulates.prepared.output none ∙ text_output (acts m) m.state (seen_line names files tokens);
           fault = simulates.prepared.fault;
         };
+        run = λ none.
+            ap (λ xs. map (seen names files) (items_at s xs config)) items
+            ∙ (ap (map (seen names files)) (items_at-append s w.gathered (under w.acting tokens) config ∙ ap (λ xs. items_at s w.gathered config ++ xs) (items_at-under s w.acting tokens config ∙ ap (λ b. if b then tokens else []) simulates.acting))
+            ∙ (chosen_end (seen names files) (acts m) (items_at s w.gathered config) tokens
+            ∙ (ap (λ xs. if acts m then xs ++ map (seen names files) tokens else xs) (simulates.run none)
+            ∙ text_after (acts m) m.state (seen_line names files tokens))));
         macros = λ name. simulates.macros name ∙ sym (ap (λ f. f name) (text_macros (acts m) m.state (seen_line names files tokens)));
       };
     }
 
--- where no configuration takes the line, nothing is put out
+-- where no configuration takes the line, nothing is gathered
 pub puts-none : (names : List (List ℕ)) (s : Sets) (w : Walk) → Owns s w → IsNever s w.acting.0 → (line : List Token)
     → SimulatesStep names s w s w (λ files config m. acting m (λ state. with_text state (seen_line names files line)))
 puts-none names s w owns never line = record {
@@ -353,42 +364,33 @@ puts-none names s w owns never line = record {
 
 -- ---- a directive that has no effect
 
-closing_after : (b : Bool) (s : State) → s.output ++ s.run ≡ (if b then closing_run s else s).output ++ (if b then closing_run s else s).run
-closing_after true s = sym (append-nil (s.output ++ s.run))
-closing_after false s = refl
-
-closing_macros : (b : Bool) (s : State) → (if b then closing_run s else s).macros ≡ s.macros
-closing_macros true s = refl
-closing_macros false s = refl
-
--- the machine closes its run, and the walk stays as it is
-closes : (names files : List (List ℕ)) (s : Sets) (w : Walk) (config : List ℕ) (m : Machine) → Simulates s names files w config m → Simulates s names files w config (acting m closing_run)
-closes names files s w config m simulates = record {
-  active = simulates.active;
-  acting = simulates.acting;
-  sections = simulates.sections;
-  prepared = record {
-    live = simulates.prepared.live;
-    output = simulates.prepared.output ∙ closing_after (acts m) m.state;
-    fault = simulates.prepared.fault;
-  };
-  macros = λ name. simulates.macros name ∙ sym (ap (λ f. f name) (closing_macros (acts m) m.state));
-}
-
--- a line that is no barrier, or one that has no effect
+-- a line that has no effect
 pub stays : (names : List (List ℕ)) (s : Sets) (w : Walk) → Owns s w → SimulatesStep names s w s w (λ files config m. m)
 stays names s w owns = record { owns = owns; table = λ is. is; at = λ files config m listed is simulates. simulates }
 
-pub closes-run : (names : List (List ℕ)) (s : Sets) (w : Walk) → Owns s w → SimulatesStep names s w s w (λ files config m. acting m closing_run)
-closes-run names s w owns = record { owns = owns; table = λ is. is; at = λ files config m listed is simulates. closes names files s w config m simulates }
+same_state : (b : Bool) (m : Machine) → m ≡ record m { state = if b then m.state else m.state }
+same_state true m = refl
+same_state false m = refl
+
+-- a line behind which the macros are as they were
+pub ignores : (names : List (List ℕ)) (s : Sets) (w : Walk) → Owns s w → SimulatesStep names s w s w (λ files config m. acting m (λ state. with_macros state m.state.macros))
+ignores names s w owns = record {
+  owns = owns;
+  table = λ is. is;
+  at = λ files config m listed is simulates. subst (Simulates s names files w config) (same_state (acts m) m) simulates;
+}
 
 -- ---- the macros change
 
-changed_run : (b : Bool) (s : State) (macros : Macros) → (if b then with_macros (closing_run s) macros else s).output ++ (if b then with_macros (closing_run s) macros else s).run ≡ s.output ++ s.run
-changed_run true s macros = append-nil (s.output ++ s.run)
+changed_output : (b : Bool) (s : State) (macros : Macros) → s.output ≡ (if b then with_macros s macros else s).output
+changed_output true s macros = refl
+changed_output false s macros = refl
+
+changed_run : (b : Bool) (s : State) (macros : Macros) → s.run ≡ (if b then with_macros s macros else s).run
+changed_run true s macros = refl
 changed_run false s macros = refl
 
-changed_macros : (b : Bool) (s : State) (macros : Macros) (name : List ℕ) → (if b then macros name else s.macros name) ≡ (if b then with_macros (closing_run s) macros else s).macros name
+changed_macros : (b : Bool) (s : State) (macros : Macros) (name : List ℕ) → (if b then macros name else s.macros name) ≡ (if b then with_macros s macros else s).macros name
 changed_macros true s macros name = refl
 changed_macros false s macros name = refl
 
@@ -397,11 +399,11 @@ pub changes-macros : (names : List (List ℕ)) {old new : Sets} (keeps : Keeps o
     → IsTable new names table
     → ((config : List ℕ) → IsConfig old.arities config → (macros : Macros) → ((name : List ℕ) → macros_at old names w.table config name ≡ macros name)
     → (name : List ℕ) → macros_at new names table config name ≡ (if not (t config) && old.has w.acting.0 config then becomes macros name else macros name))
-    → SimulatesStep names old w new (record w { table = table }) (λ files config m. acting_unless (t config) m (λ s. with_macros (closing_run s) (becomes s.macros)))
+    → SimulatesStep names old w new (record w { table = table }) (λ files config m. acting_unless (t config) m (λ s. with_macros s (becomes s.macros)))
 changes-macros names {old} {new} keeps w owns table t becomes is_table changed =
     let kept = owns-kept keeps w owns in
     record {
-      owns = record { group = kept.group; acting = kept.acting; sections = kept.sections; prepared = kept.prepared };
+      owns = record { group = kept.group; acting = kept.acting; sections = kept.sections; gathered = kept.gathered; prepared = kept.prepared };
       table = λ _. is_table;
       at = λ files config m listed is simulates.
           let same = simulates-kept keeps w owns names files config m listed is simulates in
@@ -412,9 +414,10 @@ changes-macros names {old} {new} keeps w owns table t becomes is_table changed =
             sections = same.sections;
             prepared = record {
               live = same.prepared.live;
-              output = same.prepared.output ∙ sym (changed_run (not (t config) && acts m) m.state next);
+              output = λ none. same.prepared.output none ∙ changed_output (not (t config) && acts m) m.state next;
               fault = same.prepared.fault;
             };
+            run = λ none. same.run none ∙ changed_run (not (t config) && acts m) m.state next;
             macros = λ name. changed config listed m.state.macros simulates.macros name
                 ∙ (ap (λ b. if not (t config) && b then next name else m.state.macros name) simulates.acting ∙ changed_macros (not (t config) && acts m) m.state next name);
           };
@@ -422,7 +425,7 @@ changes-macros names {old} {new} keeps w owns table t becomes is_table changed =
 
 -- the walk with another table
 pub same-owns : {old new : Sets} (keeps : Keeps old new) (w : Walk) (owns : Owns old w) (table : MacroTable) → Owns new (record w { table = table })
-same-owns keeps w owns table = let kept = owns-kept keeps w owns in record { group = kept.group; acting = kept.acting; sections = kept.sections; prepared = kept.prepared }
+same-owns keeps w owns table = let kept = owns-kept keeps w owns in record { group = kept.group; acting = kept.acting; sections = kept.sections; gathered = kept.gathered; prepared = kept.prepared }
 
 -- the table says what it said
 pub same-macros : (names : List (List ℕ)) {old new : Sets} (keeps : Keeps old new) (w : Walk) (owns : Owns old w) (table : MacroTable) → IsTable new names table → IsStill old new names w.table table
@@ -430,11 +433,11 @@ pub same-macros : (names : List (List ℕ)) {old new : Sets} (keeps : Keeps old 
 same-macros names {old} {new} keeps w owns table is_table still =
     let kept = owns-kept keeps w owns in
     record {
-      owns = record { group = kept.group; acting = kept.acting; sections = kept.sections; prepared = kept.prepared };
+      owns = record { group = kept.group; acting = kept.acting; sections = kept.sections; gathered = kept.gathered; prepared = kept.prepared };
       table = λ _. is_table;
       at = λ files config m listed is simulates.
           let same = simulates-kept keeps w owns names files config m listed is simulates in
-          record { active = same.active; acting = same.acting; sections = same.sections; prepared = same.prepared; macros = λ name. still config name listed ∙ simulates.macros name };
+          record { active = same.active; acting = same.acting; sections = same.sections; prepared = same.prepared; run = same.run; macros = λ name. still config name listed ∙ simulates.macros name };
     }
 
 -- what a table says stays as the store grows further
@@ -467,23 +470,23 @@ accepted-over macros d (Some was) same = by (same_definition was d.definition) r
 -- where a definition is refused, and else where the line does something, the machine goes as its line says
 pub defines-as : (m : Machine) (l : Line) (macros : Macros) (d : Defined) (t : Bool) → macros d.name ≡ m.state.macros d.name
     → ((t ≡ true) ↔ ((acts m ≡ true) × IsOther d.definition (macros d.name)))
-    → refusing_if t (acting_unless t m (λ s. with_macros (closing_run s) (with_macro s.macros d))) l Redefined ≡ changing m l (defined_as m.state.macros (Ok d))
+    → refusing_if t (acting_unless t m (λ s. with_macros s (with_macro s.macros d))) l Redefined ≡ changing m l (defined_as m.state.macros (Ok d))
 defines-as m l macros d true same is =
     let other = subst (IsOther d.definition) same (is.0 refl).1 in
     ap (changing m l) (sym (refused-over m.state.macros d (m.state.macros d.name) other))
 defines-as m l macros d false same is = by (acts m) refl
   where
     next : State → State
-    next = λ s. with_macros (closing_run s) (with_macro s.macros d)
+    next = λ s. with_macros s (with_macro s.macros d)
 
-    by : (b : Bool) → acts m ≡ b → acting m (λ s. with_macros (closing_run s) (with_macro s.macros d)) ≡ changing m l (defined_as m.state.macros (Ok d))
+    by : (b : Bool) → acts m ≡ b → acting m (λ s. with_macros s (with_macro s.macros d)) ≡ changing m l (defined_as m.state.macros (Ok d))
     by true e =
         ap (changing m l) (sym (accepted-over m.state.macros d (m.state.macros d.name)
         (λ other. let wrong = is.1 (e, subst (IsOther d.definition) (sym same) other) in cc)))
-    by false e = inert_acting m (λ s. with_macros (closing_run s) (with_macro s.macros d)) e ∙ sym (inert_changing m l (defined_as m.state.macros (Ok d)) e)
+    by false e = inert_acting m (λ s. with_macros s (with_macro s.macros d)) e ∙ sym (inert_changing m l (defined_as m.state.macros (Ok d)) e)
 
 pub undefines-as : (m : Machine) (l : Line) (name : List ℕ) (t : Bool)
-    → refusing_if t (acting_unless t m (λ s. with_macros (closing_run s) (without_macro s.macros name))) l ProtectedName
+    → refusing_if t (acting_unless t m (λ s. with_macros s (without_macro s.macros name))) l ProtectedName
     ≡ changing m l (if t then Err ProtectedName else Ok (without_macro m.state.macros name))
 undefines-as m l name true = refl
 undefines-as m l name false = refl
@@ -530,8 +533,8 @@ unchanged-by names s w owns line directive.Define e n u = absurd (n refl)
 unchanged-by names s w owns line directive.Undef e n u = absurd (u refl)
 unchanged-by names s w owns line directive.Line e n u = cc
 unchanged-by names s w owns line directive.Error e n u = cc
-unchanged-by names s w owns line directive.Pragma e n u = closes-run names s w owns
-unchanged-by names s w owns line directive.Warning e n u = closes-run names s w owns
+unchanged-by names s w owns line directive.Pragma e n u = ignores names s w owns
+unchanged-by names s w owns line directive.Warning e n u = ignores names s w owns
 unchanged-by names s w owns line directive.Null e n u = stays names s w owns
 unchanged-by names s w owns line directive.Unknown e n u = cc
 
@@ -586,7 +589,7 @@ module _ (names : List (List ℕ)) {old mid new : Sets} (keeps : Keeps old mid) 
       → SimulatesStep names old w new next (λ files config m. changing m (seen_line names files line) (defined_as m.state.macros (Ok d)))
   defines d own is changed refuse =
       let t : List ℕ → Bool = mid.has refused.0 in
-      let step : State → State = λ s. with_macros (closing_run s) (with_macro s.macros d) in
+      let step : State → State = λ s. with_macros s (with_macro s.macros d) in
       step-as (λ files config m. refusing_if (t config) (acting_unless (t config) m step) (seen_line names files line) Redefined)
       (λ files config m. changing m (seen_line names files line) (defined_as m.state.macros (Ok d)))
       (λ files config m listed simulates.
@@ -610,7 +613,7 @@ module _ (names : List (List ℕ)) {old mid new : Sets} (keeps : Keeps old mid) 
       → SimulatesStep names old w new next (λ files config m. changing m (seen_line names files line) (undefined m.state.macros (Some name)))
   undefines name denotes changed refuse =
       let t : Bool = is_protected name in
-      let step : State → State = λ s. with_macros (closing_run s) (without_macro s.macros name) in
+      let step : State → State = λ s. with_macros s (without_macro s.macros name) in
       step-as (λ files config m. refusing_if t (acting_unless t m step) (seen_line names files line) ProtectedName)
       (λ files config m. changing m (seen_line names files line) (undefined m.state.macros (Some name)))
       (λ files config m listed simulates. undefines-as m (seen_line names files line) name t)

@@ -1,3 +1,4 @@
+pub mod Closes
 pub mod Machine
 pub mod Passes
 pub mod Preprocesses

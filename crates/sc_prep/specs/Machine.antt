@@ -1,5 +1,5 @@
 -- The walk of one configuration over the lines of a file as they come.
-use Rattle.std.specs.Prelude.{ℕ, ◌&&◌, not, Bool, true, false, List, [], ◌∷◌, Option, Some, None, is_some, is_none, unwrap_or, Result, Ok, Err, if◌then◌else◌}
+use Rattle.std.specs.Prelude.{◌≡◌, ℕ, ◌&&◌, not, Bool, true, false, List, [], ◌∷◌, Option, Some, None, is_some, is_none, unwrap_or, Result, Ok, Err, if◌then◌else◌}
 use Rattle.std.specs.Option.{option_map}
 use Rattle.sc_model.specs.declared.cause.Cause.{Cause}
 use Rattle.sc_model.specs.declared.cause.Cause.TheVariants.{BadDirective, Redefined}
@@ -13,7 +13,8 @@ use Rattle.c11_directives.specs.Pre.{State, place_in, with_text, put_out, operan
 use Rattle.c11_macros.specs.Defines.{Defined, reads}
 use Rattle.c11_macros.specs.Macros.{Definition, Macros}
 use Rattle.c11_macros.specs.Same.{same_definition}
-use Rattle.sc_model.specs.Token.{Place}
+use Rattle.c11_macros.specs.Text.{TextExpands}
+use Rattle.sc_model.specs.Token.{Place, Token}
 
 -- Whether the lines are taken, for each open section whether it stands in lines that are taken and
 -- whether none of its branches was taken yet, the state of the walk, and its first fault.
@@ -71,9 +72,10 @@ abbrev pub ended : Machine → List (Bool × Bool) → Machine
 ended m [] = m
 ended m (s ∷ ss) = turned m s.0 ss
 
--- a barrier closes the run, which stays as it is
-abbrev pub closing_run : State → State
-closing_run s = put_out s s.run
+-- a barrier closes the run, which is put out as what it expands to, or its fault is the machine's
+abbrev pub closing_run : Machine → Result (List Token) Fault → Machine
+closing_run m (Ok output) = acting m (λ s. put_out s output)
+closing_run m (Err fault) = record m { fault = if acts m then Some fault else m.fault }
 
 -- what a definition makes of the macros, where its name was defined as this or not at all
 abbrev pub defined_over : Macros → Defined → Option Definition → Result Macros Cause
@@ -92,7 +94,7 @@ changed_by macros l d = if is_ignored d then Ok macros else Err BadDirective
 
 -- behind a barrier the macros become these, or the line is refused
 abbrev pub changing : Machine → Line → Result Macros Cause → Machine
-changing m l (Ok macros) = acting m (λ s. with_macros (closing_run s) macros)
+changing m l (Ok macros) = acting m (λ s. with_macros s macros)
 changing m l (Err cause) = refusing m l cause
 
 -- a line that is no conditional directive
@@ -119,10 +121,24 @@ step_by m l (Some Endif) = ended m m.sections
 abbrev pub step : Machine → Line → Machine
 step m l = step_by m l (conditional_of l)
 
+-- the line ends the run that stands before it
+abbrev pub ends_run : Option Directive → Bool
+ends_run None = false
+ends_run (Some d) = is_barrier d
+
+-- a run of the machine expands to this, where it has one to be closed
+abbrev pub RunExpands : Machine → Result (List Token) Fault → Type 0
+RunExpands m r = acts m ≡ true → TextExpands m.state.macros m.state.run r
+
+-- what a line makes of the machine: a barrier closes the run first
+pub data Takes (m : Machine) (l : Line) : Machine → Type 0 where
+  takes : ends_run l.directive ≡ false → Takes m l (step m l)
+  closes : (r : Result (List Token) Fault) → ends_run l.directive ≡ true → RunExpands m r → Takes m l (step (closing_run m r) l)
+
 -- the lines in order
-abbrev pub run : Machine → List Line → Machine
-run m [] = m
-run m (l ∷ ls) = run (step m l) ls
+pub data Runs : Machine → List Line → Machine → Type 0 where
+  no_line : {m : Machine} → Runs m [] m
+  line : {l : Line} {ls : List Line} {m n o : Machine} → Takes m l n → Runs n ls o → Runs m (l ∷ ls) o
 
 -- the machine before the first line
 abbrev pub start : State → Machine

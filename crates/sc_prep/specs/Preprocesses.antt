@@ -4,6 +4,7 @@ use Rattle.sc_base.specs.declared.fault.Fault as base
 use Rattle.sc_base.specs.declared.id.Cond.{Cond}
 use Rattle.sc_base.specs.declared.stop.Stop.{Stop}
 use Rattle.sc_base.specs.declared.stop.Stop.TheVariants.{BranchesFull, ReadFault, OutOfMemory}
+use Rattle.sc_expand.specs.Stops.{StopsBy}
 use Rattle.sc_prep.specs.declared.prepared.Prepared.{Prepared}
 use Rattle.sc_guarded.specs.Items.{items_at, faults_at, seen_fault}
 use Rattle.sc_base.specs.declared.token.Token as base_token
@@ -43,8 +44,9 @@ pub record OwnsList (s : Sets) (p : Prepared) : Type 0 where
   pub faults : All (λ (f : base.Fault). IsCond s f.cond.0) p.faults.items
   pub live : IsCond s p.live.0
 
--- why there is no answer, by the count of reads that failed
-abbrev pub Stops : ℕ → ℕ → Stop → Type 0
-Stops old new (BranchesFull count) = ⊥
-Stops old new ReadFault = Rose old new
-Stops old new OutOfMemory = Unit {0}
+-- why there is no answer, by the configurations, the limit of branches, and the count of reads that
+-- failed
+abbrev pub Stops : List ℕ → ℕ → ℕ → ℕ → Stop → Type 0
+Stops arities limit old new (BranchesFull count) = StopsBy arities limit (BranchesFull count)
+Stops arities limit old new ReadFault = Rose old new
+Stops arities limit old new OutOfMemory = Unit {0}

@@ -1,38 +1,73 @@
 -- What can be printed of a file.
-use Rattle.std.specs.Prelude.{◌≡◌, ℕ, ◌||◌, true, List, All}
+use Rattle.std.specs.Prelude.{◌≡◌, ℕ, ◌<◌, ◌||◌, Bool, true, List, All, Ok, map}
+use Rattle.c11_macros.specs.Text.{TextExpands}
+use Rattle.c11_tokens.specs.Lex.{is_newline}
 use Rattle.sc_base.specs.declared.fault.Fault as base
 use Rattle.sc_base.specs.declared.id.Cond.{Cond}
-use Rattle.sc_base.specs.declared.id.FileId.{FileId}
-use Rattle.sc_prep.specs.declared.walk.Walk.{Walk}
-use Rattle.sc_prep.specs.declared.prepared.Prepared.{Prepared}
 use Rattle.sc_base.specs.declared.token.Token.{Token}
-use Rattle.sc_base.specs.Seen.{IsHeld, text_at}
-use Rattle.c11_tokens.specs.Lex.{is_newline}
-use Rattle.sc_model.specs.Sets.{Sets}
-use Rattle.sc_model.specs.Bytes.{has_no_newline}
+use Rattle.sc_base.specs.Seen.{IsHeld, seen, text_at}
+use Rattle.sc_expand.specs.OneLine.{AreOneLine}
+use Rattle.sc_guarded.specs.Items.{items_at}
 use Rattle.sc_guarded.specs.Printable.{IsShowable, IsShowableFault, AreApart}
+use Rattle.sc_model.specs.Bytes.{has_no_newline}
+use Rattle.sc_model.specs.Sets.{Sets, IsConfig}
+use Rattle.sc_model.specs.Token as model
+use Rattle.sc_prep.specs.declared.prepared.Prepared.{Prepared}
+use Rattle.sc_prep.specs.declared.walk.Walk.{Walk}
+use Rattle.sc_table.specs.declared.table.MacroTable.{MacroTable}
+use Rattle.sc_table.specs.Table.{macros_at}
 
--- a token of the file that is spelled on one line
-pub record IsPrintable (names : List (List ℕ)) (file : FileId) (t : Token) : Type 0 where
+-- the tables hold the token's texts and its file, of which there are so many
+pub record IsPlaced (names : List (List ℕ)) (files : ℕ) (t : Token) : Type 0 where
   pub held : IsHeld names t
-  pub placed : t.place.file ≡ file
-  pub plain : has_no_newline (text_at names t.spelling.0) ≡ true
+  pub file : t.place.file.0 < files
 
--- a token of the file, a newline or spelled on one line
-pub record IsOfFile (names : List (List ℕ)) (file : FileId) (t : Token) : Type 0 where
-  pub held : IsHeld names t
-  pub placed : t.place.file ≡ file
-  pub plain : (is_newline t.kind || has_no_newline (text_at names t.spelling.0)) ≡ true
+-- the token is spelled on one line
+abbrev pub is_plain : List (List ℕ) → Token → Bool
+is_plain names t = has_no_newline (text_at names t.spelling.0)
 
--- what was put out is printable, and the faults are in the file
-pub record ArePrintable (names : List (List ℕ)) (file : FileId) (p : Prepared) : Type 0 where
-  pub tokens : All (λ (item : Cond × Token). IsPrintable names file item.1) p.list
-  pub faults : All (λ (f : base.Fault). f.place.file ≡ file) p.faults.items
+-- a newline, or spelled on one line
+abbrev pub IsPlainOrNewline : List (List ℕ) → Token → Type 0
+IsPlainOrNewline names t = (is_newline t.kind || is_plain names t) ≡ true
 
--- from one walk to the next only tokens of the line are put out, and faults of its file
-abbrev pub StaysPrintable : List (List ℕ) → List Token → Walk → Walk → Type 0
-StaysPrintable names line old new = (file : FileId) → All (IsPrintable names file) line
-    → ArePrintable names file old.prepared → ArePrintable names file new.prepared
+-- each token of the list passes the test
+abbrev pub AllPass : (Token → Bool) → List (Cond × Token) → Type 0
+AllPass test list = All (λ item. test item.1 ≡ true) list
+
+abbrev pub ArePlaced : List (List ℕ) → ℕ → List (Cond × Token) → Type 0
+ArePlaced names files list = All (λ item. IsPlaced names files item.1) list
+
+-- the tables hold what was gathered and prepared, and the tokens that were put out pass the test
+pub record AreHeld (names : List (List ℕ)) (files : ℕ) (test : Token → Bool) (text : List (Cond × Token)) (p : Prepared) : Type 0 where
+  pub gathered : ArePlaced names files text
+  pub list : ArePlaced names files p.list
+  pub passed : AllPass test p.list
+  pub faults : All (λ (f : base.Fault). f.place.file.0 < files) p.faults.items
+
+abbrev pub any_token : Token → Bool
+any_token t = true
+
+-- the tables hold what is kept of the walk
+abbrev pub IsHeldWalk : List (List ℕ) → ℕ → (Token → Bool) → Walk → Type 0
+IsHeldWalk names files test w = AreHeld names files test w.gathered w.prepared
+
+-- from one walk to the next only tokens of the line are gathered, and none is put out
+abbrev pub StaysHeld : List (List ℕ) → List Token → Walk → Walk → Type 0
+StaysHeld names line old new = (files : ℕ) (test : Token → Bool) → All (IsPlaced names files) line
+    → IsHeldWalk names files test old → IsHeldWalk names files test new
+
+-- what the runs expand to that a barrier closes here has each token spelled on one line
+abbrev pub ClosesPlain : Sets → List (List ℕ) → List (List ℕ) → Walk → Type 0
+ClosesPlain s names files w = (config : List ℕ) → IsConfig s.arities config → s.has w.acting.0 config ≡ true
+    → (output : List model.Token) → TextExpands (macros_at s names w.table config) (map (seen names files) (items_at s w.gathered config)) (Ok output)
+    → All (λ t. has_no_newline t.spelling ≡ true) output
+
+-- the macros of the table are spelled on one line at each configuration, and so are the tokens but
+-- for newlines, and the names of their files
+pub record BeginsPlain (s : Sets) (names paths : List (List ℕ)) (table : MacroTable) (text : List Token) : Type 0 where
+  pub macros : (config : List ℕ) → IsConfig s.arities config → AreOneLine (macros_at s names table config)
+  pub tokens : All (IsPlainOrNewline names) text
+  pub files : All (λ (t : Token). has_no_newline (text_at paths t.place.file.0) ≡ true) text
 
 -- all of it can be shown
 pub record CanBeShown (s : Sets) (names files : List (List ℕ)) (p : Prepared) : Type 0 where

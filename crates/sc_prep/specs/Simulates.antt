@@ -1,31 +1,36 @@
 -- The walk of all configurations at once is a simulation of the machine of each.
-use Rattle.std.specs.Prelude.{◌≡◌, ℕ, ◌++◌, Bool, List, [], map, reverse, All, is_none}
+use Rattle.std.specs.Prelude.{◌≡◌, ℕ, Bool, List, [], map, reverse, All, None, Result, is_none}
 use Rattle.std.specs.Option.{option_to_list}
 use Rattle.sc_prep.specs.declared.prepared.Prepared.{Prepared}
 use Rattle.sc_prep.specs.declared.walk.Section.{Section}
 use Rattle.sc_prep.specs.declared.walk.Walk.{Walk}
-use Rattle.sc_prep.specs.Machine.{Machine, acts}
+use Rattle.sc_prep.specs.Machine.{Machine, Runs, RunExpands, acts, closing_run, start}
 use Rattle.sc_prep.specs.Preprocesses.{OwnsList}
 use Rattle.sc_guarded.specs.Items.{items_at, faults_at, seen_fault}
 use Rattle.sc_base.specs.Seen.{seen}
 use Rattle.sc_table.specs.declared.table.MacroTable.{MacroTable}
+use Rattle.c11_directives.specs.Lines.{Line}
 use Rattle.c11_directives.specs.Pre.{State}
 use Rattle.sc_table.specs.Table.{IsTable, macros_at}
+use Rattle.sc_model.specs.Fault.{Fault}
 use Rattle.sc_model.specs.Sets.{Sets, IsConfig, IsCond}
+use Rattle.sc_model.specs.Token.{Token}
 
 abbrev pub section_at : Sets → List ℕ → Section → Bool × Bool
 section_at s config section = (s.has section.around.0 config, s.has section.untaken.0 config)
 
--- At this configuration the lists have what the machine put out, and its fault.
+-- At this configuration the lists have what the machine put out, or its fault. The tokens of a
+-- configuration with a fault don't count.
 pub record IsOutcomeOf (s : Sets) (names files : List (List ℕ)) (p : Prepared) (config : List ℕ) (m : Machine) : Type 0 where
   pub live : s.has p.live.0 config ≡ is_none m.fault
-  pub output : map (seen names files) (items_at s p.list config) ≡ m.state.output ++ m.state.run
+  pub output : m.fault ≡ None → map (seen names files) (items_at s p.list config) ≡ m.state.output
   pub fault : map (seen_fault files) (faults_at s p.faults.items config) ≡ option_to_list m.fault
 
 -- a state before the first line, whose macros are those of the table at this configuration
 pub record IsBegun (s : Sets) (names : List (List ℕ)) (table : MacroTable) (config : List ℕ) (first : State) : Type 0 where
   pub macros : (name : List ℕ) → macros_at s names table config name ≡ first.macros name
-  pub empty : first.output ++ first.run ≡ []
+  pub output : first.output ≡ []
+  pub run : first.run ≡ []
 
 -- At this configuration the walk is where the machine is.
 pub record Simulates (s : Sets) (names files : List (List ℕ)) (walk : Walk) (config : List ℕ) (m : Machine) : Type 0 where
@@ -33,6 +38,7 @@ pub record Simulates (s : Sets) (names files : List (List ℕ)) (walk : Walk) (c
   pub acting : s.has walk.acting.0 config ≡ acts m
   pub sections : map (section_at s config) (reverse walk.sections.items) ≡ m.sections
   pub prepared : IsOutcomeOf s names files walk.prepared config m
+  pub run : m.fault ≡ None → map (seen names files) (items_at s walk.gathered config) ≡ m.state.run
   pub macros : (name : List ℕ) → macros_at s names walk.table config name ≡ m.state.macros name
 
 pub record OwnsSection (s : Sets) (section : Section) : Type 0 where
@@ -44,6 +50,7 @@ pub record Owns (s : Sets) (walk : Walk) : Type 0 where
   pub group : IsCond s walk.group.0
   pub acting : IsCond s walk.acting.0
   pub sections : All (OwnsSection s) walk.sections.items
+  pub gathered : All (λ item. IsCond s item.0.0) walk.gathered
   pub prepared : OwnsList s walk.prepared
 
 -- From one walk to the next, at each configuration the machine does this, whatever the names of
@@ -54,3 +61,33 @@ pub record SimulatesStep (names : List (List ℕ)) (old : Sets) (walk : Walk) (n
   pub table : IsTable old names walk.table → IsTable new names next.table
   pub at : (files : List (List ℕ)) (config : List ℕ) (m : Machine) → IsConfig old.arities config → IsTable old names walk.table
       → Simulates old names files walk config m → Simulates new names files next config (does files config m)
+
+-- a machine of which this holds, and the walk is where it is
+pub record Arrives (s : Sets) (names files : List (List ℕ)) (walk : Walk) (config : List ℕ) (holds : Machine → Type 0) : Type 0 where
+  pub machine : Machine
+  pub done : holds machine
+  pub simulates : Simulates s names files walk config machine
+
+-- From one walk to the next, at each configuration the machine does one of these, with these names
+-- of files. The table of texts may have grown.
+pub record SimulatesOneOf (files names : List (List ℕ)) (old : Sets) (walk : Walk) (more : List (List ℕ)) (new : Sets) (next : Walk)
+    (does : List ℕ → Machine → Machine → Type 0) : Type 0 where
+  pub owns : Owns new next
+  pub table : IsTable new more next.table
+  pub at : (config : List ℕ) (m : Machine) → IsConfig old.arities config → Simulates old names files walk config m
+      → Arrives new more files next config (does config m)
+
+-- the machine's run was closed
+pub record Closed (m n : Machine) : Type 0 where
+  pub answer : Result (List Token) Fault
+  pub expands : RunExpands m answer
+  pub is : n ≡ closing_run m answer
+
+-- From this state on the machine runs over the lines and closes its last run, and the lists have
+-- what it gives.
+pub record Ends (s : Sets) (names files : List (List ℕ)) (p : Prepared) (config : List ℕ) (first : State) (lines : List Line) : Type 0 where
+  pub end : Machine
+  pub runs : Runs (start first) lines end
+  pub answer : Result (List Token) Fault
+  pub expands : RunExpands end answer
+  pub outcome : IsOutcomeOf s names files p config (closing_run end answer)

@@ -12,15 +12,18 @@ ghost use Rattle.sc_model.specs.declared.cause.Cause.TheVariants.{BadDirective};
 ghost use Rattle.sc_model.specs.Sets.{IsCond, Denotes, Keeps};
 ghost use Rattle.sc_macro.specs.Reads.{seen_defined};
 ghost use Rattle.sc_macro.specs.Seen.{IsHeldDefinition};
-ghost use Rattle.sc_prep.specs.Machine.{changed_by, changing, defined_as, is_taken, next_branch, plain_by, opened_by_name, refusing, opened, step};
-ghost use Rattle.sc_prep.specs.Simulates.{Owns, SimulatesStep};
+ghost use Rattle.sc_expand.specs.Stops.{StopsBy};
+ghost use Rattle.sc_model.specs.Growth.{Extends};
+ghost use Rattle.sc_prep.specs.Machine as machine;
+ghost use Rattle.sc_prep.specs.Machine.{Takes, changed_by, changing, defined_as, is_taken, next_branch, plain_by, opened_by_name, refusing, opened, step};
+ghost use Rattle.sc_prep.specs.Simulates.{Owns, SimulatesOneOf, SimulatesStep};
 ghost use Rattle.sc_lines.specs.Nests.{seen_line};
-ghost use Rattle.sc_prep.specs.Printable.{StaysPrintable};
+ghost use Rattle.sc_prep.specs.Printable.{AllPass, ClosesPlain, IsHeldWalk, IsPlaced, StaysHeld, any_token, is_plain};
 ghost use Rattle.sc_table.specs.Table.{IsTable, IsStill, macros_at};
 
 use crate::walk::Walk;
 use c11_directives::{Conditional, Directive};
-use sc_base::{Cause, Cond, Kind, Name, Names, Stop, Token};
+use sc_base::{Cause, Cond, Files, Kind, Name, Names, Stop, Token};
 use sc_lines::Line;
 use sc_macro::{DefineStop, Definition, read_define};
 use sc_presence::Conditions;
@@ -34,6 +37,40 @@ impl Walk {
         &mut self,
         alloc: Global,
         conds: &mut C,
+        names: &mut Names,
+        files: &Files,
+        limit: usize,
+        line: &Line,
+        tokens: &[Token],
+    ) -> Result<(), Stop>
+        requires placed { All (IsPlaced names.old (length files.now)) tokens.now }
+        requires directive { line.now.directive ≡ directive_at names.old tokens.now }
+        requires owns { Owns (C.sets conds.old) self.old }
+        requires table { IsTable (C.sets conds.old) names.old self.old.table }
+        requires walk { IsHeldWalk names.old (length files.now) any_token self.old }
+        ensures takes { OnOk result (SimulatesOneOf files.now names.old (C.sets conds.old) self.old names.new (C.sets conds.new) self.new (λ config m n. Takes m (seen_line names.old files.now tokens.now) n)) }
+        ensures walk { OnOk result (IsHeldWalk names.new (length files.now) any_token self.new) }
+        ensures plain { OnOk result (ClosesPlain (C.sets conds.old) names.old files.now self.old → AllPass (is_plain names.old) self.old.prepared.list
+            → AllPass (is_plain names.new) self.new.prepared.list) }
+        ensures stops { IfErr result (StopsBy (C.sets conds.old).arities limit) }
+
+        // at every outcome
+        ensures keeps { Keeps (C.sets conds.old) (C.sets conds.new) }
+        ensures names { Extends names.old names.new }
+    {
+        if !ends_run(line.directive) {
+            return self.step(alloc, conds, names, line, tokens);
+        }
+        self.close_runs(alloc, conds, names, files, limit)?;
+        self.step(alloc, conds, names, line, tokens)
+    }
+
+    /// What a line of these tokens does once the runs that it ends are closed.
+    #[tactic(auto, using(sc_model::proofs::SetLemmas::conditions))]
+    fn step<C: Conditions>(
+        &mut self,
+        alloc: Global,
+        conds: &mut C,
         names: &Names,
         line: &Line,
         tokens: &[Token],
@@ -42,7 +79,7 @@ impl Walk {
         requires directive { line.now.directive ≡ directive_at names.now tokens.now }
         requires owns { Owns (C.sets conds.old) self.old }
         requires table { IsTable (C.sets conds.old) names.now self.old.table }
-        ensures printable { OnOk result (StaysPrintable names.now tokens.now self.old self.new) }
+        ensures printable { OnOk result (StaysHeld names.now tokens.now self.old self.new) }
         ensures steps { OnOk result (SimulatesStep names.now (C.sets conds.old) self.old (C.sets conds.new) self.new (λ files config m. step m (seen_line names.now files tokens.now))) }
         ensures memory { IfErr result (λ s. s ≡ stop.OutOfMemory) }
         ensures keeps { Keeps (C.sets conds.old) (C.sets conds.new) }
@@ -66,7 +103,7 @@ impl Walk {
         requires directive { Some conditional ≡ conditional_in (directive_at names.now line.now) }
         requires owns { Owns (C.sets conds.old) self.old }
         requires table { IsTable (C.sets conds.old) names.now self.old.table }
-        ensures printable { OnOk result (StaysPrintable names.now line.now self.old self.new) }
+        ensures printable { OnOk result (StaysHeld names.now line.now self.old self.new) }
         ensures steps { OnOk result (SimulatesStep names.now (C.sets conds.old) self.old (C.sets conds.new) self.new (λ files config m. step m (seen_line names.now files line.now))) }
         ensures memory { IfErr result (λ s. s ≡ stop.OutOfMemory) }
         ensures keeps { Keeps (C.sets conds.old) (C.sets conds.new) }
@@ -86,7 +123,7 @@ impl Walk {
     fn refused_section<C: Conditions>(&mut self, conds: &mut C, line: &[Token]) -> Result<(), Stop>
         requires owns { Owns (C.sets conds.old) self.old }
         requires line { 0 < length line.now }
-        ensures printable { OnOk result ((names : List (List ℕ)) → StaysPrintable names line.now self.old self.new) }
+        ensures printable { OnOk result ((names : List (List ℕ)) → StaysHeld names line.now self.old self.new) }
         ensures moved { OnOk result ((names : List (List ℕ)) → SimulatesStep names (C.sets conds.old) self.old (C.sets conds.new) self.new
             (λ files config m. opened (refusing m (seen_line names files line.now) BadDirective) false)) }
         ensures memory { IfErr result (λ s. s ≡ stop.OutOfMemory) }
@@ -103,7 +140,7 @@ impl Walk {
     fn refused_branch<C: Conditions>(&mut self, conds: &mut C, line: &[Token]) -> Result<(), Stop>
         requires owns { Owns (C.sets conds.old) self.old }
         requires line { 0 < length line.now }
-        ensures printable { OnOk result ((names : List (List ℕ)) → StaysPrintable names line.now self.old self.new) }
+        ensures printable { OnOk result ((names : List (List ℕ)) → StaysHeld names line.now self.old self.new) }
         ensures moved { OnOk result ((names : List (List ℕ)) → SimulatesStep names (C.sets conds.old) self.old (C.sets conds.new) self.new
             (λ files config m. refusing (next_branch m m.sections) (seen_line names files line.now) BadDirective)) }
         ensures memory { IfErr result (λ s. s ≡ stop.OutOfMemory) }
@@ -127,7 +164,7 @@ impl Walk {
         requires owns { Owns (C.sets conds.old) self.old }
         requires table { IsTable (C.sets conds.old) names.now self.old.table }
         requires line { 0 < length line.now }
-        ensures printable { OnOk result (StaysPrintable names.now line.now self.old self.new) }
+        ensures printable { OnOk result (StaysHeld names.now line.now self.old self.new) }
         ensures moved { OnOk result (SimulatesStep names.now (C.sets conds.old) self.old (C.sets conds.new) self.new
             (λ files config m. opened_by_name m (seen_line names.now files line.now) (is_taken m.state.macros wanted) (operand_of (seen_line names.now files line.now)))) }
         ensures memory { IfErr result (λ s. s ≡ stop.OutOfMemory) }
@@ -151,7 +188,7 @@ impl Walk {
         requires held { name.0 < length names.now }
         requires owns { Owns (C.sets conds.old) self.old }
         requires table { IsTable (C.sets conds.old) names.now self.old.table }
-        ensures printable { OnOk result ((line : List base.Token) → StaysPrintable names.now line self.old self.new) }
+        ensures printable { OnOk result ((line : List base.Token) → StaysHeld names.now line self.old self.new) }
         ensures moved { OnOk result (SimulatesStep names.now (C.sets conds.old) self.old (C.sets conds.new) self.new
             (λ files config m. opened m (is_taken m.state.macros wanted (text_at names.now name.0)))) }
         ensures memory { IfErr result (λ s. s ≡ stop.OutOfMemory) }
@@ -176,7 +213,7 @@ impl Walk {
         requires owns { Owns (C.sets conds.old) self.old }
         requires table { IsTable (C.sets conds.old) names.now self.old.table }
         requires line { (directive ≡ None → ⊥) → 0 < length line.now }
-        ensures printable { OnOk result (StaysPrintable names.now line.now self.old self.new) }
+        ensures printable { OnOk result (StaysHeld names.now line.now self.old self.new) }
         ensures moved { OnOk result (SimulatesStep names.now (C.sets conds.old) self.old (C.sets conds.new) self.new (λ files config m. plain_by m (seen_line names.now files line.now) directive)) }
         ensures memory { IfErr result (λ s. s ≡ stop.OutOfMemory) }
         ensures keeps { Keeps (C.sets conds.old) (C.sets conds.new) }
@@ -201,7 +238,7 @@ impl Walk {
         requires line { 0 < length line.now }
         requires define { directive ≡ kind.Define → ⊥ }
         requires undef { directive ≡ kind.Undef → ⊥ }
-        ensures printable { OnOk result ((names : List (List ℕ)) → StaysPrintable names line.now self.old self.new) }
+        ensures printable { OnOk result ((names : List (List ℕ)) → StaysHeld names line.now self.old self.new) }
         ensures moved { OnOk result ((names : List (List ℕ)) → SimulatesStep names (C.sets conds.old) self.old (C.sets conds.new) self.new (λ files config m. plain_by m (seen_line names files line.now) (Some directive))) }
         ensures memory { IfErr result (λ s. s ≡ stop.OutOfMemory) }
         ensures keeps { Keeps (C.sets conds.old) (C.sets conds.new) }
@@ -226,7 +263,7 @@ impl Walk {
         requires owns { Owns (C.sets conds.old) self.old }
         requires table { IsTable (C.sets conds.old) names.now self.old.table }
         requires line { 0 < length line.now }
-        ensures printable { OnOk result (StaysPrintable names.now line.now self.old self.new) }
+        ensures printable { OnOk result (StaysHeld names.now line.now self.old self.new) }
         ensures moved { OnOk result (SimulatesStep names.now (C.sets conds.old) self.old (C.sets conds.new) self.new
             (λ files config m. changing m (seen_line names.now files line.now) (changed_by m.state.macros (seen_line names.now files line.now) kind.Define))) }
         ensures memory { IfErr result (λ s. s ≡ stop.OutOfMemory) }
@@ -252,7 +289,7 @@ impl Walk {
         requires owns { Owns (C.sets conds.old) self.old }
         requires table { IsTable (C.sets conds.old) names.now self.old.table }
         requires line { 0 < length line.now }
-        ensures printable { OnOk result ((names : List (List ℕ)) → StaysPrintable names line.now self.old self.new) }
+        ensures printable { OnOk result ((names : List (List ℕ)) → StaysHeld names line.now self.old self.new) }
         ensures moved { OnOk result (SimulatesStep names.now (C.sets conds.old) self.old (C.sets conds.new) self.new
             (λ files config m. changing m (seen_line names.now files line.now) (defined_as m.state.macros (Ok (seen_defined names.now definition))))) }
         ensures memory { IfErr result (λ s. s ≡ stop.OutOfMemory) }
@@ -275,7 +312,7 @@ impl Walk {
         requires owns { Owns (C.sets conds.old) self.old }
         requires table { IsTable (C.sets conds.old) names.now self.old.table }
         requires line { 0 < length line.now }
-        ensures printable { OnOk result ((names : List (List ℕ)) → StaysPrintable names line.now self.old self.new) }
+        ensures printable { OnOk result ((names : List (List ℕ)) → StaysHeld names line.now self.old self.new) }
         ensures moved { OnOk result (SimulatesStep names.now (C.sets conds.old) self.old (C.sets conds.new) self.new
             (λ files config m. changing m (seen_line names.now files line.now) (changed_by m.state.macros (seen_line names.now files line.now) kind.Undef))) }
         ensures memory { IfErr result (λ s. s ≡ stop.OutOfMemory) }
@@ -300,7 +337,7 @@ impl Walk {
         requires owns { Owns (C.sets conds.old) self.old }
         requires table { IsTable (C.sets conds.old) names.now self.old.table }
         requires line { 0 < length line.now }
-        ensures printable { OnOk result ((names : List (List ℕ)) → StaysPrintable names line.now self.old self.new) }
+        ensures printable { OnOk result ((names : List (List ℕ)) → StaysHeld names line.now self.old self.new) }
         ensures moved { OnOk result (SimulatesStep names.now (C.sets conds.old) self.old (C.sets conds.new) self.new
             (λ files config m. changing m (seen_line names.now files line.now) (undefined m.state.macros (Some (text_at names.now name.0))))) }
         ensures memory { IfErr result (λ s. s ≡ stop.OutOfMemory) }
@@ -351,6 +388,16 @@ fn operand(names: &Names, line: &[Token]) -> Option<Name>
         [_, _, name, ..] if matches!(name.kind, Kind::Identifier) => Some(name.spelling),
         _ => None,
     }
+}
+
+/// Whether a line ends the runs that stand before it.
+fn ends_run(directive: Option<Directive>) -> bool
+    ensures { result ≡ machine.ends_run directive }
+{
+    !matches!(
+        directive,
+        None | Some(Directive::Conditional(_) | Directive::Null)
+    )
 }
 
 /// Whether a directive is not carried out.

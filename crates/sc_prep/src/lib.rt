@@ -1,6 +1,7 @@
 //! Preprocessing under all configurations at once: the walk of files.
 #![tactic(auto)]
 
+mod closing;
 mod directives;
 mod main_file;
 mod next_line;

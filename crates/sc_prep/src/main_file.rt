@@ -1,7 +1,7 @@
-ghost use Rattle.std.specs.Prelude.{◌≡◌, ℕ, ◌≤◌, List, Some, slice_get, IfOk, IfErr};
+ghost use Rattle.std.specs.Prelude.{◌≡◌, ℕ, ◌<◌, ◌≤◌, Bool, true, List, [], Some, length, slice_get, IfOk, IfErr};
 ghost use Rattle.sc_base.specs.declared.place.Place.{Place};
 ghost use Rattle.sc_base.specs.Interns.{Interns};
-ghost use Rattle.sc_base.specs.Seen.{seen_place};
+ghost use Rattle.sc_base.specs.Seen.{seen_place, text_at};
 ghost use Rattle.sc_model.specs.Growth.{Extends};
 ghost use Rattle.sc_model.specs.Outside.{Files as Outside};
 ghost use Rattle.c11_directives.specs.Pre.{Pre};
@@ -13,7 +13,10 @@ ghost use Rattle.sc_space.specs.Sound.{IsSound};
 ghost use Rattle.sc_base.specs.declared.stop.Stop.TheVariants as stop;
 ghost use Rattle.sc_guarded.specs.Printable.{AreApart};
 ghost use Rattle.sc_prep.specs.Preprocesses.{IsOrdinary, OwnsList, IsRefused, Stops};
-ghost use Rattle.sc_prep.specs.Printable.{ArePrintable, CanBeShown};
+ghost use Rattle.sc_base.specs.declared.token.Token.{Token};
+ghost use Rattle.sc_expand.specs.Stops.{StopsBy};
+ghost use Rattle.sc_model.specs.Bytes.{has_no_newline};
+ghost use Rattle.sc_prep.specs.Printable.{AllPass, AreHeld, CanBeShown, any_token, is_plain};
 
 use crate::prepared::Prepared;
 use crate::walk::Walk;
@@ -44,9 +47,9 @@ pub fn preprocess<C: Conditions, S: Source>(
         → IsConfig (C.sets conds.old).arities config
         → IsOrdinary (C.sets conds.new) names.new files.new p (Pre (seen_space space.now) outside main.now config) config) }
     ensures owns { IfOk result (OwnsList (C.sets conds.new)) }
-    ensures shown { IfOk result (CanBeShown (C.sets conds.new) names.new files.new) }
+    ensures shown { has_no_newline main.now ≡ true → IfOk result (CanBeShown (C.sets conds.new) names.new files.new) }
     ensures adds { IfOk result (λ _. Interns files.old files.new main.now) }
-    ensures stops { IfErr result (Stops (S.faults src.old) (S.faults src.new)) }
+    ensures stops { IfErr result (Stops (C.sets conds.old).arities (seen_space space.now).branches (S.faults src.old) (S.faults src.new)) }
 
     // at every outcome
     ensures kept { S.holds src.new ≡ S.holds src.old }
@@ -58,7 +61,7 @@ pub fn preprocess<C: Conditions, S: Source>(
     let file = files.intern(main)?;
     match src.read(alloc, main)? {
         None => refused(alloc, conds, Cause::NotFound, first(file)),
-        Some(bytes) => preprocess_bytes(alloc, conds, space, names, file, &bytes),
+        Some(bytes) => preprocess_bytes(alloc, conds, space, names, files, file, &bytes),
     }
 }
 
@@ -69,18 +72,21 @@ fn preprocess_bytes<C: Conditions>(
     conds: &mut C,
     space: &Space,
     names: &mut Names,
+    files: &Files,
     file: FileId,
     bytes: &[u8],
 ) -> Result<Prepared, Stop>
     requires space { (C.sets conds.old).arities ≡ arities_of (seen_space space.now) }
     requires sound { IsSound (seen_space space.now) }
-    ensures ordinary { IfOk result (λ p. (files : List (List ℕ)) (outside : Outside) (main config : List ℕ)
-        → slice_get files file.0 ≡ Some main → outside main ≡ Some bytes.now → IsConfig (C.sets conds.old).arities config
-        → IsOrdinary (C.sets conds.new) names.new files p (Pre (seen_space space.now) outside main config) config) }
+    requires file { file.0 < length files.now }
+    ensures ordinary { IfOk result (λ p. (outside : Outside) (main config : List ℕ)
+        → slice_get files.now file.0 ≡ Some main → outside main ≡ Some bytes.now → IsConfig (C.sets conds.old).arities config
+        → IsOrdinary (C.sets conds.new) names.new files.now p (Pre (seen_space space.now) outside main config) config) }
     ensures owns { IfOk result (OwnsList (C.sets conds.new)) }
-    ensures printable { IfOk result (λ p. ArePrintable names.new file p) }
+    ensures held { IfOk result (AreHeld names.new (length files.now) any_token []) }
+    ensures plain { has_no_newline (text_at files.now file.0) ≡ true → IfOk result (λ p. AllPass (is_plain names.new) p.list) }
     ensures apart { IfOk result (λ p. AreApart (C.sets conds.new) p.faults.items) }
-    ensures memory { IfErr result (λ s. s ≡ stop.OutOfMemory) }
+    ensures stops { IfErr result (StopsBy (C.sets conds.old).arities (seen_space space.now).branches) }
 
     // at every outcome
     ensures names { Extends names.old names.new }
@@ -102,7 +108,17 @@ fn preprocess_bytes<C: Conditions>(
         Err(NestStop::Nesting(place)) => return refused(alloc, conds, Cause::BadNesting, place),
         Err(NestStop::OutOfMemory) => return Err(Stop::OutOfMemory),
     };
-    Walk::of_lines(alloc, conds, table, names, &tokens, &tree.lines)
+    let limit = space.limits.branches;
+    Walk::of_lines(
+        alloc,
+        conds,
+        table,
+        names,
+        files,
+        limit,
+        &tokens,
+        &tree.lines,
+    )
 }
 
 /// Every configuration is refused.
@@ -116,7 +132,7 @@ fn refused<C: Conditions>(
     ensures refused { IfOk result (λ p. (names files : List (List ℕ)) (config : List ℕ) → IsConfig (C.sets conds.now).arities config
         → IsRefused (C.sets conds.now) names files p (fault_at cause (seen_place files place)) config) }
     ensures owns { IfOk result (OwnsList (C.sets conds.now)) }
-    ensures printable { IfOk result (λ p. (names : List (List ℕ)) → ArePrintable names place.file p) }
+    ensures held { IfOk result (λ p. (names : List (List ℕ)) (files : ℕ) (test : Token → Bool) → place.file.0 < files → AreHeld names files test [] p) }
     ensures apart { IfOk result (λ p. AreApart (C.sets conds.now) p.faults.items) }
     ensures memory { IfErr result (λ s. s ≡ stop.OutOfMemory) }
 {

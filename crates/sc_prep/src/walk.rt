@@ -2,21 +2,20 @@ ghost use Rattle.std.specs.Prelude.{◌≡◌, ℕ, ◌<◌, ◌&&◌, Bool, Lis
 ghost use Rattle.sc_base.specs.declared.token.Token as base;
 ghost use Rattle.sc_model.specs.Sets.{IsCond, IsNever, Denotes, Keeps, IsConfig};
 ghost use Rattle.c11_directives.specs.Pre.{State, with_text};
-ghost use Rattle.sc_prep.specs.Machine.{acting, opened, next_branch, ended, refusing, refusing_if, run, start};
-ghost use Rattle.sc_prep.specs.Simulates.{IsBegun, IsOutcomeOf, Owns, SimulatesStep, Simulates};
+ghost use Rattle.sc_expand.specs.Stops.{StopsBy};
+ghost use Rattle.sc_model.specs.Growth.{Extends};
+ghost use Rattle.sc_prep.specs.Machine.{acting, opened, next_branch, ended, refusing, refusing_if, start};
+ghost use Rattle.sc_prep.specs.Simulates.{Ends, IsBegun, Owns, SimulatesStep, Simulates};
 ghost use Rattle.sc_prep.specs.Preprocesses.{OwnsList};
 ghost use Rattle.sc_lines.specs.Nests.{seen_line, seen_lines};
-ghost use Rattle.sc_prep.specs.Printable.{StaysPrintable, IsOfFile, ArePrintable};
-ghost use Rattle.sc_base.specs.declared.id.FileId.{FileId};
-ghost use Rattle.sc_base.specs.Seen.{IsHeld};
+ghost use Rattle.sc_prep.specs.Printable.{AllPass, AreHeld, BeginsPlain, IsPlaced, StaysHeld, any_token, is_plain};
 ghost use Rattle.sc_lines.specs.Branches.{HasBranches};
 ghost use Rattle.sc_lines.specs.Split.{AreLines};
-ghost use Rattle.sc_base.specs.declared.stop.Stop.TheVariants as stop;
 ghost use Rattle.sc_table.specs.Table.{IsTable};
 
 use crate::next_line::next_line;
 use crate::prepared::Prepared;
-use sc_base::{Cause, Cond, Fault, Names, OutOfMemory, Stop, Token};
+use sc_base::{Cause, Cond, Fault, Files, Names, OutOfMemory, Stop, Token};
 use sc_guarded::Guarded;
 use sc_lines::Line;
 use sc_presence::Conditions;
@@ -43,6 +42,8 @@ pub struct Walk {
     pub sections: Vec<Section>,
     /// The macros that are defined.
     pub table: MacroTable,
+    /// The text since the last barrier, which is not expanded yet.
+    pub gathered: Guarded<Token>,
     /// What was put out and refused so far.
     pub prepared: Prepared,
 }
@@ -56,39 +57,47 @@ impl Walk {
         alloc: Global,
         conds: &mut C,
         table: MacroTable,
-        names: &Names,
+        names: &mut Names,
+        files: &Files,
+        limit: usize,
         tokens: &[Token],
         lines: &[Line],
     ) -> Result<Prepared, Stop>
-        requires table { IsTable (C.sets conds.old) names.now table }
-        requires held { All (IsHeld names.now) tokens.now }
-        requires lines { AreLines names.now tokens.now lines.now }
-        requires branches { (files : List (List ℕ)) → HasBranches (seen_lines names.now files tokens.now) lines.now }
+        requires table { IsTable (C.sets conds.old) names.old table }
+        requires held { All (IsPlaced names.old (length files.now)) tokens.now }
+        requires lines { AreLines names.old tokens.now lines.now }
+        requires branches { (files : List (List ℕ)) → HasBranches (seen_lines names.old files tokens.now) lines.now }
         ensures owns { IfOk result (OwnsList (C.sets conds.new)) }
-        ensures printable { IfOk result (λ p. (file : FileId) → All (IsOfFile names.now file) tokens.now → ArePrintable names.now file p) }
-        ensures walked { IfOk result (λ p. (files : List (List ℕ)) (config : List ℕ) (first : State) → IsConfig (C.sets conds.old).arities config
-            → IsBegun (C.sets conds.old) names.now table config first
-            → IsOutcomeOf (C.sets conds.new) names.now files p config (run (start first) (seen_lines names.now files tokens.now))) }
-        ensures memory { IfErr result (λ s. s ≡ stop.OutOfMemory) }
+        ensures held { IfOk result (AreHeld names.new (length files.now) any_token []) }
+        ensures plain { IfOk result (λ p. BeginsPlain (C.sets conds.old) names.old files.now table tokens.now → AllPass (is_plain names.new) p.list) }
+        ensures walked { IfOk result (λ p. (config : List ℕ) (first : State) → IsConfig (C.sets conds.old).arities config
+            → IsBegun (C.sets conds.old) names.old table config first
+            → Ends (C.sets conds.new) names.new files.now p config first (seen_lines names.old files.now tokens.now)) }
+        ensures stops { IfErr result (StopsBy (C.sets conds.old).arities limit) }
+
+        // at every outcome
         ensures keeps { Keeps (C.sets conds.old) (C.sets conds.new) }
+        ensures names { Extends names.old names.new }
     {
         let mut walk = Walk::new(alloc, conds, table)?;
         let mut number = 0;
         while number < lines.len() {
             let line = &lines[number];
-            walk.take_line(alloc, conds, names, line, &tokens[line.first..line.end])?;
+            let text = &tokens[line.first..line.end];
+            walk.take_line(alloc, conds, names, files, limit, line, text)?;
             if conds.is_never(walk.prepared.live) {
                 return Ok(walk.prepared);
             }
             number = next_line(lines, number, conds.is_never(walk.acting));
         }
+        walk.close_runs(alloc, conds, names, files, limit)?;
         Ok(walk.prepared)
     }
 
     /// The walk before the first line.
     fn new<C: Conditions>(alloc: Global, conds: &C, table: MacroTable) -> Result<Walk, OutOfMemory>
         ensures owns { IfOk result (λ walk. Owns (C.sets conds.now) walk) }
-        ensures empty { IfOk result (λ walk. (walk.prepared.list ≡ []) × (walk.prepared.faults.items ≡ [])) }
+        ensures empty { IfOk result (λ walk. (walk.gathered ≡ []) × (walk.prepared.list ≡ []) × (walk.prepared.faults.items ≡ [])) }
         ensures table { IfOk result (λ walk. walk.table ≡ table) }
         ensures starts { IfOk result (λ walk. (names files : List (List ℕ)) (config : List ℕ) (first : State) → IsConfig (C.sets conds.now).arities config
             → IsBegun (C.sets conds.now) names table config first → Simulates (C.sets conds.now) names files walk config (start first)) }
@@ -98,6 +107,7 @@ impl Walk {
             acting: conds.always(),
             sections: Vec::new(alloc),
             table,
+            gathered: Guarded::new(alloc)?,
             prepared: Prepared {
                 list: Guarded::new(alloc)?,
                 faults: Vec::new(alloc),
@@ -115,7 +125,7 @@ impl Walk {
     ) -> Result<(), OutOfMemory>
         requires owns { Owns (C.sets conds.old) self.old }
         requires own { IsCond (C.sets conds.old) test.0 }
-        ensures printable { OnOk result ((names : List (List ℕ)) (line : List base.Token) → StaysPrintable names line self.old self.new) }
+        ensures printable { OnOk result ((names : List (List ℕ)) (line : List base.Token) → StaysHeld names line self.old self.new) }
         ensures opened { OnOk result ((names : List (List ℕ)) (t : List ℕ → Bool) → Denotes (C.sets conds.old) test.0 t
             → SimulatesStep names (C.sets conds.old) self.old (C.sets conds.new) self.new (λ files config m. opened m (t config))) }
         ensures keeps { Keeps (C.sets conds.old) (C.sets conds.new) }
@@ -137,7 +147,7 @@ impl Walk {
     #[tactic(auto, using(sc_model::proofs::SetLemmas::conditions))]
     pub fn begin_branch<C: Conditions>(&mut self, conds: &mut C) -> Result<(), OutOfMemory>
         requires { Owns (C.sets conds.old) self.old }
-        ensures printable { OnOk result ((names : List (List ℕ)) (line : List base.Token) → StaysPrintable names line self.old self.new) }
+        ensures printable { OnOk result ((names : List (List ℕ)) (line : List base.Token) → StaysHeld names line self.old self.new) }
         ensures moved { OnOk result ((names : List (List ℕ)) → SimulatesStep names (C.sets conds.old) self.old (C.sets conds.new) self.new (λ files config m. next_branch m m.sections)) }
         ensures keeps { Keeps (C.sets conds.old) (C.sets conds.new) }
     {
@@ -158,7 +168,7 @@ impl Walk {
     #[tactic(auto, using(sc_model::proofs::SetLemmas::conditions))]
     pub fn end_section<C: Conditions>(&mut self, conds: &mut C) -> Result<(), OutOfMemory>
         requires { Owns (C.sets conds.old) self.old }
-        ensures printable { OnOk result ((names : List (List ℕ)) (line : List base.Token) → StaysPrintable names line self.old self.new) }
+        ensures printable { OnOk result ((names : List (List ℕ)) (line : List base.Token) → StaysHeld names line self.old self.new) }
         ensures moved { OnOk result ((names : List (List ℕ)) → SimulatesStep names (C.sets conds.old) self.old (C.sets conds.new) self.new (λ files config m. ended m m.sections)) }
         ensures keeps { Keeps (C.sets conds.old) (C.sets conds.new) }
     {
@@ -184,7 +194,7 @@ impl Walk {
         requires owns { Owns (C.sets conds.old) self.old }
         requires own { IsCond (C.sets conds.old) part.0 }
         requires line { 0 < length line.now }
-        ensures printable { OnOk result ((names : List (List ℕ)) → StaysPrintable names line.now self.old self.new) }
+        ensures printable { OnOk result ((names : List (List ℕ)) → StaysHeld names line.now self.old self.new) }
         ensures moved { OnOk result ((names : List (List ℕ)) (t : List ℕ → Bool) → Denotes (C.sets conds.old) part.0 (λ c. t c && (C.sets conds.old).has self.old.acting.0 c)
             → SimulatesStep names (C.sets conds.old) self.old (C.sets conds.new) self.new (λ files config m. refusing_if (t config) m (seen_line names files line.now) cause)) }
         ensures keeps { Keeps (C.sets conds.old) (C.sets conds.new) }
@@ -192,17 +202,12 @@ impl Walk {
         if conds.is_never(part) {
             return Ok(());
         }
-        self.prepared.faults.push(Fault {
+        let fault = Fault {
             cond: part,
             cause,
             place: line[0].place,
-        })?;
-        let others = conds.negate(part)?;
-        let live = conds.apply_and(self.prepared.live, others)?;
-        let acting = conds.apply_and(self.acting, others)?;
-        self.prepared.live = live;
-        self.acting = acting;
-        Ok(())
+        };
+        self.refuse_at(conds, fault)
     }
 
     /// The configurations that take the line are refused at its first token.
@@ -215,17 +220,17 @@ impl Walk {
     ) -> Result<(), OutOfMemory>
         requires owns { Owns (C.sets conds.old) self.old }
         requires line { 0 < length line.now }
-        ensures printable { OnOk result ((names : List (List ℕ)) → StaysPrintable names line.now self.old self.new) }
+        ensures printable { OnOk result ((names : List (List ℕ)) → StaysHeld names line.now self.old self.new) }
         ensures moved { OnOk result ((names : List (List ℕ)) → SimulatesStep names (C.sets conds.old) self.old (C.sets conds.new) self.new (λ files config m. refusing m (seen_line names files line.now) cause)) }
         ensures keeps { Keeps (C.sets conds.old) (C.sets conds.new) }
     {
         self.refuse(conds, self.acting, cause, line)
     }
 
-    /// The tokens of a line are put out, where some configuration takes them.
+    /// The tokens of a line are gathered, where some configuration takes them.
     pub fn put<C: Conditions>(&mut self, conds: &C, line: &[Token]) -> Result<(), OutOfMemory>
         requires { Owns (C.sets conds.now) self.old }
-        ensures printable { OnOk result ((names : List (List ℕ)) → StaysPrintable names line.now self.old self.new) }
+        ensures printable { OnOk result ((names : List (List ℕ)) → StaysHeld names line.now self.old self.new) }
         ensures moved { OnOk result ((names : List (List ℕ)) → SimulatesStep names (C.sets conds.now) self.old (C.sets conds.now) self.new (λ files config m. acting m (λ state. with_text state (seen_line names files line.now)))) }
         ensures none { IsNever (C.sets conds.now) self.old.acting.0 → self.new ≡ self.old }
     {
@@ -233,7 +238,7 @@ impl Walk {
             return Ok(());
         }
         for token in line {
-            self.prepared.list.push(self.acting, *token)?;
+            self.gathered.push(self.acting, *token)?;
         }
         Ok(())
     }

@@ -1,10 +1,11 @@
-use Rattle.std.proofs.Common.{◌∙◌, sym, ap, subst}
+use Rattle.std.proofs.Common.{◌∙◌, ◌<◌, length, sym, ap, subst}
 use Rattle.std.proofs.lemmas.Result.{IfOk-weaker}
 use Rattle.std.specs.Prelude.{Result, Ok, Err, IfOk}
 use Rattle.std.specs.Option.{option_map}
 use Rattle.sc_prep.specs.Preprocesses.{IsRefused}
-use Rattle.sc_prep.specs.Printable.{ArePrintable}
-use Rattle.sc_prep.proofs.Printing.{all-shown}
+use Rattle.sc_base.specs.declared.id.FileId.{FileId}
+use Rattle.sc_prep.specs.Printable.{any_token, is_plain}
+use Rattle.sc_prep.proofs.FileTokens.{all-shown}
 use Rattle.sc_prep.proofs.FileWalk.{refused-ordinary}
 use Rattle.sc_prep.proofs.main_file.preprocess.Goals as goal
 use Rattle.sc_model.specs.declared.cause.Cause.TheVariants.{NotFound}
@@ -30,11 +31,11 @@ returns-in-None-clause-ordinary g c = λ outside holds.
     c.refused.ensures.refused
 
 pub returns-in-None-clause-shown : goal.returns-in-None-clause-shown
-returns-in-None-clause-shown g c =
+returns-in-None-clause-shown g c = λ main_plain.
     let s = g.C.Conditions.sets c.args.conds.now in
     let names = c.args.names.now in
-    let file = c.in_ok-file.file in
-    IfOk-all c.refused.result _ _ _ _ (λ p owns printable apart.
-    all-shown s names c.intern.new.self file c.in_ok-file.ensures.own p owns
-    (subst (λ file. ArePrintable names file p) c.first.ensures.in_file (printable names)) apart)
-    c.refused.ensures.owns c.refused.ensures.printable c.refused.ensures.apart
+    let files = c.intern.new.self in
+    let there = subst (λ (f : FileId). f.0 < length files) (sym c.first.ensures.in_file) c.in_ok-file.ensures.own in
+    IfOk-all c.refused.result _ _ _ _ (λ p owns held apart.
+    all-shown s names files p owns (held names (length files) any_token there) (held names (length files) (is_plain names) there).passed apart)
+    c.refused.ensures.owns c.refused.ensures.held c.refused.ensures.apart

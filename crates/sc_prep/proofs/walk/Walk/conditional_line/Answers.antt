@@ -55,3 +55,9 @@ returns-in-If-clause-printable g c = on_ok_weaker c.refused_section.result (λ p
 
 pub returns-in-Elif-clause-printable : goal.returns-in-Elif-clause-printable
 returns-in-Elif-clause-printable g c = on_ok_weaker c.refused_branch.result (λ printable. printable c.args.names.now) c.refused_branch.ensures.printable
+
+pub returns-in_ok-begin_branch-in-Else-clause-printable : goal.returns-in_ok-begin_branch-in-Else-clause-printable
+returns-in_ok-begin_branch-in-Else-clause-printable g c = c.in_ok-begin_branch-in-Else.ensures.printable c.args.names.now c.args.line.now
+
+pub returns-in_ok-end_section-in-Endif-clause-printable : goal.returns-in_ok-end_section-in-Endif-clause-printable
+returns-in_ok-end_section-in-Endif-clause-printable g c = c.in_ok-end_section-in-Endif.ensures.printable c.args.names.now c.args.line.now

@@ -31,3 +31,9 @@ returns-in_ok-refuse_all-in-Err-Fault-clause-moved g c =
     (λ files config m _ _. ap (λ r. changing m (seen_line names files line) (defined_as m.state.macros r))
     (sym (refuses files) ∙ ap reads (sym (drop-map (seen names files) 2 line))))
     (c.in_ok-refuse_all-in-Err-Fault.ensures.moved names)
+
+pub returns-in-Ok-clause-printable : goal.returns-in-Ok-clause-printable
+returns-in-Ok-clause-printable g c = on_ok_weaker c.define_macro.result (λ printable. printable c.args.names.now) c.define_macro.ensures.printable
+
+pub returns-in_ok-refuse_all-in-Err-Fault-clause-printable : goal.returns-in_ok-refuse_all-in-Err-Fault-clause-printable
+returns-in_ok-refuse_all-in-Err-Fault-clause-printable g c = c.in_ok-refuse_all-in-Err-Fault.ensures.printable c.args.names.now

@@ -25,3 +25,9 @@ returns-in-Some-clause-moved g c = on_ok_weaker c.section_of_name.result (λ mov
     (λ files config m. opened_by_name m (seen_line names files line) (is_taken m.state.macros c.args.wanted) (operand_of (seen_line names files line)))
     (λ files config m _ _. ap (opened_by_name m (seen_line names files line) (is_taken m.state.macros c.args.wanted)) (c.in-Some.ensures.text files))
     moved) c.section_of_name.ensures.moved
+
+pub returns-in-None-clause-printable : goal.returns-in-None-clause-printable
+returns-in-None-clause-printable g c = on_ok_weaker c.refused_section.result (λ printable. printable c.args.names.now) c.refused_section.ensures.printable
+
+pub returns-in-Some-clause-printable : goal.returns-in-Some-clause-printable
+returns-in-Some-clause-printable g c = on_ok_weaker c.section_of_name.result (λ printable. printable c.args.line.now) c.section_of_name.ensures.printable

@@ -1,6 +1,5 @@
-use Rattle.std.proofs.Common.{◌≡◌, ◌∙◌, true, sym}
+use Rattle.std.proofs.Common.{◌∙◌, sym}
 use Rattle.std.specs.Prelude.{Some}
-use Rattle.c11_directives.specs.Pre.{is_refused}
 use Rattle.sc_lines.specs.Nests.{seen_line}
 use Rattle.sc_model.specs.declared.cause.Cause.TheVariants.{BadDirective}
 use Rattle.sc_prep.specs.Machine.{plain_by, refusing}

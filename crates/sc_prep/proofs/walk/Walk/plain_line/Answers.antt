@@ -50,3 +50,6 @@ returns-in-Some-clause-printable g c = on_ok_weaker c.other_line.result (λ prin
 
 pub returns-in_ok-put-in-None-clause-printable : goal.returns-in_ok-put-in-None-clause-printable
 returns-in_ok-put-in-None-clause-printable g c = c.in_ok-put-in-None.ensures.printable c.args.names.now
+
+pub returns-in-Some-Undef-clause-printable : goal.returns-in-Some-Undef-clause-printable
+returns-in-Some-Undef-clause-printable g c = on_ok_weaker c.undef.result (λ printable. printable c.args.names.now) c.undef.ensures.printable

@@ -5,8 +5,8 @@ use Rattle.c11_directives.specs.Pre.{with_text}
 use Rattle.sc_prep.specs.Machine.{acting}
 use Rattle.sc_prep.specs.Simulates.{SimulatesStep}
 use Rattle.sc_lines.specs.Nests.{seen_line}
-use Rattle.sc_prep.specs.Printable.{ArePrintable}
-use Rattle.sc_prep.proofs.Printing.{puts-printable}
+use Rattle.sc_prep.specs.Printable.{AreHeld, IsHeldWalk}
+use Rattle.sc_prep.proofs.Held.{gathered-held}
 use Rattle.sc_prep.proofs.WalkMoves.{puts, puts-none}
 use Rattle.sc_guarded.proofs.ItemLemmas.{under}
 use Rattle.sc_prep.proofs.walk.Walk.put.Goals as goal
@@ -16,17 +16,17 @@ returns-clause-moved g c = λ names.
     let s = g.C.Conditions.sets c.args.conds.now in
     let w = c.args.self.now in
     let whole : c.loop-token.token-index ≡ length c.args.line.now = omega arith in
-    let all = ap (λ n. w.prepared.list ++ under w.acting (take n c.args.line.now)) whole ∙ ap (λ ts. w.prepared.list ++ under w.acting ts) (take-length c.args.line.now) in
+    let all = ap (λ n. w.gathered ++ under w.acting (take n c.args.line.now)) whole ∙ ap (λ ts. w.gathered ++ under w.acting ts) (take-length c.args.line.now) in
     subst (λ next. SimulatesStep names s w s next (λ files config m. acting m (λ state. with_text state (seen_line names files c.args.line.now)))) (sym c.loop-token.invariant)
-    (puts names s w c.requires c.args.line.now (w.prepared.list ++ under w.acting (take c.loop-token.token-index c.args.line.now)) all)
+    (puts names s w c.requires c.args.line.now (w.gathered ++ under w.acting (take c.loop-token.token-index c.args.line.now)) all)
 
 pub returns-clause-printable : goal.returns-clause-printable
-returns-clause-printable g c = λ names file all old.
+returns-clause-printable g c = λ names files test all old.
     let w = c.args.self.now in
     let whole : c.loop-token.token-index ≡ length c.args.line.now = omega arith in
     let taken = ap (λ n. take n c.args.line.now) whole ∙ take-length c.args.line.now in
-    subst (λ (next : Walk). ArePrintable names file next.prepared) (sym c.loop-token.invariant)
-    (subst (λ ts. ArePrintable names file (record w.prepared { list = w.prepared.list ++ under w.acting ts })) (sym taken) (puts-printable names file w.prepared w.acting c.args.line.now all old))
+    subst (λ (next : Walk). IsHeldWalk names files test next) (sym c.loop-token.invariant)
+    (subst (λ ts. AreHeld names files test (w.gathered ++ under w.acting ts) w.prepared) (sym taken) (gathered-held names files test w c.args.line.now all old))
 
 pub returns-then-is_never-clause-moved : goal.returns-then-is_never-clause-moved
 returns-then-is_never-clause-moved g c = λ names.

@@ -3,4 +3,4 @@ use Rattle.sc_guarded.proofs.ItemLemmas.{under}
 use Rattle.sc_prep.proofs.walk.Walk.put.Given as goal
 
 abbrev pub invariant-loop-token : goal.invariant-loop-token
-invariant-loop-token g l = l.self ≡ record l.fn.self { prepared = record l.fn.self.prepared { list = l.fn.self.prepared.list ++ under l.fn.self.acting (take l.token-index l.line) } }
+invariant-loop-token g l = l.self ≡ record l.fn.self { gathered = l.fn.self.gathered ++ under l.fn.self.acting (take l.token-index l.line) }

@@ -12,3 +12,7 @@ pub returns-clause-moved : goal.returns-clause-moved
 returns-clause-moved g c = λ names.
     step-then (λ files config m. next_branch m m.sections) (λ files config m. refusing m (seen_line names files c.args.line.now) BadDirective)
     c.in_ok-begin_branch.ensures.keeps (c.in_ok-begin_branch.ensures.moved names) (c.in_ok-refuse_all.ensures.moved names)
+
+pub returns-clause-printable : goal.returns-clause-printable
+returns-clause-printable g c = λ names files test all held.
+    c.in_ok-refuse_all.ensures.printable names files test all (c.in_ok-begin_branch.ensures.printable names c.args.line.now files test all held)

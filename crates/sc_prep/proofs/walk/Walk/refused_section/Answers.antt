@@ -12,3 +12,7 @@ pub returns-clause-moved : goal.returns-clause-moved
 returns-clause-moved g c = λ names.
     step-then (λ files config m. refusing m (seen_line names files c.args.line.now) BadDirective) (λ files config m. opened m false)
     c.in_ok-refuse_all.ensures.keeps (c.in_ok-refuse_all.ensures.moved names) (c.in_ok-begin_section.ensures.opened names (λ _. false) c.never-never.ensures.meaning)
+
+pub returns-clause-printable : goal.returns-clause-printable
+returns-clause-printable g c = λ names files test all held.
+    c.in_ok-begin_section.ensures.printable names c.args.line.now files test all (c.in_ok-refuse_all.ensures.printable names files test all held)

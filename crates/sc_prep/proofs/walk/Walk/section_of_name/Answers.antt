@@ -19,3 +19,6 @@ returns-clause-moved g c =
     (step-then (λ files config m. m) (λ files config m. opened m (is_taken (macros_at old names w.table config) c.args.wanted text)) c.in_ok-test.ensures.keeps
     (same-macros names c.in_ok-test.ensures.keeps w c.requires.owns c.taken.new.table c.in_ok-test.ensures.table c.in_ok-test.ensures.still)
     (c.in_ok-begin_section.ensures.opened names (λ config. is_taken (macros_at old names w.table config) c.args.wanted text) c.in_ok-test.ensures.meaning))
+
+pub returns-clause-printable : goal.returns-clause-printable
+returns-clause-printable g c = λ line. c.in_ok-begin_section.ensures.printable c.args.names.now line

@@ -1,0 +1,73 @@
+-- The tokens of a file, and that what comes of them can be shown.
+use Rattle.std.proofs.Common.{◌≡◌, ℕ, ◌<◌, ◌≤◌, ◌||◌, true, List, [], ◌∷◌, All, length, map, Option, Some, None, sym, ap, ◌∙◌, subst, arith}
+use Rattle.std.proofs.lemmas.Bool.{and_parts}
+use Rattle.std.proofs.lemmas.List.{length-map}
+use Rattle.std.proofs.lemmas.List.Elements.{All-nil, All-cons, All-weaker}
+use Rattle.std.specs.List.{list_all}
+use Rattle.std.specs.Option.{option_map, option_to_list}
+use Rattle.std.specs.Prelude.{slice_get, unwrap_or}
+use Rattle.c11_tokens.proofs.PlainLaws.{lexed-plain}
+use Rattle.c11_tokens.specs.Lex.{is_newline}
+use Rattle.sc_base.specs.declared.fault.Fault as base
+use Rattle.sc_base.specs.declared.id.FileId.{FileId}
+use Rattle.sc_base.specs.declared.token.Token.{Token}
+use Rattle.sc_base.specs.Seen.{IsHeld, position_of}
+use Rattle.sc_guarded.specs.Items.{faults_at, seen_fault}
+use Rattle.sc_guarded.specs.Printable.{AreApart}
+use Rattle.sc_lex.specs.Spell.{AreTokensOf, lexeme_at}
+use Rattle.sc_model.specs.Bytes.{has_no_newline}
+use Rattle.sc_model.specs.Fault.{Fault}
+use Rattle.sc_model.specs.Sets.{Sets}
+use Rattle.sc_model.specs.Token.{Lexeme}
+use Rattle.sc_prep.specs.declared.prepared.Prepared.{Prepared}
+use Rattle.sc_prep.specs.Preprocesses.{OwnsList}
+use Rattle.sc_prep.specs.Printable.{AllPass, AreHeld, CanBeShown, IsPlaced, IsPlainOrNewline, any_token, is_plain}
+
+-- what the token's spelling is like, seen through the table
+plain_by : (t : Token) (l : Lexeme) (o : Option (List ℕ)) → option_map (λ s. record { kind = t.kind; spelling = s; space = t.space; position = position_of t.place }) o ≡ Some l
+    → (is_newline t.kind || has_no_newline (unwrap_or o [])) ≡ (is_newline l.kind || has_no_newline l.spelling)
+plain_by t l None e = cc
+plain_by t l (Some s) e = ap (λ (o : Option Lexeme). is_newline (unwrap_or o l).kind || has_no_newline (unwrap_or o l).spelling) e
+
+module _ (names : List (List ℕ)) (file : FileId) where
+  spelled-plain : (ls : List Lexeme) (ts : List Token) → map (lexeme_at names) ts ≡ map Some ls
+      → list_all (λ (l : Lexeme). is_newline l.kind || has_no_newline l.spelling) ls ≡ true → All (IsPlainOrNewline names) ts
+  spelled-plain ls [] e plain = All-nil (IsPlainOrNewline names)
+  spelled-plain [] (t ∷ ts) e plain = cc
+  spelled-plain (l ∷ ls) (t ∷ ts) e plain =
+      let first : lexeme_at names t ≡ Some l = cc in
+      let others : map (lexeme_at names) ts ≡ map Some ls = cc in
+      let p = and_parts (is_newline l.kind || has_no_newline l.spelling) (list_all (λ (l : Lexeme). is_newline l.kind || has_no_newline l.spelling) ls) plain in
+      All-cons (IsPlainOrNewline names) t ts (plain_by t l (slice_get names t.spelling.0) first ∙ p.0) (spelled-plain ls ts others p.1)
+
+  module _ (bytes : List ℕ) (ts : List Token) (are : AreTokensOf names file bytes ts) where
+    -- the tokens of a file are spelled on one line, but for newlines
+    pub file-plain : All (IsPlainOrNewline names) ts
+    file-plain = spelled-plain are.lexemes ts are.spell.each (lexed-plain bytes are.lexemes are.lexed)
+
+    -- and stand in it
+    pub file-in : (P : FileId → Type 0) → P file → All (λ (t : Token). P t.place.file) ts
+    file-in P here = All-weaker (λ (t : Token). t.place.file ≡ file) (λ (t : Token). P t.place.file) (λ t e. subst P (sym e) here) ts are.spell.placed
+
+    pub file-placed : (files : ℕ) → file.0 < files → All (IsHeld names) ts → All (IsPlaced names files) ts
+    file-placed files there held = λ k d h. record { held = held k d h; file = file-in (λ f. f.0 < files) there k d h }
+
+-- all that stands in files of the table can be shown
+pub all-shown : (s : Sets) (names files : List (List ℕ)) (p : Prepared) → OwnsList s p → AreHeld names (length files) any_token [] p → AllPass (is_plain names) p.list → AreApart s p.faults.items
+    → CanBeShown s names files p
+all-shown s names files p owns held plain apart = record {
+  list = λ k d h. record { own = owns.list k d h; held = (held.list k d h).held; file = (held.list k d h).file; plain = plain k d h };
+  faults = λ k d h. record { own = owns.faults k d h; file = held.faults k d h };
+  apart = apart;
+}
+
+-- a configuration has one fault at most where its walk has
+few_of : (o : Option Fault) → length (option_to_list o) ≤ 1
+few_of None = omega arith
+few_of (Some f) = omega arith
+
+pub faults-few : (s : Sets) (files : List (List ℕ)) (faults : List base.Fault) (config : List ℕ) (o : Option Fault) → map (seen_fault files) (faults_at s faults config) ≡ option_to_list o
+    → length (faults_at s faults config) ≤ 1
+faults-few s files faults config o e =
+    let same = ap (length {A = Fault}) e in
+    omega (arith, few_of o, same, length-map (faults_at s faults config) (seen_fault files))

@@ -1,0 +1,42 @@
+-- Where macros, text and names of files are spelled on one line, so is what the text expands to.
+use Rattle.std.proofs.Common.{◌≡◌, ℕ, true, List, [], ◌∷◌, All, Ok, refl, sym, ap, ◌∙◌}
+use Rattle.std.proofs.lemmas.Bool.{and_parts, ne_eqb, not-true, not_from_false, or_from}
+use Rattle.std.proofs.lemmas.List.Elements.{All-from_recursion, All-weaker}
+use Rattle.std.specs.List.{AllByRecursion as Every, list_all}
+use Rattle.c11_macros.specs.Macros.{Macros, initial_macros}
+use Rattle.c11_macros.specs.Text.{TextExpands}
+use Rattle.sc_expand.proofs.TextLines.{PlainToken, initial-one_line, text-stays_on_one_line}
+use Rattle.sc_expand.specs.OneLine.{AreOneLine}
+use Rattle.sc_model.specs.Bytes.{has_no_newline}
+use Rattle.sc_model.specs.Space.{Space}
+use Rattle.sc_model.specs.Token.{Token}
+use Rattle.sc_space.specs.Settings.{is_date_byte}
+
+-- a token that is spelled on one line, and stands in a file whose name is
+pub record IsPlainToken (t : Token) : Type 0 where
+  pub spelling : has_no_newline t.spelling ≡ true
+  pub file : has_no_newline t.place.file ≡ true
+
+pub spelled-plain : (ts : List Token) → Every IsPlainToken ts → All PlainToken ts
+spelled-plain ts plain = All-weaker IsPlainToken PlainToken (λ t p. p.spelling) ts (All-from_recursion IsPlainToken ts plain)
+
+pub expands-plain : (macros : Macros) → AreOneLine macros → (text output : List Token) → Every IsPlainToken text → TextExpands macros text (Ok output) → All PlainToken output
+expands-plain macros lists text output plain expands =
+    text-stays_on_one_line macros lists text output (spelled-plain text plain)
+    (All-weaker IsPlainToken (λ (t : Token). has_no_newline t.place.file ≡ true) (λ t p. p.file) text (All-from_recursion IsPlainToken text plain)) expands
+
+-- ---- the macros with which a configuration starts
+
+date-plain : (bs : List ℕ) → list_all is_date_byte bs ≡ true → has_no_newline bs ≡ true
+date-plain [] all = refl
+date-plain (b ∷ bs) all =
+    let parts = and_parts (is_date_byte b) (list_all is_date_byte bs) all in
+    let differs = ne_eqb b 10 (λ e. let passes = sym (ap is_date_byte e) ∙ parts.0 in cc) in
+    not_from_false _ (or_from _ _ differs (not-true _ (date-plain bs parts.1)))
+
+pub initial-plain : (space : Space) (config : List ℕ) → list_all is_date_byte space.date ≡ true → list_all is_date_byte space.time ≡ true → AreOneLine (initial_macros space config)
+initial-plain space config date time = initial-one_line space config (date-plain space.date date) (date-plain space.time time)
+
+-- macros that define each name as these do
+pub plain-as : (one two : Macros) → ((name : List ℕ) → one name ≡ two name) → AreOneLine one → AreOneLine two
+plain-as one two same lists = record { each = λ name d found. lists.each name d (same name ∙ found) }

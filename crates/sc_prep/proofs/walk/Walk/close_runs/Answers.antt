@@ -1,0 +1,41 @@
+use Rattle.std.proofs.Common.{◌∙◌, sym}
+use Rattle.sc_model.proofs.SetLemmas.{Keeps-trans}
+use Rattle.sc_prep.proofs.CloseMoves.{closed-held, closed-plain, closes, closes-empty, closes-none, no-items}
+use Rattle.sc_prep.proofs.WalkMoves.{owns-kept}
+use Rattle.sc_prep.proofs.walk.Walk.close_runs.Goals as goal
+
+pub put_out-requires-clause-owns : goal.put_out-requires-clause-owns
+put_out-requires-clause-owns g c = owns-kept c.in_ok-expanded.ensures.keeps c.args.self.now c.requires.owns
+
+pub returns-then-is_never-clause-closes : goal.returns-then-is_never-clause-closes
+returns-then-is_never-clause-closes g c =
+    closes-none c.args.files.now c.args.names.now (g.C.Conditions.sets c.args.conds.now) c.args.self.now c.requires.owns c.requires.table (c.is_never.ensures.0 c.if-is_never.true)
+
+pub returns-then-len-eq0-clause-closes : goal.returns-then-len-eq0-clause-closes
+returns-then-len-eq0-clause-closes g c =
+    closes-empty c.args.files.now c.args.names.now (g.C.Conditions.sets c.args.conds.now) c.args.self.now c.requires.owns c.requires.table
+    (no-items c.args.self.now.gathered (sym c.len.ensures ∙ c.if-len-eq0.true))
+
+pub returns-clause-closes : goal.returns-clause-closes
+returns-clause-closes g c =
+    let x = c.in_ok-expanded.ensures in
+    closes c.args.files.now c.args.names.now c.expand.new.names x.keeps c.in_ok-put_out.ensures.keeps x.names c.args.self.now c.put_out.new.self c.in_ok-expanded.expanded
+    c.requires.owns c.requires.table c.requires.walk x.expands x.others x.held c.in_ok-put_out.ensures.puts
+
+pub returns-clause-walk : goal.returns-clause-walk
+returns-clause-walk g c =
+    let x = c.in_ok-expanded.ensures in
+    closed-held c.args.files.now c.args.names.now c.expand.new.names x.keeps c.in_ok-put_out.ensures.keeps x.names c.args.self.now c.put_out.new.self c.in_ok-expanded.expanded
+    c.requires.owns c.requires.table c.requires.walk x.expands x.others x.held c.in_ok-put_out.ensures.puts
+
+pub returns-clause-plain : goal.returns-clause-plain
+returns-clause-plain g c =
+    let x = c.in_ok-expanded.ensures in
+    closed-plain c.args.files.now c.args.names.now c.expand.new.names x.keeps c.in_ok-put_out.ensures.keeps x.names c.args.self.now c.put_out.new.self c.in_ok-expanded.expanded
+    c.requires.owns c.requires.table c.requires.walk x.expands x.others x.held c.in_ok-put_out.ensures.puts
+
+pub returns-clause-keeps : goal.returns-clause-keeps
+returns-clause-keeps g c = Keeps-trans c.in_ok-expanded.ensures.keeps c.in_ok-put_out.ensures.keeps
+
+pub returns-in_err-put_out-clause-keeps : goal.returns-in_err-put_out-clause-keeps
+returns-in_err-put_out-clause-keeps g c = Keeps-trans c.in_ok-expanded.ensures.keeps c.in_err-put_out.ensures.keeps
