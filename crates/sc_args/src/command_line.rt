@@ -14,6 +14,7 @@ const STATUSES: &str = "Status:
   1  a configuration is refused: the text says which and why
   2  the words name no command with its words, or FILE is no file name
   3  SPACE is absent or refused
+  5  a macro call differs in more configurations than `branches` allows
   6  a file could not be read
   7  the text could not be written whole
   8  no memory was left";

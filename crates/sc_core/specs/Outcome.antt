@@ -1,11 +1,12 @@
 -- What a run of the program does, by its status.
-use Rattle.std.specs.Prelude.{◌≡◌, ℕ, Bool, true, false, List, [], ◌∷◌, codes, map, All, Option, Some, None, Result, Ok, Err}
+use Rattle.std.specs.Prelude.{◌≡◌, ℕ, ◌+◌, Bool, true, false, List, [], ◌∷◌, codes, map, All, Option, Some, None, Result, Ok, Err}
 use Rattle.sc_args.specs.Words.{Asked, tokens, conflicts, usage, bad_file, asked_of}
 use Rattle.sc_core.specs.declared.run_error.RunError.{RunError}
 use Rattle.sc_core.specs.declared.run_error.RunError.TheVariants as error
 use Rattle.sc_core.specs.declared.status.Status.{Status}
-use Rattle.sc_core.specs.declared.status.Status.TheVariants.{Accepted, Refused, BadWords, BadSpace, ReadFault, WriteFault, OutOfMemory}
-use Rattle.sc_core.specs.RunError.{line_of, status_of, space_line}
+use Rattle.sc_core.specs.declared.status.Status.TheVariants.{Accepted, Refused, BadWords, BadSpace, BranchesFull, ReadFault, WriteFault, OutOfMemory}
+use Rattle.sc_core.specs.RunError.{branches_line, line_of, status_of, space_line}
+use Rattle.sc_expand.specs.Stops.{HasConfigs}
 use Rattle.sc_grammar.specs.C11.{productions}
 use Rattle.sc_grammar.specs.declared.TheConstants.{TERMINALS, NONTERMINALS}
 use Rattle.lr_tables.specs.declared.grammar.Grammar.{Grammar}
@@ -14,7 +15,7 @@ use Rattle.sc_text.specs.Layout.{IsTextOf}
 use Rattle.sc_model.specs.Outside.{Files, Rose, Write, Writes, WritesPart, whole_write}
 use Rattle.sc_model.specs.Fault.{Fault}
 use Rattle.c11_directives.specs.Pre.{Pre}
-use Rattle.sc_model.specs.Space.{Space, IsListed}
+use Rattle.sc_model.specs.Space.{Space, IsListed, arities_of}
 use Rattle.lr_tables.specs.Tables.{Tables, AreTables}
 use Rattle.sc_text.specs.Text.{token_list, Answer, At}
 use Rattle.sc_model.specs.Token.{Shown, Token, shown}
@@ -65,6 +66,13 @@ pub record RefusesSpace (files : Files) (name line : List ℕ) : Type 0 where
   pub held : files name ≡ Some bytes
   pub read : read_space bytes ≡ Err fault
   pub told : line ≡ space_line fault
+
+-- the space file is held and read, its space has more configurations than branches, and the line tells how many these may be
+pub record FillsBranches (files : Files) (name line : List ℕ) : Type 0 where
+  pub space : Space
+  pub has_space : HasSpace files name space
+  pub many : HasConfigs (arities_of space) (space.branches + 1)
+  pub told : line ≡ branches_line (space.branches + 1)
 
 -- whether it is so
 abbrev pub Tells : Bool → Type 0 → Type 0
@@ -135,6 +143,7 @@ FailsWith reading words (error.Usage text) = asked_of words ≡ Err usage
 FailsWith reading words error.BadFile = asked_of words ≡ Err bad_file
 FailsWith reading words error.NoSpace = AsksInSpace words reading.holds (λ files space. files space ≡ None)
 FailsWith reading words (error.BadSpace line) = AsksInSpace words reading.holds (λ files space. RefusesSpace files space line.items)
+FailsWith reading words (error.BranchesFull line) = AsksInSpace words reading.holds (λ files space. FillsBranches files space line.items)
 FailsWith reading words error.ReadFault = FailsToRead reading words
 FailsWith reading words error.OutOfMemory = Unit {0}
 
@@ -173,6 +182,7 @@ Outcome reading words out err Accepted = Prints reading words out true × (err.n
 Outcome reading words out err Refused = Prints reading words out false × (err.new ≡ err.old)
 Outcome reading words out err BadWords = EndsWithError reading words BadWords out err
 Outcome reading words out err BadSpace = EndsWithError reading words BadSpace out err
+Outcome reading words out err BranchesFull = EndsWithError reading words BranchesFull out err
 Outcome reading words out err ReadFault = EndsWithError reading words ReadFault out err
 Outcome reading words out err WriteFault = PrintsPart reading words out × WritesLine err (codes "superc: write fault\n")
 Outcome reading words out err OutOfMemory = EndsWithError reading words OutOfMemory out err

@@ -3,7 +3,7 @@ use Rattle.std.specs.Prelude.{◌≡◌, ℕ, not, List, [], All, Option, Some, 
 use Rattle.sc_core.specs.declared.run_error.RunError.{RunError}
 use Rattle.sc_core.specs.declared.run_error.RunError.TheVariants as error
 use Rattle.sc_core.specs.declared.output.Output.{Output}
-use Rattle.sc_core.specs.Outcome.{IsOrdinaryAnswer, IsTokensText, RefusesSpace, Tells, HasText}
+use Rattle.sc_core.specs.Outcome.{FillsBranches, IsOrdinaryAnswer, IsTokensText, RefusesSpace, Tells, HasText}
 use Rattle.sc_text.specs.Layout.{IsTextOf}
 use Rattle.sc_model.specs.Outside.{Files, Rose}
 use Rattle.sc_model.specs.Space.{Space}
@@ -35,5 +35,6 @@ FailsInSpace holds before after name (error.Usage text) = ⊥
 FailsInSpace holds before after name error.BadFile = ⊥
 FailsInSpace holds before after name error.NoSpace = (files : Files) → holds ≡ Some files → files name ≡ None
 FailsInSpace holds before after name (error.BadSpace line) = (files : Files) → holds ≡ Some files → RefusesSpace files name line.items
+FailsInSpace holds before after name (error.BranchesFull line) = (files : Files) → holds ≡ Some files → FillsBranches files name line.items
 FailsInSpace holds before after name error.ReadFault = Rose before after
 FailsInSpace holds before after name error.OutOfMemory = Unit {0}

@@ -17,6 +17,9 @@ pub enum RunError {
     NoSpace,
     /// The space file is refused; this line says why.
     BadSpace(Vec<u8>),
+    /// A call of a macro differs in more configurations than the space allows. This line tells the
+    /// limit and one more.
+    BranchesFull(Vec<u8>),
     /// A file could not be read.
     ReadFault,
     /// No memory was left.
@@ -32,6 +35,7 @@ impl RunError {
         match self {
             RunError::Usage(_) | RunError::BadFile => Status::BadWords,
             RunError::NoSpace | RunError::BadSpace(_) => Status::BadSpace,
+            RunError::BranchesFull(_) => Status::BranchesFull,
             RunError::ReadFault => Status::ReadFault,
             RunError::OutOfMemory => Status::OutOfMemory,
         }
@@ -45,7 +49,7 @@ impl RunError {
             RunError::Usage(text) => text.as_bytes(),
             RunError::BadFile => b"superc: bad file name\n",
             RunError::NoSpace => b"superc: space: Absent\n",
-            RunError::BadSpace(line) => line.as_slice(),
+            RunError::BadSpace(line) | RunError::BranchesFull(line) => line.as_slice(),
             RunError::ReadFault => b"superc: read fault\n",
             RunError::OutOfMemory => b"superc: out of memory\n",
         }

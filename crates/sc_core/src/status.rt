@@ -9,6 +9,8 @@ pub enum Status {
     BadWords,
     /// The space file is not there, or it is refused.
     BadSpace,
+    /// A call of a macro differs in more configurations than the space allows.
+    BranchesFull,
     /// A file could not be read.
     ReadFault,
     /// The text could not be written whole.
@@ -30,6 +32,7 @@ impl Status {
             Status::Refused => 1,
             Status::BadWords => 2,
             Status::BadSpace => 3,
+            Status::BranchesFull => 5,
             Status::ReadFault => 6,
             Status::WriteFault => 7,
             Status::OutOfMemory => 8,

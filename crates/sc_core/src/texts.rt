@@ -1,6 +1,7 @@
 ghost use Rattle.std.specs.Prelude.{◌≡◌, ◌≤◌, true, false, map, length, string_bytes, All, Some, IfOk, IfErr};
 ghost use Rattle.sc_args.specs.Words.{is_file_name};
 ghost use Rattle.sc_core.specs.Outcome.{IsConflictsText, FailsWith};
+ghost use Rattle.sc_core.specs.RunError as lines;
 ghost use Rattle.sc_prep.specs.Preprocesses.{Stops};
 ghost use Rattle.sc_core.specs.Texts.{TellsTokens, IsTokensAnswer, IsAnswer, FailsInSpace, lines_of};
 ghost use Rattle.sc_model.specs.Sets.{IsCond, IsNever};
@@ -13,6 +14,7 @@ ghost use Rattle.sc_space.specs.Sound.{IsSound};
 use crate::output::Output;
 use crate::run_error::RunError;
 use crate::space_file::read_space;
+use itoa::Buffer;
 use sc_args::Command;
 use sc_base::{Fault, Files, Names, OutOfMemory, Stop};
 use sc_prep::preprocess;
@@ -74,8 +76,21 @@ fn tokens_text<S: Source>(
         Ok(text) => Ok(text),
         Err(Stop::ReadFault) => Err(RunError::ReadFault),
         Err(Stop::OutOfMemory) => Err(RunError::OutOfMemory),
-        Err(Stop::BranchesFull { .. }) => unreachable!(),
+        Err(Stop::BranchesFull { count }) => {
+            Err(RunError::BranchesFull(branches_line(alloc, count)?))
+        }
     }
+}
+
+/// What the error output gets where a call has so many branches or more.
+#[tactic(auto, using(sc_text::proofs::Numerals::numeral_is))]
+fn branches_line(alloc: Global, count: usize) -> Result<Vec<u8>, OutOfMemory>
+    ensures { IfOk result (λ line. line.items ≡ lines.branches_line count) }
+{
+    let mut line = Vec::from_slice(alloc, b"superc: branches full: ")?;
+    line.extend_from_slice(Buffer::new().format(count).as_bytes())?;
+    line.extend_from_slice(b"\n")?;
+    Ok(line)
 }
 
 /// The conditions over the configurations of a space.
@@ -112,7 +127,7 @@ fn text_under<C: Conditions, S: Source>(
     requires plain { has_no_newline file.now ≡ true }
     ensures lines { IfOk result (λ text. All IsLine (lines_of text)) }
     ensures tokens { IfOk result (λ text. TellsTokens (S.holds src.old) (seen_space space.now) file.now text) }
-    ensures stops { IfErr result (Stops (S.faults src.old) (S.faults src.new)) }
+    ensures stops { IfErr result (Stops (C.sets conds.old).arities (seen_space space.now).branches (S.faults src.old) (S.faults src.new)) }
 
     // at every outcome
     ensures kept { S.holds src.new ≡ S.holds src.old }
