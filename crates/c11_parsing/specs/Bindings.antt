@@ -48,10 +48,10 @@ abbrev pub pop : List Level → List Level
 pop [] = []
 pop (level ∷ levels) = levels
 
--- the bindings of the top level are put before those of the level below
+-- the bindings of the top level are put before those of the level below, if there is one
 abbrev pub join : List Level → List Level
 join [] = []
-join (top ∷ []) = []
+join (top ∷ []) = top ∷ []
 join (top ∷ (below ∷ levels)) = (top ++ below) ∷ levels
 
 -- ---- names that a tree declares

@@ -1,0 +1,3 @@
+pub mod OwnLemmas
+pub mod SearchLemmas
+pub mod ShowLemmas

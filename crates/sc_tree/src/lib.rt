@@ -1,0 +1,10 @@
+//! The trees of all configurations, in one store that only grows.
+#![tactic(auto, using(sc_base::proofs::Growth::growth))]
+
+mod laws;
+mod line;
+mod trees;
+
+pub use laws::trees_keep_their_meaning;
+pub use line::TreeView;
+pub use trees::Trees;

@@ -1,0 +1,18 @@
+use sc_base::{Cond, Name, Place, TreeId};
+
+/// A tree as the store keeps it. Its subtrees were put into the store before it.
+#[derive(Drop)]
+pub(crate) enum Line {
+    Leaf(Place, Name),
+    Node(usize, Vec<TreeId>),
+    Choice(Vec<(Cond, TreeId)>),
+}
+
+/// What a tree is: a token by its place and spelling, a node by its production and children, or a
+/// choice by its branches, each with its condition.
+#[derive(Clone, Copy, Debug, PartialEq, Eq)]
+pub enum TreeView<'a> {
+    Leaf(Place, Name),
+    Node(usize, &'a [TreeId]),
+    Choice(&'a [(Cond, TreeId)]),
+}
