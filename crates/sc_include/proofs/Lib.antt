@@ -1,0 +1,3 @@
+mod Angles
+mod Directories
+mod FileNames
