@@ -1,5 +1,11 @@
-pub mod Decided
+pub mod AnswerLemmas
+pub mod DecidedLemmas
 pub mod Division
+pub mod EnteringLemmas
+pub mod LineLemmas
 pub mod Numbers
 pub mod Refusals
+pub mod ShortCircuit
 pub mod Stacks
+pub mod Pieces
+pub mod Replacements

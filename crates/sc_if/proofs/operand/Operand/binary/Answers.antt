@@ -1,7 +1,7 @@
 use Rattle.std.proofs.Common.{◌∙◌, sym, ap}
 use Rattle.c11_expressions.specs.Expressions.{binary_outcome}
 use Rattle.sc_if.proofs.operand.Operand.binary.Goals as goal
-use Rattle.sc_if.proofs.Decided.{decided}
+use Rattle.sc_if.proofs.ShortCircuit.{decided}
 use Rattle.sc_if.specs.Operands.{seen_operand}
 
 pub returns-in-Value : goal.returns-in-Value

@@ -1,0 +1,18 @@
+use Rattle.std.proofs.Common.{◌≡◌, ◌<◌, ℕ, List, [], All, map, take, if◌then◌else◌}
+use Rattle.sc_guarded.specs.Items.{items_at}
+use Rattle.sc_if.specs.Replaced.{IsHeldList, IsPlacedPiece, token_for}
+use Rattle.sc_model.specs.Sets.{IsConfig, Keeps}
+use Rattle.sc_table.specs.Table.{IsStill, IsTable, macros_at}
+use Rattle.sc_if.proofs.replacing.replaced.Given as goal
+
+abbrev pub invariant-loop-piece : goal.invariant-loop-piece
+invariant-loop-piece g l = record {
+  keeps : Keeps (g.C.Conditions.sets l.fn.conds) (g.C.Conditions.sets l.conds);
+  table : IsTable (g.C.Conditions.sets l.conds) l.names l.table;
+  still : IsStill (g.C.Conditions.sets l.fn.conds) (g.C.Conditions.sets l.conds) l.names l.fn.table l.table;
+  list : IsHeldList (g.C.Conditions.sets l.conds) l.names l.list;
+  placed : (files : ℕ) → All (IsPlacedPiece files) l.pieces → All (λ item. item.1.place.file.0 < files) l.list;
+  at : (c : List ℕ) → IsConfig (g.C.Conditions.sets l.fn.conds).arities c
+      → items_at (g.C.Conditions.sets l.conds) l.list c
+      ≡ (if (g.C.Conditions.sets l.fn.conds).has l.live.0 c then map (token_for l.digits.one l.digits.zero (macros_at (g.C.Conditions.sets l.fn.conds) l.names l.fn.table c) l.names) (take l.piece-index l.pieces) else []);
+}
