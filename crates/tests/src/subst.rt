@@ -1,13 +1,18 @@
-ghost use Rattle.std.specs.Prelude.{ℕ, List, All, IfOk};
+ghost use Rattle.std.specs.Prelude.{ℕ, List, All, IfOk, OnOk, map};
 ghost use Rattle.sc_base.specs.Seen.{IsHeld};
+ghost use Rattle.sc_macro.specs.Seen.{IsHeldForm, IsHeldItem};
 ghost use Rattle.sc_model.specs.Growth.{Extends};
+ghost use Rattle.sc_subst.specs.Parts.{AreHeldArguments};
 ghost use Rattle.sc_subst.specs.Seen.{IsHeldHidden};
 
 use sc_base::{FileId, Files, Kind, Name, Names, OutOfMemory, Place, Token};
 use sc_lex::{LexStop, tokens};
-use sc_macro::{Item, Replacement, read_define};
-use sc_subst::{Hidden, HideSets, SubstStop, expanded_parameters, items_at, paste, stringize};
+use sc_macro::{Form, Item, Replacement, read_define};
+use sc_subst::{
+    Hidden, HideSets, SubstStop, expanded_parameters, items_at, paste, stringize, substitute,
+};
 use std::alloc::Global;
+use std::mem;
 use std::test::Fail;
 
 const PLACE: Place = Place {
@@ -132,6 +137,198 @@ fn items_at_tells_the_place(rt: HostRuntime) -> Result<(), Fail> {
     match list.as_slice() {
         [name] => assert_eq!(rt; names.text(name.spelling), b"\"a\\\"b\\\\c.h\"".as_slice()),
         _ => return Err(Fail::new("not one item")),
+    }
+    Ok(())
+}
+
+/// A definition and the arguments of a call, a line each, and what replaces the call: of C11 6.10.3.3 and 6.10.3.5, where
+/// what an argument expands to is not asked for, and two refusals.
+const REPLACEMENTS: [(&[u8], &[u8]); 18] = [
+    (b"#define hash_hash # ## #", b"##"),
+    (
+        b"#define debug(s, t) printf(\"x\" # s \"= %d, x\" # t \"= %s\", x ## s, x ## t)\n1\n2",
+        b"printf(\"x\" \"1\" \"= %d, x\" \"2\" \"= %s\", x1, x2)",
+    ),
+    (
+        b"#define str(s) # s\nstrncmp(\"abc\\0d\", \"abc\", '\\4') /* goes away */ == 0",
+        b"\"strncmp(\\\"abc\\\\0d\\\", \\\"abc\\\", '\\\\4') == 0\"",
+    ),
+    (b"#define str(s) # s\n: @\\n", b"\": @\\n\""),
+    (b"#define str(s) # s\n", b"\"\""),
+    (b"#define INCFILE(n) vers ## n\n2", b"vers2"),
+    (b"#define glue(a, b) a ## b\nHIGH\nLOW", b"HIGHLOW"),
+    (b"#define t(x,y,z) x ## y ## z\n1\n2\n3", b"123"),
+    (b"#define t(x,y,z) x ## y ## z\n\n4\n5", b"45"),
+    (b"#define t(x,y,z) x ## y ## z\n6\n\n7", b"67"),
+    (b"#define t(x,y,z) x ## y ## z\n8\n9\n\n", b"89"),
+    (b"#define t(x,y,z) x ## y ## z\n10\n\n\n", b"10"),
+    (b"#define t(x,y,z) x ## y ## z\n\n11\n\n", b"11"),
+    (b"#define t(x,y,z) x ## y ## z\n\n\n12", b"12"),
+    (b"#define t(x,y,z) x ## y ## z\n\n\n\n", b""),
+    (
+        b"#define showlist(...) puts(#__VA_ARGS__)\nThe first, second, and third items.",
+        b"puts(\"The first, second, and third items.\")",
+    ),
+    (b"#define glue(a, b) a ## b\n+\n*", b"! BadPaste"),
+    (b"#define str(s) # s\n\\ ", b"! BadStringize"),
+];
+
+/// Adds a token to the line that is being read, or the line to those before it.
+fn add_token(
+    alloc: Global,
+    names: &Names,
+    lines: &mut Vec<Vec<Token>>,
+    line: &mut Vec<Token>,
+    token: Token,
+) -> Result<(), OutOfMemory>
+    requires lines { All (λ line. All (IsHeld names.now) line.items) lines.old.items }
+    requires line { All (IsHeld names.now) line.old.items }
+    requires token { IsHeld names.now token }
+    ensures lines { OnOk result (All (λ line. All (IsHeld names.now) line.items) lines.new.items) }
+    ensures line { OnOk result (All (IsHeld names.now) line.new.items) }
+{
+    let _names = names;
+    if matches!(token.kind, Kind::Newline) {
+        lines.push(mem::replace(line, Vec::new(alloc)))?;
+        return Ok(());
+    }
+    line.push(token)?;
+    Ok(())
+}
+
+/// The lines of a text without their newlines.
+fn lines_of(alloc: Global, names: &Names, read: &[Token]) -> Result<Vec<Vec<Token>>, OutOfMemory>
+    requires { All (IsHeld names.now) read.now }
+    ensures { IfOk result (λ lines. All (λ line. All (IsHeld names.now) line.items) lines.items) }
+{
+    let mut lines = Vec::new(alloc);
+    let mut line = Vec::new(alloc);
+    for token in read {
+        add_token(alloc, names, &mut lines, &mut line, *token)?;
+    }
+    Ok(lines)
+}
+
+/// The tokens of a line, which hide no name.
+fn hidden_of(
+    alloc: Global,
+    sets: &HideSets,
+    names: &Names,
+    line: &[Token],
+) -> Result<Vec<Hidden>, OutOfMemory>
+    requires { All (IsHeld names.now) line.now }
+    ensures { IfOk result (λ list. All (IsHeldHidden names.now sets.now) list.items) }
+{
+    let _names = names;
+    let mut list = Vec::new(alloc);
+    for token in line {
+        list.push(Hidden::new(sets, *token))?;
+    }
+    Ok(list)
+}
+
+/// The arguments of a call, a line each.
+fn arguments_of(
+    alloc: Global,
+    sets: &HideSets,
+    names: &Names,
+    lines: &[Vec<Token>],
+) -> Result<Vec<Vec<Hidden>>, OutOfMemory>
+    requires { All (λ line. All (IsHeld names.now) line.items) lines.now }
+    ensures { IfOk result (λ lists. AreHeldArguments names.now sets.now (map (λ list. list.items) lists.items)) }
+{
+    let mut lists = Vec::new(alloc);
+    for line in lines {
+        lists.push(hidden_of(alloc, sets, names, line)?)?;
+    }
+    Ok(lists)
+}
+
+/// Tokens as they are spelled, with the white space between them.
+fn spelled(alloc: Global, names: &Names, tokens: &[Hidden]) -> Result<Vec<u8>, OutOfMemory>
+    requires { All (λ t. IsHeld names.now t.token) tokens.now }
+{
+    let mut text = Vec::new(alloc);
+    for hidden in tokens {
+        if hidden.token.space {
+            text.push(b' ')?;
+        }
+        text.extend_from_slice(names.text(hidden.token.spelling))?;
+    }
+    Ok(text)
+}
+
+/// What replaces a call with these arguments, or the cause of its refusal.
+fn replaced_with(
+    alloc: Global,
+    sets: &mut HideSets,
+    names: &mut Names,
+    form: &Form,
+    items: &[Item],
+    arguments: &[Vec<Hidden>],
+    head: &Token,
+) -> Result<Vec<u8>, Fail>
+    requires form { IsHeldForm names.old form.now }
+    requires items { All (IsHeldItem names.old) items.now }
+    requires arguments { AreHeldArguments names.old sets.old (map (λ list. list.items) arguments.now) }
+{
+    let hide = sets.empty();
+    match substitute(
+        alloc, sets, names, form, items, arguments, arguments, head, hide,
+    ) {
+        Ok(made) => Ok(spelled(alloc, names, &made)?),
+        Err(SubstStop::Fault(cause)) => {
+            let text = format!(in alloc; "! {cause:?}")?;
+            Ok(Vec::from_slice(alloc, text.as_bytes())?)
+        }
+        Err(stop) => Err(Fail::from(stop)),
+    }
+}
+
+/// What replaces a call whose definition is the first line, and whose arguments are the others.
+fn replaced_by_lines(
+    alloc: Global,
+    names: &mut Names,
+    line: &[Token],
+    rest: &[Vec<Token>],
+) -> Result<Vec<u8>, Fail>
+    requires line { All (IsHeld names.old) line.now }
+    requires rest { All (λ line. All (IsHeld names.old) line.items) rest.now }
+{
+    let mut sets = HideSets::new(alloc)?;
+    let definition = read_define(alloc, names, line)?;
+    let arguments = arguments_of(alloc, &sets, names, rest)?;
+    match (&definition.replacement, line) {
+        (Replacement::Items(items), [head, ..]) => {
+            replaced_with(
+                alloc,
+                &mut sets,
+                names,
+                &definition.form,
+                items,
+                &arguments,
+                head,
+            )
+        }
+        _ => Err(Fail::new("the place tells the list")),
+    }
+}
+
+/// What replaces a call: its definition and its arguments are the lines of a text.
+fn replaced(alloc: Global, text: &[u8]) -> Result<Vec<u8>, Fail> {
+    let mut names = Names::new(alloc)?;
+    let read = tokens(alloc, FileId(0), text, &mut names)?;
+    let lines = lines_of(alloc, &names, &read)?;
+    match lines.as_slice() {
+        [line, rest @ ..] => replaced_by_lines(alloc, &mut names, line, rest),
+        _ => Err(Fail::new("no definition")),
+    }
+}
+
+#[test]
+fn substitute_replaces_calls_as_the_standard_does(rt: HostRuntime) -> Result<(), Fail> {
+    for (text, expected) in REPLACEMENTS {
+        assert_eq!(rt; replaced(rt.alloc(), text)?.as_slice(), expected);
     }
     Ok(())
 }
