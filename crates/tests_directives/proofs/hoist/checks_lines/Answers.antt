@@ -1,0 +1,10 @@
+use Rattle.std.proofs.lemmas.List.Elements.{All-map}
+use Rattle.sc_base.specs.declared.id.Cond.{Cond}
+use Rattle.sc_base.specs.declared.token.Token.{Token}
+use Rattle.sc_model.specs.Sets.{IsCond}
+use Rattle.tests_directives.proofs.hoist.checks_lines.Goals as goal
+
+pub lines-requires-clause-own : goal.lines-requires-clause-own
+lines-requires-clause-own g c =
+    All-map (λ (item : Cond × Token). IsCond (g.C.Conditions.sets c.two_sides.new.conds) item.0.0) (λ (item : Cond × Token). (item.0, item.1)) c.in_ok-list.list
+    c.in_ok-list.ensures.own

@@ -1,0 +1,11 @@
+//! The tests of the parser's libraries, over public calls.
+#![tactic(auto)]
+
+#[cfg(test)]
+mod kinds;
+#[cfg(test)]
+mod scope;
+#[cfg(test)]
+mod stack;
+#[cfg(test)]
+mod tree;
