@@ -21,7 +21,7 @@ struct Case<'a> {
     text: &'a str,
 }
 
-const CASES: [Case<'static>; 4] = [
+const CASES: [Case<'static>; 5] = [
     Case {
         main: b"#ifdef A\nx\n#else\ny\n#endif\n",
         text: "c 2 A undef:0 1:1\ns 0 m.c\nt 2 0:2:1 x\nc 3 A undef:1 1:0\nt 3 0:4:1 y\nend\n",
@@ -37,6 +37,10 @@ const CASES: [Case<'static>; 4] = [
     Case {
         main: b"#ifdef B\n#error\n#endif\n",
         text: "c 2 B undef:0 1:1\ns 0 m.c\nf 2 5 BadDirective 0:2:1\nend\n",
+    },
+    Case {
+        main: b"#ifdef A\n#define f(x) x\n#endif\n#ifdef B\nf(1)\n#endif\n",
+        text: "c 2 B undef:0 1:1\nc 3 A undef:2 1:0\ns 0 m.c\nt 3 0:5:1 f\nc 4 A undef:0 1:2\nt 4 0:5:3 1\nt 3 0:5:2 (\nt 3 0:5:3 1\nt 3 0:5:4 )\nend\n",
     },
 ];
 

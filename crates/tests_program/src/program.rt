@@ -45,7 +45,7 @@ const TOKENS: Case<'static> = Case {
 
 const ONE: &str = "[variables]\nA = [\"undef\", 1]\n";
 
-const CASES: [Case<'static>; 24] = [
+const CASES: [Case<'static>; 41] = [
     TOKENS,
     Case {
         space: ONE,
@@ -119,6 +119,105 @@ const CASES: [Case<'static>; 24] = [
     Case {
         main: b"in\\\nt x;\n",
         out: "s 0 m.c\nt 1 0:1:1 int\nt 1 0:2:3 x\nt 1 0:2:4 ;\nend\n",
+        ..TOKENS
+    },
+    Case {
+        space: ONE,
+        main: b"#define f(a,b) a-b\nf(1,\n#ifdef A\n2\n#else\n3\n#endif\n)\n",
+        out: "c 2 A undef:1 1:0\ns 0 m.c\nt 2 0:2:3 1\nt 2 0:2:1 -\nt 2 0:6:1 3\nc 3 A undef:0 1:1\nt 3 0:2:3 1\nt 3 0:2:1 -\nt 3 0:4:1 2\nend\n",
+        ..TOKENS
+    },
+    Case {
+        space: ONE,
+        main: b"#define s(x) #x\ns(a\n#ifdef A\n+ \"b\\n\"\n#endif\n)\n",
+        out: "c 2 A undef:1 1:0\ns 0 m.c\nt 2 0:2:1 \"a\"\nc 3 A undef:0 1:1\nt 3 0:2:1 \"a + \\\"b\\\\n\\\"\"\nend\n",
+        ..TOKENS
+    },
+    Case {
+        main: b"#define hash_hash # ## #\n#define mkstr(a) # a\n#define in_between(a) mkstr(a)\n#define join(c, d) in_between(c hash_hash d)\njoin(x, y)\n",
+        out: "s 0 m.c\nt 1 0:5:1 \"x ## y\"\nend\n",
+        ..TOKENS
+    },
+    Case {
+        space: ONE,
+        main: b"#define f(a,b) a b\nf(1,\n#ifdef A\n#define X\n#endif\n2)\n",
+        status: 1,
+        out: "c 2 A undef:1 1:0\ns 0 m.c\nt 2 0:2:3 1\nt 2 0:6:1 2\nc 3 A undef:0 1:1\nf 3 17 UnterminatedCall 0:2:1\nend\n",
+        ..TOKENS
+    },
+    Case {
+        main: b"??=define Z 1\nZ\n",
+        out: "s 0 m.c\nt 1 0:2:1 1\nend\n",
+        ..TOKENS
+    },
+    Case {
+        main: b"#define L __LINE__\n\nL __FILE__\n",
+        out: "s 0 m.c\nt 1 0:3:1 3\nt 1 0:3:3 \"m.c\"\nend\n",
+        ..TOKENS
+    },
+    Case {
+        main: b"#define e(f, ...) f __VA_ARGS__\ne(1) __DATE__ __TIME__\n__STDC__ __STDC_VERSION__ __STDC_HOSTED__\n",
+        out: "s 0 m.c\nt 1 0:2:3 1\nt 1 0:2:6 \"Jan  1 1970\"\nt 1 0:2:15 \"00:00:00\"\nt 1 0:3:1 1\nt 1 0:3:10 201112L\nt 1 0:3:27 1\nend\n",
+        ..TOKENS
+    },
+    Case {
+        main: b"#define g(x) x\ng(1,2)\n",
+        status: 1,
+        out: "s 0 m.c\nf 1 18 WrongArguments 0:2:1\nend\n",
+        ..TOKENS
+    },
+    Case {
+        space: ONE,
+        main: b"#ifdef A\n#define f(x) x+x\n#endif\nf(1)\n",
+        out: "c 2 A undef:1 1:0\ns 0 m.c\nt 2 0:4:1 f\nc 3 A undef:0 1:1\nt 3 0:4:3 1\nt 3 0:4:1 +\nt 3 0:4:3 1\nt 2 0:4:2 (\nt 2 0:4:3 1\nt 2 0:4:4 )\nend\n",
+        ..TOKENS
+    },
+    Case {
+        main: b"#define f(a) a*g\n#define g(a) f(a)\nf(2)(9)\n",
+        out: "s 0 m.c\nt 1 0:3:3 2\nt 1 0:3:1 *\nt 1 0:3:6 9\nt 1 0:3:1 *\nt 1 0:3:1 g\nend\n",
+        ..TOKENS
+    },
+    Case {
+        space: ONE,
+        main: b"#ifdef A\n#define f 1 f\n#else\n#define f(x) [x]\n#endif\nf\n(2)\n",
+        out: "c 2 A undef:1 1:0\ns 0 m.c\nt 2 0:6:1 [\nt 2 0:7:2 2\nt 2 0:6:1 ]\nc 3 A undef:0 1:1\nt 3 0:6:1 1\nt 3 0:6:1 f\nt 3 0:7:1 (\nt 3 0:7:2 2\nt 3 0:7:3 )\nend\n",
+        ..TOKENS
+    },
+    Case {
+        main: b"#define f(x) x\nf(1\n",
+        status: 1,
+        out: "s 0 m.c\nf 1 17 UnterminatedCall 0:2:1\nend\n",
+        ..TOKENS
+    },
+    Case {
+        main: b"#define p(a) a ## +\np(-) p(x)\n",
+        status: 1,
+        out: "s 0 m.c\nf 1 19 BadPaste 0:2:1\nend\n",
+        ..TOKENS
+    },
+    Case {
+        main: b"#define p(a) #a\np(\\)\n",
+        status: 1,
+        out: "s 0 m.c\nf 1 20 BadStringize 0:2:1\nend\n",
+        ..TOKENS
+    },
+    Case {
+        space: "branches = 1\n[variables]\nA = [\"undef\", 1]\n",
+        main: b"#define f(a,b) a-b\nf(1,\n#ifdef A\n2\n#else\n3\n#endif\n)\n",
+        status: 5,
+        out: "",
+        err: "superc: branches full: 2\n",
+        ..TOKENS
+    },
+    Case {
+        space: "branches = 1\n[variables]\nA = [\"undef\", 1]\n",
+        main: b"#define f(a) a\n#ifdef A\nf(1)\n#else\nf(2)\n#endif\n",
+        out: "c 2 A undef:0 1:1\ns 0 m.c\nt 2 0:3:3 1\nc 3 A undef:1 1:0\nt 3 0:5:3 2\nend\n",
+        ..TOKENS
+    },
+    Case {
+        main: b"#define x 3\n#define f(a) f(x * (a))\n#undef x\n#define x 2\n#define g f\n#define z z[0]\n#define t(a) a\nf(y+1) + f(f(z)) % t(t(g)(0) + t)(1);\n",
+        out: "s 0 m.c\nt 1 0:8:1 f\nt 1 0:8:1 (\nt 1 0:8:1 2\nt 1 0:8:1 *\nt 1 0:8:1 (\nt 1 0:8:3 y\nt 1 0:8:4 +\nt 1 0:8:5 1\nt 1 0:8:1 )\nt 1 0:8:1 )\nt 1 0:8:8 +\nt 1 0:8:10 f\nt 1 0:8:10 (\nt 1 0:8:10 2\nt 1 0:8:10 *\nt 1 0:8:10 (\nt 1 0:8:12 f\nt 1 0:8:12 (\nt 1 0:8:12 2\nt 1 0:8:12 *\nt 1 0:8:12 (\nt 1 0:8:14 z\nt 1 0:8:14 [\nt 1 0:8:14 0\nt 1 0:8:14 ]\nt 1 0:8:12 )\nt 1 0:8:12 )\nt 1 0:8:10 )\nt 1 0:8:10 )\nt 1 0:8:18 %\nt 1 0:8:24 f\nt 1 0:8:24 (\nt 1 0:8:24 2\nt 1 0:8:24 *\nt 1 0:8:24 (\nt 1 0:8:27 0\nt 1 0:8:24 )\nt 1 0:8:24 )\nt 1 0:8:30 +\nt 1 0:8:32 t\nt 1 0:8:34 (\nt 1 0:8:35 1\nt 1 0:8:36 )\nt 1 0:8:37 ;\nend\n",
         ..TOKENS
     },
     Case {
