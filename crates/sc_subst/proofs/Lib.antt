@@ -1,5 +1,6 @@
 pub mod Gluing
 pub mod Later
+pub mod Operating
 pub mod PartTurns
 pub mod Pasting
 pub mod Quoting

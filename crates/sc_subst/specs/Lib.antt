@@ -6,3 +6,4 @@ pub mod Parts
 pub mod Rising
 pub mod Seen
 pub mod Stops
+pub mod SetOperations

@@ -11,6 +11,7 @@ mod operators;
 mod part;
 mod parts;
 mod replacement;
+mod set_operation;
 mod slots;
 mod sorted;
 mod stop;

@@ -1,18 +1,20 @@
-ghost use Rattle.std.specs.Prelude.{ℕ, List, All, IfOk, OnOk, map};
+ghost use Rattle.std.specs.Prelude.{ℕ, ◌<◌, List, All, IfOk, OnOk, length, map};
 ghost use Rattle.sc_base.specs.Seen.{IsHeld};
 ghost use Rattle.sc_macro.specs.Seen.{IsHeldForm, IsHeldItem};
 ghost use Rattle.sc_model.specs.Growth.{Extends};
 ghost use Rattle.sc_subst.specs.Parts.{AreHeldArguments};
-ghost use Rattle.sc_subst.specs.Seen.{IsHeldHidden};
+ghost use Rattle.sc_subst.specs.Seen.{IsHeldHidden, IsHeldSet};
 
 use sc_base::{FileId, Files, Kind, Name, Names, OutOfMemory, Place, Token};
 use sc_lex::{LexStop, tokens};
 use sc_macro::{Form, Item, Replacement, read_define};
 use sc_subst::{
-    Hidden, HideSets, SubstStop, expanded_parameters, items_at, paste, stringize, substitute,
+    Hidden, Hide, HideSets, SubstStop, expanded_parameters, hide_all, items_at, paste, stringize,
+    substitute,
 };
 use std::alloc::Global;
 use std::mem;
+use std::process::Abort;
 use std::test::Fail;
 
 const PLACE: Place = Place {
@@ -79,6 +81,58 @@ fn paste_makes_one_token_of_two(rt: HostRuntime) -> Result<(), Fail> {
             assert!(rt; made.token.kind == Kind::Punctuator && made.token.space);
             Ok(())
         }
+        _ => Err(Fail::new("not two tokens")),
+    }
+}
+
+/// The set of this name alone.
+fn single(sets: &mut HideSets, names: &Names, name: Name) -> Result<Hide, OutOfMemory>
+    requires { name.0 < length names.now }
+    ensures own { IfOk result (λ made. IsHeldSet names.now sets.new made.0) }
+
+    // at every outcome
+    ensures sets { Extends sets.old sets.new }
+{
+    let _names = names;
+    let none = sets.empty();
+    sets.with(none, name)
+}
+
+/// The first token hides the name of the second already, and then hides its own as the second does.
+fn hides_the_first(
+    rt: &impl Abort,
+    alloc: Global,
+    sets: &mut HideSets,
+    names: &Names,
+    first: Token,
+    second: Token,
+) -> Result<(), Fail>
+    requires first { IsHeld names.now first }
+    requires second { IsHeld names.now second }
+{
+    let hide = single(sets, names, second.spelling)?;
+    let more = single(sets, names, first.spelling)?;
+    let tokens = [Hidden { token: first, hide }, Hidden::new(sets, second)];
+    let made = hide_all(alloc, sets, names, &tokens, more)?;
+    match made.as_slice() {
+        [one, two] => {
+            assert!(rt; one.token == first && two.token == second);
+            assert!(rt; sets.has(one.hide, first.spelling) && sets.has(one.hide, second.spelling));
+            assert!(rt; sets.has(two.hide, first.spelling) && !sets.has(two.hide, second.spelling));
+            Ok(())
+        }
+        _ => Err(Fail::new("not two tokens")),
+    }
+}
+
+#[test]
+fn hide_all_hides_more_names(rt: HostRuntime) -> Result<(), Fail> {
+    let alloc = rt.alloc();
+    let mut names = Names::new(alloc)?;
+    let mut sets = HideSets::new(alloc)?;
+    let line = line_of(alloc, &mut names, b"f(x)")?;
+    match line.as_slice() {
+        [first, second, ..] => hides_the_first(&rt, alloc, &mut sets, &names, *first, *second),
         _ => Err(Fail::new("not two tokens")),
     }
 }
