@@ -86,7 +86,7 @@ and_false true = refl
 and_false false = refl
 
 -- a call that has ended takes nothing
-taken_final : (s : Sets) (names : List (List ℕ)) (state : State) (n : ℕ) (items : List (Cond × Token)) (c : List ℕ) → is_final state ≡ true → taken_from s names state n items c ≡ []
+pub taken_final : (s : Sets) (names : List (List ℕ)) (state : State) (n : ℕ) (items : List (Cond × Token)) (c : List ℕ) → is_final state ≡ true → taken_from s names state n items c ≡ []
 taken_final s names state n [] c final = refl
 taken_final s names state n (item ∷ items) c final =
     let role : Role = role_in (text_at names item.1.spelling.0) in

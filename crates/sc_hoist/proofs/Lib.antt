@@ -1,6 +1,7 @@
 pub mod BranchLemmas
 pub mod CallBranchLemmas
 pub mod CallLemmas
+pub mod CommonLemmas
 pub mod EndLemmas
 pub mod ItemLemmas
 pub mod PartLemmas

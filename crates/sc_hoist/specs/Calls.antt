@@ -96,3 +96,8 @@ ClosesAt ts None None = Unit {0}
 ClosesAt ts None (Some call) = ⊥
 ClosesAt ts (Some index) None = ⊥
 ClosesAt ts (Some index) (Some call) = (slice_get ts index ≡ Some call.close) × (call.rest ≡ drop (suc index) ts)
+
+-- the call of the name is closed, and its tokens and the name have these indexes
+pub record IsClosedCall (s : Sets) (names : List (List ℕ)) (items : List (Cond × Token)) (at : ℕ) (places c : List ℕ) : Type 0 where
+  pub ends : call_end_at s names items at c ≡ closed
+  pub placed : call_places s names items at c ≡ places
