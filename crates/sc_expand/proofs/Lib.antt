@@ -45,3 +45,6 @@ pub mod GatherBranches
 pub mod GatherEnds
 pub mod GatherParts
 pub mod PuttingOut
+pub mod UnchangedLemmas
+pub mod UnchangedTaking
+pub mod UnchangedAnswers

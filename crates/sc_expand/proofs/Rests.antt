@@ -11,6 +11,7 @@ use Rattle.sc_base.specs.declared.place.Place.{Place}
 use Rattle.sc_expand.proofs.MachineCalls.{calls_at-append, leave-other}
 use Rattle.sc_expand.proofs.MachineLemmas.{Stands-Grows, state_in-Grows}
 use Rattle.sc_expand.proofs.SeenLemmas.{AreHeld-tail, IsHeldExpansion-Grows, at-Grows}
+use Rattle.sc_expand.proofs.UnchangedLemmas.{drops-first, drops-nothing, drops-then, never-empty, not-both}
 use Rattle.sc_expand.specs.declared.call.Call.{Call}
 use Rattle.sc_expand.specs.declared.expansion.Expansion.{Expansion}
 use Rattle.sc_expand.specs.declared.frame.Enclosing.{Enclosing}
@@ -52,11 +53,6 @@ next-argument e below o none empty is =
 
 some-same : {A : Type 0} {x y : A} → Some x ≡ Some y → x ≡ y
 some-same is = cc
-
-never-both : (a b : Bool) → (a ≡ true → b ≡ true → ⊥) → (a && b) ≡ false
-never-both true true not = absurd (not refl refl)
-never-both true false not = refl
-never-both false b not = refl
 
 pub All-here : {A : Type 0} (P : A → Type 0) (xs : List A) (i : ℕ) (x : A) → slice_get xs i ≡ Some x → All P xs → P x
 All-here P xs i x is all = subst P (get_or_from_slice_get xs i x x is) (all i x (slice_get_within xs i x is))
@@ -106,6 +102,7 @@ module _ {old new : Stores} (grows : Grows old new) (e : Expansion) where
           subst (Stands new c e.below.items) (sym view) (Stands-Grows grows files c listed held.below stands),
           sym (ap (λ v. state_in new e.below.items v c) view ∙ state_in-Grows grows files c listed e.below.items (view_at old e.top c) held.below),
         ));
+    drops = λ files held uncalled. drops-nothing old.sets e uncalled;
   }
 
 -- ---- what is next drops out, and only refused configurations have it
@@ -156,6 +153,7 @@ module _ (st : Stores) (e after : Expansion) (refusals : after.refusals ≡ e.re
         let first = ap (λ l. seen_at st l c) out in
         let third = ap (λ l. calls_at st l c) calls in
         λ i. record { out = first i; work = fewer i; calls = third i }));
+    drops = λ files held uncalled. drops-first st.sets e after item never work calls out below uncalled;
   }
 
   pub rested-dropped : ((cond : Cond) → next_of e ≡ Some cond → (c : List ℕ) → IsConfig st.sets.arities c → st.sets.has cond.0 c ≡ true → st.sets.has e.refusals.live.0 c ≡ true → ⊥)
@@ -181,6 +179,7 @@ module _ (st : Stores) (e after : Expansion) (refusals : after.refusals ≡ e.re
         let first = ap (λ l. seen_at st l c) out in
         let second = ap (λ l. seen_at st l c) work in
         λ i. record { out = first i; work = second i; calls = fewer i }));
+    drops = λ files held uncalled. absurd (never-empty after.top.calls.items k (sym calls ∙ uncalled.calls));
   }
   rested-dropped never (running.token item none later work out below) =
       rested-token item (λ c listed has live. never item.0 (next-token e item after.top.work none work) c listed has live) work (later ∙ sym none) out below
@@ -201,6 +200,7 @@ module _ (st : Stores) (e after : Expansion) (refusals : after.refusals ≡ e.re
           subst (λ t. Stands st c after.below.items (view_at st t c)) (sym top) r.0,
           ap (λ bs. state_in st bs (view_at st e.top c) c) below ∙ (r.1 ∙ ap (λ t. state_in st after.below.items (view_at st t c) c) (sym top)),
         ));
+    drops = λ files held uncalled. absurd (never-empty after.below.items o (sym below ∙ uncalled.below));
   }
 
 -- ---- one after the other
@@ -213,6 +213,9 @@ rested-then {old} {mid} {new} {one} {two} {three} grows a b = record {
   held = λ files held. b.held files (a.held files held);
   progress = λ files provenance macros c held listed.
       progress-then false false refl (a.progress files provenance macros c held listed) (b.progress files provenance macros c (a.held files held) (IsConfig-Keeps grows.sets listed));
+  drops = λ files held uncalled.
+      let first = a.drops files held uncalled in
+      drops-then old.sets mid.sets one two three grows.sets held.refusals.live held.top.work.own a.refusals first (b.drops files (a.held files held) first.uncalled);
 }
 
 -- ---- it grows lighter
@@ -245,7 +248,7 @@ module _ {old new : Sets} (keeps : Keeps old new) (e : Expansion) (next met : Co
       none = λ c listed.
           let was = IsConfig-kept keeps listed in
           let same : next ≡ cond = some-same (sym is ∙ other) in
-          both.at c listed ∙ never-both (old.has next.0 c) (old.has e.refusals.live.0 c)
+          both.at c listed ∙ not-both (old.has next.0 c) (old.has e.refusals.live.0 c)
           (λ has live. none c listed (subst (λ (x : Cond). new.has x.0 c ≡ true) same (keeps.at next.0 c own was ∙ has)) (keeps.at e.refusals.live.0 c live_own was ∙ live));
     });
   }

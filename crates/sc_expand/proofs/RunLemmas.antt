@@ -11,8 +11,9 @@ use Rattle.sc_expand.proofs.MachineLemmas as told
 use Rattle.sc_expand.proofs.MachineLemmas.{IsTold, progress-step, told-progress}
 use Rattle.sc_expand.proofs.PlainReaches.{Reaches, reaches-end, reaches-start}
 use Rattle.sc_expand.proofs.PlainTurns.{IsTurn, steps_left, turn-le, turn-less}
-use Rattle.sc_expand.proofs.SeenLemmas.{Grows-refl}
+use Rattle.sc_expand.proofs.SeenLemmas.{AreHeld-Grows, Grows-refl}
 use Rattle.sc_expand.proofs.Turning.{puts-nothing, puts-same}
+use Rattle.sc_expand.proofs.UnchangedLemmas.{drops-pass, looks-later, passes-all, passes-Keeps, passes-nothing, passes-then}
 use Rattle.sc_expand.specs.declared.expansion.Expansion.{Expansion}
 use Rattle.sc_expand.specs.declared.frame.Enclosing.{Enclosing}
 use Rattle.sc_expand.specs.Machine.{IsExpansion, IsHeldExpansion, Progress, Stands, at, on_top, state_in}
@@ -22,7 +23,8 @@ use Rattle.sc_expand.specs.Running.{HasEnded, IsDone, IsRested, IsTurned, IsUnto
 use Rattle.sc_expand.specs.Seen.{Grows, Stores, calls_at, failures_at, provenance_of, seen_at, state_by, view_at}
 use Rattle.sc_expand.specs.Turn.{At}
 use Rattle.sc_model.proofs.SetLemmas.{IsConfig-Keeps, IsConfig-kept}
-use Rattle.sc_model.specs.Sets.{IsConfig}
+use Rattle.sc_expand.specs.Unchanged.{IsRestricted, LooksUpNone, Passes}
+use Rattle.sc_model.specs.Sets.{IsConfig, Keeps}
 use Rattle.sc_subst.specs.declared.hidden.Hidden.{Hidden}
 
 -- what holds of an expansion that began so, at each configuration
@@ -31,6 +33,7 @@ pub record IsRunning (files : List (List ℕ)) (macros : List ℕ → Macros) (o
   pub told : (c : List ℕ) → IsConfig old.sets.arities c
       → IsTold (provenance_of files) (macros c) (seen_at old was.top.work c) now c e.below.items (at now e c) (old.sets.has was.refusals.live.0 c)
   pub out : PutsOut old now was.refusals.live.0 was.top.out (put_out e)
+  pub passes : LooksUpNone old.sets old.names macros was → Passes now.sets was e
 
 pub less-le : {a b d : ℕ} → a < b → b ≤ d → a < d
 less-le less le = omega arith
@@ -55,6 +58,7 @@ module _ (files : List (List ℕ)) (macros : List ℕ → Macros) (old : Stores)
     held = held;
     told = λ c listed. told_at c (old.sets.has was.refusals.live.0 c) refl;
     out = subst (PutsOut old old was.refusals.live.0 was.top.out) (sym (ap (λ bs. put_by bs was.top) fresh.below)) (puts-nothing (Grows-refl old) was.refusals.live.0 was.top.out held.top.out);
+    passes = λ none. passes-nothing old.sets was (record { below = fresh.below; calls = fresh.calls });
   }
     where
       told_at : (c : List ℕ) (b : Bool) → old.sets.has was.refusals.live.0 c ≡ b → IsTold (provenance_of files) (macros c) (seen_at old was.top.work c) old c was.below.items (at old was c) b
@@ -110,8 +114,8 @@ module _ {files : List (List ℕ)} {macros : List ℕ → Macros} {old now : Sto
             (s.0, s.1.step);
       }
 
-      pub running-later : IsHeldExpansion new (length files) after → PutsOut now new e.refusals.live.0 (put_out e) (put_out after) → IsRunning files macros old new was after
-      running-later held out = record { held = held; told = told-later; out = puts-then grows fewer r.out out }
+      pub running-later : IsHeldExpansion new (length files) after → PutsOut now new e.refusals.live.0 (put_out e) (put_out after) → (LooksUpNone old.sets old.names macros was → Passes new.sets was after) → IsRunning files macros old new was after
+      running-later held out passes = record { held = held; told = told-later; out = puts-then grows fewer r.out out; passes = passes }
 
       pub running-le : steps_in old.sets.arities files macros names within new after ≤ steps_in old.sets.arities files macros names within now e
       running-le = turn-le old.sets.arities (provenance_of files) macros names within (λ c. now.sets.has e.refusals.live.0 c) (λ c. new.sets.has after.refusals.live.0 c)
@@ -139,13 +143,17 @@ module _ {files : List (List ℕ)} {macros : List ℕ → Macros} {old now : Sto
 -- ---- the two parts of a turn
 
 module _ {files : List (List ℕ)} {macros : List ℕ → Macros} {old now : Stores} {was e : Expansion} (grows : Grows old now) (r : IsRunning files macros old now was e)
-    (names : List (List ℕ)) (within : (c : List ℕ) → IsWithin names (macros c)) (new : Stores) (after : Expansion) where
+    (names : List (List ℕ)) (within : (c : List ℕ) → IsWithin names (macros c)) (began : IsHeldExpansion old (length files) was) (new : Stores) (after : Expansion) where
   module _ (rested : IsRested now new e after) where
     rests-at : (c : List ℕ) → IsConfig old.sets.arities c → Progress (provenance_of files) (macros c) now new c e.below.items after.below.items (at now e c) (at new after c) false
     rests-at c listed = rested.progress (length files) (provenance_of files) (macros c) c r.held (IsConfig-Keeps grows.sets listed)
 
     pub running-rested : Grows now new → IsRunning files macros old new was after
     running-rested more = running-later grows r new after names within (λ c. false) rests-at (rested.held (length files) r.held) (puts-same more e.refusals.live.0 e after r.held rested.out)
+        (λ none.
+        let p = r.passes none in
+        let q = passes-then now.sets was e after p (drops-pass now.sets e after rested.refusals (rested.drops (length files) r.held p.uncalled)) in
+        passes-Keeps was after more.sets (grows.sets.own was.refusals.live.0 began.refusals.live) (AreHeld-Grows grows was.top.work began.top.work).own q)
 
     pub rested-le : steps_in old.sets.arities files macros names within new after ≤ steps_in old.sets.arities files macros names within now e
     rested-le = running-le grows r new after names within (λ c. false) rests-at
@@ -154,8 +162,13 @@ module _ {files : List (List ℕ)} {macros : List ℕ → Macros} {old now : Sto
     turned-at : (c : List ℕ) → IsConfig old.sets.arities c → Progress (provenance_of files) (macros c) now new c e.below.items after.below.items (at now e c) (at new after c) (turned.takes c)
     turned-at c listed = subst (λ m. Progress (provenance_of files) m now new c e.below.items after.below.items (at now e c) (at new after c) (turned.takes c)) (same c listed) (turned.progress c (IsConfig-Keeps grows.sets listed))
 
-    pub running-turned : IsHeldExpansion new (length files) after → PutsOut now new e.refusals.live.0 (put_out e) (put_out after) → IsRunning files macros old new was after
-    running-turned held out = running-later grows r new after names within turned.takes turned-at held out
+    pub running-turned : Keeps now.sets new.sets → IsHeldExpansion new (length files) after → PutsOut now new e.refusals.live.0 (put_out e) (put_out after) → IsRunning files macros old new was after
+    running-turned keeps held out = running-later grows r new after names within turned.takes turned-at held out (λ none.
+        let p = r.passes none in
+        let looks = looks-later grows macros other same (length files) was e began none p in
+        let live = grows.sets.own was.refusals.live.0 began.refusals.live in
+        let own = (AreHeld-Grows grows was.top.work began.top.work).own in
+        passes-then new.sets was e after (passes-Keeps was e keeps live own p) (turned.passes p.uncalled looks))
 
     pub turned-less : went ≡ true → steps_in old.sets.arities files macros names within new after < steps_in old.sets.arities files macros names within now e
     turned-less there = running-less grows r new after names within turned.takes turned-at (turned.some there)
@@ -181,3 +194,6 @@ module _ {files : List (List ℕ)} {macros : List ℕ → Macros} {old now : Sto
 
   pub running-out : PutsOut old now was.refusals.live.0 was.top.out e.top.out
   running-out = subst (PutsOut old now was.refusals.live.0 was.top.out) (ap (λ bs. put_by bs e.top) ended.below) r.out
+
+  pub running-unchanged : was.top.out ≡ [] → LooksUpNone old.sets old.names macros was → IsRestricted now.sets was.refusals.live.0 was.top.work e.top.out × (e.refusals ≡ was.refusals)
+  running-unchanged fresh none = passes-all now.sets was e fresh ended.work (r.passes none)

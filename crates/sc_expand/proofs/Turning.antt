@@ -12,6 +12,7 @@ use Rattle.sc_expand.proofs.MachineLeaves.{left-held, left-progress}
 use Rattle.sc_expand.proofs.MachineLemmas.{stands-cases, turn-progress}
 use Rattle.sc_expand.proofs.Rests.{next-argument, next-call, put-less, put-same}
 use Rattle.sc_expand.proofs.SeenLemmas.{seen_at-Grows}
+use Rattle.sc_expand.proofs.UnchangedLemmas.{never-empty}
 use Rattle.sc_expand.specs.declared.call.Call.{Call}
 use Rattle.sc_expand.specs.declared.expansion.Expansion.{Expansion}
 use Rattle.sc_expand.specs.declared.frame.Enclosing.{Enclosing}
@@ -20,6 +21,8 @@ use Rattle.sc_expand.specs.Machine.{IsExpansion, IsHeldExpansion, IsResumed, Pro
 use Rattle.sc_expand.specs.Running.{IsReady, IsTurned, PutsOut, last_of, next_by, next_of, put_by, put_out}
 use Rattle.sc_expand.specs.Seen.{AreHeld, Grows, IsHeldCall, IsHeldEnclosing, IsHeldFrame, Stores, View, calls_at, provenance_of, view_at, waiting_at}
 use Rattle.sc_expand.specs.Turn.{Turn}
+use Rattle.sc_expand.specs.Unchanged as unchanged
+use Rattle.sc_expand.specs.Unchanged.{IsUncalled, LooksUpNone, Passes}
 use Rattle.sc_model.proofs.SetLemmas.{IsConfig-Keeps}
 use Rattle.sc_model.specs.Sets.{IsConfig}
 use Rattle.sc_subst.specs.declared.hidden.Hidden.{Hidden}
@@ -123,24 +126,30 @@ module _ {old new : Stores} (grows : Grows old new) (files : List (List ℕ)) (m
   prov = provenance_of files
 
   -- a turn of the configurations that have what is next
-  next-turn : (next : Cond) → next_of e ≡ Some next → IsReady old.sets e
+  next-turn : (next : Cond) → next_of e ≡ Some next → IsReady old.sets e → (IsUncalled e → LooksUpNone old.sets old.names macros e → Passes new.sets e after)
       → ((c : List ℕ) → IsConfig old.sets.arities c → Progress (provenance_of files) (macros c) old new c e.below.items after.below.items (at old e c) (at new after c) (old.sets.has next.0 c)) → IsTurned files macros old new e after true
-  next-turn next here ready progress = record {
+  next-turn next here ready passes progress = record {
     takes = λ c. old.sets.has next.0 c;
     progress = progress;
     some = λ went. ready.some next here;
     ended = λ not. absurd (true≢false not);
+    passes = passes;
   }
 
   pub called-turn : (calls : Vec Call) (call : Call) → e.top.calls.items ≡ calls.items ++ call ∷ [] → IsReady old.sets e
       → ((c : List ℕ) → IsConfig old.sets.arities c → Progress (provenance_of files) (macros c) old new c e.below.items after.below.items (at_call old (with_calls e calls) call c) (at new after c) (old.sets.has call.cond.0 c))
       → IsTurned files macros old new e after true
   called-turn calls call popped ready progress = next-turn call.cond (next-call e calls.items call popped) ready
+      (λ uncalled none. absurd (never-empty calls.items call (sym popped ∙ uncalled.calls)))
       (λ c listed. subst (λ a. Progress (provenance_of files) (macros c) old new c e.below.items after.below.items a (at new after c) (old.sets.has call.cond.0 c)) (at_call-popped old c e calls call popped) (progress c listed))
 
   pub taken-turn : (calls : Vec Call) → IsNone Call e.top.calls.items calls.items → (item : Cond × Hidden) → slice_get e.top.work 0 ≡ Some item → after.below ≡ e.below → IsReady old.sets e
+      → (IsUncalled (with_calls e calls) → LooksUpNone old.sets old.names macros (with_calls e calls) → Passes new.sets (with_calls e calls) after)
       → ((c : List ℕ) → IsConfig old.sets.arities c → Turn (provenance_of files) (macros c) (at old (with_calls e calls) c) (at new after c) (old.sets.has item.0.0 c)) → IsTurned files macros old new e after true
-  taken-turn calls none item first below ready turns = next-turn item.0 (next-first e item none.before first) ready
+  taken-turn calls none item first below ready passes turns = next-turn item.0 (next-first e item none.before first) ready
+      (λ uncalled looks.
+      let p = passes (record { below = uncalled.below; calls = none.after }) looks in
+      record { passed = p.passed; put = p.put; work = p.work; out = p.out; restricted = p.restricted; refusals = p.refusals; uncalled = p.uncalled })
       (λ c listed.
       let progress = turn-progress (provenance_of files) (macros c) grows (length files) c listed e.below.items is.held.below (turns c listed) in
       subst (λ b. Progress (provenance_of files) (macros c) old new c e.below.items b.items (at old e c) (at new after c) (old.sets.has item.0.0 c)) (sym below)
@@ -158,6 +167,7 @@ module _ (st : Stores) (files : List (List ℕ)) (macros : List ℕ → Macros) 
         (left-progress (provenance_of files) (macros c) st c below.items o e after resumed work out refusals empty none));
     some = λ went. ready.some o.call.cond (next-argument e below.items o none empty less);
     ended = λ not. absurd (true≢false not);
+    passes = λ uncalled looks. absurd (never-empty below.items o (sym less ∙ uncalled.below));
   }
 
   pub left-still : (calls : Vec Call) (r : Option Call) (below : Vec Enclosing) (o : Enclosing) → e.top.calls.items ≡ calls.items ++ option_to_list r → e.top.work ≡ [] → IsNone Call e.top.calls.items calls.items → e.below.items ≡ below.items ++ o ∷ []
@@ -184,6 +194,15 @@ module _ (st : Stores) (files : List (List ℕ)) (macros : List ℕ → Macros) 
         ));
     some = λ went. absurd (true≢false (sym went));
     ended = λ went. record { below = less.after; work = empty; calls = none.after };
+    passes = λ uncalled looks. record {
+      passed = [];
+      put = [];
+      work = refl;
+      out = sym (append-nil e.top.out);
+      restricted = unchanged.empty;
+      refusals = refl;
+      uncalled = record { below = less.after; calls = none.after };
+    };
   }
 
   pub no-out : (calls : Vec Call) (below : Vec Enclosing) → IsNone Enclosing e.below.items below.items → put_out (with_below e calls below) ≡ put_out e

@@ -15,3 +15,4 @@ pub mod Answers
 pub mod Running
 pub mod Moved
 pub mod OneLine
+pub mod Unchanged

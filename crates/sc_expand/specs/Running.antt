@@ -12,6 +12,7 @@ use Rattle.sc_expand.specs.declared.frame.Enclosing.{Enclosing}
 use Rattle.sc_expand.specs.declared.frame.Frame.{Frame}
 use Rattle.sc_expand.specs.Machine.{IsHeldExpansion, Progress, at}
 use Rattle.sc_expand.specs.Seen.{Stores, provenance_of, seen_at}
+use Rattle.sc_expand.specs.Unchanged.{Drops, IsUncalled, LooksUpNone, Passes}
 use Rattle.sc_model.specs.Sets.{Sets, IsConfig, IsNever}
 use Rattle.sc_subst.specs.declared.hidden.Hidden.{Hidden}
 
@@ -73,6 +74,7 @@ pub record IsRested (old new : Stores) (e after : Expansion) : Type 0 where
   pub held : (files : ℕ) → IsHeldExpansion old files e → IsHeldExpansion new files after
   pub progress : (files : ℕ) (provenance : Provenance Place) (macros : Macros) (c : List ℕ) → IsHeldExpansion old files e → IsConfig old.sets.arities c
       → Progress provenance macros old new c e.below.items after.below.items (at old e c) (at new after c) false
+  pub drops : (files : ℕ) → IsHeldExpansion old files e → IsUncalled e → Drops old.sets e after
 
 -- nothing is left to be expanded
 pub record HasEnded (e : Expansion) : Type 0 where
@@ -87,6 +89,7 @@ pub record IsTurned (files : List (List ℕ)) (macros : List ℕ → Macros) (ol
       → Progress (provenance_of files) (macros c) old new c e.below.items after.below.items (at old e c) (at new after c) (takes c)
   pub some : went ≡ true → ((c : List ℕ) → IsConfig old.sets.arities c → takes c ≡ true → old.sets.has e.refusals.live.0 c ≡ true → ⊥) → ⊥
   pub ended : went ≡ false → HasEnded after
+  pub passes : IsUncalled e → LooksUpNone old.sets old.names macros e → Passes new.sets e after
 
 -- ---- whole runs
 

@@ -4,6 +4,7 @@ ghost use Rattle.sc_base.specs.Seen.{IsHeld, seen};
 ghost use Rattle.sc_expand.specs.Answers.{IsEmpty, IsExpanded, IsHeldAnswer};
 ghost use Rattle.sc_expand.specs.Running.{IsUntouched};
 ghost use Rattle.sc_expand.specs.Stops.{StopsBy};
+ghost use Rattle.sc_expand.specs.Unchanged.{DefinesNone, IsRestricted};
 ghost use Rattle.sc_guarded.specs.Items.{items_at};
 ghost use Rattle.sc_model.specs.Growth.{Extends};
 ghost use Rattle.sc_model.specs.Sets.{IsConfig, IsCond, IsNever, Keeps};
@@ -44,6 +45,8 @@ pub fn expand<C: Conditions>(
     ensures others { IfOk result (λ e. (c : List ℕ) → IsConfig (C.sets conds.old).arities c → (C.sets conds.old).has live.0 c ≡ false → IsEmpty (C.sets conds.new) e c) }
     ensures held { IfOk result (IsHeldAnswer (C.sets conds.new) names.new (length files.now)) }
     ensures some { IfOk result (λ e. All (λ item. IsNever (C.sets conds.new) item.0.0 → ⊥) e.list) }
+    ensures unchanged { IfOk result (λ e. DefinesNone (C.sets conds.old) names.old (macros_at (C.sets conds.old) names.old table.now) live.0 list.now
+        → IsRestricted (C.sets conds.new) live.0 list.now e.list × (e.faults.items ≡ [])) }
     ensures stops { IfErr result (StopsBy (C.sets conds.old).arities limit) }
 
     // at every outcome

@@ -24,7 +24,7 @@ use crate::arguments::arguments;
 use crate::beginning::{begin_call, take_out, tokens_at};
 use crate::expansion::Expansion;
 use sc_base::{Cause, Cond, Files, Names, OutOfMemory, Stop};
-use sc_hoist::{Branch, call_ends, calls};
+use sc_hoist::{Branch, closed_calls, find_calls};
 use sc_macro::{Definition, Form, Item};
 use sc_presence::Conditions;
 use sc_subst::{Hidden, items_at};
@@ -80,8 +80,9 @@ impl Expansion {
         let place = head.token.place;
         let alloc = self.alloc;
         let work = &self.top.work;
-        let ends = call_ends(alloc, conds, names, work, 0, cond)?;
-        let branches = calls(alloc, conds, names, work, 0, ends.closed, limit)?;
+        let found = find_calls(alloc, conds, names, work, 0, cond)?;
+        let ends = found.ends;
+        let branches = closed_calls(alloc, conds, names, work, 0, found, limit)?;
         self.refusals
             .refuse(conds, ends.still, Cause::UnterminatedCall, place)?;
         let items = items_at(alloc, names, files, &definition.replacement, place)?;

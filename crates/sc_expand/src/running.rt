@@ -5,6 +5,7 @@ ghost use Rattle.sc_expand.specs.Machine.{IsExpansion, IsHeldExpansion};
 ghost use Rattle.sc_expand.specs.Running.{IsDone, IsDropped, IsReady, IsRested, IsTurned, IsUntouched, PutsOut, next_of, put_out, weight};
 ghost use Rattle.sc_expand.specs.Seen.{failures_at, provenance_of, seen_at, stores};
 ghost use Rattle.sc_expand.specs.Stops.{StopsBy};
+ghost use Rattle.sc_expand.specs.Unchanged.{IsRestricted, LooksUpNone};
 ghost use Rattle.sc_model.specs.Growth.{Extends};
 ghost use Rattle.sc_model.specs.Sets.{IsConfig, Keeps};
 ghost use Rattle.sc_table.specs.Table.{IsTable, macros_at};
@@ -33,6 +34,8 @@ impl Expansion {
             (seen_at (stores (C.sets conds.new) names.new self.new.sets) self.new.top.out c) (failures_at (C.sets conds.new) self.new.refusals.faults.items c)
             ((C.sets conds.old).has self.old.refusals.live.0 c)) }
         ensures out { OnOk result (PutsOut (stores (C.sets conds.old) names.old self.old.sets) (stores (C.sets conds.new) names.new self.new.sets) self.old.refusals.live.0 self.old.top.out self.new.top.out) }
+        ensures unchanged { OnOk result (LooksUpNone (C.sets conds.old) names.old (macros_at (C.sets conds.old) names.old table.now) self.old
+            → IsRestricted (C.sets conds.new) self.old.refusals.live.0 self.old.top.work self.new.top.out × (self.new.refusals ≡ self.old.refusals)) }
         ensures stops { IfErr result (StopsBy (C.sets conds.old).arities limit) }
 
         // at every outcome

@@ -1,4 +1,4 @@
-ghost use Rattle.std.specs.Prelude.{◌≡◌, ℕ, ◌<◌, ◌≤◌, ◌++◌, ◌∷◌, [], List, All, true, false, Some, Ok, Err, length, drop, map, slice_get, IfErr, IfOk, IfSome, OnOk, if◌then◌else◌};
+ghost use Rattle.std.specs.Prelude.{◌≡◌, ℕ, ◌<◌, ◌≤◌, ◌++◌, ◌∷◌, [], List, All, true, false, None, Some, Ok, Err, length, drop, map, slice_get, IfErr, IfOk, IfSome, OnOk, if◌then◌else◌};
 ghost use Rattle.std.specs.Option.{option_map};
 ghost use Rattle.c11_macros.specs.Defines.{is_function_like};
 ghost use Rattle.c11_macros.specs.Expansion as expansion;
@@ -15,6 +15,7 @@ ghost use Rattle.sc_expand.specs.Seen.{AreHeld, IsHeldToken, provenance_of, seen
 ghost use Rattle.sc_expand.specs.Stops.{StopsBy};
 ghost use Rattle.sc_expand.specs.Taking.{Comes, IsBegun, IsHeldTaken, Replaces, step_at, untaken};
 ghost use Rattle.sc_expand.specs.Turn.{Turn};
+ghost use Rattle.sc_expand.specs.Unchanged.{IsPushed, IsUncalled, IsUndefined, LooksUpNone, Passes};
 ghost use Rattle.sc_guarded.specs.Items.{items_at};
 ghost use Rattle.sc_macro.specs.Seen.{IsHeldDefinition, seen_definition, text_of};
 ghost use Rattle.sc_model.specs.Growth.{Extends};
@@ -63,6 +64,8 @@ impl Expansion {
             → Turn (provenance_of files.now) (macros_at (C.sets conds.old) names.old table.now c)
             (at (stores (C.sets conds.old) names.old self.old.sets) self.old c) (at (stores (C.sets conds.new) names.new self.new.sets) self.new c) ((C.sets conds.old).has has.0 c)) }
         ensures out { OnOk result (PutsOut (stores (C.sets conds.old) names.old self.old.sets) (stores (C.sets conds.new) names.new self.new.sets) self.old.refusals.live.0 self.old.top.out self.new.top.out) }
+        ensures passes { OnOk result (IsUncalled self.old → LooksUpNone (C.sets conds.old) names.old (macros_at (C.sets conds.old) names.old table.now) self.old
+            → Passes (C.sets conds.new) self.old self.new) }
         ensures stops { IfErr result (StopsBy (C.sets conds.old).arities limit) }
 
         // at every outcome
@@ -106,6 +109,9 @@ impl Expansion {
             (at (stores (C.sets conds.old) names.old self.old.sets) self.old c) (step_at (stores (C.sets conds.new) names.new self.new.sets) self.new taken c)) }
         ensures others { IfOk result (λ taken. (c : List ℕ) → IsConfig (C.sets conds.old).arities c → (C.sets conds.old).has cond.0 c ≡ false
             → step_at (stores (C.sets conds.new) names.new self.new.sets) self.new taken c ≡ untaken (stores (C.sets conds.old) names.old self.old.sets) self.old c) }
+        ensures undefined { IfOk result (λ taken. ((c : List ℕ) → IsConfig (C.sets conds.old).arities c → (C.sets conds.old).has cond.0 c ≡ true
+            → IsUndefined names.old (macros_at (C.sets conds.old) names.old table.now c) token.token)
+            → (self.new ≡ self.old) × (taken.made.items ≡ [])) }
         ensures stops { IfErr result (StopsBy (C.sets conds.old).arities limit) }
 
         // at every outcome
@@ -153,6 +159,9 @@ impl Expansion {
             (at (stores (C.sets conds.old) names.old self.old.sets) self.old c) (step_at (stores (C.sets conds.new) names.new self.new.sets) self.new taken c)) }
         ensures others { IfOk result (λ taken. (c : List ℕ) → IsConfig (C.sets conds.old).arities c → (C.sets conds.old).has cond.0 c ≡ false
             → step_at (stores (C.sets conds.new) names.new self.new.sets) self.new taken c ≡ untaken (stores (C.sets conds.old) names.old self.old.sets) self.old c) }
+        ensures undefined { IfOk result (λ taken. ((c : List ℕ) → IsConfig (C.sets conds.old).arities c → (C.sets conds.old).has cond.0 c ≡ true
+            → IsUndefined names.old (macros_at (C.sets conds.old) names.old table.now c) head.token)
+            → (self.new ≡ self.old) × (taken.made.items ≡ [])) }
         ensures stops { IfErr result (StopsBy (C.sets conds.old).arities limit) }
 
         // at every outcome
@@ -187,6 +196,7 @@ impl Expansion {
         ensures held { OnOk result ((names : List (List ℕ)) (files : ℕ) → IsHeldToken (stores (C.sets conds.now) names self.old.sets) files token
             → AreHeld (stores (C.sets conds.now) names self.old.sets) files self.old.top.out → AreHeld (stores (C.sets conds.now) names self.old.sets) files self.new.top.out) }
         ensures some { OnOk result (All (λ item. IsNever (C.sets conds.now) item.0.0 → ⊥) self.old.top.out → All (λ item. IsNever (C.sets conds.now) item.0.0 → ⊥) self.new.top.out) }
+        ensures pushed { OnOk result (IsPushed (C.sets conds.now) taken.now.stays token self.old.top.out self.new.top.out) }
 
         // at every outcome
         ensures sets { self.new.sets ≡ self.old.sets }
@@ -230,6 +240,7 @@ impl Expansion {
             (at (stores (C.sets conds.old) names.old self.old.sets) self.old c) (step_at (stores (C.sets conds.new) names.new self.new.sets) self.new taken.new c)) }
         ensures others { OnOk result ((c : List ℕ) → IsConfig (C.sets conds.old).arities c → items_at (C.sets conds.old) parts.now c ≡ []
             → step_at (stores (C.sets conds.new) names.new self.new.sets) self.new taken.new c ≡ step_at (stores (C.sets conds.old) names.old self.old.sets) self.old taken.old c) }
+        ensures undefined { OnOk result (All (λ part. part.1 ≡ None) parts.now → (self.new ≡ self.old) × (taken.new.made ≡ taken.old.made)) }
         ensures stops { IfErr result (StopsBy (C.sets conds.old).arities limit) }
 
         // at every outcome
@@ -276,6 +287,7 @@ impl Expansion {
             (at (stores (C.sets conds.old) names.old self.old.sets) self.old c) (step_at (stores (C.sets conds.new) names.new self.new.sets) self.new taken.new c)) }
         ensures others { OnOk result ((c : List ℕ) → IsConfig (C.sets conds.old).arities c → (C.sets conds.old).has cond.0 c ≡ false
             → step_at (stores (C.sets conds.new) names.new self.new.sets) self.new taken.new c ≡ step_at (stores (C.sets conds.old) names.old self.old.sets) self.old taken.old c) }
+        ensures undefined { OnOk result (definition.now ≡ None → (self.new ≡ self.old) × (taken.new.made ≡ taken.old.made)) }
         ensures stops { IfErr result (StopsBy (C.sets conds.old).arities limit) }
 
         // at every outcome
@@ -405,6 +417,7 @@ fn push_token<C: Conditions>(
     ensures held { OnOk result ((names : List (List ℕ)) (sets : List (List declared_name.Name)) (files : ℕ) → IsHeldToken (stores (C.sets conds.now) names sets) files token
         → AreHeld (stores (C.sets conds.now) names sets) files list.old → AreHeld (stores (C.sets conds.now) names sets) files list.new) }
     ensures some { OnOk result (All (λ item. IsNever (C.sets conds.now) item.0.0 → ⊥) list.old → All (λ item. IsNever (C.sets conds.now) item.0.0 → ⊥) list.new) }
+    ensures pushed { OnOk result (IsPushed (C.sets conds.now) cond token list.old list.new) }
 {
     if conds.is_never(cond) {
         return Ok(());

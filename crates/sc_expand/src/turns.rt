@@ -144,12 +144,10 @@ fn argument_frame(alloc: Global, cond: Cond, tokens: &[Hidden]) -> Result<Frame,
     ensures out { IfOk result (λ frame. frame.out ≡ []) }
     ensures calls { IfOk result (λ frame. frame.calls.items ≡ []) }
 {
-    let mut items = Vec::new(alloc);
-    for token in tokens {
-        items.push((cond, *token))?;
-    }
     let mut work = WorkList::new(alloc);
-    work.put_first(&items)?;
+    for token in tokens {
+        work.push(cond, *token)?;
+    }
     Ok(Frame {
         work,
         out: Guarded::new(alloc)?,

@@ -1,4 +1,4 @@
-ghost use Rattle.std.specs.Prelude.{◌≡◌, ℕ, ◌^◌, ◌<◌, ◌≤◌, ◌++◌, [], List, All, map, take, drop, length, slice_get, if◌then◌else◌, true, Some, OnOk};
+ghost use Rattle.std.specs.Prelude.{◌≡◌, ℕ, ◌^◌, ◌<◌, ◌≤◌, ◌++◌, ◌∷◌, [], List, All, map, take, drop, length, slice_get, if◌then◌else◌, true, Some, OnOk};
 ghost use Rattle.sc_expand.specs.Having.{has_each};
 ghost use Rattle.sc_guarded.specs.Items.{items_at};
 ghost use Rattle.sc_model.specs.Sets.{IsConfig, IsCond, Keeps};
@@ -76,6 +76,14 @@ impl WorkList {
         if self.tokens.is_empty() {
             self.tokens.shrink_to_fit();
         }
+    }
+
+    /// Puts a token behind the others.
+    pub fn push(&mut self, cond: Cond, token: Hidden) -> Result<(), OutOfMemory>
+        ensures { OnOk result (self.new ≡ self.old ++ (cond, token) ∷ []) }
+    {
+        self.tokens.push_back((cond, token))?;
+        Ok(())
     }
 
     /// Puts tokens in front of the others.

@@ -1,5 +1,6 @@
 use Rattle.std.proofs.Common.{length, ◌∙◌}
 use Rattle.sc_expand.proofs.ExpandLemmas.{answer-held, answer-some, done-empty, done-expanded, started-held}
+use Rattle.sc_expand.proofs.UnchangedAnswers.{answer-unchanged, looks-given}
 use Rattle.sc_expand.specs.Seen.{stores}
 use Rattle.sc_table.proofs.Growth.{macros_at-Extends, macros_at-Keeps, IsTable-Extends, IsTable-Keeps}
 use Rattle.sc_table.specs.Table.{macros_at}
@@ -35,6 +36,15 @@ pub returns-clause-some : goal.returns-clause-some
 returns-clause-some g c =
     answer-some (stores (g.C.Conditions.sets c.args.conds.now) c.args.names.now c.in_ok-expansion.expansion.sets) (stores (g.C.Conditions.sets c.run.new.conds) c.run.new.names c.run.new.self.sets) c.in_ok-expansion.expansion.refusals.live.0
     c.in_ok-expansion.expansion c.run.new.self c.in_ok-expanded.expanded c.in_ok-expansion.ensures.untouched c.in_ok-run.ensures.out c.in_ok-expanded.ensures.list
+
+pub returns-clause-unchanged : goal.returns-clause-unchanged
+returns-clause-unchanged g c = λ none.
+    let s = g.C.Conditions.sets c.args.conds.now in
+    let e = c.in_ok-expansion.ensures in
+    let f = c.in_ok-expanded.ensures in
+    let began = c.in_ok-expansion.expansion in
+    let looks = looks-given s c.args.names.now (macros_at s c.args.names.now c.args.table.now) began c.args.list.now c.args.live e.live e.tokens none in
+    answer-unchanged (g.C.Conditions.sets c.run.new.conds) began c.run.new.self c.in_ok-expanded.expanded c.args.list.now c.args.live e.live e.tokens e.untouched f.list f.faults (c.in_ok-run.ensures.unchanged looks)
 
 pub returns-clause-table : goal.returns-clause-table
 returns-clause-table g c = IsTable-Extends c.run.ensures.names (IsTable-Keeps c.run.ensures.keeps c.requires.table)

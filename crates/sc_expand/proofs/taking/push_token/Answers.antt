@@ -1,7 +1,8 @@
-use Rattle.std.proofs.Common.{◌∙◌, ◌++◌, ◌∷◌, [], ap, sym, subst, append-nil, if◌then◌else◌}
+use Rattle.std.proofs.Common.{◌∙◌, true≢false, ◌++◌, ◌∷◌, [], ap, sym, subst, append-nil, refl, if◌then◌else◌}
 use Rattle.sc_expand.proofs.SeenLemmas.{AreHeld-append, seen_at-append}
 use Rattle.sc_expand.proofs.TakingLemmas.{AreHeld-single}
 use Rattle.sc_expand.specs.Seen.{AreHeld, seen_at, stores}
+use Rattle.sc_expand.specs.Unchanged.{absent, pushed}
 use Rattle.sc_guarded.proofs.ItemLemmas.{map-one}
 use Rattle.sc_subst.specs.Seen.{seen_hidden}
 use Rattle.sc_expand.proofs.taking.push_token.Goals as goal
@@ -23,3 +24,9 @@ pub returns-clause-held : goal.returns-clause-held
 returns-clause-held g c = λ names sets files held was.
     let st = stores (g.C.Conditions.sets c.args.conds.now) names sets in
     subst (AreHeld st files) (sym c.in_ok-push.ensures.ok) (AreHeld-append c.args.list.now ((c.args.cond, c.args.token) ∷ []) was (AreHeld-single st files c.args.cond c.args.token c.requires held))
+
+pub returns-then-is_never-clause-pushed : goal.returns-then-is_never-clause-pushed
+returns-then-is_never-clause-pushed g c = absent (c.is_never.ensures.0 c.if-is_never.true) refl
+
+pub returns-clause-pushed : goal.returns-clause-pushed
+returns-clause-pushed g c = pushed (λ never. true≢false (sym (c.is_never.ensures.1 never) ∙ c.if-is_never.false)) c.in_ok-push.ensures.ok

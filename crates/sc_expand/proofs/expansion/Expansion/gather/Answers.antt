@@ -19,40 +19,40 @@ use Rattle.sc_subst.specs.declared.hidden.Hidden.{Hidden}
 use Rattle.sc_subst.specs.Seen.{seen_hidden}
 use Rattle.sc_expand.proofs.expansion.Expansion.gather.Goals as goal
 
-pub call_ends-requires-clause-own : goal.call_ends-requires-clause-own
-call_ends-requires-clause-own g c =
+pub find_calls-requires-clause-own : goal.find_calls-requires-clause-own
+find_calls-requires-clause-own g c =
     let s = g.C.Conditions.sets c.args.conds.now in
     let bare : Cond × Hidden → Cond × Token = λ item. (item.0, item.1.token) in
     All-map (λ item. IsCond s item.0.0) bare c.args.self.now.top.work c.requires.held.top.work.own
 
-pub call_ends-requires-clause-held : goal.call_ends-requires-clause-held
-call_ends-requires-clause-held g c =
+pub find_calls-requires-clause-held : goal.find_calls-requires-clause-held
+find_calls-requires-clause-held g c =
     let bare : Cond × Hidden → Cond × Token = λ item. (item.0, item.1.token) in
     All-map (λ item. item.1.spelling.0 < length c.args.names.now) bare c.args.self.now.top.work (λ k d h. (c.requires.held.top.work.held k d h).held.token.spelling)
 
-pub calls-requires-clause-own : goal.calls-requires-clause-own
-calls-requires-clause-own g c =
-    let s = g.C.Conditions.sets c.call_ends.new.conds in
+pub closed_calls-requires-clause-own : goal.closed_calls-requires-clause-own
+closed_calls-requires-clause-own g c =
+    let s = g.C.Conditions.sets c.find_calls.new.conds in
     let bare : Cond × Hidden → Cond × Token = λ item. (item.0, item.1.token) in
-    All-map (λ item. IsCond s item.0.0) bare c.args.self.now.top.work (λ k d h. c.call_ends.ensures.keeps.own _ (c.requires.held.top.work.own k d h))
+    All-map (λ item. IsCond s item.0.0) bare c.args.self.now.top.work (λ k d h. c.find_calls.ensures.keeps.own _ (c.requires.held.top.work.own k d h))
 
-pub calls-requires-clause-held : goal.calls-requires-clause-held
-calls-requires-clause-held g c =
+pub closed_calls-requires-clause-held : goal.closed_calls-requires-clause-held
+closed_calls-requires-clause-held g c =
     let bare : Cond × Hidden → Cond × Token = λ item. (item.0, item.1.token) in
     All-map (λ item. item.1.spelling.0 < length c.args.names.now) bare c.args.self.now.top.work (λ k d h. (c.requires.held.top.work.held k d h).held.token.spelling)
 
 pub returns-in_err-branches-clause-stops : goal.returns-in_err-branches-clause-stops
 returns-in_err-branches-clause-stops g c =
     let s0 = g.C.Conditions.sets c.args.conds.now in
-    let s1 = g.C.Conditions.sets c.call_ends.new.conds in
+    let s1 = g.C.Conditions.sets c.find_calls.new.conds in
     let p = err_from_is_err_and c.from_residual-in_err-branches.result c.from_residual-in_err-branches.ensures.1 in
-    rw (p.1, p.2) (stops-by s1 s0.arities c.in_ok-ends.ends.closed.0 (λ d. call_places s1 c.args.names.now (tokens_in c.args.self.now.top.work) 0 d) c.args.limit _ c.call_ends.ensures.keeps.arities c.in_err-branches.ensures.refused)
+    rw (p.1, p.2) (stops-by s1 s0.arities c.in_ok-found.found.ends.closed.0 (λ d. call_places s1 c.args.names.now (tokens_in c.args.self.now.top.work) 0 d) c.args.limit _ c.find_calls.ensures.keeps.arities c.in_err-branches.ensures.refused)
 
 pub returns-in_err-branches-clause-keeps : goal.returns-in_err-branches-clause-keeps
-returns-in_err-branches-clause-keeps g c = Keeps-trans c.call_ends.ensures.keeps c.calls.ensures.keeps
+returns-in_err-branches-clause-keeps g c = Keeps-trans c.find_calls.ensures.keeps c.closed_calls.ensures.keeps
 
 pub returns-in_err-refuse-clause-keeps : goal.returns-in_err-refuse-clause-keeps
-returns-in_err-refuse-clause-keeps g c = Keeps-trans (Keeps-trans c.call_ends.ensures.keeps c.calls.ensures.keeps) c.refuse.ensures.keeps
+returns-in_err-refuse-clause-keeps g c = Keeps-trans (Keeps-trans c.find_calls.ensures.keeps c.closed_calls.ensures.keeps) c.refuse.ensures.keeps
 
 pub items_at-requires-clause-file : goal.items_at-requires-clause-file
 items_at-requires-clause-file g c =
@@ -61,82 +61,82 @@ items_at-requires-clause-file g c =
     head.file
 
 pub returns-in_err-items-clause-keeps : goal.returns-in_err-items-clause-keeps
-returns-in_err-items-clause-keeps g c = Keeps-trans (Keeps-trans c.call_ends.ensures.keeps c.calls.ensures.keeps) c.refuse.ensures.keeps
+returns-in_err-items-clause-keeps g c = Keeps-trans (Keeps-trans c.find_calls.ensures.keeps c.closed_calls.ensures.keeps) c.refuse.ensures.keeps
 
 pub gather_calls-requires-clause-held : goal.gather_calls-requires-clause-held
 gather_calls-requires-clause-held g c =
     let s0 = g.C.Conditions.sets c.args.conds.now in
-    let s1 = g.C.Conditions.sets c.call_ends.new.conds in
-    let s2 = g.C.Conditions.sets c.calls.new.conds in
+    let s1 = g.C.Conditions.sets c.find_calls.new.conds in
+    let s2 = g.C.Conditions.sets c.closed_calls.new.conds in
     let s3 = g.C.Conditions.sets c.refuse.new.conds in
     let n = c.args.names.now in
     let e0 = c.args.self.now in
     let files = length c.args.files.now in
-    let ends = c.in_ok-ends.ends in
+    let ends = c.in_ok-found.found.ends in
     let parts = parted-by s0 s1 s2 s3 n c.items_at.new.names files e0 c.refuse.new.self c.args.cond.0 ends.closed.0 ends.still.0 c.in_ok-branches.branches.items c.deref.result.now
-    (failure_at UnterminatedCall (seen_hidden n e0.sets c.args.head)) c.deref.ensures.value c.call_ends.ensures.keeps c.calls.ensures.keeps c.refuse.ensures.keeps c.items_at.ensures.names c.requires.held
-    c.in_ok-ends.ensures.closed c.in_ok-ends.ensures.still c.in_ok-branches.ensures.lists c.in_ok-branches.ensures.branches c.in_ok-refuse.ensures.live c.in_ok-refuse.ensures.failures in
+    (failure_at UnterminatedCall (seen_hidden n e0.sets c.args.head)) c.deref.ensures.value c.find_calls.ensures.keeps c.closed_calls.ensures.keeps c.refuse.ensures.keeps c.items_at.ensures.names c.requires.held
+    c.in_ok-found.ensures.closed c.in_ok-found.ensures.still c.in_ok-branches.ensures.lists c.in_ok-branches.ensures.branches c.in_ok-refuse.ensures.live c.in_ok-refuse.ensures.failures in
     let head = head-held (IsHeldToken (stores s0 n e0.sets) files) e0.top.work c.args.head c.requires.held.top.work.held c.requires.head in
     (files, parted-held parts (c.in_ok-refuse.ensures.held files head.file))
 
 pub gather_calls-requires-clause-branches : goal.gather_calls-requires-clause-branches
 gather_calls-requires-clause-branches g c =
     let s0 = g.C.Conditions.sets c.args.conds.now in
-    let s1 = g.C.Conditions.sets c.call_ends.new.conds in
-    let s2 = g.C.Conditions.sets c.calls.new.conds in
+    let s1 = g.C.Conditions.sets c.find_calls.new.conds in
+    let s2 = g.C.Conditions.sets c.closed_calls.new.conds in
     let s3 = g.C.Conditions.sets c.refuse.new.conds in
     let n = c.args.names.now in
     let e0 = c.args.self.now in
     let files = length c.args.files.now in
-    let ends = c.in_ok-ends.ends in
+    let ends = c.in_ok-found.found.ends in
     let parts = parted-by s0 s1 s2 s3 n c.items_at.new.names files e0 c.refuse.new.self c.args.cond.0 ends.closed.0 ends.still.0 c.in_ok-branches.branches.items c.deref.result.now
-    (failure_at UnterminatedCall (seen_hidden n e0.sets c.args.head)) c.deref.ensures.value c.call_ends.ensures.keeps c.calls.ensures.keeps c.refuse.ensures.keeps c.items_at.ensures.names c.requires.held
-    c.in_ok-ends.ensures.closed c.in_ok-ends.ensures.still c.in_ok-branches.ensures.lists c.in_ok-branches.ensures.branches c.in_ok-refuse.ensures.live c.in_ok-refuse.ensures.failures in
+    (failure_at UnterminatedCall (seen_hidden n e0.sets c.args.head)) c.deref.ensures.value c.find_calls.ensures.keeps c.closed_calls.ensures.keeps c.refuse.ensures.keeps c.items_at.ensures.names c.requires.held
+    c.in_ok-found.ensures.closed c.in_ok-found.ensures.still c.in_ok-branches.ensures.lists c.in_ok-branches.ensures.branches c.in_ok-refuse.ensures.live c.in_ok-refuse.ensures.failures in
     are-branches parts c.requires.stands c.requires.live c.requires.calls
 
 pub gather_calls-requires-clause-one : goal.gather_calls-requires-clause-one
 gather_calls-requires-clause-one g c =
     let s0 = g.C.Conditions.sets c.args.conds.now in
-    let s1 = g.C.Conditions.sets c.call_ends.new.conds in
-    let s2 = g.C.Conditions.sets c.calls.new.conds in
+    let s1 = g.C.Conditions.sets c.find_calls.new.conds in
+    let s2 = g.C.Conditions.sets c.closed_calls.new.conds in
     let s3 = g.C.Conditions.sets c.refuse.new.conds in
     let n = c.args.names.now in
     let e0 = c.args.self.now in
     let files = length c.args.files.now in
-    let ends = c.in_ok-ends.ends in
+    let ends = c.in_ok-found.found.ends in
     let parts = parted-by s0 s1 s2 s3 n c.items_at.new.names files e0 c.refuse.new.self c.args.cond.0 ends.closed.0 ends.still.0 c.in_ok-branches.branches.items c.deref.result.now
-    (failure_at UnterminatedCall (seen_hidden n e0.sets c.args.head)) c.deref.ensures.value c.call_ends.ensures.keeps c.calls.ensures.keeps c.refuse.ensures.keeps c.items_at.ensures.names c.requires.held
-    c.in_ok-ends.ensures.closed c.in_ok-ends.ensures.still c.in_ok-branches.ensures.lists c.in_ok-branches.ensures.branches c.in_ok-refuse.ensures.live c.in_ok-refuse.ensures.failures in
+    (failure_at UnterminatedCall (seen_hidden n e0.sets c.args.head)) c.deref.ensures.value c.find_calls.ensures.keeps c.closed_calls.ensures.keeps c.refuse.ensures.keeps c.items_at.ensures.names c.requires.held
+    c.in_ok-found.ensures.closed c.in_ok-found.ensures.still c.in_ok-branches.ensures.lists c.in_ok-branches.ensures.branches c.in_ok-refuse.ensures.live c.in_ok-refuse.ensures.failures in
     one-at-most parts
 
 pub returns-in_err-gather_calls-clause-keeps : goal.returns-in_err-gather_calls-clause-keeps
-returns-in_err-gather_calls-clause-keeps g c = Keeps-trans (Keeps-trans (Keeps-trans c.call_ends.ensures.keeps c.calls.ensures.keeps) c.refuse.ensures.keeps) c.gather_calls.ensures.keeps
+returns-in_err-gather_calls-clause-keeps g c = Keeps-trans (Keeps-trans (Keeps-trans c.find_calls.ensures.keeps c.closed_calls.ensures.keeps) c.refuse.ensures.keeps) c.gather_calls.ensures.keeps
 
 pub apply_or-requires-clause-a_own : goal.apply_or-requires-clause-a_own
-apply_or-requires-clause-a_own g c = (Keeps-trans (Keeps-trans c.calls.ensures.keeps c.refuse.ensures.keeps) c.gather_calls.ensures.keeps).own _ c.in_ok-ends.ensures.bare.own
+apply_or-requires-clause-a_own g c = (Keeps-trans (Keeps-trans c.closed_calls.ensures.keeps c.refuse.ensures.keeps) c.gather_calls.ensures.keeps).own _ c.in_ok-found.ensures.bare.own
 
 pub apply_or-requires-clause-b_own : goal.apply_or-requires-clause-b_own
-apply_or-requires-clause-b_own g c = (Keeps-trans (Keeps-trans c.calls.ensures.keeps c.refuse.ensures.keeps) c.gather_calls.ensures.keeps).own _ c.in_ok-ends.ensures.alone.own
+apply_or-requires-clause-b_own g c = (Keeps-trans (Keeps-trans c.closed_calls.ensures.keeps c.refuse.ensures.keeps) c.gather_calls.ensures.keeps).own _ c.in_ok-found.ensures.alone.own
 
 pub returns-in_err-uncalled-clause-keeps : goal.returns-in_err-uncalled-clause-keeps
-returns-in_err-uncalled-clause-keeps g c = Keeps-trans (Keeps-trans (Keeps-trans (Keeps-trans c.call_ends.ensures.keeps c.calls.ensures.keeps) c.refuse.ensures.keeps) c.gather_calls.ensures.keeps) c.apply_or.ensures.keeps
+returns-in_err-uncalled-clause-keeps g c = Keeps-trans (Keeps-trans (Keeps-trans (Keeps-trans c.find_calls.ensures.keeps c.closed_calls.ensures.keeps) c.refuse.ensures.keeps) c.gather_calls.ensures.keeps) c.apply_or.ensures.keeps
 
 pub returns-clause-keeps : goal.returns-clause-keeps
-returns-clause-keeps g c = Keeps-trans (Keeps-trans (Keeps-trans (Keeps-trans c.call_ends.ensures.keeps c.calls.ensures.keeps) c.refuse.ensures.keeps) c.gather_calls.ensures.keeps) c.apply_or.ensures.keeps
+returns-clause-keeps g c = Keeps-trans (Keeps-trans (Keeps-trans (Keeps-trans c.find_calls.ensures.keeps c.closed_calls.ensures.keeps) c.refuse.ensures.keeps) c.gather_calls.ensures.keeps) c.apply_or.ensures.keeps
 
 pub returns-clause-held : goal.returns-clause-held
 returns-clause-held g c =
     let s0 = g.C.Conditions.sets c.args.conds.now in
-    let s1 = g.C.Conditions.sets c.call_ends.new.conds in
-    let s2 = g.C.Conditions.sets c.calls.new.conds in
+    let s1 = g.C.Conditions.sets c.find_calls.new.conds in
+    let s2 = g.C.Conditions.sets c.closed_calls.new.conds in
     let s3 = g.C.Conditions.sets c.refuse.new.conds in
     let n = c.args.names.now in
     let e0 = c.args.self.now in
     let files = length c.args.files.now in
-    let ends = c.in_ok-ends.ends in
+    let ends = c.in_ok-found.found.ends in
     let parts = parted-by s0 s1 s2 s3 n c.items_at.new.names files e0 c.refuse.new.self c.args.cond.0 ends.closed.0 ends.still.0 c.in_ok-branches.branches.items c.deref.result.now
-    (failure_at UnterminatedCall (seen_hidden n e0.sets c.args.head)) c.deref.ensures.value c.call_ends.ensures.keeps c.calls.ensures.keeps c.refuse.ensures.keeps c.items_at.ensures.names c.requires.held
-    c.in_ok-ends.ensures.closed c.in_ok-ends.ensures.still c.in_ok-branches.ensures.lists c.in_ok-branches.ensures.branches c.in_ok-refuse.ensures.live c.in_ok-refuse.ensures.failures in
+    (failure_at UnterminatedCall (seen_hidden n e0.sets c.args.head)) c.deref.ensures.value c.find_calls.ensures.keeps c.closed_calls.ensures.keeps c.refuse.ensures.keeps c.items_at.ensures.names c.requires.held
+    c.in_ok-found.ensures.closed c.in_ok-found.ensures.still c.in_ok-branches.ensures.lists c.in_ok-branches.ensures.branches c.in_ok-refuse.ensures.live c.in_ok-refuse.ensures.failures in
     let head = head-held (IsHeldToken (stores s0 n e0.sets) files) e0.top.work c.args.head c.requires.held.top.work.held c.requires.head in
     let s4 = g.C.Conditions.sets c.gather_calls.new.conds in
     let s5 = g.C.Conditions.sets c.apply_or.new.self in
@@ -149,87 +149,87 @@ returns-clause-held g c =
 pub returns-clause-gathers : goal.returns-clause-gathers
 returns-clause-gathers g c =
     let s0 = g.C.Conditions.sets c.args.conds.now in
-    let s1 = g.C.Conditions.sets c.call_ends.new.conds in
-    let s2 = g.C.Conditions.sets c.calls.new.conds in
+    let s1 = g.C.Conditions.sets c.find_calls.new.conds in
+    let s2 = g.C.Conditions.sets c.closed_calls.new.conds in
     let s3 = g.C.Conditions.sets c.refuse.new.conds in
     let n = c.args.names.now in
     let e0 = c.args.self.now in
     let files = length c.args.files.now in
-    let ends = c.in_ok-ends.ends in
+    let ends = c.in_ok-found.found.ends in
     let parts = parted-by s0 s1 s2 s3 n c.items_at.new.names files e0 c.refuse.new.self c.args.cond.0 ends.closed.0 ends.still.0 c.in_ok-branches.branches.items c.deref.result.now
-    (failure_at UnterminatedCall (seen_hidden n e0.sets c.args.head)) c.deref.ensures.value c.call_ends.ensures.keeps c.calls.ensures.keeps c.refuse.ensures.keeps c.items_at.ensures.names c.requires.held
-    c.in_ok-ends.ensures.closed c.in_ok-ends.ensures.still c.in_ok-branches.ensures.lists c.in_ok-branches.ensures.branches c.in_ok-refuse.ensures.live c.in_ok-refuse.ensures.failures in
+    (failure_at UnterminatedCall (seen_hidden n e0.sets c.args.head)) c.deref.ensures.value c.find_calls.ensures.keeps c.closed_calls.ensures.keeps c.refuse.ensures.keeps c.items_at.ensures.names c.requires.held
+    c.in_ok-found.ensures.closed c.in_ok-found.ensures.still c.in_ok-branches.ensures.lists c.in_ok-branches.ensures.branches c.in_ok-refuse.ensures.live c.in_ok-refuse.ensures.failures in
     let head = head-held (IsHeldToken (stores s0 n e0.sets) files) e0.top.work c.args.head c.requires.held.top.work.held c.requires.head in
     let s4 = g.C.Conditions.sets c.gather_calls.new.conds in
     let s5 = g.C.Conditions.sets c.apply_or.new.self in
     let held4 = c.in_ok-gather_calls.ensures.held files (parted-held parts (c.in_ok-refuse.ensures.held files head.file)) in
     let all = is-gathered c.args.files.now c.args.head parts head.held c.args.definition.now c.deref-2.result.now _ c.requires.definition c.deref-2.ensures.value c.in_ok-items.ensures.own c.in_ok-items.ensures.is
     c.requires.function c.requires.stands c.requires.calls s4 s5 c.gather_calls.new.names c.gather_calls.new.self ends.bare.0 ends.alone.0 c.in_ok-uncalled.uncalled.0 c.gather_calls.ensures.keeps c.apply_or.ensures.keeps
-    held4 c.in_ok-ends.ensures.bare c.in_ok-ends.ensures.alone c.in_ok-uncalled.ensures.meaning c.in_ok-gather_calls.ensures.gathered in
+    held4 c.in_ok-found.ensures.bare c.in_ok-found.ensures.alone c.in_ok-uncalled.ensures.meaning c.in_ok-gather_calls.ensures.gathered in
     all.gathers
 
 pub returns-clause-others : goal.returns-clause-others
 returns-clause-others g c =
     let s0 = g.C.Conditions.sets c.args.conds.now in
-    let s1 = g.C.Conditions.sets c.call_ends.new.conds in
-    let s2 = g.C.Conditions.sets c.calls.new.conds in
+    let s1 = g.C.Conditions.sets c.find_calls.new.conds in
+    let s2 = g.C.Conditions.sets c.closed_calls.new.conds in
     let s3 = g.C.Conditions.sets c.refuse.new.conds in
     let n = c.args.names.now in
     let e0 = c.args.self.now in
     let files = length c.args.files.now in
-    let ends = c.in_ok-ends.ends in
+    let ends = c.in_ok-found.found.ends in
     let parts = parted-by s0 s1 s2 s3 n c.items_at.new.names files e0 c.refuse.new.self c.args.cond.0 ends.closed.0 ends.still.0 c.in_ok-branches.branches.items c.deref.result.now
-    (failure_at UnterminatedCall (seen_hidden n e0.sets c.args.head)) c.deref.ensures.value c.call_ends.ensures.keeps c.calls.ensures.keeps c.refuse.ensures.keeps c.items_at.ensures.names c.requires.held
-    c.in_ok-ends.ensures.closed c.in_ok-ends.ensures.still c.in_ok-branches.ensures.lists c.in_ok-branches.ensures.branches c.in_ok-refuse.ensures.live c.in_ok-refuse.ensures.failures in
+    (failure_at UnterminatedCall (seen_hidden n e0.sets c.args.head)) c.deref.ensures.value c.find_calls.ensures.keeps c.closed_calls.ensures.keeps c.refuse.ensures.keeps c.items_at.ensures.names c.requires.held
+    c.in_ok-found.ensures.closed c.in_ok-found.ensures.still c.in_ok-branches.ensures.lists c.in_ok-branches.ensures.branches c.in_ok-refuse.ensures.live c.in_ok-refuse.ensures.failures in
     let head = head-held (IsHeldToken (stores s0 n e0.sets) files) e0.top.work c.args.head c.requires.held.top.work.held c.requires.head in
     let s4 = g.C.Conditions.sets c.gather_calls.new.conds in
     let s5 = g.C.Conditions.sets c.apply_or.new.self in
     let held4 = c.in_ok-gather_calls.ensures.held files (parted-held parts (c.in_ok-refuse.ensures.held files head.file)) in
     let all = is-gathered c.args.files.now c.args.head parts head.held c.args.definition.now c.deref-2.result.now _ c.requires.definition c.deref-2.ensures.value c.in_ok-items.ensures.own c.in_ok-items.ensures.is
     c.requires.function c.requires.stands c.requires.calls s4 s5 c.gather_calls.new.names c.gather_calls.new.self ends.bare.0 ends.alone.0 c.in_ok-uncalled.uncalled.0 c.gather_calls.ensures.keeps c.apply_or.ensures.keeps
-    held4 c.in_ok-ends.ensures.bare c.in_ok-ends.ensures.alone c.in_ok-uncalled.ensures.meaning c.in_ok-gather_calls.ensures.gathered in
+    held4 c.in_ok-found.ensures.bare c.in_ok-found.ensures.alone c.in_ok-uncalled.ensures.meaning c.in_ok-gather_calls.ensures.gathered in
     λ x listed lacks. (all.others x listed lacks).0
 
 pub returns-clause-first_others : goal.returns-clause-first_others
 returns-clause-first_others g c =
     let s0 = g.C.Conditions.sets c.args.conds.now in
-    let s1 = g.C.Conditions.sets c.call_ends.new.conds in
-    let s2 = g.C.Conditions.sets c.calls.new.conds in
+    let s1 = g.C.Conditions.sets c.find_calls.new.conds in
+    let s2 = g.C.Conditions.sets c.closed_calls.new.conds in
     let s3 = g.C.Conditions.sets c.refuse.new.conds in
     let n = c.args.names.now in
     let e0 = c.args.self.now in
     let files = length c.args.files.now in
-    let ends = c.in_ok-ends.ends in
+    let ends = c.in_ok-found.found.ends in
     let parts = parted-by s0 s1 s2 s3 n c.items_at.new.names files e0 c.refuse.new.self c.args.cond.0 ends.closed.0 ends.still.0 c.in_ok-branches.branches.items c.deref.result.now
-    (failure_at UnterminatedCall (seen_hidden n e0.sets c.args.head)) c.deref.ensures.value c.call_ends.ensures.keeps c.calls.ensures.keeps c.refuse.ensures.keeps c.items_at.ensures.names c.requires.held
-    c.in_ok-ends.ensures.closed c.in_ok-ends.ensures.still c.in_ok-branches.ensures.lists c.in_ok-branches.ensures.branches c.in_ok-refuse.ensures.live c.in_ok-refuse.ensures.failures in
+    (failure_at UnterminatedCall (seen_hidden n e0.sets c.args.head)) c.deref.ensures.value c.find_calls.ensures.keeps c.closed_calls.ensures.keeps c.refuse.ensures.keeps c.items_at.ensures.names c.requires.held
+    c.in_ok-found.ensures.closed c.in_ok-found.ensures.still c.in_ok-branches.ensures.lists c.in_ok-branches.ensures.branches c.in_ok-refuse.ensures.live c.in_ok-refuse.ensures.failures in
     let head = head-held (IsHeldToken (stores s0 n e0.sets) files) e0.top.work c.args.head c.requires.held.top.work.held c.requires.head in
     let s4 = g.C.Conditions.sets c.gather_calls.new.conds in
     let s5 = g.C.Conditions.sets c.apply_or.new.self in
     let held4 = c.in_ok-gather_calls.ensures.held files (parted-held parts (c.in_ok-refuse.ensures.held files head.file)) in
     let all = is-gathered c.args.files.now c.args.head parts head.held c.args.definition.now c.deref-2.result.now _ c.requires.definition c.deref-2.ensures.value c.in_ok-items.ensures.own c.in_ok-items.ensures.is
     c.requires.function c.requires.stands c.requires.calls s4 s5 c.gather_calls.new.names c.gather_calls.new.self ends.bare.0 ends.alone.0 c.in_ok-uncalled.uncalled.0 c.gather_calls.ensures.keeps c.apply_or.ensures.keeps
-    held4 c.in_ok-ends.ensures.bare c.in_ok-ends.ensures.alone c.in_ok-uncalled.ensures.meaning c.in_ok-gather_calls.ensures.gathered in
+    held4 c.in_ok-found.ensures.bare c.in_ok-found.ensures.alone c.in_ok-uncalled.ensures.meaning c.in_ok-gather_calls.ensures.gathered in
     λ x listed lacks. (all.others x listed lacks).1
 
 pub returns-clause-first_called : goal.returns-clause-first_called
 returns-clause-first_called g c =
     let s0 = g.C.Conditions.sets c.args.conds.now in
-    let s1 = g.C.Conditions.sets c.call_ends.new.conds in
-    let s2 = g.C.Conditions.sets c.calls.new.conds in
+    let s1 = g.C.Conditions.sets c.find_calls.new.conds in
+    let s2 = g.C.Conditions.sets c.closed_calls.new.conds in
     let s3 = g.C.Conditions.sets c.refuse.new.conds in
     let n = c.args.names.now in
     let e0 = c.args.self.now in
     let files = length c.args.files.now in
-    let ends = c.in_ok-ends.ends in
+    let ends = c.in_ok-found.found.ends in
     let parts = parted-by s0 s1 s2 s3 n c.items_at.new.names files e0 c.refuse.new.self c.args.cond.0 ends.closed.0 ends.still.0 c.in_ok-branches.branches.items c.deref.result.now
-    (failure_at UnterminatedCall (seen_hidden n e0.sets c.args.head)) c.deref.ensures.value c.call_ends.ensures.keeps c.calls.ensures.keeps c.refuse.ensures.keeps c.items_at.ensures.names c.requires.held
-    c.in_ok-ends.ensures.closed c.in_ok-ends.ensures.still c.in_ok-branches.ensures.lists c.in_ok-branches.ensures.branches c.in_ok-refuse.ensures.live c.in_ok-refuse.ensures.failures in
+    (failure_at UnterminatedCall (seen_hidden n e0.sets c.args.head)) c.deref.ensures.value c.find_calls.ensures.keeps c.closed_calls.ensures.keeps c.refuse.ensures.keeps c.items_at.ensures.names c.requires.held
+    c.in_ok-found.ensures.closed c.in_ok-found.ensures.still c.in_ok-branches.ensures.lists c.in_ok-branches.ensures.branches c.in_ok-refuse.ensures.live c.in_ok-refuse.ensures.failures in
     let head = head-held (IsHeldToken (stores s0 n e0.sets) files) e0.top.work c.args.head c.requires.held.top.work.held c.requires.head in
     let s4 = g.C.Conditions.sets c.gather_calls.new.conds in
     let s5 = g.C.Conditions.sets c.apply_or.new.self in
     let held4 = c.in_ok-gather_calls.ensures.held files (parted-held parts (c.in_ok-refuse.ensures.held files head.file)) in
     let all = is-gathered c.args.files.now c.args.head parts head.held c.args.definition.now c.deref-2.result.now _ c.requires.definition c.deref-2.ensures.value c.in_ok-items.ensures.own c.in_ok-items.ensures.is
     c.requires.function c.requires.stands c.requires.calls s4 s5 c.gather_calls.new.names c.gather_calls.new.self ends.bare.0 ends.alone.0 c.in_ok-uncalled.uncalled.0 c.gather_calls.ensures.keeps c.apply_or.ensures.keeps
-    held4 c.in_ok-ends.ensures.bare c.in_ok-ends.ensures.alone c.in_ok-uncalled.ensures.meaning c.in_ok-gather_calls.ensures.gathered in
+    held4 c.in_ok-found.ensures.bare c.in_ok-found.ensures.alone c.in_ok-uncalled.ensures.meaning c.in_ok-gather_calls.ensures.gathered in
     all.first

@@ -1,7 +1,7 @@
 use Rattle.std.proofs.Common.{rules, ◌≡◌, ℕ, List, length, sym, subst, ◌∙◌}
 use Rattle.sc_base.proofs.Growth.{Extends-refl}
 use Rattle.sc_expand.proofs.PlainTables.{entry_names, within-table}
-use Rattle.sc_expand.proofs.RunLemmas.{less-le, rested-le, running-done, running-is, running-out, running-rested, running-start, running-turned, turned-less}
+use Rattle.sc_expand.proofs.RunLemmas.{less-le, rested-le, running-done, running-is, running-out, running-rested, running-start, running-turned, running-unchanged, turned-less}
 use Rattle.sc_expand.proofs.SeenLemmas.{Grows-refl, Grows-trans, IsTable-Grows, macros_at-Grows}
 use Rattle.sc_expand.specs.Seen.{Grows, stores}
 use Rattle.sc_expand.specs.Stops.{StopsBy}
@@ -61,7 +61,7 @@ turn-requires-clause-is g c =
     let texts = entry_names c.args.names.now c.args.table.now.entries.entries in
     let within = within-table (g.C.Conditions.sets c.args.conds.now) c.args.names.now c.args.table.now in
     let rested = c.in_ok-drop_refused.ensures.rested c.loop-self.names in
-    let r = running-rested i.grows i.running texts within mid c.drop_refused.new.self rested more in
+    let r = running-rested i.grows i.running texts within c.requires.held mid c.drop_refused.new.self rested more in
     running-is grows r
 
 pub turn-requires-clause-table : goal.turn-requires-clause-table
@@ -141,14 +141,14 @@ returns-then-not-went-clause-done g c =
     let texts = entry_names c.args.names.now c.args.table.now.entries.entries in
     let within = within-table (g.C.Conditions.sets c.args.conds.now) c.args.names.now c.args.table.now in
     let rested = c.in_ok-drop_refused.ensures.rested c.loop-self.names in
-    let r = running-rested i.grows i.running texts within mid c.drop_refused.new.self rested more in
+    let r = running-rested i.grows i.running texts within c.requires.held mid c.drop_refused.new.self rested more in
     let new = stores (g.C.Conditions.sets c.turn.new.conds) c.turn.new.names c.turn.new.self.sets in
     let later : Grows mid new = record { sets = c.turn.ensures.keeps; names = c.turn.ensures.names; hides = c.turn.ensures.sets } in
     let other = macros_at (g.C.Conditions.sets c.drop_refused.new.conds) c.loop-self.names c.args.table.now in
     let macros = macros_at (g.C.Conditions.sets c.args.conds.now) c.args.names.now c.args.table.now in
     let same : (config : List ℕ) → IsConfig (g.C.Conditions.sets c.args.conds.now).arities config → other config ≡ macros config = λ config listed. λ k. λ text. macros_at-Grows grows c.requires.table config text listed k in
     let turned = c.in_ok-went.ensures.turned in
-    let r_after = running-turned grows r texts within new c.turn.new.self other same turned c.in_ok-went.ensures.held c.in_ok-went.ensures.out in
+    let r_after = running-turned grows r texts within c.requires.held new c.turn.new.self other same turned later.sets c.in_ok-went.ensures.held c.in_ok-went.ensures.out in
     running-done r_after (turned.ended c.if-not-went.true)
 
 pub returns-then-not-went-clause-out : goal.returns-then-not-went-clause-out
@@ -163,15 +163,37 @@ returns-then-not-went-clause-out g c =
     let texts = entry_names c.args.names.now c.args.table.now.entries.entries in
     let within = within-table (g.C.Conditions.sets c.args.conds.now) c.args.names.now c.args.table.now in
     let rested = c.in_ok-drop_refused.ensures.rested c.loop-self.names in
-    let r = running-rested i.grows i.running texts within mid c.drop_refused.new.self rested more in
+    let r = running-rested i.grows i.running texts within c.requires.held mid c.drop_refused.new.self rested more in
     let new = stores (g.C.Conditions.sets c.turn.new.conds) c.turn.new.names c.turn.new.self.sets in
     let later : Grows mid new = record { sets = c.turn.ensures.keeps; names = c.turn.ensures.names; hides = c.turn.ensures.sets } in
     let other = macros_at (g.C.Conditions.sets c.drop_refused.new.conds) c.loop-self.names c.args.table.now in
     let macros = macros_at (g.C.Conditions.sets c.args.conds.now) c.args.names.now c.args.table.now in
     let same : (config : List ℕ) → IsConfig (g.C.Conditions.sets c.args.conds.now).arities config → other config ≡ macros config = λ config listed. λ k. λ text. macros_at-Grows grows c.requires.table config text listed k in
     let turned = c.in_ok-went.ensures.turned in
-    let r_after = running-turned grows r texts within new c.turn.new.self other same turned c.in_ok-went.ensures.held c.in_ok-went.ensures.out in
+    let r_after = running-turned grows r texts within c.requires.held new c.turn.new.self other same turned later.sets c.in_ok-went.ensures.held c.in_ok-went.ensures.out in
     running-out r_after (turned.ended c.if-not-went.true)
+
+pub returns-then-not-went-clause-unchanged : goal.returns-then-not-went-clause-unchanged
+returns-then-not-went-clause-unchanged g c =
+    let i = c.loop-self.invariant in
+    let old = stores (g.C.Conditions.sets c.args.conds.now) c.args.names.now c.args.self.now.sets in
+    let loop = stores (g.C.Conditions.sets c.loop-self.conds) c.loop-self.names c.loop-self.self.sets in
+    let mid = stores (g.C.Conditions.sets c.drop_refused.new.conds) c.loop-self.names c.drop_refused.new.self.sets in
+    let hides = subst (λ h. Extends c.loop-self.self.sets h) (sym c.drop_refused.ensures.sets) (Extends-refl c.loop-self.self.sets) in
+    let more : Grows loop mid = record { sets = c.drop_refused.ensures.keeps; names = Extends-refl c.loop-self.names; hides = hides } in
+    let grows : Grows old mid = Grows-trans i.grows more in
+    let texts = entry_names c.args.names.now c.args.table.now.entries.entries in
+    let within = within-table (g.C.Conditions.sets c.args.conds.now) c.args.names.now c.args.table.now in
+    let rested = c.in_ok-drop_refused.ensures.rested c.loop-self.names in
+    let r = running-rested i.grows i.running texts within c.requires.held mid c.drop_refused.new.self rested more in
+    let new = stores (g.C.Conditions.sets c.turn.new.conds) c.turn.new.names c.turn.new.self.sets in
+    let later : Grows mid new = record { sets = c.turn.ensures.keeps; names = c.turn.ensures.names; hides = c.turn.ensures.sets } in
+    let other = macros_at (g.C.Conditions.sets c.drop_refused.new.conds) c.loop-self.names c.args.table.now in
+    let macros = macros_at (g.C.Conditions.sets c.args.conds.now) c.args.names.now c.args.table.now in
+    let same : (config : List ℕ) → IsConfig (g.C.Conditions.sets c.args.conds.now).arities config → other config ≡ macros config = λ config listed. λ k. λ text. macros_at-Grows grows c.requires.table config text listed k in
+    let turned = c.in_ok-went.ensures.turned in
+    let r_after = running-turned grows r texts within c.requires.held new c.turn.new.self other same turned later.sets c.in_ok-went.ensures.held c.in_ok-went.ensures.out in
+    running-unchanged r_after (turned.ended c.if-not-went.true) c.requires.untouched.out
 
 pub returns-then-not-went-clause-keeps : goal.returns-then-not-went-clause-keeps
 returns-then-not-went-clause-keeps g c =
@@ -224,14 +246,14 @@ loop-self-smaller g c =
     let texts = entry_names c.args.names.now c.args.table.now.entries.entries in
     let within = within-table (g.C.Conditions.sets c.args.conds.now) c.args.names.now c.args.table.now in
     let rested = c.in_ok-drop_refused.ensures.rested c.loop-self.names in
-    let r = running-rested i.grows i.running texts within mid c.drop_refused.new.self rested more in
+    let r = running-rested i.grows i.running texts within c.requires.held mid c.drop_refused.new.self rested more in
     let new = stores (g.C.Conditions.sets c.turn.new.conds) c.turn.new.names c.turn.new.self.sets in
     let later : Grows mid new = record { sets = c.turn.ensures.keeps; names = c.turn.ensures.names; hides = c.turn.ensures.sets } in
     let other = macros_at (g.C.Conditions.sets c.drop_refused.new.conds) c.loop-self.names c.args.table.now in
     let macros = macros_at (g.C.Conditions.sets c.args.conds.now) c.args.names.now c.args.table.now in
     let same : (config : List ℕ) → IsConfig (g.C.Conditions.sets c.args.conds.now).arities config → other config ≡ macros config = λ config listed. λ k. λ text. macros_at-Grows grows c.requires.table config text listed k in
     let turned = c.in_ok-went.ensures.turned in
-    less-le (turned-less grows r texts within new c.turn.new.self other same turned c.if-not-went.false) (rested-le i.grows i.running texts within mid c.drop_refused.new.self rested)
+    less-le (turned-less grows r texts within c.requires.held new c.turn.new.self other same turned c.if-not-went.false) (rested-le i.grows i.running texts within c.requires.held mid c.drop_refused.new.self rested)
 
 pub loop-self-preserved : goal.loop-self-preserved
 loop-self-preserved g c =
@@ -245,12 +267,12 @@ loop-self-preserved g c =
     let texts = entry_names c.args.names.now c.args.table.now.entries.entries in
     let within = within-table (g.C.Conditions.sets c.args.conds.now) c.args.names.now c.args.table.now in
     let rested = c.in_ok-drop_refused.ensures.rested c.loop-self.names in
-    let r = running-rested i.grows i.running texts within mid c.drop_refused.new.self rested more in
+    let r = running-rested i.grows i.running texts within c.requires.held mid c.drop_refused.new.self rested more in
     let new = stores (g.C.Conditions.sets c.turn.new.conds) c.turn.new.names c.turn.new.self.sets in
     let later : Grows mid new = record { sets = c.turn.ensures.keeps; names = c.turn.ensures.names; hides = c.turn.ensures.sets } in
     let other = macros_at (g.C.Conditions.sets c.drop_refused.new.conds) c.loop-self.names c.args.table.now in
     let macros = macros_at (g.C.Conditions.sets c.args.conds.now) c.args.names.now c.args.table.now in
     let same : (config : List ℕ) → IsConfig (g.C.Conditions.sets c.args.conds.now).arities config → other config ≡ macros config = λ config listed. λ k. λ text. macros_at-Grows grows c.requires.table config text listed k in
     let turned = c.in_ok-went.ensures.turned in
-    let r_after = running-turned grows r texts within new c.turn.new.self other same turned c.in_ok-went.ensures.held c.in_ok-went.ensures.out in
+    let r_after = running-turned grows r texts within c.requires.held new c.turn.new.self other same turned later.sets c.in_ok-went.ensures.held c.in_ok-went.ensures.out in
     record { grows = Grows-trans grows later; running = r_after }

@@ -1,13 +1,16 @@
-use Rattle.std.proofs.Common.{◌≡◌, ◌∙◌, All, List, ap, drop, length, sym, subst}
+use Rattle.std.proofs.Common.{◌≡◌, ◌∙◌, ◌++◌, All, List, ap, drop, length, sym, subst}
 use Rattle.std.specs.Prelude.{slice_get}
 use Rattle.sc_base.proofs.Growth.{Extends-refl}
 use Rattle.sc_base.specs.declared.id.Cond.{Cond}
 use Rattle.sc_expand.proofs.PuttingOut.{some-Keeps}
 use Rattle.sc_expand.proofs.SeenLemmas.{IsHeldExpansion-Grows, IsTable-Grows, seen_at-append, token-Grows}
 use Rattle.sc_expand.proofs.TakingTurns.{both_true, first-begun, first-held, first-own, first-token, put-ends, put-held, refused-out, take-turn}
+use Rattle.sc_expand.proofs.UnchangedTaking.{first-undefined, stays-both, take-passes}
+use Rattle.sc_expand.specs.declared.expansion.Expansion.{Expansion}
 use Rattle.sc_expand.specs.Machine.{IsHeldExpansion, at}
 use Rattle.sc_expand.specs.Seen.{Grows, provenance_of, seen_at, stores}
 use Rattle.sc_expand.specs.Turn.{Turn}
+use Rattle.sc_expand.specs.Unchanged.{IsPushed}
 use Rattle.sc_model.proofs.SetLemmas.{Denotes-self, IsConfig-Keeps, IsConfig-kept, Keeps-trans}
 use Rattle.sc_model.specs.Sets.{IsNever, Keeps}
 use Rattle.sc_subst.specs.declared.hidden.Hidden.{Hidden}
@@ -129,3 +132,27 @@ returns-clause-out g c =
           c.in_ok-taken.ensures.others x listed dead (put.out n2 x listed2));
       some = λ before. put.some (subst Some (sym c.in_ok-taken.ensures.out) (some-Keeps all was.top.out c.requires.held.top.out.own before));
     }
+
+pub returns-clause-passes : goal.returns-clause-passes
+returns-clause-passes g c = λ uncalled looks.
+    let s0 = g.C.Conditions.sets c.args.conds.now in
+    let s1 = g.C.Conditions.sets c.apply_and.new.self in
+    let s2 = g.C.Conditions.sets c.take_under.new.conds in
+    let n = c.args.names.now in
+    let h = c.args.self.now.sets in
+    let st = stores s2 c.take_under.new.names c.take_under.new.self.sets in
+    let was = c.args.self.now in
+    let next = c.put_out.new.self in
+    let taken = c.in_ok-taken.taken in
+    let item : Cond × Hidden = (c.args.has, c.args.token) in
+    let put = c.in_ok-put_out.ensures in
+    let grows : Grows (stores s1 n h) st = record { sets = c.take_under.ensures.keeps; names = c.take_under.ensures.names; hides = c.take_under.ensures.sets } in
+    let own = first-own (stores s0 n h) (length c.args.files.now) was.top.work item c.requires.first c.requires.held.top.work in
+    let meets = c.in_ok-cond.ensures.meaning _ _ (Denotes-self s0 c.args.has.0 own) (Denotes-self s0 was.refusals.live.0 c.requires.held.refusals.live) in
+    let undefined = first-undefined s0 s1 n h st c.args.files.now c.args.table.now c.apply_and.ensures.keeps grows was c.take_under.new.self taken item c.in_ok-cond.cond c.requires.held c.requires.first meets c.requires.table looks in
+    let same = c.in_ok-taken.ensures.undefined undefined in
+    let both = stays-both s0 s1 n h st c.args.files.now c.args.table.now c.apply_and.ensures.keeps grows was c.take_under.new.self taken item c.in_ok-cond.cond c.requires.held c.requires.first meets
+    c.requires.calls same.0 c.in_ok-taken.ensures.taken.stays undefined c.in_ok-taken.ensures.comes c.in_ok-taken.ensures.others in
+    take-passes s2 was next item taken.made.items taken.stays uncalled c.requires.first (put.work ∙ ap (λ (e : Expansion). taken.made.items ++ drop 1 e.top.work) same.0) same.1
+    (put.refusals ∙ ap (λ (e : Expansion). e.refusals) same.0) (put.below ∙ ap (λ (e : Expansion). e.below) same.0) (put.calls ∙ ap (λ (e : Expansion). e.top.calls) same.0)
+    both (subst (λ (e : Expansion). IsPushed s2 taken.stays c.args.token e.top.out next.top.out) same.0 put.pushed)

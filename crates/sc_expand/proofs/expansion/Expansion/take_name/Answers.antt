@@ -1,14 +1,23 @@
-use Rattle.std.proofs.Common.{◌∙◌, ◌∷◌, [], ap, map, subst, sym, if◌then◌else◌}
+use Rattle.std.proofs.Common.{◌≡◌, ◌∙◌, ◌∷◌, ℕ, [], List, All, Global, None, Option, ap, map, not, subst, sym, if◌then◌else◌}
+use Rattle.std.specs.Global.{Vec}
+use Rattle.std.specs.declared.rc.Rc.{Rc}
+use Rattle.c11_macros.specs.Macros.{Definition}
+use Rattle.c11_tokens.specs.Lex.{is_identifier_kind}
 use Rattle.sc_base.proofs.Growth.{Extends-refl}
+use Rattle.sc_base.specs.declared.id.Cond.{Cond}
 use Rattle.sc_expand.proofs.SeenLemmas.{IsHeldExpansion-Grows, at-Grows}
 use Rattle.sc_expand.proofs.TakingParts.{none-found, one-found, seen_by, still-untaken}
+use Rattle.sc_expand.proofs.TakingTurns.{both_true}
+use Rattle.sc_expand.proofs.UnchangedTaking.{found-none}
 use Rattle.sc_expand.specs.Seen.{Grows, provenance_of, stores}
 use Rattle.sc_expand.specs.Taking.{Comes, IsBegun, step_at}
 use Rattle.sc_expand.specs.Turn.{At}
 use Rattle.sc_guarded.specs.Items.{items_at}
+use Rattle.sc_macro.specs.declared.definition.Definition as declared
 use Rattle.sc_macro.specs.Seen.{text_of}
 use Rattle.sc_model.proofs.SetLemmas.{IsConfig-Keeps, IsConfig-kept, Keeps-trans}
-use Rattle.sc_subst.specs.Seen.{seen_hidden}
+use Rattle.sc_subst.specs.declared.hidden.Hidden.{Hidden}
+use Rattle.sc_subst.specs.Seen.{hide_at, seen_hidden}
 use Rattle.sc_table.specs.Table.{macros_at}
 use Rattle.sc_expand.proofs.expansion.Expansion.take_name.Goals as goal
 
@@ -64,3 +73,15 @@ returns-clause-others g c = λ x listed no.
     ∙ (c.in_ok-parts.ensures.parts x listed ∙ ap (λ b. if b then macros_at s0 n c.args.table.now x text ∷ [] else []) no) in
     c.in_ok-take_parts.ensures.others x (IsConfig-Keeps c.lookup.ensures.keeps listed) (none-found (seen_by n) (items_at s1 c.deref.result.now x) found)
     ∙ still-untaken grows c.args.self.now (record { stays = c.never.result; made = c.new.result }) c.requires.held c.never.ensures.meaning c.new.ensures.items x listed
+
+pub returns-clause-undefined : goal.returns-clause-undefined
+returns-clause-undefined g c = λ undefined.
+    let s0 = g.C.Conditions.sets c.args.conds.now in
+    let s1 = g.C.Conditions.sets c.lookup.new.conds in
+    let n = c.args.names.now in
+    let macro : List ℕ → Option Definition = λ x. macros_at s0 n c.args.table.now x (text_of n c.args.head.token.spelling) in
+    let name = (both_true (is_identifier_kind c.args.head.token.kind) (not (hide_at n c.args.self.now.sets c.args.head.hide.0 (text_of n c.args.head.token.spelling))) c.requires.name).0 in
+    let found = found-none s1 n (s0.has c.args.cond.0) macro c.in_ok-parts.parts.items (λ x listed. c.in_ok-parts.ensures.parts x (IsConfig-kept c.lookup.ensures.keeps listed))
+    (λ x listed has. undefined x (IsConfig-kept c.lookup.ensures.keeps listed) has name) c.in_ok-parts.ensures.some in
+    let told = c.in_ok-take_parts.ensures.undefined (subst (All (λ (part : Cond × Option (Rc declared.Definition Global)). part.1 ≡ None)) (sym c.deref.ensures.value) found) in
+    (told.0, ap (λ (made : Vec (Cond × Hidden)). made.items) told.1 ∙ c.new.ensures.items)

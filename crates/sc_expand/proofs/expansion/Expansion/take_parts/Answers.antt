@@ -1,5 +1,6 @@
 use Rattle.std.proofs.Common.{◌≡◌, ◌∙◌, ap, length, map, take, true, sym, subst}
 use Rattle.std.proofs.lemmas.List.{take_all}
+use Rattle.std.proofs.lemmas.Option.{IfSome_then}
 use Rattle.std.specs.Prelude.{IfSome, slice_get}
 use Rattle.c11_macros.specs.Expansion.{is_looked_up}
 use Rattle.sc_expand.proofs.SeenLemmas.{Grows-trans, seen_hidden-Grows, token-Grows}
@@ -9,9 +10,10 @@ use Rattle.sc_expand.specs.Seen.{Grows, stores}
 use Rattle.sc_expand.specs.Taking.{IsBegun, step_at}
 use Rattle.sc_guarded.specs.Items.{items_at}
 use Rattle.sc_macro.specs.Seen.{IsHeldDefinition}
-use Rattle.sc_model.proofs.SetLemmas.{IsConfig-kept}
+use Rattle.sc_model.proofs.SetLemmas.{IsConfig-kept, Keeps-trans}
 use Rattle.sc_model.specs.Sets.{IsCond}
 use Rattle.sc_subst.specs.Seen.{seen_hidden}
+use Rattle.sc_table.proofs.Growth.{IsHeldDefinition-Extends}
 use Rattle.sc_expand.proofs.expansion.Expansion.take_parts.Goals as goal
 
 pub take_part-requires-clause-name : goal.take_part-requires-clause-name
@@ -49,6 +51,10 @@ loop-part-preserved g c =
       below = ensures.below ∙ was.below;
       out = ensures.out ∙ was.out;
       items = ensures.items ∙ was.items;
+      undefined = λ none.
+          let so_far = was.undefined none in
+          let here = ensures.undefined (ap (λ p. p.1) c.part-item.is ∙ none c.loop-part.part-index c.part-item.result c.loop-part-test.true) in
+          (here.0 ∙ so_far.0, here.1 ∙ so_far.1);
       done = part-taken c.args.files.now _ _ _ c.args.self.now c.loop-part.self c.take_part.new.self c.args.taken.now c.loop-part.taken c.take_part.new.taken c.args.head c.args.parts.now c.loop-part.part-index c.part-item.result
           (length c.args.files.now) c.loop-part-test.true c.part-item.is was.grows c.requires.head
           (subst (λ p. IsCond s0 p.0.0) (sym c.part-item.is) (c.requires.own c.loop-part.part-index c.part-item.result c.loop-part-test.true))
@@ -64,3 +70,12 @@ returns-clause-comes g c = λ x macros rest listed work found.
     let all : take c.loop-part.part-index c.args.parts.now ≡ c.args.parts.now = take_all c.loop-part.part-index c.args.parts.now c.loop-part-test.false in
     c.loop-part.invariant.done.comes x macros rest listed work
     (ap (λ l. map (seen_by c.args.names.now) (items_at (g.C.Conditions.sets c.args.conds.now) l x)) all ∙ found)
+
+pub take_part-requires-clause-definition : goal.take_part-requires-clause-definition
+take_part-requires-clause-definition g c =
+    let named = c.requires.definitions c.loop-part.part-index c.part-item.result c.loop-part-test.true in
+    IfSome_then c.part-item.result.1 (subst (λ p. IfSome p.1 (λ shared. IsHeldDefinition c.args.names.now shared.value)) (sym c.part-item.is) named)
+    (λ shared held. IsHeldDefinition-Extends c.loop-part.invariant.grows.names shared.value held)
+
+pub returns-in_err-take_part-clause-keeps : goal.returns-in_err-take_part-clause-keeps
+returns-in_err-take_part-clause-keeps g c = Keeps-trans c.loop-part.invariant.grows.sets c.take_part.ensures.keeps

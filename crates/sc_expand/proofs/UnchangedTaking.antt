@@ -1,0 +1,186 @@
+-- A token that is no macro's name is taken: nothing but its place changes.
+use Rattle.std.proofs.Common.{◌≡◌, ℕ, ◌&&◌, not, Bool, true, false, true≢false, List, [], ◌∷◌, ◌++◌, All, drop, length, map, append-nil, Option, Some, None, Global, refl, sym, ap, subst, ◌∙◌, if◌then◌else◌}
+use Rattle.std.proofs.lemmas.List.Elements.{All-cons, All-head, All-nil, All-tail}
+use Rattle.std.specs.Option.{option_map}
+use Rattle.std.specs.Prelude.{slice_get}
+use Rattle.std.specs.declared.rc.Rc.{Rc}
+use Rattle.c11_macros.specs.Expansion.{case_of, is_looked_up, stays}
+use Rattle.c11_macros.specs.Hidden.{Hidden, Provenance}
+use Rattle.c11_macros.specs.Macros as model
+use Rattle.c11_macros.specs.Macros.{Macros}
+use Rattle.c11_tokens.specs.Lex.{is_identifier_kind}
+use Rattle.sc_base.proofs.Growth.{Extends-refl}
+use Rattle.sc_base.specs.declared.id.Cond.{Cond}
+use Rattle.sc_base.specs.declared.id.Name.{Name}
+use Rattle.sc_base.specs.declared.place.Place.{Place}
+use Rattle.sc_expand.proofs.PlainCases.{case-hidden, case-undefined}
+use Rattle.sc_expand.proofs.SeenLemmas.{macros_at-Grows}
+use Rattle.sc_expand.proofs.TakingParts.{seen_by}
+use Rattle.sc_expand.proofs.TakingTurns.{both_true, first-begun, first-of, first-own}
+use Rattle.sc_expand.proofs.UnchangedLemmas.{both-Keeps}
+use Rattle.sc_expand.specs.declared.expansion.Expansion.{Expansion}
+use Rattle.sc_expand.specs.declared.taking.Taken.{Taken}
+use Rattle.sc_expand.specs.Machine.{IsHeldExpansion, at}
+use Rattle.sc_expand.specs.Seen.{Grows, Stores, provenance_of, stores}
+use Rattle.sc_expand.specs.Taking as taking
+use Rattle.sc_expand.specs.Taking.{Comes, Step, step_at, untaken}
+use Rattle.sc_expand.specs.Turn.{At}
+use Rattle.sc_expand.specs.Unchanged as unchanged
+use Rattle.sc_expand.specs.Unchanged.{IsPushed, IsRestricted, IsUncalled, IsUndefined, LooksUpNone, Passes}
+use Rattle.sc_guarded.specs.Items.{items_at}
+use Rattle.sc_macro.specs.declared.definition.Definition.{Definition}
+use Rattle.sc_macro.specs.Seen.{text_of}
+use Rattle.sc_model.proofs.SetLemmas.{IsConfig-kept, Keeps-trans}
+use Rattle.sc_model.specs.Sets.{Sets, Denotes, IsCond, IsConfig, IsNever, Keeps}
+use Rattle.sc_subst.specs.declared.hidden.Hidden as declared
+use Rattle.sc_subst.specs.Seen.{seen_hidden}
+use Rattle.sc_table.specs.declared.table.MacroTable.{MacroTable}
+use Rattle.sc_table.specs.Table.{IsTable, macros_at}
+
+-- ---- what a look-up gives
+
+abbrev Found : Type 0
+Found = Option (Rc Definition Global)
+
+pub first-here : {X : Type 0} (P : X → Type 0) (b : Bool) (x : X) (xs : List X) → b ≡ true → All P (if b then x ∷ xs else xs) → P x
+first-here P true x xs has all = All-head P x xs all
+first-here P false x xs has all = absurd (true≢false (sym has))
+
+pub others-here : {X : Type 0} (P : X → Type 0) (b : Bool) (x : X) (xs : List X) → All P (if b then x ∷ xs else xs) → All P xs
+others-here P true x xs all = All-tail P x xs all
+others-here P false x xs all = all
+
+-- what is looked up is undefined
+all-none : (names : List (List ℕ)) (xs : List Found) (b : Bool) (m : Option model.Definition) → (b ≡ true → m ≡ None) → map (seen_by names) xs ≡ (if b then m ∷ [] else []) → All (λ (o : Found). o ≡ None) xs
+all-none names [] b m none is = All-nil (λ (o : Found). o ≡ None)
+all-none names (x ∷ xs) true m none is =
+    let first : seen_by names x ≡ None = (cc) ∙ none refl in
+    let rest : map (seen_by names) xs ≡ [] = cc in
+    All-cons (λ (o : Found). o ≡ None) x xs (by x first) (all-none names xs false m (λ no. absurd (true≢false (sym no))) rest)
+  where
+    by : (o : Found) → seen_by names o ≡ None → o ≡ None
+    by None is = refl
+    by (Some shared) is = absurd (cc)
+all-none names (x ∷ xs) false m none is = absurd (cc)
+
+-- a part that defines a name has some configuration, so there is none
+parts-none : (s : Sets) (parts : List (Cond × Found)) → ((c : List ℕ) → IsConfig s.arities c → All (λ (o : Found). o ≡ None) (items_at s parts c))
+    → All (λ (part : Cond × Found). IsNever s part.0.0 → ⊥) parts → All (λ (part : Cond × Found). part.1 ≡ None) parts
+parts-none s [] none some = All-nil (λ (part : Cond × Found). part.1 ≡ None)
+parts-none s (x ∷ xs) none some =
+    let Some-of : Cond × Found → Type 0 = λ part. IsNever s part.0.0 → ⊥ in
+    let IsNone : Found → Type 0 = λ o. o ≡ None in
+    All-cons (λ (part : Cond × Found). part.1 ≡ None) x xs (by x.1 refl)
+    (parts-none s xs (λ c listed. others-here IsNone (s.has x.0.0 c) x.1 (items_at s xs c) (none c listed)) (All-tail Some-of x xs some))
+  where
+    by : (o : Found) → x.1 ≡ o → x.1 ≡ None
+    by None is = is
+    by (Some shared) is = absurd (All-head (λ (part : Cond × Found). IsNever s part.0.0 → ⊥) x xs some (record { none = λ c listed. never c listed (s.has x.0.0 c) refl }))
+      where
+        never : (c : List ℕ) → IsConfig s.arities c → (b : Bool) → s.has x.0.0 c ≡ b → s.has x.0.0 c ≡ false
+        never c listed true has =
+            let here : x.1 ≡ None = first-here (λ (o : Found). o ≡ None) (s.has x.0.0 c) x.1 (items_at s xs c) has (none c listed) in
+            absurd (cc)
+        never c listed false has = has
+
+pub found-none : (s : Sets) (names : List (List ℕ)) (has : List ℕ → Bool) (macro : List ℕ → Option model.Definition) (parts : List (Cond × Found))
+    → ((c : List ℕ) → IsConfig s.arities c → map (seen_by names) (items_at s parts c) ≡ (if has c then macro c ∷ [] else []))
+    → ((c : List ℕ) → IsConfig s.arities c → has c ≡ true → macro c ≡ None) → All (λ (part : Cond × Found). IsNever s part.0.0 → ⊥) parts → All (λ (part : Cond × Found). part.1 ≡ None) parts
+found-none s names has macro parts found none some = parts-none s parts (λ c listed. all-none names (items_at s parts c) (has c) (macro c) (none c listed) (found c listed)) some
+
+-- ---- the token stays
+
+pub comes-stays : (provenance : Provenance Place) (macros : Macros) (t : Hidden Place) (rest : List (Hidden Place)) (a : At) (b : Step) → case_of macros t rest ≡ stays → b.at.live ≡ true
+    → Comes provenance macros t rest a b → b.stays ≡ true
+comes-stays provenance macros t rest a b case live (taking.kept is same) = ap (λ (s : Step). s.stays) same
+comes-stays provenance macros t rest a b case live (taking.put d body is ok same) = absurd (cc)
+comes-stays provenance macros t rest a b case live (taking.taken_out d arguments close after template is stands same) = absurd (cc)
+comes-stays provenance macros t rest a b case live (taking.failed failure fails dead failures) = absurd (true≢false (sym live ∙ dead))
+
+-- ---- it is put out
+
+pub take-passes : (s : Sets) (was next : Expansion) (item : Cond × declared.Hidden) (made : List (Cond × declared.Hidden)) (cond : Cond) → IsUncalled was → slice_get was.top.work 0 ≡ Some item
+    → next.top.work ≡ made ++ drop 1 was.top.work → made ≡ [] → next.refusals ≡ was.refusals → next.below ≡ was.below → next.top.calls ≡ was.top.calls
+    → Denotes s cond.0 (λ c. s.has item.0.0 c && s.has was.refusals.live.0 c) → IsPushed s cond item.1 was.top.out next.top.out → Passes s was next
+take-passes s was next item made cond uncalled first work none refusals below calls both push = by push
+  where
+    whole : was.top.work ≡ item ∷ next.top.work
+    whole = first-of was.top.work item first ∙ ap (λ l. item ∷ l) (sym (work ∙ ap (λ l. l ++ drop 1 was.top.work) none))
+
+    still : IsUncalled next
+    still = record { below = ap (λ b. b.items) below ∙ uncalled.below; calls = ap (λ l. l.items) calls ∙ uncalled.calls }
+
+    by : IsPushed s cond item.1 was.top.out next.top.out → Passes s was next
+    by (unchanged.pushed some is) = record {
+      passed = item ∷ [];
+      put = (cond, item.1) ∷ [];
+      work = whole;
+      out = is;
+      restricted = unchanged.kept cond item [] [] both some unchanged.empty;
+      refusals = refusals;
+      uncalled = still;
+    }
+    by (unchanged.absent never is) = record {
+      passed = item ∷ [];
+      put = [];
+      work = whole;
+      out = is ∙ sym (append-nil was.top.out);
+      restricted = unchanged.left_out item [] [] (λ c listed. sym (both.at c listed) ∙ never.none c listed) unchanged.empty;
+      refusals = refusals;
+      uncalled = still;
+    }
+
+-- ---- the configurations in which it stays
+
+undefined-stays : (names : List (List ℕ)) (hides : List (List Name)) (macros : Macros) (h : declared.Hidden) (rest : List (Hidden Place)) → IsUndefined names macros h.token → case_of macros (seen_hidden names hides h) rest ≡ stays
+undefined-stays names hides macros h rest undefined = by (is_looked_up t) refl
+  where
+    t : Hidden Place
+    t = seen_hidden names hides h
+
+    by : (b : Bool) → is_looked_up t ≡ b → case_of macros t rest ≡ stays
+    by true looked = case-undefined macros t rest looked (undefined (both_true (is_identifier_kind t.kind) (not (t.hide t.spelling)) looked).0)
+    by false hidden = case-hidden macros t rest hidden
+
+module _ (s0 s1 : Sets) (n : List (List ℕ)) (h : List (List Name)) (st : Stores) (files : List (List ℕ)) (table : MacroTable) (keeps : Keeps s0 s1) (grows : Grows (stores s1 n h) st) (was now : Expansion) (taken : Taken)
+    (item : Cond × declared.Hidden) (cond : Cond) (held : IsHeldExpansion (stores s0 n h) (length files) was) (first : slice_get was.top.work 0 ≡ Some item)
+    (meets : Denotes s1 cond.0 (λ c. s0.has item.0.0 c && s0.has was.refusals.live.0 c)) where
+  -- what is not looked up in the list is not looked up at its first token
+  pub first-undefined : IsTable s0 n table → LooksUpNone s0 n (macros_at s0 n table) was → (c : List ℕ) → IsConfig s1.arities c → s1.has cond.0 c ≡ true → IsUndefined n (macros_at s1 n table c) item.1.token
+  first-undefined is_table looks c listed has name =
+      let L : Cond × declared.Hidden → Type 0 = λ item. (c : List ℕ) → IsConfig s0.arities c → s0.has item.0.0 c ≡ true → s0.has was.refusals.live.0 c ≡ true → IsUndefined n (macros_at s0 n table c) item.1.token in
+      let grew : Grows (stores s0 n h) (stores s1 n h) = record { sets = keeps; names = Extends-refl n; hides = Extends-refl h } in
+      let listed0 = IsConfig-kept keeps listed in
+      let both = both_true (s0.has item.0.0 c) (s0.has was.refusals.live.0 c) (sym (meets.at c listed) ∙ has) in
+      macros_at-Grows grew is_table c (text_of n item.1.token.spelling) listed0 ∙ All-head L item (drop 1 was.top.work) (subst (All L) (first-of was.top.work item first) looks) c listed0 both.0 both.1 name
+
+  pub stays-both : was.top.calls.items ≡ [] → now ≡ was → IsCond st.sets taken.stays.0
+      → ((c : List ℕ) → IsConfig s1.arities c → s1.has cond.0 c ≡ true → IsUndefined n (macros_at s1 n table c) item.1.token)
+      → ((c : List ℕ) (macros : Macros) (rest : List (Hidden Place)) → IsConfig s1.arities c → s1.has cond.0 c ≡ true → (at (stores s1 n h) was c).view.work ≡ seen_hidden n h item.1 ∷ rest
+      → macros (text_of n item.1.token.spelling) ≡ macros_at s1 n table c (text_of n item.1.token.spelling)
+      → Comes (provenance_of files) macros (seen_hidden n h item.1) rest (at (stores s1 n h) was c) (step_at st now taken c))
+      → ((c : List ℕ) → IsConfig s1.arities c → s1.has cond.0 c ≡ false → step_at st now taken c ≡ untaken (stores s1 n h) was c)
+      → Denotes st.sets taken.stays.0 (λ c. st.sets.has item.0.0 c && st.sets.has was.refusals.live.0 c)
+  stays-both none same own undefined comes others = record { own = own; at = λ c listed. stays-at c listed }
+    where
+      all : Keeps s0 st.sets
+      all = Keeps-trans keeps grows.sets
+
+      item_own : IsCond s0 item.0.0
+      item_own = first-own (stores s0 n h) (length files) was.top.work item first held.top.work
+
+      stays-here : (c : List ℕ) → IsConfig s0.arities c → IsConfig s1.arities c → (b : Bool) → s1.has cond.0 c ≡ b → st.sets.has taken.stays.0 c ≡ b
+      stays-here c listed0 listed true has =
+          let both = both_true (s0.has item.0.0 c) (s0.has was.refusals.live.0 c) (sym (meets.at c listed) ∙ has) in
+          let begun = first-begun (stores s1 n h) was item c first none (keeps.at item.0.0 c item_own listed0 ∙ both.0) (keeps.at was.refusals.live.0 c held.refusals.live listed0 ∙ both.1) in
+          let live : st.sets.has now.refusals.live.0 c ≡ true = ap (λ (e : Expansion). st.sets.has e.refusals.live.0 c) same ∙ (all.at was.refusals.live.0 c held.refusals.live listed0 ∙ both.1) in
+          let macros = macros_at s1 n table c in
+          comes-stays (provenance_of files) macros (seen_hidden n h item.1) begun.rest (at (stores s1 n h) was c) (step_at st now taken c)
+          (undefined-stays n h macros item.1 begun.rest (undefined c listed has)) live (comes c macros begun.rest listed has begun.work refl)
+      stays-here c listed0 listed false lacks = ap (λ (s : Step). s.stays) (others c listed lacks)
+
+      stays-at : (c : List ℕ) → IsConfig st.sets.arities c → st.sets.has taken.stays.0 c ≡ (st.sets.has item.0.0 c && st.sets.has was.refusals.live.0 c)
+      stays-at c listed =
+          let listed1 = IsConfig-kept grows.sets listed in
+          let listed0 = IsConfig-kept keeps listed1 in
+          stays-here c listed0 listed1 (s1.has cond.0 c) refl ∙ (meets.at c listed1 ∙ sym (both-Keeps all item.0.0 was.refusals.live.0 item_own held.refusals.live c listed0))
