@@ -22,14 +22,15 @@ x = record { kind = Other; spelling = codes "x"; space = false; place = place 1 
 abbrev y : Token
 y = record { kind = Other; spelling = codes "y"; space = false; place = place 2 }
 
--- the name of a declarator is its first child, that of production 4 its second; production 5 lists
--- the parameters in its second child
+-- the name of a declarator is its first child, that of production 4 its second; production 5 has
+-- its parameters in its second child, and production 6 is a list of two
 abbrev declarators : Declarators
 declarators = record {
   declarator = λ p. (if p == 4 then Some 1 else Some 0);
   parameters = λ p. (if p == 5 then Some 1 else None);
-  is_list = λ p. p == 6;
   is_parameter = λ p. p == 3;
+  earlier = λ p. (if p == 6 then Some 0 else None);
+  last = λ p. (if p == 6 then Some 1 else None);
 }
 
 abbrev name : Token → Tree

@@ -56,16 +56,18 @@ join (top ∷ (below ∷ levels)) = (top ++ below) ∷ levels
 
 -- ---- names that a tree declares
 
--- How the declarators of a grammar are made (C11 6.7.6), by the numbers of its productions.
+-- How the declarators of a grammar are made (C11 6.7.6), by the numbers of its productions. A list
+-- of parameters is an earlier list and one more parameter.
 pub record Declarators : Type 0 where
   -- the child in which the declared name is found
   pub declarator : ℕ → Option ℕ
   -- the child in which the parameters stand, where the node declares a function
   pub parameters : ℕ → Option ℕ
-  -- parameters are found in each of its children
-  pub is_list : ℕ → Bool
   -- a parameter with a name
   pub is_parameter : ℕ → Bool
+  -- the children in which the earlier parameters stand, and the last one
+  pub earlier : ℕ → Option ℕ
+  pub last : ℕ → Option ℕ
 
 -- the name that a declarator declares
 abbrev mutual
@@ -80,26 +82,34 @@ abbrev mutual
   declared_in d (Some zero) (trees tree forest) = declared d tree
   declared_in d (Some (suc n)) (trees tree forest) = declared_in d (Some n) forest
 
+-- the name of a parameter
+abbrev pub parameter : Declarators → Tree → List (List ℕ)
+parameter d (leaf token) = []
+parameter d (node p children) = if d.is_parameter p then declared d (node p children) else []
+
+abbrev pub parameter_in : Declarators → Option ℕ → Forest → List (List ℕ)
+parameter_in d None forest = []
+parameter_in d (Some n) no_trees = []
+parameter_in d (Some zero) (trees tree forest) = parameter d tree
+parameter_in d (Some (suc n)) (trees tree forest) = parameter_in d (Some n) forest
+
 -- the names of the parameters in a list of them, in order
 abbrev mutual
   pub listed : Declarators → Tree → List (List ℕ)
   listed d (leaf token) = []
   listed d (node p children) =
-      if d.is_parameter p then declared d (node p children) else (if d.is_list p then listed_in d children else [])
+      listed_in d (d.earlier p) children ++ (if d.is_parameter p then declared d (node p children) else parameter_in d (d.last p) children)
 
-  pub listed_in : Declarators → Forest → List (List ℕ)
-  listed_in d no_trees = []
-  listed_in d (trees tree forest) = listed d tree ++ listed_in d forest
-
-abbrev pub listed_at : Declarators → ℕ → Forest → List (List ℕ)
-listed_at d n no_trees = []
-listed_at d zero (trees tree forest) = listed d tree
-listed_at d (suc n) (trees tree forest) = listed_at d n forest
+  pub listed_in : Declarators → Option ℕ → Forest → List (List ℕ)
+  listed_in d None forest = []
+  listed_in d (Some n) no_trees = []
+  listed_in d (Some zero) (trees tree forest) = listed d tree
+  listed_in d (Some (suc n)) (trees tree forest) = listed_in d (Some n) forest
 
 -- the parameters of a node, or else those that were met above it
 abbrev pub parameters_or : Declarators → Option ℕ → Forest → List (List ℕ) → List (List ℕ)
 parameters_or d None children met = met
-parameters_or d (Some n) children met = listed_at d n children
+parameters_or d (Some n) children met = listed_in d (Some n) children
 
 -- the parameters of the function declarator that is met last on the way to the declared name
 abbrev mutual

@@ -1,4 +1,5 @@
 pub mod Bindings
+pub mod C11
 pub mod Classes
 pub mod Core
 pub mod Derives

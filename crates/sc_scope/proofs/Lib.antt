@@ -1,3 +1,6 @@
+pub mod KindLemmas
+pub mod LevelLemmas
 pub mod OwnLemmas
 pub mod SearchLemmas
 pub mod ShowLemmas
+pub mod TrieLemmas

@@ -6,16 +6,17 @@ use Rattle.c11_parsing.specs.Bindings as plain
 use Rattle.c11_parsing.specs.Bindings.{Binding, first_in, or_else, innermost}
 use Rattle.sc_base.specs.declared.id.Cond.{Cond}
 use Rattle.sc_guarded.specs.Items.{items_at}
-use Rattle.sc_guarded.proofs.ItemLemmas.{items_at-append}
+use Rattle.sc_guarded.proofs.ItemLemmas.{items_at-append, items_at-Keeps}
 use Rattle.sc_model.specs.Bytes.{same_bytes}
 use Rattle.sc_model.specs.Growth.{IsOneToOne}
-use Rattle.sc_model.specs.Sets.{Sets}
+use Rattle.sc_model.specs.Sets.{Sets, IsConfig, Keeps}
 use Rattle.sc_model.proofs.ByteLemmas.{same_bytes-refl, same_bytes-true}
 use Rattle.sc_scope.specs.declared.kind.NameKind.{NameKind}
 use Rattle.sc_scope.specs.declared.kind.NameKind.TheVariants.{Variable, Typedef}
 use Rattle.sc_scope.specs.Levels.{Level, no_bindings, with_binding, bound, joined}
-use Rattle.sc_scope.specs.Search.{bindings_in, is_typedef, is_typedef_at}
+use Rattle.sc_scope.specs.Search.{bindings_in, is_typedef, is_typedef_at, OwnsLevels}
 use Rattle.sc_scope.specs.Shows.{kind_of, first_kind, is_type, Shows, none_shown, more_shown}
+use Rattle.sc_scope.proofs.SearchLemmas.{AreOwn-front, AreOwn-back}
 
 -- ---- first kinds
 
@@ -129,3 +130,17 @@ module _ (sets : Sets) (names : List (List ℕ)) (c : List ℕ) where
       → is_typedef_at sets levels name c ≡ is_type (innermost text others)
   typedef-shown name text levels others at shows =
       is_typedef-first (items_at sets (bindings_in name levels) c) ∙ ap is_type (innermost-shown name text levels others at shows)
+
+-- what levels show stays as the store of conditions grows
+pub Shows-Keeps : {old new : Sets} (names : List (List ℕ)) (c : List ℕ) (levels : List Level) (others : List plain.Level) → Keeps old new
+    → IsConfig old.arities c → OwnsLevels old levels → Shows old names c levels others → Shows new names c levels others
+Shows-Keeps names c _ _ keeps listed own none_shown = none_shown
+Shows-Keeps {old} {new} names c _ _ keeps listed own (more_shown level bindings levels others first shows) =
+    more_shown level bindings levels others
+    (record {
+      same = λ name text at.
+          ap first_kind (items_at-Keeps (level name) c keeps (AreOwn-front old (level name) (bindings_in name levels) (own.each name)).each listed)
+          ∙ first.same name text at;
+    })
+    (Shows-Keeps names c levels others keeps listed
+    (record { each = λ name. AreOwn-back old (level name) (bindings_in name levels) (own.each name) }) shows)

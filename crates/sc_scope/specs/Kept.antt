@@ -1,5 +1,5 @@
 -- What the code keeps, as bindings of names.
-use Rattle.std.specs.Prelude.{ℕ, zero, suc, ◌==◌, ◌/◌, ◌%◌, List, [], ◌∷◌, if◌then◌else◌}
+use Rattle.std.specs.Prelude.{ℕ, zero, suc, ◌==◌, ◌/◌, ◌%◌, List, [], ◌∷◌, Option, Some, None, if◌then◌else◌}
 use Rattle.sc_base.specs.declared.id.Cond.{Cond}
 use Rattle.sc_scope.specs.declared.kind.NameKind.{NameKind}
 use Rattle.sc_scope.specs.declared.bindings.Bindings.{Bindings}
@@ -26,3 +26,13 @@ bindings_at (Full' p left here q right) = at_branch (bindings_at left) (bindings
 abbrev pub levels_of : declared.Levels → List Level
 levels_of Bottom = []
 levels_of (Level' p below top) = bindings_at top ∷ levels_of below
+
+-- what a name has after a change of its bindings, if there was one
+abbrev pub bindings_after : Option Bindings → List (Cond × NameKind) → List (Cond × NameKind)
+bindings_after None bindings = bindings
+bindings_after (Some changed) bindings = bindings_of changed
+
+-- what a level is after a change, if there was one
+abbrev pub level_after : Option Trie → Level → Level
+level_after None level = level
+level_after (Some changed) level = bindings_at changed

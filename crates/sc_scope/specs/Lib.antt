@@ -1,4 +1,5 @@
 pub mod Kept
+pub mod Kinds
 pub mod Levels
 pub mod Search
 pub mod Seen

@@ -1,4 +1,4 @@
-ghost use Rattle.std.specs.Prelude.{◌≡◌, ◌∷◌, ◌++◌, IfOk};
+ghost use Rattle.std.specs.Prelude.{◌≡◌, ◌↔◌, ◌∷◌, ◌++◌, IfOk, IsTrue};
 ghost use Rattle.sc_scope.specs.Kept.{bindings_of};
 
 use crate::kind::NameKind;
@@ -62,6 +62,29 @@ impl Bindings {
             all = all.bound(alloc, cond, kind)?;
         }
         Ok(all)
+    }
+
+    /// Whether both are the same, binding by binding.
+    pub(crate) fn same(&self, other: &Bindings) -> bool
+        ensures { IsTrue result ↔ bindings_of self.now ≡ bindings_of other.now }
+    {
+        let mut here = self;
+        let mut there = other;
+        loop {
+            match here {
+                Bindings::Unbound => return matches!(there, Bindings::Unbound),
+                Bindings::Bound(older, cond, kind) => match there {
+                    Bindings::Unbound => return false,
+                    Bindings::Bound(other_older, other_cond, other_kind) => {
+                        if *cond != *other_cond || *kind != *other_kind {
+                            return false;
+                        }
+                        here = older;
+                        there = other_older;
+                    }
+                },
+            }
+        }
     }
 
     fn listed(&self, alloc: Global) -> Result<Vec<(Cond, NameKind)>, OutOfMemory>

@@ -5,6 +5,7 @@ ghost use Rattle.sc_base.specs.declared.id.Cond.{Cond};
 ghost use Rattle.sc_model.specs.Growth.{IsOneToOne};
 ghost use Rattle.sc_model.specs.Sets.{Sets, IsCond, Keeps};
 ghost use Rattle.sc_scope.specs.declared.kind.NameKind.{NameKind};
+ghost use Rattle.sc_scope.specs.Kinds.{IsOnlyIn, KeepsKinds};
 ghost use Rattle.sc_scope.specs.Levels.{Level, no_bindings, bound, joined};
 ghost use Rattle.sc_scope.specs.Search.{is_typedef_at, OwnsLevels};
 ghost use Rattle.sc_scope.specs.Shows.{Shows, kind_of, is_type};
@@ -25,6 +26,8 @@ pub fn scopes_follow_bindings()
         → sets.has cond.0 c ≡ false → Shows sets names c levels others → Shows sets names c (bound name (cond, kind) levels) others }
     ensures typedef { (sets : Sets) (names : List (List ℕ)) (c : List ℕ) (name : ℕ) (text : List ℕ) (levels : List Level) (others : List plain.Level)
         → slice_get names name ≡ Some text → Shows sets names c levels others → is_typedef_at sets levels name c ≡ is_type (plain.innermost text others) }
+    ensures merge { (old new : Sets) (names : List (List ℕ)) (c : List ℕ) (cond other : Cond) (levels merged : List Level) (others : List plain.Level)
+        → KeepsKinds old new cond other levels merged → IsOnlyIn old cond other c → Shows old names c levels others → Shows new names c merged others }
 {}
 
 /// Levels whose conditions are the store's stay such under each call, as the store grows too.

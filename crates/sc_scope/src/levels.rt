@@ -1,11 +1,15 @@
-ghost use Rattle.std.specs.Prelude.{◌≡◌, [], ◌∷◌, drop, IfOk};
-ghost use Rattle.sc_scope.specs.Kept.{bindings_of, levels_of};
+ghost use Rattle.std.specs.Prelude.{◌≡◌, [], ◌∷◌, drop, length, map, IfOk};
+ghost use Rattle.sc_model.specs.Sets.{IsCond, Keeps};
+ghost use Rattle.sc_scope.specs.Kept.{bindings_at, levels_of};
+ghost use Rattle.sc_scope.specs.Kinds.{MergesLevels};
 ghost use Rattle.sc_scope.specs.Levels.{bound, joined};
+ghost use Rattle.sc_scope.specs.Search.{OwnsLevels};
 
 use crate::bindings::Bindings;
 use crate::kind::NameKind;
 use crate::trie::Trie;
 use sc_base::{Cond, Name, OutOfMemory};
+use sc_presence::Conditions;
 use std::alloc::Global;
 use std::rc::Rc;
 
@@ -84,4 +88,82 @@ impl Levels {
             }
         }
     }
+
+    /// As many levels, each as it is in these in the configurations of `here` and as it is in the
+    /// others in those of `there`.
+    pub(crate) fn merged<C: Conditions>(
+        &self,
+        conds: &mut C,
+        alloc: Global,
+        here: Cond,
+        other: &Levels,
+        there: Cond,
+    ) -> Result<Levels, OutOfMemory>
+        requires here_own { IsCond (C.sets conds.old) here.0 }
+        requires there_own { IsCond (C.sets conds.old) there.0 }
+        requires own { OwnsLevels (C.sets conds.old) (levels_of self.now) }
+        requires other_own { OwnsLevels (C.sets conds.old) (levels_of other.now) }
+        requires count { length (levels_of self.now) ≡ length (levels_of other.now) }
+        ensures merges { IfOk result (λ levels. MergesLevels (C.sets conds.old) (C.sets conds.new) here there
+            (levels_of self.now) (levels_of other.now) (levels_of levels)) }
+
+        // at every outcome
+        ensures keeps { Keeps (C.sets conds.old) (C.sets conds.new) }
+    {
+        let tops = merged_tops(conds, alloc, here, self, there, other)?;
+        stacked(alloc, tops)
+    }
+}
+
+// The levels are gone through in loops, as many as there may be.
+
+/// Each level as it is on both sides, the top first.
+fn merged_tops<C: Conditions>(
+    conds: &mut C,
+    alloc: Global,
+    here: Cond,
+    left: &Levels,
+    there: Cond,
+    right: &Levels,
+) -> Result<Vec<Trie>, OutOfMemory>
+    requires here_own { IsCond (C.sets conds.old) here.0 }
+    requires there_own { IsCond (C.sets conds.old) there.0 }
+    requires left_own { OwnsLevels (C.sets conds.old) (levels_of left.now) }
+    requires right_own { OwnsLevels (C.sets conds.old) (levels_of right.now) }
+    requires count { length (levels_of left.now) ≡ length (levels_of right.now) }
+    ensures merges { IfOk result (λ tops. MergesLevels (C.sets conds.old) (C.sets conds.new) here there
+        (levels_of left.now) (levels_of right.now) (map bindings_at tops.items)) }
+
+    // at every outcome
+    ensures keeps { Keeps (C.sets conds.old) (C.sets conds.new) }
+{
+    let mut tops = Vec::new(alloc);
+    let mut left = left;
+    let mut right = right;
+    loop {
+        match left {
+            Levels::Bottom => return Ok(tops),
+            Levels::Level(left_below, left_top) => match right {
+                Levels::Bottom => return Ok(tops),
+                Levels::Level(right_below, right_top) => {
+                    let top = left_top.merged(conds, alloc, here, right_top, there)?;
+                    tops.push(top)?;
+                    left = left_below;
+                    right = right_below;
+                }
+            },
+        }
+    }
+}
+
+/// These as levels, the first on top.
+fn stacked(alloc: Global, tops: Vec<Trie>) -> Result<Levels, OutOfMemory>
+    ensures { IfOk result (λ levels. levels_of levels ≡ map bindings_at tops.items) }
+{
+    let mut tops = tops;
+    let mut levels = Levels::Bottom;
+    while let Some(top) = tops.pop() {
+        levels = Levels::Level(Rc::new(alloc, levels)?, top);
+    }
+    Ok(levels)
 }

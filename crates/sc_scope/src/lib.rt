@@ -5,6 +5,7 @@ mod bindings;
 mod kind;
 mod laws;
 mod levels;
+mod merge;
 mod scopes;
 mod search;
 mod trie;

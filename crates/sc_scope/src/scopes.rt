@@ -23,7 +23,8 @@ pub struct Scopes {
 }
 
 impl Scopes {
-    ghost use Rattle.sc_scope.specs.Search.{bindings_in, is_typedef_at, AreOwn};
+    ghost use Rattle.sc_scope.specs.Kinds.{KeepsKinds};
+    ghost use Rattle.sc_scope.specs.Search.{bindings_in, is_typedef_at, AreOwn, OwnsLevels};
     ghost use Rattle.sc_scope.specs.Seen.{levels_in};
 
     /// No levels. The scopes keep `alloc` for those that come.
@@ -100,8 +101,8 @@ impl Scopes {
         Ok(())
     }
 
-    /// The configurations of a condition in which the name is a typedef: its first binding, from the
-    /// top level down, is one.
+    /// The configurations of a condition in which the name is a typedef: its first binding, from
+    /// the top level down, is one.
     pub fn typedef_under<C: Conditions>(
         &self,
         conds: &mut C,
@@ -123,5 +124,32 @@ impl Scopes {
         };
         let found = search_levels(conds, search, &self.top, name)?;
         Ok(found.types)
+    }
+
+    /// Makes one of these scopes, which the configurations of `here` have, and of others, which
+    /// those of `there` have. What names are in a configuration of both or of neither is not told.
+    pub fn merge<C: Conditions>(
+        &mut self,
+        conds: &mut C,
+        here: Cond,
+        other: &Scopes,
+        there: Cond,
+    ) -> Result<(), OutOfMemory>
+        requires here_own { IsCond (C.sets conds.old) here.0 }
+        requires there_own { IsCond (C.sets conds.old) there.0 }
+        requires own { OwnsLevels (C.sets conds.old) (levels_in self.old) }
+        requires other_own { OwnsLevels (C.sets conds.old) (levels_in other.now) }
+        requires count { length (levels_in self.old) ≡ length (levels_in other.now) }
+        ensures own { OnOk result (OwnsLevels (C.sets conds.new) (levels_in self.new)) }
+        ensures count { OnOk result (length (levels_in self.new) ≡ length (levels_in self.old)) }
+        ensures here { OnOk result (KeepsKinds (C.sets conds.old) (C.sets conds.new) here there (levels_in self.old) (levels_in self.new)) }
+        ensures there { OnOk result (KeepsKinds (C.sets conds.old) (C.sets conds.new) there here (levels_in other.now) (levels_in self.new)) }
+        ensures err { OnErr result (levels_in self.new ≡ levels_in self.old) }
+
+        // at every outcome
+        ensures keeps { Keeps (C.sets conds.old) (C.sets conds.new) }
+    {
+        self.top = self.top.merged(conds, self.alloc, here, &other.top, there)?;
+        Ok(())
     }
 }

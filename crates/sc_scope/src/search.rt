@@ -46,7 +46,7 @@ pub(crate) fn search_levels<C: Conditions>(
 }
 
 /// Goes over the bindings of the name in one level.
-fn search_bindings<C: Conditions>(
+pub(crate) fn search_bindings<C: Conditions>(
     conds: &mut C,
     search: Search,
     bindings: &Bindings,
@@ -132,7 +132,7 @@ fn take_variable<C: Conditions>(
 }
 
 /// The configurations that the first condition has and the second has not.
-fn without<C: Conditions>(conds: &mut C, a: Cond, b: Cond) -> Result<Cond, OutOfMemory>
+pub(crate) fn without<C: Conditions>(conds: &mut C, a: Cond, b: Cond) -> Result<Cond, OutOfMemory>
     requires a_own { IsCond (C.sets conds.old) a.0 }
     requires b_own { IsCond (C.sets conds.old) b.0 }
     ensures meaning { IfOk result (λ r. (f g : List ℕ → Bool) → Denotes (C.sets conds.old) a.0 f

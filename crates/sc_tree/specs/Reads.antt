@@ -1,5 +1,5 @@
 -- The tree of one configuration that an id stands for.
-use Rattle.std.specs.Prelude.{◌≡◌, ℕ, List, [], ◌∷◌, Some, slice_get, All}
+use Rattle.std.specs.Prelude.{◌≡◌, ℕ, List, [], ◌∷◌, map, Some, slice_get, All}
 use Rattle.c11_parsing.specs.Trees as plain
 use Rattle.c11_parsing.specs.Trees.{Tree, Forest, no_trees, trees}
 use Rattle.sc_base.specs.declared.id.Cond.{Cond}
@@ -48,3 +48,7 @@ mutual
     none_read : AllRead w c [] no_trees
     more_read : (child : TreeId) (children : List TreeId) (tree : Tree) (forest : Forest) → Reads w c child.0 tree → AllRead w c children forest
         → AllRead w c (child ∷ children) (trees tree forest)
+
+-- the names are those of the texts, in order
+pub record Spells (names : List (List ℕ)) (found : List Name) (texts : List (List ℕ)) : Type 0 where
+  pub same : map (λ (name : Name). slice_get names name.0) found ≡ map (λ (text : List ℕ). Some text) texts

@@ -1,7 +1,10 @@
+ghost use Rattle.std.specs.Prelude.{◌≡◌, true};
+ghost use Rattle.sc_tree.specs.Views.{line_of};
+
 use sc_base::{Cond, Name, Place, TreeId};
 
 /// A tree as the store keeps it. Its subtrees were put into the store before it.
-#[derive(Drop)]
+#[derive(PartialEq, Eq, Hash, Drop)]
 pub(crate) enum Line {
     Leaf(Place, Name),
     Node(usize, Vec<TreeId>),
@@ -15,4 +18,11 @@ pub enum TreeView<'a> {
     Leaf(Place, Name),
     Node(usize, &'a [TreeId]),
     Choice(&'a [(Cond, TreeId)]),
+}
+
+/// Whether the lines are the same.
+pub(crate) fn is_same(a: &Line, b: &Line) -> bool
+    ensures { result ≡ true → line_of a.now ≡ line_of b.now }
+{
+    a == b
 }

@@ -1,10 +1,19 @@
-ghost use Rattle.std.specs.Prelude.{◌≡◌, ◌<◌, [], ◌∷◌, ◌++◌, Some, All, length, slice_get, IfOk, OnOk, OnErr};
+ghost use Rattle.std.specs.Prelude.{◌≡◌, ◌<◌, ℕ, List, [], ◌∷◌, ◌++◌, Some, All, length, slice_get, IfSome, IfOk, IfErr, OnOk, OnErr};
+ghost use Rattle.c11_parsing.specs.Bindings.{declared};
+ghost use Rattle.c11_parsing.specs.C11.{c11_declarators};
+ghost use Rattle.c11_parsing.specs.Trees.{Tree};
+ghost use Rattle.sc_guarded.specs.Items.{items_at};
 ghost use Rattle.sc_model.specs.Growth.{Extends};
-ghost use Rattle.sc_tree.specs.Lines.{leaf, node, choice, children_of, ChildrenFirst};
+ghost use Rattle.sc_model.specs.Sets.{IsConfig, IsCond, Keeps};
+ghost use Rattle.sc_tree.specs.Lines.{leaf, node, choice, children_of, ChildrenFirst, AddsAtMost, OwnsBranches};
+ghost use Rattle.sc_tree.specs.Reads.{Reads, Spells};
 ghost use Rattle.sc_tree.specs.Views.{line_of, line_seen};
 
-use crate::line::{Line, TreeView};
-use sc_base::{Cond, Name, OutOfMemory, Place, TreeId};
+use crate::declared::declared;
+use crate::line::{Line, TreeView, is_same};
+use indexmap::IndexMap;
+use sc_base::{Cond, Name, OutOfMemory, Place, Stop, TreeId};
+use sc_presence::Conditions;
 use std::alloc::Global;
 use std::marker::Model;
 
@@ -12,6 +21,9 @@ use std::marker::Model;
 #[derive(Drop)]
 pub struct Trees {
     lines: Vec<Line>,
+    /// Which trees calls for shared ones gave. An entry is compared with its tree when it is found,
+    /// since a tree for which there was no memory leaves one behind.
+    shared: IndexMap<Line, TreeId>,
 }
 
 impl Model for Trees {
@@ -33,6 +45,7 @@ impl Trees {
     {
         Trees {
             lines: Vec::new(alloc),
+            shared: IndexMap::new(alloc),
         }
     }
 
@@ -66,6 +79,50 @@ impl Trees {
         self.put(Line::Node(production, children))
     }
 
+    /// The tree of a token: that which such a call gave before, or else a new one.
+    pub fn shared_leaf(&mut self, place: Place, spelling: Name) -> Result<TreeId, OutOfMemory>
+        ensures own { IfOk result (λ id. id.0 < length self.new) }
+        ensures named { IfOk result (λ id. slice_get self.new id.0 ≡ Some (leaf place spelling)) }
+        ensures adds { OnOk result (AddsAtMost self.old self.new (leaf place spelling)) }
+        ensures err { OnErr result (self.new ≡ self.old) }
+
+        // at every outcome
+        ensures grows { Extends self.old self.new }
+        ensures first { ChildrenFirst self.new }
+    {
+        let key = Line::Leaf(place, spelling);
+        if let Some(id) = self.known(&key) {
+            return Ok(id);
+        }
+        self.put_shared(key, Line::Leaf(place, spelling))
+    }
+
+    /// A node of a production with these children from left to right: that which such a call gave
+    /// before, or else a new one.
+    pub fn shared_node(
+        &mut self,
+        production: usize,
+        children: &[TreeId],
+    ) -> Result<TreeId, OutOfMemory>
+        requires { All (λ child. child.0 < length self.old) children.now }
+        ensures own { IfOk result (λ id. id.0 < length self.new) }
+        ensures named { IfOk result (λ id. slice_get self.new id.0 ≡ Some (node production children.now)) }
+        ensures adds { OnOk result (AddsAtMost self.old self.new (node production children.now)) }
+        ensures err { OnErr result (self.new ≡ self.old) }
+
+        // at every outcome
+        ensures grows { Extends self.old self.new }
+        ensures first { ChildrenFirst self.new }
+    {
+        let alloc = *self.lines.allocator();
+        let key = Line::Node(production, Vec::from_slice(alloc, children)?);
+        if let Some(id) = self.known(&key) {
+            return Ok(id);
+        }
+        let line = Line::Node(production, Vec::from_slice(alloc, children)?);
+        self.put_shared(key, line)
+    }
+
     /// Makes a choice between trees, each under its condition.
     pub fn choice(&mut self, branches: &[(Cond, TreeId)]) -> Result<TreeId, OutOfMemory>
         requires { All (λ branch. branch.1.0 < length self.old) branches.now }
@@ -94,11 +151,59 @@ impl Trees {
         }
     }
 
+    /// The names that the tree declares (C11 6.7.6), each with the configurations in which it does.
+    /// At a configuration there is one, or none where the tree is no declarator.
+    pub fn declared<C: Conditions>(
+        &self,
+        alloc: Global,
+        conds: &mut C,
+        id: TreeId,
+    ) -> Result<Vec<(Cond, Name)>, Stop>
+        requires id { id.0 < length self.now }
+        requires branches { OwnsBranches (C.sets conds.old) self.now }
+        ensures names { IfOk result (λ found. (names files : List (List ℕ)) (c : List ℕ) (tree : Tree) → IsConfig (C.sets conds.old).arities c
+            → Reads (record { sets = C.sets conds.old; names = names; files = files; lines = self.now }) c id.0 tree
+            → Spells names (items_at (C.sets conds.new) found.items c) (declared c11_declarators tree)) }
+        ensures own { IfOk result (λ found. All (λ name. IsCond (C.sets conds.new) name.0.0) found.items) }
+        ensures memory { IfErr result (λ stop. stop ≡ Stop.OutOfMemory) }
+
+        // at every outcome
+        ensures keeps { Keeps (C.sets conds.old) (C.sets conds.new) }
+    {
+        Ok(declared(alloc, conds, &self.lines, id)?)
+    }
+
     /// Each tree was made after those below it. This takes no time: it tells a proof.
     pub fn children_first(&self)
         ensures { ChildrenFirst self.now }
     {
         let _lines = &self.lines;
+    }
+
+    /// The tree that a call for a shared one gave.
+    fn known(&self, line: &Line) -> Option<TreeId>
+        ensures own { IfSome result (λ id. id.0 < length self.now) }
+        ensures named { IfSome result (λ id. slice_get self.now id.0 ≡ Some (line_of line.now)) }
+        ensures first { ChildrenFirst self.now }
+    {
+        let id = *self.shared.get(line)?;
+        if id.0 < self.lines.len() && is_same(&self.lines[id.0], line) {
+            Some(id)
+        } else {
+            None
+        }
+    }
+
+    fn put_shared(&mut self, key: Line, line: Line) -> Result<TreeId, OutOfMemory>
+        requires { All (λ child. child.0 < length self.old) (children_of (line_of line)) }
+        ensures own { IfOk result (λ id. id.0 < length self.new) }
+        ensures named { IfOk result (λ id. slice_get self.new id.0 ≡ Some (line_of line)) }
+        ensures adds { OnOk result (self.new ≡ self.old ++ line_of line ∷ []) }
+        ensures err { OnErr result (self.new ≡ self.old) }
+        ensures first { ChildrenFirst self.new }
+    {
+        self.shared.insert(key, TreeId(self.lines.len()))?;
+        self.put(line)
     }
 
     fn put(&mut self, line: Line) -> Result<TreeId, OutOfMemory>

@@ -1,3 +1,4 @@
+use Rattle.sc_scope.proofs.LevelLemmas.{keeps-show}
 use Rattle.sc_scope.proofs.ShowLemmas.{push-shows, pop-shows, join-shows, bind-shows, bind-outside, typedef-shown}
 use Rattle.sc_scope.proofs.laws.scopes_follow_bindings.Goals as goal
 
@@ -9,4 +10,5 @@ returns c = record {
   bind = bind-shows;
   elsewhere = bind-outside;
   typedef = typedef-shown;
+  merge = keeps-show;
 }
