@@ -1,0 +1,4 @@
+pub mod KeyLemmas
+pub mod MergeLemmas
+pub mod ShowLemmas
+pub mod ValueLemmas

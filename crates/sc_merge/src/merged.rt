@@ -1,0 +1,109 @@
+ghost use Rattle.std.specs.Prelude.{◌≡◌, ◌||◌, ℕ, Bool, List, length, map, is_some, IfOk};
+ghost use Rattle.sc_merge.specs.Keys.{AreAlike};
+ghost use Rattle.sc_merge.specs.Merges.{AddsChoices, KeepsShown, KeepValues, OwnsSubparser, OwnsValues};
+ghost use Rattle.sc_model.specs.Growth.{Extends};
+ghost use Rattle.sc_model.specs.Sets.{Denotes, IsCond, Keeps};
+ghost use Rattle.sc_scope.specs.Kinds.{KeepsKinds};
+ghost use Rattle.sc_scope.specs.Search.{OwnsLevels};
+ghost use Rattle.sc_scope.specs.Seen.{levels_in};
+ghost use Rattle.sc_stack.specs.Entries.{states_of, values_of};
+
+use crate::subparser::Subparser;
+use crate::values::merged_values;
+use sc_base::{Cond, OutOfMemory};
+use sc_presence::Conditions;
+use sc_scope::Scopes;
+use sc_stack::Stack;
+use sc_tree::Trees;
+use std::alloc::Global;
+
+/// One subparser for the configurations of two that have equal keys. Where their trees differ it
+/// has choices. What it shows in a configuration that both have is not told.
+pub fn merge<C: Conditions>(
+    alloc: Global,
+    conds: &mut C,
+    trees: &mut Trees,
+    a: &Subparser,
+    b: &Subparser,
+) -> Result<Subparser, OutOfMemory>
+    requires a_own { OwnsSubparser (C.sets conds.old) (length trees.old) a.now }
+    requires b_own { OwnsSubparser (C.sets conds.old) (length trees.old) b.now }
+    requires alike { AreAlike a.now b.now }
+    requires silent { map is_some (values_of a.now.stack) ≡ map is_some (values_of b.now.stack) }
+    ensures own { IfOk result (λ m. OwnsSubparser (C.sets conds.new) (length trees.new) m) }
+    ensures cond { IfOk result (λ m. (f g : List ℕ → Bool) → Denotes (C.sets conds.old) a.now.cond.0 f
+        → Denotes (C.sets conds.old) b.now.cond.0 g → Denotes (C.sets conds.new) m.cond.0 (λ c. f c || g c)) }
+    ensures alike { IfOk result (λ m. AreAlike a.now m) }
+    ensures first { IfOk result (λ m. KeepsShown (C.sets conds.old) (C.sets conds.new) trees.old trees.new a.now.cond b.now.cond a.now m) }
+    ensures second { IfOk result (λ m. KeepsShown (C.sets conds.old) (C.sets conds.new) trees.old trees.new b.now.cond a.now.cond b.now m) }
+
+    // at every outcome
+    ensures keeps { Keeps (C.sets conds.old) (C.sets conds.new) }
+    ensures adds { AddsChoices a.now.cond b.now.cond trees.old trees.new }
+    ensures grows { Extends trees.old trees.new }
+{
+    let stack = merged_stack(alloc, trees, a.cond, &a.stack, b.cond, &b.stack)?;
+    let scopes = merged_scopes(conds, a.cond, &a.scopes, b.cond, &b.scopes)?;
+    let cond = conds.apply_or(a.cond, b.cond)?;
+    Ok(Subparser {
+        cond,
+        stack,
+        scopes,
+        phase: a.phase,
+    })
+}
+
+/// The states of both, with the trees on both sides.
+fn merged_stack(
+    alloc: Global,
+    trees: &mut Trees,
+    here: Cond,
+    left: &Stack,
+    there: Cond,
+    right: &Stack,
+) -> Result<Stack, OutOfMemory>
+    requires left_own { OwnsValues (length trees.old) (values_of left.now) }
+    requires right_own { OwnsValues (length trees.old) (values_of right.now) }
+    requires silent { map is_some (values_of left.now) ≡ map is_some (values_of right.now) }
+    ensures own { IfOk result (λ stack. OwnsValues (length trees.new) (values_of stack)) }
+    ensures states { IfOk result (λ stack. states_of stack ≡ states_of left.now) }
+    ensures left { IfOk result (λ stack. KeepValues trees.old trees.new here there (values_of left.now) (values_of stack)) }
+    ensures right { IfOk result (λ stack. KeepValues trees.old trees.new there here (values_of right.now) (values_of stack)) }
+
+    // at every outcome
+    ensures adds { AddsChoices here there trees.old trees.new }
+    ensures grows { Extends trees.old trees.new }
+{
+    let left_values = left.values()?;
+    let right_values = right.values()?;
+    let values = merged_values(alloc, trees, here, &left_values, there, &right_values)?;
+    let mut stack = left.share()?;
+    stack.merge_values(&values)?;
+    Ok(stack)
+}
+
+/// The scopes on both sides.
+fn merged_scopes<C: Conditions>(
+    conds: &mut C,
+    here: Cond,
+    left: &Scopes,
+    there: Cond,
+    right: &Scopes,
+) -> Result<Scopes, OutOfMemory>
+    requires here_own { IsCond (C.sets conds.old) here.0 }
+    requires there_own { IsCond (C.sets conds.old) there.0 }
+    requires left_own { OwnsLevels (C.sets conds.old) (levels_in left.now) }
+    requires right_own { OwnsLevels (C.sets conds.old) (levels_in right.now) }
+    requires count { length (levels_in left.now) ≡ length (levels_in right.now) }
+    ensures own { IfOk result (λ scopes. OwnsLevels (C.sets conds.new) (levels_in scopes)) }
+    ensures count { IfOk result (λ scopes. length (levels_in scopes) ≡ length (levels_in left.now)) }
+    ensures left { IfOk result (λ scopes. KeepsKinds (C.sets conds.old) (C.sets conds.new) here there (levels_in left.now) (levels_in scopes)) }
+    ensures right { IfOk result (λ scopes. KeepsKinds (C.sets conds.old) (C.sets conds.new) there here (levels_in right.now) (levels_in scopes)) }
+
+    // at every outcome
+    ensures keeps { Keeps (C.sets conds.old) (C.sets conds.new) }
+{
+    let mut scopes = left.share()?;
+    scopes.merge(conds, here, right, there)?;
+    Ok(scopes)
+}
