@@ -1,0 +1,19 @@
+use Rattle.sc_fork.proofs.SplitLemmas.{part-none, part-more, part-all, split-events}
+use Rattle.sc_fork.proofs.splitting.split.Goals as goal
+
+pub loop-part-init : goal.loop-part-init
+loop-part-init g c = part-none c.args.parent.now c.new-pieces.result.items c.new-pieces.ensures.items
+
+pub loop-part-preserved : goal.loop-part-preserved
+loop-part-preserved g c =
+    part-more c.args.parent.now c.in_ok-subparser.subparser c.deref-part-items.result.now c.loop-part.part-index _ c.loop-part.pieces.items c.push.new.self.items c.loop-part-test.true
+    c.loop-part.invariant c.in_ok-subparser.ensures c.in_ok-push.ensures.items
+
+pub returns-clause-pieces : goal.returns-clause-pieces
+returns-clause-pieces g c =
+    let s = g.C.Conditions.sets in
+    λ lines.
+    split-events (s c.args.conds.now) (s c.follow.new.conds) lines c.args.source.now c.args.parent.now c.args.from c.in-Ok.parts.items c.loop-part.pieces.items c.requires.phase c.requires.from
+    c.follow.ensures.keeps c.in-Ok.ensures.next c.in-Ok.ensures.some c.in-Ok.ensures.rising c.in-Ok.ensures.own
+    (part-all c.args.parent.now c.deref-part-items.result.now c.in-Ok.parts.items c.loop-part.part-index c.loop-part.pieces.items c.deref-part-items.ensures.value c.loop-part-test.false
+    c.loop-part.invariant)

@@ -1,0 +1,54 @@
+//! A subparser is parted by the next element of its configurations.
+ghost use Rattle.std.specs.Prelude.{◌≡◌, ◌≤◌, List, All, length, IfOk};
+ghost use Rattle.c11_parsing.specs.Core as core;
+ghost use Rattle.sc_fork.specs.Seen.{Events, IsPartOf, ArePartsOf};
+ghost use Rattle.sc_model.specs.Sets.{IsCond, Keeps};
+ghost use Rattle.sc_tree.specs.Lines.{Line};
+
+use crate::piece::Piece;
+use crate::source::Source;
+use sc_base::{Cond, OutOfMemory};
+use sc_merge::{Phase, Subparser};
+use sc_presence::Conditions;
+use std::alloc::Global;
+
+/// A part for each element that comes next, in order, or for the end.
+pub fn split<C: Conditions>(
+    alloc: Global,
+    conds: &mut C,
+    source: &Source<'_>,
+    parent: &Subparser,
+    from: usize,
+) -> Result<Vec<Piece>, OutOfMemory>
+    requires phase { parent.now.phase ≡ Phase.Between from }
+    requires from { from ≤ length source.now.list.now }
+    requires own { IsCond (C.sets conds.old) parent.now.cond.0 }
+    requires items { All (λ item. IsCond (C.sets conds.old) item.0.0) source.now.list.now }
+    ensures pieces { IfOk result (λ pieces. (lines : List Line)
+        → Events (C.sets conds.old) (C.sets conds.new) lines lines source.now parent.now core.split pieces.items) }
+
+    // at every outcome
+    ensures keeps { Keeps (C.sets conds.old) (C.sets conds.new) }
+{
+    let Ok(parts) = source.list.follow(alloc, conds, from, parent.cond) else {
+        return Err(OutOfMemory);
+    };
+    let mut pieces = Vec::new(alloc);
+    for part in &parts {
+        let subparser = part_of(parent, part.0, part.1)?;
+        pieces.push(Piece::Going(subparser))?;
+    }
+    Ok(pieces)
+}
+
+/// The part of a subparser for which the element comes next.
+fn part_of(parent: &Subparser, cond: Cond, next: usize) -> Result<Subparser, OutOfMemory>
+    ensures { IfOk result (IsPartOf parent.now (cond, next)) }
+{
+    Ok(Subparser {
+        cond,
+        stack: parent.stack.share()?,
+        scopes: parent.scopes.share()?,
+        phase: Phase::At(next),
+    })
+}
