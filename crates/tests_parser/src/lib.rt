@@ -8,4 +8,6 @@ mod scope;
 #[cfg(test)]
 mod stack;
 #[cfg(test)]
+mod subparser;
+#[cfg(test)]
 mod tree;
