@@ -1,25 +1,30 @@
 -- A configuration has one sequence of tokens, or one fault.
-use Rattle.std.proofs.Common.{◌≡◌, ◌⊎◌, inl, inr, ℕ, ◌<◌, not, Bool, true, false, List, [], ◌++◌, length, Option, Some, None, is_some, Result, Ok, Err, refl, sym, ap, ◌∙◌, subst, arith}
-use Rattle.std.proofs.lemmas.Bool.{cases_lt}
-use Rattle.sc_model.specs.declared.cause.Cause.TheVariants.{NotFound, FileTooLarge, UnterminatedComment, BadNesting, BadDirective, Redefined}
+use Rattle.std.proofs.Common.{◌≡◌, ◌⊎◌, inl, inr, ℕ, ◌<◌, not, Bool, true, false, List, [], length, map, Option, Some, None, is_some, Result, Ok, Err, refl, sym, ap, ◌∙◌, subst}
+use Rattle.sc_model.specs.declared.cause.Cause.TheVariants.{NotFound, FileTooLarge, UnterminatedComment, BadNesting, BadDirective, Redefined, IncludeDepth, ErrorDirective}
 use Rattle.sc_model.specs.declared.cause.Cause.{Cause}
 use Rattle.c11_macros.specs.Defines.{Defined, reads}
 use Rattle.c11_directives.specs.declared.directive.Conditional.{Conditional}
-use Rattle.c11_directives.specs.declared.directive.Conditional.TheVariants.{Ifdef, Ifndef}
+use Rattle.c11_directives.specs.declared.directive.Conditional.TheVariants.{If, Ifdef, Ifndef, Elif, Else, Endif}
 use Rattle.c11_directives.specs.declared.directive.Directive.{Directive}
 use Rattle.c11_directives.specs.declared.directive.Directive.TheVariants as directive
 use Rattle.std.specs.Option.{option_map}
-use Rattle.std.specs.Prelude.{unwrap_or, if◌then◌else◌}
+use Rattle.std.specs.Prelude.{unwrap_or}
 use Rattle.c11_tokens.specs.Lex.{Lexed}
+use Rattle.c11_directives.specs.Behind.{behind_name, Says, as_it_stands, expanded, is_numbering}
 use Rattle.c11_directives.specs.Lines.{Line, hash_of, conditional_of, Group, Branches, empty, plain, section, closing, otherwise, alternative, Tree}
+use Rattle.c11_expressions.proofs.OneLine.{one_line}
+use Rattle.c11_expressions.specs.Lines as expressions
+use Rattle.c11_headers.specs.Headers.{Header, header_of, candidates}
 use Rattle.sc_model.specs.Outside.{Files, largest_file}
 use Rattle.sc_model.specs.Fault.{Fault, first_place, fault_at}
-use Rattle.c11_directives.specs.Pre.{Context, State, place_in, put_out, Closes, closed, refused, RefusedAt, operand_of, Decides, if_defined, if_undefined, no_name, expression, with_macro, Defines, fresh, again, redefined, undefined, is_barrier, is_ignored, is_refused, behind_name, Changes, ignored, not_carried_out, defines, defines_nothing, undefines, with_macros, Steps, text, null, stopped, changed, not_changed, Walks, done, line, line_stops, taken, taken_stops, passed, passed_stops, head_stops, WalksBranches, none_taken, last_taken, later_taken, later_passed, later_stops, File, Searches, inside, file_lines, Enters, Includes, output_of, Pre}
+use Rattle.c11_directives.specs.Pre.{Context, State, place_in, put_out, Closes, closed, refused, RefusedAt, operand_of, decision_of, Decides, if_defined, if_undefined, no_name, expression, with_text, with_macro, Defines, fresh, again, redefined, undefined, is_barrier, is_ignored, is_said, Changes, ignored, unknown, error, defines, defines_nothing, undefines, with_macros, Steps, text, null, stopped, carried_out, Carries, changed, not_changed, not_expanded, numbered, not_numbered, no_header, too_deep, included, deeper, back, Walks, done, line, line_stops, taken, taken_stops, passed, passed_stops, head_stops, WalksBranches, none_taken, last_taken, later_taken, later_passed, later_stops, File, search, inside, file_lines, Enters, too_large, unended, badly_nested, stopped_inside, walked, Includes, missing, entered, output_of, Pre}
 use Rattle.sc_model.specs.Space.{Space}
+use Rattle.c11_macros.specs.Hidden.{Failure}
 use Rattle.c11_macros.specs.Macros.{Definition, Macros}
-use Rattle.c11_macros.specs.Text.{TextExpands, text_of_answer}
+use Rattle.c11_macros.specs.Results.{result_map}
+use Rattle.c11_macros.specs.Text.{TextExpands, text_of_answer, place_alone, unhidden}
 use Rattle.c11_macros.proofs.OneAnswer.{one}
-use Rattle.sc_model.specs.Token.{Position, Place, Token}
+use Rattle.sc_model.specs.Token.{Position, Place, Lexeme, Token}
 use Rattle.c11_tokens.proofs.LexLaws.{lexes-unique}
 use Rattle.c11_directives.proofs.NestLaws.{tree-unique}
 
@@ -47,9 +52,12 @@ module _ {A B E F : Type 0} {told : E → F} {R : Result A E → Type 0} {S : A 
       let same : e ≡ e' = cc in
       ap (λ e. Err (told e)) same
 
-  then-unique : ((r : Result A E) → R r → Sole R r) → ((a : A) (r : Result B F) → S a r → Sole (S a) r) → {r : Result B F} → Then told R S r → Sole (Then told R S) r
-  then-unique first_one then_one (goes {r = r} a first after) = goes-sole (first_one (Ok a) first) (then_one a r after)
-  then-unique first_one then_one (stops e first) = stops-sole (first_one (Err e) first)
+  -- the fault is told otherwise
+  told-sole : {e : E} {f : F} → f ≡ told e → Sole R (Err e) → Sole (Then told R S) (Err f)
+  told-sole is one s d = ap Err is ∙ stops-sole one s d
+
+  stops-as : (e : E) {f : F} → f ≡ told e → R (Err e) → Then told R S (Err f)
+  stops-as e is first = subst (λ g. Then told R S (Err g)) (sym is) (stops e first)
 
 abbrev same : Fault → Fault
 same fault = fault
@@ -75,11 +83,47 @@ refused-is {s} {l} {cause} {fault} at =
     let place : fault.place ≡ (refusal s l cause).place = sym (ap (λ o. unwrap_or o (first_place [])) at.place_is) in
     λ i. record { cause = at.cause_is i; place = place i }
 
--- what a conditional directive with an operand decides
-abbrev decision : State → Line → Option Conditional → Option (List ℕ) → Result Bool Fault
-decision s l (Some Ifdef) (Some name) = Ok (is_some (s.macros name))
-decision s l (Some Ifndef) (Some name) = Ok (not (is_some (s.macros name)))
-decision s l _ _ = Err (refusal s l BadDirective)
+-- ---- what a conditional directive decides
+
+-- its operand
+abbrev Named : State → Line → (Bool → Bool) → Option (List ℕ) → Result Bool Fault → Type 0
+Named s l test (Some name) r = r ≡ Ok (test (is_some (s.macros name)))
+Named s l test None r = r ≡ Err (refusal s l BadDirective)
+
+-- its expression
+data Evaluated (s : State) (l : Line) : Result Bool Fault → Type 0 where
+  evaluated : (hash : Token) (answer : Result Bool (Failure Place)) → hash_of l ≡ Some hash
+      → expressions.Decides place_alone s.macros (place_in s hash) (map unhidden (behind_name l)) answer → Evaluated s l (decision_of answer)
+
+abbrev as_it_is : Bool → Bool
+as_it_is b = b
+
+abbrev DecidesAs : State → Line → Option Conditional → Result Bool Fault → Type 0
+DecidesAs s l (Some Ifdef) r = Named s l as_it_is (operand_of l) r
+DecidesAs s l (Some Ifndef) r = Named s l not (operand_of l) r
+DecidesAs s l (Some If) r = Evaluated s l r
+DecidesAs s l (Some Elif) r = Evaluated s l r
+DecidesAs s l _ r = ⊥
+
+named-sole : (s : State) (l : Line) (test : Bool → Bool) (name : Option (List ℕ)) (r : Result Bool Fault) → Named s l test name r → Sole (Named s l test name) r
+named-sole s l test (Some name) r d q e = d ∙ sym e
+named-sole s l test None r d q e = d ∙ sym e
+
+evaluated-sole : {s : State} {l : Line} {r : Result Bool Fault} → Evaluated s l r → Sole (Evaluated s l) r
+evaluated-sole {s} {l} (evaluated hash answer is d) q (evaluated hash' answer' is' d') =
+    let hashes : Some hash' ≡ Some hash = sym is' ∙ is in
+    let same : hash' ≡ hash = cc in
+    let moved = subst (λ h. expressions.Decides place_alone s.macros (place_in s h) (map unhidden (behind_name l)) answer') same d' in
+    ap decision_of (one_line place_alone s.macros (map unhidden (behind_name l)) answer answer' d moved)
+
+decides-as-sole : (s : State) (l : Line) (c : Option Conditional) (r : Result Bool Fault) → DecidesAs s l c r → Sole (DecidesAs s l c) r
+decides-as-sole s l (Some Ifdef) r d q e = named-sole s l as_it_is (operand_of l) r d q e
+decides-as-sole s l (Some Ifndef) r d q e = named-sole s l not (operand_of l) r d q e
+decides-as-sole s l (Some If) r d q e = evaluated-sole d q e
+decides-as-sole s l (Some Elif) r d q e = evaluated-sole d q e
+decides-as-sole s l (Some Else) r d q e = absurd d
+decides-as-sole s l (Some Endif) r d q e = absurd d
+decides-as-sole s l None r d q e = absurd d
 
 -- ---- what a directive makes of the macros
 
@@ -107,35 +151,26 @@ ReadAs macros (Err cause) r = r ≡ Err cause
 abbrev ChangedAs : Macros → Line → Directive → Result Macros Cause → Type 0
 ChangedAs macros l directive.Define r = ReadAs macros (reads (behind_name l)) r
 ChangedAs macros l directive.Undef r = r ≡ undefined macros (operand_of l)
-ChangedAs macros l d r = r ≡ (if is_ignored d then Ok macros else Err BadDirective)
+ChangedAs macros l directive.Error r = r ≡ Err ErrorDirective
+ChangedAs macros l directive.Unknown r = r ≡ Err BadDirective
+ChangedAs macros l d r = (is_ignored d ≡ true) × (r ≡ Ok macros)
 
 ignored-as : (macros : Macros) (l : Line) (d : Directive) → is_ignored d ≡ true → ChangedAs macros l d (Ok macros)
-ignored-as macros l (directive.Conditional c) e = cc
-ignored-as macros l directive.Include e = cc
+ignored-as macros l (directive.Conditional c) e = (e, refl)
+ignored-as macros l directive.Include e = (e, refl)
 ignored-as macros l directive.Define e = cc
 ignored-as macros l directive.Undef e = cc
-ignored-as macros l directive.Line e = cc
+ignored-as macros l directive.Line e = (e, refl)
 ignored-as macros l directive.Error e = cc
-ignored-as macros l directive.Pragma e = refl
-ignored-as macros l directive.Warning e = refl
-ignored-as macros l directive.Null e = cc
+ignored-as macros l directive.Pragma e = (e, refl)
+ignored-as macros l directive.Warning e = (e, refl)
+ignored-as macros l directive.Null e = (e, refl)
 ignored-as macros l directive.Unknown e = cc
-
-refused-as : (macros : Macros) (l : Line) (d : Directive) → is_refused d ≡ true → ChangedAs macros l d (Err BadDirective)
-refused-as macros l (directive.Conditional c) e = cc
-refused-as macros l directive.Include e = refl
-refused-as macros l directive.Define e = cc
-refused-as macros l directive.Undef e = cc
-refused-as macros l directive.Line e = refl
-refused-as macros l directive.Error e = refl
-refused-as macros l directive.Pragma e = cc
-refused-as macros l directive.Warning e = cc
-refused-as macros l directive.Null e = cc
-refused-as macros l directive.Unknown e = refl
 
 changed-as : {macros : Macros} {l : Line} {d : Directive} {r : Result Macros Cause} → Changes macros l d r → ChangedAs macros l d r
 changed-as {macros} {l} {d} (ignored e) = ignored-as macros l d e
-changed-as {macros} {l} {d} (not_carried_out e) = refused-as macros l d e
+changed-as unknown = refl
+changed-as error = refl
 changed-as (defines d e f) = rw e (defined-as f)
 changed-as (defines_nothing cause e) = rw e refl
 changed-as undefines = refl
@@ -146,34 +181,98 @@ read-sole macros (Err cause) r e q f = e ∙ sym f
 
 changed-sole : (macros : Macros) (l : Line) (d : Directive) (r : Result Macros Cause) → ChangedAs macros l d r → Sole (ChangedAs macros l d) r
 changed-sole macros l directive.Define r e q f = read-sole macros (reads (behind_name l)) r e q f
+changed-sole macros l (directive.Conditional c) r e q f = e.1 ∙ sym f.1
+changed-sole macros l directive.Include r e q f = e.1 ∙ sym f.1
 changed-sole macros l directive.Undef r e q f = e ∙ sym f
-changed-sole macros l (directive.Conditional c) r e q f = e ∙ sym f
-changed-sole macros l directive.Include r e q f = e ∙ sym f
-changed-sole macros l directive.Line r e q f = e ∙ sym f
+changed-sole macros l directive.Line r e q f = e.1 ∙ sym f.1
 changed-sole macros l directive.Error r e q f = e ∙ sym f
-changed-sole macros l directive.Pragma r e q f = e ∙ sym f
-changed-sole macros l directive.Warning r e q f = e ∙ sym f
-changed-sole macros l directive.Null r e q f = e ∙ sym f
+changed-sole macros l directive.Pragma r e q f = e.1 ∙ sym f.1
+changed-sole macros l directive.Warning r e q f = e.1 ∙ sym f.1
+changed-sole macros l directive.Null r e q f = e.1 ∙ sym f.1
 changed-sole macros l directive.Unknown r e q f = e ∙ sym f
 
+-- such a directive says nothing behind its name that is expanded
+not-said : (macros : Macros) (l : Line) (d : Directive) (r : Result Macros Cause) → ChangedAs macros l d r → is_said d ≡ false
+not-said macros l (directive.Conditional c) r e = refl
+not-said macros l directive.Include r e = absurd (cc)
+not-said macros l directive.Define r e = refl
+not-said macros l directive.Undef r e = refl
+not-said macros l directive.Line r e = absurd (cc)
+not-said macros l directive.Error r e = refl
+not-said macros l directive.Pragma r e = refl
+not-said macros l directive.Warning r e = refl
+not-said macros l directive.Null r e = refl
+not-said macros l directive.Unknown r e = refl
+
+-- ---- what a directive does that says something
+
+says-sole : {macros : Macros} {l : Line} {r : Result (List Token) Fault} → Says macros l r → Sole (Says macros l) r
+says-sole (as_it_stands e) q (as_it_stands f) = refl
+says-sole (as_it_stands e) q (expanded f d) = absurd (cc)
+says-sole (expanded e d) q (as_it_stands f) = absurd (cc)
+says-sole (expanded e d) q (expanded f c) = text-sole d q c
+
+-- how deep the file would be that an #include asks for
+data Nests (x : Context) (l : Line) (s : State) (header : Header) : Result State Fault → Type 0 where
+  deep : (s.depth < x.include_depth → ⊥) → Nests x l s header (Err (refusal s l IncludeDepth))
+  nests : {r : Result State Fault} (hash : Token) → s.depth < x.include_depth → hash_of l ≡ Some hash
+      → Includes x (candidates header s.file x.include) (place_in s hash) (deeper s) r → Nests x l s header (result_map (back s) r)
+
+abbrev NumberedAs : State → Line → Bool → Result State Fault → Type 0
+NumberedAs s l true r = r ≡ Ok s
+NumberedAs s l false r = r ≡ Err (refusal s l BadDirective)
+
+abbrev SaidAs : Context → Line → State → Directive → List Token → Result State Fault → Type 0
+SaidAs x l s directive.Include ts r = Then (refusal s l) (λ h. header_of ts ≡ h) (Nests x l s) r
+SaidAs x l s directive.Line ts r = NumberedAs s l (is_numbering ts) r
+SaidAs x l s _ ts r = ⊥
+
+-- what a directive does that is a barrier
+abbrev CarriedAs : Context → Line → State → Directive → Bool → Result State Fault → Type 0
+CarriedAs x l s d true r = Then same (Says s.macros l) (SaidAs x l s d) r
+CarriedAs x l s d false r = Then (refusal s l) (ChangedAs s.macros l d) (λ macros q. q ≡ Ok (with_macros s macros)) r
+
 -- what a directive does that is a barrier or not
-abbrev Does : Line → State → Directive → Bool → Result State Fault → Type 0
-Does l s d false r = r ≡ Ok s
-Does l s d true r = Then same (Closes s) (λ t. Then (refusal t l) (ChangedAs t.macros l d) (λ macros q. q ≡ Ok (with_macros t macros))) r
+abbrev Does : Context → Line → State → Directive → Bool → Result State Fault → Type 0
+Does x l s d false r = r ≡ Ok s
+Does x l s d true r = Then same (Closes s) (λ t. Carries x l t d) r
 
 -- what a line does
-abbrev DoesLine : Line → State → Option Directive → Result State Fault → Type 0
-DoesLine l s None r = r ≡ Ok (record s { run = s.run ++ l.tokens })
-DoesLine l s (Some d) r = Does l s d (is_barrier d) r
+abbrev DoesLine : Context → Line → State → Option Directive → Result State Fault → Type 0
+DoesLine x l s None r = r ≡ Ok (with_text s l)
+DoesLine x l s (Some d) r = Does x l s d (is_barrier d) r
 
-does-sole : (l : Line) (s : State) (d : Directive) (b : Bool) (r : Result State Fault) → Does l s d b r → Sole (Does l s d b) r
-does-sole l s d false r e q f = e ∙ sym f
-does-sole l s d true r e q f =
-    then-unique (λ _. closes-sole) (λ t _. then-unique (changed-sole t.macros l d) (λ _ _ g _ h. g ∙ sym h)) e q f
+numbered-with : (s : State) (l : Line) (q : Result State Fault) {c b : Bool} → c ≡ b → NumberedAs s l c q → NumberedAs s l b q
+numbered-with s l q e v = subst (λ o. NumberedAs s l o q) e v
 
-line-sole : (l : Line) (s : State) (d : Option Directive) (r : Result State Fault) → DoesLine l s d r → Sole (DoesLine l s d) r
-line-sole l s None r d q e = d ∙ sym e
-line-sole l s (Some d) r does q e = does-sole l s d (is_barrier d) r does q e
+header-sole : (ts : List Token) {h : Result Header Cause} → header_of ts ≡ h → Sole (λ k. header_of ts ≡ k) h
+header-sole ts e k f = sym e ∙ f
+
+lexed-sole : (bytes : List ℕ) {r : Result (List Lexeme) Position} → Lexed bytes r → Sole (Lexed bytes) r
+lexed-sole bytes d s e = lexes-unique d e
+
+tree-sole : {lines : List Line} {r : Result Group Place} → Tree lines r → Sole (Tree lines) r
+tree-sole d s e = tree-unique d e
+
+-- a file that isn't too large
+abbrev comment_fault : File → Position → Fault
+comment_fault file position = fault_at UnterminatedComment (record { file = file.name; position = position })
+
+abbrev Goes : Context → File → State → Result State Fault → Type 0
+Goes x file s =
+    Then (comment_fault file) (Lexed file.bytes)
+    (λ tokens. Then (fault_at BadNesting) (Tree (file_lines x file tokens))
+    (λ g. Then same (Walks x g (inside file s)) Closes))
+
+-- the bytes of a file, walked where they aren't too many
+record Reads (x : Context) (file : File) (s : State) (r : Result State Fault) : Type 0 where
+  large : largest_file < length file.bytes → r ≡ Err (fault_at FileTooLarge (first_place file.name))
+  fits : (largest_file < length file.bytes → ⊥) → Goes x file s r
+
+-- what is entered of what a search finds
+abbrev Found : Context → Place → State → Option File → Result State Fault → Type 0
+Found x asked s None r = r ≡ Err (fault_at NotFound asked)
+Found x asked s (Some file) r = Enters x file s r
 
 -- what is walked of a section whose first group is taken or not
 abbrev Taken : Context → Group → Branches → State → Bool → Result State Fault → Type 0
@@ -181,27 +280,57 @@ Taken x g bs s true = Walks x g s
 Taken x g bs s false = WalksBranches x bs s
 
 module _ {x : Context} where
-  decides-is : {s : State} {l : Line} {r : Result Bool Fault} → Decides x s l r → r ≡ decision s l (conditional_of l) (operand_of l)
-  decides-is (if_defined name named operand) = rw (named, operand) refl
-  decides-is (if_undefined name named operand) = rw (named, operand) refl
-  decides-is (no_name fault (inl named) operand at) = rw (named, operand) (ap Err (refused-is at))
-  decides-is (no_name fault (inr named) operand at) = rw (named, operand) (ap Err (refused-is at))
-  decides-is (expression fault (inl named) at) = rw named (ap Err (refused-is at))
-  decides-is (expression fault (inr named) at) = rw named (ap Err (refused-is at))
+  decides-as : {s : State} {l : Line} {r : Result Bool Fault} → Decides x s l r → DecidesAs s l (conditional_of l) r
+  decides-as (if_defined name named operand) = rw (named, operand) refl
+  decides-as (if_undefined name named operand) = rw (named, operand) refl
+  decides-as (no_name fault (inl named) operand at) = rw (named, operand) (ap Err (refused-is at))
+  decides-as (no_name fault (inr named) operand at) = rw (named, operand) (ap Err (refused-is at))
+  decides-as (expression hash answer (inl named) is d) = rw named (evaluated hash answer is d)
+  decides-as (expression hash answer (inr named) is d) = rw named (evaluated hash answer is d)
 
   decides-sole : {s : State} {l : Line} {r : Result Bool Fault} → Decides x s l r → Sole (Decides x s l) r
-  decides-sole d s e = decides-is d ∙ sym (decides-is e)
+  decides-sole {s} {l} {r} d q e = decides-as-sole s l (conditional_of l) r (decides-as d) q (decides-as e)
 
-  steps-does : {l : Line} {s : State} {r : Result State Fault} → Steps x l s r → DoesLine l s l.directive r
+  steps-does : {l : Line} {s : State} {r : Result State Fault} → Steps x l s r → DoesLine x l s l.directive r
   steps-does (text e) = rw e refl
   steps-does (null e) = rw e refl
-  steps-does {l} {s} (stopped d fault e b c) = rw (e, b) (stops fault c)
-  steps-does {l} {s} (changed d t macros e b c m) = rw (e, b) (goes t c (goes macros (changed-as m) refl))
-  steps-does {l} {s} (not_changed d t cause fault e b c m at) =
-      rw (e, b) (goes t c (subst (Then (refusal t l) (ChangedAs t.macros l d) (λ macros q. q ≡ Ok (with_macros t macros))) (ap Err (sym (refused-is at))) (stops cause (changed-as m))))
+  steps-does (stopped d fault e b c) = rw (e, b) (stops fault c)
+  steps-does {l} {s} {r} (carried_out d t e b c g) =
+      subst (λ o. DoesLine x l s o r) (sym e) (subst (λ o. Does x l s d o r) (sym b) (goes t c g))
 
-  steps-sole : {l : Line} {s : State} {r : Result State Fault} → Steps x l s r → Sole (Steps x l s) r
-  steps-sole {l} {s} {r} d q e = line-sole l s l.directive r (steps-does d) q (steps-does e)
+  -- what a line does whose directive is this one
+  steps-with : {l : Line} {s : State} {r : Result State Fault} {o : Option Directive} → l.directive ≡ o → Steps x l s r → DoesLine x l s o r
+  steps-with {l} {s} {r} e v = subst (λ o. DoesLine x l s o r) e (steps-does v)
+
+  steps-barrier : {l : Line} {s : State} {r : Result State Fault} {d : Directive} → l.directive ≡ Some d → is_barrier d ≡ true → Steps x l s r
+      → Then same (Closes s) (λ t. Carries x l t d) r
+  steps-barrier {l} {s} {r} {d} e b v = subst (λ o. Does x l s d o r) b (steps-with e v)
+
+  carries-as : {l : Line} {s : State} {d : Directive} {r : Result State Fault} → Carries x l s d r → CarriedAs x l s d (is_said d) r
+  carries-as {l} {s} {d} (changed macros c) = rw (not-said s.macros l d (Ok macros) (changed-as c)) (goes macros (changed-as c) refl)
+  carries-as {l} {s} {d} (not_changed cause fault c at) = rw (not-said s.macros l d (Err cause) (changed-as c)) (stops-as cause (refused-is at) (changed-as c))
+  carries-as (not_expanded fault e says) = rw e (stops fault says)
+  carries-as (numbered ts says e) = goes ts says (rw e refl)
+  carries-as (not_numbered ts fault says e at) = goes ts says (rw e (ap Err (refused-is at)))
+  carries-as (no_header ts cause fault says e at) = goes ts says (stops-as cause (refused-is at) e)
+  carries-as {l} {s} (too_deep ts header fault says e n at) =
+      goes ts says (goes header e (subst (λ f. Nests x l s header (Err f)) (sym (refused-is at)) (deep n)))
+  carries-as (included ts header hash says e n is i) = goes ts says (goes header e (nests hash n is i))
+
+  carries-with : {l : Line} {s : State} {d : Directive} {r : Result State Fault} {b : Bool} → is_said d ≡ b → Carries x l s d r → CarriedAs x l s d b r
+  carries-with {l} {s} {d} {r} e v = subst (λ b. CarriedAs x l s d b r) e (carries-as v)
+
+  deep-sole : {l : Line} {s : State} {header : Header} → (s.depth < x.include_depth → ⊥) → Sole (Nests x l s header) (Err (refusal s l IncludeDepth))
+  deep-sole n q (deep m) = refl
+  deep-sole n q (nests hash m is i) = absurd (n m)
+
+  nests-sole : {l : Line} {s : State} {header : Header} {r : Result State Fault} {hash : Token} → s.depth < x.include_depth → hash_of l ≡ Some hash
+      → Sole (Includes x (candidates header s.file x.include) (place_in s hash) (deeper s)) r → Sole (Nests x l s header) (result_map (back s) r)
+  nests-sole n is one q (deep m) = absurd (m n)
+  nests-sole {l} {s} {header} {r} {hash} n is one q (nests {r = r'} hash' m is' i) =
+      let hashes : Some hash' ≡ Some hash = sym is' ∙ is in
+      let same : hash' ≡ hash = cc in
+      ap (result_map (back s)) (one r' (subst (λ h. Includes x (candidates header s.file x.include) (place_in s h) (deeper s) r') same i))
 
   walks-plain : {l : Line} {rest : Group} {s : State} {r : Result State Fault} → Walks x (plain l rest) s r → Then same (Steps x l s) (Walks x rest) r
   walks-plain (line t d w) = goes t d w
@@ -230,7 +359,46 @@ module _ {x : Context} where
   walks-closing : {l : Line} {s : State} {r : Result State Fault} → WalksBranches x (closing l) s r → Ok s ≡ r
   walks-closing none_taken = refl
 
+  small : {file : File} {s : State} {r : Result State Fault} → (largest_file < length file.bytes → ⊥) → Goes x file s r → Reads x file s r
+  small fits d = record { large = λ large. absurd (fits large); fits = λ _. d }
+
+  enters-reads : {file : File} {s : State} {r : Result State Fault} → Enters x file s r → Reads x file s r
+  enters-reads (too_large large) = record { large = λ _. refl; fits = λ fits. absurd (fits large) }
+  enters-reads (unended position fits l) = small fits (stops position l)
+  enters-reads (badly_nested tokens place fits l t) = small fits (goes tokens l (stops place t))
+  enters-reads (stopped_inside tokens g fault fits l t w) = small fits (goes tokens l (goes g t (stops fault w)))
+  enters-reads (walked tokens g t fits l n w c) = small fits (goes tokens l (goes g n (goes t w c)))
+
+  includes-found : {names : List (List ℕ)} {asked : Place} {s : State} {r : Result State Fault} → Includes x names asked s r → Found x asked s (search x.files names) r
+  includes-found (missing e) = rw e refl
+  includes-found (entered file e d) = rw e d
+
+  includes-with : {names : List (List ℕ)} {asked : Place} {s : State} {r : Result State Fault} {o : Option File} → search x.files names ≡ o
+      → Includes x names asked s r → Found x asked s o r
+  includes-with {asked = asked} {s = s} {r = r} e v = subst (λ o. Found x asked s o r) e (includes-found v)
+
   mutual
+    steps-sole : {l : Line} {s : State} {r : Result State Fault} → Steps x l s r → Sole (Steps x l s) r
+    steps-sole (text e) q v = sym (steps-with e v)
+    steps-sole (null e) q v = sym (steps-with e v)
+    steps-sole (stopped d fault e b c) q v = stops-sole (closes-sole c) q (steps-barrier e b v)
+    steps-sole (carried_out d t e b c g) q v = goes-sole (closes-sole c) (carries-sole g) q (steps-barrier e b v)
+
+    carries-sole : {l : Line} {s : State} {d : Directive} {r : Result State Fault} → Carries x l s d r → Sole (Carries x l s d) r
+    carries-sole {l} {s} {d} (changed macros c) q v =
+        goes-sole (changed-sole s.macros l d (Ok macros) (changed-as c)) (λ _ f. sym f) q (carries-with (not-said s.macros l d (Ok macros) (changed-as c)) v)
+    carries-sole {l} {s} {d} (not_changed cause fault c at) q v =
+        told-sole (refused-is at) (changed-sole s.macros l d (Err cause) (changed-as c)) q (carries-with (not-said s.macros l d (Err cause) (changed-as c)) v)
+    carries-sole (not_expanded fault e says) q v = stops-sole (says-sole says) q (carries-with e v)
+    carries-sole {l} {s} (numbered ts says e) q v = goes-sole (says-sole says) (λ p f. sym (numbered-with s l p e f)) q (carries-as v)
+    carries-sole {l} {s} (not_numbered ts fault says e at) q v =
+        goes-sole (says-sole says) (λ p f. ap Err (refused-is at) ∙ sym (numbered-with s l p e f)) q (carries-as v)
+    carries-sole (no_header ts cause fault says e at) q v = goes-sole (says-sole says) (told-sole (refused-is at) (header-sole ts e)) q (carries-as v)
+    carries-sole (too_deep ts header fault says e n at) q v =
+        goes-sole (says-sole says) (goes-sole (header-sole ts e) (λ p f. ap Err (refused-is at) ∙ deep-sole n p f)) q (carries-as v)
+    carries-sole (included ts header hash says e n is i) q v =
+        goes-sole (says-sole says) (goes-sole (header-sole ts e) (nests-sole n is (includes-sole i))) q (carries-as v)
+
     walks-sole : {g : Group} {s : State} {r : Result State Fault} → Walks x g s r → Sole (Walks x g s) r
     walks-sole done s v = walks-empty v
     walks-sole (line t d w) s v = goes-sole (steps-sole d) (walks-sole w) s (walks-plain v)
@@ -248,62 +416,18 @@ module _ {x : Context} where
     branches-sole (later_passed d w) s v = goes-sole (decides-sole d) (branches-sole w) s (walks-alternative v)
     branches-sole (later_stops fault d) s v = stops-sole (decides-sole d) s (walks-alternative v)
 
--- a file that isn't too large
-abbrev comment_fault : File → Position → Fault
-comment_fault file position = fault_at UnterminatedComment (record { file = file.name; position = position })
+    enters-sole : {file : File} {s : State} {r : Result State Fault} → Enters x file s r → Sole (Enters x file s) r
+    enters-sole (too_large large) q v = sym ((enters-reads v).large large)
+    enters-sole {file} (unended position fits l) q v = stops-sole (lexed-sole file.bytes l) q ((enters-reads v).fits fits)
+    enters-sole {file} (badly_nested tokens place fits l t) q v = goes-sole (lexed-sole file.bytes l) (stops-sole (tree-sole t)) q ((enters-reads v).fits fits)
+    enters-sole {file} (stopped_inside tokens g fault fits l t w) q v =
+        goes-sole (lexed-sole file.bytes l) (goes-sole (tree-sole t) (stops-sole (walks-sole w))) q ((enters-reads v).fits fits)
+    enters-sole {file} (walked tokens g t fits l n w c) q v =
+        goes-sole (lexed-sole file.bytes l) (goes-sole (tree-sole n) (goes-sole (walks-sole w) (closes-sole c))) q ((enters-reads v).fits fits)
 
-abbrev Goes : Context → File → State → Result State Fault → Type 0
-Goes x file s =
-    Then (comment_fault file) (Lexed file.bytes)
-    (λ tokens. Then (fault_at BadNesting) (Tree (file_lines x file tokens))
-    (λ g. Then same (Walks x g (inside file s)) Closes))
-
-goes-in-sole : (x : Context) (file : File) (s : State) {r : Result State Fault} → Goes x file s r → Sole (Goes x file s) r
-goes-in-sole x file s d = then-unique (λ _ l _ l'. lexes-unique l l') (λ _ _ e. then-unique (λ _ t _ t'. tree-unique t t') (λ _ _ f. then-unique (λ _. walks-sole) (λ _ _. closes-sole) f) e) d
-
--- the bytes of a file, walked where they aren't too many
-record Reads (x : Context) (file : File) (s : State) (r : Result State Fault) : Type 0 where
-  large : largest_file < length file.bytes → r ≡ Err (fault_at FileTooLarge (first_place file.name))
-  fits : (largest_file < length file.bytes → ⊥) → Goes x file s r
-
-reads-sole : {x : Context} {file : File} {s : State} {r : Result State Fault} → Reads x file s r → Sole (Reads x file s) r
-reads-sole {x} {file} {s} {r} d q e = elim (cases_lt largest_file (length file.bytes)) [
-  | inl large ↦ d.large large ∙ sym (e.large large)
-  | inr few ↦ (let not_large : largest_file < length file.bytes → ⊥ = omega arith in goes-in-sole x file s (d.fits not_large) q (e.fits not_large))
-]
-
-small : {x : Context} {file : File} {s : State} {r : Result State Fault} → (largest_file < length file.bytes → ⊥) → Goes x file s r → Reads x file s r
-small fits d = record { large = λ large. absurd (fits large); fits = λ _. d }
-
-enters-reads : {x : Context} {file : File} {s : State} {r : Result State Fault} → Enters x file s r → Reads x file s r
-enters-reads (Enters.too_large large) = record { large = λ _. refl; fits = λ fits. absurd (fits large) }
-enters-reads (Enters.unended position fits l) = small fits (stops position l)
-enters-reads (Enters.badly_nested tokens place fits l t) = small fits (goes tokens l (stops place t))
-enters-reads (Enters.stopped tokens g fault fits l t w) = small fits (goes tokens l (goes g t (stops fault w)))
-enters-reads (Enters.walked tokens g t fits l n w c) = small fits (goes tokens l (goes g n (goes t w c)))
-
-enters-sole : {x : Context} {file : File} {s : State} {r : Result State Fault} → Enters x file s r → Sole (Enters x file s) r
-enters-sole d q e = reads-sole (enters-reads d) q (enters-reads e)
-
--- what a search finds
-abbrev search : List ℕ → Place → Option (List ℕ) → Result File Fault
-search name asked None = Err (fault_at NotFound asked)
-search name asked (Some bytes) = Ok (record { name = name; bytes = bytes })
-
-searches-is : {x : Context} {name : List ℕ} {asked : Place} {r : Result File Fault} → Searches x name asked r → r ≡ search name asked (x.files name)
-searches-is (Searches.found bytes e) = rw e refl
-searches-is (Searches.absent e) = rw e refl
-
-searches-sole : {x : Context} {name : List ℕ} {asked : Place} {r : Result File Fault} → Searches x name asked r → Sole (Searches x name asked) r
-searches-sole d s e = searches-is d ∙ sym (searches-is e)
-
-includes-then : {x : Context} {name : List ℕ} {asked : Place} {s : State} {r : Result State Fault} → Includes x name asked s r
-    → Then same (Searches x name asked) (λ file. Enters x file s) r
-includes-then (Includes.missing fault d) = stops fault d
-includes-then (Includes.entered file d e) = goes file d e
-
-includes-sole : {x : Context} {name : List ℕ} {asked : Place} {s : State} {r : Result State Fault} → Includes x name asked s r → Sole (Includes x name asked s) r
-includes-sole d q e = then-unique (λ _. searches-sole) (λ _ _. enters-sole) (includes-then d) q (includes-then e)
+    includes-sole : {names : List (List ℕ)} {asked : Place} {s : State} {r : Result State Fault} → Includes x names asked s r → Sole (Includes x names asked s) r
+    includes-sole (missing e) q v = sym (includes-with e v)
+    includes-sole (entered file e d) q v = enters-sole d q (includes-with e v)
 
 pub pre-unique : {space : Space} {files : Files} {main config : List ℕ} {r s : Result (List Token) Fault} → Pre space files main config r → Pre space files main config s → r ≡ s
 pre-unique p q = p.is ∙ (ap output_of (includes-sole p.walked q.end q.walked) ∙ sym q.is)

@@ -1,12 +1,15 @@
 -- Preprocessing of one configuration (C11 6.10): the walk of a file's groups.
-use Rattle.std.specs.Prelude.{◌≡◌, ℕ, ◌<◌, ◌⊎◌, Bool, true, false, not, List, [], ◌∷◌, ◌++◌, length, map, drop, Option, Some, None, is_some, Result, Ok, Err, if◌then◌else◌}
+use Rattle.std.specs.Prelude.{◌≡◌, ℕ, ◌<◌, ◌⊎◌, Bool, true, false, not, List, [], ◌∷◌, ◌++◌, ◌+◌, length, map, Option, Some, None, is_some, Result, Ok, Err, if◌then◌else◌}
 use Rattle.std.specs.Map.{update}
 use Rattle.std.specs.Option.{option_map}
 use Rattle.sc_model.specs.declared.cause.Cause.{Cause}
-use Rattle.sc_model.specs.declared.cause.Cause.TheVariants.{NotFound, FileTooLarge, UnterminatedComment, BadNesting, BadDirective, Redefined, ProtectedName}
+use Rattle.sc_model.specs.declared.cause.Cause.TheVariants.{NotFound, FileTooLarge, UnterminatedComment, BadNesting, BadDirective, Redefined, ProtectedName, IncludeDepth, ErrorDirective}
 use Rattle.c11_directives.specs.declared.directive.Conditional.TheVariants.{If, Ifdef, Ifndef, Elif}
 use Rattle.c11_directives.specs.declared.directive.Directive.{Directive}
 use Rattle.c11_directives.specs.declared.directive.Directive.TheVariants as directive
+use Rattle.c11_directives.specs.Behind.{behind_name, Says, is_numbering}
+use Rattle.c11_expressions.specs.Lines as expressions
+use Rattle.c11_headers.specs.Headers.{Header, header_of, candidates}
 use Rattle.c11_tokens.specs.Lex.{is_identifier_kind, Lexed}
 use Rattle.c11_directives.specs.Lines.{DirectiveNames, c11_directive_names, Line, lines_of, conditional_of, hash_of, Group, Branches, empty, plain, section, closing, otherwise, alternative, Tree}
 use Rattle.sc_model.specs.Fault.{Fault, fault_at, first_place}
@@ -14,7 +17,9 @@ use Rattle.sc_model.specs.Outside.{Files, largest_file}
 use Rattle.sc_model.specs.Space.{Space}
 use Rattle.c11_macros.specs.Defines.{Defined, is_protected, reads}
 use Rattle.c11_macros.specs.Macros.{Definition, Macros, initial_macros}
-use Rattle.c11_macros.specs.Text.{TextExpands}
+use Rattle.c11_macros.specs.Hidden.{Failure}
+use Rattle.c11_macros.specs.Results.{result_map}
+use Rattle.c11_macros.specs.Text.{TextExpands, fault_of, place_alone, unhidden}
 use Rattle.sc_model.specs.Bytes.{same_bytes}
 use Rattle.sc_model.specs.Token.{Position, Place, Lexeme, Token, in_file}
 
@@ -73,7 +78,12 @@ operand_in _ = None
 abbrev pub operand_of : Line → Option (List ℕ)
 operand_of line = operand_in line.tokens
 
--- Whether a conditional directive takes its group (6.10.1). Expressions are not decided.
+-- what an expression comes to, with its fault as the walk has it
+abbrev pub decision_of : Result Bool (Failure Place) → Result Bool Fault
+decision_of (Ok is_taken) = Ok is_taken
+decision_of (Err failure) = Err (fault_of failure)
+
+-- Whether a conditional directive takes its group (6.10.1).
 pub data Decides (context : Context) (s : State) (line : Line) : Result Bool Fault → Type 0 where
   if_defined : (name : List ℕ) → conditional_of line ≡ Some Ifdef → operand_of line ≡ Some name
       → Decides context s line (Ok (is_some (s.macros name)))
@@ -81,8 +91,9 @@ pub data Decides (context : Context) (s : State) (line : Line) : Result Bool Fau
       → Decides context s line (Ok (not (is_some (s.macros name))))
   no_name : (fault : Fault) → (conditional_of line ≡ Some Ifdef) ⊎ (conditional_of line ≡ Some Ifndef) → operand_of line ≡ None
       → RefusedAt s line BadDirective fault → Decides context s line (Err fault)
-  expression : (fault : Fault) → (conditional_of line ≡ Some If) ⊎ (conditional_of line ≡ Some Elif)
-      → RefusedAt s line BadDirective fault → Decides context s line (Err fault)
+  expression : (hash : Token) (answer : Result Bool (Failure Place)) → (conditional_of line ≡ Some If) ⊎ (conditional_of line ≡ Some Elif)
+      → hash_of line ≡ Some hash → expressions.Decides place_alone s.macros (place_in s hash) (map unhidden (behind_name line)) answer
+      → Decides context s line (decision_of answer)
 
 -- the state that deciding a directive leaves
 abbrev pub decided : State → Line → State
@@ -125,22 +136,11 @@ is_ignored directive.Pragma = true
 is_ignored directive.Warning = true
 is_ignored _ = false
 
--- the directive is not carried out
-abbrev pub is_refused : Directive → Bool
-is_refused directive.Include = true
-is_refused directive.Line = true
-is_refused directive.Error = true
-is_refused directive.Unknown = true
-is_refused _ = false
-
--- what a line says behind the name of its directive
-abbrev pub behind_name : Line → List Token
-behind_name line = drop 2 line.tokens
-
 -- what a directive makes of the macros, or why it is refused
 pub data Changes (macros : Macros) (line : Line) : Directive → Result Macros Cause → Type 0 where
   ignored : {d : Directive} → is_ignored d ≡ true → Changes macros line d (Ok macros)
-  not_carried_out : {d : Directive} → is_refused d ≡ true → Changes macros line d (Err BadDirective)
+  unknown : Changes macros line directive.Unknown (Err BadDirective)
+  error : Changes macros line directive.Error (Err ErrorDirective)
   defines : {r : Result Macros Cause} (d : Defined) → reads (behind_name line) ≡ Ok d → Defines macros d r → Changes macros line directive.Define r
   defines_nothing : (cause : Cause) → reads (behind_name line) ≡ Err cause → Changes macros line directive.Define (Err cause)
   undefines : Changes macros line directive.Undef (undefined macros (operand_of line))
@@ -149,20 +149,79 @@ pub data Changes (macros : Macros) (line : Line) : Directive → Result Macros C
 abbrev pub with_macros : State → Macros → State
 with_macros s macros = record s { macros = macros }
 
--- What a line that is no conditional directive does. Every directive but the null one is a barrier.
-pub data Steps (context : Context) (line : Line) (s : State) : Result State Fault → Type 0 where
-  text : line.directive ≡ None → Steps context line s (Ok (with_text s line))
-  null : line.directive ≡ Some directive.Null → Steps context line s (Ok s)
-  stopped : (d : Directive) (fault : Fault) → line.directive ≡ Some d → is_barrier d ≡ true → Closes s (Err fault)
-      → Steps context line s (Err fault)
-  changed : (d : Directive) (t : State) (macros : Macros) → line.directive ≡ Some d → is_barrier d ≡ true → Closes s (Ok t)
-      → Changes t.macros line d (Ok macros) → Steps context line s (Ok (with_macros t macros))
-  not_changed : (d : Directive) (t : State) (cause : Cause) (fault : Fault) → line.directive ≡ Some d → is_barrier d ≡ true → Closes s (Ok t)
-      → Changes t.macros line d (Err cause) → RefusedAt t line cause fault → Steps context line s (Err fault)
+-- the directive is carried out by what it says behind its name
+abbrev pub is_said : Directive → Bool
+is_said directive.Include = true
+is_said directive.Line = true
+is_said _ = false
 
--- The walk of a group from a state, up to its end or its first fault. After a branch was taken, no
--- later one is decided.
+-- a file that was found: its name and its bytes
+pub record File : Type 0 where
+  pub name : List ℕ
+  pub bytes : List ℕ
+
+abbrev pub file_with : List ℕ → List ℕ → File
+file_with name bytes = record { name = name; bytes = bytes }
+
+abbrev pub found_or : Option File → List ℕ → Option (List ℕ) → Option File
+found_or later name None = later
+found_or later name (Some bytes) = Some (file_with name bytes)
+
+-- the file of the first name that one has
+abbrev pub search : Files → List (List ℕ) → Option File
+search files [] = None
+search files (name ∷ names) = found_or (search files names) name (files name)
+
+-- one file deeper
+abbrev pub deeper : State → State
+deeper s = record s { depth = s.depth + 1 }
+
+-- the state in which the walk of a file begins
+abbrev pub inside : File → State → State
+inside file s = record s { file = file.name }
+
+-- back in the file and at the depth of a state
+abbrev pub back : State → State → State
+back s t = record t { depth = s.depth; file = s.file }
+
+-- the lines of a file with these tokens
+abbrev pub file_lines : Context → File → List Lexeme → List Line
+file_lines context file tokens = lines_of context.standard.directives (map (in_file file.name) tokens)
+
 mutual
+  -- What a line that is no conditional directive does. Every directive but the null one is a barrier.
+  pub data Steps (context : Context) : Line → State → Result State Fault → Type 0 where
+    text : {line : Line} {s : State} → line.directive ≡ None → Steps context line s (Ok (with_text s line))
+    null : {line : Line} {s : State} → line.directive ≡ Some directive.Null → Steps context line s (Ok s)
+    stopped : {line : Line} {s : State} (d : Directive) (fault : Fault) → line.directive ≡ Some d → is_barrier d ≡ true → Closes s (Err fault)
+        → Steps context line s (Err fault)
+    carried_out : {line : Line} {s : State} {r : Result State Fault} (d : Directive) (t : State) → line.directive ≡ Some d → is_barrier d ≡ true → Closes s (Ok t)
+        → Carries context line t d r → Steps context line s r
+
+  -- What a directive does that is a barrier, where the run before it was closed.
+  pub data Carries (context : Context) : Line → State → Directive → Result State Fault → Type 0 where
+    changed : {line : Line} {s : State} {d : Directive} (macros : Macros) → Changes s.macros line d (Ok macros)
+        → Carries context line s d (Ok (with_macros s macros))
+    not_changed : {line : Line} {s : State} {d : Directive} (cause : Cause) (fault : Fault) → Changes s.macros line d (Err cause)
+        → RefusedAt s line cause fault → Carries context line s d (Err fault)
+    not_expanded : {line : Line} {s : State} {d : Directive} (fault : Fault) → is_said d ≡ true → Says s.macros line (Err fault)
+        → Carries context line s d (Err fault)
+    -- the number of a line is checked and has no effect
+    numbered : {line : Line} {s : State} (ts : List Token) → Says s.macros line (Ok ts) → is_numbering ts ≡ true
+        → Carries context line s directive.Line (Ok s)
+    not_numbered : {line : Line} {s : State} (ts : List Token) (fault : Fault) → Says s.macros line (Ok ts) → is_numbering ts ≡ false
+        → RefusedAt s line BadDirective fault → Carries context line s directive.Line (Err fault)
+    no_header : {line : Line} {s : State} (ts : List Token) (cause : Cause) (fault : Fault) → Says s.macros line (Ok ts) → header_of ts ≡ Err cause
+        → RefusedAt s line cause fault → Carries context line s directive.Include (Err fault)
+    too_deep : {line : Line} {s : State} (ts : List Token) (header : Header) (fault : Fault) → Says s.macros line (Ok ts) → header_of ts ≡ Ok header
+        → (s.depth < context.include_depth → ⊥) → RefusedAt s line IncludeDepth fault → Carries context line s directive.Include (Err fault)
+    included : {line : Line} {s : State} {r : Result State Fault} (ts : List Token) (header : Header) (hash : Token) → Says s.macros line (Ok ts)
+        → header_of ts ≡ Ok header → s.depth < context.include_depth → hash_of line ≡ Some hash
+        → Includes context (candidates header s.file context.include) (place_in s hash) (deeper s) r
+        → Carries context line s directive.Include (result_map (back s) r)
+
+  -- The walk of a group from a state, up to its end or its first fault. After a branch was taken, no
+  -- later one is decided.
   pub data Walks (context : Context) : Group → State → Result State Fault → Type 0 where
     done : {s : State} → Walks context empty s (Ok s)
     line : {line : Line} {rest : Group} {s : State} {r : Result State Fault} (t : State)
@@ -191,43 +250,26 @@ mutual
     later_stops : {head : Line} {group : Group} {branches : Branches} {s : State} (fault : Fault)
         → Decides context s head (Err fault) → WalksBranches context (alternative head group branches) s (Err fault)
 
--- a file that was found: its name and its bytes
-pub record File : Type 0 where
-  pub name : List ℕ
-  pub bytes : List ℕ
+  -- Entering a file. The order of the causes is that of the cases. Its nesting is decided on the
+  -- whole file.
+  pub data Enters (context : Context) : File → State → Result State Fault → Type 0 where
+    too_large : {file : File} {s : State} → largest_file < length file.bytes → Enters context file s (Err (fault_at FileTooLarge (first_place file.name)))
+    unended : {file : File} {s : State} (position : Position) → (largest_file < length file.bytes → ⊥)
+        → Lexed file.bytes (Err position) → Enters context file s (Err (fault_at UnterminatedComment (record { file = file.name; position = position })))
+    badly_nested : {file : File} {s : State} (tokens : List Lexeme) (place : Place) → (largest_file < length file.bytes → ⊥)
+        → Lexed file.bytes (Ok tokens) → Tree (file_lines context file tokens) (Err place) → Enters context file s (Err (fault_at BadNesting place))
+    stopped_inside : {file : File} {s : State} (tokens : List Lexeme) (group : Group) (fault : Fault) → (largest_file < length file.bytes → ⊥)
+        → Lexed file.bytes (Ok tokens) → Tree (file_lines context file tokens) (Ok group) → Walks context group (inside file s) (Err fault)
+        → Enters context file s (Err fault)
+    walked : {file : File} {s : State} {r : Result State Fault} (tokens : List Lexeme) (group : Group) (t : State) → (largest_file < length file.bytes → ⊥)
+        → Lexed file.bytes (Ok tokens) → Tree (file_lines context file tokens) (Ok group) → Walks context group (inside file s) (Ok t) → Closes t r
+        → Enters context file s r
 
--- The search for a file that is asked for at this place. The main file is the one of its name.
-pub data Searches (context : Context) (name : List ℕ) (asked : Place) : Result File Fault → Type 0 where
-  found : (bytes : List ℕ) → context.files name ≡ Some bytes → Searches context name asked (Ok (record { name = name; bytes = bytes }))
-  absent : context.files name ≡ None → Searches context name asked (Err (fault_at NotFound asked))
-
--- the state in which the walk of a file begins
-abbrev pub inside : File → State → State
-inside file s = record s { file = file.name }
-
--- the lines of a file with these tokens
-abbrev pub file_lines : Context → File → List Lexeme → List Line
-file_lines context file tokens = lines_of context.standard.directives (map (in_file file.name) tokens)
-
--- Entering a file. The order of the causes is that of the cases. Its nesting is decided on the
--- whole file.
-pub data Enters (context : Context) (file : File) (s : State) : Result State Fault → Type 0 where
-  too_large : largest_file < length file.bytes → Enters context file s (Err (fault_at FileTooLarge (first_place file.name)))
-  unended : (position : Position) → (largest_file < length file.bytes → ⊥)
-      → Lexed file.bytes (Err position) → Enters context file s (Err (fault_at UnterminatedComment (record { file = file.name; position = position })))
-  badly_nested : (tokens : List Lexeme) (place : Place) → (largest_file < length file.bytes → ⊥)
-      → Lexed file.bytes (Ok tokens) → Tree (file_lines context file tokens) (Err place) → Enters context file s (Err (fault_at BadNesting place))
-  stopped : (tokens : List Lexeme) (group : Group) (fault : Fault) → (largest_file < length file.bytes → ⊥)
-      → Lexed file.bytes (Ok tokens) → Tree (file_lines context file tokens) (Ok group) → Walks context group (inside file s) (Err fault)
-      → Enters context file s (Err fault)
-  walked : {r : Result State Fault} (tokens : List Lexeme) (group : Group) (t : State) → (largest_file < length file.bytes → ⊥)
-      → Lexed file.bytes (Ok tokens) → Tree (file_lines context file tokens) (Ok group) → Walks context group (inside file s) (Ok t) → Closes t r
-      → Enters context file s r
-
--- the file of a name is searched for, then entered
-pub data Includes (context : Context) (name : List ℕ) (asked : Place) (s : State) : Result State Fault → Type 0 where
-  missing : (fault : Fault) → Searches context name asked (Err fault) → Includes context name asked s (Err fault)
-  entered : {r : Result State Fault} (file : File) → Searches context name asked (Ok file) → Enters context file s r → Includes context name asked s r
+  -- The file that is asked for at this place is searched for by these names, then entered.
+  pub data Includes (context : Context) : List (List ℕ) → Place → State → Result State Fault → Type 0 where
+    missing : {names : List (List ℕ)} {asked : Place} {s : State} → search context.files names ≡ None → Includes context names asked s (Err (fault_at NotFound asked))
+    entered : {names : List (List ℕ)} {asked : Place} {s : State} {r : Result State Fault} (file : File) → search context.files names ≡ Some file
+        → Enters context file s r → Includes context names asked s r
 
 abbrev pub context_of : Space → Files → Context
 context_of space files = record {
@@ -249,5 +291,5 @@ output_of (Err fault) = Err fault
 -- the tokens of a configuration, or its first fault
 pub record Pre (space : Space) (files : Files) (main config : List ℕ) (r : Result (List Token) Fault) : Type 0 where
   pub end : Result State Fault
-  pub walked : Includes (context_of space files) main (first_place main) (initial_state space main config) end
+  pub walked : Includes (context_of space files) (main ∷ []) (first_place main) (initial_state space main config) end
   pub is : r ≡ output_of end
