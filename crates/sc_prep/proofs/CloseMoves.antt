@@ -86,7 +86,7 @@ module _ {names more : List (List ℕ)} (grows : Extends names more) where
         fault = simulates.prepared.fault;
       };
       run = λ none. items-grown s w.gathered config count held.gathered ∙ simulates.run none;
-      macros = λ name. macros_at-Extends grows is config name ∙ simulates.macros name;
+      macros = λ none name. macros_at-Extends grows is config name ∙ simulates.macros none name;
     }
 
 -- ---- of what a configuration has
@@ -111,6 +111,10 @@ fault-none : {F : Type 0} (a : Bool) (f : Option F) → (a && is_none f) ≡ tru
 fault-none true None e = refl
 fault-none true (Some x) e = absurd (cc)
 fault-none false f e = absurd (cc)
+
+none-before : {F : Type 0} (f g : Option F) (b : Bool) → (is_none f && b) ≡ is_none g → g ≡ None → f ≡ None
+none-before None g b e no_fault = refl
+none-before (Some x) g b e no_fault = let both = e ∙ ap is_none no_fault in cc
 
 if_same : {A : Type 0} (b : Bool) (x : A) → (if b then x else x) ≡ x
 if_same true x = refl
@@ -273,15 +277,15 @@ module _ (files names more : List (List ℕ)) {old mid new : Sets} (keeps : Keep
       sections = ap (λ (v : Vec Section Global). map (section_at new c) (reverse v.items)) puts.sections ∙ stored.sections;
       prepared = record { live = live-now ∙ live; output = output_is; fault = faults-now ∙ fault_is };
       run = run_is;
-      macros = λ name. ap (λ t. macros_at new more t c name) puts.table ∙ stored.macros name;
+      macros = λ none_now name. ap (λ t. macros_at new more t c name) puts.table ∙ stored.macros (none-before m.fault fault none live none_now) name;
     }
 
-    macros_are : macros_at old names w.table c ≡ m.state.macros
-    macros_are = λ i. λ name. simulates.macros name i
+    macros_are : m.fault ≡ None → macros_at old names w.table c ≡ m.state.macros
+    macros_are no_fault = λ i. λ name. simulates.macros no_fault name i
 
     expands-run : (r : Result (List Token) Fault) → m.fault ≡ None → TextExpands (macros_at old names w.table c) (map (seen names files) (items_at old w.gathered c)) r
         → TextExpands m.state.macros m.state.run r
-    expands-run r no_fault x = subst (λ macros. TextExpands macros m.state.run r) macros_are (subst (λ text. TextExpands (macros_at old names w.table c) text r) (simulates.run no_fault) x)
+    expands-run r no_fault x = subst (λ macros. TextExpands macros m.state.run r) (macros_are no_fault) (subst (λ text. TextExpands (macros_at old names w.table c) text r) (simulates.run no_fault) x)
 
     module _ (acting : acts m ≡ true) where
       no_fault : m.fault ≡ None

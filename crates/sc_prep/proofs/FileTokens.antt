@@ -21,7 +21,7 @@ use Rattle.sc_model.specs.Sets.{Sets}
 use Rattle.sc_model.specs.Token.{Lexeme}
 use Rattle.sc_prep.specs.declared.prepared.Prepared.{Prepared}
 use Rattle.sc_prep.specs.Preprocesses.{OwnsList}
-use Rattle.sc_prep.specs.Printable.{AllPass, AreHeld, CanBeShown, IsPlaced, IsPlainOrNewline, any_token, is_plain}
+use Rattle.sc_prep.specs.Printable.{AllPass, AreHeld, ArePlainPaths, CanBeShown, IsPlaced, IsPlainOrNewline, any_token, is_plain}
 
 -- what the token's spelling is like, seen through the table
 plain_by : (t : Token) (l : Lexeme) (o : Option (List ℕ)) → option_map (λ s. record { kind = t.kind; spelling = s; space = t.space; position = position_of t.place }) o ≡ Some l
@@ -54,11 +54,12 @@ module _ (names : List (List ℕ)) (file : FileId) where
 
 -- all that stands in files of the table can be shown
 pub all-shown : (s : Sets) (names files : List (List ℕ)) (p : Prepared) → OwnsList s p → AreHeld names (length files) any_token [] p → AllPass (is_plain names) p.list → AreApart s p.faults.items
-    → CanBeShown s names files p
-all-shown s names files p owns held plain apart = record {
+    → ArePlainPaths files → CanBeShown s names files p
+all-shown s names files p owns held plain apart paths = record {
   list = λ k d h. record { own = owns.list k d h; held = (held.list k d h).held; file = (held.list k d h).file; plain = plain k d h };
   faults = λ k d h. record { own = owns.faults k d h; file = held.faults k d h };
   apart = apart;
+  paths = paths;
 }
 
 -- a configuration has one fault at most where its walk has

@@ -1,5 +1,5 @@
 -- Lines that are passed over where a machine doesn't act leave it as it is.
-use Rattle.std.proofs.Common.{◌≡◌, ℕ, ◌+◌, ◌-◌, take, ◌<◌, ◌≤◌, ◌&&◌, not, Bool, true, false, List, ◌∷◌, length, Option, Some, None, get_or, refl, sym, ap, ◌∙◌, subst, inl, inr, arith}
+use Rattle.std.proofs.Common.{◌≡◌, ℕ, ◌+◌, ◌-◌, take, ◌<◌, ◌≤◌, ◌&&◌, not, Bool, true, false, List, ◌∷◌, length, Option, Some, None, get_or, refl, sym, ap, subst, inl, inr, arith}
 use Rattle.std.proofs.Math.Seq.{take-add}
 use Rattle.std.proofs.lemmas.Bool.{cases_lt}
 use Rattle.std.proofs.lemmas.List.{take_more, get_or_past}
@@ -14,23 +14,41 @@ use Rattle.sc_lines.specs.declared.line.Line as declared
 use Rattle.sc_lines.specs.Branches.{begins_branch, ends_branch, IsNextBranch, ClosesAt, last_branch, more_branches, IsBranchOf, HasBranch}
 use Rattle.sc_lines.specs.Judges.{no_line, line_at}
 use Rattle.sc_lines.proofs.Judging.{same_at, same_length}
-use Rattle.sc_model.specs.declared.cause.Cause.TheVariants.{BadDirective}
-use Rattle.sc_prep.specs.Machine.{Machine, acts, turned, opened, next_branch, ended, refusing, step, Takes, Runs}
+use Rattle.c11_directives.specs.Pre.{Context}
+use Rattle.sc_prep.specs.Machine.{Machine, acts, turned, opened, next_branch, ended, Takes, Runs}
 use Rattle.sc_prep.specs.Passes.{StandFor, EndsAt, PassesOver, nothing, whole_group, plain_line, whole_section}
-use Rattle.sc_prep.proofs.Machine.{runs-join, runs-once, conditional_taken, step_is, inert_run, inert_taken, inert_refusing, inert_plain, inert_opens, and_false}
+use Rattle.sc_prep.proofs.Machine.{runs-join, runs-once, unasked_taken, elif_unasked, inert_run, inert_taken, inert_line_taken, inert_opens, and_false}
 
 -- ---- the machine
 
--- the next branch, which the machine doesn't act in
-branch-inert : (m : Machine) (l : Line) (c : Option Conditional) (a u : Bool) (ss : List (Bool × Bool)) → conditional_of l ≡ c → begins_branch c ≡ true → ends_branch c ≡ true
-    → m.sections ≡ (a, u) ∷ ss → (u && is_none m.fault) ≡ false → step m l ≡ turned m u ((a, false) ∷ ss)
+-- the next branch, which the machine doesn't act in: that of an #elif is left to be taken
+record BranchInert (x : Context) (m : Machine) (l : Line) (a u : Bool) (ss : List (Bool × Bool)) : Type 0 where
+  active : Bool
+  untaken : Bool
+  taken : Takes x m l (turned m active ((a, untaken) ∷ ss))
+  inactive : (active && is_none m.fault) ≡ false
+  later : (untaken && is_none m.fault) ≡ false
+
+branch-inert : {x : Context} (m : Machine) (l : Line) (c : Option Conditional) (a u : Bool) (ss : List (Bool × Bool)) → conditional_of l ≡ c → begins_branch c ≡ true → ends_branch c ≡ true
+    → m.sections ≡ (a, u) ∷ ss → (u && is_none m.fault) ≡ false → BranchInert x m l a u ss
 branch-inert m l None a u ss e begins ends s inactive = cc
 branch-inert m l (Some If) a u ss e begins ends s inactive = cc
 branch-inert m l (Some Ifdef) a u ss e begins ends s inactive = cc
 branch-inert m l (Some Ifndef) a u ss e begins ends s inactive = cc
-branch-inert m l (Some Elif) a u ss e begins ends s inactive =
-    step_is m l e ∙ (ap (λ n. refusing n l BadDirective) (ap (next_branch m) s) ∙ inert_refusing (turned m u ((a, false) ∷ ss)) l BadDirective inactive)
-branch-inert m l (Some Else) a u ss e begins ends s inactive = step_is m l e ∙ ap (next_branch m) s
+branch-inert {x} m l (Some Elif) a u ss e begins ends s inactive = record {
+  active = false;
+  untaken = u;
+  taken = subst (Takes x m l) (ap (next_branch m false) s) (unasked_taken e (elif_unasked m a u ss s inactive));
+  inactive = refl;
+  later = inactive;
+}
+branch-inert {x} m l (Some Else) a u ss e begins ends s inactive = record {
+  active = u;
+  untaken = false;
+  taken = subst (Takes x m l) (ap (next_branch m true) s) (unasked_taken e refl);
+  inactive = inactive;
+  later = refl;
+}
 branch-inert m l (Some Endif) a u ss e begins ends s inactive = cc
 
 module _ (ms : List Line) where
@@ -53,19 +71,19 @@ module _ (ms : List Line) where
   closes-after (last_branch next endif) = next.after
   closes-after (more_branches next closes) = let later = closes-after closes in let after = next.after in omega (arith, later, after)
 
-  module _ (m : Machine) where
+  module _ (x : Context) (m : Machine) where
     -- the machine before the line of a number
     abbrev Before : ℕ → Machine → Type 0
-    Before i n = Runs m (take i ms) n
+    Before i n = Runs x m (take i ms) n
 
-    pub one-more : (i : ℕ) {n o : Machine} → i < length ms → Before i n → Takes n (line_at ms i) o → Before (i + 1) o
-    one-more i {o = o} within before taking = subst (λ ls. Runs m ls o) (sym (take_more ms i no_line within)) (runs-join (take i ms) before (runs-once taking))
+    pub one-more : (i : ℕ) {n o : Machine} → i < length ms → Before i n → Takes x n (line_at ms i) o → Before (i + 1) o
+    one-more i {o = o} within before taking = subst (λ ls. Runs x m ls o) (sym (take_more ms i no_line within)) (runs-join (take i ms) before (runs-once taking))
 
     group-passed : (group : Group) (i j : ℕ) (n : Machine) → i ≤ j → IsTree (slice_range ms i j) group → acts n ≡ false → Before i n → Before j n
     group-passed group i j n up tree inactive before =
         let size : j ≡ i + (j - i) = omega (arith, up) in
-        let still : Runs n (slice_range ms i j) n = subst (λ ls. Runs n ls n) tree.whole (inert_run group tree.grouped n inactive) in
-        subst (λ k. Before k n) (sym size) (subst (λ ls. Runs m ls n) (sym (take-add i (j - i) ms)) (runs-join (take i ms) before still))
+        let still : Runs x n (slice_range ms i j) n = subst (λ ls. Runs x n ls n) tree.whole (inert_run group tree.grouped n inactive) in
+        subst (λ k. Before k n) (sym size) (subst (λ ls. Runs x m ls n) (sym (take-add i (j - i) ms)) (runs-join (take i ms) before still))
 
     branch-passed : (i j : ℕ) (n : Machine) → IsNextBranch ms i j → acts n ≡ false → Before (i + 1) n → Before j n
     branch-passed i j n next inactive before =
@@ -77,27 +95,25 @@ module _ (ms : List Line) where
         → acts n ≡ false → (u && is_none n.fault) ≡ false → Before (e + 1) (turned n a ss)
     branches-passed {i} {e} (last_branch next endif) n a u ss before s inactive later =
         one-more e (ends-within e next.ends) (branch-passed i e n next inactive before)
-        (subst (Takes n (line_at ms e)) (step_is n (line_at ms e) endif ∙ ap (ended n) s) (conditional_taken endif))
+        (subst (Takes x n (line_at ms e)) (ap (ended n) s) (unasked_taken endif refl))
     branches-passed {i} {e} (more_branches {j = j} next closes) n a u ss before s inactive later =
-        let turn = turned n u ((a, false) ∷ ss) in
-        branches-passed closes turn a false ss
-        (one-more j (ends-within j next.ends) (branch-passed i j n next inactive before)
-        (subst (Takes n (line_at ms j)) (branch-inert n (line_at ms j) _ a u ss refl (closes-begins closes) next.ends s later) (inert_taken n (line_at ms j) inactive)))
-        refl later refl
+        let b : BranchInert x n (line_at ms j) a u ss = branch-inert n (line_at ms j) (conditional_of (line_at ms j)) a u ss refl (closes-begins closes) next.ends s later in
+        branches-passed closes (turned n b.active ((a, b.untaken) ∷ ss)) a b.untaken ss
+        (one-more j (ends-within j next.ends) (branch-passed i j n next inactive before) b.taken)
+        refl b.inactive b.later
 
     section-passed : (i e : ℕ) (n : Machine) → i < length ms → Opens (line_at ms i) → ClosesAt ms i e → acts n ≡ false → Before i n → Before (e + 1) n
     section-passed i e n within opens closes inactive before =
         let o = inert_opens n (line_at ms i) opens inactive in
         branches-passed closes (opened n o.test) n.active (n.active && not o.test) n.sections
-        (one-more i within before (subst (Takes n (line_at ms i)) o.opens (inert_taken n (line_at ms i) inactive))) refl
+        (one-more i within before (subst (Takes x n (line_at ms i)) o.opens (inert_taken n (line_at ms i) inactive o.quiet))) refl
         (and_false n.active o.test (is_none n.fault) inactive) (and_false n.active (not o.test) (is_none n.fault) inactive)
 
     pub over-passed : (i : ℕ) {j : ℕ} (n : Machine) → PassesOver ms i j → acts n ≡ false → Before i n → Before j n
     over-passed i n nothing inactive before = before
     over-passed i {j} n (whole_group group up tree) inactive before = group-passed group i j n up tree inactive before
     over-passed i n (plain_line {j} over within none) inactive before =
-        let same = step_is n (line_at ms j) none ∙ inert_plain n (line_at ms j) inactive in
-        one-more j within (over-passed i n over inactive before) (subst (Takes n (line_at ms j)) same (inert_taken n (line_at ms j) inactive))
+        one-more j within (over-passed i n over inactive before) (inert_line_taken n (line_at ms j) inactive none)
     over-passed i n (whole_section {j} {e} over within opens closes) inactive before =
         section-passed j e n within opens closes inactive (over-passed i n over inactive before)
 

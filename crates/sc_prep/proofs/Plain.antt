@@ -10,12 +10,8 @@ use Rattle.sc_expand.specs.OneLine.{AreOneLine}
 use Rattle.sc_model.specs.Bytes.{has_no_newline}
 use Rattle.sc_model.specs.Space.{Space}
 use Rattle.sc_model.specs.Token.{Token}
+use Rattle.sc_prep.specs.Printable.{IsPlainToken}
 use Rattle.sc_space.specs.Settings.{is_date_byte}
-
--- a token that is spelled on one line, and stands in a file whose name is
-pub record IsPlainToken (t : Token) : Type 0 where
-  pub spelling : has_no_newline t.spelling ≡ true
-  pub file : has_no_newline t.place.file ≡ true
 
 pub spelled-plain : (ts : List Token) → Every IsPlainToken ts → All PlainToken ts
 spelled-plain ts plain = All-weaker IsPlainToken PlainToken (λ t p. p.spelling) ts (All-from_recursion IsPlainToken ts plain)

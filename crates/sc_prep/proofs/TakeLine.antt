@@ -1,8 +1,13 @@
 -- What a line does at each configuration, once the runs that it ends are closed.
-use Rattle.std.proofs.Common.{◌≡◌, ℕ, Bool, true, false, List, All, Option, Result, sym, ap, ◌∙◌, subst}
+use Rattle.std.proofs.Common.{◌≡◌, ℕ, Bool, true, false, List, All, Option, Some, None, Result, Ok, refl, sym, ap, ◌∙◌, subst, if◌then◌else◌}
 use Rattle.std.proofs.lemmas.Result.{IfErr-weaker}
+use Rattle.std.specs.Option.{option_map}
 use Rattle.std.specs.Prelude.{IfErr}
+use Rattle.c11_directives.specs.declared.directive.Conditional.{Conditional}
 use Rattle.c11_directives.specs.declared.directive.Directive.{Directive}
+use Rattle.c11_directives.specs.declared.directive.Directive.TheVariants as directive
+use Rattle.c11_directives.specs.Lines.{conditional_in}
+use Rattle.c11_directives.specs.Pre.{Context, is_barrier, is_said}
 use Rattle.sc_base.specs.declared.stop.Stop.{Stop}
 use Rattle.sc_base.specs.declared.stop.Stop.TheVariants.{OutOfMemory}
 use Rattle.sc_base.specs.declared.token.Token.{Token}
@@ -14,11 +19,11 @@ use Rattle.sc_lines.specs.Split.{directive_at}
 use Rattle.sc_model.proofs.SetLemmas.{IsConfig-Keeps}
 use Rattle.sc_model.specs.Growth.{Extends}
 use Rattle.sc_model.specs.Sets.{Sets, Keeps}
-use Rattle.sc_prep.specs.Machine.{Takes, ends_run, step, takes}
+use Rattle.sc_prep.specs.Machine.{Carried, Decided, Machine, Takes, asks_by, carries, closes, ends_run, plain_by, step, step_by, takes}
 use Rattle.sc_prep.specs.Printable.{AllPass, IsHeldWalk, IsPlaced, StaysHeld, any_token, is_plain}
 use Rattle.sc_prep.specs.Simulates.{Closed, Simulates, SimulatesOneOf, SimulatesStep}
 use Rattle.sc_prep.specs.declared.walk.Walk.{Walk}
-use Rattle.sc_prep.proofs.LineSteps.{line-closed, line-grown}
+use Rattle.sc_prep.proofs.LineSteps.{line-grown, plain-is}
 use Rattle.sc_table.specs.Table.{IsTable}
 
 -- no memory is a reason to stop
@@ -34,37 +39,164 @@ pub stays-plain : (names : List (List ℕ)) (files : ℕ) (line : List Token) (w
     → AllPass (is_plain names) w.prepared.list → AllPass (is_plain names) next.prepared.list
 stays-plain names files line w next stays placed held passed = (stays files (is_plain names) placed (with-test names files any_token (is_plain names) w held passed)).passed
 
-barrier-is : (names files : List (List ℕ)) (line : List Token) (d : Option Directive) → d ≡ directive_at names line → ends_run (seen_line names files line).directive ≡ ends_run d
-barrier-is names files line d at = ap ends_run (directive-files names files line ∙ sym at)
+directive-is : (names files : List (List ℕ)) (line : List Token) (d : Option Directive) → d ≡ directive_at names line → (seen_line names files line).directive ≡ d
+directive-is names files line d at = directive-files names files line ∙ sym at
 
--- a line that ends no run
-pub takes-alone : {names : List (List ℕ)} (files : List (List ℕ)) {old new : Sets} {w next : Walk} (line : List Token) (d : Option Directive) → d ≡ directive_at names line → ends_run d ≡ false
-    → IsTable old names w.table → SimulatesStep names old w new next (λ files config m. step m (seen_line names files line))
-    → SimulatesOneOf files names old w names new next (λ config m n. Takes m (seen_line names files line) n)
-takes-alone {names} files line d at alone is moved = record {
-  owns = moved.owns;
-  table = moved.table is;
-  at = λ config m listed simulates. record {
-    machine = step m (seen_line names files line);
-    done = takes (barrier-is names files line d at ∙ alone);
-    simulates = moved.at files config m listed is simulates;
-  };
+-- a conditional directive that decides nothing here
+pub decides-unasked : {names : List (List ℕ)} (files : List (List ℕ)) {old new : Sets} {w next : Walk} (line : List Token) (c : Conditional) → Some (directive.Conditional c) ≡ directive_at names line
+    → ((m : Machine) → asks_by m (Some c) ≡ false) → IsTable old names w.table → SimulatesStep names old w new next (λ paths config m. step_by m (seen_line names paths line) (Ok false) (Some c))
+    → (x : Context) → SimulatesOneOf files names old w names new next (λ config m n. Decided x m (seen_line names files line) n)
+decides-unasked {names} files line c at quiet is moved x =
+    let named : conditional_in (seen_line names files line).directive ≡ Some c = ap conditional_in (directive-is names files line (Some (directive.Conditional c)) at) in
+    record {
+      owns = moved.owns;
+      table = moved.table is;
+      at = λ config m listed simulates. record {
+        machine = step_by m (seen_line names files line) (Ok false) (Some c);
+        done = record {
+          decision = Ok false;
+          answers = record { asked = λ asks. let both = sym (quiet m) ∙ (sym (ap (asks_by m) named) ∙ asks) in absurd (cc); not_asked = λ _. refl };
+          is = ap (step_by m (seen_line names files line) (Ok false)) (sym named);
+        };
+        simulates = moved.at files config m listed is simulates;
+      };
+    }
+
+-- a conditional directive ends no run
+pub takes-decided : {names more : List (List ℕ)} {old new : Sets} {w next : Walk} (files : List (List ℕ)) (line : List Token) (c : Conditional) → Some (directive.Conditional c) ≡ directive_at names line
+    → (x : Context) → SimulatesOneOf files names old w more new next (λ config m n. Decided x m (seen_line names files line) n)
+    → SimulatesOneOf files names old w more new next (λ config m n. Takes x m (seen_line names files line) n)
+takes-decided {names} files line c at x decides = record {
+  owns = decides.owns;
+  table = decides.table;
+  at = λ config m listed simulates.
+      let a = decides.at config m listed simulates in
+      let l = seen_line names files line in
+      record {
+        machine = a.machine;
+        done = subst (Takes x m l) (sym a.done.is) (takes a.done.decision (ap ends_run (directive-is names files line (Some (directive.Conditional c)) at)) a.done.answers);
+        simulates = a.simulates;
+      };
 }
 
--- a line that ends the runs, which were closed
-pub takes-closed : {names more : List (List ℕ)} (files : List (List ℕ)) {old mid new : Sets} {w v next : Walk} (line : List Token) (d : Option Directive) → d ≡ directive_at names line → ends_run d ≡ true
-    → Extends names more → All (IsHeld names) line → Keeps old mid → SimulatesOneOf files names old w more mid v (λ config m n. Closed m n)
-    → SimulatesStep more mid v new next (λ files config m. step m (seen_line more files line))
-    → SimulatesOneOf files names old w more new next (λ config m n. Takes m (seen_line names files line) n)
-takes-closed {names} {more} files {new = new} {next = next} line d at barrier grows held keeps closing moved = record {
+-- a line that is no conditional directive and ends no run
+pub takes-plain : {names : List (List ℕ)} (files : List (List ℕ)) {old new : Sets} {w next : Walk} (line : List Token) (d : Option Directive) → d ≡ directive_at names line → ends_run d ≡ false → conditional_in d ≡ None
+    → IsTable old names w.table → SimulatesStep names old w new next (λ paths config m. plain_by m (seen_line names paths line) d)
+    → (x : Context) → SimulatesOneOf files names old w names new next (λ config m n. Takes x m (seen_line names files line) n)
+takes-plain {names} files line d at mild none is moved x =
+    let l = seen_line names files line in
+    let named : conditional_in l.directive ≡ None = ap conditional_in (directive-is names files line d at) ∙ none in
+    record {
+      owns = moved.owns;
+      table = moved.table is;
+      at = λ config m listed simulates. record {
+        machine = plain_by m l d;
+        done = subst (Takes x m l) (sym (plain-is names files line m (Ok false) d at none))
+            (takes (Ok false) (ap ends_run (directive-is names files line d at) ∙ mild)
+            (record { asked = λ asks. let both = sym (ap (asks_by m) named) ∙ asks in absurd (cc); not_asked = λ _. refl }));
+        simulates = moved.at files config m listed is simulates;
+      };
+    }
+
+-- a directive that ends the runs, which were closed
+pub takes-closed : {names more : List (List ℕ)} (files : List (List ℕ)) {old mid new : Sets} {w v next : Walk} (line : List Token) (d : Directive) → Some d ≡ directive_at names line
+    → is_barrier d ≡ true → is_said d ≡ false → conditional_in (Some d) ≡ None → Extends names more → All (IsHeld names) line → Keeps old mid
+    → SimulatesOneOf files names old w more mid v (λ config m n. Closed m n) → SimulatesStep more mid v new next (λ paths config m. plain_by m (seen_line more paths line) (Some d))
+    → (x : Context) → SimulatesOneOf files names old w more new next (λ config m n. Takes x m (seen_line names files line) n)
+takes-closed {names} {more} files {new = new} {next = next} line d at barrier unsaid none grows held keeps closing moved x = record {
   owns = moved.owns;
   table = moved.table closing.table;
   at = λ config m listed simulates.
       let a = closing.at config m listed simulates in
+      let l = seen_line names files line in
       record {
-        machine = step a.machine (seen_line names files line);
-        done = line-closed (barrier-is names files line d at ∙ barrier) a.done;
-        simulates = subst (λ l. Simulates new more files next config (step a.machine l)) (line-grown files grows line held)
+        machine = step a.machine l (Ok false);
+        done = subst (λ k. Takes x m l (step k l (Ok false))) (sym a.done.is) (closes d a.done.answer (directive-is names files line (Some d) at) barrier unsaid a.done.expands);
+        simulates = subst (Simulates new more files next config) (ap (λ k. plain_by a.machine k (Some d)) (line-grown files grows line held) ∙ plain-is names files line a.machine (Ok false) (Some d) at none)
             (moved.at files config a.machine (IsConfig-Keeps keeps listed) closing.table a.simulates);
       };
 }
+
+-- a directive that is carried out by what it says, after the runs were closed
+pub takes-carried : {names more much : List (List ℕ)} (files : List (List ℕ)) {old mid new : Sets} {w v next : Walk} (line : List Token) (d : Directive) → Some d ≡ directive_at names line
+    → is_said d ≡ true → Extends names more → All (IsHeld names) line → Keeps old mid → SimulatesOneOf files names old w more mid v (λ config m n. Closed m n) → (x : Context)
+    → SimulatesOneOf files more mid v much new next (λ config m n. Carried x (seen_line more files line) d m n)
+    → SimulatesOneOf files names old w much new next (λ config m n. Takes x m (seen_line names files line) n)
+takes-carried {names} {more} files line d at said grows held keeps closing x carried = record {
+  owns = carried.owns;
+  table = carried.table;
+  at = λ config m listed simulates.
+      let a = closing.at config m listed simulates in
+      let b = carried.at config a.machine (IsConfig-Keeps keeps listed) a.simulates in
+      let l = seen_line names files line in
+      record {
+        machine = b.machine;
+        done = by m a.machine b.machine a.done (subst (λ k. Carried x k d a.machine b.machine) (line-grown files grows line held) b.done);
+        simulates = b.simulates;
+      };
+}
+  where
+    by : (m n o : Machine) → Closed m n → Carried x (seen_line names files line) d n o → Takes x m (seen_line names files line) o
+    by m n o was does =
+        let l = seen_line names files line in
+        let end = subst (λ k. Carried x l d k o) was.is does in
+        subst (Takes x m l) (sym end.is) (carries d was.answer end.end (directive-is names files line (Some d) at) said was.expands end.carries)
+
+-- ---- which directives end runs, and which of them are carried out by what they say
+
+-- a barrier is no conditional directive
+pub barrier-unconditional : (d : Directive) → is_barrier d ≡ true → conditional_in (Some d) ≡ None
+barrier-unconditional (directive.Conditional c) barrier = absurd (cc)
+barrier-unconditional directive.Include barrier = refl
+barrier-unconditional directive.Define barrier = refl
+barrier-unconditional directive.Undef barrier = refl
+barrier-unconditional directive.Line barrier = refl
+barrier-unconditional directive.Error barrier = refl
+barrier-unconditional directive.Pragma barrier = refl
+barrier-unconditional directive.Warning barrier = refl
+barrier-unconditional directive.Null barrier = refl
+barrier-unconditional directive.Unknown barrier = refl
+
+-- only #include and #line are carried out by what they say
+pub unsaid : (d : Directive) → (d ≡ directive.Include → ⊥) → (d ≡ directive.Line → ⊥) → is_said d ≡ false
+unsaid (directive.Conditional c) include line = refl
+unsaid directive.Include include line = absurd (include refl)
+unsaid directive.Define include line = refl
+unsaid directive.Undef include line = refl
+unsaid directive.Line include line = absurd (line refl)
+unsaid directive.Error include line = refl
+unsaid directive.Pragma include line = refl
+unsaid directive.Warning include line = refl
+unsaid directive.Null include line = refl
+unsaid directive.Unknown include line = refl
+
+-- the directive that ends the runs
+pub barrier-found : (d : Option Directive) (b : Directive) → Some b ≡ (if ends_run d then d else None) → (Some b ≡ d) × (is_barrier b ≡ true)
+barrier-found None b e = absurd (cc)
+barrier-found (Some d) b e = by (is_barrier d) refl e
+  where
+    by : (t : Bool) → is_barrier d ≡ t → Some b ≡ (if t then Some d else None) → (Some b ≡ Some d) × (is_barrier b ≡ true)
+    by true is h = (h, ap ends_run h ∙ is)
+    by false is h = absurd (cc)
+
+pub barrier-missing : (d : Option Directive) → None ≡ (if ends_run d then d else None) → ends_run d ≡ false
+barrier-missing None e = refl
+barrier-missing (Some d) e = by (is_barrier d) refl e
+  where
+    by : (t : Bool) → is_barrier d ≡ t → None ≡ (if t then Some d else None) → is_barrier d ≡ false
+    by true is h = absurd (cc)
+    by false is h = is
+
+-- the conditional directive that a line is
+pub conditional-found : (d : Option Directive) (c : Conditional) → Some c ≡ conditional_in d → Some (directive.Conditional c) ≡ d
+conditional-found None c e = absurd (cc)
+conditional-found (Some (directive.Conditional k)) c e = ap (option_map directive.Conditional) e
+conditional-found (Some directive.Include) c e = absurd (cc)
+conditional-found (Some directive.Define) c e = absurd (cc)
+conditional-found (Some directive.Undef) c e = absurd (cc)
+conditional-found (Some directive.Line) c e = absurd (cc)
+conditional-found (Some directive.Error) c e = absurd (cc)
+conditional-found (Some directive.Pragma) c e = absurd (cc)
+conditional-found (Some directive.Warning) c e = absurd (cc)
+conditional-found (Some directive.Null) c e = absurd (cc)
+conditional-found (Some directive.Unknown) c e = absurd (cc)

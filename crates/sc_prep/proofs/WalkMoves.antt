@@ -13,17 +13,17 @@ use Rattle.sc_base.specs.declared.fault.Fault as base
 use Rattle.sc_base.specs.declared.id.Cond.{Cond}
 use Rattle.sc_prep.specs.declared.walk.Section.{Section}
 use Rattle.sc_prep.specs.declared.walk.Walk.{Walk}
-use Rattle.sc_prep.specs.Machine.{Machine, acts, acting, opened, next_branch, ended, turned, refusing, refusing_if, refusal, acting_unless, changing, defined_as, defined_over, is_taken, plain_by}
+use Rattle.sc_prep.specs.Machine.{Machine, acts, acting, opened, next_branch, ended, turned, refusing, refusing_if, refusal, acting_unless, changing, defined_as, defined_over, is_taken, plain_by, refusal_of}
 use Rattle.sc_prep.specs.Closes.{RefusesEach, has_none}
 use Rattle.sc_prep.specs.Simulates.{section_at, Simulates, OwnsSection, Owns, SimulatesStep}
 use Rattle.sc_lines.specs.Nests.{seen_line}
 use Rattle.std.specs.Map.{update}
 use Rattle.std.specs.Prelude.{◌↔◌, cond, Ok, Err}
-use Rattle.sc_model.specs.declared.cause.Cause.TheVariants.{BadDirective, Redefined, ProtectedName}
+use Rattle.sc_model.specs.declared.cause.Cause.TheVariants.{BadDirective, ErrorDirective, Redefined, ProtectedName}
 use Rattle.sc_model.specs.Bytes.{same_bytes}
 use Rattle.c11_directives.specs.declared.directive.Directive.{Directive}
 use Rattle.c11_directives.specs.declared.directive.Directive.TheVariants as directive
-use Rattle.c11_directives.specs.Pre.{State, with_text, undefined, with_macro, without_macro, with_macros, is_refused}
+use Rattle.c11_directives.specs.Pre.{State, with_text, undefined, with_macro, without_macro, with_macros}
 use Rattle.c11_macros.specs.Defines.{Defined, is_protected}
 use Rattle.c11_macros.specs.Same.{same_definition}
 use Rattle.c11_macros.proofs.SameLaws.{same_definition-true, same_definition-false}
@@ -33,7 +33,7 @@ use Rattle.sc_guarded.proofs.ItemLemmas.{under, map-one, items_at-append, items_
 use Rattle.sc_guarded.specs.Items.{items_at, faults_at, seen_fault}
 use Rattle.sc_base.specs.declared.token.Token.{Token}
 use Rattle.sc_base.specs.Seen.{seen}
-use Rattle.sc_model.proofs.SetLemmas.{IsConfig-Keeps, IsConfig-kept}
+use Rattle.sc_model.proofs.SetLemmas.{Denotes-Keeps, Denotes-self, IsConfig-Keeps, IsConfig-kept}
 use Rattle.sc_model.specs.Sets.{Sets, IsConfig, IsCond, IsNever, Denotes, Keeps}
 use Rattle.sc_prep.proofs.Machine.{inert_acting, inert_changing}
 use Rattle.sc_prep.proofs.RunLemmas.{denotes-as, is_empty-one}
@@ -76,7 +76,7 @@ module _ {old new : Sets} (keeps : Keeps old new) where
         let rest : map (section_at new config) xs ≡ map (section_at old config) xs = sections-by xs (All-tail (OwnsSection old) x xs all) in
         cc
 
-    sections-kept : (xs : List Section) → All (OwnsSection old) xs → map (section_at new config) (reverse xs) ≡ map (section_at old config) (reverse xs)
+    pub sections-kept : (xs : List Section) → All (OwnsSection old) xs → map (section_at new config) (reverse xs) ≡ map (section_at old config) (reverse xs)
     sections-kept xs all = map-reverse (section_at new config) xs ∙ (ap reverse (sections-by xs all) ∙ sym (map-reverse (section_at old config) xs))
 
   pub simulates-kept : (w : Walk) → Owns old w → (names files : List (List ℕ)) (config : List ℕ) (m : Machine) → IsConfig old.arities config → IsTable old names w.table
@@ -91,7 +91,7 @@ module _ {old new : Sets} (keeps : Keeps old new) where
       fault = ap (map (seen_fault files)) (faults_at-Keeps w.prepared.faults.items config keeps owns.prepared.faults listed) ∙ simulates.prepared.fault;
     };
     run = λ none. ap (map (seen names files)) (items_at-Keeps w.gathered config keeps owns.gathered listed) ∙ simulates.run none;
-    macros = λ name. macros_at-Keeps keeps is config name listed ∙ simulates.macros name;
+    macros = λ none name. macros_at-Keeps keeps is config name listed ∙ simulates.macros none name;
   }
 
 -- ---- a section begins
@@ -146,22 +146,22 @@ module _ {old new : Sets} (keeps : Keeps old new) (w : Walk) (owns : Owns old w)
       sym (sections-push old config rest section) ∙ (ap (λ xs. map (section_at old config) (reverse xs)) (sym popped) ∙ simulates.sections)
 
   -- The walk goes on in one of the section's groups.
-  turns : (names : List (List ℕ)) (group acting : Cond) (sections : Vec Section Global) → IsCond old group.0
-      → Denotes new acting.0 (λ c. old.has group.0 c && old.has w.prepared.live.0 c) → All (OwnsSection new) sections.items → (next : Machine → Machine)
+  turns : (names : List (List ℕ)) (g : List ℕ → Bool) (group acting : Cond) (sections : Vec Section Global) → Denotes new group.0 g
+      → Denotes new acting.0 (λ c. g c && old.has w.prepared.live.0 c) → All (OwnsSection new) sections.items → (next : List ℕ → Machine → Machine)
       → ((files : List (List ℕ)) (config : List ℕ) (m : Machine) → IsConfig old.arities config → IsTable old names w.table → Simulates old names files w config m
-      → turned m (old.has group.0 config) (map (section_at new config) (reverse sections.items)) ≡ next m)
-      → SimulatesStep names old w new (record w { group = group; acting = acting; sections = sections }) (λ files config m. next m)
-  turns names group acting sections own dl owned next becomes =
+      → turned m (g config) (map (section_at new config) (reverse sections.items)) ≡ next config m)
+      → SimulatesStep names old w new (record w { group = group; acting = acting; sections = sections }) (λ files config m. next config m)
+  turns names g group acting sections dg dl owned next becomes =
       let kept = owns-kept keeps w owns in
       record {
-        owns = record { group = keeps.own group.0 own; acting = dl.own; sections = owned; gathered = kept.gathered; prepared = kept.prepared };
+        owns = record { group = dg.own; acting = dl.own; sections = owned; gathered = kept.gathered; prepared = kept.prepared };
         table = IsTable-Keeps keeps;
         at = λ files config m listed is simulates.
             let same = simulates-kept keeps w owns names files config m listed is simulates in
             subst (Simulates new names files (record w { group = group; acting = acting; sections = sections }) config) (becomes files config m listed is simulates)
             (record {
-              active = keeps.at group.0 config own listed;
-              acting = dl.at config (IsConfig-Keeps keeps listed) ∙ ap (λ b. old.has group.0 config && b) simulates.prepared.live;
+              active = dg.at config (IsConfig-Keeps keeps listed);
+              acting = dl.at config (IsConfig-Keeps keeps listed) ∙ ap (λ b. g config && b) simulates.prepared.live;
               sections = refl;
               prepared = record { live = same.prepared.live; output = same.prepared.output; fault = same.prepared.fault };
               run = same.run;
@@ -169,33 +169,43 @@ module _ {old new : Sets} (keeps : Keeps old new) (w : Walk) (owns : Owns old w)
             });
       }
 
+  branch_as : (m : Machine) (t : Bool) (s : Bool × Bool) (ss : List (Bool × Bool)) → turned m (s.1 && t) ((s.0, s.1 && not t) ∷ ss) ≡ next_branch m t (s ∷ ss)
+  branch_as m true (around, true) ss = refl
+  branch_as m true (around, false) ss = refl
+  branch_as m false (around, true) ss = refl
+  branch_as m false (around, false) ss = refl
+
   -- The next branch begins.
-  pub branches : (names : List (List ℕ)) (never acting : Cond) (sections : Vec Section Global) → sections.items ≡ rest ++ record { around = section.around; untaken = never } ∷ []
-      → Denotes new never.0 (λ _. false) → Denotes new acting.0 (λ c. old.has section.untaken.0 c && old.has w.prepared.live.0 c)
-      → SimulatesStep names old w new (record w { group = section.untaken; acting = acting; sections = sections }) (λ files config m. next_branch m m.sections)
-  branches names never acting sections items dn dl =
-      let taken : Section = record { around = section.around; untaken = never } in
-      turns names section.untaken acting sections owns-innermost.untaken dl
+  pub branches : (names : List (List ℕ)) (t : List ℕ → Bool) (group untaken acting : Cond) (sections : Vec Section Global)
+      → sections.items ≡ rest ++ record { around = section.around; untaken = untaken } ∷ []
+      → Denotes new group.0 (λ c. old.has section.untaken.0 c && t c)
+      → Denotes new untaken.0 (λ c. old.has section.untaken.0 c && not (t c))
+      → Denotes new acting.0 (λ c. (old.has section.untaken.0 c && t c) && old.has w.prepared.live.0 c)
+      → SimulatesStep names old w new (record w { group = group; acting = acting; sections = sections }) (λ files config m. next_branch m (t config) m.sections)
+  branches names t group untaken acting sections items dg du dl =
+      let taken : Section = record { around = section.around; untaken = untaken } in
+      turns names (λ c. old.has section.untaken.0 c && t c) group acting sections dg dl
       (subst (All (OwnsSection new)) (sym items) (All-push (OwnsSection new) rest taken
-      (All-weaker (OwnsSection old) (OwnsSection new) (section-kept keeps) rest owns-rest) (record { around = keeps.own section.around.0 owns-innermost.around; untaken = dn.own })))
-      (λ m. next_branch m m.sections)
+      (All-weaker (OwnsSection old) (OwnsSection new) (section-kept keeps) rest owns-rest) (record { around = keeps.own section.around.0 owns-innermost.around; untaken = du.own })))
+      (λ config m. next_branch m (t config) m.sections)
       (λ files config m listed is simulates.
-      ap (λ ss. turned m (old.has section.untaken.0 config) ss)
+      ap (λ ss. turned m (old.has section.untaken.0 config && t config) ss)
       (ap (λ xs. map (section_at new config) (reverse xs)) items
       ∙ (sections-push new config rest taken
-      ∙ (ap (λ ss. (new.has section.around.0 config, new.has never.0 config) ∷ ss) (sections-kept keeps config listed rest owns-rest)
-      ∙ (ap (λ b. (b, new.has never.0 config) ∷ map (section_at old config) (reverse rest)) (keeps.at section.around.0 config owns-innermost.around listed)
-      ∙ ap (λ b. (old.has section.around.0 config, b) ∷ map (section_at old config) (reverse rest)) (dn.at config (IsConfig-Keeps keeps listed))))))
-      ∙ ap (next_branch m) (innermost names files config m simulates))
+      ∙ (ap (λ ss. (new.has section.around.0 config, new.has untaken.0 config) ∷ ss) (sections-kept keeps config listed rest owns-rest)
+      ∙ (ap (λ b. (b, new.has untaken.0 config) ∷ map (section_at old config) (reverse rest)) (keeps.at section.around.0 config owns-innermost.around listed)
+      ∙ ap (λ b. (old.has section.around.0 config, b) ∷ map (section_at old config) (reverse rest)) (du.at config (IsConfig-Keeps keeps listed))))))
+      ∙ (branch_as m (t config) (section_at old config section) (map (section_at old config) (reverse rest))
+      ∙ ap (next_branch m (t config)) (innermost names files config m simulates)))
 
   -- The section ends.
   pub ends : (names : List (List ℕ)) (acting : Cond) (sections : Vec Section Global) → sections.items ≡ rest
       → Denotes new acting.0 (λ c. old.has section.around.0 c && old.has w.prepared.live.0 c)
       → SimulatesStep names old w new (record w { group = section.around; acting = acting; sections = sections }) (λ files config m. ended m m.sections)
   ends names acting sections items dl =
-      turns names section.around acting sections owns-innermost.around dl
+      turns names (old.has section.around.0) section.around acting sections (Denotes-Keeps keeps (Denotes-self old section.around.0 owns-innermost.around)) dl
       (subst (All (OwnsSection new)) (sym items) (All-weaker (OwnsSection old) (OwnsSection new) (section-kept keeps) rest owns-rest))
-      (λ m. ended m m.sections)
+      (λ config m. ended m m.sections)
       (λ files config m listed is simulates.
       ap (λ ss. turned m (old.has section.around.0 config) ss) (ap (λ xs. map (section_at new config) (reverse xs)) items ∙ sections-kept keeps config listed rest owns-rest)
       ∙ ap (ended m) (innermost names files config m simulates))
@@ -283,7 +293,7 @@ refuses names {old} {new} keeps w owns part t cause token tokens next dp refused
                   ∙ fault_after (t config && acts m) m.fault x (acts_none (t config) m.active m.fault)))));
             };
             run = λ fault_none. same.run (none_before (t config && acts m) m.fault x fault_none);
-            macros = same.macros;
+            macros = λ fault_none. same.macros (none_before (t config && acts m) m.fault x fault_none);
           };
     })
 
@@ -347,7 +357,7 @@ puts names s w owns tokens list items =
             ∙ (chosen_end (seen names files) (acts m) (items_at s w.gathered config) tokens
             ∙ (ap (λ xs. if acts m then xs ++ map (seen names files) tokens else xs) (simulates.run none)
             ∙ text_after (acts m) m.state (seen_line names files tokens))));
-        macros = λ name. simulates.macros name ∙ sym (ap (λ f. f name) (text_macros (acts m) m.state (seen_line names files tokens)));
+        macros = λ none name. simulates.macros none name ∙ sym (ap (λ f. f name) (text_macros (acts m) m.state (seen_line names files tokens)));
       };
     }
 
@@ -418,7 +428,7 @@ changes-macros names {old} {new} keeps w owns table t becomes is_table changed =
               fault = same.prepared.fault;
             };
             run = λ none. same.run none ∙ changed_run (not (t config) && acts m) m.state next;
-            macros = λ name. changed config listed m.state.macros simulates.macros name
+            macros = λ none name. changed config listed m.state.macros (simulates.macros none) name
                 ∙ (ap (λ b. if not (t config) && b then next name else m.state.macros name) simulates.acting ∙ changed_macros (not (t config) && acts m) m.state next name);
           };
     }
@@ -437,17 +447,13 @@ same-macros names {old} {new} keeps w owns table is_table still =
       table = λ _. is_table;
       at = λ files config m listed is simulates.
           let same = simulates-kept keeps w owns names files config m listed is simulates in
-          record { active = same.active; acting = same.acting; sections = same.sections; prepared = same.prepared; run = same.run; macros = λ name. still config name listed ∙ simulates.macros name };
+          record { active = same.active; acting = same.acting; sections = same.sections; prepared = same.prepared; run = same.run; macros = λ none name. still config name listed ∙ simulates.macros none name };
     }
 
 -- what a table says stays as the store grows further
 pub still-after : {old mid new : Sets} {names : List (List ℕ)} (was table : MacroTable) → Keeps old mid → Keeps mid new → IsTable mid names table
     → IsStill old mid names was table → IsStill old new names was table
 still-after was table first later is still = λ config text listed. macros_at-Keeps later is config text (IsConfig-Keeps first listed) ∙ still config text listed
-
--- a section that a name opens where the table has the machine's macros
-pub taken-as : (m : Machine) (macros : Macros) (wanted : Bool) (name : List ℕ) → macros name ≡ m.state.macros name → opened m (is_taken macros wanted name) ≡ opened m (is_taken m.state.macros wanted name)
-taken-as m macros wanted name same = ap (λ d. opened m (if wanted then is_some d else not (is_some d))) same
 
 -- ---- a macro is defined, or taken back
 
@@ -468,11 +474,12 @@ accepted-over macros d (Some was) same = by (same_definition was d.definition) r
     by false e = absurd (same (same_definition-false was d.definition e))
 
 -- where a definition is refused, and else where the line does something, the machine goes as its line says
-pub defines-as : (m : Machine) (l : Line) (macros : Macros) (d : Defined) (t : Bool) → macros d.name ≡ m.state.macros d.name
+pub defines-as : (m : Machine) (l : Line) (macros : Macros) (d : Defined) (t : Bool) → (m.fault ≡ None → macros d.name ≡ m.state.macros d.name)
     → ((t ≡ true) ↔ ((acts m ≡ true) × IsOther d.definition (macros d.name)))
     → refusing_if t (acting_unless t m (λ s. with_macros s (with_macro s.macros d))) l Redefined ≡ changing m l (defined_as m.state.macros (Ok d))
 defines-as m l macros d true same is =
-    let other = subst (IsOther d.definition) same (is.0 refl).1 in
+    let found = is.0 refl in
+    let other = subst (IsOther d.definition) (same (acts_none true m.active m.fault found.0)) found.1 in
     ap (changing m l) (sym (refused-over m.state.macros d (m.state.macros d.name) other))
 defines-as m l macros d false same is = by (acts m) refl
   where
@@ -482,7 +489,7 @@ defines-as m l macros d false same is = by (acts m) refl
     by : (b : Bool) → acts m ≡ b → acting m (λ s. with_macros s (with_macro s.macros d)) ≡ changing m l (defined_as m.state.macros (Ok d))
     by true e =
         ap (changing m l) (sym (accepted-over m.state.macros d (m.state.macros d.name)
-        (λ other. let wrong = is.1 (e, subst (IsOther d.definition) (sym same) other) in cc)))
+        (λ other. let wrong = is.1 (e, subst (IsOther d.definition) (sym (same (acts_none true m.active m.fault e))) other) in cc)))
     by false e = inert_acting m (λ s. with_macros s (with_macro s.macros d)) e ∙ sym (inert_changing m l (defined_as m.state.macros (Ok d)) e)
 
 pub undefines-as : (m : Machine) (l : Line) (name : List ℕ) (t : Bool)
@@ -511,21 +518,33 @@ and-swapped true false = refl
 and-swapped false true = refl
 and-swapped false false = refl
 
+-- a section that a name opens where the table has the machine's macros
+pub taken-as : (m : Machine) (macros : Macros) (wanted : Bool) (name : List ℕ) (b : Bool) → b ≡ acts m → (m.fault ≡ None → macros name ≡ m.state.macros name)
+    → opened m (is_taken macros wanted name && b) ≡ opened m (acts m && is_taken m.state.macros wanted name)
+taken-as m macros wanted name b is same = ap (opened m) (ap (λ a. is_taken macros wanted name && a) is ∙ by (acts m) refl)
+  where
+    by : (a : Bool) → acts m ≡ a → (is_taken macros wanted name && a) ≡ (a && is_taken m.state.macros wanted name)
+    by true e =
+        and-swapped (is_taken macros wanted name) true
+        ∙ ap (λ (d : Option Definition). if wanted then is_some d else not (is_some d)) (same (acts_none true m.active m.fault e))
+    by false e = and-swapped (is_taken macros wanted name) false
+
 -- ---- a directive that has no effect, or is not carried out
 
-pub refused-by : (m : Machine) (l : Line) (d : Directive) → is_refused d ≡ true → refusing m l BadDirective ≡ plain_by m l (Some d)
-refused-by m l (directive.Conditional c) e = cc
-refused-by m l directive.Include e = refl
-refused-by m l directive.Define e = cc
-refused-by m l directive.Undef e = cc
-refused-by m l directive.Line e = refl
-refused-by m l directive.Error e = refl
-refused-by m l directive.Pragma e = cc
-refused-by m l directive.Warning e = cc
-refused-by m l directive.Null e = cc
-refused-by m l directive.Unknown e = refl
+-- a directive that is refused for this cause, or that has no effect
+pub refused-as : (m : Machine) (l : Line) (d : Directive) (cause : Cause) → refusal_of d ≡ Some cause → refusing m l cause ≡ plain_by m l (Some d)
+refused-as m l (directive.Conditional c) cause e = cc
+refused-as m l directive.Include cause e = let same : BadDirective ≡ cause = cc in ap (refusing m l) (sym same)
+refused-as m l directive.Define cause e = cc
+refused-as m l directive.Undef cause e = cc
+refused-as m l directive.Line cause e = let same : BadDirective ≡ cause = cc in ap (refusing m l) (sym same)
+refused-as m l directive.Error cause e = let same : ErrorDirective ≡ cause = cc in ap (refusing m l) (sym same)
+refused-as m l directive.Pragma cause e = cc
+refused-as m l directive.Warning cause e = cc
+refused-as m l directive.Null cause e = cc
+refused-as m l directive.Unknown cause e = let same : BadDirective ≡ cause = cc in ap (refusing m l) (sym same)
 
-pub unchanged-by : (names : List (List ℕ)) (s : Sets) (w : Walk) → Owns s w → (line : List Token) (d : Directive) → is_refused d ≡ false → (d ≡ directive.Define → ⊥) → (d ≡ directive.Undef → ⊥)
+pub unchanged-by : (names : List (List ℕ)) (s : Sets) (w : Walk) → Owns s w → (line : List Token) (d : Directive) → refusal_of d ≡ None → (d ≡ directive.Define → ⊥) → (d ≡ directive.Undef → ⊥)
     → SimulatesStep names s w s w (λ files config m. plain_by m (seen_line names files line) (Some d))
 unchanged-by names s w owns line (directive.Conditional c) e n u = stays names s w owns
 unchanged-by names s w owns line directive.Include e n u = cc
@@ -593,7 +612,7 @@ module _ (names : List (List ℕ)) {old mid new : Sets} (keeps : Keeps old mid) 
       step-as (λ files config m. refusing_if (t config) (acting_unless (t config) m step) (seen_line names files line) Redefined)
       (λ files config m. changing m (seen_line names files line) (defined_as m.state.macros (Ok d)))
       (λ files config m listed simulates.
-      defines-as m (seen_line names files line) (macros_at old names w.table config) d (t config) (simulates.macros d.name)
+      defines-as m (seen_line names files line) (macros_at old names w.table config) d (t config) (λ clean. simulates.macros clean d.name)
       (subst (λ b. (t config ≡ true) ↔ ((b ≡ true) × IsOther d.definition (macros_at old names w.table config d.name))) simulates.acting (is config listed)))
       (step-then (λ files config m. acting_unless (t config) m step) (λ files config m. refusing_if (t config) m (seen_line names files line) Redefined) keeps
       (changes-macros names keeps w owns table t (λ macros. with_macro macros d) is_table

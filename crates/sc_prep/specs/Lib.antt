@@ -1,5 +1,12 @@
+pub mod Alternatives
 pub mod Closes
+pub mod Contents
+pub mod Entering
+pub mod Expressions
+pub mod Finding
+pub mod Includes
 pub mod Machine
+pub mod Naming
 pub mod Passes
 pub mod Preprocesses
 pub mod Printable

@@ -2,14 +2,15 @@
 use Rattle.std.specs.Prelude.{◌≡◌, ℕ, ◌&&◌, not, Bool, true, false, List, [], ◌∷◌, Option, Some, None, is_some, is_none, unwrap_or, Result, Ok, Err, if◌then◌else◌}
 use Rattle.std.specs.Option.{option_map}
 use Rattle.sc_model.specs.declared.cause.Cause.{Cause}
-use Rattle.sc_model.specs.declared.cause.Cause.TheVariants.{BadDirective, Redefined}
+use Rattle.sc_model.specs.declared.cause.Cause.TheVariants.{BadDirective, ErrorDirective, Redefined}
 use Rattle.c11_directives.specs.declared.directive.Conditional.{Conditional}
 use Rattle.c11_directives.specs.declared.directive.Conditional.TheVariants.{If, Ifdef, Ifndef, Elif, Else, Endif}
 use Rattle.c11_directives.specs.declared.directive.Directive.{Directive}
 use Rattle.c11_directives.specs.declared.directive.Directive.TheVariants as directive
 use Rattle.c11_directives.specs.Lines.{Line, conditional_of, hash_of}
 use Rattle.sc_model.specs.Fault.{Fault, fault_at, first_place}
-use Rattle.c11_directives.specs.Pre.{State, place_in, with_text, put_out, operand_of, with_macro, undefined, is_barrier, is_ignored, behind_name, with_macros}
+use Rattle.c11_directives.specs.Behind.{behind_name, Says}
+use Rattle.c11_directives.specs.Pre.{Context, State, Carries, Decides, place_in, with_text, put_out, operand_of, with_macro, undefined, is_barrier, is_said, with_macros}
 use Rattle.c11_macros.specs.Defines.{Defined, reads}
 use Rattle.c11_macros.specs.Macros.{Definition, Macros}
 use Rattle.c11_macros.specs.Same.{same_definition}
@@ -60,12 +61,23 @@ opened m test = turned m (m.active && test) ((m.active, m.active && not test) �
 
 abbrev pub opened_by_name : Machine → Line → (List ℕ → Bool) → Option (List ℕ) → Machine
 opened_by_name m l test None = opened (refusing m l BadDirective) false
-opened_by_name m l test (Some name) = opened m (test name)
+opened_by_name m l test (Some name) = opened m (acts m && test name)
 
--- the next branch of the innermost section
-abbrev pub next_branch : Machine → List (Bool × Bool) → Machine
-next_branch m [] = m
-next_branch m (s ∷ ss) = turned m s.1 ((s.0, false) ∷ ss)
+-- a section begins with this decision
+abbrev pub opened_as : Machine → Result Bool Fault → Machine
+opened_as m (Ok test) = opened m test
+opened_as m (Err fault) = opened (record m { fault = Some fault }) false
+
+-- The next branch of the innermost section is taken, if none was taken yet, or passed over.
+abbrev pub next_branch : Machine → Bool → List (Bool × Bool) → Machine
+next_branch m test [] = m
+next_branch m true (s ∷ ss) = turned m s.1 ((s.0, false) ∷ ss)
+next_branch m false (s ∷ ss) = turned m false (s ∷ ss)
+
+-- the next branch comes with this decision
+abbrev pub branched_as : Machine → Result Bool Fault → Machine
+branched_as m (Ok test) = next_branch m test m.sections
+branched_as m (Err fault) = next_branch (record m { fault = Some fault }) false m.sections
 
 -- the innermost section ends
 abbrev pub ended : Machine → List (Bool × Bool) → Machine
@@ -86,11 +98,23 @@ abbrev pub defined_as : Macros → Result Defined Cause → Result Macros Cause
 defined_as macros (Ok d) = defined_over macros d (macros d.name)
 defined_as macros (Err cause) = Err cause
 
+-- why a directive is refused that changes no macro
+abbrev pub refusal_of : Directive → Option Cause
+refusal_of directive.Error = Some ErrorDirective
+refusal_of directive.Unknown = Some BadDirective
+refusal_of directive.Include = Some BadDirective
+refusal_of directive.Line = Some BadDirective
+refusal_of _ = None
+
+abbrev pub refused_by : Macros → Option Cause → Result Macros Cause
+refused_by macros None = Ok macros
+refused_by macros (Some cause) = Err cause
+
 -- what a directive makes of the macros, or why it is refused
 abbrev pub changed_by : Macros → Line → Directive → Result Macros Cause
 changed_by macros l directive.Define = defined_as macros (reads (behind_name l))
 changed_by macros l directive.Undef = undefined macros (operand_of l)
-changed_by macros l d = if is_ignored d then Ok macros else Err BadDirective
+changed_by macros l d = refused_by macros (refusal_of d)
 
 -- behind a barrier the macros become these, or the line is refused
 abbrev pub changing : Machine → Line → Result Macros Cause → Machine
@@ -109,17 +133,29 @@ plain_step m l = plain_by m l l.directive
 abbrev pub is_taken : Macros → Bool → List ℕ → Bool
 is_taken macros wanted name = if wanted then is_some (macros name) else not (is_some (macros name))
 
-abbrev pub step_by : Machine → Line → Option Conditional → Machine
-step_by m l None = plain_step m l
-step_by m l (Some If) = opened (refusing m l BadDirective) false
-step_by m l (Some Ifdef) = opened_by_name m l (is_taken m.state.macros true) (operand_of l)
-step_by m l (Some Ifndef) = opened_by_name m l (is_taken m.state.macros false) (operand_of l)
-step_by m l (Some Elif) = refusing (next_branch m m.sections) l BadDirective
-step_by m l (Some Else) = next_branch m m.sections
-step_by m l (Some Endif) = ended m m.sections
+-- what a line does whose decision is this, where it has one
+abbrev pub step_by : Machine → Line → Result Bool Fault → Option Conditional → Machine
+step_by m l r None = plain_step m l
+step_by m l r (Some If) = opened_as m r
+step_by m l r (Some Ifdef) = opened_by_name m l (is_taken m.state.macros true) (operand_of l)
+step_by m l r (Some Ifndef) = opened_by_name m l (is_taken m.state.macros false) (operand_of l)
+step_by m l r (Some Elif) = branched_as m r
+step_by m l r (Some Else) = next_branch m true m.sections
+step_by m l r (Some Endif) = ended m m.sections
 
-abbrev pub step : Machine → Line → Machine
-step m l = step_by m l (conditional_of l)
+abbrev pub step : Machine → Line → Result Bool Fault → Machine
+step m l r = step_by m l r (conditional_of l)
+
+-- The expression of a line is evaluated: that of an #elif only where its section took no branch.
+abbrev pub asks_by : Machine → Option Conditional → Bool
+asks_by m (Some If) = acts m
+asks_by m (Some Elif) = acts (next_branch m true m.sections)
+asks_by m _ = false
+
+-- what the line decides where its expression is evaluated; elsewhere it takes nothing
+pub record Answers (x : Context) (m : Machine) (l : Line) (r : Result Bool Fault) : Type 0 where
+  pub asked : asks_by m (conditional_of l) ≡ true → Decides x m.state l r
+  pub not_asked : asks_by m (conditional_of l) ≡ false → r ≡ Ok false
 
 -- the line ends the run that stands before it
 abbrev pub ends_run : Option Directive → Bool
@@ -130,15 +166,45 @@ ends_run (Some d) = is_barrier d
 abbrev pub RunExpands : Machine → Result (List Token) Fault → Type 0
 RunExpands m r = acts m ≡ true → TextExpands m.state.macros m.state.run r
 
+-- what a directive comes to, where the machine does something
+abbrev pub arriving : Machine → Result State Fault → Machine
+arriving m (Ok s) = acting m (λ _. s)
+arriving m (Err fault) = record m { fault = if acts m then Some fault else m.fault }
+
+-- the directive is carried out by what it says, where the machine does something
+abbrev pub CarriesOut : Context → Machine → Line → Directive → Result State Fault → Type 0
+CarriesOut x m l d e = acts m ≡ true → Carries x l m.state d e
+
+-- what the line decides was done
+pub record Decided (x : Context) (m : Machine) (l : Line) (n : Machine) : Type 0 where
+  pub decision : Result Bool Fault
+  pub answers : Answers x m l decision
+  pub is : n ≡ step m l decision
+
+-- what the directive comes to was done
+pub record Carried (x : Context) (l : Line) (d : Directive) (m n : Machine) : Type 0 where
+  pub end : Result State Fault
+  pub carries : CarriesOut x m l d end
+  pub is : n ≡ arriving m end
+
+-- The line says these tokens behind its name where the machine does something, or is refused.
+pub data SaysAt (l : Line) (m : Machine) (ts : List Token) : Machine → Type 0 where
+  inert : acts m ≡ false → ts ≡ [] → SaysAt l m ts m
+  said : acts m ≡ true → Says m.state.macros l (Ok ts) → SaysAt l m ts m
+  refused : (fault : Fault) → acts m ≡ true → Says m.state.macros l (Err fault) → SaysAt l m ts (arriving m (Err fault))
+
 -- what a line makes of the machine: a barrier closes the run first
-pub data Takes (m : Machine) (l : Line) : Machine → Type 0 where
-  takes : ends_run l.directive ≡ false → Takes m l (step m l)
-  closes : (r : Result (List Token) Fault) → ends_run l.directive ≡ true → RunExpands m r → Takes m l (step (closing_run m r) l)
+pub data Takes (x : Context) (m : Machine) (l : Line) : Machine → Type 0 where
+  takes : (r : Result Bool Fault) → ends_run l.directive ≡ false → Answers x m l r → Takes x m l (step m l r)
+  closes : (d : Directive) (r : Result (List Token) Fault) → l.directive ≡ Some d → is_barrier d ≡ true → is_said d ≡ false → RunExpands m r
+      → Takes x m l (step (closing_run m r) l (Ok false))
+  carries : (d : Directive) (r : Result (List Token) Fault) (e : Result State Fault) → l.directive ≡ Some d → is_said d ≡ true → RunExpands m r
+      → CarriesOut x (closing_run m r) l d e → Takes x m l (arriving (closing_run m r) e)
 
 -- the lines in order
-pub data Runs : Machine → List Line → Machine → Type 0 where
-  no_line : {m : Machine} → Runs m [] m
-  line : {l : Line} {ls : List Line} {m n o : Machine} → Takes m l n → Runs n ls o → Runs m (l ∷ ls) o
+pub data Runs (x : Context) : Machine → List Line → Machine → Type 0 where
+  no_line : {m : Machine} → Runs x m [] m
+  line : {l : Line} {ls : List Line} {m n o : Machine} → Takes x m l n → Runs x n ls o → Runs x m (l ∷ ls) o
 
 -- the machine before the first line
 abbrev pub start : State → Machine

@@ -50,3 +50,9 @@ abbrev pub Stops : List ℕ → ℕ → ℕ → ℕ → Stop → Type 0
 Stops arities limit old new (BranchesFull count) = StopsBy arities limit (BranchesFull count)
 Stops arities limit old new ReadFault = Rose old new
 Stops arities limit old new OutOfMemory = Unit {0}
+
+-- why a file gives nothing, by the count of reads that failed
+abbrev pub ReadsNothing : ℕ → ℕ → Stop → Type 0
+ReadsNothing old new (BranchesFull count) = ⊥
+ReadsNothing old new ReadFault = Rose old new
+ReadsNothing old new OutOfMemory = Unit {0}

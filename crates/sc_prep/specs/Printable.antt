@@ -1,5 +1,7 @@
 -- What can be printed of a file.
 use Rattle.std.specs.Prelude.{◌≡◌, ℕ, ◌<◌, ◌||◌, Bool, true, List, All, Ok, map}
+use Rattle.std.specs.List.{AllByRecursion}
+use Rattle.c11_directives.specs.Pre.{State}
 use Rattle.c11_macros.specs.Text.{TextExpands}
 use Rattle.c11_tokens.specs.Lex.{is_newline}
 use Rattle.sc_base.specs.declared.fault.Fault as base
@@ -14,7 +16,6 @@ use Rattle.sc_model.specs.Sets.{Sets, IsConfig}
 use Rattle.sc_model.specs.Token as model
 use Rattle.sc_prep.specs.declared.prepared.Prepared.{Prepared}
 use Rattle.sc_prep.specs.declared.walk.Walk.{Walk}
-use Rattle.sc_table.specs.declared.table.MacroTable.{MacroTable}
 use Rattle.sc_table.specs.Table.{macros_at}
 
 -- the tables hold the token's texts and its file, of which there are so many
@@ -62,15 +63,24 @@ ClosesPlain s names files w = (config : List ℕ) → IsConfig s.arities config 
     → (output : List model.Token) → TextExpands (macros_at s names w.table config) (map (seen names files) (items_at s w.gathered config)) (Ok output)
     → All (λ t. has_no_newline t.spelling ≡ true) output
 
--- the macros of the table are spelled on one line at each configuration, and so are the tokens but
--- for newlines, and the names of their files
-pub record BeginsPlain (s : Sets) (names paths : List (List ℕ)) (table : MacroTable) (text : List Token) : Type 0 where
-  pub macros : (config : List ℕ) → IsConfig s.arities config → AreOneLine (macros_at s names table config)
-  pub tokens : All (IsPlainOrNewline names) text
-  pub files : All (λ (t : Token). has_no_newline (text_at paths t.place.file.0) ≡ true) text
+-- the names of files are on one line
+abbrev pub ArePlainPaths : List (List ℕ) → Type 0
+ArePlainPaths paths = All (λ path. has_no_newline path ≡ true) paths
+
+-- a token that is spelled on one line, and stands in a file whose name is
+pub record IsPlainToken (t : model.Token) : Type 0 where
+  pub spelling : has_no_newline t.spelling ≡ true
+  pub file : has_no_newline t.place.file ≡ true
+
+-- the macros and the text of the state, and the name of its file, are spelled on one line
+pub record IsPlainState (s : State) : Type 0 where
+  pub macros : AreOneLine s.macros
+  pub run : AllByRecursion IsPlainToken s.run
+  pub file : has_no_newline s.file ≡ true
 
 -- all of it can be shown
 pub record CanBeShown (s : Sets) (names files : List (List ℕ)) (p : Prepared) : Type 0 where
   pub list : All (IsShowable s names files) p.list
   pub faults : All (IsShowableFault s files) p.faults.items
   pub apart : AreApart s p.faults.items
+  pub paths : ArePlainPaths files

@@ -1,5 +1,5 @@
 -- The walk of all configurations at once is a simulation of the machine of each.
-use Rattle.std.specs.Prelude.{◌≡◌, ℕ, Bool, List, [], map, reverse, All, None, Result, is_none}
+use Rattle.std.specs.Prelude.{◌≡◌, ℕ, Bool, true, false, List, [], map, reverse, All, Option, Some, None, Result, is_none, length, slice_get}
 use Rattle.std.specs.Option.{option_to_list}
 use Rattle.sc_prep.specs.declared.prepared.Prepared.{Prepared}
 use Rattle.sc_prep.specs.declared.walk.Section.{Section}
@@ -10,7 +10,13 @@ use Rattle.sc_guarded.specs.Items.{items_at, faults_at, seen_fault}
 use Rattle.sc_base.specs.Seen.{seen}
 use Rattle.sc_table.specs.declared.table.MacroTable.{MacroTable}
 use Rattle.c11_directives.specs.Lines.{Line}
-use Rattle.c11_directives.specs.Pre.{State}
+use Rattle.c11_directives.specs.Pre.{Context, State, c11}
+use Rattle.sc_model.specs.Outside.{Files}
+use Rattle.sc_model.specs.Space.{Space}
+use Rattle.sc_prep.specs.Contents.{AreContents}
+use Rattle.sc_prep.specs.declared.content.Contents.{Contents}
+use Rattle.sc_prep.specs.Printable.{IsHeldWalk, IsPlainState, any_token}
+use Rattle.sc_prep.specs.declared.entry.Entry.{Entry}
 use Rattle.sc_table.specs.Table.{IsTable, macros_at}
 use Rattle.sc_model.specs.Fault.{Fault}
 use Rattle.sc_model.specs.Sets.{Sets, IsConfig, IsCond}
@@ -39,7 +45,7 @@ pub record Simulates (s : Sets) (names files : List (List ℕ)) (walk : Walk) (c
   pub sections : map (section_at s config) (reverse walk.sections.items) ≡ m.sections
   pub prepared : IsOutcomeOf s names files walk.prepared config m
   pub run : m.fault ≡ None → map (seen names files) (items_at s walk.gathered config) ≡ m.state.run
-  pub macros : (name : List ℕ) → macros_at s names walk.table config name ≡ m.state.macros name
+  pub macros : m.fault ≡ None → (name : List ℕ) → macros_at s names walk.table config name ≡ m.state.macros name
 
 pub record OwnsSection (s : Sets) (section : Section) : Type 0 where
   pub around : IsCond s section.around.0
@@ -83,11 +89,47 @@ pub record Closed (m n : Machine) : Type 0 where
   pub expands : RunExpands m answer
   pub is : n ≡ closing_run m answer
 
--- From this state on the machine runs over the lines and closes its last run, and the lists have
--- what it gives.
-pub record Ends (s : Sets) (names files : List (List ℕ)) (p : Prepared) (config : List ℕ) (first : State) (lines : List Line) : Type 0 where
+-- the machine ran over the lines, and its last run was closed
+pub record Covers (x : Context) (lines : List Line) (m n : Machine) : Type 0 where
   pub end : Machine
-  pub runs : Runs (start first) lines end
-  pub answer : Result (List Token) Fault
-  pub expands : RunExpands end answer
-  pub outcome : IsOutcomeOf s names files p config (closing_run end answer)
+  pub runs : Runs x m lines end
+  pub closed : Closed end n
+
+-- what stays during a run over a space
+pub record IsContext (space : Space) (x : Context) : Type 0 where
+  pub include : x.include ≡ space.include
+  pub depth : x.include_depth ≡ space.include_depth
+  pub standard : x.standard ≡ c11
+
+-- the state is in the file of an entry
+pub record IsInside (files : List (List ℕ)) (entry : Entry) (s : State) : Type 0 where
+  pub name : slice_get files entry.file.0 ≡ Some s.file
+  pub deep : s.depth ≡ entry.depth
+
+-- where the machine does something, it is in the file of the entry
+abbrev pub IsIn : List (List ℕ) → Entry → Machine → Type 0
+IsIn files entry m = acts m ≡ true → IsInside files entry m.state
+
+-- before the lines of a file: the machine enters it, or takes none of them
+pub data IsAtTop (files : List (List ℕ)) (entry : Entry) (m : Machine) : Type 0 where
+  begins : (first : State) → m ≡ start first → IsInside files entry first → IsAtTop files entry m
+  idles : m.active ≡ false → m.sections ≡ [] → IsAtTop files entry m
+
+-- From one walk to the next, at each configuration whose machine is as this says, the machine does
+-- one of these. The tables of names of files and of texts may have grown.
+pub record Leads (files names : List (List ℕ)) (old : Sets) (walk : Walk) (more_files more : List (List ℕ)) (new : Sets) (next : Walk)
+    (from : Machine → Type 0) (does : List ℕ → Machine → Machine → Type 0) : Type 0 where
+  pub at : (config : List ℕ) (m : Machine) → IsConfig old.arities config → Simulates old names files walk config m → from m
+      → Arrives new more more_files next config (does config m)
+
+-- What holds between the lines of a walk: its conditions are those of the store, and the tables hold
+-- the rest.
+pub record IsReady (s : Sets) (names files : List (List ℕ)) (holds : Option Files) (walk : Walk) (contents : Contents) : Type 0 where
+  pub owns : Owns s walk
+  pub table : IsTable s names walk.table
+  pub held : IsHeldWalk names (length files) any_token walk
+  pub read : AreContents names files holds contents
+
+-- each configuration has a machine as this says, whose macros and text are spelled on one line
+pub record PlainEach (s : Sets) (names files : List (List ℕ)) (walk : Walk) (from : Machine → Type 0) : Type 0 where
+  pub each : (config : List ℕ) → IsConfig s.arities config → (m : Machine) × Simulates s names files walk config m × from m × IsPlainState m.state

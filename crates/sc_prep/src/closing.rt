@@ -89,7 +89,7 @@ impl Walk {
 
     /// The configurations of these faults are refused.
     #[tactic(auto, using(sc_model::proofs::SetLemmas::conditions))]
-    fn refuse_each<C: Conditions>(
+    pub fn refuse_each<C: Conditions>(
         &mut self,
         conds: &mut C,
         faults: &[Fault],

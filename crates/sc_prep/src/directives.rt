@@ -1,12 +1,11 @@
-ghost use Rattle.std.specs.Prelude.{◌≡◌, ℕ, ◌<◌, false, List, All, None, Some, Ok, length, OnOk, IfErr, IfOk, IfSome};
+ghost use Rattle.std.specs.Prelude.{◌≡◌, ℕ, ◌<◌, ◌&&◌, List, All, None, Some, Ok, true, false, length, OnOk, IfErr, IfOk, IfSome, if◌then◌else◌};
 ghost use Rattle.std.specs.Option.{option_map};
 ghost use Rattle.sc_base.specs.Seen.{IsHeld, text_at};
 ghost use Rattle.sc_base.specs.declared.stop.Stop.TheVariants as stop;
 ghost use Rattle.sc_lines.specs.Split.{directive_at};
 ghost use Rattle.c11_directives.specs.declared.directive.Directive.TheVariants as kind;
 ghost use Rattle.c11_directives.specs.Lines.{conditional_in};
-ghost use Rattle.c11_directives.specs.Pre as model;
-ghost use Rattle.c11_directives.specs.Pre.{operand_of, undefined};
+ghost use Rattle.c11_directives.specs.Pre.{Context, is_barrier, operand_of, undefined};
 ghost use Rattle.sc_base.specs.declared.token.Token as base;
 ghost use Rattle.sc_model.specs.declared.cause.Cause.TheVariants.{BadDirective};
 ghost use Rattle.sc_model.specs.Sets.{IsCond, Denotes, Keeps};
@@ -15,7 +14,7 @@ ghost use Rattle.sc_macro.specs.Seen.{IsHeldDefinition};
 ghost use Rattle.sc_expand.specs.Stops.{StopsBy};
 ghost use Rattle.sc_model.specs.Growth.{Extends};
 ghost use Rattle.sc_prep.specs.Machine as machine;
-ghost use Rattle.sc_prep.specs.Machine.{Takes, changed_by, changing, defined_as, is_taken, next_branch, plain_by, opened_by_name, refusing, opened, step};
+ghost use Rattle.sc_prep.specs.Machine.{Decided, Takes, acts, changed_by, changing, defined_as, ends_run, is_taken, plain_by, opened_by_name, refusing, opened};
 ghost use Rattle.sc_prep.specs.Simulates.{Owns, SimulatesOneOf, SimulatesStep};
 ghost use Rattle.sc_lines.specs.Nests.{seen_line};
 ghost use Rattle.sc_prep.specs.Printable.{AllPass, ClosesPlain, IsHeldWalk, IsPlaced, StaysHeld, any_token, is_plain};
@@ -31,9 +30,9 @@ use sc_table::MacroTable;
 use std::alloc::Global;
 
 impl Walk {
-    /// What a line of these tokens does.
+    /// What a line of these tokens does that enters no file.
     #[tactic(auto, using(sc_model::proofs::SetLemmas::conditions))]
-    pub fn take_line<C: Conditions>(
+    pub fn local_line<C: Conditions>(
         &mut self,
         alloc: Global,
         conds: &mut C,
@@ -45,10 +44,11 @@ impl Walk {
     ) -> Result<(), Stop>
         requires placed { All (IsPlaced names.old (length files.now)) tokens.now }
         requires directive { line.now.directive ≡ directive_at names.old tokens.now }
+        requires local { line.now.directive ≡ Some kind.Include → ⊥ }
         requires owns { Owns (C.sets conds.old) self.old }
         requires table { IsTable (C.sets conds.old) names.old self.old.table }
         requires walk { IsHeldWalk names.old (length files.now) any_token self.old }
-        ensures takes { OnOk result (SimulatesOneOf files.now names.old (C.sets conds.old) self.old names.new (C.sets conds.new) self.new (λ config m n. Takes m (seen_line names.old files.now tokens.now) n)) }
+        ensures takes { OnOk result ((x : Context) → SimulatesOneOf files.now names.old (C.sets conds.old) self.old names.new (C.sets conds.new) self.new (λ config m n. Takes x m (seen_line names.old files.now tokens.now) n)) }
         ensures walk { OnOk result (IsHeldWalk names.new (length files.now) any_token self.new) }
         ensures plain { OnOk result (ClosesPlain (C.sets conds.old) names.old files.now self.old → AllPass (is_plain names.old) self.old.prepared.list
             → AllPass (is_plain names.new) self.new.prepared.list) }
@@ -58,35 +58,85 @@ impl Walk {
         ensures keeps { Keeps (C.sets conds.old) (C.sets conds.new) }
         ensures names { Extends names.old names.new }
     {
-        if !ends_run(line.directive) {
-            return self.step(alloc, conds, names, line, tokens);
+        match line.conditional() {
+            Some(conditional) => {
+                self.conditional_line(alloc, conds, names, files, limit, tokens, conditional)
+            }
+            None => {
+                let directive = line.directive;
+                self.unconditional_line(alloc, conds, names, files, limit, tokens, directive)
+            }
         }
-        self.close_runs(alloc, conds, names, files, limit)?;
-        self.step(alloc, conds, names, line, tokens)
     }
 
-    /// What a line of these tokens does once the runs that it ends are closed.
+    /// What a line does that is no conditional directive and enters no file.
     #[tactic(auto, using(sc_model::proofs::SetLemmas::conditions))]
-    fn step<C: Conditions>(
+    fn unconditional_line<C: Conditions>(
         &mut self,
         alloc: Global,
         conds: &mut C,
-        names: &Names,
-        line: &Line,
-        tokens: &[Token],
+        names: &mut Names,
+        files: &Files,
+        limit: usize,
+        line: &[Token],
+        directive: Option<Directive>,
     ) -> Result<(), Stop>
-        requires held { All (IsHeld names.now) tokens.now }
-        requires directive { line.now.directive ≡ directive_at names.now tokens.now }
+        requires placed { All (IsPlaced names.old (length files.now)) line.now }
+        requires directive { directive ≡ directive_at names.old line.now }
+        requires unconditional { conditional_in directive ≡ None }
+        requires local { directive ≡ Some kind.Include → ⊥ }
         requires owns { Owns (C.sets conds.old) self.old }
-        requires table { IsTable (C.sets conds.old) names.now self.old.table }
-        ensures printable { OnOk result (StaysHeld names.now tokens.now self.old self.new) }
-        ensures steps { OnOk result (SimulatesStep names.now (C.sets conds.old) self.old (C.sets conds.new) self.new (λ files config m. step m (seen_line names.now files tokens.now))) }
-        ensures memory { IfErr result (λ s. s ≡ stop.OutOfMemory) }
+        requires table { IsTable (C.sets conds.old) names.old self.old.table }
+        requires walk { IsHeldWalk names.old (length files.now) any_token self.old }
+        ensures takes { OnOk result ((x : Context) → SimulatesOneOf files.now names.old (C.sets conds.old) self.old names.new (C.sets conds.new) self.new (λ config m n. Takes x m (seen_line names.old files.now line.now) n)) }
+        ensures walk { OnOk result (IsHeldWalk names.new (length files.now) any_token self.new) }
+        ensures plain { OnOk result (ClosesPlain (C.sets conds.old) names.old files.now self.old → AllPass (is_plain names.old) self.old.prepared.list
+            → AllPass (is_plain names.new) self.new.prepared.list) }
+        ensures stops { IfErr result (StopsBy (C.sets conds.old).arities limit) }
+
+        // at every outcome
         ensures keeps { Keeps (C.sets conds.old) (C.sets conds.new) }
+        ensures names { Extends names.old names.new }
     {
-        match line.conditional() {
-            None => self.plain_line(alloc, conds, names, tokens, line.directive),
-            Some(conditional) => self.conditional_line(conds, names, tokens, conditional),
+        match barrier_in(directive) {
+            Some(barrier) => { self.barrier_line(alloc, conds, names, files, limit, line, barrier) }
+            None => self.plain_line(alloc, conds, names, line, directive),
+        }
+    }
+
+    /// What a directive does that ends the runs, but for `#include`.
+    #[tactic(auto, using(sc_model::proofs::SetLemmas::conditions))]
+    fn barrier_line<C: Conditions>(
+        &mut self,
+        alloc: Global,
+        conds: &mut C,
+        names: &mut Names,
+        files: &Files,
+        limit: usize,
+        line: &[Token],
+        directive: Directive,
+    ) -> Result<(), Stop>
+        requires placed { All (IsPlaced names.old (length files.now)) line.now }
+        requires directive { Some directive ≡ directive_at names.old line.now }
+        requires local { directive ≡ kind.Include → ⊥ }
+        requires barrier { is_barrier directive ≡ true }
+        requires owns { Owns (C.sets conds.old) self.old }
+        requires table { IsTable (C.sets conds.old) names.old self.old.table }
+        requires walk { IsHeldWalk names.old (length files.now) any_token self.old }
+        ensures takes { OnOk result ((x : Context) → SimulatesOneOf files.now names.old (C.sets conds.old) self.old names.new (C.sets conds.new) self.new (λ config m n. Takes x m (seen_line names.old files.now line.now) n)) }
+        ensures walk { OnOk result (IsHeldWalk names.new (length files.now) any_token self.new) }
+        ensures plain { OnOk result (ClosesPlain (C.sets conds.old) names.old files.now self.old → AllPass (is_plain names.old) self.old.prepared.list
+            → AllPass (is_plain names.new) self.new.prepared.list) }
+        ensures stops { IfErr result (StopsBy (C.sets conds.old).arities limit) }
+
+        // at every outcome
+        ensures keeps { Keeps (C.sets conds.old) (C.sets conds.new) }
+        ensures names { Extends names.old names.new }
+    {
+        self.close_runs(alloc, conds, names, files, limit)?;
+        match directive {
+            Directive::Line => self.number_line(alloc, conds, names, files, limit, line),
+            _ => self.plain_line(alloc, conds, names, line, Some(directive)),
         }
     }
 
@@ -94,31 +144,42 @@ impl Walk {
     #[tactic(auto, using(sc_model::proofs::SetLemmas::conditions))]
     fn conditional_line<C: Conditions>(
         &mut self,
+        alloc: Global,
         conds: &mut C,
-        names: &Names,
+        names: &mut Names,
+        files: &Files,
+        limit: usize,
         line: &[Token],
         conditional: Conditional,
     ) -> Result<(), Stop>
-        requires held { All (IsHeld names.now) line.now }
-        requires directive { Some conditional ≡ conditional_in (directive_at names.now line.now) }
+        requires placed { All (IsPlaced names.old (length files.now)) line.now }
+        requires directive { Some (kind.Conditional conditional) ≡ directive_at names.old line.now }
         requires owns { Owns (C.sets conds.old) self.old }
-        requires table { IsTable (C.sets conds.old) names.now self.old.table }
-        ensures printable { OnOk result (StaysHeld names.now line.now self.old self.new) }
-        ensures steps { OnOk result (SimulatesStep names.now (C.sets conds.old) self.old (C.sets conds.new) self.new (λ files config m. step m (seen_line names.now files line.now))) }
-        ensures memory { IfErr result (λ s. s ≡ stop.OutOfMemory) }
+        requires table { IsTable (C.sets conds.old) names.old self.old.table }
+        requires walk { IsHeldWalk names.old (length files.now) any_token self.old }
+        ensures decides { OnOk result ((x : Context) → SimulatesOneOf files.now names.old (C.sets conds.old) self.old names.new (C.sets conds.new) self.new (λ config m n. Decided x m (seen_line names.old files.now line.now) n)) }
+        ensures walk { OnOk result (IsHeldWalk names.new (length files.now) any_token self.new) }
+        ensures list { OnOk result (self.new.prepared.list ≡ self.old.prepared.list) }
+        ensures stops { IfErr result (StopsBy (C.sets conds.old).arities limit) }
+
+        // at every outcome
         ensures keeps { Keeps (C.sets conds.old) (C.sets conds.new) }
+        ensures names { Extends names.old names.new }
     {
         match conditional {
-            Conditional::If => self.refused_section(conds, line),
+            Conditional::If => self.if_section(alloc, conds, names, files, limit, line),
+            Conditional::Elif => self.elif_branch(alloc, conds, names, files, limit, line),
             Conditional::Ifdef => self.named_section(conds, names, line, true),
             Conditional::Ifndef => self.named_section(conds, names, line, false),
-            Conditional::Elif => self.refused_branch(conds, line),
-            Conditional::Else => Ok(self.begin_branch(conds)?),
+            Conditional::Else => {
+                let always = conds.always();
+                Ok(self.begin_branch(conds, always)?)
+            }
             Conditional::Endif => Ok(self.end_section(conds)?),
         }
     }
 
-    /// A section whose first directive can't be decided.
+    /// A section whose first directive names nothing.
     #[tactic(auto, using(sc_model::proofs::SetLemmas::conditions))]
     fn refused_section<C: Conditions>(&mut self, conds: &mut C, line: &[Token]) -> Result<(), Stop>
         requires owns { Owns (C.sets conds.old) self.old }
@@ -126,28 +187,13 @@ impl Walk {
         ensures printable { OnOk result ((names : List (List ℕ)) → StaysHeld names line.now self.old self.new) }
         ensures moved { OnOk result ((names : List (List ℕ)) → SimulatesStep names (C.sets conds.old) self.old (C.sets conds.new) self.new
             (λ files config m. opened (refusing m (seen_line names files line.now) BadDirective) false)) }
+        ensures list { OnOk result (self.new.prepared.list ≡ self.old.prepared.list) }
         ensures memory { IfErr result (λ s. s ≡ stop.OutOfMemory) }
         ensures keeps { Keeps (C.sets conds.old) (C.sets conds.new) }
     {
         self.refuse_all(conds, Cause::BadDirective, line)?;
         let never = conds.never();
         self.begin_section(conds, never)?;
-        Ok(())
-    }
-
-    /// A branch whose directive can't be decided.
-    #[tactic(auto, using(sc_model::proofs::SetLemmas::conditions))]
-    fn refused_branch<C: Conditions>(&mut self, conds: &mut C, line: &[Token]) -> Result<(), Stop>
-        requires owns { Owns (C.sets conds.old) self.old }
-        requires line { 0 < length line.now }
-        ensures printable { OnOk result ((names : List (List ℕ)) → StaysHeld names line.now self.old self.new) }
-        ensures moved { OnOk result ((names : List (List ℕ)) → SimulatesStep names (C.sets conds.old) self.old (C.sets conds.new) self.new
-            (λ files config m. refusing (next_branch m m.sections) (seen_line names files line.now) BadDirective)) }
-        ensures memory { IfErr result (λ s. s ≡ stop.OutOfMemory) }
-        ensures keeps { Keeps (C.sets conds.old) (C.sets conds.new) }
-    {
-        self.begin_branch(conds)?;
-        self.refuse_all(conds, Cause::BadDirective, line)?;
         Ok(())
     }
 
@@ -167,6 +213,7 @@ impl Walk {
         ensures printable { OnOk result (StaysHeld names.now line.now self.old self.new) }
         ensures moved { OnOk result (SimulatesStep names.now (C.sets conds.old) self.old (C.sets conds.new) self.new
             (λ files config m. opened_by_name m (seen_line names.now files line.now) (is_taken m.state.macros wanted) (operand_of (seen_line names.now files line.now)))) }
+        ensures list { OnOk result (self.new.prepared.list ≡ self.old.prepared.list) }
         ensures memory { IfErr result (λ s. s ≡ stop.OutOfMemory) }
         ensures keeps { Keeps (C.sets conds.old) (C.sets conds.new) }
     {
@@ -190,11 +237,13 @@ impl Walk {
         requires table { IsTable (C.sets conds.old) names.now self.old.table }
         ensures printable { OnOk result ((line : List base.Token) → StaysHeld names.now line self.old self.new) }
         ensures moved { OnOk result (SimulatesStep names.now (C.sets conds.old) self.old (C.sets conds.new) self.new
-            (λ files config m. opened m (is_taken m.state.macros wanted (text_at names.now name.0)))) }
+            (λ files config m. opened m (acts m && is_taken m.state.macros wanted (text_at names.now name.0)))) }
+        ensures list { OnOk result (self.new.prepared.list ≡ self.old.prepared.list) }
         ensures memory { IfErr result (λ s. s ≡ stop.OutOfMemory) }
         ensures keeps { Keeps (C.sets conds.old) (C.sets conds.new) }
     {
-        let test = taken(conds, names, &mut self.table, name, wanted)?;
+        let taken = taken(conds, names, &mut self.table, name, wanted)?;
+        let test = conds.apply_and(taken, self.acting)?;
         self.begin_section(conds, test)?;
         Ok(())
     }
@@ -226,7 +275,7 @@ impl Walk {
         }
     }
 
-    /// A directive that has no effect, or is not carried out.
+    /// A directive that has no effect, or is refused.
     #[tactic(auto, using(sc_model::proofs::SetLemmas::conditions))]
     fn other_line<C: Conditions>(
         &mut self,
@@ -243,10 +292,9 @@ impl Walk {
         ensures memory { IfErr result (λ s. s ≡ stop.OutOfMemory) }
         ensures keeps { Keeps (C.sets conds.old) (C.sets conds.new) }
     {
-        if is_refused(directive) {
-            Ok(self.refuse_all(conds, Cause::BadDirective, line)?)
-        } else {
-            Ok(())
+        match refusal(directive) {
+            Some(cause) => Ok(self.refuse_all(conds, cause, line)?),
+            None => Ok(()),
         }
     }
 
@@ -349,6 +397,16 @@ impl Walk {
     }
 }
 
+/// The directive, where it ends the runs that stand before it.
+fn barrier_in(directive: Option<Directive>) -> Option<Directive>
+    ensures { result ≡ (if ends_run directive then directive else None) }
+{
+    match directive {
+        None | Some(Directive::Conditional(_) | Directive::Null) => None,
+        _ => directive,
+    }
+}
+
 /// The configurations that define this name, or those that don't.
 #[tactic(auto, using(sc_model::proofs::SetLemmas::conditions))]
 fn taken<C: Conditions>(
@@ -390,22 +448,13 @@ fn operand(names: &Names, line: &[Token]) -> Option<Name>
     }
 }
 
-/// Whether a line ends the runs that stand before it.
-fn ends_run(directive: Option<Directive>) -> bool
-    ensures { result ≡ machine.ends_run directive }
+/// Why a directive is refused that changes no macro.
+fn refusal(directive: Directive) -> Option<Cause>
+    ensures { result ≡ machine.refusal_of directive }
 {
-    !matches!(
-        directive,
-        None | Some(Directive::Conditional(_) | Directive::Null)
-    )
-}
-
-/// Whether a directive is not carried out.
-fn is_refused(directive: Directive) -> bool
-    ensures { result ≡ model.is_refused directive }
-{
-    matches!(
-        directive,
-        Directive::Include | Directive::Line | Directive::Error | Directive::Unknown
-    )
+    match directive {
+        Directive::Error => Some(Cause::ErrorDirective),
+        Directive::Include | Directive::Line | Directive::Unknown => Some(Cause::BadDirective),
+        _ => None,
+    }
 }

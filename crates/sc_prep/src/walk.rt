@@ -1,23 +1,16 @@
-ghost use Rattle.std.specs.Prelude.{◌≡◌, ℕ, ◌<◌, ◌&&◌, Bool, List, length, OnOk, [], All, IfErr, IfOk};
+ghost use Rattle.std.specs.Prelude.{◌≡◌, ℕ, ◌<◌, ◌&&◌, Bool, List, length, OnOk, [], IfOk, is_none, true};
 ghost use Rattle.sc_base.specs.declared.token.Token as base;
-ghost use Rattle.sc_model.specs.Sets.{IsCond, IsNever, Denotes, Keeps, IsConfig};
+ghost use Rattle.sc_model.specs.Sets.{Sets, IsCond, IsNever, Denotes, Keeps, IsConfig};
 ghost use Rattle.c11_directives.specs.Pre.{State, with_text};
-ghost use Rattle.sc_expand.specs.Stops.{StopsBy};
-ghost use Rattle.sc_model.specs.Growth.{Extends};
-ghost use Rattle.sc_prep.specs.Machine.{acting, opened, next_branch, ended, refusing, refusing_if, start};
-ghost use Rattle.sc_prep.specs.Simulates.{Ends, IsBegun, Owns, SimulatesStep, Simulates};
+ghost use Rattle.sc_prep.specs.Machine.{Machine, acting, acts, opened, next_branch, ended, refusing, refusing_if, start};
+ghost use Rattle.sc_prep.specs.Simulates.{IsBegun, Owns, SimulatesStep, Simulates};
 ghost use Rattle.sc_prep.specs.Preprocesses.{OwnsList};
-ghost use Rattle.sc_lines.specs.Nests.{seen_line, seen_lines};
-ghost use Rattle.sc_prep.specs.Printable.{AllPass, AreHeld, BeginsPlain, IsPlaced, StaysHeld, any_token, is_plain};
-ghost use Rattle.sc_lines.specs.Branches.{HasBranches};
-ghost use Rattle.sc_lines.specs.Split.{AreLines};
-ghost use Rattle.sc_table.specs.Table.{IsTable};
+ghost use Rattle.sc_lines.specs.Nests.{seen_line};
+ghost use Rattle.sc_prep.specs.Printable.{StaysHeld};
 
-use crate::next_line::next_line;
 use crate::prepared::Prepared;
-use sc_base::{Cause, Cond, Fault, Files, Names, OutOfMemory, Stop, Token};
+use sc_base::{Cause, Cond, Fault, OutOfMemory, Token};
 use sc_guarded::Guarded;
-use sc_lines::Line;
 use sc_presence::Conditions;
 use sc_table::MacroTable;
 use std::alloc::Global;
@@ -49,53 +42,12 @@ pub struct Walk {
 }
 
 impl Walk {
-    /// What a file's lines become under all configurations, from the macros of this table on. A
-    /// group that no configuration takes is passed over, and the rest of the file where all of them
-    /// are refused.
-    #[tactic(auto, using(sc_model::proofs::SetLemmas::conditions))]
-    pub fn of_lines<C: Conditions>(
-        alloc: Global,
-        conds: &mut C,
-        table: MacroTable,
-        names: &mut Names,
-        files: &Files,
-        limit: usize,
-        tokens: &[Token],
-        lines: &[Line],
-    ) -> Result<Prepared, Stop>
-        requires table { IsTable (C.sets conds.old) names.old table }
-        requires held { All (IsPlaced names.old (length files.now)) tokens.now }
-        requires lines { AreLines names.old tokens.now lines.now }
-        requires branches { (files : List (List ℕ)) → HasBranches (seen_lines names.old files tokens.now) lines.now }
-        ensures owns { IfOk result (OwnsList (C.sets conds.new)) }
-        ensures held { IfOk result (AreHeld names.new (length files.now) any_token []) }
-        ensures plain { IfOk result (λ p. BeginsPlain (C.sets conds.old) names.old files.now table tokens.now → AllPass (is_plain names.new) p.list) }
-        ensures walked { IfOk result (λ p. (config : List ℕ) (first : State) → IsConfig (C.sets conds.old).arities config
-            → IsBegun (C.sets conds.old) names.old table config first
-            → Ends (C.sets conds.new) names.new files.now p config first (seen_lines names.old files.now tokens.now)) }
-        ensures stops { IfErr result (StopsBy (C.sets conds.old).arities limit) }
-
-        // at every outcome
-        ensures keeps { Keeps (C.sets conds.old) (C.sets conds.new) }
-        ensures names { Extends names.old names.new }
-    {
-        let mut walk = Walk::new(alloc, conds, table)?;
-        let mut number = 0;
-        while number < lines.len() {
-            let line = &lines[number];
-            let text = &tokens[line.first..line.end];
-            walk.take_line(alloc, conds, names, files, limit, line, text)?;
-            if conds.is_never(walk.prepared.live) {
-                return Ok(walk.prepared);
-            }
-            number = next_line(lines, number, conds.is_never(walk.acting));
-        }
-        walk.close_runs(alloc, conds, names, files, limit)?;
-        Ok(walk.prepared)
-    }
-
     /// The walk before the first line.
-    fn new<C: Conditions>(alloc: Global, conds: &C, table: MacroTable) -> Result<Walk, OutOfMemory>
+    pub fn new<C: Conditions>(
+        alloc: Global,
+        conds: &C,
+        table: MacroTable,
+    ) -> Result<Walk, OutOfMemory>
         ensures owns { IfOk result (λ walk. Owns (C.sets conds.now) walk) }
         ensures empty { IfOk result (λ walk. (walk.gathered ≡ []) × (walk.prepared.list ≡ []) × (walk.prepared.faults.items ≡ [])) }
         ensures table { IfOk result (λ walk. walk.table ≡ table) }
@@ -126,6 +78,7 @@ impl Walk {
         requires owns { Owns (C.sets conds.old) self.old }
         requires own { IsCond (C.sets conds.old) test.0 }
         ensures printable { OnOk result ((names : List (List ℕ)) (line : List base.Token) → StaysHeld names line self.old self.new) }
+        ensures list { OnOk result (self.new.prepared.list ≡ self.old.prepared.list) }
         ensures opened { OnOk result ((names : List (List ℕ)) (t : List ℕ → Bool) → Denotes (C.sets conds.old) test.0 t
             → SimulatesStep names (C.sets conds.old) self.old (C.sets conds.new) self.new (λ files config m. opened m (t config))) }
         ensures keeps { Keeps (C.sets conds.old) (C.sets conds.new) }
@@ -143,25 +96,48 @@ impl Walk {
         Ok(())
     }
 
-    /// The next branch of the innermost section begins.
+    /// The next branch of the innermost section begins, which is taken under a condition where none
+    /// was yet.
     #[tactic(auto, using(sc_model::proofs::SetLemmas::conditions))]
-    pub fn begin_branch<C: Conditions>(&mut self, conds: &mut C) -> Result<(), OutOfMemory>
-        requires { Owns (C.sets conds.old) self.old }
+    pub fn begin_branch<C: Conditions>(
+        &mut self,
+        conds: &mut C,
+        test: Cond,
+    ) -> Result<(), OutOfMemory>
+        requires owns { Owns (C.sets conds.old) self.old }
+        requires own { IsCond (C.sets conds.old) test.0 }
         ensures printable { OnOk result ((names : List (List ℕ)) (line : List base.Token) → StaysHeld names line self.old self.new) }
-        ensures moved { OnOk result ((names : List (List ℕ)) → SimulatesStep names (C.sets conds.old) self.old (C.sets conds.new) self.new (λ files config m. next_branch m m.sections)) }
+        ensures moved { OnOk result ((names : List (List ℕ)) (t : List ℕ → Bool) → Denotes (C.sets conds.old) test.0 t
+            → SimulatesStep names (C.sets conds.old) self.old (C.sets conds.new) self.new (λ files config m. next_branch m (t config) m.sections)) }
+        ensures list { OnOk result (self.new.prepared.list ≡ self.old.prepared.list) }
         ensures keeps { Keeps (C.sets conds.old) (C.sets conds.new) }
     {
         let Some(section) = self.sections.pop() else {
             return Ok(());
         };
-        let acting = conds.apply_and(section.untaken, self.prepared.live)?;
+        let others = conds.negate(test)?;
+        let untaken = conds.apply_and(section.untaken, others)?;
+        let group = conds.apply_and(section.untaken, test)?;
+        let acting = conds.apply_and(group, self.prepared.live)?;
         self.sections.push_reserved(Section {
             around: section.around,
-            untaken: conds.never(),
+            untaken,
         });
-        self.group = section.untaken;
+        self.group = group;
         self.acting = acting;
         Ok(())
+    }
+
+    /// The configurations that take no branch of the innermost section yet, those refused among them.
+    pub fn untaken(&self) -> Cond
+        ensures own { (s : Sets) → Owns s self.now → IsCond s result.0 }
+        ensures at { (s : Sets) (names files : List (List ℕ)) (config : List ℕ) (m : Machine) → Simulates s names files self.now config m
+            → (s.has result.0 config && is_none m.fault) ≡ acts (next_branch m true m.sections) }
+    {
+        match self.sections.last() {
+            None => self.acting,
+            Some(section) => section.untaken,
+        }
     }
 
     /// The innermost section ends.
@@ -170,6 +146,7 @@ impl Walk {
         requires { Owns (C.sets conds.old) self.old }
         ensures printable { OnOk result ((names : List (List ℕ)) (line : List base.Token) → StaysHeld names line self.old self.new) }
         ensures moved { OnOk result ((names : List (List ℕ)) → SimulatesStep names (C.sets conds.old) self.old (C.sets conds.new) self.new (λ files config m. ended m m.sections)) }
+        ensures list { OnOk result (self.new.prepared.list ≡ self.old.prepared.list) }
         ensures keeps { Keeps (C.sets conds.old) (C.sets conds.new) }
     {
         let Some(section) = self.sections.pop() else {
@@ -197,6 +174,7 @@ impl Walk {
         ensures printable { OnOk result ((names : List (List ℕ)) → StaysHeld names line.now self.old self.new) }
         ensures moved { OnOk result ((names : List (List ℕ)) (t : List ℕ → Bool) → Denotes (C.sets conds.old) part.0 (λ c. t c && (C.sets conds.old).has self.old.acting.0 c)
             → SimulatesStep names (C.sets conds.old) self.old (C.sets conds.new) self.new (λ files config m. refusing_if (t config) m (seen_line names files line.now) cause)) }
+        ensures list { OnOk result (self.new.prepared.list ≡ self.old.prepared.list) }
         ensures keeps { Keeps (C.sets conds.old) (C.sets conds.new) }
     {
         if conds.is_never(part) {
@@ -222,6 +200,7 @@ impl Walk {
         requires line { 0 < length line.now }
         ensures printable { OnOk result ((names : List (List ℕ)) → StaysHeld names line.now self.old self.new) }
         ensures moved { OnOk result ((names : List (List ℕ)) → SimulatesStep names (C.sets conds.old) self.old (C.sets conds.new) self.new (λ files config m. refusing m (seen_line names files line.now) cause)) }
+        ensures list { OnOk result (self.new.prepared.list ≡ self.old.prepared.list) }
         ensures keeps { Keeps (C.sets conds.old) (C.sets conds.new) }
     {
         self.refuse(conds, self.acting, cause, line)

@@ -1,9 +1,12 @@
-use Rattle.std.proofs.Common.{◌∙◌, sym, subst, List}
+use Rattle.std.proofs.Common.{◌≡◌, ◌∙◌, true, sym, subst, List}
+use Rattle.std.proofs.lemmas.List.Elements.{All-nil}
 use Rattle.std.specs.Prelude.{All}
 use Rattle.sc_base.specs.declared.fault.Fault as base
 use Rattle.sc_core.proofs.Telling.{tells-tokens}
 use Rattle.sc_core.proofs.texts.text_under.Goals as goal
+use Rattle.sc_model.specs.Bytes.{has_no_newline}
 use Rattle.sc_model.specs.Sets.{IsConfig, IsNever}
+use Rattle.sc_prep.specs.Printable.{ArePlainPaths}
 use Rattle.sc_show.proofs.Pieces.{text_lines}
 use Rattle.sc_show.specs.Pieces.{IsLine}
 use Rattle.sc_show.specs.Shows.{Shows}
@@ -26,3 +29,11 @@ returns-clause-tokens g c =
     (λ outside holds config listed. c.in_ok-prepared.ensures.ordinary outside holds config (subst (λ ns. IsConfig ns config) (sym c.requires.arities) listed))
     (λ e. subst (All (λ (f : base.Fault). IsNever s f.cond.0)) c.deref.ensures.value (c.has_fault-is_refused.ensures.none e))
     (λ e all. c.has_fault-is_refused.ensures.some e (subst (All (λ (f : base.Fault). IsNever s f.cond.0)) (sym c.deref.ensures.value) all))
+
+pub show_tokens-requires-clause-files : goal.show_tokens-requires-clause-files
+show_tokens-requires-clause-files g c =
+    (c.in_ok-prepared.ensures.shown (subst ArePlainPaths (sym c.in_ok-files.ensures) (All-nil (λ path. has_no_newline path ≡ true))) c.requires.plain).paths
+
+pub show_tokens-requires-clause-list : goal.show_tokens-requires-clause-list
+show_tokens-requires-clause-list g c =
+    (c.in_ok-prepared.ensures.shown (subst ArePlainPaths (sym c.in_ok-files.ensures) (All-nil (λ path. has_no_newline path ≡ true))) c.requires.plain).list

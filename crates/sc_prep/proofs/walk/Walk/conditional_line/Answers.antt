@@ -1,63 +1,69 @@
-use Rattle.std.proofs.Common.{◌∙◌, ap, sym, Some, true, false}
+use Rattle.std.proofs.Common.{◌∙◌, ap, sym, refl, Some, true, length}
 use Rattle.std.proofs.lemmas.Result.{on_ok_weaker}
-use Rattle.c11_directives.specs.Pre.{operand_of}
-use Rattle.sc_model.specs.declared.cause.Cause.TheVariants.{BadDirective}
-use Rattle.sc_prep.specs.Machine.{is_taken, opened, opened_by_name, refusing, next_branch, ended, step}
-use Rattle.sc_lines.specs.Nests.{seen_line}
-use Rattle.sc_prep.proofs.LineSteps.{step-is}
-use Rattle.sc_prep.proofs.WalkMoves.{step-as}
+use Rattle.c11_directives.specs.declared.directive.Directive.TheVariants as directive
+use Rattle.c11_directives.specs.declared.directive.Conditional.TheVariants.{Ifdef, Ifndef, Else, Endif}
+use Rattle.c11_directives.specs.Lines.{conditional_in}
+use Rattle.sc_lines.proofs.SeenLines.{directive-files}
+use Rattle.sc_prep.specs.Printable.{any_token}
+use Rattle.sc_prep.proofs.TakeLine.{decides-unasked, memory-stops}
+use Rattle.sc_prep.proofs.LineSteps.{directive-long}
 use Rattle.sc_prep.proofs.walk.Walk.conditional_line.Goals as goal
 
-pub returns-in-If-clause-steps : goal.returns-in-If-clause-steps
-returns-in-If-clause-steps g c = on_ok_weaker c.refused_section.result (λ moved.
-    let names = c.args.names.now in
-    let line = c.args.line.now in
-    step-as (λ files config m. opened (refusing m (seen_line names files line) BadDirective) false) (λ files config m. step m (seen_line names files line))
-    (λ files config m _ _. step-is names files line m _ (ap Some (sym c.in-If.is) ∙ c.requires.directive)) (moved names)) c.refused_section.ensures.moved
+pub if_section-requires-clause-line : goal.if_section-requires-clause-line
+if_section-requires-clause-line g c =
+    ap conditional_in (directive-files c.args.names.now c.args.files.now c.args.line.now ∙ sym (ap (λ k. Some (directive.Conditional k)) (sym c.in-If.is) ∙ c.requires.directive))
 
-pub returns-in-Ifdef-clause-steps : goal.returns-in-Ifdef-clause-steps
-returns-in-Ifdef-clause-steps g c = on_ok_weaker c.named_section.result (λ moved.
-    let names = c.args.names.now in
-    let line = c.args.line.now in
-    step-as (λ files config m. opened_by_name m (seen_line names files line) (is_taken m.state.macros true) (operand_of (seen_line names files line))) (λ files config m. step m (seen_line names files line))
-    (λ files config m _ _. step-is names files line m _ (ap Some (sym c.in-Ifdef.is) ∙ c.requires.directive)) (moved)) c.named_section.ensures.moved
+pub elif_branch-requires-clause-line : goal.elif_branch-requires-clause-line
+elif_branch-requires-clause-line g c =
+    ap conditional_in (directive-files c.args.names.now c.args.files.now c.args.line.now ∙ sym (ap (λ k. Some (directive.Conditional k)) (sym c.in-Elif.is) ∙ c.requires.directive))
 
-pub returns-in-Ifndef-clause-steps : goal.returns-in-Ifndef-clause-steps
-returns-in-Ifndef-clause-steps g c = on_ok_weaker c.named_section-in-Ifndef.result (λ moved.
-    let names = c.args.names.now in
-    let line = c.args.line.now in
-    step-as (λ files config m. opened_by_name m (seen_line names files line) (is_taken m.state.macros false) (operand_of (seen_line names files line))) (λ files config m. step m (seen_line names files line))
-    (λ files config m _ _. step-is names files line m _ (ap Some (sym c.in-Ifndef.is) ∙ c.requires.directive)) (moved)) c.named_section-in-Ifndef.ensures.moved
+pub named_section-requires-clause-held : goal.named_section-requires-clause-held
+named_section-requires-clause-held g c = λ k d h. (c.requires.placed k d h).held
 
-pub returns-in-Elif-clause-steps : goal.returns-in-Elif-clause-steps
-returns-in-Elif-clause-steps g c = on_ok_weaker c.refused_branch.result (λ moved.
-    let names = c.args.names.now in
-    let line = c.args.line.now in
-    step-as (λ files config m. refusing (next_branch m m.sections) (seen_line names files line) BadDirective) (λ files config m. step m (seen_line names files line))
-    (λ files config m _ _. step-is names files line m _ (ap Some (sym c.in-Elif.is) ∙ c.requires.directive)) (moved names)) c.refused_branch.ensures.moved
+pub named_section-requires-clause-line : goal.named_section-requires-clause-line
+named_section-requires-clause-line g c = directive-long c.args.names.now c.args.line.now (Some (directive.Conditional c.args.conditional)) c.requires.directive (λ e. absurd (cc))
 
-pub returns-in_ok-begin_branch-in-Else-clause-steps : goal.returns-in_ok-begin_branch-in-Else-clause-steps
-returns-in_ok-begin_branch-in-Else-clause-steps g c =
-    let names = c.args.names.now in
-    let line = c.args.line.now in
-    step-as (λ files config m. next_branch m m.sections) (λ files config m. step m (seen_line names files line))
-    (λ files config m _ _. step-is names files line m _ (ap Some (sym c.in-Else.is) ∙ c.requires.directive)) (c.in_ok-begin_branch-in-Else.ensures.moved names)
+pub named_section-requires-in-Ifndef-clause-held : goal.named_section-requires-in-Ifndef-clause-held
+named_section-requires-in-Ifndef-clause-held g c = λ k d h. (c.requires.placed k d h).held
 
-pub returns-in_ok-end_section-in-Endif-clause-steps : goal.returns-in_ok-end_section-in-Endif-clause-steps
-returns-in_ok-end_section-in-Endif-clause-steps g c =
-    let names = c.args.names.now in
-    let line = c.args.line.now in
-    step-as (λ files config m. ended m m.sections) (λ files config m. step m (seen_line names files line))
-    (λ files config m _ _. step-is names files line m _ (ap Some (sym c.in-Endif.is) ∙ c.requires.directive)) (c.in_ok-end_section-in-Endif.ensures.moved names)
+pub named_section-requires-in-Ifndef-clause-line : goal.named_section-requires-in-Ifndef-clause-line
+named_section-requires-in-Ifndef-clause-line g c = directive-long c.args.names.now c.args.line.now (Some (directive.Conditional c.args.conditional)) c.requires.directive (λ e. absurd (cc))
 
-pub returns-in-If-clause-printable : goal.returns-in-If-clause-printable
-returns-in-If-clause-printable g c = on_ok_weaker c.refused_section.result (λ printable. printable c.args.names.now) c.refused_section.ensures.printable
+pub returns-in-Ifdef-clause-decides : goal.returns-in-Ifdef-clause-decides
+returns-in-Ifdef-clause-decides g c = on_ok_weaker c.named_section.result (λ moved.
+    decides-unasked c.args.files.now c.args.line.now Ifdef (ap (λ k. Some (directive.Conditional k)) (sym c.in-Ifdef.is) ∙ c.requires.directive) (λ m. refl) c.requires.table moved)
+    c.named_section.ensures.moved
 
-pub returns-in-Elif-clause-printable : goal.returns-in-Elif-clause-printable
-returns-in-Elif-clause-printable g c = on_ok_weaker c.refused_branch.result (λ printable. printable c.args.names.now) c.refused_branch.ensures.printable
+pub returns-in-Ifdef-clause-walk : goal.returns-in-Ifdef-clause-walk
+returns-in-Ifdef-clause-walk g c = on_ok_weaker c.named_section.result (λ stays. stays (length c.args.files.now) any_token c.requires.placed c.requires.walk) c.named_section.ensures.printable
 
-pub returns-in_ok-begin_branch-in-Else-clause-printable : goal.returns-in_ok-begin_branch-in-Else-clause-printable
-returns-in_ok-begin_branch-in-Else-clause-printable g c = c.in_ok-begin_branch-in-Else.ensures.printable c.args.names.now c.args.line.now
+pub returns-in-Ifdef-clause-stops : goal.returns-in-Ifdef-clause-stops
+returns-in-Ifdef-clause-stops g c = memory-stops _ c.args.limit c.named_section.result c.named_section.ensures.memory
 
-pub returns-in_ok-end_section-in-Endif-clause-printable : goal.returns-in_ok-end_section-in-Endif-clause-printable
-returns-in_ok-end_section-in-Endif-clause-printable g c = c.in_ok-end_section-in-Endif.ensures.printable c.args.names.now c.args.line.now
+pub returns-in-Ifndef-clause-decides : goal.returns-in-Ifndef-clause-decides
+returns-in-Ifndef-clause-decides g c = on_ok_weaker c.named_section-in-Ifndef.result (λ moved.
+    decides-unasked c.args.files.now c.args.line.now Ifndef (ap (λ k. Some (directive.Conditional k)) (sym c.in-Ifndef.is) ∙ c.requires.directive) (λ m. refl) c.requires.table moved)
+    c.named_section-in-Ifndef.ensures.moved
+
+pub returns-in-Ifndef-clause-walk : goal.returns-in-Ifndef-clause-walk
+returns-in-Ifndef-clause-walk g c =
+    on_ok_weaker c.named_section-in-Ifndef.result (λ stays. stays (length c.args.files.now) any_token c.requires.placed c.requires.walk) c.named_section-in-Ifndef.ensures.printable
+
+pub returns-in-Ifndef-clause-stops : goal.returns-in-Ifndef-clause-stops
+returns-in-Ifndef-clause-stops g c = memory-stops _ c.args.limit c.named_section-in-Ifndef.result c.named_section-in-Ifndef.ensures.memory
+
+pub returns-in_ok-begin_branch-in-Else-clause-decides : goal.returns-in_ok-begin_branch-in-Else-clause-decides
+returns-in_ok-begin_branch-in-Else-clause-decides g c =
+    decides-unasked c.args.files.now c.args.line.now Else (ap (λ k. Some (directive.Conditional k)) (sym c.in-Else.is) ∙ c.requires.directive) (λ m. refl) c.requires.table
+    (c.in_ok-begin_branch-in-Else.ensures.moved c.args.names.now (λ _. true) c.always-always.ensures.meaning)
+
+pub returns-in_ok-begin_branch-in-Else-clause-walk : goal.returns-in_ok-begin_branch-in-Else-clause-walk
+returns-in_ok-begin_branch-in-Else-clause-walk g c = c.in_ok-begin_branch-in-Else.ensures.printable c.args.names.now c.args.line.now (length c.args.files.now) any_token c.requires.placed c.requires.walk
+
+pub returns-in_ok-end_section-in-Endif-clause-decides : goal.returns-in_ok-end_section-in-Endif-clause-decides
+returns-in_ok-end_section-in-Endif-clause-decides g c =
+    decides-unasked c.args.files.now c.args.line.now Endif (ap (λ k. Some (directive.Conditional k)) (sym c.in-Endif.is) ∙ c.requires.directive) (λ m. refl) c.requires.table
+    (c.in_ok-end_section-in-Endif.ensures.moved c.args.names.now)
+
+pub returns-in_ok-end_section-in-Endif-clause-walk : goal.returns-in_ok-end_section-in-Endif-clause-walk
+returns-in_ok-end_section-in-Endif-clause-walk g c = c.in_ok-end_section-in-Endif.ensures.printable c.args.names.now c.args.line.now (length c.args.files.now) any_token c.requires.placed c.requires.walk

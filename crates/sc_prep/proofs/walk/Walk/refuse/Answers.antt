@@ -1,4 +1,4 @@
-use Rattle.std.proofs.Common.{false, sym, subst, drop, get_or}
+use Rattle.std.proofs.Common.{ap, false, sym, subst, drop, get_or}
 use Rattle.std.proofs.Math.Seq.{drop-cons}
 use Rattle.std.proofs.lemmas.List.Elements.{All-get_or}
 use Rattle.std.proofs.lemmas.Result.{on_ok_weaker}
@@ -8,6 +8,7 @@ use Rattle.sc_prep.specs.Machine.{refusing_if}
 use Rattle.sc_prep.specs.Printable.{IsPlaced}
 use Rattle.sc_prep.specs.Simulates.{SimulatesStep}
 use Rattle.sc_lines.specs.Nests.{seen_line}
+use Rattle.sc_prep.specs.declared.walk.Walk.{Walk}
 use Rattle.sc_prep.proofs.Held.{refused-held}
 use Rattle.sc_prep.proofs.WalkMoves.{refuses, refuses-none}
 use Rattle.sc_prep.proofs.walk.Walk.refuse.Goals as goal
@@ -34,3 +35,6 @@ returns-clause-printable g c = on_ok_weaker c.refuse_at.result (λ refused. λ n
 pub returns-then-is_never-clause-moved : goal.returns-then-is_never-clause-moved
 returns-then-is_never-clause-moved g c = λ names t part.
     refuses-none names (g.C.Conditions.sets c.args.conds.now) c.args.self.now c.requires.owns c.args.part t c.args.cause part (c.is_never.ensures.0 c.if-is_never.true) c.args.line.now
+
+pub returns-clause-list : goal.returns-clause-list
+returns-clause-list g c = on_ok_weaker c.refuse_at.result (λ refused. ap (λ (v : Walk). v.prepared.list) refused.same) c.refuse_at.ensures.refuses

@@ -1,0 +1,274 @@
+-- What a walk that enters a file leads to at each configuration.
+use Rattle.std.proofs.Common.{◌≡◌, ℕ, ◌<◌, ◌&&◌, Bool, true, false, List, [], ◌∷◌, All, map, reverse, length, Option, Some, Result, Ok, Err, refl, sym, ap, ◌∙◌, subst}
+use Rattle.std.proofs.lemmas.Bool.{and_parts}
+use Rattle.std.specs.Prelude.{slice_get}
+use Rattle.c11_directives.specs.Lines.{c11_directive_names, lines_of}
+use Rattle.c11_directives.specs.Pre.{Context, State, File, Enters, back, c11, file_lines, file_with}
+use Rattle.c11_macros.specs.Results.{result_map}
+use Rattle.sc_base.specs.declared.fault.Fault as base
+use Rattle.sc_base.specs.declared.id.Cond.{Cond}
+use Rattle.sc_base.specs.declared.id.FileId.{FileId}
+use Rattle.sc_base.specs.declared.place.Place.{Place}
+use Rattle.sc_base.specs.Seen.{text_at}
+use Rattle.sc_guarded.specs.Items.{seen_fault}
+use Rattle.sc_lines.specs.Nests.{seen_lines}
+use Rattle.sc_model.proofs.SetLemmas.{IsConfig-Keeps, IsConfig-kept, Keeps-trans}
+use Rattle.sc_model.specs.declared.cause.Cause.{Cause}
+use Rattle.sc_model.specs.Bytes.{has_no_newline}
+use Rattle.sc_model.specs.Fault.{Fault}
+use Rattle.sc_model.specs.Outside.{Files}
+use Rattle.sc_model.specs.Sets.{Sets, IsConfig, IsCond, IsNever, Denotes, Keeps}
+use Rattle.sc_model.specs.Token.{in_file}
+use Rattle.sc_prep.proofs.EnterMoves.{acts-unfaulty, arrived-at, begins-idle, begins-start, entering, idle, not-entered, refused-at, refused-here, refused-not, refuses-inside, resumes}
+use Rattle.sc_prep.proofs.FileWalk.{LeftBy, covers-entered, covers-idle}
+use Rattle.sc_prep.proofs.WalkMoves.{owns-kept, sections-kept, simulates-kept}
+use Rattle.sc_prep.specs.Closes.{RefusesEach}
+use Rattle.sc_prep.specs.Contents.{Agrees, AreContents, AreHeldLines, AreLinesOf, IsContent, IsHeldContent, RefusesAll, content_at, nested, refused}
+use Rattle.sc_prep.specs.Entering.{Begins, Leaves}
+use Rattle.sc_prep.specs.Includes.{EntersAt, enters}
+use Rattle.sc_prep.specs.Machine.{Machine, acts, arriving, start}
+use Rattle.sc_prep.specs.Printable.{AllPass, IsPlainState, is_plain}
+use Rattle.sc_prep.specs.Simulates as simulates
+use Rattle.sc_prep.specs.Simulates.{Arrives, Covers, IsAtTop, Leads, Owns, OwnsSection, PlainEach, Simulates, section_at}
+use Rattle.sc_prep.specs.declared.content.Content.{Content}
+use Rattle.sc_prep.specs.declared.content.Content.TheVariants as content
+use Rattle.sc_prep.specs.declared.content.Contents.{Contents}
+use Rattle.sc_prep.specs.declared.content.FileLines.{FileLines}
+use Rattle.sc_prep.specs.declared.entering.Around.{Around}
+use Rattle.sc_prep.specs.declared.entry.Entry.{Entry}
+use Rattle.sc_prep.specs.declared.walk.Walk.{Walk}
+use Rattle.sc_table.proofs.Growth.{IsTable-Keeps}
+use Rattle.sc_table.specs.Table.{IsTable}
+
+-- ---- what was kept of a file
+
+-- the bytes of a file whose lines were kept
+pub record HasLines (names files : List (List ℕ)) (name : List ℕ) (held : Option (List ℕ)) (found : FileLines) : Type 0 where
+  pub bytes : List ℕ
+  pub is : held ≡ Some bytes
+  pub are : AreLinesOf names files name bytes found
+
+pub has-lines : {names files : List (List ℕ)} {name : List ℕ} {held : Option (List ℕ)} {found : FileLines} → IsContent names files name held (Some (content.Lines found))
+    → HasLines names files name held found
+has-lines (nested bytes found are) = record { bytes = bytes; is = refl; are = are }
+
+-- those of a file that refuses whoever enters it
+pub record HasRefusal (files : List (List ℕ)) (name : List ℕ) (held : Option (List ℕ)) (cause : Cause) (place : Place) : Type 0 where
+  pub bytes : List ℕ
+  pub is : held ≡ Some bytes
+  pub refuses : RefusesAll files name bytes cause place
+
+pub has-refusal : {names files : List (List ℕ)} {name : List ℕ} {held : Option (List ℕ)} {cause : Cause} {place : Place} → IsContent names files name held (Some (content.Refused cause place))
+    → HasRefusal files name held cause place
+has-refusal (refused bytes cause place all) = record { bytes = bytes; is = refl; refuses = all }
+
+-- ---- the configurations that enter the file
+
+module _ {old mid : Sets} {names : List (List ℕ)} {w : Walk} {within : Cond} (files : List (List ℕ)) (cond : Cond) (entry : Entry) (keeps : Keeps old mid)
+    (inside_is : Denotes mid within.0 (λ c. old.has cond.0 c && old.has w.acting.0 c)) (owns : Owns old w) (is : IsTable old names w.table) where
+  abbrev EntersFile : Context → List ℕ → Machine → Machine → Type 0
+  EntersFile x config m n = EntersAt x (text_at files entry.file.0) entry.depth m (old.has cond.0 config) n
+
+  module _ (config : List ℕ) (m : Machine) (listed : IsConfig old.arities config) (at : Simulates old names files w config m) where
+    stays : Simulates mid names files w config m
+    stays = simulates-kept keeps w owns names files config m listed is at
+
+    within-is : mid.has within.0 config ≡ (old.has cond.0 config && acts m)
+    within-is = inside_is.at config (IsConfig-Keeps keeps listed) ∙ ap (λ b. old.has cond.0 config && b) at.acting
+
+    both-enter : mid.has within.0 config ≡ true → (old.has cond.0 config ≡ true) × (acts m ≡ true)
+    both-enter here = and_parts (old.has cond.0 config) (acts m) (sym within-is ∙ here)
+
+    enters-not : (x : Context) → mid.has within.0 config ≡ false → EntersFile x config m m
+    enters-not x out = not-entered x (text_at files entry.file.0) entry.depth m (old.has cond.0 config) (acts m) refl (sym within-is ∙ out)
+
+    enters-file : (x : Context) (name bytes : List ℕ) → text_at files entry.file.0 ≡ name → x.files name ≡ Some bytes → (e : Result State Fault)
+        → Enters x (file_with name bytes) (record m.state { depth = entry.depth }) e → mid.has within.0 config ≡ true → EntersFile x config m (arriving m (result_map (back m.state) e))
+    enters-file x name bytes named there e walks here =
+        let both = both-enter here in
+        subst (λ b. EntersAt x (text_at files entry.file.0) entry.depth m b (arriving m (result_map (back m.state) e))) (sym both.0)
+        (enters (file_with name bytes) e both.1 (sym named) (ap x.files named ∙ there) walks)
+
+  -- no configuration enters it
+  pub leads-nowhere : (x : Context) → IsNever mid within.0 → Leads files names old w files names mid w (λ m. Unit {0}) (EntersFile x)
+  leads-nowhere x never = record {
+    at = λ config m listed at here.
+        record { machine = m; done = enters-not config m listed at x (never.none config (IsConfig-Keeps keeps listed)); simulates = stays config m listed at };
+  }
+
+  -- whoever enters it is refused
+  module _ {new : Sets} {next : Walk} (cause : Cause) (place : Place) (later : Keeps mid new)
+      (refuses : RefusesEach mid w (record { cond = within; cause = cause; place = place } ∷ []) new next) (x : Context) (standard : x.standard ≡ c11)
+      (has : HasRefusal files (text_at files entry.file.0) (x.files (text_at files entry.file.0)) cause place) where
+    abbrev fault : base.Fault
+    fault = record { cond = within; cause = cause; place = place }
+
+    refused-by : (config : List ℕ) (m : Machine) (listed : IsConfig old.arities config) (at : Simulates old names files w config m) (b : Bool) → mid.has within.0 config ≡ b
+        → Arrives new names files next config (EntersFile x config m)
+    refused-by config m listed at true here =
+        let both = both-enter config m listed at here in
+        record {
+          machine = arriving m (Err (seen_fault files fault));
+          done = enters-file config m listed at x (text_at files entry.file.0) has.bytes refl has.is (Err (seen_fault files fault)) (has.refuses x _ standard) here;
+          simulates = subst (Simulates new names files next config) (refused-at x (text_at files entry.file.0) entry.depth m (seen_fault files fault) both.1)
+              (refused-here later names files w next fault refuses (owns-kept keeps w owns) (IsTable-Keeps keeps is) config (IsConfig-Keeps keeps listed) m (stays config m listed at)
+              inside_is.own here (acts-unfaulty m both.1));
+        }
+    refused-by config m listed at false out = record {
+      machine = m;
+      done = enters-not config m listed at x out;
+      simulates = refused-not later names files w next fault refuses (owns-kept keeps w owns) (IsTable-Keeps keeps is) config (IsConfig-Keeps keeps listed) m (stays config m listed at) inside_is.own out;
+    }
+
+    pub leads-refused : Leads files names old w files names new next (λ m. Unit {0}) (EntersFile x)
+    leads-refused = record { at = λ config m listed at here. refused-by config m listed at (mid.has within.0 config) refl }
+
+  -- its lines are walked
+  module _ {last new : Sets} {begun walked next : Walk} {around : Around} (more more_files : List (List ℕ)) (later : Keeps mid last) (latest : Keeps last new)
+      (begins : Begins w within begun around) (leaves : Leaves last walked around new next) where
+    whole : Keeps old last
+    whole = Keeps-trans keeps later
+
+    kept : Owns last w
+    kept = owns-kept whole w owns
+
+    pub around-group : IsCond last around.group.0
+    around-group = subst (λ (a : Around). IsCond last a.group.0) (sym begins.around_is) kept.group
+
+    pub around-sections : All (OwnsSection last) around.sections.items
+    around-sections = subst (λ (a : Around). All (OwnsSection last) a.sections.items) (sym begins.around_is) kept.sections
+
+    -- ---- at one configuration
+    module _ (walked_owns : Owns last walked) (walked_is : IsTable last more walked.table) (x : Context) (standard : x.standard ≡ c11) (lines : FileLines)
+        (named : slice_get files entry.file.0 ≡ Some (text_at files entry.file.0)) (has : HasLines names files (text_at files entry.file.0) (x.files (text_at files entry.file.0)) lines)
+        (walks : Leads files names mid begun more_files more last walked (IsAtTop files entry) (λ config m n. Covers x (seen_lines names files lines.tokens.items) m n)) where
+      abbrev file : File
+      file = file_with (text_at files entry.file.0) has.bytes
+
+      lines-are : seen_lines names files lines.tokens.items ≡ file_lines x file has.are.lexemes
+      lines-are =
+          ap (lines_of c11_directive_names) has.are.tokens
+          ∙ ap (λ st. lines_of st.directives (map (in_file (text_at files entry.file.0)) has.are.lexemes)) (sym standard)
+
+      module _ (config : List ℕ) (m : Machine) (listed : IsConfig old.arities config) (at : Simulates old names files w config m) where
+        group-then : last.has around.group.0 config ≡ m.active
+        group-then = ap (λ (a : Around). last.has a.group.0 config) begins.around_is ∙ (whole.at w.group.0 config owns.group listed ∙ at.active)
+
+        sections-then : map (section_at last config) (reverse around.sections.items) ≡ m.sections
+        sections-then =
+            ap (λ (a : Around). map (section_at last config) (reverse a.sections.items)) begins.around_is
+            ∙ (sections-kept whole config listed w.sections.items owns.sections ∙ at.sections)
+
+        abbrev first : State
+        first = entering entry.depth (text_at files entry.file.0) m.state
+
+        -- the machine behind the file
+        goes-on : (n : Machine) → Simulates last more more_files walked config n
+            → Simulates new more more_files next config (record n { active = m.active; sections = m.sections; state = back m.state n.state })
+        goes-on n there =
+            resumes latest more more_files walked next around leaves walked_owns walked_is around-group around-sections config (IsConfig-Keeps whole listed) m n there
+            group-then sections-then
+
+        left-by : (n : Machine) → Simulates last more more_files walked config n → mid.has within.0 config ≡ true → (e : Result State Fault)
+            → Enters x file (record m.state { depth = entry.depth }) e → LeftBy e n → Arrives new more more_files next config (EntersFile x config m)
+        left-by n there here (Ok t) entered left =
+            let both = both-enter config m listed at here in
+            record {
+              machine = arriving m (Ok (back m.state t));
+              done = enters-file config m listed at x (text_at files entry.file.0) has.bytes refl has.is (Ok t) entered here;
+              simulates = subst (Simulates new more more_files next config) (arrived-at x (text_at files entry.file.0) entry.depth m n t both.1 left) (goes-on n there);
+            }
+        left-by n there here (Err fault) entered left =
+            let both = both-enter config m listed at here in
+            record {
+              machine = arriving m (Err fault);
+              done = enters-file config m listed at x (text_at files entry.file.0) has.bytes refl has.is (Err fault) entered here;
+              simulates = subst (Simulates new more more_files next config) (refused-at x (text_at files entry.file.0) entry.depth m fault both.1)
+                  (refuses-inside latest more more_files walked next around leaves walked_owns walked_is around-group around-sections config (IsConfig-Keeps whole listed) m n there
+                  group-then sections-then fault left.fault_is);
+            }
+
+        entered-by : (b : Bool) → mid.has within.0 config ≡ b → Arrives new more more_files next config (EntersFile x config m)
+        entered-by true here =
+            let both = both-enter config m listed at here in
+            let begun_at = begins-start mid names files w begun within around config m begins (stays config m listed at) here both.1 entry.depth (text_at files entry.file.0) in
+            let after = walks.at config (start first) (IsConfig-Keeps keeps listed) begun_at (simulates.begins first refl (record { name = named; deep = refl })) in
+            let entered = covers-entered x file (record m.state { depth = entry.depth }) has.are.lexemes has.are.group has.are.few has.are.lexed lines-are has.are.tree after.done in
+            left-by after.machine after.simulates here entered.end entered.enters entered.leaves
+        entered-by false out =
+            let after = walks.at config (idle m) (IsConfig-Keeps keeps listed) (begins-idle mid names files w begun within around config m begins (stays config m listed at) out) (simulates.idles refl refl) in
+            let still : after.machine ≡ idle m = covers-idle (idle m) has.are.tree refl after.done in
+            record {
+              machine = m;
+              done = enters-not config m listed at x out;
+              simulates = subst (λ (k : Machine). Simulates new more more_files next config (record k { active = m.active; sections = m.sections; state = back m.state k.state })) still
+                  (goes-on after.machine after.simulates);
+            }
+
+      pub leads-inside : Leads files names old w more_files more new next (λ m. Unit {0}) (EntersFile x)
+      leads-inside = record { at = λ config m listed at here. entered-by config m listed at (mid.has within.0 config) refl }
+
+    -- ---- what is put out in the file
+
+    pub begun-list : begun.prepared.list ≡ w.prepared.list
+    begun-list = ap (λ (v : Walk). v.prepared.list) begins.is
+
+    pub left-list : next.prepared.list ≡ walked.prepared.list
+    left-list = ap (λ (v : Walk). v.prepared.list) leaves.is
+
+    pub begun-plain : slice_get files entry.file.0 ≡ Some (text_at files entry.file.0) → has_no_newline (text_at files entry.file.0) ≡ true
+        → PlainEach old names files w (λ m. Unit {0}) → PlainEach mid names files begun (IsAtTop files entry)
+    begun-plain named path plain = record {
+      each = λ config listed.
+          let was = IsConfig-kept keeps listed in
+          let at = plain.each config was in
+          by config was at.0 at.1 at.3 (mid.has within.0 config) refl;
+    }
+      where
+        by : (config : List ℕ) → IsConfig old.arities config → (m : Machine) → Simulates old names files w config m → IsPlainState m.state → (b : Bool) → mid.has within.0 config ≡ b
+            → (n : Machine) × Simulates mid names files begun config n × IsAtTop files entry n × IsPlainState n.state
+        by config was m at state true here =
+            let both = both-enter config m was at here in
+            let first = entering entry.depth (text_at files entry.file.0) m.state in (
+              start first,
+              begins-start mid names files w begun within around config m begins (stays config m was at) here both.1 entry.depth (text_at files entry.file.0),
+              simulates.begins first refl (record { name = named; deep = refl }),
+              record { macros = state.macros; run = state.run; file = path },
+            )
+        by config was m at state false out =
+            (idle m, begins-idle mid names files w begun within around config m begins (stays config m was at) out, simulates.idles refl refl, state)
+
+    pub left-plain : (more_names : List (List ℕ)) → (AllPass (is_plain names) begun.prepared.list → AllPass (is_plain more_names) walked.prepared.list)
+        → AllPass (is_plain names) w.prepared.list → AllPass (is_plain more_names) next.prepared.list
+    left-plain more_names walks list = subst (AllPass (is_plain more_names)) (sym left-list) (walks (subst (AllPass (is_plain names)) (sym begun-list) list))
+
+-- refusing puts nothing out
+pub refused-list : {old new : Sets} {w next : Walk} {fault : base.Fault} → RefusesEach old w (fault ∷ []) new next → next.prepared.list ≡ w.prepared.list
+refused-list refuses = ap (λ (v : Walk). v.prepared.list) refuses.same
+
+-- ---- what was kept, seen from later
+
+-- the lines that were kept are those of the file
+pub kept-lines : {names files : List (List ℕ)} {held : Files} {contents : Contents} {c : Content} (file : ℕ) (found : FileLines) → Agrees names files held contents
+    → slice_get files file ≡ Some (text_at files file) → content_at contents file ≡ Some (Some c) → c ≡ content.Lines found → HasLines names files (text_at files file) (held (text_at files file)) found
+kept-lines {names} {files} {held} {c = c} file found agrees named at is =
+    let name = text_at files file in
+    has-lines (subst (λ k. IsContent names files name (held name) (Some k)) is (agrees.each file name (Some c) named at))
+
+pub kept-refusal : {names files : List (List ℕ)} {held : Files} {contents : Contents} {c : Content} (file : ℕ) (cause : Cause) (place : Place) → Agrees names files held contents
+    → slice_get files file ≡ Some (text_at files file) → content_at contents file ≡ Some (Some c) → c ≡ content.Refused cause place
+    → HasRefusal files (text_at files file) (held (text_at files file)) cause place
+kept-refusal {names} {files} {held} {c = c} file cause place agrees named at is =
+    let name = text_at files file in
+    has-refusal {names = names} (subst (λ k. IsContent names files name (held name) (Some k)) is (agrees.each file name (Some c) named at))
+
+-- the tables hold what was kept of a file
+pub held-lines : {names files : List (List ℕ)} {holds : Option Files} {contents : Contents} {c : Content} (file : FileId) (found : FileLines) → AreContents names files holds contents
+    → content_at contents file.0 ≡ Some (Some c) → c ≡ content.Lines found → AreHeldLines names (length files) file found
+held-lines {names} {files} {c = c} file found are at is = subst (IsHeldContent names (length files) file) is (are.held file c at)
+
+pub held-refusal : {names files : List (List ℕ)} {holds : Option Files} {contents : Contents} {c : Content} (file : FileId) (cause : Cause) (place : Place) → AreContents names files holds contents
+    → content_at contents file.0 ≡ Some (Some c) → c ≡ content.Refused cause place → place.file.0 < length files
+held-refusal {names} {files} {c = c} file cause place are at is =
+    let same : place.file ≡ file = subst (IsHeldContent names (length files) file) is (are.held file c at) in
+    subst (λ (f : FileId). f.0 < length files) (sym same) (are.named file.0 (Some c) at)

@@ -1,0 +1,207 @@
+-- How a walk that enters a file simulates the machine of each configuration.
+use Rattle.std.proofs.Common.{◌≡◌, ℕ, ◌&&◌, ◌++◌, ◌∷◌, Bool, true, false, List, [], All, map, reverse, append-nil, if◌then◌else◌, Option, Some, None, Ok, Err, refl, sym, ap, ◌∙◌, subst}
+use Rattle.std.specs.Option.{option_to_list}
+use Rattle.std.specs.Prelude.{is_none}
+use Rattle.c11_directives.specs.Pre.{Context, State, back}
+use Rattle.std.proofs.lemmas.List.{map-append}
+use Rattle.sc_base.specs.declared.fault.Fault as base
+use Rattle.sc_base.specs.declared.id.Cond.{Cond}
+use Rattle.sc_guarded.proofs.ItemLemmas.{faults_at-append}
+use Rattle.sc_guarded.specs.Items.{faults_at, seen_fault}
+use Rattle.sc_model.proofs.SetLemmas.{IsConfig-Keeps}
+use Rattle.sc_model.specs.Fault.{Fault}
+use Rattle.sc_model.specs.Sets.{Sets, IsConfig, IsCond, Keeps}
+use Rattle.sc_prep.proofs.Machine.{after}
+use Rattle.sc_prep.proofs.WalkMoves.{simulates-kept, sections-kept}
+use Rattle.sc_prep.specs.Closes.{RefusesEach, has_none, is_empty}
+use Rattle.sc_prep.specs.Entering.{Begins, Leaves}
+use Rattle.sc_prep.specs.Includes.{EntersAt, elsewhere, inert}
+use Rattle.sc_prep.specs.Machine.{Machine, acts, arriving, start}
+use Rattle.sc_prep.specs.Simulates.{Owns, OwnsSection, Simulates, section_at}
+use Rattle.sc_prep.specs.declared.entering.Around.{Around}
+use Rattle.sc_prep.specs.declared.walk.Walk.{Walk}
+use Rattle.sc_table.specs.Table.{IsTable}
+
+-- a machine that does something has no fault, and takes the lines
+pub acts-active : (m : Machine) → acts m ≡ true → m.active ≡ true
+acts-active m e = by m.active m.fault e
+  where
+    by : (a : Bool) (f : Option Fault) → (a && is_none f) ≡ true → a ≡ true
+    by true f e = refl
+    by false f e = e
+
+pub acts-unfaulty : (m : Machine) → acts m ≡ true → m.fault ≡ None
+acts-unfaulty m e = by m.active m.fault e
+  where
+    by : (a : Bool) (f : Option Fault) → (a && is_none f) ≡ true → f ≡ None
+    by a None e = refl
+    by true (Some f) e = cc
+    by false (Some f) e = cc
+
+-- the machine of a configuration that does not enter the file
+abbrev pub idle : Machine → Machine
+idle m = record m { active = false; sections = [] }
+
+-- the state with which a file is entered
+abbrev pub entering : ℕ → List ℕ → State → State
+entering depth name s = record s { depth = depth; file = name }
+
+-- before the first line of the file
+module _ (s : Sets) (names files : List (List ℕ)) (w next : Walk) (within : Cond) (around : Around) (config : List ℕ) (m : Machine)
+    (begins : Begins w within next around) (at : Simulates s names files w config m) where
+  -- the walk that begins
+  begun : Walk
+  begun = record w { group = within; acting = within; sections = next.sections }
+
+  none-open : map (section_at s config) (reverse next.sections.items) ≡ []
+  none-open = ap (λ xs. map (section_at s config) (reverse xs)) begins.sections
+
+  pub begins-idle : s.has within.0 config ≡ false → Simulates s names files next config (idle m)
+  begins-idle out = subst (λ (v : Walk). Simulates s names files v config (idle m)) (sym begins.is) (record {
+    active = out;
+    acting = out;
+    sections = none-open;
+    prepared = record { live = at.prepared.live; output = at.prepared.output; fault = at.prepared.fault };
+    run = at.run;
+    macros = at.macros;
+  })
+
+  pub begins-start : s.has within.0 config ≡ true → acts m ≡ true → (depth : ℕ) (name : List ℕ) → Simulates s names files next config (start (entering depth name m.state))
+  begins-start here acting depth name =
+      let none = acts-unfaulty m acting in
+      subst (λ (v : Walk). Simulates s names files v config (start (entering depth name m.state))) (sym begins.is) (record {
+        active = here;
+        acting = here;
+        sections = none-open;
+        prepared = record { live = at.prepared.live ∙ ap is_none none; output = λ _. at.prepared.output none; fault = at.prepared.fault ∙ ap option_to_list none };
+        run = λ _. at.run none;
+        macros = λ _. at.macros none;
+      })
+
+-- behind the last line of the file
+module _ {old new : Sets} (keeps : Keeps old new) (names files : List (List ℕ)) (w next : Walk) (around : Around) (leaves : Leaves old w around new next) (owns : Owns old w)
+    (is : IsTable old names w.table) (group_own : IsCond old around.group.0) (sections_own : All (OwnsSection old) around.sections.items) (config : List ℕ) (listed : IsConfig old.arities config) where
+  module _ (m n : Machine) (at : Simulates old names files w config n) (group : old.has around.group.0 config ≡ m.active)
+      (sections : map (section_at old config) (reverse around.sections.items) ≡ m.sections) where
+    kept : Simulates new names files w config n
+    kept = simulates-kept keeps w owns names files config n listed is at
+
+    active-now : new.has around.group.0 config ≡ m.active
+    active-now = keeps.at around.group.0 config group_own listed ∙ group
+
+    sections-now : map (section_at new config) (reverse around.sections.items) ≡ m.sections
+    sections-now = sections-kept keeps config listed around.sections.items sections_own ∙ sections
+
+    acting-now : new.has next.acting.0 config ≡ (m.active && is_none n.fault)
+    acting-now = leaves.acting.at config (IsConfig-Keeps keeps listed) ∙ (ap (λ b. b && old.has w.prepared.live.0 config) group ∙ ap (λ b. m.active && b) at.prepared.live)
+
+    -- the machine goes on in the state around
+    pub resumes : Simulates new names files next config (record n { active = m.active; sections = m.sections; state = back m.state n.state })
+    resumes = subst (λ (v : Walk). Simulates new names files v config (record n { active = m.active; sections = m.sections; state = back m.state n.state })) (sym leaves.is) (record {
+      active = active-now;
+      acting = acting-now;
+      sections = sections-now;
+      prepared = record { live = kept.prepared.live; output = kept.prepared.output; fault = kept.prepared.fault };
+      run = kept.run;
+      macros = kept.macros;
+    })
+
+    -- or is refused in the file
+    pub refuses-inside : (fault : Fault) → n.fault ≡ Some fault → Simulates new names files next config (record m { fault = Some fault })
+    refuses-inside fault told = subst (λ (v : Walk). Simulates new names files v config (record m { fault = Some fault })) (sym leaves.is) (record {
+      active = active-now;
+      acting = acting-now ∙ ap (λ f. m.active && is_none f) told;
+      sections = sections-now;
+      prepared = record {
+        live = kept.prepared.live ∙ ap is_none told;
+        output = λ none. cc;
+        fault = kept.prepared.fault ∙ ap option_to_list told;
+      };
+      run = λ none. cc;
+      macros = λ none. cc;
+    })
+
+-- ---- a fault of some configurations
+
+module _ {old new : Sets} (keeps : Keeps old new) (names files : List (List ℕ)) (w next : Walk) (fault : base.Fault) (refuses : RefusesEach old w (fault ∷ []) new next)
+    (owns : Owns old w) (is : IsTable old names w.table) (config : List ℕ) (listed : IsConfig old.arities config) (m : Machine) (at : Simulates old names files w config m) where
+  -- the walk where nothing but its faults differs
+  refused-walk : Simulates new names files w config m
+  refused-walk = simulates-kept keeps w owns names files config m listed is at
+
+  now-listed : IsConfig new.arities config
+  now-listed = IsConfig-Keeps keeps listed
+
+  faults-now : (own : IsCond old fault.cond.0) → map (seen_fault files) (faults_at new next.prepared.faults.items config)
+      ≡ option_to_list m.fault ++ (if old.has fault.cond.0 config then seen_fault files fault ∷ [] else [])
+  faults-now own =
+      ap (λ fs. map (seen_fault files) (faults_at new fs config)) refuses.faults
+      ∙ (ap (map (seen_fault files)) (faults_at-append new w.prepared.faults.items (fault ∷ []) config)
+      ∙ (map-append (seen_fault files) (faults_at new w.prepared.faults.items config) (if new.has fault.cond.0 config then fault ∷ [] else [])
+      ∙ (ap (λ fs. fs ++ map (seen_fault files) (if new.has fault.cond.0 config then fault ∷ [] else [])) refused-walk.prepared.fault
+      ∙ (ap (λ b. option_to_list m.fault ++ map (seen_fault files) (if b then fault ∷ [] else [])) (keeps.at fault.cond.0 config own listed)
+      ∙ ap (λ fs. option_to_list m.fault ++ fs) (one (old.has fault.cond.0 config))))))
+    where
+      one : (b : Bool) → map (seen_fault files) (if b then fault ∷ [] else []) ≡ (if b then seen_fault files fault ∷ [] else [])
+      one true = refl
+      one false = refl
+
+  live-now : new.has next.prepared.live.0 config ≡ (is_none m.fault && is_empty (if old.has fault.cond.0 config then fault ∷ [] else []))
+  live-now = refuses.live.at config now-listed ∙ ap (λ b. b && has_none old (fault ∷ []) config) at.prepared.live
+
+  acting-then : new.has next.acting.0 config ≡ (acts m && is_empty (if old.has fault.cond.0 config then fault ∷ [] else []))
+  acting-then = refuses.acting.at config now-listed ∙ ap (λ b. b && has_none old (fault ∷ []) config) at.acting
+
+  and-true : (b : Bool) → (b && true) ≡ b
+  and-true true = refl
+  and-true false = refl
+
+  and-false : (b : Bool) → (b && false) ≡ false
+  and-false true = refl
+  and-false false = refl
+
+  pub refused-not : IsCond old fault.cond.0 → old.has fault.cond.0 config ≡ false → Simulates new names files next config m
+  refused-not own out = subst (λ (v : Walk). Simulates new names files v config m) (sym refuses.same) (record {
+    active = refused-walk.active;
+    acting = acting-then ∙ (ap (λ b. acts m && is_empty (if b then fault ∷ [] else [])) out ∙ and-true (acts m));
+    sections = refused-walk.sections;
+    prepared = record {
+      live = live-now ∙ (ap (λ b. is_none m.fault && is_empty (if b then fault ∷ [] else [])) out ∙ and-true (is_none m.fault));
+      output = refused-walk.prepared.output;
+      fault = faults-now own ∙ (ap (λ b. option_to_list m.fault ++ (if b then seen_fault files fault ∷ [] else [])) out ∙ append-nil (option_to_list m.fault));
+    };
+    run = refused-walk.run;
+    macros = refused-walk.macros;
+  })
+
+  pub refused-here : IsCond old fault.cond.0 → old.has fault.cond.0 config ≡ true → m.fault ≡ None → Simulates new names files next config (record m { fault = Some (seen_fault files fault) })
+  refused-here own here none = subst (λ (v : Walk). Simulates new names files v config (record m { fault = Some (seen_fault files fault) })) (sym refuses.same) (record {
+    active = refused-walk.active;
+    acting = acting-then ∙ (ap (λ b. acts m && is_empty (if b then fault ∷ [] else [])) here ∙ (and-false (acts m) ∙ sym (and-false m.active)));
+    sections = refused-walk.sections;
+    prepared = record {
+      live = live-now ∙ (ap (λ b. is_none m.fault && is_empty (if b then fault ∷ [] else [])) here ∙ and-false (is_none m.fault));
+      output = λ absurd_. cc;
+      fault = faults-now own ∙ (ap (λ b. option_to_list m.fault ++ (if b then seen_fault files fault ∷ [] else [])) here ∙ ap (λ f. option_to_list f ++ seen_fault files fault ∷ []) none);
+    };
+    run = λ absurd_. cc;
+    macros = λ absurd_. cc;
+  })
+
+-- ---- what entering comes to
+
+module _ (x : Context) (name : List ℕ) (depth : ℕ) (m : Machine) where
+  -- a configuration that is not among those that enter, or that is refused or takes no line
+  pub not-entered : (has acting : Bool) → acts m ≡ acting → (has && acting) ≡ false → EntersAt x name depth m has m
+  not-entered true acting e none = inert (e ∙ none)
+  not-entered false acting e none = elsewhere
+
+  -- the machine that is refused
+  pub refused-at : (fault : Fault) → acts m ≡ true → record m { fault = Some fault } ≡ arriving m (Err fault)
+  refused-at fault acting = ap (λ b. record m { fault = if b then Some fault else m.fault }) (sym acting)
+
+  pub arrived-at : (n : Machine) (u : State) → acts m ≡ true → n ≡ after [] u None → record n { active = m.active; sections = m.sections; state = back m.state n.state } ≡ arriving m (Ok (back m.state u))
+  arrived-at n u acting is =
+      ap (λ (k : Machine). record k { active = m.active; sections = m.sections; state = back m.state k.state }) is
+      ∙ (ap (λ (f : Option Fault). record { active = m.active; sections = m.sections; state = back m.state u; fault = f }) (sym (acts-unfaulty m acting))
+      ∙ ap (λ b. record m { state = if b then back m.state u else m.state }) (sym acting))

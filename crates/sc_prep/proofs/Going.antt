@@ -1,0 +1,254 @@
+-- How far a walk has gone: what it leads to from its start, while the tables grow.
+use Rattle.std.proofs.Common.{◌≡◌, ℕ, ◌+◌, ◌<◌, ◌==◌, ◌&&◌, not, Bool, true, false, List, [], ◌∷◌, All, map, length, Option, Some, None, Result, Ok, Err, if◌then◌else◌, refl, sym, ap, ◌∙◌, subst, arith}
+use Rattle.std.proofs.lemmas.Bool.{and_parts, ne_eqb, not-true, not_from_false, or_from}
+use Rattle.std.proofs.lemmas.List.Elements.{All-head, All-tail, All-weaker}
+use Rattle.std.proofs.lemmas.Option.{same_Some}
+use Rattle.std.specs.List.{AllByRecursion as Every, list_all}
+use Rattle.std.specs.Prelude.{is_none, nat_le, slice_get, unwrap_or}
+use Rattle.c11_directives.specs.Behind.{Says}
+use Rattle.c11_directives.specs.declared.directive.Directive.TheVariants as directive
+use Rattle.c11_directives.specs.Lines.{Line, c11_directive_names, hash_of, line_of}
+use Rattle.c11_directives.specs.Pre.{Context, State, File, Enters, back, deeper, entered, file_with, found_or, included, put_out, search}
+use Rattle.c11_headers.specs.Headers.{Header, candidates, header_of}
+use Rattle.c11_macros.specs.Results.{result_map}
+use Rattle.sc_base.proofs.Growth.{Extends-keeps, Extends-trans}
+use Rattle.sc_base.specs.declared.id.FileId.{FileId}
+use Rattle.sc_base.specs.declared.token.Token as base
+use Rattle.sc_base.specs.Seen.{seen, text_at}
+use Rattle.sc_lines.specs.declared.line.Line as declared
+use Rattle.sc_lines.specs.Nests.{seen_line}
+use Rattle.sc_lines.specs.Split.{token_lines, tokens_of}
+use Rattle.sc_model.proofs.SetLemmas.{Keeps-trans}
+use Rattle.sc_model.specs.Bytes.{has_no_newline}
+use Rattle.sc_model.specs.Fault.{Fault}
+use Rattle.sc_model.specs.Growth.{Extends}
+use Rattle.sc_model.specs.Outside.{Files}
+use Rattle.sc_model.specs.Sets.{Sets, IsConfig, Keeps}
+use Rattle.sc_model.specs.Space.{Space}
+use Rattle.sc_model.specs.Token.{Token}
+use Rattle.sc_prep.proofs.Contents.{agrees-back, tokens-later}
+use Rattle.sc_prep.proofs.InFile.{inside-as, whereabouts}
+use Rattle.sc_prep.proofs.LeadMoves.{contents-then, leads-then}
+use Rattle.sc_prep.proofs.Machine.{inert_arriving}
+use Rattle.sc_prep.proofs.PlainRuns.{covers-plain, each-leads, path-plain, takes-plain}
+use Rattle.sc_prep.specs.Contents.{Agrees, AreContents, AreHeldLines, KeepsContents}
+use Rattle.sc_prep.specs.Includes as includes
+use Rattle.sc_prep.specs.Includes.{EntersAt, Finds}
+use Rattle.sc_prep.specs.Machine as machine
+use Rattle.sc_prep.specs.Machine.{Machine, CarriesOut, RunExpands, Takes, acts, arriving, carries, closing_run}
+use Rattle.sc_prep.specs.Printable.{AllPass, ArePlainPaths, IsPlaced, IsPlainState, IsPlainToken, is_plain}
+use Rattle.sc_prep.specs.Simulates.{Closed, IsContext, IsIn, Leads, PlainEach, Simulates}
+use Rattle.sc_prep.specs.declared.content.Contents.{Contents}
+use Rattle.sc_prep.specs.declared.content.FileLines.{FileLines}
+use Rattle.sc_prep.specs.declared.entry.Entry.{Entry}
+use Rattle.sc_prep.specs.declared.walk.Walk.{Walk}
+use Rattle.sc_space.specs.Settings.{is_directory}
+use Rattle.sc_space.specs.Sound.{IsSound}
+
+-- what a walk did from one point to a later one
+pub record Gone (space : Space) (old : Sets) (names files : List (List ℕ)) (walk : Walk) (contents : Contents) (new : Sets) (more more_files : List (List ℕ)) (next : Walk) (now : Contents)
+    (given : Type 0) (from : Machine → Type 0) (does : Context → List ℕ → Machine → Machine → Type 0) : Type 0 where
+  pub keeps : Keeps old new
+  pub names_grow : Extends names more
+  pub files_grow : Extends files more_files
+  pub read : KeepsContents contents now
+  pub leads : (x : Context) → IsContext space x → Agrees more more_files x.files now → Leads files names old walk more_files more new next from (does x)
+  pub plain : given → (x : Context) → IsContext space x → Agrees more more_files x.files now → IsSound space → ArePlainPaths files → PlainEach old names files walk from
+      → AllPass (is_plain names) walk.prepared.list → AllPass (is_plain more) next.prepared.list
+  pub paths : given → (x : Context) → IsContext space x → Agrees more more_files x.files now → IsSound space → ArePlainPaths files → PlainEach old names files walk from → ArePlainPaths more_files
+
+module _ {space : Space} {a b c : Sets} {names files mid mid_files more more_files : List (List ℕ)} {u v w : Walk} {one two three : Contents} {given : Type 0} {from between : Machine → Type 0}
+    {does later whole : Context → List ℕ → Machine → Machine → Type 0} {holds : Option Files} (gone : Gone space a names files u one b mid mid_files v two given from does)
+    (held : AreContents mid mid_files holds two) (keeps : Keeps b c) (names_grow : Extends mid more) (files_grow : Extends mid_files more_files) (read : KeepsContents two three) where
+  -- and what the next call did
+  pub gone-then : ((x : Context) → IsContext space x → Agrees more more_files x.files three → Leads mid_files mid b v more_files more c w between (later x))
+      → (given → (x : Context) → IsContext space x → Agrees more more_files x.files three → IsSound space → ArePlainPaths mid_files → PlainEach b mid mid_files v between
+      → AllPass (is_plain mid) v.prepared.list → AllPass (is_plain more) w.prepared.list)
+      → (given → (x : Context) → IsContext space x → Agrees more more_files x.files three → IsSound space → ArePlainPaths mid_files → PlainEach b mid mid_files v between → ArePlainPaths more_files)
+      → ((x : Context) (config : List ℕ) (m n : Machine) → from m → does x config m n → between n)
+      → (given → (x : Context) → IsContext space x → IsSound space → ArePlainPaths files → (config : List ℕ) (m n : Machine) → does x config m n → from m → IsPlainState m.state → IsPlainState n.state)
+      → ((x : Context) (config : List ℕ) (m n o : Machine) → IsContext space x → IsConfig a.arities config → from m → does x config m n → later x config n o
+      → Simulates c more more_files w config o → whole x config m o)
+      → Gone space a names files u one c more more_files w three given from whole
+  gone-then leads plain paths goes stays joins = record {
+    keeps = Keeps-trans gone.keeps keeps;
+    names_grow = Extends-trans gone.names_grow names_grow;
+    files_grow = Extends-trans gone.files_grow files_grow;
+    read = contents-then gone.read read;
+    leads = λ x context agreed. leads-then gone.keeps (gone.leads x context (agrees-back names_grow files_grow held x.files read agreed)) (leads x context agreed) (goes x)
+        (λ config m n o listed here first second at. joins x config m n o context listed here first second at);
+    plain = λ g x context agreed sound plain_paths each list.
+        plain g x context agreed sound (gone.paths g x context (agrees-back names_grow files_grow held x.files read agreed) sound plain_paths each)
+        (each-leads gone.keeps (gone.leads x context (agrees-back names_grow files_grow held x.files read agreed)) (λ config m n did is state. (goes x config m n is did, stays g x context sound plain_paths config m n did is state)) each)
+        (gone.plain g x context (agrees-back names_grow files_grow held x.files read agreed) sound plain_paths each list);
+    paths = λ g x context agreed sound plain_paths each.
+        paths g x context agreed sound (gone.paths g x context (agrees-back names_grow files_grow held x.files read agreed) sound plain_paths each)
+        (each-leads gone.keeps (gone.leads x context (agrees-back names_grow files_grow held x.files read agreed)) (λ config m n did is state. (goes x config m n is did, stays g x context sound plain_paths config m n did is state)) each);
+  }
+
+-- ---- texts that are spelled on one line
+
+from-blank : (bs : List ℕ) → list_all (nat_le 32) bs ≡ true → has_no_newline bs ≡ true
+from-blank [] all = refl
+from-blank (b ∷ bs) all =
+    let parts = and_parts (nat_le 32 b) (list_all (nat_le 32) bs) all in
+    let differs = ne_eqb b 10 (λ e. let passes = sym (ap (nat_le 32) e) ∙ parts.0 in cc) in
+    not_from_false _ (or_from _ _ differs (not-true _ (from-blank bs parts.1)))
+
+-- the directories of a space are named on one line
+pub directories-plain : {space : Space} {x : Context} → IsContext space x → IsSound space → ArePlainPaths x.include
+directories-plain {space} {x} context sound =
+    subst ArePlainPaths (sym context.include)
+    (All-weaker (λ name. is_directory name ≡ true) (λ path. has_no_newline path ≡ true) (λ path is. from-blank path (and_parts (not (length path == 0)) (list_all (nat_le 32) path) is).1) space.include sound.directories)
+
+pub line-plain : (names files : List (List ℕ)) (ts : List base.Token) → All (IsPlaced names (length files)) ts → ArePlainPaths files → All (λ (t : base.Token). is_plain names t ≡ true) ts
+    → Every IsPlainToken (map (seen names files) ts)
+line-plain names files [] placed paths all = tt
+line-plain names files (t ∷ ts) placed paths all =
+    let P : base.Token → Type 0 = λ t. is_plain names t ≡ true in
+    let Q = IsPlaced names (length files) in (
+      record { spelling = All-head P t ts all; file = path-plain files t.place.file.0 (All-head Q t ts placed).file paths },
+      line-plain names files ts (All-tail Q t ts placed) paths (All-tail P t ts all),
+    )
+
+pub plain-line : (names files : List (List ℕ)) (ts : List base.Token) → Every IsPlainToken (map (seen names files) ts) → Every (λ (t : base.Token). is_plain names t ≡ true) ts
+plain-line names files [] all = tt
+plain-line names files (t ∷ ts) all = (all.0.spelling, plain-line names files ts all.1)
+
+-- ---- the file of a line
+
+pub entry-within : {names : List (List ℕ)} {files : ℕ} {file : FileId} (lines : FileLines) → AreHeldLines names files file lines → (i : ℕ) → i < length lines.lines.items → file.0 < files
+entry-within {names} {files} {file} lines held i within = by lines.tokens.items held.placed held.inside lines.lines.items held.lines_are.tokens_are within
+  where
+    by : (ts : List base.Token) → All (IsPlaced names files) ts → All (λ (t : base.Token). t.place.file ≡ file) ts → (ls : List declared.Line) → map (tokens_of ts) ls ≡ token_lines ts
+        → i < length ls → file.0 < files
+    by [] placed inside [] e h = absurd (omega (arith, h))
+    by [] placed inside (l ∷ ls) e h = absurd (cc)
+    by (t ∷ ts) placed inside ls e h =
+        subst (λ (f : FileId). f.0 < files) (All-head (λ (t : base.Token). t.place.file ≡ file) t ts inside) (All-head (IsPlaced names files) t ts placed).file
+
+-- a line looks the same while the tables grow
+pub line-later : {names more files more_files : List (List ℕ)} → Extends names more → Extends files more_files → (ts : List base.Token) → All (IsPlaced names (length files)) ts
+    → seen_line more more_files ts ≡ seen_line names files ts
+line-later grows files_grow ts placed = ap (line_of c11_directive_names) (tokens-later grows files_grow ts placed)
+
+-- ---- a run that was closed stays in its file
+
+pub closed-in : {files : List (List ℕ)} {entry : Entry} (m k : Machine) → IsIn files entry m → Closed m k → IsIn files entry k
+closed-in {files} {entry} m k here closed = subst (IsIn files entry) (sym closed.is) (by closed.answer)
+  where
+    same : (b : Bool) (output : List Token) → whereabouts (if b then put_out m.state output else m.state) ≡ whereabouts m.state
+    same true output = refl
+    same false output = refl
+
+    dead : (a : Bool) (f : Option Fault) (fault : Fault) → (a && is_none (if a && is_none f then Some fault else f)) ≡ true → ⊥
+    dead true None fault e = cc
+    dead true (Some f) fault e = cc
+    dead false f fault e = cc
+
+    by : (r : Result (List Token) Fault) → IsIn files entry (closing_run m r)
+    by (Ok output) acting = inside-as (same (acts m) output) (here acting)
+    by (Err fault) acting = absurd (dead m.active m.fault fault acting)
+
+-- ---- the file of an #include
+
+-- a search finds what a file of the name holds
+searched : (held : Files) (names : List (List ℕ)) (f : File) → search held names ≡ Some f → held f.name ≡ Some f.bytes
+searched held [] f e = absurd (cc)
+searched held (name ∷ names) f e = by (held name) refl e (searched held names f)
+  where
+    by : (o : Option (List ℕ)) → held name ≡ o → found_or (search held names) name o ≡ Some f → (search held names ≡ Some f → held f.name ≡ Some f.bytes) → held f.name ≡ Some f.bytes
+    by None there e later = later e
+    by (Some bytes) there e later = subst (λ (g : File). held g.name ≡ Some g.bytes) (same_Some (file_with name bytes) f e) there
+
+-- Of the machine behind a closed run: its file is still among those that are left, or the directive
+-- was carried out.
+pub data Stage (x : Context) (l : Line) (files : List (List ℕ)) (depth : ℕ) (k : Machine) : List FileId → Machine → Type 0 where
+  waits : (file : FileId) (ts : List Token) (header : Header) (hash : Token) (f : File) → acts k ≡ true → Says k.state.macros l (Ok ts) → header_of ts ≡ Ok header → k.state.depth ≡ depth
+      → k.state.depth < x.include_depth → hash_of l ≡ Some hash → search x.files (candidates header k.state.file x.include) ≡ Some f → slice_get files file.0 ≡ Some f.name
+      → Stage x l files depth k (file ∷ []) k
+  came : (e : Result State Fault) → CarriesOut x k l directive.Include e → Stage x l files depth k [] (arriving k e)
+
+pub record Staged (x : Context) (l : Line) (files : List (List ℕ)) (depth : ℕ) (m : Machine) (left : List FileId) (n : Machine) : Type 0 where
+  pub answer : Result (List Token) Fault
+  pub expands : RunExpands m answer
+  pub stage : Stage x l files depth (closing_run m answer) left n
+
+finds-stage : {x : Context} {l : Line} {files : List (List ℕ)} (depth : ℕ) (k : Machine) {left : List FileId} {n : Machine} → (acts k ≡ true → k.state.depth ≡ depth) → Finds x l files k left n
+    → Stage x l files depth k left n
+finds-stage {x} {l} {files} depth k deep (includes.inert inactive) =
+    subst (Stage x l files depth k []) (inert_arriving k (Ok k.state) inactive) (came (Ok k.state) (λ here. let both = sym inactive ∙ here in cc))
+finds-stage depth k deep (includes.refused fault acting carried) = came (Err fault) (λ here. carried)
+finds-stage depth k deep (includes.found file ts header hash f acting says is shallow hashed searching named) =
+    waits file ts header hash f acting says is (deep acting) shallow hashed searching named
+
+pub finds-staged : {x : Context} {l : Line} {files : List (List ℕ)} (depth : ℕ) (m k : Machine) {left : List FileId} {n : Machine} → (acts k ≡ true → k.state.depth ≡ depth) → Closed m k
+    → Finds x l files k left n → Staged x l files depth m left n
+finds-staged {x} {l} {files} depth m k {left} {n} deep closed finds = record {
+  answer = closed.answer;
+  expands = closed.expands;
+  stage = subst (λ (k : Machine). Stage x l files depth k left n) closed.is (finds-stage depth k deep finds);
+}
+
+module _ {x : Context} {l : Line} {files : List (List ℕ)} {depth : ℕ} (k : Machine) where
+  -- what stays where the configuration doesn't enter
+  stays-out : {left rest : List FileId} {n : Machine} (file : FileId) (has : Bool) → Stage x l files depth k left n → left ≡ (if has then file ∷ rest else rest) → acts n ≡ false
+      → Stage x l files depth k rest n
+  stays-out {n = n} file false stage is inactive = subst (λ ls. Stage x l files depth k ls n) is stage
+  stays-out file true (waits other ts header hash f acting says names deep shallow hashed searching named) is inactive = let both = sym acting ∙ inactive in cc
+  stays-out file true (came e carried) is inactive = absurd (cc)
+
+  goes-in : {left rest : List FileId} {n : Machine} (file : FileId) (f : File) (e : Result State Fault) → Stage x l files depth k left n → left ≡ file ∷ rest → acts n ≡ true
+      → f.name ≡ text_at files file.0 → x.files (text_at files file.0) ≡ Some f.bytes → Enters x f (record n.state { depth = depth + 1 }) e
+      → Stage x l files depth k rest (arriving n (result_map (back n.state) e))
+  goes-in {rest = rest} file f e (waits other ts header hash g acting says names deep shallow hashed searching named) is acting_n name_is there walks =
+      let ends : [] ≡ rest = cc in
+      let one : other ≡ file = cc in
+      let text : text_at files file.0 ≡ g.name = ap (λ (i : FileId). text_at files i.0) (sym one) ∙ ap (λ o. unwrap_or o []) named in
+      let bytes : f.bytes ≡ g.bytes = same_Some f.bytes g.bytes (sym there ∙ (ap x.files text ∙ searched x.files (candidates header k.state.file x.include) g searching)) in
+      let same : f ≡ g = ap (λ n. file_with n f.bytes) (name_is ∙ text) ∙ ap (file_with g.name) bytes in
+      let inside : Enters x f (deeper k.state) e = subst (λ d. Enters x f (record k.state { depth = d + 1 }) e) (sym deep) walks in
+      subst (λ ls. Stage x l files depth k ls (arriving k (result_map (back k.state) e))) ends
+      (came (result_map (back k.state) e) (λ here. included ts header hash says names shallow hashed (entered g searching (subst (λ (h : File). Enters x h (deeper k.state) e) same inside))))
+  goes-in file f e (came d carried) is acting_n name_is there walks = absurd (cc)
+
+  -- a file of the line was entered
+  pub stage-then : {left rest : List FileId} {n o : Machine} {has : Bool} (file : FileId) → Stage x l files depth k left n → left ≡ (if has then file ∷ rest else rest)
+      → EntersAt x (text_at files file.0) (depth + 1) n has o → Stage x l files depth k rest o
+  stage-then {n = n} file stage is includes.elsewhere = subst (λ ls. Stage x l files depth k ls n) is stage
+  stage-then file stage is (includes.inert {has} inactive) = stays-out file has stage is inactive
+  stage-then file stage is (includes.enters f e acting name_is there walks) = goes-in file f e stage is acting name_is there walks
+
+  pub stage-later : {more : List (List ℕ)} {left : List FileId} {n : Machine} → Extends files more → Stage x l files depth k left n → Stage x l more depth k left n
+  stage-later grows (waits file ts header hash f acting says names deep shallow hashed searching named) =
+      waits file ts header hash f acting says names deep shallow hashed searching (Extends-keeps file.0 f.name named grows)
+  stage-later grows (came e carried) = came e carried
+
+  stage-takes : {m : Machine} {n : Machine} {left : List FileId} (answer : Result (List Token) Fault) → k ≡ closing_run m answer → left ≡ [] → l.directive ≡ Some directive.Include
+      → RunExpands m answer → Stage x l files depth k left n → Takes x m l n
+  stage-takes {m} answer same none is expands (waits file ts header hash f acting says names deep shallow hashed searching named) = absurd (cc)
+  stage-takes {m} answer same none is expands (came e carried) =
+      subst (λ (k : Machine). CarriesOut x k l directive.Include e → Takes x m l (arriving k e)) (sym same) (carries directive.Include answer e is refl expands) carried
+
+  stage-plain : (m : Machine) {n : Machine} {left : List FileId} (answer : Result (List Token) Fault) → k ≡ closing_run m answer → ArePlainPaths x.include → l.directive ≡ Some directive.Include
+      → RunExpands m answer → Stage x l files depth k left n → IsPlainState m.state → Every IsPlainToken l.tokens → IsPlainState n.state
+  stage-plain m answer same directories is expands (waits file ts header hash f acting says names deep shallow hashed searching named) plain all =
+      covers-plain {x = x} directories {ls = []} (record { end = m; runs = machine.no_line; closed = record { answer = answer; expands = expands; is = same } }) plain tt
+  stage-plain m answer same directories is expands (came e carried) plain all =
+      takes-plain directories (stage-takes {m = m} answer same refl is expands (came e carried)) plain all
+
+pub staged-then : {x : Context} {l : Line} {files more : List (List ℕ)} {depth : ℕ} {left rest : List FileId} {m n o : Machine} {has : Bool} (file : FileId) → Extends files more
+    → Staged x l files depth m left n → left ≡ (if has then file ∷ rest else rest) → EntersAt x (text_at files file.0) (depth + 1) n has o → Staged x l more depth m rest o
+staged-then {m = m} file grows staged is entering = record {
+  answer = staged.answer;
+  expands = staged.expands;
+  stage = stage-later (closing_run m staged.answer) grows (stage-then (closing_run m staged.answer) file staged.stage is entering);
+}
+
+pub staged-takes : {x : Context} {l : Line} {files : List (List ℕ)} {depth : ℕ} {left : List FileId} {m n : Machine} → l.directive ≡ Some directive.Include → left ≡ [] → Staged x l files depth m left n
+    → Takes x m l n
+staged-takes {m = m} is none staged = stage-takes (closing_run m staged.answer) staged.answer refl none is staged.expands staged.stage
+
+pub staged-plain : {x : Context} {l : Line} {files : List (List ℕ)} {depth : ℕ} {left : List FileId} {m n : Machine} → ArePlainPaths x.include → l.directive ≡ Some directive.Include
+    → Staged x l files depth m left n → IsPlainState m.state → Every IsPlainToken l.tokens → IsPlainState n.state
+staged-plain {m = m} directories is staged plain all = stage-plain (closing_run m staged.answer) m staged.answer refl directories is staged.expands staged.stage plain all

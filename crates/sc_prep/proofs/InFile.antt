@@ -1,0 +1,182 @@
+-- The lines of a file leave a machine in the file, and one that takes none of them stays so.
+use Rattle.std.proofs.Common.{◌≡◌, ℕ, ◌&&◌, not, Bool, true, false, List, [], ◌∷◌, Option, Some, None, Result, Ok, Err, refl, sym, ap, ◌∙◌, subst}
+use Rattle.std.specs.List.{AllByRecursion as Every}
+use Rattle.std.specs.Prelude.{IfOk, is_none, if◌then◌else◌}
+use Rattle.c11_directives.specs.declared.directive.Conditional.{Conditional}
+use Rattle.c11_directives.specs.declared.directive.Conditional.TheVariants.{If, Ifdef, Ifndef, Elif, Else, Endif}
+use Rattle.c11_directives.specs.declared.directive.Directive.{Directive}
+use Rattle.c11_directives.specs.Lines.{Line, conditional_of}
+use Rattle.c11_directives.specs.Pre.{Context, State, Carries, changed, not_changed, not_expanded, numbered, not_numbered, no_header, too_deep, included, back, is_barrier, operand_of, put_out, with_macros, with_text}
+use Rattle.c11_macros.specs.Macros.{Macros}
+use Rattle.c11_macros.specs.Results.{result_map}
+use Rattle.sc_model.specs.declared.cause.Cause.{Cause}
+use Rattle.sc_model.specs.declared.cause.Cause.TheVariants.{BadDirective}
+use Rattle.sc_model.specs.Fault.{Fault}
+use Rattle.sc_model.specs.Token.{Token}
+use Rattle.sc_prep.specs.declared.entry.Entry.{Entry}
+use Rattle.sc_prep.specs.Machine.{Machine, acts, acting, refusing, opened, opened_as, opened_by_name, next_branch, branched_as, ended, closing_run, changed_by, changing, plain_by, is_taken, step_by, step, asks_by, arriving, Takes, takes, closes, carries, Runs, start}
+use Rattle.sc_prep.specs.Machine as machine
+use Rattle.sc_prep.specs.Simulates.{IsInside, IsIn, IsAtTop, begins, idles}
+use Rattle.sc_prep.proofs.Machine.{inert_plain, inert_takes}
+
+-- ---- the file of a state, and how deep it is
+
+abbrev pub whereabouts : State → List ℕ × ℕ
+whereabouts s = (s.file, s.depth)
+
+abbrev pub Stays : State → Result State Fault → Type 0
+Stays s r = IfOk r (λ t. whereabouts t ≡ whereabouts s)
+
+back-stays : (s : State) (r : Result State Fault) → Stays s (result_map (back s) r)
+back-stays s (Ok t) = refl
+back-stays s (Err fault) = tt
+
+-- behind an #include the walk is back in its file
+pub carries-stays : {x : Context} {l : Line} {s : State} {d : Directive} {r : Result State Fault} → Carries x l s d r → Stays s r
+carries-stays (changed macros changes) = refl
+carries-stays (not_changed cause fault changes at) = tt
+carries-stays (not_expanded fault is says) = tt
+carries-stays (numbered ts says is) = refl
+carries-stays (not_numbered ts fault says is at) = tt
+carries-stays (no_header ts cause fault says is at) = tt
+carries-stays (too_deep ts header fault says is deep at) = tt
+carries-stays {s = s} (included {r = r} ts header hash says is deep at does) = back-stays s r
+
+either-stays : (s t : State) (b : Bool) → whereabouts t ≡ whereabouts s → whereabouts (if b then t else s) ≡ whereabouts s
+either-stays s t true e = e
+either-stays s t false e = refl
+
+arriving-stays : (m : Machine) (r : Result State Fault) → (acts m ≡ true → Stays m.state r) → whereabouts (arriving m r).state ≡ whereabouts m.state
+arriving-stays m (Ok t) does = by (acts m) refl
+  where
+    by : (b : Bool) → acts m ≡ b → whereabouts (if b then t else m.state) ≡ whereabouts m.state
+    by true acting_here = does acting_here
+    by false inactive = refl
+arriving-stays m (Err fault) does = refl
+
+closing-stays : (m : Machine) (r : Result (List Token) Fault) → whereabouts (closing_run m r).state ≡ whereabouts m.state
+closing-stays m (Ok output) = either-stays m.state (put_out m.state output) (acts m) refl
+closing-stays m (Err fault) = refl
+
+changing-stays : (m : Machine) (l : Line) (r : Result Macros Cause) → whereabouts (changing m l r).state ≡ whereabouts m.state
+changing-stays m l (Ok macros) = either-stays m.state (with_macros m.state macros) (acts m) refl
+changing-stays m l (Err cause) = refl
+
+plain-stays : (m : Machine) (l : Line) (d : Option Directive) → whereabouts (plain_by m l d).state ≡ whereabouts m.state
+plain-stays m l None = either-stays m.state (with_text m.state l) (acts m) refl
+plain-stays m l (Some d) = by (is_barrier d)
+  where
+    by : (b : Bool) → whereabouts (if b then changing m l (changed_by m.state.macros l d) else m).state ≡ whereabouts m.state
+    by true = changing-stays m l (changed_by m.state.macros l d)
+    by false = refl
+
+opened_as-stays : (m : Machine) (r : Result Bool Fault) → whereabouts (opened_as m r).state ≡ whereabouts m.state
+opened_as-stays m (Ok test) = refl
+opened_as-stays m (Err fault) = refl
+
+by_name-stays : (m : Machine) (l : Line) (test : List ℕ → Bool) (o : Option (List ℕ)) → whereabouts (opened_by_name m l test o).state ≡ whereabouts m.state
+by_name-stays m l test None = refl
+by_name-stays m l test (Some name) = refl
+
+next-stays : (m : Machine) (test : Bool) (ss : List (Bool × Bool)) → whereabouts (next_branch m test ss).state ≡ whereabouts m.state
+next-stays m test [] = refl
+next-stays m true (s ∷ ss) = refl
+next-stays m false (s ∷ ss) = refl
+
+branched-stays : (m : Machine) (r : Result Bool Fault) → whereabouts (branched_as m r).state ≡ whereabouts m.state
+branched-stays m (Ok test) = next-stays m test m.sections
+branched-stays m (Err fault) = next-stays (record m { fault = Some fault }) false m.sections
+
+ended-stays : (m : Machine) (ss : List (Bool × Bool)) → whereabouts (ended m ss).state ≡ whereabouts m.state
+ended-stays m [] = refl
+ended-stays m (s ∷ ss) = refl
+
+step-stays : (m : Machine) (l : Line) (r : Result Bool Fault) (c : Option Conditional) → whereabouts (step_by m l r c).state ≡ whereabouts m.state
+step-stays m l r None = plain-stays m l l.directive
+step-stays m l r (Some If) = opened_as-stays m r
+step-stays m l r (Some Ifdef) = by_name-stays m l (is_taken m.state.macros true) (operand_of l)
+step-stays m l r (Some Ifndef) = by_name-stays m l (is_taken m.state.macros false) (operand_of l)
+step-stays m l r (Some Elif) = branched-stays m r
+step-stays m l r (Some Else) = next-stays m true m.sections
+step-stays m l r (Some Endif) = ended-stays m m.sections
+
+pub takes-stays : {x : Context} {m n : Machine} {l : Line} → Takes x m l n → whereabouts n.state ≡ whereabouts m.state
+takes-stays {m = m} {l = l} (takes r mild answers) = step-stays m l r (conditional_of l)
+takes-stays {m = m} {l = l} (closes d r is barrier unsaid expands) = step-stays (closing_run m r) l (Ok false) (conditional_of l) ∙ closing-stays m r
+takes-stays {m = m} {l = l} (carries d r end is said expands does) = arriving-stays (closing_run m r) end (λ here. carries-stays (does here)) ∙ closing-stays m r
+
+pub runs-stay : {x : Context} {m n : Machine} {ls : List Line} → Runs x m ls n → whereabouts n.state ≡ whereabouts m.state
+runs-stay machine.no_line = refl
+runs-stay (machine.line first rest) = runs-stay rest ∙ takes-stays first
+
+-- a state in the same file, as deep
+pub inside-as : {files : List (List ℕ)} {entry : Entry} {s t : State} → whereabouts t ≡ whereabouts s → IsInside files entry s → IsInside files entry t
+inside-as e inside = record { name = inside.name ∙ ap Some (sym (ap (λ p. p.0) e)); deep = ap (λ p. p.1) e ∙ inside.deep }
+
+-- ---- a machine that takes none of the lines
+
+pub record IsIdle (m : Machine) : Type 0 where
+  pub active : m.active ≡ false
+  pub sections : Every (λ s. s ≡ (false, false)) m.sections
+
+and-idle : (m : Machine) → m.active ≡ false → acts m ≡ false
+and-idle m e = ap (λ a. a && is_none m.fault) e
+
+pub idle-inert : {m : Machine} → IsIdle m → acts m ≡ false
+idle-inert {m} idle = and-idle m idle.active
+
+opened-idle : (m : Machine) (test : Bool) → IsIdle m → IsIdle (opened m test)
+opened-idle m test idle = record { active = ap (λ a. a && test) idle.active; sections = (ap (λ a. (a, a && not test)) idle.active, idle.sections) }
+
+by_name-idle : (m : Machine) (l : Line) (test : List ℕ → Bool) (o : Option (List ℕ)) → IsIdle m → IsIdle (opened_by_name m l test o)
+by_name-idle m l test None idle = opened-idle (refusing m l BadDirective) false (record { active = idle.active; sections = idle.sections })
+by_name-idle m l test (Some name) idle = opened-idle m (acts m && test name) idle
+
+next-idle : (m : Machine) (test : Bool) (ss : List (Bool × Bool)) → IsIdle m → Every (λ s. s ≡ (false, false)) ss → IsIdle (next_branch m test ss)
+next-idle m test [] idle all = idle
+next-idle m true (s ∷ ss) idle all = record { active = ap (λ p. p.1) all.0; sections = (ap (λ p. (p.0, false)) all.0, all.1) }
+next-idle m false (s ∷ ss) idle all = record { active = refl; sections = all }
+
+ended-idle : (m : Machine) (ss : List (Bool × Bool)) → IsIdle m → Every (λ s. s ≡ (false, false)) ss → IsIdle (ended m ss)
+ended-idle m [] idle all = idle
+ended-idle m (s ∷ ss) idle all = record { active = ap (λ p. p.0) all.0; sections = all.1 }
+
+step-idle : (m : Machine) (l : Line) (c : Option Conditional) → IsIdle m → IsIdle (step_by m l (Ok false) c)
+step-idle m l None idle = subst IsIdle (sym (inert_plain m l (idle-inert idle))) idle
+step-idle m l (Some If) idle = opened-idle m false idle
+step-idle m l (Some Ifdef) idle = by_name-idle m l (is_taken m.state.macros true) (operand_of l) idle
+step-idle m l (Some Ifndef) idle = by_name-idle m l (is_taken m.state.macros false) (operand_of l) idle
+step-idle m l (Some Elif) idle = next-idle m false m.sections idle idle.sections
+step-idle m l (Some Else) idle = next-idle m true m.sections idle idle.sections
+step-idle m l (Some Endif) idle = ended-idle m m.sections idle idle.sections
+
+idle-unasked : (m : Machine) (c : Option Conditional) → IsIdle m → asks_by m c ≡ false
+idle-unasked m None idle = refl
+idle-unasked m (Some If) idle = idle-inert idle
+idle-unasked m (Some Ifdef) idle = refl
+idle-unasked m (Some Ifndef) idle = refl
+idle-unasked m (Some Elif) idle = idle-inert (next-idle m true m.sections idle idle.sections)
+idle-unasked m (Some Else) idle = refl
+idle-unasked m (Some Endif) idle = refl
+
+pub takes-idle : {x : Context} {m n : Machine} {l : Line} → IsIdle m → Takes x m l n → IsIdle n
+takes-idle {m = m} {l = l} idle taking =
+    subst IsIdle (sym (inert_takes (idle-inert idle) (idle-unasked m (conditional_of l) idle) taking)) (step-idle m l (conditional_of l) idle)
+
+pub runs-idle : {x : Context} {m n : Machine} {ls : List Line} → IsIdle m → Runs x m ls n → IsIdle n
+runs-idle idle machine.no_line = idle
+runs-idle idle (machine.line first rest) = runs-idle (takes-idle idle first) rest
+
+-- ---- from the top of a file
+
+-- after so many lines of the file
+pub top-is-in : {x : Context} {files : List (List ℕ)} {entry : Entry} {m n : Machine} {ls : List Line} → IsAtTop files entry m → Runs x m ls n → IsIn files entry n
+top-is-in (begins first is inside) ran here = inside-as (runs-stay ran ∙ ap (λ k. whereabouts k.state) is) inside
+top-is-in (idles inactive none) ran here =
+    let idle = runs-idle (record { active = inactive; sections = subst (Every (λ s. s ≡ (false, false))) (sym none) tt }) ran in
+    let both = sym (idle-inert idle) ∙ here in
+    cc
+
+-- the line leaves the machine in its file
+pub takes-is-in : {x : Context} {files : List (List ℕ)} {entry : Entry} {m n : Machine} {l : Line} → IsInside files entry m.state → Takes x m l n → IsIn files entry n
+takes-is-in inside taking here = inside-as (takes-stays taking) inside

@@ -1,0 +1,159 @@
+-- How what the calls of a walk lead to is put together.
+use Rattle.std.proofs.Common.{◌≡◌, ℕ, ◌<◌, ◌≤◌, List, [], ◌∷◌, All, length, Option, Some, Result, inl, inr, arith, sym, ap, ◌∙◌, subst}
+use Rattle.std.proofs.lemmas.List.Elements.{All-nil, All-push}
+use Rattle.std.proofs.lemmas.Option.{slice_get-get_or, unwrap_or-slice_get}
+use Rattle.std.proofs.lemmas.Result.{IfErr-weaker}
+use Rattle.std.specs.Prelude.{IfErr, slice_get}
+use Rattle.sc_base.proofs.Growth.{Extends-refl}
+use Rattle.sc_base.specs.declared.fault.Fault as base
+use Rattle.sc_base.specs.declared.id.Cond.{Cond}
+use Rattle.sc_base.specs.declared.stop.Stop.{Stop}
+use Rattle.sc_base.specs.declared.stop.Stop.TheVariants.{BranchesFull, ReadFault, OutOfMemory}
+use Rattle.sc_base.specs.Seen.{text_at}
+use Rattle.sc_expand.specs.Stops.{StopsBy}
+use Rattle.sc_model.proofs.SetLemmas.{IsConfig-Keeps}
+use Rattle.sc_model.specs.Growth.{Extends}
+use Rattle.sc_model.specs.Outside.{Files}
+use Rattle.sc_model.specs.Sets.{Sets, IsConfig, IsCond, Keeps}
+use Rattle.sc_prep.proofs.Contents.{contents-later}
+use Rattle.sc_prep.proofs.Held.{refused-held}
+use Rattle.sc_prep.proofs.WalkMoves.{owns-kept}
+use Rattle.sc_prep.specs.Closes.{RefusesEach}
+use Rattle.sc_prep.specs.Contents.{AreContents, KeepsContents, content_at}
+use Rattle.sc_prep.specs.Entering.{Begins, Leaves}
+use Rattle.sc_prep.specs.Machine.{Machine}
+use Rattle.sc_prep.specs.Preprocesses.{Stops}
+use Rattle.sc_prep.specs.Printable.{IsHeldWalk, any_token}
+use Rattle.sc_prep.specs.Simulates.{IsReady, Leads, Owns, OwnsSection, Simulates, SimulatesOneOf}
+use Rattle.sc_prep.specs.declared.content.Content.{Content}
+use Rattle.sc_prep.specs.declared.content.Contents.{Contents}
+use Rattle.sc_prep.specs.declared.entering.Around.{Around}
+use Rattle.sc_prep.specs.declared.walk.Walk.{Walk}
+use Rattle.sc_table.proofs.Growth.{IsTable-Keeps}
+use Rattle.sc_table.specs.Table.{IsTable}
+
+-- ---- what was kept of files
+
+pub contents-stay : (c : Contents) → KeepsContents c c
+contents-stay c = record { each = λ file x at. at }
+
+pub contents-then : {a b c : Contents} → KeepsContents a b → KeepsContents b c → KeepsContents a c
+contents-then one two = record { each = λ file x at. two.each file x (one.each file x at) }
+
+-- a name is in the table whose file was read
+pub content-named : {names files : List (List ℕ)} {holds : Option Files} {contents : Contents} {c : Option Content} → AreContents names files holds contents → (file : ℕ)
+    → content_at contents file ≡ Some c → slice_get files file ≡ Some (text_at files file)
+content-named {files = files} are file at =
+    slice_get-get_or files file [] (are.named file _ at) ∙ ap Some (sym (unwrap_or-slice_get files file []))
+
+-- ---- a walk that is ready
+
+module _ {old new : Sets} {names files : List (List ℕ)} {holds : Option Files} {w : Walk} {contents : Contents} (keeps : Keeps old new) (ready : IsReady old names files holds w contents) where
+  pub ready-kept : IsReady new names files holds w contents
+  ready-kept = record { owns = owns-kept keeps w ready.owns; table = IsTable-Keeps keeps ready.table; held = ready.held; read = ready.read }
+
+  pub ready-left : {next : Walk} {around : Around} → Leaves old w around new next → IsCond old around.group.0 → All (OwnsSection old) around.sections.items
+      → IsReady new names files holds next contents
+  ready-left {next} {around} leaves group sections =
+      let owns = ready.owns in
+      let kept = owns-kept keeps w owns in
+      let back = owns-kept keeps (record w { group = around.group; sections = around.sections })
+      (record { group = group; acting = owns.acting; sections = sections; gathered = owns.gathered; prepared = owns.prepared }) in
+      subst (λ (v : Walk). IsReady new names files holds v contents) (sym leaves.is) (record {
+        owns = record { group = back.group; acting = leaves.acting.own; sections = back.sections; gathered = kept.gathered; prepared = kept.prepared };
+        table = IsTable-Keeps keeps ready.table;
+        held = ready.held;
+        read = ready.read;
+      })
+
+  pub ready-refused : {next : Walk} {fault : base.Fault} → RefusesEach old w (fault ∷ []) new next → IsCond old fault.cond.0 → fault.place.file.0 < length files
+      → IsReady new names files holds next contents
+  ready-refused {next} {fault} refuses own there =
+      let kept = owns-kept keeps w ready.owns in
+      let F : base.Fault → Type 0 = λ f. IsCond new f.cond.0 in
+      record {
+        owns = subst (Owns new) (sym refuses.same) (record {
+          group = kept.group;
+          acting = refuses.acting.own;
+          sections = kept.sections;
+          gathered = kept.gathered;
+          prepared = record {
+            list = kept.prepared.list;
+            faults = subst (All F) (sym refuses.faults) (All-push F w.prepared.faults.items fault kept.prepared.faults (keeps.own fault.cond.0 own));
+            live = refuses.live.own;
+          };
+        });
+        table = subst (λ (v : Walk). IsTable new names v.table) (sym refuses.same) (IsTable-Keeps keeps ready.table);
+        held = refused-held names (length files) any_token w next fault refuses there ready.held;
+        read = ready.read;
+      }
+
+pub ready-begun : {s : Sets} {names files : List (List ℕ)} {holds : Option Files} {w next : Walk} {contents : Contents} {within : Cond} {around : Around} → Begins w within next around
+    → IsCond s within.0 → IsReady s names files holds w contents → IsReady s names files holds next contents
+ready-begun {s} {names} {files} {holds} {w} {next} {contents} begins own ready = subst (λ (v : Walk). IsReady s names files holds v contents) (sym begins.is) (record {
+  owns = record {
+    group = own;
+    acting = own;
+    sections = subst (All (OwnsSection s)) (sym begins.sections) (All-nil (OwnsSection s));
+    gathered = ready.owns.gathered;
+    prepared = ready.owns.prepared;
+  };
+  table = ready.table;
+  held = ready.held;
+  read = ready.read;
+})
+
+-- the walk after a line that enters no file
+pub ready-moved : {old new : Sets} {names more files : List (List ℕ)} {holds : Option Files} {w next : Walk} {contents : Contents} {does : List ℕ → Machine → Machine → Type 0} → Extends names more
+    → SimulatesOneOf files names old w more new next does → IsHeldWalk more (length files) any_token next → IsReady old names files holds w contents
+    → IsReady new more files holds next contents
+ready-moved {files = files} grows moved held ready =
+    record { owns = moved.owns; table = moved.table; held = held; read = contents-later grows (Extends-refl files) ready.read }
+
+-- ---- what one call leads to, and the next
+
+pub leads-one : {old new : Sets} {names more files : List (List ℕ)} {w next : Walk} {does : List ℕ → Machine → Machine → Type 0} (from : Machine → Type 0)
+    → SimulatesOneOf files names old w more new next does → Leads files names old w files more new next from does
+leads-one from moved = record { at = λ config m listed at here. moved.at config m listed at }
+
+pub leads-then : {a b c : Sets} {files names mid_files mid more_files more : List (List ℕ)} {u v w : Walk} {from between : Machine → Type 0} {does later whole : List ℕ → Machine → Machine → Type 0} → Keeps a b
+    → Leads files names a u mid_files mid b v from does → Leads mid_files mid b v more_files more c w between later
+    → ((config : List ℕ) (m n : Machine) → from m → does config m n → between n)
+    → ((config : List ℕ) (m n o : Machine) → IsConfig a.arities config → from m → does config m n → later config n o → Simulates c more more_files w config o → whole config m o)
+    → Leads files names a u more_files more c w from whole
+leads-then keeps one two goes joins = record {
+  at = λ config m listed at here.
+      let first = one.at config m listed at here in
+      let second = two.at config first.machine (IsConfig-Keeps keeps listed) first.simulates (goes config m first.machine here first.done) in
+      record { machine = second.machine; done = joins config m first.machine second.machine listed here first.done second.done second.simulates; simulates = second.simulates };
+}
+
+pub leads-as : {old new : Sets} {files names more_files more : List (List ℕ)} {w next : Walk} {from here : Machine → Type 0} {does other : List ℕ → Machine → Machine → Type 0}
+    → Leads files names old w more_files more new next from does → ((m : Machine) → here m → from m) → ((config : List ℕ) (m n : Machine) → here m → does config m n → other config m n)
+    → Leads files names old w more_files more new next here other
+leads-as leads goes turns = record {
+  at = λ config m listed at is.
+      let to = leads.at config m listed at (goes m is) in
+      record { machine = to.machine; done = turns config m to.machine is to.done; simulates = to.simulates };
+}
+
+-- ---- why there is no answer
+
+pub limit-stops : {A : Type 0} (arities : List ℕ) (limit old new : ℕ) (r : Result A Stop) → IfErr r (StopsBy arities limit) → IfErr r (Stops arities limit old new)
+limit-stops arities limit old new r stops = IfErr-weaker r (StopsBy arities limit) (Stops arities limit old new) by stops
+  where
+    by : (s : Stop) → StopsBy arities limit s → Stops arities limit old new s
+    by (BranchesFull count) is = is
+    by ReadFault is = absurd is
+    by OutOfMemory is = tt
+
+-- a call stops that was made later
+pub stops-later : {A : Type 0} {arities now : List ℕ} {old mid : ℕ} (limit new : ℕ) (r : Result A Stop) → now ≡ arities → old ≤ mid → IfErr r (Stops now limit mid new)
+    → IfErr r (Stops arities limit old new)
+stops-later {arities = arities} {now} {old} {mid} limit new r same up stops = IfErr-weaker r (Stops now limit mid new) (Stops arities limit old new) by stops
+  where
+    by : (s : Stop) → Stops now limit mid new s → Stops arities limit old new s
+    by (BranchesFull count) is = subst (λ a. StopsBy a limit (BranchesFull count)) same is
+    by ReadFault (inl less) = inl (omega (arith, less, up))
+    by ReadFault (inr most) = inr most
+    by OutOfMemory is = tt

@@ -1,0 +1,185 @@
+-- A walk of the main file, from before its first line.
+use Rattle.std.proofs.Common.{◌≡◌, ℕ, ◌<◌, ◌++◌, Bool, true, List, [], ◌∷◌, All, length, map, Option, Some, None, refl, sym, ap, ◌∙◌, subst, arith}
+use Rattle.std.proofs.lemmas.List.Elements.{All-append, All-cons, All-nil}
+use Rattle.std.specs.Prelude.{unwrap_or, slice_get}
+use Rattle.c11_directives.specs.Pre.{Context, Pre, State, context_of, initial_state}
+use Rattle.c11_macros.specs.Macros.{initial_macros}
+use Rattle.sc_base.specs.declared.fault.Fault as base
+use Rattle.sc_base.specs.declared.id.Cond.{Cond}
+use Rattle.sc_base.specs.declared.id.FileId.{FileId}
+use Rattle.sc_base.specs.declared.token.Token.{Token}
+use Rattle.sc_base.specs.Interns as interns
+use Rattle.sc_base.specs.Interns.{Interns}
+use Rattle.sc_base.specs.Seen.{seen, text_at}
+use Rattle.sc_guarded.specs.Items.{items_at, seen_fault}
+use Rattle.sc_guarded.specs.Printable.{AreApart}
+use Rattle.sc_model.proofs.SetLemmas.{IsConfig-kept}
+use Rattle.sc_model.specs.Bytes.{has_no_newline}
+use Rattle.sc_model.specs.Growth.{Extends}
+use Rattle.sc_model.specs.Outside.{Files}
+use Rattle.sc_model.specs.Sets.{Sets, IsCond, IsConfig, Keeps}
+use Rattle.sc_model.specs.Space.{Space, arities_of}
+use Rattle.sc_prep.proofs.EnterMoves.{refused-here}
+use Rattle.sc_prep.proofs.FileTokens.{all-shown, faults-few}
+use Rattle.sc_prep.proofs.MainWalk.{begins-as, entered-ordinary}
+use Rattle.sc_prep.proofs.Plain.{initial-plain}
+use Rattle.sc_prep.specs.Closes.{RefusesEach}
+use Rattle.sc_prep.specs.Contents.{AreContents, content_at}
+use Rattle.sc_prep.specs.declared.content.Contents.{Contents}
+use Rattle.sc_prep.specs.declared.walk.Walk.{Walk}
+use Rattle.sc_prep.specs.Includes.{EntersAt}
+use Rattle.sc_prep.specs.Machine.{Machine, start}
+use Rattle.sc_prep.specs.Preprocesses.{IsOrdinary, IsRefused, OwnsList}
+use Rattle.sc_prep.specs.Printable.{AllPass, ArePlaced, ArePlainPaths, CanBeShown, any_token, is_plain}
+use Rattle.sc_prep.specs.Simulates.{IsBegun, IsContext, IsOutcomeOf, IsReady, Leads, Owns, PlainEach, Simulates}
+use Rattle.sc_space.specs.Sound.{IsSound}
+use Rattle.sc_table.proofs.Growth.{IsTable-Extends}
+use Rattle.sc_table.specs.declared.table.MacroTable.{MacroTable}
+use Rattle.sc_table.specs.Table.{IsTable, macros_at}
+
+-- ---- nothing was read yet
+
+pub contents-new : (names files : List (List ℕ)) (holds : Option Files) (contents : Contents) → ((file : ℕ) → content_at contents file ≡ None) → AreContents names files holds contents
+contents-new names files holds contents none = record {
+  some = (λ name. None, record { each = λ file name c named at. let no = sym (none file) ∙ at in cc });
+  told = λ held is. record { each = λ file name c named at. let no = sym (none file) ∙ at in cc };
+  held = λ file c at. let no = sym (none file.0) ∙ at in cc;
+  named = λ file c at. let no = sym (none file) ∙ at in cc;
+}
+
+-- the names of files are on one line, and that of the main file is
+pub paths-interned : {old new : List (List ℕ)} {main : List ℕ} → Interns old new main → ArePlainPaths old → has_no_newline main ≡ true → ArePlainPaths new
+paths-interned (interns.known there same) paths plain = subst ArePlainPaths (sym same) paths
+paths-interned {old} {new} {main} (interns.fresh never grown) paths plain =
+    subst ArePlainPaths (sym grown) (All-append (λ (path : List ℕ). has_no_newline path ≡ true) old (main ∷ []) paths
+    (All-cons (λ (path : List ℕ). has_no_newline path ≡ true) main [] plain (All-nil (λ (path : List ℕ). has_no_newline path ≡ true))))
+
+pub space-context : (space : Space) (files : Files) → IsContext space (context_of space files)
+space-context space files = record { include = refl; depth = refl; standard = refl }
+
+-- ---- the walk before the first line
+
+-- nothing was gathered, put out or refused, and each configuration starts with the first macros
+pub record IsNew (s : Sets) (space : Space) (names files : List (List ℕ)) (walk : Walk) : Type 0 where
+  pub owns : Owns s walk
+  pub table : IsTable s names walk.table
+  pub gathered : walk.gathered ≡ []
+  pub list : walk.prepared.list ≡ []
+  pub faults : walk.prepared.faults.items ≡ []
+  pub starts : (main config : List ℕ) → IsConfig s.arities config → Simulates s names files walk config (start (initial_state space main config))
+
+-- the walk that was made with the first macros of a space
+pub begins-new : {s : Sets} {before names : List (List ℕ)} {walk : Walk} {table : MacroTable} (space : Space) (files : List (List ℕ)) → s.arities ≡ arities_of space → Owns s walk
+    → (walk.gathered ≡ []) × (walk.prepared.list ≡ []) × (walk.prepared.faults.items ≡ []) → walk.table ≡ table → ((s : Sets) → s.arities ≡ arities_of space → IsTable s before table)
+    → ((s : Sets) (config name : List ℕ) → s.arities ≡ arities_of space → IsConfig s.arities config → macros_at s before table config name ≡ initial_macros space config name) → Extends before names
+    → ((names files : List (List ℕ)) (config : List ℕ) (first : State) → IsConfig s.arities config → IsBegun s names table config first → Simulates s names files walk config (start first))
+    → IsNew s space names files walk
+begins-new {s} {before} {names} {walk} {table} space files arities owns empty same is initial grows starts = record {
+  owns = owns;
+  table = subst (IsTable s names) (sym same) (IsTable-Extends grows (is s arities));
+  gathered = empty.0;
+  list = empty.1;
+  faults = empty.2;
+  starts = λ main config listed.
+      starts names files config (initial_state space main config) listed (begins-as space main config grows (is s arities) (λ name. initial s config name arities listed));
+}
+
+module _ {s : Sets} {space : Space} {names files : List (List ℕ)} {walk : Walk} (fresh : IsNew s space names files walk) where
+  pub ready-new : {holds : Option Files} {contents : Contents} → AreContents names files holds contents → IsReady s names files holds walk contents
+  ready-new read = record {
+    owns = fresh.owns;
+    table = fresh.table;
+    held = record {
+      gathered = subst (ArePlaced names (length files)) (sym fresh.gathered) (λ k d h. absurd (omega (arith, h)));
+      list = subst (ArePlaced names (length files)) (sym fresh.list) (λ k d h. absurd (omega (arith, h)));
+      passed = subst (AllPass any_token) (sym fresh.list) (λ k d h. absurd (omega (arith, h)));
+      faults = subst (All (λ (f : base.Fault). f.place.file.0 < length files)) (sym fresh.faults) (λ k d h. absurd (omega (arith, h)));
+    };
+    read = read;
+  }
+
+  -- each configuration starts with macros that are spelled on one line
+  pub plain-new : (main : List ℕ) → IsSound space → has_no_newline main ≡ true → PlainEach s names files walk (λ m. Unit {0})
+  plain-new main sound plain = record {
+    each = λ config listed. (
+      start (initial_state space main config),
+      fresh.starts main config listed,
+      tt,
+      record { macros = initial-plain space config sound.date_plain sound.time_plain; run = tt; file = plain },
+    );
+  }
+
+  pub none-passed : (test : Token → Bool) → AllPass test walk.prepared.list
+  none-passed test = subst (AllPass test) (sym fresh.list) (λ k d h. absurd (omega (arith, h)))
+
+  -- every configuration is refused
+  module _ {next_sets : Sets} {next : Walk} (keeps : Keeps s next_sets) (main : List ℕ) (fault : base.Fault) (own : IsCond s fault.cond.0)
+      (everywhere : (config : List ℕ) → IsConfig s.arities config → s.has fault.cond.0 config ≡ true) (refuses : RefusesEach s walk (fault ∷ []) next_sets next) where
+    list-empty : next.prepared.list ≡ []
+    list-empty = ap (λ (w : Walk). w.prepared.list) refuses.same ∙ fresh.list
+
+    faults-one : next.prepared.faults.items ≡ fault ∷ []
+    faults-one = refuses.faults ∙ ap (λ fs. fs ++ fault ∷ []) fresh.faults
+
+    ends-refused : (config : List ℕ) → IsConfig s.arities config → IsOutcomeOf next_sets names files next.prepared config (record (start (initial_state space main config)) { fault = Some (seen_fault files fault) })
+    ends-refused config listed =
+        (refused-here keeps names files walk next fault refuses fresh.owns fresh.table config listed (start (initial_state space main config)) (fresh.starts main config listed)
+        own (everywhere config listed) refl).prepared
+
+    pub refused-is : (config : List ℕ) → IsConfig s.arities config → IsRefused next_sets names files next.prepared (seen_fault files fault) config
+    refused-is config listed =
+        let ends = ends-refused config listed in
+        record { items = ap (λ list. map (seen names files) (items_at next_sets list config)) list-empty; faults = ends.fault; live = ends.live }
+
+    pub refused-owns : OwnsList next_sets next.prepared
+    refused-owns = record {
+      list = subst (All (λ (item : Cond × Token). IsCond next_sets item.0.0)) (sym list-empty) (λ k d h. absurd (omega (arith, h)));
+      faults = subst (All (λ (f : base.Fault). IsCond next_sets f.cond.0)) (sym faults-one) (All-cons (λ (f : base.Fault). IsCond next_sets f.cond.0) fault [] (keeps.own fault.cond.0 own)
+          (All-nil (λ (f : base.Fault). IsCond next_sets f.cond.0)));
+      live = refuses.live.own;
+    }
+
+    pub refused-shown : fault.place.file.0 < length files → ArePlainPaths files → CanBeShown next_sets names files next.prepared
+    refused-shown there paths =
+        let plain : AllPass (is_plain names) next.prepared.list = subst (AllPass (is_plain names)) (sym list-empty) (λ k d h. absurd (omega (arith, h))) in
+        all-shown next_sets names files next.prepared refused-owns (record {
+          gathered = λ k d h. absurd (omega (arith, h));
+          list = subst (ArePlaced names (length files)) (sym list-empty) (λ k d h. absurd (omega (arith, h)));
+          passed = subst (AllPass any_token) (sym list-empty) (λ k d h. absurd (omega (arith, h)));
+          faults = subst (All (λ (f : base.Fault). f.place.file.0 < length files)) (sym faults-one) (All-cons (λ (f : base.Fault). f.place.file.0 < length files) fault [] there
+              (All-nil (λ (f : base.Fault). f.place.file.0 < length files)));
+        }) plain (record { few = λ config listed. faults-few next_sets files next.prepared.faults.items config (Some (seen_fault files fault)) (ends-refused config (IsConfig-kept keeps listed)).fault }) paths
+
+  -- the main file is entered
+  module _ {x : Context} {next_sets : Sets} {more more_files : List (List ℕ)} {next : Walk} (keeps : Keeps s next_sets) (main : List ℕ) (file : FileId) (cond : Cond)
+      (named : slice_get files file.0 ≡ Some main) (everywhere : (config : List ℕ) → IsConfig s.arities config → s.has cond.0 config ≡ true)
+      (leads : Leads files names s walk more_files more next_sets next (λ m. Unit {0}) (λ config m n. EntersAt x (text_at files file.0) 0 m (s.has cond.0 config) n)) where
+    ends-entered : (config : List ℕ) → IsConfig s.arities config
+        → (n : Machine) × EntersAt x main 0 (start (initial_state space main config)) true n × IsOutcomeOf next_sets more more_files next.prepared config n
+    ends-entered config listed =
+        let first = start (initial_state space main config) in
+        let end = leads.at config first listed (fresh.starts main config listed) tt in (
+          end.machine,
+          subst (λ has. EntersAt x main 0 first has end.machine) (everywhere config listed)
+              (subst (λ name. EntersAt x name 0 first (s.has cond.0 config) end.machine) (ap (λ (o : Option (List ℕ)). unwrap_or o []) named) end.done),
+          end.simulates.prepared,
+        )
+
+    entered-apart : AreApart next_sets next.prepared.faults.items
+    entered-apart = record {
+      few = λ config listed. faults-few next_sets more_files next.prepared.faults.items config _ (ends-entered config (IsConfig-kept keeps listed)).2.fault;
+    }
+
+    pub entered-shown : {holds : Option Files} {contents : Contents} → IsReady next_sets more more_files holds next contents → AllPass (is_plain more) next.prepared.list
+        → ArePlainPaths more_files → CanBeShown next_sets more more_files next.prepared
+    entered-shown ready plain paths =
+        all-shown next_sets more more_files next.prepared ready.owns.prepared
+        (record { gathered = λ k d h. absurd (omega (arith, h)); list = ready.held.list; passed = ready.held.passed; faults = ready.held.faults }) plain entered-apart paths
+
+  pub entered-is : {next_sets : Sets} {more more_files : List (List ℕ)} {next : Walk} (keeps : Keeps s next_sets) (main : List ℕ) (outside : Files) (file : FileId) (cond : Cond)
+      (named : slice_get files file.0 ≡ Some main) (everywhere : (config : List ℕ) → IsConfig s.arities config → s.has cond.0 config ≡ true)
+      → Leads files names s walk more_files more next_sets next (λ m. Unit {0}) (λ config m n. EntersAt (context_of space outside) (text_at files file.0) 0 m (s.has cond.0 config) n)
+      → (config : List ℕ) → IsConfig s.arities config → IsOrdinary next_sets more more_files next.prepared (Pre space outside main config) config
+  entered-is {next_sets} {more} {more_files} {next} keeps main outside file cond named everywhere leads config listed =
+      let end = ends-entered keeps main file cond named everywhere leads config listed in
+      entered-ordinary next_sets more more_files next.prepared space outside main config end.1 end.2

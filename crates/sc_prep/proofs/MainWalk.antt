@@ -1,0 +1,59 @@
+-- What walking the main file comes to.
+use Rattle.std.proofs.Common.{◌≡◌, ℕ, true, List, [], ◌∷◌, Some, None, Ok, Err, refl, sym, ap, ◌∙◌}
+use Rattle.c11_directives.specs.Pre.{File, file_with, found_or, Enters, Includes, missing, entered, context_of, initial_state, Pre}
+use Rattle.c11_macros.specs.Macros.{initial_macros}
+use Rattle.sc_model.specs.declared.cause.Cause.TheVariants.{NotFound}
+use Rattle.sc_model.specs.Fault.{Fault, fault_at, first_place}
+use Rattle.sc_model.specs.Growth.{Extends}
+use Rattle.sc_model.specs.Outside.{Files}
+use Rattle.sc_model.specs.Sets.{Sets}
+use Rattle.sc_model.specs.Space.{Space}
+use Rattle.sc_prep.specs.declared.prepared.Prepared.{Prepared}
+use Rattle.sc_prep.specs.Includes.{EntersAt, inert, enters}
+use Rattle.sc_prep.specs.Machine.{Machine, start}
+use Rattle.sc_prep.specs.Preprocesses.{IsOrdinary, IsRefused}
+use Rattle.sc_prep.specs.Simulates.{IsBegun, IsOutcomeOf}
+use Rattle.sc_table.specs.declared.table.MacroTable.{MacroTable}
+use Rattle.sc_table.specs.Table.{IsTable, macros_at}
+use Rattle.sc_table.proofs.Growth.{macros_at-Extends}
+
+module _ (s : Sets) (names files : List (List ℕ)) (p : Prepared) (space : Space) (outside : Files) (main config : List ℕ) where
+  -- what stands at a configuration that is refused
+  pub refused-ordinary : (fault : Fault) → Includes (context_of space outside) (main ∷ []) (first_place main) (initial_state space main config) (Err fault)
+      → IsRefused s names files p fault config → IsOrdinary s names files p (Pre space outside main config) config
+  refused-ordinary fault includes is = record {
+    answer = Err fault;
+    preprocessed = record { end = Err fault; walked = includes; is = refl };
+    stands = is.faults;
+    live = is.live;
+  }
+
+  -- no file has the name
+  pub missing-ordinary : outside main ≡ None → IsRefused s names files p (fault_at NotFound (first_place main)) config → IsOrdinary s names files p (Pre space outside main config) config
+  missing-ordinary none is = refused-ordinary (fault_at NotFound (first_place main)) (missing (ap (found_or None main) none)) is
+
+  includes-main : (f : File) {r : _} → f.name ≡ main → outside main ≡ Some f.bytes → Enters (context_of space outside) f (initial_state space main config) r
+      → Includes (context_of space outside) (main ∷ []) (first_place main) (initial_state space main config) r
+  includes-main f named there walks = entered f (ap (found_or None main) there ∙ ap (λ name. Some (file_with name f.bytes)) (sym named)) walks
+
+  -- the main file was entered
+  pub entered-ordinary : {n : Machine} → EntersAt (context_of space outside) main 0 (start (initial_state space main config)) true n → IsOutcomeOf s names files p config n
+      → IsOrdinary s names files p (Pre space outside main config) config
+  entered-ordinary (inert inactive) outcome = cc
+  entered-ordinary (enters f (Ok t) acting named there walks) outcome = record {
+    answer = Ok t.output;
+    preprocessed = record { end = Ok t; walked = includes-main f named there walks; is = refl };
+    stands = (outcome.output refl, outcome.fault);
+    live = outcome.live;
+  }
+  entered-ordinary (enters f (Err fault) acting named there walks) outcome = record {
+    answer = Err fault;
+    preprocessed = record { end = Err fault; walked = includes-main f named there walks; is = refl };
+    stands = outcome.fault;
+    live = outcome.live;
+  }
+
+-- the macros of a table that was made from a space are its first ones
+pub begins-as : {s : Sets} {names more : List (List ℕ)} {table : MacroTable} (space : Space) (main config : List ℕ) → Extends names more → IsTable s names table
+    → ((name : List ℕ) → macros_at s names table config name ≡ initial_macros space config name) → IsBegun s more table config (initial_state space main config)
+begins-as space main config grows is initial = record { macros = λ name. macros_at-Extends grows is config name ∙ initial name; output = refl; run = refl }

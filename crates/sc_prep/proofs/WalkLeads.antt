@@ -1,0 +1,138 @@
+-- What a walk over the lines of a file leads to.
+use Rattle.std.proofs.Common.{◌≡◌, ℕ, zero, suc, ◌+◌, ◌<◌, ◌≤◌, take, Bool, true, List, [], ◌∷◌, All, length, get_or, Option, refl, sym, ap, ◌∙◌, subst, arith}
+use Rattle.std.proofs.lemmas.List.Elements.{All-from_recursion, All-weaker}
+use Rattle.std.specs.List.{AllByRecursion as Every}
+use Rattle.std.specs.Prelude.{MatchBool, unwrap_or}
+use Rattle.c11_directives.specs.Lines.{Line}
+use Rattle.c11_directives.specs.Pre.{Context}
+use Rattle.sc_base.proofs.Growth.{Extends-refl}
+use Rattle.sc_base.specs.declared.token.Token as base
+use Rattle.sc_base.specs.Seen.{IsHeld, text_at}
+use Rattle.sc_lines.proofs.SeenLines.{line-seen}
+use Rattle.sc_lines.specs.declared.line.Line as declared
+use Rattle.sc_lines.specs.Judges.{no_line}
+use Rattle.sc_lines.specs.Nests.{seen_line, seen_lines}
+use Rattle.sc_lines.specs.Split.{directive_at, tokens_of}
+use Rattle.sc_model.proofs.SetLemmas.{IsConfig-Keeps, Keeps-refl, Keeps-trans}
+use Rattle.sc_model.specs.Bytes.{has_no_newline}
+use Rattle.sc_model.specs.Growth.{Extends}
+use Rattle.sc_model.specs.Outside.{Files}
+use Rattle.sc_model.specs.Sets.{Sets, IsNever, Keeps}
+use Rattle.sc_model.specs.Space.{Space}
+use Rattle.sc_prep.proofs.Contents.{IsPlaced-later}
+use Rattle.sc_prep.proofs.Going.{Gone, directories-plain, gone-then, line-later, plain-line}
+use Rattle.sc_prep.proofs.InFile.{top-is-in}
+use Rattle.sc_prep.proofs.LeadMoves.{contents-stay, leads-one}
+use Rattle.sc_prep.proofs.LineSteps.{directive-now, line-of_file, lines-all, lines-long}
+use Rattle.sc_prep.proofs.Passing.{next-passed, one-more}
+use Rattle.sc_prep.proofs.PlainRuns.{each-closes-plain, in-more, placed-plain, runs-plain, seen-plain}
+use Rattle.sc_prep.specs.Contents.{Agrees, AreContents, AreHeldLines, KeepsContents}
+use Rattle.sc_prep.specs.Machine.{Machine, Runs, Takes}
+use Rattle.sc_prep.specs.Passes.{EndsAt}
+use Rattle.sc_prep.specs.Printable.{AllPass, ArePlainPaths, ClosesPlain, IsPlaced, IsPlainToken, is_plain}
+use Rattle.sc_prep.specs.Simulates.{Closed, Covers, IsAtTop, IsContext, IsIn, Leads, PlainEach, SimulatesOneOf}
+use Rattle.sc_prep.specs.declared.content.Contents.{Contents}
+use Rattle.sc_prep.specs.declared.content.FileLines.{FileLines}
+use Rattle.sc_prep.specs.declared.entry.Entry.{Entry}
+use Rattle.sc_prep.specs.declared.walk.Walk.{Walk}
+use Rattle.sc_space.specs.Sound.{IsSound}
+
+every-take : {A : Type 0} (P : A → Type 0) (n : ℕ) (xs : List A) → Every P xs → Every P (take n xs)
+every-take P zero xs all = tt
+every-take P (suc n) [] all = tt
+every-take P (suc n) (x ∷ xs) all = (all.0, every-take P n xs all.1)
+
+-- tokens that are spelled on one line stay so while the table grows
+pub plain-later : {names more : List (List ℕ)} {files : ℕ} → Extends names more → (ts : List base.Token) → All (IsPlaced names files) ts → All (λ (t : base.Token). is_plain names t ≡ true) ts
+    → All (λ (t : base.Token). is_plain more t ≡ true) ts
+plain-later grows ts placed all = λ k d h. ap (λ o. has_no_newline (unwrap_or o [])) (grows.kept (get_or ts k d).spelling.0 (placed k d h).held.spelling) ∙ all k d h
+
+-- before the first line
+pub gone-nowhere : {space : Space} {s : Sets} {names files : List (List ℕ)} {w : Walk} {contents : Contents} {given : Type 0} {from : Machine → Type 0} {does : Context → List ℕ → Machine → Machine → Type 0}
+    → ((x : Context) (config : List ℕ) (m : Machine) → does x config m m) → Gone space s names files w contents s names files w contents given from does
+gone-nowhere {s = s} {names} {files} {contents = contents} stays = record {
+  keeps = Keeps-refl s;
+  names_grow = Extends-refl names;
+  files_grow = Extends-refl files;
+  read = contents-stay contents;
+  leads = λ x context agreed. record { at = λ config m listed at here. record { machine = m; done = stays x config m; simulates = at } };
+  plain = λ g x context agreed sound paths each list. list;
+  paths = λ g x context agreed sound paths each. paths;
+}
+
+module _ {space : Space} {a b : Sets} {names files mid mid_files : List (List ℕ)} {u v : Walk} {one two : Contents} {holds : Option Files} (entry : Entry) (lines : FileLines)
+    (own : AreHeldLines names (length files) entry.file lines) (number : ℕ)
+    (gone : Gone space a names files u one b mid mid_files v two (Unit {0}) (IsAtTop files entry) (λ x config m n. Runs x m (take number (seen_lines names files lines.tokens.items)) n))
+    (held : AreContents mid mid_files holds two) where
+  abbrev file_seen : List Line
+  file_seen = seen_lines names files lines.tokens.items
+
+  -- the machine is still in the file
+  in-file : (x : Context) (m n : Machine) → IsAtTop files entry m → Runs x m (take number file_seen) n → IsIn mid_files entry n
+  in-file x m n from ran = in-more n gone.files_grow (top-is-in from ran)
+
+  all-plain : ArePlainPaths files → Every (λ (l : Line). Every IsPlainToken l.tokens) file_seen
+  all-plain paths = placed-plain names files lines.tokens.items own.placed paths own.plain
+
+  -- ---- one line more
+  module _ (d : declared.Line) (within : number < length lines.lines.items) where
+    abbrev this_line : List base.Token
+    this_line = tokens_of lines.tokens.items (get_or lines.lines.items number d)
+
+    line-placed : All (IsPlaced names (length files)) this_line
+    line-placed = line-of_file (IsPlaced names (length files)) lines.tokens.items (get_or lines.lines.items number d) own.placed
+
+    pub line-placed-now : All (IsPlaced mid (length mid_files)) this_line
+    line-placed-now =
+        All-weaker (IsPlaced names (length files)) (IsPlaced mid (length mid_files)) (IsPlaced-later gone.names_grow gone.files_grow) this_line line-placed
+
+    pub line-directive : (get_or lines.lines.items number d).directive ≡ directive_at mid this_line
+    line-directive =
+        directive-now names lines.tokens.items lines.lines.items own.lines_are number d within
+        (All-weaker (IsPlaced names (length files)) (IsHeld names) (λ t p. p.held) lines.tokens.items own.placed) gone.names_grow
+
+    line-spelled : All (λ (t : base.Token). is_plain mid t ≡ true) this_line
+    line-spelled =
+        let P : Line → Type 0 = λ l. Every IsPlainToken l.tokens in
+        let nowhere : All (λ (t : base.Token). has_no_newline (text_at [] t.place.file.0) ≡ true) lines.tokens.items =
+        All-weaker (IsPlaced names (length files)) (λ (t : base.Token). has_no_newline (text_at [] t.place.file.0) ≡ true) (λ t p. refl) lines.tokens.items own.placed in
+        let all = All-from_recursion P (seen_lines names [] lines.tokens.items) (seen-plain names [] lines.tokens.items own.plain nowhere) in
+        let one = all number no_line (omega (arith, within, lines-long names lines.tokens.items lines.lines.items own.lines_are [])) in
+        let seen_here = subst P (line-seen names [] lines.tokens.items lines.lines.items own.lines_are number d within) one in
+        plain-later gone.names_grow this_line line-placed (All-from_recursion (λ (t : base.Token). is_plain names t ≡ true) this_line (plain-line names [] this_line seen_here))
+
+    -- the tokens are those that are taken
+    pub gone-line : {c : Sets} {more more_files : List (List ℕ)} {w : Walk} {three : Contents} (spoken : List base.Token) → spoken ≡ this_line → Keeps b c → Extends mid more → Extends mid_files more_files → KeepsContents two three
+        → ((x : Context) → IsContext space x → Agrees more more_files x.files three
+        → Leads mid_files mid b v more_files more c w (IsIn mid_files entry) (λ config m n. Takes x m (seen_line mid mid_files spoken) n))
+        → ((x : Context) → IsContext space x → Agrees more more_files x.files three → IsSound space → All (λ (t : base.Token). is_plain mid t ≡ true) spoken → ArePlainPaths mid_files
+        → PlainEach b mid mid_files v (IsIn mid_files entry) → AllPass (is_plain mid) v.prepared.list → AllPass (is_plain more) w.prepared.list)
+        → ((x : Context) → IsContext space x → Agrees more more_files x.files three → IsSound space → All (λ (t : base.Token). is_plain mid t ≡ true) spoken → ArePlainPaths mid_files
+        → PlainEach b mid mid_files v (IsIn mid_files entry) → ArePlainPaths more_files)
+        → (next : ℕ) (passed : Bool) → MatchBool passed (EndsAt file_seen (number + 1) next) (next ≡ number + 1) → (passed ≡ true → IsNever c w.acting.0)
+        → Gone space a names files u one c more more_files w three (Unit {0}) (IsAtTop files entry) (λ x config m n. Runs x m (take next file_seen) n)
+    gone-line {c} {more} {more_files} {w} {three} spoken same keeps names_grow files_grow read takes plain paths next passed ends never =
+        let spelled = subst (All (λ (t : base.Token). is_plain mid t ≡ true)) (sym same) line-spelled in
+        gone-then {between = IsIn mid_files entry} {later = λ x config m n. Takes x m (seen_line mid mid_files spoken) n} gone held keeps names_grow files_grow read takes
+        (λ g x context agreed sound mid_paths each list. plain x context agreed sound spelled mid_paths each list)
+        (λ g x context agreed sound mid_paths each. paths x context agreed sound spelled mid_paths each)
+        (λ x config m n from ran. in-file x m n from ran)
+        (λ g x context sound paths config m n ran from state. runs-plain (directories-plain context sound) ran state (every-take (λ (l : Line). Every IsPlainToken l.tokens) number file_seen (all-plain paths)))
+        (λ x config m n o context listed from ran taking at.
+        next-passed file_seen x m number next passed o ends (λ is. sym at.acting ∙ (never is).none config (IsConfig-Keeps (Keeps-trans gone.keeps keeps) listed))
+        (one-more file_seen x m number (omega (arith, within, lines-long names lines.tokens.items lines.lines.items own.lines_are files)) ran
+        (subst (λ l. Takes x n l o) (ap (seen_line mid mid_files) same ∙ (line-later gone.names_grow gone.files_grow this_line line-placed ∙ sym (line-seen names files lines.tokens.items lines.lines.items own.lines_are number d within))) taking)))
+
+  -- ---- the end of the file
+  pub gone-over : {c : Sets} {more : List (List ℕ)} {w : Walk} → length lines.lines.items ≤ number → Keeps b c → Extends mid more → SimulatesOneOf mid_files mid b v more c w (λ config m n. Closed m n)
+      → (ClosesPlain b mid mid_files v → AllPass (is_plain mid) v.prepared.list → AllPass (is_plain more) w.prepared.list)
+      → Gone space a names files u one c more mid_files w two (Unit {0}) (IsAtTop files entry) (λ x config m n. Covers x file_seen m n)
+  gone-over past keeps names_grow closes plain =
+      gone-then {between = λ m. Unit {0}} {later = λ x config m n. Closed m n} gone held keeps names_grow (Extends-refl mid_files) (contents-stay two)
+      (λ x context agreed. leads-one (λ m. Unit {0}) closes)
+      (λ g x context agreed sound mid_paths each list. plain (each-closes-plain each) list)
+      (λ g x context agreed sound mid_paths each. mid_paths)
+      (λ x config m n from ran. tt)
+      (λ g x context sound paths config m n ran from state. runs-plain (directories-plain context sound) ran state (every-take (λ (l : Line). Every IsPlainToken l.tokens) number file_seen (all-plain paths)))
+      (λ x config m n o context listed from ran closed at.
+      record { end = n; runs = subst (λ ls. Runs x m ls n) (lines-all names files lines.tokens.items lines.lines.items own.lines_are number past) ran; closed = closed })

@@ -1,0 +1,69 @@
+use Rattle.std.proofs.Common.{◌≡◌, ◌∙◌, map, true, sym, ap, refl, subst, arith}
+use Rattle.std.specs.Option.{option_map}
+use Rattle.std.specs.Prelude.{string_bytes, unwrap_or, []}
+use Rattle.c11_headers.specs.Headers.{candidates}
+use Rattle.sc_base.proofs.Growth.{Extends-refl, Extends-trans}
+use Rattle.sc_base.specs.Seen.{text_at}
+use Rattle.sc_include.specs.Seen.{seen_header}
+use Rattle.sc_model.proofs.SetLemmas.{Keeps-refl, Keeps-trans}
+use Rattle.sc_model.specs.Bytes.{has_no_newline}
+use Rattle.sc_model.specs.Sets.{IsCond}
+use Rattle.sc_prep.specs.Contents.{AreContents}
+use Rattle.sc_prep.specs.Finding.{IsSearched}
+use Rattle.sc_prep.specs.Printable.{ArePlainPaths}
+use Rattle.sc_prep.specs.declared.naming.Named.{Named}
+use Rattle.sc_prep.proofs.FoundFiles.{asked-plain, keeps-more, keeps-same, nothing-found, one-found, parts-kept}
+use Rattle.sc_prep.proofs.PlainRuns.{path-plain}
+use Rattle.sc_prep.proofs.finding.Found.find.Goals as goal
+
+pub loop-name-init : goal.loop-name-init
+loop-name-init g c = record {
+  names = Extends-refl c.args.names.now;
+  files = Extends-refl c.args.files.now;
+  keeps = Keeps-refl (g.C.Conditions.sets c.args.conds.now);
+  kept = refl;
+  counted = omega arith;
+  read = c.requires.contents;
+  reads = keeps-same c.args.contents.now;
+  paths = λ directories names files. files;
+  found = nothing-found (g.C.Conditions.sets c.args.conds.now) (text_at c.args.files.now c.args.including.0) (map string_bytes c.args.directories.now) c.args.names.now c.args.files.now c.args.contents.now
+      (record { parts = c.new.result; missing = c.never.result }) c.new.ensures.items c.never.ensures.meaning;
+}
+
+pub add-requires-clause-own : goal.add-requires-clause-own
+add-requires-clause-own g c =
+    let own = subst (λ (x : Named). IsCond (g.C.Conditions.sets c.args.conds.now) x.cond.0) (sym c.name-item.is) (c.requires.own c.loop-name.name-index c.name-item.result c.loop-name-test.true) in
+    c.loop-name.invariant.keeps.own _ own
+
+pub returns-in_err-add-clause-keeps : goal.returns-in_err-add-clause-keeps
+returns-in_err-add-clause-keeps g c = Keeps-trans c.loop-name.invariant.keeps c.add.ensures.keeps
+
+pub loop-name-preserved : goal.loop-name-preserved
+loop-name-preserved g c =
+    let old = g.C.Conditions.sets c.args.conds.now in
+    let was = c.loop-name.invariant in
+    let i = c.loop-name.name-index in
+    let n = c.name-item.result in
+    let within = c.loop-name-test.true in
+    let looks = c.in_ok-file.ensures.looks in
+    let directories = map string_bytes c.args.directories.now in
+    let including = text_at c.args.files.now c.args.including.0 in
+    let own = subst (λ (x : Named). IsCond old x.cond.0) (sym c.name-item.is) (c.requires.own i n within) in
+    let asked : map string_bytes c.deref.result.now ≡ candidates (seen_header n.header) including directories =
+    ap (map string_bytes) c.deref.ensures.value
+    ∙ (c.in_ok-paths.ensures ∙ ap (λ t. candidates (seen_header n.header) t directories) (sym (ap (λ o. unwrap_or o []) c.text.ensures) ∙ ap (λ o. unwrap_or o []) (was.files.kept c.args.including.0 c.requires.including))) in
+    record {
+      names = Extends-trans was.names c.search.ensures.names;
+      files = Extends-trans was.files c.search.ensures.files;
+      keeps = Keeps-trans was.keeps c.add.ensures.keeps;
+      kept = c.search.ensures.kept ∙ was.kept;
+      counted = omega (arith, was.counted, c.search.ensures.counted);
+      read = subst (λ h. AreContents c.search.new.names c.search.new.files h c.search.new.contents) was.kept looks.contents_are;
+      reads = keeps-more was.reads looks.reads;
+      paths = λ all plain files.
+          let name = subst (λ (x : Named). has_no_newline (string_bytes x.header.name) ≡ true) (sym c.name-item.is) (plain i n within) in
+          looks.paths (subst ArePlainPaths (sym asked) (asked-plain n.header including directories name (path-plain c.args.files.now c.args.including.0 c.requires.including files) all)) (was.paths all plain files);
+      found = one-found c.args.named.now i n (option_map (λ pair. pair.0) c.in_ok-file.file) c.search.ensures.names c.search.ensures.files was.read looks.reads was.keeps within c.name-item.is own was.found
+          c.in_ok-add.ensures.adds (λ held agrees. subst (λ paths. IsSearched held c.search.new.files paths (option_map (λ pair. pair.0) c.in_ok-file.file)) asked (c.in_ok-file.ensures.searched held agrees))
+          (c.in_ok-add.ensures.parts c.search.new.contents c.in_ok-file.ensures.content (parts-kept looks.reads was.found.parts));
+    }

@@ -1,0 +1,24 @@
+use Rattle.std.proofs.Common.{◌≡◌, ◌≤◌, All, map, take, true}
+use Rattle.std.specs.Prelude.{string_bytes}
+use Rattle.sc_base.specs.Seen.{text_at}
+use Rattle.sc_model.specs.Bytes.{has_no_newline}
+use Rattle.sc_model.specs.Growth.{Extends}
+use Rattle.sc_model.specs.Sets.{Keeps}
+use Rattle.sc_prep.specs.Contents.{AreContents, KeepsContents}
+use Rattle.sc_prep.specs.Finding.{AreFound}
+use Rattle.sc_prep.specs.Printable.{ArePlainPaths}
+use Rattle.sc_prep.specs.declared.naming.Named.{Named}
+use Rattle.sc_prep.proofs.finding.Found.find.Given as goal
+
+abbrev pub invariant-loop-name : goal.invariant-loop-name
+invariant-loop-name g l = record {
+  names : Extends l.fn.names l.names;
+  files : Extends l.fn.files l.files;
+  keeps : Keeps (g.C.Conditions.sets l.fn.conds) (g.C.Conditions.sets l.conds);
+  kept : g.S.Source.holds l.src ≡ g.S.Source.holds l.fn.src;
+  counted : g.S.Source.faults l.fn.src ≤ g.S.Source.faults l.src;
+  read : AreContents l.names l.files (g.S.Source.holds l.fn.src) l.contents;
+  reads : KeepsContents l.fn.contents l.contents;
+  paths : ArePlainPaths (map string_bytes l.directories) → All (λ (n : Named). has_no_newline (string_bytes n.header.name) ≡ true) l.named → ArePlainPaths l.fn.files → ArePlainPaths l.files;
+  found : AreFound (g.C.Conditions.sets l.fn.conds) (take l.name-index l.named) (text_at l.fn.files l.including.0) (map string_bytes l.directories) l.names l.files l.contents (g.C.Conditions.sets l.conds) l.found;
+}

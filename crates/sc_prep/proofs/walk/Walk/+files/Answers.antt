@@ -1,0 +1,524 @@
+use Rattle.std.proofs.Common.{rules, OnOk, Result, Ok, Err, ◌≡◌, ◌∙◌, ℕ, ◌<◌, List, [], All, Some, refl, sym, ap, subst, arith, length}
+use Rattle.std.proofs.lemmas.Result.{on_ok_weaker}
+use Rattle.c11_directives.specs.Pre.{context_of}
+use Rattle.sc_base.proofs.Growth.{Extends-refl, Extends-trans}
+use Rattle.sc_lines.proofs.SeenLines.{directive-files}
+use Rattle.sc_base.specs.Seen.{text_at}
+use Rattle.sc_model.proofs.SetLemmas.{Denotes-self, Keeps-trans}
+use Rattle.sc_prep.proofs.Contents.{agrees-back}
+use Rattle.sc_prep.proofs.EnterLeads.{around-group, around-sections, begun-plain, held-lines, held-refusal, kept-lines, kept-refusal, leads-inside, leads-nowhere, leads-refused, left-plain, refused-list}
+use Rattle.sc_prep.proofs.LeadMoves.{content-named, contents-stay, leads-one, limit-stops, ready-moved, ready-begun, ready-kept, ready-left, ready-refused, stops-later}
+use Rattle.sc_prep.proofs.Going.{entry-within}
+use Rattle.sc_prep.proofs.IncludeLeads.{gone-closed, gone-entered, gone-found, gone-taken, parts-later}
+use Rattle.sc_prep.proofs.LineSteps.{directive-long, lines-stand}
+use Rattle.sc_prep.proofs.Passing.{next-after}
+use Rattle.sc_prep.proofs.PlainRuns.{each-closes-plain, path-plain}
+use Rattle.sc_prep.proofs.WalkLeads.{gone-line, gone-nowhere, gone-over, line-directive, line-placed-now}
+use Rattle.sc_prep.specs.Machine as machine
+use Rattle.sc_prep.specs.Simulates.{IsIn, Leads}
+use Rattle.sc_space.specs.Seen.{seen_space}
+use Rattle.sc_prep.specs.Printable.{AllPass, is_plain}
+use Rattle.sc_base.proofs.Growth.{Extends-within}
+use Rattle.sc_lines.specs.declared.line.Line.{Line}
+use Rattle.sc_lines.specs.Nests.{seen_lines}
+use Rattle.sc_lines.specs.Split.{directive_at, tokens_of}
+use Rattle.sc_model.specs.Sets.{IsCond}
+use Rattle.sc_prep.proofs.Contents.{IsPlaced-later}
+use Rattle.sc_prep.specs.Contents.{content_at}
+use Rattle.sc_prep.specs.Passes.{StandFor}
+use Rattle.sc_prep.specs.Printable.{IsPlaced}
+use Rattle.sc_prep.specs.Includes.{ArePartsOf, EntersAt}
+use Rattle.sc_prep.specs.declared.entering.Around.{Around}
+use Rattle.sc_prep.specs.declared.including.Part.{Part}
+use Rattle.c11_directives.specs.declared.directive.Directive.TheVariants as kind
+use Rattle.std.proofs.lemmas.List.Elements.{All-get_or, All-weaker}
+use Rattle.sc_prep.proofs.walk.Walk.+files.Goals as goal
+
+ok-both : {A E P Q R : Type 0} (r : Result A E) → (P → Q → R) → OnOk r P → OnOk r Q → OnOk r R
+ok-both (Ok x) f p q = f p q
+ok-both (Err e) f p q = tt
+
+pub enter-apply_and-requires-clause-b_own : goal.enter-apply_and-requires-clause-b_own
+enter-apply_and-requires-clause-b_own g t c = c.requires.ready.owns.acting
+
+-- ---- no configuration enters the file
+
+pub enter-returns-then-is_never-clause-enters : goal.enter-returns-then-is_never-clause-enters
+enter-returns-then-is_never-clause-enters g t c = λ x context agrees.
+    let old = g.C.Conditions.sets c.args.conds.now in
+    let w = c.args.self.now in
+    leads-nowhere c.args.files.now c.args.cond c.args.entry c.in_ok-inside.ensures.keeps
+    (c.in_ok-inside.ensures.meaning (old.has c.args.cond.0) (old.has w.acting.0) (Denotes-self old c.args.cond.0 c.requires.own) (Denotes-self old w.acting.0 c.requires.ready.owns.acting))
+    c.requires.ready.owns c.requires.ready.table x (c.is_never.ensures.0 c.if-is_never.true)
+
+pub enter-returns-then-is_never-clause-ready : goal.enter-returns-then-is_never-clause-ready
+enter-returns-then-is_never-clause-ready g t c = ready-kept c.in_ok-inside.ensures.keeps c.requires.ready
+
+pub enter-returns-then-is_never-clause-read : goal.enter-returns-then-is_never-clause-read
+enter-returns-then-is_never-clause-read g t c = contents-stay c.args.contents.now
+
+-- ---- its lines are walked
+
+pub enter-walk_lines-requires : goal.enter-walk_lines-requires
+enter-walk_lines-requires g t c κs given = (
+  omega (arith, c.decreases),
+  (
+    given.0,
+    (
+      given.1,
+      (
+        held-lines c.args.entry.file _ c.requires.ready.read c.requires.content c.in-Lines.is,
+        (
+          c.requires.deep,
+          (
+            c.begin_file-around.ensures.sections,
+            ready-begun c.begin_file-around.ensures c.in_ok-inside.ensures.own (ready-kept c.in_ok-inside.ensures.keeps c.requires.ready),
+          ),
+        ),
+      ),
+    ),
+  ),
+)
+
+pub enter-returns-in_ok-end_file-in-Lines-clause-enters : goal.enter-returns-in_ok-end_file-in-Lines-clause-enters
+enter-returns-in_ok-end_file-in-Lines-clause-enters g t c = λ x context agrees.
+    let old = g.C.Conditions.sets c.args.conds.now in
+    let w = c.args.self.now in
+    let walked = c.in_ok-walk_lines-in-Lines.ensures in
+    let ready = c.requires.ready in
+    let named = content-named ready.read c.args.entry.file.0 c.requires.content in
+    let held = agrees-back walked.names walked.files ready.read x.files walked.read agrees in
+    leads-inside c.args.files.now c.args.cond c.args.entry c.in_ok-inside.ensures.keeps
+    (c.in_ok-inside.ensures.meaning (old.has c.args.cond.0) (old.has w.acting.0) (Denotes-self old c.args.cond.0 c.requires.own) (Denotes-self old w.acting.0 ready.owns.acting))
+    ready.owns ready.table c.walk_lines.new.names c.walk_lines.new.files walked.keeps c.in_ok-end_file-in-Lines.ensures.keeps c.begin_file-around.ensures c.in_ok-end_file-in-Lines.ensures.leaves walked.ready.owns walked.ready.table x context.standard _ named
+    (kept-lines c.args.entry.file.0 _ held named c.requires.content c.in-Lines.is) (walked.covers x context agrees)
+
+pub enter-returns-in_ok-end_file-in-Lines-clause-ready : goal.enter-returns-in_ok-end_file-in-Lines-clause-ready
+enter-returns-in_ok-end_file-in-Lines-clause-ready g t c =
+    let old = g.C.Conditions.sets c.args.conds.now in
+    let w = c.args.self.now in
+    let walked = c.in_ok-walk_lines-in-Lines.ensures in
+    let ready = c.requires.ready in
+    let inside = c.in_ok-inside.ensures.meaning (old.has c.args.cond.0) (old.has w.acting.0) (Denotes-self old c.args.cond.0 c.requires.own) (Denotes-self old w.acting.0 ready.owns.acting) in
+    let end = c.in_ok-end_file-in-Lines.ensures in
+    let begins = c.begin_file-around.ensures in
+    ready-left end.keeps walked.ready end.leaves
+    (around-group c.args.files.now c.args.cond c.args.entry c.in_ok-inside.ensures.keeps inside ready.owns ready.table c.walk_lines.new.names c.walk_lines.new.files walked.keeps end.keeps begins end.leaves)
+    (around-sections c.args.files.now c.args.cond c.args.entry c.in_ok-inside.ensures.keeps inside ready.owns ready.table c.walk_lines.new.names c.walk_lines.new.files walked.keeps end.keeps begins end.leaves)
+
+-- ---- whoever enters it is refused
+
+pub enter-refuse_at-requires-clause-live : goal.enter-refuse_at-requires-clause-live
+enter-refuse_at-requires-clause-live g t c = (ready-kept c.in_ok-inside.ensures.keeps c.requires.ready).owns.prepared.live
+
+pub enter-returns-in_ok-refuse_at-in-Refused-clause-enters : goal.enter-returns-in_ok-refuse_at-in-Refused-clause-enters
+enter-returns-in_ok-refuse_at-in-Refused-clause-enters g t c = λ x context agrees.
+    let old = g.C.Conditions.sets c.args.conds.now in
+    let w = c.args.self.now in
+    let ready = c.requires.ready in
+    let named = content-named ready.read c.args.entry.file.0 c.requires.content in
+    leads-refused c.args.files.now c.args.cond c.args.entry c.in_ok-inside.ensures.keeps
+    (c.in_ok-inside.ensures.meaning (old.has c.args.cond.0) (old.has w.acting.0) (Denotes-self old c.args.cond.0 c.requires.own) (Denotes-self old w.acting.0 ready.owns.acting))
+    ready.owns ready.table _ _ c.in_ok-refuse_at-in-Refused.ensures.keeps c.in_ok-refuse_at-in-Refused.ensures.refuses x context.standard
+    (kept-refusal c.args.entry.file.0 _ _ agrees named c.requires.content c.in-Refused.is)
+
+pub enter-returns-in_ok-refuse_at-in-Refused-clause-ready : goal.enter-returns-in_ok-refuse_at-in-Refused-clause-ready
+enter-returns-in_ok-refuse_at-in-Refused-clause-ready g t c =
+    ready-refused c.in_ok-refuse_at-in-Refused.ensures.keeps (ready-kept c.in_ok-inside.ensures.keeps c.requires.ready) c.in_ok-refuse_at-in-Refused.ensures.refuses c.in_ok-inside.ensures.own
+    (held-refusal c.args.entry.file _ _ c.requires.ready.read c.requires.content c.in-Refused.is)
+
+pub enter-returns-in_ok-end_file-in-Lines-clause-plain : goal.enter-returns-in_ok-end_file-in-Lines-clause-plain
+enter-returns-in_ok-end_file-in-Lines-clause-plain g t c = λ x context agrees sound paths each.
+    let old = g.C.Conditions.sets c.args.conds.now in
+    let w = c.args.self.now in
+    let walked = c.in_ok-walk_lines-in-Lines.ensures in
+    let ready = c.requires.ready in
+    let inside = c.in_ok-inside.ensures.meaning (old.has c.args.cond.0) (old.has w.acting.0) (Denotes-self old c.args.cond.0 c.requires.own) (Denotes-self old w.acting.0 ready.owns.acting) in
+    let end = c.in_ok-end_file-in-Lines.ensures in
+    let begins = c.begin_file-around.ensures in
+    let files = c.args.files.now in
+    let more = c.walk_lines.new.names in
+    let more_files = c.walk_lines.new.files in
+    let keeps = c.in_ok-inside.ensures.keeps in
+    left-plain files c.args.cond c.args.entry keeps inside ready.owns ready.table more more_files walked.keeps end.keeps begins end.leaves more
+    (walked.plain x context agrees sound paths
+    (begun-plain files c.args.cond c.args.entry keeps inside ready.owns ready.table more more_files walked.keeps end.keeps begins end.leaves
+    (content-named ready.read c.args.entry.file.0 c.requires.content) (path-plain files c.args.entry.file.0 (ready.read.named c.args.entry.file.0 _ c.requires.content) paths) each))
+
+pub enter-returns-in_ok-end_file-in-Lines-clause-paths : goal.enter-returns-in_ok-end_file-in-Lines-clause-paths
+enter-returns-in_ok-end_file-in-Lines-clause-paths g t c = λ x context agrees sound paths each.
+    let old = g.C.Conditions.sets c.args.conds.now in
+    let w = c.args.self.now in
+    let walked = c.in_ok-walk_lines-in-Lines.ensures in
+    let ready = c.requires.ready in
+    let inside = c.in_ok-inside.ensures.meaning (old.has c.args.cond.0) (old.has w.acting.0) (Denotes-self old c.args.cond.0 c.requires.own) (Denotes-self old w.acting.0 ready.owns.acting) in
+    let end = c.in_ok-end_file-in-Lines.ensures in
+    let begins = c.begin_file-around.ensures in
+    let files = c.args.files.now in
+    let more = c.walk_lines.new.names in
+    let more_files = c.walk_lines.new.files in
+    let keeps = c.in_ok-inside.ensures.keeps in
+    walked.paths x context agrees sound paths
+    (begun-plain files c.args.cond c.args.entry keeps inside ready.owns ready.table more more_files walked.keeps end.keeps begins end.leaves
+    (content-named ready.read c.args.entry.file.0 c.requires.content) (path-plain files c.args.entry.file.0 (ready.read.named c.args.entry.file.0 _ c.requires.content) paths) each)
+
+pub enter-returns-in_ok-refuse_at-in-Refused-clause-plain : goal.enter-returns-in_ok-refuse_at-in-Refused-clause-plain
+enter-returns-in_ok-refuse_at-in-Refused-clause-plain g t c = λ x context agrees sound paths each list.
+    subst (AllPass (is_plain c.args.names.now)) (sym (refused-list c.in_ok-refuse_at-in-Refused.ensures.refuses)) list
+
+pub enter-returns-in_ok-refuse_at-in-Refused-clause-read : goal.enter-returns-in_ok-refuse_at-in-Refused-clause-read
+enter-returns-in_ok-refuse_at-in-Refused-clause-read g t c = contents-stay c.args.contents.now
+
+pub take_line-include_line-requires : goal.take_line-include_line-requires
+take_line-include_line-requires g t c κs given =
+    let at = rw c.in-Some-Include.is at c.in-Some-Include.field-0-is in (
+      omega (arith, c.decreases),
+      (given.0, (given.1, (c.requires.placed, (sym c.requires.directive ∙ (c.in-Some-Include.is ∙ ap Some at), (c.requires.entry, (c.requires.deep, c.requires.ready)))))),
+    )
+
+pub take_line-local_line-requires-clause-owns : goal.take_line-local_line-requires-clause-owns
+take_line-local_line-requires-clause-owns g t c = c.requires.ready.owns
+
+pub take_line-local_line-requires-clause-table : goal.take_line-local_line-requires-clause-table
+take_line-local_line-requires-clause-table g t c = c.requires.ready.table
+
+pub take_line-local_line-requires-clause-walk : goal.take_line-local_line-requires-clause-walk
+take_line-local_line-requires-clause-walk g t c = c.requires.ready.held
+
+pub take_line-returns-in_default-clause-takes : goal.take_line-returns-in_default-clause-takes
+take_line-returns-in_default-clause-takes g t c =
+    on_ok_weaker c.local_line.result (λ moved. λ x context agrees. leads-one (IsIn c.args.files.now c.args.entry) (moved x)) c.local_line.ensures.takes
+
+pub take_line-returns-in_default-clause-ready : goal.take_line-returns-in_default-clause-ready
+take_line-returns-in_default-clause-ready g t c =
+    ok-both c.local_line.result (λ moved walk. ready-moved c.local_line.ensures.names (moved (context_of (seen_space c.args.space.now) c.requires.ready.read.some.0)) walk c.requires.ready)
+    c.local_line.ensures.takes c.local_line.ensures.walk
+
+pub take_line-returns-in_default-clause-plain : goal.take_line-returns-in_default-clause-plain
+take_line-returns-in_default-clause-plain g t c =
+    on_ok_weaker c.local_line.result (λ plain. λ x context agrees sound all paths each list. plain (each-closes-plain each) list) c.local_line.ensures.plain
+
+pub take_line-returns-in_default-clause-paths : goal.take_line-returns-in_default-clause-paths
+take_line-returns-in_default-clause-paths g t c = on_ok_weaker c.local_line.result (λ moved. λ x context agrees sound all paths each. paths) c.local_line.ensures.takes
+
+pub take_line-returns-in_default-clause-read : goal.take_line-returns-in_default-clause-read
+take_line-returns-in_default-clause-read g t c = on_ok_weaker c.local_line.result (λ moved. contents-stay c.args.contents.now) c.local_line.ensures.takes
+
+pub take_line-returns-in_default-clause-stops : goal.take_line-returns-in_default-clause-stops
+take_line-returns-in_default-clause-stops g t c = limit-stops (g.C.Conditions.sets c.args.conds.now).arities c.args.space.now.limits.branches (g.S.Source.faults c.args.src.now) (g.S.Source.faults c.args.src.now) c.local_line.result c.local_line.ensures.stops
+
+pub walk_lines-loop-number-init : goal.walk_lines-loop-number-init
+walk_lines-loop-number-init g t c = record {
+  ready = c.requires.ready;
+  gone = gone-nowhere (λ x config m. machine.no_line);
+  kept = refl;
+  counted = omega arith;
+}
+
+pub walk_lines-returns-clause-covers : goal.walk_lines-returns-clause-covers
+walk_lines-returns-clause-covers g t c =
+    ok-both c.close_runs.result (λ closes plain. (gone-over c.args.entry c.args.file.now c.requires.lines c.loop-number.number c.loop-number.invariant.gone c.loop-number.invariant.ready.read (omega (arith, c.loop-number-test.false, c.len.ensures))
+    c.close_runs.ensures.keeps c.close_runs.ensures.names closes plain).leads)
+    c.close_runs.ensures.closes c.close_runs.ensures.plain
+
+pub walk_lines-returns-clause-plain : goal.walk_lines-returns-clause-plain
+walk_lines-returns-clause-plain g t c =
+    ok-both c.close_runs.result (λ closes plain. (gone-over c.args.entry c.args.file.now c.requires.lines c.loop-number.number c.loop-number.invariant.gone c.loop-number.invariant.ready.read (omega (arith, c.loop-number-test.false, c.len.ensures))
+    c.close_runs.ensures.keeps c.close_runs.ensures.names closes plain).plain tt)
+    c.close_runs.ensures.closes c.close_runs.ensures.plain
+
+pub walk_lines-returns-clause-paths : goal.walk_lines-returns-clause-paths
+walk_lines-returns-clause-paths g t c =
+    ok-both c.close_runs.result (λ closes plain. (gone-over c.args.entry c.args.file.now c.requires.lines c.loop-number.number c.loop-number.invariant.gone c.loop-number.invariant.ready.read (omega (arith, c.loop-number-test.false, c.len.ensures))
+    c.close_runs.ensures.keeps c.close_runs.ensures.names closes plain).paths tt)
+    c.close_runs.ensures.closes c.close_runs.ensures.plain
+
+pub walk_lines-returns-clause-read : goal.walk_lines-returns-clause-read
+walk_lines-returns-clause-read g t c =
+    ok-both c.close_runs.result (λ closes plain. (gone-over c.args.entry c.args.file.now c.requires.lines c.loop-number.number c.loop-number.invariant.gone c.loop-number.invariant.ready.read (omega (arith, c.loop-number-test.false, c.len.ensures))
+    c.close_runs.ensures.keeps c.close_runs.ensures.names closes plain).read)
+    c.close_runs.ensures.closes c.close_runs.ensures.plain
+
+pub walk_lines-returns-clause-ready : goal.walk_lines-returns-clause-ready
+walk_lines-returns-clause-ready g t c =
+    ok-both c.close_runs.result (λ closes walk. ready-moved c.close_runs.ensures.names closes walk c.loop-number.invariant.ready) c.close_runs.ensures.closes c.close_runs.ensures.walk
+
+pub walk_lines-returns-clause-stops : goal.walk_lines-returns-clause-stops
+walk_lines-returns-clause-stops g t c =
+    stops-later c.args.space.now.limits.branches (g.S.Source.faults c.loop-number.src) c.close_runs.result c.loop-number.invariant.gone.keeps.arities c.loop-number.invariant.counted
+    (limit-stops (g.C.Conditions.sets c.loop-number.conds).arities c.args.space.now.limits.branches (g.S.Source.faults c.loop-number.src) (g.S.Source.faults c.loop-number.src) c.close_runs.result c.close_runs.ensures.stops)
+
+pub walk_lines-returns-in_err-take_line-clause-keeps : goal.walk_lines-returns-in_err-take_line-clause-keeps
+walk_lines-returns-in_err-take_line-clause-keeps g t c = Keeps-trans c.loop-number.invariant.gone.keeps c.in_err-take_line.ensures.keeps
+
+pub walk_lines-returns-in_err-take_line-clause-names : goal.walk_lines-returns-in_err-take_line-clause-names
+walk_lines-returns-in_err-take_line-clause-names g t c = Extends-trans c.loop-number.invariant.gone.names_grow c.in_err-take_line.ensures.names
+
+pub walk_lines-returns-in_err-take_line-clause-files : goal.walk_lines-returns-in_err-take_line-clause-files
+walk_lines-returns-in_err-take_line-clause-files g t c = Extends-trans c.loop-number.invariant.gone.files_grow c.in_err-take_line.ensures.files
+
+pub walk_lines-returns-in_err-take_line-clause-kept : goal.walk_lines-returns-in_err-take_line-clause-kept
+walk_lines-returns-in_err-take_line-clause-kept g t c = c.in_err-take_line.ensures.kept ∙ c.loop-number.invariant.kept
+
+pub walk_lines-returns-in_err-take_line-clause-counted : goal.walk_lines-returns-in_err-take_line-clause-counted
+walk_lines-returns-in_err-take_line-clause-counted g t c = omega (arith, c.loop-number.invariant.counted, c.in_err-take_line.ensures.counted)
+
+pub walk_lines-returns-clause-keeps : goal.walk_lines-returns-clause-keeps
+walk_lines-returns-clause-keeps g t c = Keeps-trans c.loop-number.invariant.gone.keeps c.close_runs.ensures.keeps
+
+pub walk_lines-returns-clause-names : goal.walk_lines-returns-clause-names
+walk_lines-returns-clause-names g t c = Extends-trans c.loop-number.invariant.gone.names_grow c.close_runs.ensures.names
+
+pub walk_lines-returns-clause-files : goal.walk_lines-returns-clause-files
+walk_lines-returns-clause-files g t c = c.loop-number.invariant.gone.files_grow
+
+pub walk_lines-returns-clause-kept : goal.walk_lines-returns-clause-kept
+walk_lines-returns-clause-kept g t c = c.loop-number.invariant.kept
+
+pub walk_lines-returns-clause-counted : goal.walk_lines-returns-clause-counted
+walk_lines-returns-clause-counted g t c = c.loop-number.invariant.counted
+
+pub walk_lines-close_runs-requires-clause-owns : goal.walk_lines-close_runs-requires-clause-owns
+walk_lines-close_runs-requires-clause-owns g t c = c.loop-number.invariant.ready.owns
+
+pub walk_lines-close_runs-requires-clause-table : goal.walk_lines-close_runs-requires-clause-table
+walk_lines-close_runs-requires-clause-table g t c = c.loop-number.invariant.ready.table
+
+pub walk_lines-close_runs-requires-clause-walk : goal.walk_lines-close_runs-requires-clause-walk
+walk_lines-close_runs-requires-clause-walk g t c = c.loop-number.invariant.ready.held
+
+pub include_line-close_runs-requires-clause-owns : goal.include_line-close_runs-requires-clause-owns
+include_line-close_runs-requires-clause-owns g t c = c.requires.ready.owns
+
+pub include_line-close_runs-requires-clause-table : goal.include_line-close_runs-requires-clause-table
+include_line-close_runs-requires-clause-table g t c = c.requires.ready.table
+
+pub include_line-close_runs-requires-clause-walk : goal.include_line-close_runs-requires-clause-walk
+include_line-close_runs-requires-clause-walk g t c = c.requires.ready.held
+
+pub include_line-included-requires-clause-ready : goal.include_line-included-requires-clause-ready
+include_line-included-requires-clause-ready g t c = ready-moved c.in_ok-close_runs.ensures.names c.in_ok-close_runs.ensures.closes c.in_ok-close_runs.ensures.walk c.requires.ready
+
+pub include_line-loop-part-init : goal.include_line-loop-part-init
+include_line-loop-part-init g t c =
+    let closed = c.in_ok-close_runs.ensures in
+    let found = c.in_ok-parts.ensures in
+    record {
+      ready = found.ready;
+      parts = subst (ArePartsOf (g.C.Conditions.sets c.included.new.conds) c.included.new.contents) (sym c.deref-part-items.ensures.value) found.parts;
+      gone = gone-found c.args.entry c.args.line.now c.requires.placed (directive-files c.args.names.now c.args.files.now c.args.line.now ∙ c.requires.directive) c.in_ok-parts.parts.items c.deref-part-items.result.now c.deref-part-items.ensures.value
+          (gone-closed closed.keeps closed.names closed.closes closed.plain)
+          (ready-moved closed.names closed.closes closed.walk c.requires.ready).read closed.walk.list found.keeps found.names found.files found.read found.finds found.list found.paths;
+      kept = found.kept;
+      counted = found.counted;
+    }
+
+pub walk_lines-take_line-requires : goal.walk_lines-take_line-requires
+walk_lines-take_line-requires g t c κs given =
+    let line = c.index-line.result.now in
+    let lines = c.args.file.now in
+    let inv = c.loop-number.invariant in
+    let i = c.loop-number.number in
+    let within : i < length lines.lines.items = omega (arith, c.loop-number-test.true, c.len.ensures) in
+    let same = ap (λ ts. tokens_of ts line) c.deref.ensures.value ∙ ap (tokens_of lines.tokens.items) c.index-line.ensures in (
+      omega (arith, c.decreases),
+      (
+        given.0,
+        (
+          given.1,
+          (
+            subst (All (IsPlaced c.loop-number.names (length c.loop-number.files))) (sym same) (line-placed-now c.args.entry lines c.requires.lines i inv.gone inv.ready.read line within),
+            (
+              ap (λ (l : Line). l.directive) c.index-line.ensures
+                  ∙ (line-directive c.args.entry lines c.requires.lines i inv.gone inv.ready.read line within ∙ ap (directive_at c.loop-number.names) (sym same)),
+              (
+                Extends-within c.args.entry.file.0 (entry-within lines c.requires.lines i within) inv.gone.files_grow,
+                (
+                  c.requires.deep,
+                  inv.ready,
+                ),
+              ),
+            ),
+          ),
+        ),
+      ),
+    )
+
+pub walk_lines-next_line-number-requires-clause-branches : goal.walk_lines-next_line-number-requires-clause-branches
+walk_lines-next_line-number-requires-clause-branches g t c =
+    let lines = c.args.file.now in
+    let names = c.args.names.now in (
+      seen_lines names [] lines.tokens.items,
+      subst (StandFor (seen_lines names [] lines.tokens.items)) (sym c.deref-in-loop-number.ensures.value)
+          (lines-stand names lines.tokens.items lines.lines.items c.requires.lines.lines_are c.requires.lines.branches []),
+    )
+
+pub walk_lines-loop-number-smaller : goal.walk_lines-loop-number-smaller
+walk_lines-loop-number-smaller g t c =
+    let lines = c.args.file.now in
+    let names = c.args.names.now in
+    let stand : (files : List (List ℕ)) → StandFor (seen_lines names files lines.tokens.items) c.deref-in-loop-number.result.now = λ files.
+    subst (StandFor (seen_lines names files lines.tokens.items)) (sym c.deref-in-loop-number.ensures.value)
+    (lines-stand names lines.tokens.items lines.lines.items c.requires.lines.lines_are c.requires.lines.branches files) in
+    let after =
+    next-after (seen_lines names [] lines.tokens.items) c.loop-number.number c.next_line-number.result c.is_never.result
+    (c.next_line-number.ensures (seen_lines names [] lines.tokens.items) (stand [])) in
+    let test = c.loop-number-test.true in
+    omega (arith, after, test, c.len.ensures)
+
+pub walk_lines-loop-number-preserved : goal.walk_lines-loop-number-preserved
+walk_lines-loop-number-preserved g t c =
+    let lines = c.args.file.now in
+    let names = c.args.names.now in
+    let stand : (files : List (List ℕ)) → StandFor (seen_lines names files lines.tokens.items) c.deref-in-loop-number.result.now = λ files.
+    subst (StandFor (seen_lines names files lines.tokens.items)) (sym c.deref-in-loop-number.ensures.value)
+    (lines-stand names lines.tokens.items lines.lines.items c.requires.lines.lines_are c.requires.lines.branches files) in
+    let files = c.args.files.now in
+    let line = c.index-line.result.now in
+    let inv = c.loop-number.invariant in
+    let taken = c.in_ok-take_line.ensures in
+    record {
+      ready = taken.ready;
+      gone = gone-line c.args.entry lines c.requires.lines c.loop-number.number inv.gone inv.ready.read line (omega (arith, c.loop-number-test.true, c.len.ensures)) (tokens_of c.deref.result.now line)
+          (ap (λ ts. tokens_of ts line) c.deref.ensures.value ∙ ap (tokens_of lines.tokens.items) c.index-line.ensures)
+          taken.keeps taken.names taken.files taken.read taken.takes taken.plain taken.paths c.next_line-number.result c.is_never.result
+          (c.next_line-number.ensures (seen_lines names files lines.tokens.items) (stand files)) c.is_never.ensures.0;
+      kept = taken.kept ∙ inv.kept;
+      counted = omega (arith, inv.counted, taken.counted);
+    }
+
+pub include_line-included-requires-clause-placed : goal.include_line-included-requires-clause-placed
+include_line-included-requires-clause-placed g t c =
+    All-weaker (IsPlaced c.args.names.now (length c.args.files.now)) (IsPlaced c.close_runs.new.names (length c.args.files.now))
+    (IsPlaced-later c.in_ok-close_runs.ensures.names (Extends-refl c.args.files.now)) c.args.line.now c.requires.placed
+
+pub include_line-included-requires-clause-line : goal.include_line-included-requires-clause-line
+include_line-included-requires-clause-line g t c = directive-long c.args.names.now c.args.line.now (Some kind.Include) (sym c.requires.directive) (λ e. cc)
+
+pub include_line-enter-requires : goal.include_line-enter-requires
+include_line-enter-requires g t c κs given =
+    let inv = c.loop-part.invariant in
+    let parts = c.deref-part-items.result.now in
+    let i = c.loop-part.part-index in
+    let within = c.loop-part-test.true in
+    let deep = c.in_ok-parts.ensures.deep (omega (arith, within, ap (length {A = Part}) c.deref-part-items.ensures.value)) in (
+      omega (arith, deep, c.decreases),
+      (
+        given.0,
+        (
+          given.1,
+          (
+            subst (λ (part : Part). IsCond (g.C.Conditions.sets c.loop-part.conds) part.cond.0) (sym c.part-item.is) (All-get_or (λ (part : Part). IsCond (g.C.Conditions.sets c.loop-part.conds) part.cond.0) parts i c.part-item.result within inv.parts.own),
+            (
+              subst (λ (part : Part). content_at c.loop-part.contents part.file.0 ≡ Some (Some part.content.value)) (sym c.part-item.is)
+                  (All-get_or (λ (part : Part). content_at c.loop-part.contents part.file.0 ≡ Some (Some part.content.value)) parts i c.part-item.result within inv.parts.kept) ∙ ap (λ x. Some (Some x)) (sym c.deref.ensures),
+              (
+                omega (arith, deep),
+                inv.ready,
+              ),
+            ),
+          ),
+        ),
+      ),
+    )
+
+pub include_line-loop-part-preserved : goal.include_line-loop-part-preserved
+include_line-loop-part-preserved g t c =
+    let inv = c.loop-part.invariant in
+    let parts = c.deref-part-items.result.now in
+    let i = c.loop-part.part-index in
+    let within = c.loop-part-test.true in
+    let entered = c.in_ok-enter.ensures in
+    record {
+      ready = entered.ready;
+      parts = parts-later entered.keeps entered.read inv.parts;
+      gone = gone-entered c.args.entry c.args.line.now c.requires.placed (directive-files c.args.names.now c.args.files.now c.args.line.now ∙ c.requires.directive) parts i c.part-item.result c.part-item.is within inv.parts.own
+          inv.gone inv.ready.read entered.keeps entered.names entered.files entered.read
+          (λ x context agreed. subst (λ depth. Leads c.loop-part.files c.loop-part.names (g.C.Conditions.sets c.loop-part.conds) c.loop-part.self c.enter.new.files c.enter.new.names (g.C.Conditions.sets c.enter.new.conds) c.enter.new.self (λ m. Unit {0})
+          (λ config m n. EntersAt x (text_at c.loop-part.files c.part-item.result.file.0) depth m ((g.C.Conditions.sets c.loop-part.conds).has c.part-item.result.cond.0 config) n)) c.deeper.ensures (entered.enters x context agreed))
+          entered.plain entered.paths;
+      kept = entered.kept ∙ inv.kept;
+      counted = omega (arith, inv.counted, entered.counted);
+    }
+
+pub include_line-returns-clause-takes : goal.include_line-returns-clause-takes
+include_line-returns-clause-takes g t c = (gone-taken c.args.entry c.args.line.now c.requires.placed (directive-files c.args.names.now c.args.files.now c.args.line.now ∙ c.requires.directive) c.deref-part-items.result.now
+    c.loop-part.part-index (omega (arith, c.loop-part-test.false, c.loop-part.auto.part-index-end)) c.loop-part.invariant.gone).leads
+
+pub include_line-returns-clause-plain : goal.include_line-returns-clause-plain
+include_line-returns-clause-plain g t c = λ x context agrees sound all paths each list.
+    (gone-taken c.args.entry c.args.line.now c.requires.placed (directive-files c.args.names.now c.args.files.now c.args.line.now ∙ c.requires.directive) c.deref-part-items.result.now
+    c.loop-part.part-index (omega (arith, c.loop-part-test.false, c.loop-part.auto.part-index-end)) c.loop-part.invariant.gone).plain all x context agrees sound paths each list
+
+pub include_line-returns-clause-paths : goal.include_line-returns-clause-paths
+include_line-returns-clause-paths g t c = λ x context agrees sound all paths each. (gone-taken c.args.entry c.args.line.now c.requires.placed (directive-files c.args.names.now c.args.files.now c.args.line.now ∙ c.requires.directive) c.deref-part-items.result.now
+    c.loop-part.part-index (omega (arith, c.loop-part-test.false, c.loop-part.auto.part-index-end)) c.loop-part.invariant.gone).paths all x context agrees sound paths each
+
+pub include_line-returns-clause-ready : goal.include_line-returns-clause-ready
+include_line-returns-clause-ready g t c = c.loop-part.invariant.ready
+
+pub include_line-returns-clause-read : goal.include_line-returns-clause-read
+include_line-returns-clause-read g t c = c.loop-part.invariant.gone.read
+
+pub include_line-returns-clause-keeps : goal.include_line-returns-clause-keeps
+include_line-returns-clause-keeps g t c = c.loop-part.invariant.gone.keeps
+
+pub include_line-returns-clause-names : goal.include_line-returns-clause-names
+include_line-returns-clause-names g t c = c.loop-part.invariant.gone.names_grow
+
+pub include_line-returns-clause-files : goal.include_line-returns-clause-files
+include_line-returns-clause-files g t c = c.loop-part.invariant.gone.files_grow
+
+pub include_line-returns-clause-kept : goal.include_line-returns-clause-kept
+include_line-returns-clause-kept g t c = c.loop-part.invariant.kept
+
+pub include_line-returns-clause-counted : goal.include_line-returns-clause-counted
+include_line-returns-clause-counted g t c = c.loop-part.invariant.counted
+
+pub include_line-returns-in_err-enter-clause-keeps : goal.include_line-returns-in_err-enter-clause-keeps
+include_line-returns-in_err-enter-clause-keeps g t c = Keeps-trans c.loop-part.invariant.gone.keeps c.in_err-enter.ensures.keeps
+
+pub include_line-returns-in_err-enter-clause-names : goal.include_line-returns-in_err-enter-clause-names
+include_line-returns-in_err-enter-clause-names g t c = Extends-trans c.loop-part.invariant.gone.names_grow c.in_err-enter.ensures.names
+
+pub include_line-returns-in_err-enter-clause-files : goal.include_line-returns-in_err-enter-clause-files
+include_line-returns-in_err-enter-clause-files g t c = Extends-trans c.loop-part.invariant.gone.files_grow c.in_err-enter.ensures.files
+
+pub include_line-returns-in_err-enter-clause-kept : goal.include_line-returns-in_err-enter-clause-kept
+include_line-returns-in_err-enter-clause-kept g t c = c.in_err-enter.ensures.kept ∙ c.loop-part.invariant.kept
+
+pub include_line-returns-in_err-enter-clause-counted : goal.include_line-returns-in_err-enter-clause-counted
+include_line-returns-in_err-enter-clause-counted g t c = omega (arith, c.loop-part.invariant.counted, c.in_err-enter.ensures.counted)
+
+pub enter-end_file-requires-clause-group : goal.enter-end_file-requires-clause-group
+enter-end_file-requires-clause-group g t c =
+    subst (λ (a : Around). IsCond (g.C.Conditions.sets c.walk_lines.new.conds) a.group.0) (sym c.begin_file-around.ensures.around_is)
+    (c.in_ok-walk_lines-in-Lines.ensures.keeps.own c.args.self.now.group.0 (c.in_ok-inside.ensures.keeps.own c.args.self.now.group.0 c.requires.ready.owns.group))
+
+pub enter-returns-in_err-walk_lines-in-Lines-clause-keeps : goal.enter-returns-in_err-walk_lines-in-Lines-clause-keeps
+enter-returns-in_err-walk_lines-in-Lines-clause-keeps g t c = Keeps-trans c.in_ok-inside.ensures.keeps c.in_err-walk_lines-in-Lines.ensures.keeps
+
+pub enter-returns-in_err-end_file-in-Lines-clause-keeps : goal.enter-returns-in_err-end_file-in-Lines-clause-keeps
+enter-returns-in_err-end_file-in-Lines-clause-keeps g t c =
+    Keeps-trans c.in_ok-inside.ensures.keeps (Keeps-trans c.in_ok-walk_lines-in-Lines.ensures.keeps c.in_err-end_file-in-Lines.ensures.keeps)
+
+pub enter-returns-in_err-refuse_at-in-Refused-clause-keeps : goal.enter-returns-in_err-refuse_at-in-Refused-clause-keeps
+enter-returns-in_err-refuse_at-in-Refused-clause-keeps g t c = Keeps-trans c.in_ok-inside.ensures.keeps c.in_err-refuse_at-in-Refused.ensures.keeps
+
+pub enter-returns-in_ok-end_file-in-Lines-clause-keeps : goal.enter-returns-in_ok-end_file-in-Lines-clause-keeps
+enter-returns-in_ok-end_file-in-Lines-clause-keeps g t c =
+    Keeps-trans c.in_ok-inside.ensures.keeps (Keeps-trans c.in_ok-walk_lines-in-Lines.ensures.keeps c.in_ok-end_file-in-Lines.ensures.keeps)
+
+pub enter-returns-in_ok-refuse_at-in-Refused-clause-keeps : goal.enter-returns-in_ok-refuse_at-in-Refused-clause-keeps
+enter-returns-in_ok-refuse_at-in-Refused-clause-keeps g t c = Keeps-trans c.in_ok-inside.ensures.keeps c.in_ok-refuse_at-in-Refused.ensures.keeps
+
+pub walk_lines-returns-in_err-take_line-clause-stops : goal.walk_lines-returns-in_err-take_line-clause-stops
+walk_lines-returns-in_err-take_line-clause-stops g t c =
+    stops-later c.args.space.now.limits.branches (g.S.Source.faults c.take_line.new.src) c.from_residual.result c.loop-number.invariant.gone.keeps.arities c.loop-number.invariant.counted (search rules)
+
+pub include_line-returns-in_err-enter-clause-stops : goal.include_line-returns-in_err-enter-clause-stops
+include_line-returns-in_err-enter-clause-stops g t c =
+    stops-later c.args.space.now.limits.branches (g.S.Source.faults c.enter.new.src) c.from_residual-in_err-enter.result c.loop-part.invariant.gone.keeps.arities c.loop-part.invariant.counted (search rules)
+
+pub include_line-returns-in_err-parts-clause-keeps : goal.include_line-returns-in_err-parts-clause-keeps
+include_line-returns-in_err-parts-clause-keeps g t c = Keeps-trans c.in_ok-close_runs.ensures.keeps c.in_err-parts.ensures.keeps

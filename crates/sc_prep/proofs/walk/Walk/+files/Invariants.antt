@@ -1,0 +1,47 @@
+use Rattle.std.proofs.Common.{◌+◌, ◌-◌, ◌*◌, ◌≡◌, ◌≤◌, All, drop, length, take, true}
+use Rattle.sc_lines.specs.Nests.{seen_line, seen_lines}
+use Rattle.sc_prep.proofs.Going.{Gone, Staged}
+use Rattle.sc_prep.specs.Includes.{ArePartsOf, files_at}
+use Rattle.sc_prep.specs.Machine.{Runs}
+use Rattle.sc_prep.specs.Printable.{is_plain}
+use Rattle.sc_prep.specs.Simulates.{IsAtTop, IsIn, IsReady}
+use Rattle.sc_space.specs.Seen.{seen_space}
+use Rattle.sc_prep.proofs.walk.Walk.+files.Given as goal
+
+-- the files that may still be entered, one in the other, and the order of the calls at one depth
+abbrev pub decreases-enter : goal.decreases-enter
+decreases-enter g l = 4 * (l.space.now.limits.include_depth - l.entry.depth) + 3
+
+abbrev pub decreases-walk_lines : goal.decreases-walk_lines
+decreases-walk_lines g l = 4 * (l.space.now.limits.include_depth - l.entry.depth) + 2
+
+abbrev pub decreases-take_line : goal.decreases-take_line
+decreases-take_line g l = 4 * (l.space.now.limits.include_depth - l.entry.depth) + 1
+
+abbrev pub decreases-include_line : goal.decreases-include_line
+decreases-include_line g l = 4 * (l.space.now.limits.include_depth - l.entry.depth)
+
+-- each machine ran over the lines before this one
+abbrev pub invariant-walk_lines-loop-number : goal.invariant-walk_lines-loop-number
+invariant-walk_lines-loop-number g l = record {
+  ready : IsReady (g.C.Conditions.sets l.conds) l.names l.files (g.S.Source.holds l.src) l.self l.contents;
+  gone : Gone (seen_space l.space) (g.C.Conditions.sets l.fn.conds) l.fn.names l.fn.files l.fn.self l.fn.contents (g.C.Conditions.sets l.conds) l.names l.files l.self l.contents (Unit {0})
+      (IsAtTop l.fn.files l.entry) (λ x config m n. Runs x m (take l.number (seen_lines l.fn.names l.fn.files l.file.tokens.items)) n);
+  kept : g.S.Source.holds l.src ≡ g.S.Source.holds l.fn.src;
+  counted : g.S.Source.faults l.fn.src ≤ g.S.Source.faults l.src;
+}
+
+abbrev pub decreases-walk_lines-loop-number : goal.decreases-walk_lines-loop-number
+decreases-walk_lines-loop-number g l = length l.file.lines.items - l.number
+
+-- each machine entered its file, or the file is still among these
+abbrev pub invariant-include_line-loop-part : goal.invariant-include_line-loop-part
+invariant-include_line-loop-part g l = record {
+  ready : IsReady (g.C.Conditions.sets l.conds) l.names l.files (g.S.Source.holds l.src) l.self l.contents;
+  parts : ArePartsOf (g.C.Conditions.sets l.conds) l.contents l.part-items;
+  gone : Gone (seen_space l.space) (g.C.Conditions.sets l.fn.conds) l.fn.names l.fn.files l.fn.self l.fn.contents (g.C.Conditions.sets l.conds) l.names l.files l.self l.contents (All (λ token. is_plain l.fn.names token ≡ true) l.line)
+      (IsIn l.fn.files l.entry)
+      (λ x config m n. Staged x (seen_line l.fn.names l.fn.files l.line) l.files l.entry.depth m (files_at (g.C.Conditions.sets l.conds) (drop l.part-index l.part-items) config) n);
+  kept : g.S.Source.holds l.src ≡ g.S.Source.holds l.fn.src;
+  counted : g.S.Source.faults l.fn.src ≤ g.S.Source.faults l.src;
+}

@@ -1,0 +1,37 @@
+use Rattle.std.proofs.Common.{inr, ◌∙◌, length}
+use Rattle.std.proofs.lemmas.List.Elements.{All-nil}
+use Rattle.sc_model.proofs.SetLemmas.{Keeps-trans, Denotes-self}
+use Rattle.sc_lines.specs.Nests.{seen_line}
+use Rattle.sc_prep.specs.Printable.{IsPlaced}
+use Rattle.sc_prep.proofs.ExpressionMoves.{empty_context, section-goes_on}
+use Rattle.std.specs.Prelude.{[]}
+use Rattle.sc_prep.specs.Printable.{any_token}
+use Rattle.sc_prep.proofs.walk.Walk.elif_branch.Goals as goal
+
+pub decision-requires-clause-line : goal.decision-requires-clause-line
+decision-requires-clause-line g c = inr c.requires.line
+
+pub decision-requires-clause-among_own : goal.decision-requires-clause-among_own
+decision-requires-clause-among_own g c = c.untaken-untaken.ensures.own _ c.requires.owns
+
+pub begin_branch-requires-clause-owns : goal.begin_branch-requires-clause-owns
+begin_branch-requires-clause-owns g c = (c.in_ok-taken.ensures.decides empty_context).owns
+
+pub returns-clause-decides : goal.returns-clause-decides
+returns-clause-decides g c = λ x.
+    section-goes_on c.args.files.now x (seen_line c.args.names.now c.args.files.now c.args.line.now) c.requires.line c.in_ok-taken.ensures.keeps c.untaken-untaken.result c.in_ok-taken.taken
+    (λ config m simulates. c.untaken-untaken.ensures.at (g.C.Conditions.sets c.args.conds.now) c.args.names.now c.args.files.now config m simulates)
+    (c.in_ok-taken.ensures.decides x)
+    (c.in_ok-begin_branch.ensures.moved c.decision.new.names _ (Denotes-self (g.C.Conditions.sets c.decision.new.conds) c.in_ok-taken.taken.0 c.in_ok-taken.ensures.own))
+
+pub returns-clause-walk : goal.returns-clause-walk
+returns-clause-walk g c = c.in_ok-begin_branch.ensures.printable c.decision.new.names [] (length c.args.files.now) any_token (All-nil (IsPlaced c.decision.new.names (length c.args.files.now))) c.in_ok-taken.ensures.walk
+
+pub returns-clause-list : goal.returns-clause-list
+returns-clause-list g c = c.in_ok-begin_branch.ensures.list ∙ c.in_ok-taken.ensures.list
+
+pub returns-in_err-begin_branch-clause-keeps : goal.returns-in_err-begin_branch-clause-keeps
+returns-in_err-begin_branch-clause-keeps g c = Keeps-trans c.in_ok-taken.ensures.keeps c.in_err-begin_branch.ensures.keeps
+
+pub returns-clause-keeps : goal.returns-clause-keeps
+returns-clause-keeps g c = Keeps-trans c.in_ok-taken.ensures.keeps c.in_ok-begin_branch.ensures.keeps

@@ -1,0 +1,36 @@
+use Rattle.std.proofs.Common.{inl, ◌∙◌, length}
+use Rattle.std.proofs.lemmas.List.Elements.{All-nil}
+use Rattle.sc_model.proofs.SetLemmas.{Keeps-trans, Denotes-self}
+use Rattle.sc_lines.specs.Nests.{seen_line}
+use Rattle.sc_prep.specs.Printable.{IsPlaced}
+use Rattle.sc_prep.proofs.ExpressionMoves.{empty_context, section-opened}
+use Rattle.std.specs.Prelude.{[]}
+use Rattle.sc_prep.specs.Printable.{any_token}
+use Rattle.sc_prep.proofs.walk.Walk.if_section.Goals as goal
+
+pub decision-requires-clause-line : goal.decision-requires-clause-line
+decision-requires-clause-line g c = inl c.requires.line
+
+pub decision-requires-clause-among_own : goal.decision-requires-clause-among_own
+decision-requires-clause-among_own g c = c.requires.owns.acting
+
+pub returns-clause-decides : goal.returns-clause-decides
+returns-clause-decides g c = λ x.
+    section-opened c.args.files.now x (seen_line c.args.names.now c.args.files.now c.args.line.now) c.requires.line c.in_ok-taken.ensures.keeps c.in_ok-taken.taken
+    (c.in_ok-taken.ensures.decides x)
+    (c.in_ok-begin_section.ensures.opened c.decision.new.names _ (Denotes-self (g.C.Conditions.sets c.decision.new.conds) c.in_ok-taken.taken.0 c.in_ok-taken.ensures.own))
+
+pub returns-clause-walk : goal.returns-clause-walk
+returns-clause-walk g c = c.in_ok-begin_section.ensures.printable c.decision.new.names [] (length c.args.files.now) any_token (All-nil (IsPlaced c.decision.new.names (length c.args.files.now))) c.in_ok-taken.ensures.walk
+
+pub returns-clause-list : goal.returns-clause-list
+returns-clause-list g c = c.in_ok-begin_section.ensures.list ∙ c.in_ok-taken.ensures.list
+
+pub begin_section-requires-clause-owns : goal.begin_section-requires-clause-owns
+begin_section-requires-clause-owns g c = (c.in_ok-taken.ensures.decides empty_context).owns
+
+pub returns-in_err-begin_section-clause-keeps : goal.returns-in_err-begin_section-clause-keeps
+returns-in_err-begin_section-clause-keeps g c = Keeps-trans c.in_ok-taken.ensures.keeps c.in_err-begin_section.ensures.keeps
+
+pub returns-clause-keeps : goal.returns-clause-keeps
+returns-clause-keeps g c = Keeps-trans c.in_ok-taken.ensures.keeps c.in_ok-begin_section.ensures.keeps

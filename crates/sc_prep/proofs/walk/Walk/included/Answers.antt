@@ -1,0 +1,191 @@
+use Rattle.std.proofs.Common.{rules, ◌≡◌, ◌∙◌, ◌<◌, All, List, ℕ, arith, length, map, sym, ap, subst}
+use Rattle.std.proofs.lemmas.List.Elements.{All-weaker}
+use Rattle.std.proofs.lemmas.Result.{IfErr-weaker}
+use Rattle.std.specs.Prelude.{string_bytes}
+use Rattle.sc_base.proofs.Growth.{Extends-refl, Extends-trans}
+use Rattle.sc_base.specs.Seen.{text_at}
+use Rattle.sc_lines.specs.Nests.{seen_line}
+use Rattle.sc_model.proofs.SetLemmas.{Keeps-trans}
+use Rattle.sc_model.specs.Sets.{IsCond}
+use Rattle.sc_prep.proofs.Contents.{IsPlaced-later, contents-later}
+use Rattle.sc_prep.proofs.ExpressionMoves.{empty_context}
+use Rattle.sc_prep.proofs.FoundFiles.{keeps-same}
+use Rattle.sc_prep.proofs.IncludeLeads.{parts-later}
+use Rattle.sc_prep.proofs.LeadMoves.{limit-stops}
+use Rattle.sc_prep.proofs.NamedFiles.{deep-leads, found-leads, has-hash, held-later, reading-stops, sound-plain}
+use Rattle.sc_prep.proofs.WalkMoves.{owns-kept}
+use Rattle.sc_prep.specs.declared.including.Part.{Part}
+use Rattle.sc_prep.specs.declared.naming.Named.{Named}
+use Rattle.sc_prep.specs.Finding.{AreFound}
+use Rattle.sc_prep.specs.Includes.{Finds, files_at}
+use Rattle.sc_prep.specs.Naming.{ArePlainNames}
+use Rattle.sc_prep.specs.Preprocesses.{ReadsNothing, Stops}
+use Rattle.sc_prep.specs.Printable.{ArePlainPaths, IsPlaced, any_token}
+use Rattle.sc_prep.specs.Simulates.{IsIn, Leads}
+use Rattle.sc_table.proofs.Growth.{IsTable-Extends, IsTable-Keeps}
+use Rattle.sc_prep.proofs.walk.Walk.included.Goals as goal
+
+-- ---- the headers are named
+
+pub named-requires-clause-owns : goal.named-requires-clause-owns
+named-requires-clause-owns g c = c.requires.ready.owns
+
+pub named-requires-clause-table : goal.named-requires-clause-table
+named-requires-clause-table g c = c.requires.ready.table
+
+pub named-requires-clause-walk : goal.named-requires-clause-walk
+named-requires-clause-walk g c = c.requires.ready.held
+
+pub returns-in_err-named-clause-stops : goal.returns-in_err-named-clause-stops
+returns-in_err-named-clause-stops g c =
+    limit-stops (g.C.Conditions.sets c.args.conds.now).arities c.args.space.now.limits.branches (g.S.Source.faults c.args.src.now) (g.S.Source.faults c.args.src.now) c.from_residual.result (search rules)
+
+-- ---- they are nested too deep
+
+pub refuse_all-requires-clause-owns : goal.refuse_all-requires-clause-owns
+refuse_all-requires-clause-owns g c = (c.in_ok-named.ensures.named empty_context).owns
+
+pub returns-in_err-refuse_all-clause-keeps : goal.returns-in_err-refuse_all-clause-keeps
+returns-in_err-refuse_all-clause-keeps g c = Keeps-trans c.in_ok-named.ensures.keeps c.in_err-refuse_all.ensures.keeps
+
+pub returns-then-entry-space-clause-finds : goal.returns-then-entry-space-clause-finds
+returns-then-entry-space-clause-finds g c = λ x context agrees.
+    let new = g.C.Conditions.sets c.refuse_all.new.conds in
+    let files = c.args.files.now in
+    let before = c.args.names.now in
+    let line = c.args.line.now in
+    let hash = has-hash before files line c.requires.line in
+    let depth : x.include_depth ≡ c.args.space.now.limits.include_depth = context.depth in
+    subst (λ (parts : List Part). Leads files before (g.C.Conditions.sets c.args.conds.now) c.args.self.now files c.named.new.names new c.refuse_all.new.self (IsIn files c.args.entry)
+    (λ config m n. Finds x (seen_line before files line) files m (files_at new parts config) n)) (sym c.new.ensures.items)
+    (deep-leads x line hash.0 c.in_ok-named.named.items c.args.entry c.in_ok-named.ensures.keeps c.requires.placed hash.1 (c.in_ok-named.ensures.named x) c.in_ok-named.ensures.names
+    (λ less. omega (arith, less, depth, c.if-entry-space.true)) (c.in_ok-refuse_all.ensures.moved c.named.new.names))
+
+pub returns-then-entry-space-clause-deep : goal.returns-then-entry-space-clause-deep
+returns-then-entry-space-clause-deep g c = λ some. absurd (omega (arith, subst (λ (parts : List Part). 0 < length parts) c.new.ensures.items some))
+
+pub returns-then-entry-space-clause-ready : goal.returns-then-entry-space-clause-ready
+returns-then-entry-space-clause-ready g c =
+    let files = c.args.files.now in
+    let texts = c.named.new.names in
+    let named = c.in_ok-named.ensures in
+    let moved = c.in_ok-refuse_all.ensures.moved texts in
+    let placed = All-weaker (IsPlaced c.args.names.now (length files)) (IsPlaced texts (length files)) (IsPlaced-later named.names (Extends-refl files)) c.args.line.now c.requires.placed in
+    record {
+      owns = moved.owns;
+      table = moved.table (named.named empty_context).table;
+      held = c.in_ok-refuse_all.ensures.printable texts (length files) any_token placed named.walk;
+      read = contents-later named.names (Extends-refl files) c.requires.ready.read;
+    }
+
+pub returns-then-entry-space-clause-list : goal.returns-then-entry-space-clause-list
+returns-then-entry-space-clause-list g c = c.in_ok-refuse_all.ensures.list ∙ c.in_ok-named.ensures.list
+
+pub returns-then-entry-space-clause-paths : goal.returns-then-entry-space-clause-paths
+returns-then-entry-space-clause-paths g c = λ sound plain paths each. paths
+
+pub returns-then-entry-space-clause-read : goal.returns-then-entry-space-clause-read
+returns-then-entry-space-clause-read g c = keeps-same c.args.contents.now
+
+pub returns-then-entry-space-clause-keeps : goal.returns-then-entry-space-clause-keeps
+returns-then-entry-space-clause-keeps g c = Keeps-trans c.in_ok-named.ensures.keeps c.in_ok-refuse_all.ensures.keeps
+
+-- ---- their files are found
+
+pub find-requires-clause-own : goal.find-requires-clause-own
+find-requires-clause-own g c =
+    subst (λ (each : List Named). All (λ (n : Named). IsCond (g.C.Conditions.sets c.named.new.conds) n.cond.0) each) (sym c.deref-2.ensures.value) c.in_ok-named.ensures.own
+
+pub find-requires-clause-contents : goal.find-requires-clause-contents
+find-requires-clause-contents g c = contents-later c.in_ok-named.ensures.names (Extends-refl c.args.files.now) c.requires.ready.read
+
+pub returns-in_err-found-clause-stops : goal.returns-in_err-found-clause-stops
+returns-in_err-found-clause-stops g c =
+    let arities = (g.C.Conditions.sets c.args.conds.now).arities in
+    let limit = c.args.space.now.limits.branches in
+    let old = g.S.Source.faults c.args.src.now in
+    let new = g.S.Source.faults c.find.new.src in
+    IfErr-weaker c.from_residual-in_err-found.result (ReadsNothing old new) (Stops arities limit old new) (reading-stops arities limit old new) (search rules)
+
+pub returns-in_err-found-clause-names : goal.returns-in_err-found-clause-names
+returns-in_err-found-clause-names g c = Extends-trans c.in_ok-named.ensures.names c.in_err-found.ensures.names
+
+pub returns-in_err-found-clause-keeps : goal.returns-in_err-found-clause-keeps
+returns-in_err-found-clause-keeps g c = Keeps-trans c.in_ok-named.ensures.keeps c.in_err-found.ensures.keeps
+
+-- ---- those that find none are refused
+
+pub refuse_acting-requires-clause-owns : goal.refuse_acting-requires-clause-owns
+refuse_acting-requires-clause-owns g c = owns-kept c.in_ok-found.ensures.keeps c.named.new.self (c.in_ok-named.ensures.named empty_context).owns
+
+pub refuse_acting-requires-clause-own : goal.refuse_acting-requires-clause-own
+refuse_acting-requires-clause-own g c = c.in_ok-found.ensures.found.missing
+
+pub returns-in_err-refuse_acting-clause-names : goal.returns-in_err-refuse_acting-clause-names
+returns-in_err-refuse_acting-clause-names g c = Extends-trans c.in_ok-named.ensures.names c.in_ok-found.ensures.names
+
+pub returns-in_err-refuse_acting-clause-keeps : goal.returns-in_err-refuse_acting-clause-keeps
+returns-in_err-refuse_acting-clause-keeps g c = Keeps-trans c.in_ok-named.ensures.keeps (Keeps-trans c.in_ok-found.ensures.keeps c.in_err-refuse_acting.ensures.keeps)
+
+pub returns-clause-finds : goal.returns-clause-finds
+returns-clause-finds g c = λ x context agrees.
+    let old = g.C.Conditions.sets c.named.new.conds in
+    let new = g.C.Conditions.sets c.find.new.conds in
+    let files = c.args.files.now in
+    let before = c.args.names.now in
+    let line = c.args.line.now in
+    let named = c.in_ok-named in
+    let more = c.find.new.files in
+    let later = c.find.new.names in
+    let contents = c.find.new.contents in
+    let found = c.in_ok-found.found in
+    let including = text_at files c.args.entry.file.0 in
+    let hash = has-hash before files line c.requires.line in
+    let depth : x.include_depth ≡ c.args.space.now.limits.include_depth = context.depth in
+    let directories : map string_bytes c.deref.result.now ≡ x.include = ap (map string_bytes) c.deref.ensures.value ∙ sym context.include in
+    let of_each = subst (λ (each : List Named). AreFound old each including (map string_bytes c.deref.result.now) later more contents new found) c.deref-2.ensures.value c.in_ok-found.ensures.found in
+    found-leads x line hash.0 named.named.items c.args.entry named.ensures.keeps c.requires.placed hash.1 (named.ensures.named x) named.ensures.names
+    found c.in_ok-found.ensures.keeps c.in_ok-refuse_acting.ensures.keeps c.in_ok-found.ensures.names c.in_ok-found.ensures.files named.ensures.walk
+    (omega (arith, depth, c.if-entry-space.false)) agrees
+    (subst (λ (each : List (List ℕ)). AreFound old named.named.items including each later more contents new found) directories of_each)
+    (c.in_ok-refuse_acting.ensures.moved later)
+
+pub returns-clause-parts : goal.returns-clause-parts
+returns-clause-parts g c = parts-later c.in_ok-refuse_acting.ensures.keeps (keeps-same c.find.new.contents) c.in_ok-found.ensures.found.parts
+
+pub returns-clause-deep : goal.returns-clause-deep
+returns-clause-deep g c = λ some. omega (arith, c.if-entry-space.false)
+
+pub returns-clause-ready : goal.returns-clause-ready
+returns-clause-ready g c =
+    let files = c.args.files.now in
+    let more = c.find.new.files in
+    let later = c.find.new.names in
+    let named = c.in_ok-named.ensures in
+    let found = c.in_ok-found.ensures in
+    let moved = c.in_ok-refuse_acting.ensures.moved later in
+    let placed =
+    All-weaker (IsPlaced c.args.names.now (length files)) (IsPlaced later (length more)) (IsPlaced-later (Extends-trans named.names found.names) found.files) c.args.line.now c.requires.placed in
+    record {
+      owns = moved.owns;
+      table = moved.table (IsTable-Extends found.names (IsTable-Keeps found.keeps (named.named empty_context).table));
+      held = c.in_ok-refuse_acting.ensures.printable later (length more) any_token placed (held-later found.names found.files c.named.new.self named.walk);
+      read = found.contents;
+    }
+
+pub returns-clause-list : goal.returns-clause-list
+returns-clause-list g c = c.in_ok-refuse_acting.ensures.list ∙ c.in_ok-named.ensures.list
+
+pub returns-clause-paths : goal.returns-clause-paths
+returns-clause-paths g c = λ sound plain paths each.
+    c.in_ok-found.ensures.paths (subst ArePlainPaths (sym (ap (map string_bytes) c.deref.ensures.value)) (sound-plain sound))
+    (subst ArePlainNames (sym c.deref-2.ensures.value) (c.in_ok-named.ensures.plain c.args.entry plain paths each)) paths
+
+pub returns-clause-read : goal.returns-clause-read
+returns-clause-read g c = c.in_ok-found.ensures.read
+
+pub returns-clause-names : goal.returns-clause-names
+returns-clause-names g c = Extends-trans c.in_ok-named.ensures.names c.in_ok-found.ensures.names
+
+pub returns-clause-keeps : goal.returns-clause-keeps
+returns-clause-keeps g c = Keeps-trans c.in_ok-named.ensures.keeps (Keeps-trans c.in_ok-found.ensures.keeps c.in_ok-refuse_acting.ensures.keeps)

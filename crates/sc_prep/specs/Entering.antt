@@ -1,0 +1,17 @@
+-- How a walk enters a file and leaves it.
+use Rattle.std.specs.Prelude.{◌≡◌, ◌&&◌, []}
+use Rattle.sc_base.specs.declared.id.Cond.{Cond}
+use Rattle.sc_model.specs.Sets.{Sets, Denotes}
+use Rattle.sc_prep.specs.declared.entering.Around.{Around}
+use Rattle.sc_prep.specs.declared.walk.Walk.{Walk}
+
+-- these configurations go on before the first line of a file, and what is around it is kept
+pub record Begins (walk : Walk) (entering : Cond) (next : Walk) (around : Around) : Type 0 where
+  pub is : next ≡ record walk { group = entering; acting = entering; sections = next.sections }
+  pub sections : next.sections.items ≡ []
+  pub around_is : around ≡ record { group = walk.group; sections = walk.sections }
+
+-- the configurations around a file go on where they stood, but for those that are refused
+pub record Leaves (old : Sets) (walk : Walk) (around : Around) (new : Sets) (next : Walk) : Type 0 where
+  pub is : next ≡ record walk { group = around.group; acting = next.acting; sections = around.sections }
+  pub acting : Denotes new next.acting.0 (λ c. old.has around.group.0 c && old.has walk.prepared.live.0 c)

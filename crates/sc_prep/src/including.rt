@@ -1,0 +1,160 @@
+//! The files that an `#include` enters (C11 6.10.2).
+ghost use Rattle.std.specs.Prelude.{◌≡◌, ◌<◌, ◌≤◌, All, List, ℕ, IfErr, IfOk, OnOk, length, true, Some, slice_get};
+ghost use Rattle.c11_directives.specs.Pre.{Context};
+ghost use Rattle.sc_base.specs.Seen.{text_at};
+ghost use Rattle.sc_expand.specs.Stops.{StopsBy};
+ghost use Rattle.sc_lines.specs.Nests.{seen_line};
+ghost use Rattle.sc_model.specs.Growth.{Extends};
+ghost use Rattle.sc_model.specs.Sets.{IsCond, Keeps};
+ghost use Rattle.sc_model.specs.Space.{arities_of};
+ghost use Rattle.sc_prep.specs.Contents.{Agrees, KeepsContents};
+ghost use Rattle.sc_prep.specs.Includes.{ArePartsOf, Finds, files_at};
+ghost use Rattle.sc_prep.specs.Machine.{refusing_if};
+ghost use Rattle.sc_prep.specs.Naming.{ArePlainNames, NamesAt, headers_in};
+ghost use Rattle.sc_prep.specs.Preprocesses.{Stops};
+ghost use Rattle.sc_prep.specs.Printable.{ArePlainPaths, IsHeldWalk, IsPlaced, StaysHeld, any_token, is_plain};
+ghost use Rattle.sc_prep.specs.Simulates.{IsContext, IsIn, IsReady, Leads, Owns, PlainEach, SimulatesOneOf, SimulatesStep};
+ghost use Rattle.sc_space.specs.Seen.{seen_space};
+ghost use Rattle.sc_space.specs.Sound.{IsSound};
+ghost use Rattle.sc_table.specs.Table.{IsTable};
+
+use crate::alternatives::alternatives;
+use crate::content::{Content, Contents};
+use crate::entry::Entry;
+use crate::finding::Found;
+use crate::naming::{Headers, Named};
+use crate::walk::Walk;
+use sc_base::{Cause, Cond, FileId, Files, Names, OutOfMemory, Stop, Token};
+use sc_presence::Conditions;
+use sc_source::Source;
+use sc_space::Space;
+use std::alloc::Global;
+use std::rc::Rc;
+
+/// A file that some configurations enter at an `#include`.
+#[derive(Drop)]
+pub struct Part {
+    pub cond: Cond,
+    pub file: FileId,
+    pub content: Rc<Content>,
+}
+
+impl Walk {
+    /// The files that an `#include` enters, each once, in the configurations that act; those in which
+    /// it names no header, is nested too deep, or finds no file are refused.
+    #[tactic(auto, using(sc_model::proofs::SetLemmas::conditions))]
+    pub fn included<C: Conditions, S: Source>(
+        &mut self,
+        alloc: Global,
+        space: &Space,
+        src: &mut S,
+        conds: &mut C,
+        names: &mut Names,
+        files: &mut Files,
+        contents: &mut Contents,
+        entry: Entry,
+        line: &[Token],
+    ) -> Result<Vec<Part>, Stop>
+        requires placed { All (IsPlaced names.old (length files.old)) line.now }
+        requires line { 0 < length line.now }
+        requires entry { entry.file.0 < length files.old }
+        requires ready { IsReady (C.sets conds.old) names.old files.old (S.holds src.old) self.old contents.old }
+        ensures finds { IfOk result (λ parts. (x : Context) → IsContext (seen_space space.now) x → Agrees names.new files.new x.files contents.new
+            → Leads files.old names.old (C.sets conds.old) self.old files.new names.new (C.sets conds.new) self.new (IsIn files.old entry)
+            (λ config m n. Finds x (seen_line names.old files.old line.now) files.new m (files_at (C.sets conds.new) parts.items config) n)) }
+        ensures parts { IfOk result (λ parts. ArePartsOf (C.sets conds.new) contents.new parts.items) }
+        ensures deep { IfOk result (λ parts. 0 < length parts.items → entry.depth < space.now.limits.include_depth) }
+        ensures ready { OnOk result (IsReady (C.sets conds.new) names.new files.new (S.holds src.new) self.new contents.new) }
+        ensures list { OnOk result (self.new.prepared.list ≡ self.old.prepared.list) }
+        ensures paths { OnOk result (IsSound (seen_space space.now) → All (λ token. is_plain names.old token ≡ true) line.now → ArePlainPaths files.old
+            → PlainEach (C.sets conds.old) names.old files.old self.old (IsIn files.old entry) → ArePlainPaths files.new) }
+        ensures read { OnOk result (KeepsContents contents.old contents.new) }
+        ensures stops { IfErr result (Stops (C.sets conds.old).arities (seen_space space.now).branches (S.faults src.old) (S.faults src.new)) }
+
+        // at every outcome
+        ensures kept { S.holds src.new ≡ S.holds src.old }
+        ensures counted { S.faults src.old ≤ S.faults src.new }
+        ensures names { Extends names.old names.new }
+        ensures files { Extends files.old files.new }
+        ensures keeps { Keeps (C.sets conds.old) (C.sets conds.new) }
+    {
+        let limit = space.limits.branches;
+        let named = self.named(alloc, conds, names, files, limit, line)?;
+        if entry.depth >= space.limits.include_depth {
+            self.refuse_all(conds, Cause::IncludeDepth, line)?;
+            return Ok(Vec::new(alloc));
+        }
+        let found = Found::find(
+            alloc,
+            src,
+            conds,
+            names,
+            files,
+            contents,
+            entry.file,
+            &space.include,
+            &named,
+        )?;
+        self.refuse_acting(conds, found.missing, Cause::NotFound, line)?;
+        Ok(found.parts)
+    }
+
+    /// The headers that an `#include` names in the configurations that act; those in which it names
+    /// none are refused.
+    #[tactic(auto, using(sc_model::proofs::SetLemmas::conditions))]
+    fn named<C: Conditions>(
+        &mut self,
+        alloc: Global,
+        conds: &mut C,
+        names: &mut Names,
+        files: &Files,
+        limit: usize,
+        line: &[Token],
+    ) -> Result<Vec<Named>, Stop>
+        requires placed { All (IsPlaced names.old (length files.now)) line.now }
+        requires line { 0 < length line.now }
+        requires owns { Owns (C.sets conds.old) self.old }
+        requires table { IsTable (C.sets conds.old) names.old self.old.table }
+        requires walk { IsHeldWalk names.old (length files.now) any_token self.old }
+        ensures named { IfOk result (λ named. (x : Context) → SimulatesOneOf files.now names.old (C.sets conds.old) self.old names.new (C.sets conds.new) self.new
+            (λ config m n. NamesAt x (seen_line names.old files.now line.now) m (headers_in (C.sets conds.new) named.items config) n)) }
+        ensures own { IfOk result (λ named. All (λ n. IsCond (C.sets conds.new) n.cond.0) named.items) }
+        ensures plain { IfOk result (λ named. (entry : Entry) → All (λ token. is_plain names.old token ≡ true) line.now → ArePlainPaths files.now
+            → PlainEach (C.sets conds.old) names.old files.now self.old (IsIn files.now entry) → ArePlainNames named.items) }
+        ensures walk { OnOk result (IsHeldWalk names.new (length files.now) any_token self.new) }
+        ensures list { OnOk result (self.new.prepared.list ≡ self.old.prepared.list) }
+        ensures stops { IfErr result (StopsBy (C.sets conds.old).arities limit) }
+
+        // at every outcome
+        ensures keeps { Keeps (C.sets conds.old) (C.sets conds.new) }
+        ensures names { Extends names.old names.new }
+    {
+        let list = self.said(alloc, conds, names, files, limit, line)?;
+        let alternatives = alternatives(alloc, conds, &list, self.acting, limit)?;
+        let headers = Headers::read(alloc, conds, names, &alternatives)?;
+        self.refuse_acting(conds, headers.unnamed, Cause::BadInclude, line)?;
+        Ok(headers.named)
+    }
+
+    /// Those configurations of `part` that act are refused.
+    #[tactic(auto, using(sc_model::proofs::SetLemmas::conditions))]
+    fn refuse_acting<C: Conditions>(
+        &mut self,
+        conds: &mut C,
+        part: Cond,
+        cause: Cause,
+        line: &[Token],
+    ) -> Result<(), OutOfMemory>
+        requires owns { Owns (C.sets conds.old) self.old }
+        requires own { IsCond (C.sets conds.old) part.0 }
+        requires line { 0 < length line.now }
+        ensures printable { OnOk result ((names : List (List ℕ)) → StaysHeld names line.now self.old self.new) }
+        ensures moved { OnOk result ((names : List (List ℕ)) → SimulatesStep names (C.sets conds.old) self.old (C.sets conds.new) self.new
+            (λ files config m. refusing_if ((C.sets conds.old).has part.0 config) m (seen_line names files line.now) cause)) }
+        ensures list { OnOk result (self.new.prepared.list ≡ self.old.prepared.list) }
+        ensures keeps { Keeps (C.sets conds.old) (C.sets conds.new) }
+    {
+        let refused = conds.apply_and(part, self.acting)?;
+        self.refuse(conds, refused, cause, line)
+    }
+}
