@@ -1,55 +1,14 @@
-ghost use Rattle.std.specs.Prelude.{◌≡◌, ◌<◌, ◌∷◌, [], All, length, IfOk};
+ghost use Rattle.std.specs.Prelude.{◌≡◌, ◌∷◌, [], All};
 ghost use Rattle.sc_base.specs.Seen.{IsHeld};
-ghost use Rattle.sc_model.specs.Sets.{IsCond};
 
 use crate::reading::line_of;
-use sc_base::{Cond, FileId, Names, OutOfMemory, Stop, Token};
-use sc_guarded::Guarded;
+use crate::sides::{guarded, two_sides};
+use sc_base::{Cond, Names, Stop, Token};
 use sc_hoist::{Branch, CallEnds, Ends, call_ends, calls, lines};
 use sc_presence::{Conditions, PlainSets};
 use std::alloc::Global;
 use std::process::Abort;
 use std::test::Fail;
-
-/// Where a token stands: behind white space under the condition, and else everywhere.
-fn side<C: Conditions>(conds: &C, token: &Token, chosen: Cond) -> Cond
-    requires { IsCond (C.sets conds.now) chosen.0 }
-    ensures { IsCond (C.sets conds.now) result.0 }
-{
-    if token.space { chosen } else { conds.always() }
-}
-
-/// The tokens of a line. Behind white space they stand under the condition, and else everywhere.
-fn guarded<C: Conditions>(
-    alloc: Global,
-    conds: &C,
-    names: &Names,
-    line: &[Token],
-    chosen: Cond,
-) -> Result<Guarded<Token>, OutOfMemory>
-    requires line { All (IsHeld names.now) line.now }
-    requires chosen { IsCond (C.sets conds.now) chosen.0 }
-    ensures own { IfOk result (λ list. All (λ item. IsCond (C.sets conds.now) item.0.0) list) }
-    ensures held { IfOk result (λ list. All (λ item. item.1.spelling.0 < length names.now) list) }
-{
-    let _names = names;
-    let mut list = Guarded::new(alloc)?;
-    for token in line {
-        list.push(side(conds, token, chosen), *token)?;
-    }
-    Ok(list)
-}
-
-/// The configurations in which the variable has its second option, and those in which it has its first.
-fn two_sides<C: Conditions>(conds: &mut C) -> Result<(Cond, Cond), OutOfMemory>
-    requires { (C.sets conds.old).arities ≡ 2 ∷ [] }
-    ensures chosen { IfOk result (λ sides. IsCond (C.sets conds.new) sides.0.0) }
-    ensures others { IfOk result (λ sides. IsCond (C.sets conds.new) sides.1.0) }
-{
-    let chosen = conds.choose(0, 1)?;
-    let others = conds.negate(chosen)?;
-    Ok((chosen, others))
-}
 
 /// Whether one of the branches is this.
 fn has_branch(branches: &[Branch], cond: Cond, places: &[usize], ends: Ends) -> bool {

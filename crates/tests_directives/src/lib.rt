@@ -2,8 +2,14 @@
 #![tactic(auto)]
 
 #[cfg(test)]
+mod deciding;
+#[cfg(test)]
 mod expressions;
 #[cfg(test)]
 mod hoist;
 #[cfg(test)]
+mod include;
+#[cfg(test)]
 mod reading;
+#[cfg(test)]
+mod sides;

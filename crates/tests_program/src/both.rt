@@ -36,7 +36,7 @@ const CASES: [Case<'static>; 5] = [
     },
     Case {
         main: b"#ifdef B\n#error\n#endif\n",
-        text: "c 2 B undef:0 1:1\ns 0 m.c\nf 2 5 BadDirective 0:2:1\nend\n",
+        text: "c 2 B undef:0 1:1\ns 0 m.c\nf 2 16 ErrorDirective 0:2:1\nend\n",
     },
     Case {
         main: b"#ifdef A\n#define f(x) x\n#endif\n#ifdef B\nf(1)\n#endif\n",

@@ -3,12 +3,14 @@ use sc_source::{MemorySink, MemorySource};
 use std::alloc::Global;
 use std::test::Fail;
 
-/// A call on these words, where the source holds a space file `s` and a main file `m.c`, and what comes of it.
+/// A call on these words, where the source holds a space file `s`, a main file `m.c` and perhaps a
+/// header `h`, and what comes of it.
 #[derive(Clone, Copy)]
 struct Case<'a> {
     words: &'a [&'a str],
     space: &'a str,
     main: &'a [u8],
+    header: Option<&'a [u8]>,
     failing: Failing,
     status: u8,
     out: &'a str,
@@ -37,6 +39,7 @@ const TOKENS: Case<'static> = Case {
     words: &["superc", "tokens", "s", "m.c"],
     space: "[variables]\n",
     main: b"x y\n",
+    header: None,
     failing: NOTHING,
     status: 0,
     out: "s 0 m.c\nt 1 0:1:1 x\nt 1 0:1:3 y\nend\n",
@@ -45,7 +48,7 @@ const TOKENS: Case<'static> = Case {
 
 const ONE: &str = "[variables]\nA = [\"undef\", 1]\n";
 
-const CASES: [Case<'static>; 41] = [
+const CONDITIONALS: [Case<'static>; 14] = [
     TOKENS,
     Case {
         space: ONE,
@@ -63,7 +66,7 @@ const CASES: [Case<'static>; 41] = [
         space: ONE,
         main: b"#ifndef A\n#error\n#endif\n/**/ %:\n#pragma x\n(\n",
         status: 1,
-        out: "c 2 A undef:0 1:1\ns 0 m.c\nt 2 0:6:1 (\nc 3 A undef:1 1:0\nf 3 5 BadDirective 0:2:1\nend\n",
+        out: "c 2 A undef:0 1:1\ns 0 m.c\nt 2 0:6:1 (\nc 3 A undef:1 1:0\nf 3 16 ErrorDirective 0:2:1\nend\n",
         ..TOKENS
     },
     Case {
@@ -82,7 +85,7 @@ const CASES: [Case<'static>; 41] = [
         space: ONE,
         main: b"#ifdef A\n#error\n#endif\n#line\n",
         status: 1,
-        out: "c 2 A undef:0 1:1\ns 0 m.c\nf 2 5 BadDirective 0:2:1\nc 3 A undef:1 1:0\nf 3 5 BadDirective 0:4:1\nend\n",
+        out: "c 2 A undef:0 1:1\ns 0 m.c\nf 2 16 ErrorDirective 0:2:1\nc 3 A undef:1 1:0\nf 3 5 BadDirective 0:4:1\nend\n",
         ..TOKENS
     },
     Case {
@@ -127,6 +130,9 @@ const CASES: [Case<'static>; 41] = [
         out: "c 2 A undef:1 1:0\ns 0 m.c\nt 2 0:2:3 1\nt 2 0:2:1 -\nt 2 0:6:1 3\nc 3 A undef:0 1:1\nt 3 0:2:3 1\nt 3 0:2:1 -\nt 3 0:4:1 2\nend\n",
         ..TOKENS
     },
+];
+
+const DEFINITIONS: [Case<'static>; 14] = [
     Case {
         space: ONE,
         main: b"#define s(x) #x\ns(a\n#ifdef A\n+ \"b\\n\"\n#endif\n)\n",
@@ -209,6 +215,9 @@ const CASES: [Case<'static>; 41] = [
         err: "superc: branches full: 2\n",
         ..TOKENS
     },
+];
+
+const CALLS: [Case<'static>; 13] = [
     Case {
         space: "branches = 1\n[variables]\nA = [\"undef\", 1]\n",
         main: b"#define f(a) a\n#ifdef A\nf(1)\n#else\nf(2)\n#endif\n",
@@ -306,6 +315,209 @@ const CASES: [Case<'static>; 41] = [
     },
 ];
 
+const EXPRESSIONS: [Case<'static>; 14] = [
+    Case {
+        space: ONE,
+        main: b"#ifdef A\n#if 1/0\n#endif\n#endif\nint x;\n",
+        status: 1,
+        out: "c 2 A undef:1 1:0\ns 0 m.c\nt 2 0:5:1 int\nt 2 0:5:5 x\nt 2 0:5:6 ;\nc 3 A undef:0 1:1\nf 3 10 IfDivision 0:2:1\nend\n",
+        ..TOKENS
+    },
+    Case {
+        space: "[variables]\nHZ = [\"undef\", 100, 250]\n",
+        main: b"#if HZ > 100\nint x;\n#endif\n",
+        out: "c 2 HZ undef:0 100:0 250:1\ns 0 m.c\nt 2 0:2:1 int\nt 2 0:2:5 x\nt 2 0:2:6 ;\nend\n",
+        ..TOKENS
+    },
+    Case {
+        space: ONE,
+        main: b"#include \"m.c\"\n",
+        status: 1,
+        out: "s 0 m.c\nf 1 15 IncludeDepth 0:1:1\nend\n",
+        ..TOKENS
+    },
+    Case {
+        space: ONE,
+        main: b"#ifdef A\n#include \"h\"\n#endif\n",
+        header: Some(b"/* x"),
+        status: 1,
+        out: "c 2 A undef:0 1:1\ns 0 h\nf 2 3 UnterminatedComment 0:1:1\nend\n",
+        ..TOKENS
+    },
+    Case {
+        space: ONE,
+        main: b"#ifdef A\n#include \"h\"\n#endif\n",
+        header: Some(b"int y;\n"),
+        out: "c 2 A undef:0 1:1\ns 0 h\nt 2 0:1:1 int\nt 2 0:1:5 y\nt 2 0:1:6 ;\nend\n",
+        ..TOKENS
+    },
+    Case {
+        main: b"#define g(x) x\ng(1,2)\n#if 1/0\n#endif\n",
+        status: 1,
+        out: "s 0 m.c\nf 1 10 IfDivision 0:3:1\nend\n",
+        ..TOKENS
+    },
+    Case {
+        main: b"#if -1 > 0u\nint x;\n#endif\n",
+        out: "s 0 m.c\nt 1 0:2:1 int\nt 1 0:2:5 x\nt 1 0:2:6 ;\nend\n",
+        ..TOKENS
+    },
+    Case {
+        main: b"#if 9223372036854775807 + 1\n#endif\n",
+        status: 1,
+        out: "s 0 m.c\nf 1 11 IfOverflow 0:1:1\nend\n",
+        ..TOKENS
+    },
+    Case {
+        space: ONE,
+        main: b"#if A\nx\n#elif defined A || !defined(A)\ny\n#else\nz\n#endif\n",
+        out: "c 2 A undef:0 1:1\ns 0 m.c\nt 2 0:2:1 x\nc 3 A undef:1 1:0\nt 3 0:4:1 y\nend\n",
+        ..TOKENS
+    },
+    Case {
+        main: b"#if 0 && 1/0 || 1\nx\n#endif\n",
+        out: "s 0 m.c\nt 1 0:2:1 x\nend\n",
+        ..TOKENS
+    },
+    Case {
+        main: b"#if 0\n#if\n#endif\n#endif\n",
+        out: "end\n",
+        ..TOKENS
+    },
+    Case {
+        main: b"#if\n#endif\n",
+        status: 1,
+        out: "s 0 m.c\nf 1 9 BadIf 0:1:1\nend\n",
+        ..TOKENS
+    },
+    Case {
+        main: b"#if 1 << 64\n#endif\n",
+        status: 1,
+        out: "s 0 m.c\nf 1 12 IfShift 0:1:1\nend\n",
+        ..TOKENS
+    },
+    Case {
+        main: b"#define D defined A\n#if D\n#endif\n",
+        status: 1,
+        out: "s 0 m.c\nf 1 13 DefinedFromMacro 0:2:1\nend\n",
+        ..TOKENS
+    },
+];
+
+const FILES: [Case<'static>; 17] = [
+    Case {
+        main: b"#include\n",
+        status: 1,
+        out: "s 0 m.c\nf 1 14 BadInclude 0:1:1\nend\n",
+        ..TOKENS
+    },
+    Case {
+        main: b"#include \"\"\n",
+        status: 1,
+        out: "s 0 m.c\nf 1 14 BadInclude 0:1:1\nend\n",
+        ..TOKENS
+    },
+    Case {
+        main: b"#include <h>\n",
+        header: Some(b"x\n"),
+        status: 1,
+        out: "s 0 m.c\nf 1 1 NotFound 0:1:1\nend\n",
+        ..TOKENS
+    },
+    Case {
+        main: b"#define N \"h\"\n#include N\n",
+        header: Some(b"x\n"),
+        out: "s 0 h\nt 1 0:1:1 x\nend\n",
+        ..TOKENS
+    },
+    Case {
+        main: b"#include \"none.h\"\nx\n",
+        status: 1,
+        out: "s 0 m.c\nf 1 1 NotFound 0:1:1\nend\n",
+        ..TOKENS
+    },
+    Case {
+        space: ONE,
+        main: b"#ifdef A\n#include \"none.h\"\n#endif\nx\n",
+        status: 1,
+        out: "c 2 A undef:1 1:0\ns 0 m.c\nt 2 0:4:1 x\nc 3 A undef:0 1:1\nf 3 1 NotFound 0:2:1\nend\n",
+        ..TOKENS
+    },
+    Case {
+        space: ONE,
+        main: b"#ifdef A\n#define N \"h\"\n#else\n#define N \"m.d\"\n#endif\n#include N\nx\n",
+        header: Some(b"y\n"),
+        status: 1,
+        out: "c 2 A undef:0 1:1\ns 0 h\nt 2 0:1:1 y\ns 1 m.c\nt 2 1:7:1 x\nc 3 A undef:1 1:0\nf 3 1 NotFound 1:6:1\nend\n",
+        ..TOKENS
+    },
+    Case {
+        main: b"#define F 1\n#include \"h\"\n#include \"h\"\nF\n",
+        header: Some(b"#ifndef G\n#define G\nF __LINE__ __FILE__\n#endif\n"),
+        out: "s 0 h\nt 1 0:3:1 1\nt 1 0:3:3 3\nt 1 0:3:12 \"h\"\ns 1 m.c\nt 1 1:4:1 1\nend\n",
+        ..TOKENS
+    },
+    Case {
+        space: ONE,
+        main: b"#ifdef A\n#error no A\n#endif\nx\n",
+        status: 1,
+        out: "c 2 A undef:1 1:0\ns 0 m.c\nt 2 0:4:1 x\nc 3 A undef:0 1:1\nf 3 16 ErrorDirective 0:2:1\nend\n",
+        ..TOKENS
+    },
+    Case {
+        main: b"#line 7 \"a.c\"\nx\n",
+        out: "s 0 m.c\nt 1 0:2:1 x\nend\n",
+        ..TOKENS
+    },
+    Case {
+        main: b"#line 0\n",
+        status: 1,
+        out: "s 0 m.c\nf 1 5 BadDirective 0:1:1\nend\n",
+        ..TOKENS
+    },
+    Case {
+        main: b"#line 2147483648\n",
+        status: 1,
+        out: "s 0 m.c\nf 1 5 BadDirective 0:1:1\nend\n",
+        ..TOKENS
+    },
+    Case {
+        main: b"#define L 1 \"f\"\n#line L\n__LINE__\n",
+        out: "s 0 m.c\nt 1 0:3:1 3\nend\n",
+        ..TOKENS
+    },
+    Case {
+        main: b"f(\n#include \"h\"\n)\n",
+        header: Some(b"#define f(x) x\n"),
+        out: "s 0 m.c\nt 1 0:1:1 f\nt 1 0:1:2 (\nt 1 0:3:1 )\nend\n",
+        ..TOKENS
+    },
+    Case {
+        main: b"#define f(x) [x]\nf(\n#include \"h\"\n)\n",
+        header: Some(b"1\n"),
+        status: 1,
+        out: "s 0 m.c\nf 1 17 UnterminatedCall 0:2:1\nend\n",
+        ..TOKENS
+    },
+    Case {
+        space: ONE,
+        main: b"#include \"h\"\nx\n",
+        header: Some(b"#ifdef A\n#endif\n#endif\n"),
+        status: 1,
+        out: "s 0 h\nf 1 4 BadNesting 0:3:1\nend\n",
+        ..TOKENS
+    },
+    Case {
+        main: b"#include \"h\"\n",
+        header: Some(b"x\n"),
+        failing: Failing { read: 2, ..NOTHING },
+        status: 6,
+        out: "",
+        err: "superc: read fault\n",
+        ..TOKENS
+    },
+];
+
 fn words(alloc: Global, texts: &[&str]) -> Result<Vec<String>, Fail> {
     let mut words = Vec::new(alloc);
     for text in texts {
@@ -314,11 +526,14 @@ fn words(alloc: Global, texts: &[&str]) -> Result<Vec<String>, Fail> {
     Ok(words)
 }
 
-/// The two files of a case.
+/// The files of a case.
 fn files(alloc: Global, case: &Case<'_>) -> Result<MemorySource, Fail> {
     let mut source = MemorySource::new(alloc);
     source.add("s", case.space.as_bytes())?;
     source.add("m.c", case.main)?;
+    if let Some(header) = case.header {
+        source.add("h", header)?;
+    }
     source.fail_at(case.failing.read)?;
     Ok(source)
 }
@@ -341,7 +556,51 @@ fn ran(alloc: Global, case: &Case<'_>) -> Result<(Vec<u8>, Vec<u8>, u8), Fail> {
 
 #[test]
 fn runs(rt: HostRuntime) -> Result<(), Fail> {
-    for case in &CASES {
+    for case in &CONDITIONALS {
+        let (out, err, status) = ran(rt.alloc(), case)?;
+        assert_eq!(rt; out.as_slice(), case.out.as_bytes());
+        assert_eq!(rt; err.as_slice(), case.err.as_bytes());
+        assert_eq!(rt; status, case.status);
+    }
+    Ok(())
+}
+
+#[test]
+fn runs_definitions(rt: HostRuntime) -> Result<(), Fail> {
+    for case in &DEFINITIONS {
+        let (out, err, status) = ran(rt.alloc(), case)?;
+        assert_eq!(rt; out.as_slice(), case.out.as_bytes());
+        assert_eq!(rt; err.as_slice(), case.err.as_bytes());
+        assert_eq!(rt; status, case.status);
+    }
+    Ok(())
+}
+
+#[test]
+fn runs_calls(rt: HostRuntime) -> Result<(), Fail> {
+    for case in &CALLS {
+        let (out, err, status) = ran(rt.alloc(), case)?;
+        assert_eq!(rt; out.as_slice(), case.out.as_bytes());
+        assert_eq!(rt; err.as_slice(), case.err.as_bytes());
+        assert_eq!(rt; status, case.status);
+    }
+    Ok(())
+}
+
+#[test]
+fn runs_expressions(rt: HostRuntime) -> Result<(), Fail> {
+    for case in &EXPRESSIONS {
+        let (out, err, status) = ran(rt.alloc(), case)?;
+        assert_eq!(rt; out.as_slice(), case.out.as_bytes());
+        assert_eq!(rt; err.as_slice(), case.err.as_bytes());
+        assert_eq!(rt; status, case.status);
+    }
+    Ok(())
+}
+
+#[test]
+fn runs_files(rt: HostRuntime) -> Result<(), Fail> {
+    for case in &FILES {
         let (out, err, status) = ran(rt.alloc(), case)?;
         assert_eq!(rt; out.as_slice(), case.out.as_bytes());
         assert_eq!(rt; err.as_slice(), case.err.as_bytes());

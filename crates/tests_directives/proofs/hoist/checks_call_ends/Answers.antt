@@ -13,4 +13,4 @@ call_ends-requires-clause-own g c =
 pub call_ends-requires-clause-held : goal.call_ends-requires-clause-held
 call_ends-requires-clause-held g c =
     All-map (λ (item : Cond × Token). item.1.spelling.0 < length c.args.names.now) (λ (item : Cond × Token). (item.0, item.1)) c.in_ok-list.list
-    c.in_ok-list.ensures.held
+    (λ k d h. (c.in_ok-list.ensures.held k d h).spelling)
