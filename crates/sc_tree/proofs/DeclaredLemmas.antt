@@ -73,7 +73,7 @@ leaf_items-append lines (x ∷ xs) ys =
 -- the walk from the tree, and its names
 pub record Declares (w : Tables) (c : List ℕ) (id : TreeId) (texts : List (List ℕ)) : Type 0 where
   pub path : List TreeId
-  pub follows : Follows w.sets w.lines c id path
+  pub follows : Follows declarator_child w.sets w.lines c id path
   pub spells : Spells w.names (leaf_names w.lines path) texts
 
 name-at : (lines : List Line) (id : TreeId) (line : Line) (path : List TreeId) → slice_get lines id.0 ≡ Some line → leaf_names lines (id ∷ path) ≡ name_in (Some line) ++ leaf_names lines path
@@ -153,13 +153,16 @@ names-own s lines names found passed named same own =
 pub start-at : (s : Sets) (always : Cond) (id : TreeId) (c : List ℕ) → s.has always.0 c ≡ true → items_at s ((always, id) ∷ []) c ≡ id ∷ []
 start-at s always id c has = ap (λ b. if b then id ∷ [] else []) has
 
+pub start-none : (s : Sets) (cond : Cond) (id : TreeId) (c : List ℕ) → s.has cond.0 c ≡ false → items_at s ((cond, id) ∷ []) c ≡ []
+start-none s cond id c has = ap (λ b. if b then id ∷ [] else []) has
+
 pub start-all : (P : Cond × TreeId → Type 0) (always : Cond) (id : TreeId) → P (always, id) → All P ((always, id) ∷ [])
 start-all P always id h = All-cons P (always, id) [] h (All-nil P)
 
 pub declared-at : (old new : Sets) (names files : List (List ℕ)) (lines : List Line) (c : List ℕ) (id : TreeId) (tree : Tree) (found : List (Cond × Name)) (starts : List (Cond × TreeId))
     → items_at old starts c ≡ id ∷ []
-    → ((path : List TreeId) → Walked old lines c (items_at old starts c) path → items_at new found c ≡ leaf_names lines path)
+    → ((path : List TreeId) → Walked declarator_child old lines c (items_at old starts c) path → items_at new found c ≡ leaf_names lines path)
     → Reads (record { sets = old; names = names; files = files; lines = lines }) c id.0 tree → Spells names (items_at new found c) (declared c11_declarators tree)
 declared-at old new names files lines c id tree found starts one walks read =
     let way = declares (record { sets = old; names = names; files = files; lines = lines }) c id.0 tree read in
-    record { same = ap (map (λ (name : Name). slice_get names name.0)) (walks way.path (subst (λ ids. Walked old lines c ids way.path) (sym one) (from_tree id way.path way.follows))) ∙ way.spells.same }
+    record { same = ap (map (λ (name : Name). slice_get names name.0)) (walks way.path (subst (λ ids. Walked declarator_child old lines c ids way.path) (sym one) (from_tree id way.path way.follows))) ∙ way.spells.same }

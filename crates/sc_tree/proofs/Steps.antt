@@ -25,38 +25,38 @@ use Rattle.sc_tree.proofs.WalkLemmas.{IsPlain, onward-plain, passes-plain, is_eq
 
 -- where the walk of a configuration is: what it has passed, and what it has yet to pass from the
 -- tree at which it waits
-pub record Onward (s0 s : Sets) (lines : List Line) (waits : ℕ → Option Cond) (passed : List (Cond × TreeId)) (d : List ℕ) (path : List TreeId) : Type 0 where
+pub record Onward (next : ℕ → Option ℕ) (s0 s : Sets) (lines : List Line) (waits : ℕ → Option Cond) (passed : List (Cond × TreeId)) (d : List ℕ) (path : List TreeId) : Type 0 where
   pub ids : List TreeId
   pub rest : List TreeId
   pub at : (n : ℕ) → has_at s (waits n) d ≡ is_among n ids
-  pub walked : Walked s0 lines d ids rest
+  pub walked : Walked next s0 lines d ids rest
   pub joined : items_at s passed d ++ rest ≡ path
 
-child-plain : (line : Line) (child : TreeId) → child_of line ≡ Some child → IsPlain line
-child-plain (leaf place spelling) child next = refl
-child-plain (node production children) child next = refl
-child-plain (choice branches) child next = absurd (none-some child next)
+child-plain : (next : ℕ → Option ℕ) (line : Line) (child : TreeId) → child_of next line ≡ Some child → IsPlain line
+child-plain next (leaf place spelling) child at = refl
+child-plain next (node production children) child at = refl
+child-plain next (choice branches) child at = absurd (none-some child at)
 
-module _ (s0 s1 : Sets) (lines : List Line) (d : List ℕ) where
+module _ (way : ℕ → Option ℕ) (s0 s1 : Sets) (lines : List Line) (d : List ℕ) where
   -- a walk from a tree passes it and goes on
   abbrev Turn : Line → TreeId → List TreeId → Type 0
-  Turn line id path = (rest : List TreeId) × Walked s0 lines d (onward s1 line d) rest × (passes line id ++ rest ≡ path)
+  Turn line id path = (rest : List TreeId) × Walked way s0 lines d (onward way s1 line d) rest × (passes line id ++ rest ≡ path)
 
-  turn : (id : TreeId) (path : List TreeId) (line : Line) → Follows s0 lines d id path → slice_get lines id.0 ≡ Some line → OwnsBranches s0 lines → Keeps s0 s1 → IsConfig s0.arities d
+  turn : (id : TreeId) (path : List TreeId) (line : Line) → Follows way s0 lines d id path → slice_get lines id.0 ≡ Some line → OwnsBranches s0 lines → Keeps s0 s1 → IsConfig s0.arities d
       → Turn line id path
   turn id _ line (ends _ other at plain last) here own keeps is =
       let same : other ≡ line = same_Some other line (sym at ∙ here) in
       subst (λ (l : Line). Turn l id (id ∷ [])) same
-      ([], subst (λ ids. Walked s0 lines d ids []) (sym (onward-plain s1 other d plain ∙ ap listed last)) nowhere, ap (λ ids. ids ++ []) (passes-plain other id plain))
+      ([], subst (λ ids. Walked way s0 lines d ids []) (sym (onward-plain way s1 other d plain ∙ ap listed last)) nowhere, ap (λ ids. ids ++ []) (passes-plain other id plain))
   turn id _ line (goes_on _ child other path at next rest) here own keeps is =
       let same : other ≡ line = same_Some other line (sym at ∙ here) in
-      let plain = child-plain other child next in
+      let plain = child-plain way other child next in
       subst (λ (l : Line). Turn l id (id ∷ path)) same
-      (path, subst (λ ids. Walked s0 lines d ids path) (sym (onward-plain s1 other d plain ∙ ap listed next)) (from_tree child path rest), ap (λ ids. ids ++ path) (passes-plain other id plain))
+      (path, subst (λ ids. Walked way s0 lines d ids path) (sym (onward-plain way s1 other d plain ∙ ap listed next)) (from_tree child path rest), ap (λ ids. ids ++ path) (passes-plain other id plain))
   turn id path line (chooses _ child branches _ at one rest) here own keeps is =
       let same : choice branches ≡ line = same_Some (choice branches) line (sym at ∙ here) in
       subst (λ (l : Line). Turn l id path) same
-      (path, subst (λ ids. Walked s0 lines d ids path) (sym (items_at-Keeps branches d keeps (own.each id.0 (choice branches) at) is ∙ one)) (from_tree child path rest), refl)
+      (path, subst (λ ids. Walked way s0 lines d ids path) (sym (items_at-Keeps branches d keeps (own.each id.0 (choice branches) at) is ∙ one)) (from_tree child path rest), refl)
 
 if-true : {A : Type 0} (b : Bool) (x y : A) → b ≡ true → (if b then x else y) ≡ x
 if-true true x y e = refl
@@ -99,31 +99,31 @@ or-right : (a b : Bool) → b ≡ false → (a || b) ≡ a
 or-right true b e = refl
 or-right false b e = e
 
-pub walk-step : (s0 s1 s2 : Sets) (lines : List Line) (w0 w1 w2 : ℕ → Option Cond) (passed all : List (Cond × TreeId)) (line : Line) (taken : Cond) (id : TreeId) (d : List ℕ) (path : List TreeId)
+pub walk-step : (way : ℕ → Option ℕ) (s0 s1 s2 : Sets) (lines : List Line) (w0 w1 w2 : ℕ → Option Cond) (passed all : List (Cond × TreeId)) (line : Line) (taken : Cond) (id : TreeId) (d : List ℕ) (path : List TreeId)
     → Keeps s0 s1 → OwnsBranches s0 lines → IsConfig s0.arities d → slice_get lines id.0 ≡ Some line → w0 id.0 ≡ Some taken
-    → ((n : ℕ) → w1 n ≡ cond (is_eq (nat_cmp id.0 n)) None (w0 n)) → Visits s1 s2 line taken id w1 w2 passed all d
-    → Onward s0 s1 lines w0 passed d path → Onward s0 s2 lines w2 all d path
-walk-step s0 s1 s2 lines w0 w1 w2 passed all line taken id d path keeps own is at first pops visit on = by (s1.has taken.0 d) refl
+    → ((n : ℕ) → w1 n ≡ cond (is_eq (nat_cmp id.0 n)) None (w0 n)) → Visits way s1 s2 line taken id w1 w2 passed all d
+    → Onward way s0 s1 lines w0 passed d path → Onward way s0 s2 lines w2 all d path
+walk-step way s0 s1 s2 lines w0 w1 w2 passed all line taken id d path keeps own is at first pops visit on = by (s1.has taken.0 d) refl
   where
     among : is_among id.0 on.ids ≡ s1.has taken.0 d
     among = sym (on.at id.0) ∙ ap (λ w. has_at s1 w d) first
 
-    waits : (n : ℕ) → has_at s2 (w2 n) d ≡ ((if id.0 == n then false else is_among n on.ids) || (s1.has taken.0 d && is_among n (onward s1 line d)))
-    waits n = visit.waits n ∙ ap (λ b. b || (s1.has taken.0 d && is_among n (onward s1 line d))) (popped s1 w0 w1 id.0 d pops n ∙ ap (λ b. if id.0 == n then false else b) (on.at n))
+    waits : (n : ℕ) → has_at s2 (w2 n) d ≡ ((if id.0 == n then false else is_among n on.ids) || (s1.has taken.0 d && is_among n (onward way s1 line d)))
+    waits n = visit.waits n ∙ ap (λ b. b || (s1.has taken.0 d && is_among n (onward way s1 line d))) (popped s1 w0 w1 id.0 d pops n ∙ ap (λ b. if id.0 == n then false else b) (on.at n))
 
-    taken-walk : (ids rest : List TreeId) → Walked s0 lines d ids rest → on.ids ≡ ids → on.rest ≡ rest → s1.has taken.0 d ≡ true → Onward s0 s2 lines w2 all d path
+    taken-walk : (ids rest : List TreeId) → Walked way s0 lines d ids rest → on.ids ≡ ids → on.rest ≡ rest → s1.has taken.0 d ≡ true → Onward way s0 s2 lines w2 all d path
     taken-walk _ _ nowhere same_ids same_rest has = absurd (false≢true (ap (is_among id.0) (sym same_ids) ∙ among ∙ has))
     taken-walk _ rest (from_tree x _ follows) same_ids same_rest has =
         let told : (if id.0 == x.0 then true else false) ≡ true = ap (is_among id.0) (sym same_ids) ∙ among ∙ has in
         let same : x.0 ≡ id.0 = sym (eqb-true id.0 x.0 (told-true (id.0 == x.0) told)) in
         let is_x : x ≡ id = λ i. record { 0 = same i } in
-        let next = turn s0 s1 lines d id rest line (subst (λ (y : TreeId). Follows s0 lines d y rest) is_x follows) at own keeps is in
+        let next = turn way s0 s1 lines d id rest line (subst (λ (y : TreeId). Follows way s0 lines d y rest) is_x follows) at own keeps is in
         record {
-          ids = onward s1 line d;
+          ids = onward way s1 line d;
           rest = next.0;
           at = λ n. waits n
-              ∙ or-left (if id.0 == n then false else is_among n on.ids) (s1.has taken.0 d && is_among n (onward s1 line d)) (ap (λ ids. if id.0 == n then false else is_among n ids) same_ids ∙ alone n id.0 x same)
-              ∙ ap (λ b. b && is_among n (onward s1 line d)) has;
+              ∙ or-left (if id.0 == n then false else is_among n on.ids) (s1.has taken.0 d && is_among n (onward way s1 line d)) (ap (λ ids. if id.0 == n then false else is_among n ids) same_ids ∙ alone n id.0 x same)
+              ∙ ap (λ b. b && is_among n (onward way s1 line d)) has;
           walked = next.1;
           joined = ap (λ items. items ++ next.0) (visit.passing ∙ ap (λ b. items_at s1 passed d ++ (if b then passes line id else [])) has)
               ∙ append_assoc (items_at s1 passed d) (passes line id) next.0 ∙ ap (λ ids. items_at s1 passed d ++ ids) (next.2 ∙ sym same_rest) ∙ on.joined;
@@ -133,13 +133,13 @@ walk-step s0 s1 s2 lines w0 w1 w2 passed all line taken id d path keeps own is a
         told-true true e = refl
         told-true false e = e
 
-    by : (b : Bool) → s1.has taken.0 d ≡ b → Onward s0 s2 lines w2 all d path
+    by : (b : Bool) → s1.has taken.0 d ≡ b → Onward way s0 s2 lines w2 all d path
     by true has = taken-walk on.ids on.rest on.walked refl refl has
     by false has = record {
       ids = on.ids;
       rest = on.rest;
       at = λ n. waits n
-          ∙ or-right (if id.0 == n then false else is_among n on.ids) (s1.has taken.0 d && is_among n (onward s1 line d)) (ap (λ b. b && is_among n (onward s1 line d)) has)
+          ∙ or-right (if id.0 == n then false else is_among n on.ids) (s1.has taken.0 d && is_among n (onward way s1 line d)) (ap (λ b. b && is_among n (onward way s1 line d)) has)
           ∙ elsewhere n id.0 on.ids (among ∙ has);
       walked = on.walked;
       joined = ap (λ items. items ++ on.rest) (visit.passing ∙ ap (λ b. items_at s1 passed d ++ (if b then passes line id else [])) has ∙ append-nil (items_at s1 passed d)) ∙ on.joined;
@@ -166,11 +166,11 @@ eqb-self : (n : ℕ) → (n == n) ≡ true
 eqb-self n = grind (arith, nat_tests)
 
 -- nothing waits and the walk is over
-pub walked-all : (s0 s : Sets) (lines : List Line) (waits : ℕ → Option Cond) (passed : List (Cond × TreeId)) (d : List ℕ) (path : List TreeId)
-    → ((n : ℕ) → waits n ≡ None) → Onward s0 s lines waits passed d path → items_at s passed d ≡ path
-walked-all s0 s lines waits passed d path none on = by on.ids on.rest on.walked on.at on.joined
+pub walked-all : (way : ℕ → Option ℕ) (s0 s : Sets) (lines : List Line) (waits : ℕ → Option Cond) (passed : List (Cond × TreeId)) (d : List ℕ) (path : List TreeId)
+    → ((n : ℕ) → waits n ≡ None) → Onward way s0 s lines waits passed d path → items_at s passed d ≡ path
+walked-all way s0 s lines waits passed d path none on = by on.ids on.rest on.walked on.at on.joined
   where
-    by : (ids rest : List TreeId) → Walked s0 lines d ids rest → ((n : ℕ) → has_at s (waits n) d ≡ is_among n ids) → items_at s passed d ++ rest ≡ path → items_at s passed d ≡ path
+    by : (ids rest : List TreeId) → Walked way s0 lines d ids rest → ((n : ℕ) → has_at s (waits n) d ≡ is_among n ids) → items_at s passed d ++ rest ≡ path → items_at s passed d ≡ path
     by _ _ nowhere at joined = sym (append-nil (items_at s passed d)) ∙ joined
     by _ _ (from_tree x rest follows) at joined = absurd (false≢true (ap (λ w. has_at s w d) (sym (none x.0)) ∙ at x.0 ∙ if-true (x.0 == x.0) true false (eqb-self x.0)))
 
@@ -200,10 +200,10 @@ empty-none : (m : BTreeMap ℕ Cond) → m.entries ≡ [] → (n : ℕ) → get 
 empty-none m e n = ap (λ xs. lookup (λ k. is_eq (nat_cmp n k)) xs) e
 
 -- the walk begins at the starts
-pub onward-first : (s0 s : Sets) (lines : List Line) (empty waits : BTreeMap ℕ Cond) (starts passed : List (Cond × TreeId)) (always : Bool) (d : List ℕ) (path : List TreeId)
+pub onward-first : (way : ℕ → Option ℕ) (s0 s : Sets) (lines : List Line) (empty waits : BTreeMap ℕ Cond) (starts passed : List (Cond × TreeId)) (always : Bool) (d : List ℕ) (path : List TreeId)
     → empty.entries ≡ [] → passed ≡ [] → ((n : ℕ) → has_at s (get nat_cmp waits n) d ≡ (has_at s0 (get nat_cmp empty n) d || (always && is_among n (items_at s0 starts d)))) → always ≡ true
-    → Walked s0 lines d (items_at s0 starts d) path → Onward s0 s lines (get nat_cmp waits) passed d path
-onward-first s0 s lines empty waits starts passed always d path none no_trees opens is walked = record {
+    → Walked way s0 lines d (items_at s0 starts d) path → Onward way s0 s lines (get nat_cmp waits) passed d path
+onward-first way s0 s lines empty waits starts passed always d path none no_trees opens is walked = record {
   ids = items_at s0 starts d;
   rest = path;
   at = λ n. opens n ∙ ap (λ w. has_at s0 w d || (always && is_among n (items_at s0 starts d))) (empty-none empty none n) ∙ ap (λ b. b && is_among n (items_at s0 starts d)) is;

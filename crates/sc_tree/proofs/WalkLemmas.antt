@@ -6,7 +6,6 @@ use Rattle.std.proofs.lemmas.Bool.Decides.{nat_tests}
 use Rattle.std.proofs.lemmas.List.Elements.{All-head, All-tail, All-cons, All-nil, All-append}
 use Rattle.std.proofs.lemmas.Option.{same_Some, none-some, slice_get_within, get_or_from_slice_get}
 use Rattle.std.specs.Ordering.{nat_cmp, is_eq}
-use Rattle.c11_parsing.specs.C11.{declarator_child}
 use Rattle.sc_base.specs.declared.id.Cond.{Cond}
 use Rattle.sc_base.specs.declared.id.TreeId.{TreeId}
 use Rattle.sc_model.specs.Sets.{Sets, IsConfig, IsCond, Denotes, Keeps}
@@ -151,10 +150,10 @@ nothing-among false false = refl
 abbrev pub IsPlain : Line → Type 0
 IsPlain line = is_choice line ≡ false
 
-pub onward-plain : (sets : Sets) (line : Line) (d : List ℕ) → IsPlain line → onward sets line d ≡ listed (child_of line)
-onward-plain sets (leaf place spelling) d plain = refl
-onward-plain sets (node production children) d plain = refl
-onward-plain sets (choice branches) d plain = absurd (false≢true (sym plain))
+pub onward-plain : (way : ℕ → Option ℕ) (sets : Sets) (line : Line) (d : List ℕ) → IsPlain line → onward way sets line d ≡ listed (child_of way line)
+onward-plain way sets (leaf place spelling) d plain = refl
+onward-plain way sets (node production children) d plain = refl
+onward-plain way sets (choice branches) d plain = absurd (false≢true (sym plain))
 
 pub passes-plain : (line : Line) (id : TreeId) → IsPlain line → passes line id ≡ id ∷ []
 passes-plain (leaf place spelling) id plain = refl
@@ -170,23 +169,23 @@ passing-plain old new line cond id passed all d plain added keeps own owns is =
     ∙ ap (λ b. items_at old passed d ++ (if b then id ∷ [] else [])) (keeps.at cond.0 d own is)
     ∙ ap (λ ids. items_at old passed d ++ (if old.has cond.0 d then ids else [])) (sym (passes-plain line id plain))
 
-pub visits-child : (old new : Sets) (line : Line) (cond : Cond) (id child : TreeId) (before after : ℕ → Option Cond) (passed all : List (Cond × TreeId)) (d : List ℕ)
-    → IsPlain line → child_of line ≡ Some child → all ≡ passed ++ (cond, id) ∷ [] → Keeps old new → IsCond old cond.0
+pub visits-child : (way : ℕ → Option ℕ) (old new : Sets) (line : Line) (cond : Cond) (id child : TreeId) (before after : ℕ → Option Cond) (passed all : List (Cond × TreeId)) (d : List ℕ)
+    → IsPlain line → child_of way line ≡ Some child → all ≡ passed ++ (cond, id) ∷ [] → Keeps old new → IsCond old cond.0
     → All (λ (tree : Cond × TreeId). IsCond old tree.0.0) passed → IsConfig old.arities d
     → ((n : ℕ) → has_at new (after n) d ≡ (has_at old (before n) d || (n == child.0 && old.has cond.0 d)))
-    → Visits old new line cond id before after passed all d
-visits-child old new line cond id child before after passed all d plain next added keeps own owns is opens = record {
+    → Visits way old new line cond id before after passed all d
+visits-child way old new line cond id child before after passed all d plain next added keeps own owns is opens = record {
   waits = λ n. opens n ∙ ap (λ b. has_at old (before n) d || b) (and-among (n == child.0) (old.has cond.0 d))
-      ∙ ap (λ ids. has_at old (before n) d || (old.has cond.0 d && is_among n ids)) (sym (onward-plain old line d plain ∙ ap listed next));
+      ∙ ap (λ ids. has_at old (before n) d || (old.has cond.0 d && is_among n ids)) (sym (onward-plain way old line d plain ∙ ap listed next));
   passing = passing-plain old new line cond id passed all d plain added keeps own owns is;
 }
 
-pub visits-last : (sets : Sets) (line : Line) (cond : Cond) (id : TreeId) (before : ℕ → Option Cond) (passed all : List (Cond × TreeId)) (d : List ℕ)
-    → IsPlain line → child_of line ≡ None → all ≡ passed ++ (cond, id) ∷ [] → IsCond sets cond.0 → All (λ (tree : Cond × TreeId). IsCond sets tree.0.0) passed → IsConfig sets.arities d
-    → Visits sets sets line cond id before before passed all d
-visits-last sets line cond id before passed all d plain next added own owns is = record {
+pub visits-last : (way : ℕ → Option ℕ) (sets : Sets) (line : Line) (cond : Cond) (id : TreeId) (before : ℕ → Option Cond) (passed all : List (Cond × TreeId)) (d : List ℕ)
+    → IsPlain line → child_of way line ≡ None → all ≡ passed ++ (cond, id) ∷ [] → IsCond sets cond.0 → All (λ (tree : Cond × TreeId). IsCond sets tree.0.0) passed → IsConfig sets.arities d
+    → Visits way sets sets line cond id before before passed all d
+visits-last way sets line cond id before passed all d plain next added own owns is = record {
   waits = λ n. nothing-among (has_at sets (before n) d) (sets.has cond.0 d)
-      ∙ ap (λ ids. has_at sets (before n) d || (sets.has cond.0 d && is_among n ids)) (sym (onward-plain sets line d plain ∙ ap listed next));
+      ∙ ap (λ ids. has_at sets (before n) d || (sets.has cond.0 d && is_among n ids)) (sym (onward-plain way sets line d plain ∙ ap listed next));
   passing = passing-plain sets sets line cond id passed all d plain added (Keeps-refl sets) own owns is;
 }
 
@@ -194,12 +193,12 @@ append-nothing : (b : Bool) (xs : List TreeId) → xs ≡ xs ++ (if b then [] el
 append-nothing true xs = sym (append-nil xs)
 append-nothing false xs = sym (append-nil xs)
 
-pub visits-choice : (old new : Sets) (line : Line) (cond : Cond) (id : TreeId) (before after : ℕ → Option Cond) (branches passed : List (Cond × TreeId)) (d : List ℕ)
+pub visits-choice : (way : ℕ → Option ℕ) (old new : Sets) (line : Line) (cond : Cond) (id : TreeId) (before after : ℕ → Option Cond) (branches passed : List (Cond × TreeId)) (d : List ℕ)
     → line ≡ choice branches → Keeps old new → All (λ (tree : Cond × TreeId). IsCond old tree.0.0) passed → IsConfig old.arities d
     → ((n : ℕ) → has_at new (after n) d ≡ (has_at old (before n) d || (old.has cond.0 d && is_among n (items_at old branches d))))
-    → Visits old new line cond id before after passed passed d
-visits-choice old new line cond id before after branches passed d same keeps owns is opens = record {
-  waits = λ n. opens n ∙ ap (λ (l : Line). has_at old (before n) d || (old.has cond.0 d && is_among n (onward old l d))) (sym same);
+    → Visits way old new line cond id before after passed passed d
+visits-choice way old new line cond id before after branches passed d same keeps owns is opens = record {
+  waits = λ n. opens n ∙ ap (λ (l : Line). has_at old (before n) d || (old.has cond.0 d && is_among n (onward way old l d))) (sym same);
   passing = items_at-Keeps passed d keeps owns is ∙ append-nothing (old.has cond.0 d) (items_at old passed d)
       ∙ ap (λ (l : Line). items_at old passed d ++ (if old.has cond.0 d then passes l id else [])) (sym same);
 }
@@ -221,10 +220,10 @@ children-below bound line branches same below = go branches (subst (λ (l : Line
         All-cons (λ (branch : Cond × TreeId). branch.1.0 < bound) b bs (All-head P b.1 (map (λ (branch : Cond × TreeId). branch.1) bs) h) (go bs (All-tail P b.1 (map (λ (branch : Cond × TreeId). branch.1) bs) h))
 
 -- the child to which the walk goes on is one
-pub child-below : (bound : ℕ) (line : Line) (child : TreeId) → child_of line ≡ Some child → All (λ (id : TreeId). id.0 < bound) (children_of line) → child.0 < bound
-child-below bound (leaf place spelling) child next below = absurd (none-some child next)
-child-below bound (choice branches) child next below = absurd (none-some child next)
-child-below bound (node production children) child next below = by (declarator_child production) next
+pub child-below : (way : ℕ → Option ℕ) (bound : ℕ) (line : Line) (child : TreeId) → child_of way line ≡ Some child → All (λ (id : TreeId). id.0 < bound) (children_of line) → child.0 < bound
+child-below way bound (leaf place spelling) child next below = absurd (none-some child next)
+child-below way bound (choice branches) child next below = absurd (none-some child next)
+child-below way bound (node production children) child next below = by (way production) next
   where
     by : (n : Option ℕ) → child_at children n ≡ Some child → child.0 < bound
     by None at = absurd (none-some child at)

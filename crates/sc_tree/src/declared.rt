@@ -1,7 +1,7 @@
 //! The names that trees declare, in all configurations at once.
 ghost use Rattle.std.specs.Prelude.{◌≡◌, ◌<◌, ◌++◌, ℕ, List, [], Some, All, length, map, IfOk, OnOk};
 ghost use Rattle.c11_parsing.specs.Bindings.{declared};
-ghost use Rattle.c11_parsing.specs.C11.{c11_declarators};
+ghost use Rattle.c11_parsing.specs.C11.{c11_declarators, declarator_child};
 ghost use Rattle.c11_parsing.specs.Trees.{Tree};
 ghost use Rattle.sc_base.specs.declared.id.TreeId.{TreeId};
 ghost use Rattle.sc_guarded.specs.Items.{items_at};
@@ -12,6 +12,7 @@ ghost use Rattle.sc_tree.specs.Views.{line_of};
 ghost use Rattle.sc_tree.specs.Walks.{leaf_items, leaf_names, name_in, under, Walked};
 
 use crate::line::Line;
+use crate::production::Route;
 use crate::walk::walk;
 use sc_base::{Cond, Name, OutOfMemory, TreeId};
 use sc_presence::Conditions;
@@ -41,7 +42,7 @@ pub(crate) fn declared<C: Conditions>(
 
 /// The names that the trees declare, each with the configurations in which one declares it. At each
 /// configuration there is one tree or none.
-fn declared_names<C: Conditions>(
+pub(crate) fn declared_names<C: Conditions>(
     alloc: Global,
     conds: &mut C,
     lines: &[Line],
@@ -52,14 +53,14 @@ fn declared_names<C: Conditions>(
     requires own { All (λ tree. IsCond (C.sets conds.old) tree.0.0) trees.now }
     requires within { All (λ tree. tree.1.0 < length lines.now) trees.now }
     ensures names { IfOk result (λ names. (c : List ℕ) → IsConfig (C.sets conds.old).arities c → (path : List TreeId)
-        → Walked (C.sets conds.old) (map line_of lines.now) c (items_at (C.sets conds.old) trees.now c) path
+        → Walked declarator_child (C.sets conds.old) (map line_of lines.now) c (items_at (C.sets conds.old) trees.now c) path
         → items_at (C.sets conds.new) names.items c ≡ leaf_names (map line_of lines.now) path) }
     ensures own { IfOk result (λ names. All (λ name. IsCond (C.sets conds.new) name.0.0) names.items) }
 
     // at every outcome
     ensures keeps { Keeps (C.sets conds.old) (C.sets conds.new) }
 {
-    let passed = walk(alloc, conds, lines, trees)?;
+    let passed = walk(alloc, conds, lines, Route::Declarator, trees)?;
     leaves(alloc, lines, &passed)
 }
 

@@ -4,6 +4,7 @@
 mod declared;
 mod laws;
 mod line;
+mod parameters;
 mod production;
 mod trees;
 mod walk;

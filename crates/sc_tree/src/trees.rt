@@ -1,5 +1,5 @@
 ghost use Rattle.std.specs.Prelude.{◌≡◌, ◌<◌, ℕ, List, [], ◌∷◌, ◌++◌, Some, All, length, slice_get, IfSome, IfOk, IfErr, OnOk, OnErr};
-ghost use Rattle.c11_parsing.specs.Bindings.{declared};
+ghost use Rattle.c11_parsing.specs.Bindings.{declared, parameters_below};
 ghost use Rattle.c11_parsing.specs.C11.{c11_declarators};
 ghost use Rattle.c11_parsing.specs.Trees.{Tree};
 ghost use Rattle.sc_guarded.specs.Items.{items_at};
@@ -11,6 +11,7 @@ ghost use Rattle.sc_tree.specs.Views.{line_of, line_seen};
 
 use crate::declared::declared;
 use crate::line::{Line, TreeView, is_same};
+use crate::parameters::parameters;
 use indexmap::IndexMap;
 use sc_base::{Cond, Name, OutOfMemory, Place, Stop, TreeId};
 use sc_presence::Conditions;
@@ -171,6 +172,28 @@ impl Trees {
         ensures keeps { Keeps (C.sets conds.old) (C.sets conds.new) }
     {
         Ok(declared(alloc, conds, &self.lines, id)?)
+    }
+
+    /// The names of the parameters of the function that the tree declares (C11 6.9.1), each with
+    /// the configurations in which it is one. At a configuration they stand in their order.
+    pub fn parameters<C: Conditions>(
+        &self,
+        alloc: Global,
+        conds: &mut C,
+        id: TreeId,
+    ) -> Result<Vec<(Cond, Name)>, Stop>
+        requires id { id.0 < length self.now }
+        requires branches { OwnsBranches (C.sets conds.old) self.now }
+        ensures names { IfOk result (λ found. (names files : List (List ℕ)) (c : List ℕ) (tree : Tree) → IsConfig (C.sets conds.old).arities c
+            → Reads (record { sets = C.sets conds.old; names = names; files = files; lines = self.now }) c id.0 tree
+            → Spells names (items_at (C.sets conds.new) found.items c) (parameters_below c11_declarators tree [])) }
+        ensures own { IfOk result (λ found. All (λ name. IsCond (C.sets conds.new) name.0.0) found.items) }
+        ensures memory { IfErr result (λ stop. stop ≡ Stop.OutOfMemory) }
+
+        // at every outcome
+        ensures keeps { Keeps (C.sets conds.old) (C.sets conds.new) }
+    {
+        Ok(parameters(alloc, conds, &self.lines, id)?)
     }
 
     /// Each tree was made after those below it. This takes no time: it tells a proof.

@@ -1,6 +1,6 @@
-//! Walks from trees to the names that they declare, in all configurations at once: a tree that
-//! several branches share is visited once.
-ghost use Rattle.std.specs.Prelude.{◌≡◌, ℕ, ◌<◌, ◌==◌, ◌&&◌, ◌||◌, List, [], Some, All, IsSome, length, map, IfOk, OnOk};
+//! Walks down trees, in all configurations at once: a tree that several branches share is visited
+//! once.
+ghost use Rattle.std.specs.Prelude.{◌≡◌, ℕ, ◌<◌, ◌==◌, ◌&&◌, ◌||◌, List, [], Some, All, IsSome, length, map, reverse, IfOk, OnOk};
 ghost use Rattle.std.specs.BTreeMap.{get, keys};
 ghost use Rattle.std.specs.Ordering.{nat_cmp};
 ghost use Rattle.sc_base.specs.declared.id.Cond.{Cond};
@@ -9,10 +9,10 @@ ghost use Rattle.sc_guarded.specs.Items.{items_at};
 ghost use Rattle.sc_model.specs.Sets.{IsConfig, IsCond, Keeps};
 ghost use Rattle.sc_tree.specs.Lines.{children_of, branches_of, ChildrenFirst, OwnsBranches};
 ghost use Rattle.sc_tree.specs.Views.{line_of};
-ghost use Rattle.sc_tree.specs.Walks.{child_of, has_at, is_among, Walked, Visits, OwnsWaiting};
+ghost use Rattle.sc_tree.specs.Walks.{child_by, child_of, has_at, is_among, Walked, Visits, OwnsWaiting};
 
 use crate::line::Line;
-use crate::production::declarator_child;
+use crate::production::{Route, child};
 use sc_base::{Cond, OutOfMemory, TreeId};
 use sc_presence::Conditions;
 use std::alloc::Global;
@@ -24,6 +24,7 @@ pub(crate) fn walk<C: Conditions>(
     alloc: Global,
     conds: &mut C,
     lines: &[Line],
+    route: Route,
     starts: &[(Cond, TreeId)],
 ) -> Result<Vec<(Cond, TreeId)>, OutOfMemory>
     requires first { ChildrenFirst (map line_of lines.now) }
@@ -31,7 +32,7 @@ pub(crate) fn walk<C: Conditions>(
     requires own { All (λ start. IsCond (C.sets conds.old) start.0.0) starts.now }
     requires within { All (λ start. start.1.0 < length lines.now) starts.now }
     ensures passed { IfOk result (λ passed. (c : List ℕ) → IsConfig (C.sets conds.old).arities c → (path : List TreeId)
-        → Walked (C.sets conds.old) (map line_of lines.now) c (items_at (C.sets conds.old) starts.now c) path
+        → Walked (child_by route) (C.sets conds.old) (map line_of lines.now) c (items_at (C.sets conds.old) starts.now c) path
         → items_at (C.sets conds.new) passed.items c ≡ path) }
     ensures own { IfOk result (λ passed. All (λ tree. IsCond (C.sets conds.new) tree.0.0) passed.items) }
     ensures within { IfOk result (λ passed. All (λ tree. tree.1.0 < length lines.now) passed.items) }
@@ -45,8 +46,42 @@ pub(crate) fn walk<C: Conditions>(
     let mut passed = Vec::new(alloc);
     while let Some((id, cond)) = waiting.pop_last() {
         let line = &lines[id];
-        visit(conds, &mut waiting, &mut passed, line, cond, TreeId(id))?;
+        visit(
+            conds,
+            &mut waiting,
+            &mut passed,
+            route,
+            line,
+            cond,
+            TreeId(id),
+        )?;
     }
+    Ok(passed)
+}
+
+/// The trees that walks from the starts pass, as `walk` has them, but the last one first.
+pub(crate) fn walk_back<C: Conditions>(
+    alloc: Global,
+    conds: &mut C,
+    lines: &[Line],
+    route: Route,
+    starts: &[(Cond, TreeId)],
+) -> Result<Vec<(Cond, TreeId)>, OutOfMemory>
+    requires first { ChildrenFirst (map line_of lines.now) }
+    requires branches { OwnsBranches (C.sets conds.old) (map line_of lines.now) }
+    requires own { All (λ start. IsCond (C.sets conds.old) start.0.0) starts.now }
+    requires within { All (λ start. start.1.0 < length lines.now) starts.now }
+    ensures passed { IfOk result (λ passed. (c : List ℕ) → IsConfig (C.sets conds.old).arities c → (path : List TreeId)
+        → Walked (child_by route) (C.sets conds.old) (map line_of lines.now) c (items_at (C.sets conds.old) starts.now c) path
+        → items_at (C.sets conds.new) passed.items c ≡ reverse path) }
+    ensures own { IfOk result (λ passed. All (λ tree. IsCond (C.sets conds.new) tree.0.0) passed.items) }
+    ensures within { IfOk result (λ passed. All (λ tree. tree.1.0 < length lines.now) passed.items) }
+
+    // at every outcome
+    ensures keeps { Keeps (C.sets conds.old) (C.sets conds.new) }
+{
+    let mut passed = walk(alloc, conds, lines, route, starts)?;
+    passed.reverse();
     Ok(passed)
 }
 
@@ -55,6 +90,7 @@ fn visit<C: Conditions>(
     conds: &mut C,
     waiting: &mut BTreeMap<usize, Cond>,
     passed: &mut Vec<(Cond, TreeId)>,
+    route: Route,
     line: &Line,
     cond: Cond,
     id: TreeId,
@@ -64,7 +100,7 @@ fn visit<C: Conditions>(
     requires waiting { OwnsWaiting (C.sets conds.old) (get nat_cmp waiting.old) }
     requires passed { All (λ tree. IsCond (C.sets conds.old) tree.0.0) passed.old.items }
     ensures visits { OnOk result ((c : List ℕ) → IsConfig (C.sets conds.old).arities c
-        → Visits (C.sets conds.old) (C.sets conds.new) (line_of line.now) cond id (get nat_cmp waiting.old) (get nat_cmp waiting.new) passed.old.items passed.new.items c) }
+        → Visits (child_by route) (C.sets conds.old) (C.sets conds.new) (line_of line.now) cond id (get nat_cmp waiting.old) (get nat_cmp waiting.new) passed.old.items passed.new.items c) }
     ensures own { OnOk result (OwnsWaiting (C.sets conds.new) (get nat_cmp waiting.new)) }
     ensures below { OnOk result ((bound : ℕ) → All (λ n. n < bound) (keys waiting.old) → All (λ child. child.0 < bound) (children_of (line_of line.now))
         → All (λ n. n < bound) (keys waiting.new)) }
@@ -78,20 +114,20 @@ fn visit<C: Conditions>(
         return open_branches(conds, waiting, cond, branches);
     }
     passed.push((cond, id))?;
-    match child_of(line) {
+    match child_of(route, line) {
         Some(child) => open_tree(conds, waiting, cond, child),
         None => Ok(()),
     }
 }
 
 /// The child to which the walk goes on.
-fn child_of(line: &Line) -> Option<TreeId>
-    ensures { result ≡ child_of (line_of line.now) }
+fn child_of(route: Route, line: &Line) -> Option<TreeId>
+    ensures { result ≡ child_of (child_by route) (line_of line.now) }
 {
     let Line::Node(production, children) = line else {
         return None;
     };
-    let next = declarator_child(*production)?;
+    let next = child(route, *production)?;
     children.get(next).copied()
 }
 

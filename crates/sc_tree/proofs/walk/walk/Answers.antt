@@ -6,6 +6,7 @@ use Rattle.sc_base.specs.declared.id.TreeId.{TreeId}
 use Rattle.sc_model.specs.Sets.{IsCond}
 use Rattle.sc_model.proofs.SetLemmas.{Keeps-trans, IsConfig-Keeps}
 use Rattle.sc_tree.specs.Views.{line_of}
+use Rattle.sc_tree.specs.Walks.{child_by}
 use Rattle.sc_tree.proofs.Steps.{walk-step, last-below, rest-below, all-none, keys-none, owns-less, children-within, all-below, falls, walked-all, onward-first, nothing-waits, line-at}
 use Rattle.sc_tree.proofs.walk.walk.Goals as goal
 
@@ -18,7 +19,7 @@ loop-id-init g c =
       below = c.in_ok-open_branches.ensures.below (length c.args.lines.now) (keys-none (length c.args.lines.now) c.new-waiting.result.entries c.new-waiting.ensures.empty) c.requires.within;
       passed_own = all-none (λ (tree : Cond × TreeId). IsCond (s c.open_branches.new.conds) tree.0.0) c.new-passed.result.items c.new-passed.ensures.items;
       passed_within = all-none (λ (tree : Cond × TreeId). tree.1.0 < length c.args.lines.now) c.new-passed.result.items c.new-passed.ensures.items;
-      onward = λ d is path walked. onward-first (s c.args.conds.now) (s c.open_branches.new.conds) (map line_of c.args.lines.now) c.new-waiting.result c.open_branches.new.waiting c.args.starts.now
+      onward = λ d is path walked. onward-first (child_by c.args.route) (s c.args.conds.now) (s c.open_branches.new.conds) (map line_of c.args.lines.now) c.new-waiting.result c.open_branches.new.waiting c.args.starts.now
           c.new-passed.result.items _ d path c.new-waiting.ensures.empty c.new-passed.ensures.items (c.in_ok-open_branches.ensures.opens d is) (c.always-always.ensures.meaning.at d is) walked;
     }
 
@@ -51,7 +52,7 @@ returns-in_err-visit-clause-keeps g c = Keeps-trans c.loop-id.invariant.keeps c.
 
 pub returns : goal.returns
 returns g c = record {
-  passed = λ d is path walked. walked-all _ _ _ (get nat_cmp c.loop-id.waiting) c.loop-id.passed.items d path
+  passed = λ d is path walked. walked-all (child_by c.args.route) _ _ _ (get nat_cmp c.loop-id.waiting) c.loop-id.passed.items d path
       (nothing-waits c.loop-id.waiting c.pop_last.result c.pop_last.ensures.variant c.in_default.not-Some) (c.loop-id.invariant.onward d is path walked);
   own = c.loop-id.invariant.passed_own;
   within = c.loop-id.invariant.passed_within;
@@ -72,7 +73,7 @@ loop-id-preserved g c =
           (children-within (map line_of c.args.lines.now) (line_of c.index-lines-id.result) c.in-Some.id (length c.args.lines.now) c.requires.first at (omega (arith, within)));
       passed_own = c.in_ok-visit.ensures.passed_own;
       passed_within = c.in_ok-visit.ensures.passed_within (length c.args.lines.now) i.passed_within within;
-      onward = λ d is path walked. walk-step (s c.args.conds.now) (s c.loop-id.conds) (s c.visit.new.conds) (map line_of c.args.lines.now) (get nat_cmp c.loop-id.waiting) (get nat_cmp c.pop_last.new.self) (get nat_cmp c.visit.new.waiting)
+      onward = λ d is path walked. walk-step (child_by c.args.route) (s c.args.conds.now) (s c.loop-id.conds) (s c.visit.new.conds) (map line_of c.args.lines.now) (get nat_cmp c.loop-id.waiting) (get nat_cmp c.pop_last.new.self) (get nat_cmp c.visit.new.waiting)
           c.loop-id.passed.items c.visit.new.passed.items (line_of c.index-lines-id.result) c.in-Some.cond (record { 0 = c.in-Some.id }) d path i.keeps c.requires.branches is at c.in-Some.ensures.value c.in-Some.ensures.updates.0
           (c.in_ok-visit.ensures.visits d (IsConfig-Keeps i.keeps is)) (i.onward d is path walked);
     }
