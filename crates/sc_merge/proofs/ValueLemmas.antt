@@ -27,6 +27,7 @@ with-more sets names files lines = record { sets = Keeps-refl sets; names = Exte
 pub value-within : {a b d e : List Line} {cond other : Cond} {value merged : Option TreeId} → Extends a b → Extends d e → KeepsValue b d cond other value merged
     → KeepsValue a e cond other value merged
 value-within before after kept = record {
+  some = kept.some;
   reads = λ sets names files c tree own other_own only reads.
       ValueReads-Grows _ _ c (with-more sets names files after) only.listed _ tree
       (kept.reads sets names files c tree own other_own only (ValueReads-Grows _ _ c (with-more sets names files before) only.listed _ tree reads));
@@ -79,7 +80,7 @@ own-within {m} {n} values below own = record { each = λ k d within. own-later m
 -- ---- one value
 
 pub value-same : (lines : List Line) (cond other : Cond) (value : Option TreeId) → KeepsValue lines lines cond other value value
-value-same lines cond other value = record { reads = λ sets names files c tree own other_own only reads. reads }
+value-same lines cond other value = record { some = refl; reads = λ sets names files c tree own other_own only reads. reads }
 
 -- in a choice of two branches one is the only one
 only_first : (sets : Sets) (here there : Cond) (left right : TreeId) (c : List ℕ) → IsOnlyIn sets here there c
@@ -109,6 +110,7 @@ chosen old new sets names files c branches id child _ grows listed at own one (t
 pub value-first : (old new : List Line) (here there : Cond) (left right id : TreeId) → Extends old new
     → slice_get new id.0 ≡ Some (choice ((here, left) ∷ ((there, right) ∷ []))) → KeepsValue old new here there (Some left) (Some id)
 value-first old new here there left right id grows at = record {
+  some = refl;
   reads = λ sets names files c tree own other_own only reads.
       chosen old new sets names files c _ id left tree grows only.listed at (both_own sets here there left right own other_own)
       (only_first sets here there left right c only) reads;
@@ -117,6 +119,7 @@ value-first old new here there left right id grows at = record {
 pub value-second : (old new : List Line) (here there : Cond) (left right id : TreeId) → Extends old new
     → slice_get new id.0 ≡ Some (choice ((here, left) ∷ ((there, right) ∷ []))) → KeepsValue old new there here (Some right) (Some id)
 value-second old new here there left right id grows at = record {
+  some = refl;
   reads = λ sets names files c tree own other_own only reads.
       chosen old new sets names files c _ id right tree grows only.listed at (both_own sets here there left right other_own own)
       (only_second sets here there left right c only) reads;
@@ -182,6 +185,11 @@ value-none lines cond other (Some id) e = absurd (cc (e))
 pub values-length : {old new : List Line} {cond other : Cond} {values merged : List (Option TreeId)} → KeepValues old new cond other values merged → length merged ≡ length values
 values-length none_kept = refl
 values-length (more_kept value merged values others first rest) = ap suc (values-length rest)
+
+pub values-some : {old new : List Line} {cond other : Cond} {values merged : List (Option TreeId)} → KeepValues old new cond other values merged
+    → map is_some merged ≡ map is_some values
+values-some none_kept = refl
+values-some (more_kept value merged values others first rest) = ap (λ bs. is_some merged ∷ bs) (values-some rest) ∙ ap (λ b. b ∷ map is_some values) first.some
 
 pub own-reversed : {n : ℕ} (values : List (Option TreeId)) → OwnsValues n values → OwnsValues n (reverse values)
 own-reversed {n} [] own = own

@@ -1,5 +1,5 @@
 -- What becomes of two subparsers that are merged.
-use Rattle.std.specs.Prelude.{◌≡◌, ℕ, ◌<◌, List, [], ◌∷◌, ◌++◌, Option, IfSome, All}
+use Rattle.std.specs.Prelude.{◌≡◌, ℕ, ◌<◌, List, [], ◌∷◌, ◌++◌, Option, is_some, IfSome, All}
 use Rattle.c11_parsing.specs.Bindings as plain
 use Rattle.c11_parsing.specs.Trees.{Tree}
 use Rattle.sc_base.specs.declared.id.Cond.{Cond}
@@ -40,8 +40,10 @@ pub record AddsChoices (here there : Cond) (old new : List Line) : Type 0 where
   pub is : new ≡ old ++ added
   pub choices : All (IsChoice here there) added
 
--- where only the first condition holds, the new value stands for what the old one did
+-- where only the first condition holds, the new value stands for what the old one did; it is a tree
+-- where that one is
 pub record KeepsValue (old new : List Line) (cond other : Cond) (value merged : Option TreeId) : Type 0 where
+  pub some : is_some merged ≡ is_some value
   pub reads : (sets : Sets) (names files : List (List ℕ)) (c : List ℕ) (tree : Option Tree) → IsCond sets cond.0 → IsCond sets other.0 → IsOnlyIn sets cond other c
       → ValueReads (tables_with sets old names files) c value tree → ValueReads (tables_with sets new names files) c merged tree
 

@@ -1,4 +1,4 @@
-ghost use Rattle.std.specs.Prelude.{◌≡◌, ◌↔◌, ◌==◌, true};
+ghost use Rattle.std.specs.Prelude.{◌≡◌, ◌↔◌, ◌==◌, true, length};
 ghost use Rattle.std.proofs.Common.{rules};
 ghost use Rattle.std.specs.Cmp.Lexicographic.{pointwise};
 ghost use Rattle.std.specs.Cmp.Rules.{comparing};
@@ -16,6 +16,22 @@ pub struct Key<'a> {
     pub(crate) phase: Phase,
     pub(crate) stack: &'a Stack,
     pub(crate) levels: usize,
+}
+
+impl Key<'_> {
+    /// Where the subparser is.
+    pub fn phase(&self) -> Phase
+        ensures { result ≡ self.now.phase }
+    {
+        self.phase
+    }
+
+    /// How many frames its stack has.
+    pub fn height(&self) -> usize
+        ensures { result ≡ length self.now.stack.now }
+    {
+        self.stack.height()
+    }
 }
 
 impl PartialEq for Key<'_> {

@@ -34,6 +34,7 @@ pub fn merge<C: Conditions>(
     ensures cond { IfOk result (λ m. (f g : List ℕ → Bool) → Denotes (C.sets conds.old) a.now.cond.0 f
         → Denotes (C.sets conds.old) b.now.cond.0 g → Denotes (C.sets conds.new) m.cond.0 (λ c. f c || g c)) }
     ensures alike { IfOk result (λ m. AreAlike a.now m) }
+    ensures trees { IfOk result (λ m. map is_some (values_of m.stack) ≡ map is_some (values_of a.now.stack)) }
     ensures first { IfOk result (λ m. KeepsShown (C.sets conds.old) (C.sets conds.new) trees.old trees.new a.now.cond b.now.cond a.now m) }
     ensures second { IfOk result (λ m. KeepsShown (C.sets conds.old) (C.sets conds.new) trees.old trees.new b.now.cond a.now.cond b.now m) }
 

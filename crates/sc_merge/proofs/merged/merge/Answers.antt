@@ -1,5 +1,6 @@
 use Rattle.std.proofs.Common.{refl}
 use Rattle.sc_merge.proofs.MergeLemmas.{shown-merged}
+use Rattle.sc_merge.proofs.ValueLemmas.{values-some}
 use Rattle.sc_model.proofs.SetLemmas.{Denotes-Keeps}
 use Rattle.sc_scope.proofs.OwnLemmas.{own-Keeps}
 use Rattle.sc_merge.proofs.merged.merge.Goals as goal
@@ -18,6 +19,9 @@ returns-clause-cond g c =
 
 pub returns-clause-alike : goal.returns-clause-alike
 returns-clause-alike g c = record { phase = refl; states = c.in_ok-stack.ensures.states; levels = c.in_ok-scopes.ensures.count }
+
+pub returns-clause-trees : goal.returns-clause-trees
+returns-clause-trees g c = values-some c.in_ok-stack.ensures.left
 
 pub returns-clause-first : goal.returns-clause-first
 returns-clause-first g c =
