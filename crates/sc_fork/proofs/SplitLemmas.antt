@@ -18,7 +18,6 @@ use Rattle.sc_guarded.specs.Items.{items_at}
 use Rattle.std.proofs.lemmas.List.{get_or-map, length-map, take_more, take_all}
 use Rattle.std.proofs.lemmas.List.Elements.{All-map}
 use Rattle.std.proofs.Common.{length-drop}
-use Rattle.sc_base.specs.declared.id.TreeId.{TreeId}
 use Rattle.sc_base.proofs.Growth.{Extends-refl}
 use Rattle.sc_fork.proofs.Possible.{possible}
 use Rattle.sc_merge.proofs.ShowLemmas.{ShowsAt-Grows}
@@ -27,8 +26,9 @@ use Rattle.sc_fork.specs.declared.piece.Piece.TheVariants.{Going}
 use Rattle.sc_fork.specs.declared.source.Source.{Source}
 use Rattle.sc_merge.specs.declared.subparser.Phase.TheVariants.{Between}
 use Rattle.sc_merge.specs.declared.subparser.Subparser.{Subparser}
-use Rattle.sc_merge.specs.Merges.{tables_with}
+use Rattle.sc_merge.specs.Merges.{OwnsValues, tables_with}
 use Rattle.sc_merge.specs.Phases.{phase_of}
+use Rattle.sc_fork.specs.Owns.{IsOnPath, IsWithin, OwnsPiece, OwnsRow}
 use Rattle.sc_fork.specs.Seen.{IsInput, IsNext, next_element, next_end, IsSeen, IsSeenAt, going_seen, AreSeen, none_seen, more_seen, Events, IsPartOf, ArePartsOf, no_parts, more_parts}
 use Rattle.sc_merge.specs.Shows.{ValuesRead}
 use Rattle.sc_guarded.specs.Next.{next_at}
@@ -68,10 +68,10 @@ item-above s low n (p ∷ parts) c above one = by (s.has p.0.0 c) one (item-abov
     by true e rest = let same : p.1 ≡ n = cc in subst (λ k. low < k) same (All-head (λ (q : Cond × ℕ). low < q.1) p parts above)
     by false e rest = rest e
 
-rising-head : (p : Cond × ℕ) (parts : List (Cond × ℕ)) → AllPairs (λ (a b : Cond × ℕ). a.1 < b.1) (p ∷ parts) → All (λ (q : Cond × ℕ). p.1 < q.1) parts
+pub rising-head : (p : Cond × ℕ) (parts : List (Cond × ℕ)) → AllPairs (λ (a b : Cond × ℕ). a.1 < b.1) (p ∷ parts) → All (λ (q : Cond × ℕ). p.1 < q.1) parts
 rising-head p parts rising = λ k d below. rising 0 (suc k) d (omega arith) (omega (arith, below))
 
-rising-tail : (p : Cond × ℕ) (parts : List (Cond × ℕ)) → AllPairs (λ (a b : Cond × ℕ). a.1 < b.1) (p ∷ parts) → AllPairs (λ (a b : Cond × ℕ). a.1 < b.1) parts
+pub rising-tail : (p : Cond × ℕ) (parts : List (Cond × ℕ)) → AllPairs (λ (a b : Cond × ℕ). a.1 < b.1) (p ∷ parts) → AllPairs (λ (a b : Cond × ℕ). a.1 < b.1) parts
 rising-tail p parts rising = λ i j d low below. rising (suc i) (suc j) d (omega (arith, low)) (omega (arith, below))
 
 not-same : (k n : ℕ) → (k ≡ n → ⊥) → (k == n) ≡ false
@@ -188,9 +188,11 @@ seen-part : (old new : Sets) (names files : List (List ℕ)) (lines : List Line)
     → Has input (new.has p.0.0) (λ c. t.condition c && next_from input from c == p.1)
     → IsSeen (tables_with new lines names files) input s (record t { condition = new.has p.0.0; phase = at p.1 })
 seen-part old new names files lines input parent s t p from keeps arities within seen is own possible has = record {
-  own = subst (λ (k : Cond). IsCond new k.0) (sym is.cond) own;
-  owns_levels = subst (λ ls. OwnsLevels new ls) (sym is.levels) (own-Keeps old new (levels_in parent.scopes) keeps seen.owns_levels);
-  owns_values = subst (λ (es : List Entry). All (λ (entry : Entry). (id : TreeId) → entry.value ≡ Some id → id.0 < length lines) es) (sym is.stack) seen.owns_values;
+  owns = record {
+    cond = subst (λ (k : Cond). IsCond new k.0) (sym is.cond) own;
+    values = subst (λ (es : List Entry). OwnsValues (length lines) (values_of es)) (sym is.stack) seen.owns.values;
+    levels = subst (λ ls. OwnsLevels new ls) (sym is.levels) (own-Keeps old new (levels_in parent.scopes) keeps seen.owns.levels);
+  };
   has = λ c config. ap (λ (k : Cond). new.has k.0 c) (sym is.cond);
   possible = possible;
   phase = ap phase_of (sym is.phase);
@@ -204,7 +206,7 @@ seen-part old new names files lines input parent s t p from keeps arities within
         let was = seen.each c config (and-left (t.condition c) (next_from input from c == p.1) both) in
         let listed : IsConfig old.arities c = subst (λ ns. IsConfig ns c) arities config in
         let grown = ShowsAt-Grows (tables_with old lines names files) (tables_with new lines names files) c (record { sets = keeps; names = Extends-refl names; files = Extends-refl files; lines = Extends-refl lines }) listed
-        parent (t.trees c) (t.levels c) refl seen.owns_levels was.shows in
+        parent (t.trees c) (t.levels c) refl seen.owns.levels was.shows in
         record {
           shows = record {
             values = subst (λ (es : List Entry). ValuesRead (tables_with new lines names files) c (values_of es) (t.trees c)) (sym is.stack) grown.values;
@@ -292,3 +294,62 @@ split-events old new lines source parent from parts pieces phase within keeps ne
           rising = rising-parts new parts rising;
           all = λ c config has. item-among new parts c (next_from input from c) (next_is c config ∙ ap (λ b. if b then next_from input from c ∷ [] else []) has);
         }
+
+-- ---- what the pieces own
+
+position-within : {A : Type 0} (f : A → Bool) (xs : List A) → position_or_len f xs ≤ length xs
+position-within f [] = omega arith
+position-within f (x ∷ xs) = by (f x) (position-within f xs)
+  where
+    by : (b : Bool) → position_or_len f xs ≤ length xs → (if not b then 1 + position_or_len f xs else 0) ≤ length (x ∷ xs)
+    by true below = omega arith
+    by false below = omega (arith, below)
+
+next-within : {A : Type 0} (f : A → Bool) (from : ℕ) (xs : List A) → from ≤ length xs → from + position_or_len f (drop from xs) ≤ length xs
+next-within f from xs within = omega (arith, within, position-within f (drop from xs), length-drop from xs)
+
+pub parts-within : (old new : Sets) (source : Source) (parent : Subparser) (from : ℕ) (parts : List (Cond × ℕ)) → from ≤ length source.list.now → Keeps old new
+    → ((c : List ℕ) → IsConfig old.arities c → items_at new parts c ≡ (if old.has parent.cond.0 c then (from + next_at old (drop from source.list.now) c) ∷ [] else []))
+    → All (λ (p : Cond × ℕ). IsNever new p.0.0 → ⊥) parts → AllPairs (λ (a b : Cond × ℕ). a.1 < b.1) parts
+    → All (λ (p : Cond × ℕ). (from ≤ p.1) × (p.1 ≤ length source.list.now)) parts
+parts-within old new source parent from parts within keeps next some rising = λ k d inside.
+    let p = get_or parts k d in
+    let found = possible new p.0.0 (some k d inside) in
+    let c : List ℕ = found.0 in
+    let config : IsConfig old.arities c = subst (λ ns. IsConfig ns c) keeps.arities found.1 in
+    let n : ℕ = from + next_at old (drop from source.list.now) c in
+    let both : (old.has parent.cond.0 c && n == p.1) ≡ true = sym (parts-have new parts c (old.has parent.cond.0 c) n rising (next c config) k d inside) ∙ found.2 in
+    let same : n ≡ p.1 = eqb-true n p.1 (and-right (old.has parent.cond.0 c) (n == p.1) both) in
+    let most : n ≤ length source.list.now = next-within (λ (item : Cond × base.Token). old.has item.0.0 c) from source.list.now within in
+    let least : from ≤ n = omega arith in
+    (subst (λ m. from ≤ m) same least, subst (λ m. m ≤ length source.list.now) same most)
+
+own-part : (old new : Sets) (count : ℕ) (source : Source) (parent s : Subparser) (p : Cond × ℕ) → Keeps old new → OwnsRow old count source parent → IsPartOf parent p s → IsCond new p.0.0
+    → p.1 ≤ length source.list.now → OwnsRow new count source s
+own-part old new count source parent s p keeps owns is own within = record {
+  owns = record {
+    cond = subst (λ (k : Cond). IsCond new k.0) (sym is.cond) own;
+    values = subst (λ (es : List Entry). OwnsValues count (values_of es)) (sym is.stack) owns.owns.values;
+    levels = subst (λ ls. OwnsLevels new ls) (sym is.levels) (own-Keeps old new (levels_in parent.scopes) keeps owns.owns.levels);
+  };
+  within = subst (IsWithin (length source.list.now)) (sym is.phase) within;
+  path = λ c11. subst (λ (es : List Entry). IsOnPath c11.grammar c11.states es) (sym is.stack) (owns.path c11);
+}
+
+own-parts : (old new : Sets) (count : ℕ) (source : Source) (parent : Subparser) (parts : List (Cond × ℕ)) (pieces : List kept.Piece) → Keeps old new → OwnsRow old count source parent
+    → ArePartsOf parent parts pieces → All (λ (p : Cond × ℕ). IsCond new p.0.0) parts → All (λ (p : Cond × ℕ). p.1 ≤ length source.list.now) parts → All (OwnsPiece new count source) pieces
+own-parts old new count source parent _ _ keeps owns no_parts own within = All-nil (OwnsPiece new count source)
+own-parts old new count source parent _ _ keeps owns (more_parts p parts s pieces first rest) own within =
+    let Own : Cond × ℕ → Type 0 = λ q. IsCond new q.0.0 in
+    let Within : Cond × ℕ → Type 0 = λ q. q.1 ≤ length source.list.now in
+    All-cons (OwnsPiece new count source) (Going s) pieces (own-part old new count source parent s p keeps owns first (All-head Own p parts own) (All-head Within p parts within))
+    (own-parts old new count source parent parts pieces keeps owns rest (All-tail Own p parts own) (All-tail Within p parts within))
+
+pub split-own : (old new : Sets) (source : Source) (parent : Subparser) (from : ℕ) (parts : List (Cond × ℕ)) (pieces : List kept.Piece) → from ≤ length source.list.now → Keeps old new
+    → ((c : List ℕ) → IsConfig old.arities c → items_at new parts c ≡ (if old.has parent.cond.0 c then (from + next_at old (drop from source.list.now) c) ∷ [] else []))
+    → All (λ (p : Cond × ℕ). IsNever new p.0.0 → ⊥) parts → AllPairs (λ (a b : Cond × ℕ). a.1 < b.1) parts → All (λ (p : Cond × ℕ). IsCond new p.0.0) parts → ArePartsOf parent parts pieces
+    → (count : ℕ) → OwnsRow old count source parent → All (OwnsPiece new count source) pieces
+split-own old new source parent from parts pieces within keeps next some rising own are count owns = own-parts old new count source parent parts pieces keeps owns are own below
+  where
+    below : All (λ (p : Cond × ℕ). p.1 ≤ length source.list.now) parts
+    below = λ k d inside. (parts-within old new source parent from parts within keeps next some rising k d inside).1

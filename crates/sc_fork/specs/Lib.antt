@@ -1,2 +1,13 @@
+pub mod Choices
+pub mod Cores
+pub mod Enabled
+pub mod Kinds
+pub mod Outcomes
+pub mod Owns
 pub mod Parsers
+pub mod Pieces
+pub mod Reducing
+pub mod Roots
 pub mod Seen
+pub mod Shifts
+pub mod Starts

@@ -1,5 +1,5 @@
 -- What the code keeps, as subparsers are seen.
-use Rattle.std.specs.Prelude.{◌≡◌, ℕ, ◌<◌, true, List, [], ◌∷◌, map, length, slice_get, option_map, Some, Result, Ok, Err, All}
+use Rattle.std.specs.Prelude.{◌≡◌, ℕ, ◌<◌, true, List, [], ◌∷◌, map, length, nat_lt, slice_get, option_map, option_and_then, if◌then◌else◌, Option, Some, None, Result, Ok, Err, All}
 use Rattle.c11_parsing.specs.Classes.{Input}
 use Rattle.c11_parsing.specs.Core as core
 use Rattle.c11_parsing.specs.Core.{Has, IsPossible, Piece, going, over, Makes}
@@ -17,23 +17,27 @@ use Rattle.sc_fork.specs.declared.piece.Piece.TheVariants.{Going, Over}
 use Rattle.sc_merge.specs.declared.subparser.Phase.TheVariants.{At}
 use Rattle.sc_merge.specs.declared.subparser.Subparser.{Subparser}
 use Rattle.sc_fork.specs.Parsers.{c11_parser}
-use Rattle.sc_merge.specs.Merges.{tables_with}
+use Rattle.sc_merge.specs.Merges.{OwnsSubparser, tables_with}
 use Rattle.sc_merge.specs.Phases.{phase_of}
 use Rattle.sc_merge.specs.Shows.{ShowsAt}
 use Rattle.sc_fork.specs.declared.source.Source.{Source}
 use Rattle.lr_tables.specs.declared.grammar.Terminal.{Terminal}
-use Rattle.sc_lalr.specs.Tables.{tables_of}
+use Rattle.lr_tables.specs.declared.grammar.Action.{Action}
+use Rattle.lr_tables.specs.declared.grammar.Action.TheVariants.{Shift, Reduce}
+use Rattle.sc_lalr.specs.declared.tables.Tables as code
+use Rattle.sc_lalr.specs.Tables.{action_of, tables_of}
 use Rattle.sc_model.specs.declared.cause.Cause.{Cause}
 use Rattle.sc_model.specs.Fault.{Fault, fault_at}
+use Rattle.sc_model.specs.Growth.{IsOneToOne}
 use Rattle.sc_model.specs.Token as plain
 use Rattle.sc_model.specs.Sets.{Sets, IsConfig, IsCond}
-use Rattle.sc_scope.specs.Search.{OwnsLevels}
 use Rattle.sc_scope.specs.Seen.{levels_in}
-use Rattle.sc_stack.specs.Entries.{Entry, states_of}
+use Rattle.sc_stack.specs.Entries.{state_of, states_of}
 use Rattle.sc_tree.specs.Lines.{Line}
 use Rattle.sc_tree.specs.Reads.{Tables, Reads}
 
--- The source is what is parsed. Its conditions, names and files are held.
+-- The source is what is parsed. Its conditions, names and files are held, and no text has two
+-- names.
 pub record IsInput (w : Tables) (source : Source) (input : Input) : Type 0 where
   pub states : List (List ℕ)
   pub parser : input.parser ≡ c11_parser (tables_of states source.tables.now)
@@ -45,6 +49,7 @@ pub record IsInput (w : Tables) (source : Source) (input : Input) : Type 0 where
   pub own : All (λ (item : Cond × Token). IsCond w.sets item.0.0) source.list.now
   pub held : All (λ (item : Cond × Token). IsHeld w.names item.1) source.list.now
   pub files : All (λ (item : Cond × Token). item.1.place.file.0 < length w.files) source.list.now
+  pub names_differ : IsOneToOne w.names
 
 -- the element comes next at the configuration, or the end does
 pub data IsNext (input : Input) (c : List ℕ) : core.Phase → Type 0 where
@@ -60,9 +65,7 @@ pub record IsSeenAt (w : Tables) (input : Input) (s : Subparser) (t : core.Subpa
 
 -- the subparser is seen so
 pub record IsSeen (w : Tables) (input : Input) (s : Subparser) (t : core.Subparser) : Type 0 where
-  pub own : IsCond w.sets s.cond.0
-  pub owns_levels : OwnsLevels w.sets (levels_in s.scopes)
-  pub owns_values : All (λ (entry : Entry). (id : TreeId) → entry.value ≡ Some id → id.0 < length w.lines) s.stack
+  pub owns : OwnsSubparser w.sets (length w.lines) s
   pub has : Has input t.condition (w.sets.has s.cond.0)
   pub possible : IsPossible input t.condition
   pub phase : t.phase ≡ phase_of s.phase
@@ -106,3 +109,35 @@ pub data ArePartsOf (parent : Subparser) : List (Cond × ℕ) → List kept.Piec
   no_parts : ArePartsOf parent [] []
   more_parts : (part : Cond × ℕ) (parts : List (Cond × ℕ)) (s : Subparser) (pieces : List kept.Piece) → IsPartOf parent part s → ArePartsOf parent parts pieces
       → ArePartsOf parent (part ∷ parts) (Going s ∷ pieces)
+
+-- ---- what the tables say
+
+-- the first terminal of the element, or the end's
+abbrev pub terminal_in : Source → ℕ → Option ℕ
+terminal_in source j = if nat_lt j (length source.terminals.items) then option_map (λ (x : Terminal). x.0) (option_and_then (λ (x : Option Terminal). x) (slice_get source.terminals.items j)) else Some 95
+
+abbrev pub action_by : code.Tables → ℕ → Option ℕ → Option Action
+action_by tables state None = None
+action_by tables state (Some x) = action_of tables state x
+
+abbrev pub place_of : declared.Place → Option (Cond × Token) → declared.Place
+place_of end None = end
+place_of end (Some item) = item.1.place
+
+-- where the element stands, or the end
+abbrev pub place_in : Source → ℕ → declared.Place
+place_in source j = place_of source.end (slice_get source.list.now j)
+
+-- the action of the subparser at the element
+abbrev pub action_in : Source → Subparser → ℕ → Option Action
+action_in source s j = action_by source.tables.now (state_of s.stack) (terminal_in source j)
+
+-- the state to which an action shifts
+abbrev pub shift_in : Option Action → Option ℕ
+shift_in None = None
+shift_in (Some (Shift state)) = Some state
+shift_in (Some (Reduce p)) = None
+
+-- the state behind the terminal, where the subparser shifts it
+abbrev pub state_after : Source → Subparser → ℕ → Option ℕ
+state_after source s x = shift_in (action_of source.tables.now (state_of s.stack) x)

@@ -1,10 +1,19 @@
-//! Subparsers that fork where configurations differ.
+//! Subparsers that fork where configurations differ, and are merged where they are alike.
 #![tactic(auto)]
 
+mod classifying;
+mod enabled;
+mod event;
+mod fork;
+mod outcome;
 mod piece;
+mod reducing;
+mod shifting;
 mod source;
 mod splitting;
 
+pub use event::{Applied, CoreStop, Event, Fact};
+pub use fork::Core;
+pub use outcome::Outcome;
 pub use piece::{Answer, Ended, Piece};
 pub use source::Source;
-pub use splitting::split;

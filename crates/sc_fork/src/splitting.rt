@@ -1,6 +1,8 @@
 //! A subparser is parted by the next element of its configurations.
-ghost use Rattle.std.specs.Prelude.{◌≡◌, ◌≤◌, List, All, length, IfOk};
+ghost use Rattle.std.specs.Prelude.{◌≡◌, ◌≤◌, ℕ, List, All, AllPairs, length, IfOk};
 ghost use Rattle.c11_parsing.specs.Core as core;
+ghost use Rattle.sc_fork.specs.Owns.{OwnsPiece, OwnsRow};
+ghost use Rattle.sc_fork.specs.Pieces.{IfGoing, LooksBefore, LooksFrom};
 ghost use Rattle.sc_fork.specs.Seen.{Events, IsPartOf, ArePartsOf};
 ghost use Rattle.sc_model.specs.Sets.{IsCond, Keeps};
 ghost use Rattle.sc_tree.specs.Lines.{Line};
@@ -13,7 +15,7 @@ use sc_presence::Conditions;
 use std::alloc::Global;
 
 /// A part for each element that comes next, in order, or for the end.
-pub fn split<C: Conditions>(
+pub(crate) fn split<C: Conditions>(
     alloc: Global,
     conds: &mut C,
     source: &Source<'_>,
@@ -26,6 +28,10 @@ pub fn split<C: Conditions>(
     requires items { All (λ item. IsCond (C.sets conds.old) item.0.0) source.now.list.now }
     ensures pieces { IfOk result (λ pieces. (lines : List Line)
         → Events (C.sets conds.old) (C.sets conds.new) lines lines source.now parent.now core.split pieces.items) }
+    ensures own { (count : ℕ) → OwnsRow (C.sets conds.old) count source.now parent.now
+        → IfOk result (λ pieces. All (OwnsPiece (C.sets conds.new) count source.now) pieces.items) }
+    ensures phases { IfOk result (λ pieces. All (IfGoing (LooksFrom from (length source.now.list.now))) pieces.items) }
+    ensures order { IfOk result (λ pieces. AllPairs LooksBefore pieces.items) }
 
     // at every outcome
     ensures keeps { Keeps (C.sets conds.old) (C.sets conds.new) }

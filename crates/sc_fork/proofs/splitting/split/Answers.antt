@@ -1,4 +1,6 @@
-use Rattle.sc_fork.proofs.SplitLemmas.{part-none, part-more, part-all, split-events}
+use Rattle.std.proofs.Common.{length}
+use Rattle.sc_fork.proofs.PhaseLemmas.{parts-look, parts-rise}
+use Rattle.sc_fork.proofs.SplitLemmas.{part-none, part-more, part-all, parts-within, split-events, split-own}
 use Rattle.sc_fork.proofs.splitting.split.Goals as goal
 
 pub loop-part-init : goal.loop-part-init
@@ -17,3 +19,26 @@ returns-clause-pieces g c =
     c.follow.ensures.keeps c.in-Ok.ensures.next c.in-Ok.ensures.some c.in-Ok.ensures.rising c.in-Ok.ensures.own
     (part-all c.args.parent.now c.deref-part-items.result.now c.in-Ok.parts.items c.loop-part.part-index c.loop-part.pieces.items c.deref-part-items.ensures.value c.loop-part-test.false
     c.loop-part.invariant)
+
+pub returns-clause-own : goal.returns-clause-own
+returns-clause-own g c =
+    let s = g.C.Conditions.sets in
+    split-own (s c.args.conds.now) (s c.follow.new.conds) c.args.source.now c.args.parent.now c.args.from c.in-Ok.parts.items c.loop-part.pieces.items c.requires.from c.follow.ensures.keeps
+    c.in-Ok.ensures.next c.in-Ok.ensures.some c.in-Ok.ensures.rising c.in-Ok.ensures.own
+    (part-all c.args.parent.now c.deref-part-items.result.now c.in-Ok.parts.items c.loop-part.part-index c.loop-part.pieces.items c.deref-part-items.ensures.value c.loop-part-test.false
+    c.loop-part.invariant)
+
+pub returns-clause-phases : goal.returns-clause-phases
+returns-clause-phases g c =
+    let s = g.C.Conditions.sets in
+    parts-look c.args.parent.now c.args.from (length c.args.source.now.list.now) c.in-Ok.parts.items c.loop-part.pieces.items
+    (part-all c.args.parent.now c.deref-part-items.result.now c.in-Ok.parts.items c.loop-part.part-index c.loop-part.pieces.items c.deref-part-items.ensures.value c.loop-part-test.false
+    c.loop-part.invariant)
+    (parts-within (s c.args.conds.now) (s c.follow.new.conds) c.args.source.now c.args.parent.now c.args.from c.in-Ok.parts.items c.requires.from c.follow.ensures.keeps c.in-Ok.ensures.next
+    c.in-Ok.ensures.some c.in-Ok.ensures.rising)
+
+pub returns-clause-order : goal.returns-clause-order
+returns-clause-order g c =
+    parts-rise c.args.parent.now c.in-Ok.parts.items c.loop-part.pieces.items
+    (part-all c.args.parent.now c.deref-part-items.result.now c.in-Ok.parts.items c.loop-part.part-index c.loop-part.pieces.items c.deref-part-items.ensures.value c.loop-part-test.false
+    c.loop-part.invariant) c.in-Ok.ensures.rising

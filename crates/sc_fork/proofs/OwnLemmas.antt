@@ -1,0 +1,112 @@
+-- What a core owns after an event, and which event it can do.
+use Rattle.std.proofs.Common.{◌≡◌, ℕ, ◌<◌, true, false, List, [], ◌∷◌, All, length, Option, Some, None, slice_get, sym, ◌∙◌, subst}
+use Rattle.std.specs.Prelude.{IfSome, slice_set}
+use Rattle.std.proofs.lemmas.Bool.{true≢false}
+use Rattle.std.proofs.lemmas.List.Elements.{All-nil, All-cons, All-head, All-tail, All-append, All-set, All-weaker}
+use Rattle.std.proofs.lemmas.Option.{slice_get_within, get_or_from_slice_get}
+use Rattle.sc_base.specs.declared.id.Cond.{Cond}
+use Rattle.sc_base.specs.declared.token.Token.{Token}
+use Rattle.sc_fork.proofs.GrowLemmas.{OwnsEnded-Grows, OwnsRow-Grows}
+use Rattle.sc_fork.specs.declared.enabled.Enabled.{Enabled}
+use Rattle.sc_fork.specs.declared.event.Event.{Event}
+use Rattle.sc_fork.specs.declared.fork.Core.{Core}
+use Rattle.sc_fork.specs.declared.piece.Piece.{Piece}
+use Rattle.sc_fork.specs.declared.piece.Piece.TheVariants.{Going, Over}
+use Rattle.sc_fork.specs.declared.source.Source.{Source}
+use Rattle.sc_fork.specs.Enabled.{IsEnabled, can_split, can_reduce, can_shift, can_classify, can_merge}
+use Rattle.sc_fork.specs.Owns.{IsSource, OwnsCore, OwnsEnabled, OwnsEnded, OwnsPiece, OwnsRow}
+use Rattle.sc_fork.specs.Pieces.{Becomes, going_of, over_of, numbers_of, without}
+use Rattle.sc_merge.specs.declared.subparser.Subparser.{Subparser}
+use Rattle.sc_model.specs.Growth.{Extends}
+use Rattle.sc_model.specs.Sets.{Sets, IsCond, Keeps}
+use Rattle.sc_tree.specs.Lines.{Line}
+
+-- ---- the subparsers of an event
+
+row-own : (P : Subparser → Type 0) (rows : List (Option Subparser)) (n : ℕ) (s : Subparser) → slice_get rows n ≡ Some (Some s) → All (λ (row : Option Subparser). IfSome row P) rows → P s
+row-own P rows n s at own =
+    let Q : Option Subparser → Type 0 = λ row. IfSome row P in
+    subst Q (get_or_from_slice_get rows n (Some s) None at) (own n None (slice_get_within rows n (Some s) at))
+
+pub owns-enabled : (sets : Sets) (count : ℕ) (source : Source) (rows : List (Option Subparser)) (e : Event) (can : Enabled) → IsEnabled source rows e can
+    → All (λ (row : Option Subparser). IfSome row (OwnsRow sets count source)) rows → OwnsEnabled sets count source can
+owns-enabled sets count source rows _ _ (can_split n i s has phase) own = row-own (OwnsRow sets count source) rows n s.now has own
+owns-enabled sets count source rows _ _ (can_reduce n j p s has phase action) own = row-own (OwnsRow sets count source) rows n s.now has own
+owns-enabled sets count source rows _ _ (can_shift n j s has phase action) own = row-own (OwnsRow sets count source) rows n s.now has own
+owns-enabled sets count source rows _ _ (can_classify n j s has phase) own = row-own (OwnsRow sets count source) rows n s.now has own
+owns-enabled sets count source rows _ _ (can_merge n m s t has_n has_m apart alike) own =
+    (row-own (OwnsRow sets count source) rows n s.now has_n own, row-own (OwnsRow sets count source) rows m t.now has_m own)
+
+one-within : (rows : List (Option Subparser)) (n : ℕ) (s : Subparser) (numbers : List ℕ) → slice_get rows n ≡ Some (Some s) → All (λ (k : ℕ). k < length rows) numbers
+    → All (λ (k : ℕ). k < length rows) (n ∷ numbers)
+one-within rows n s numbers at rest = All-cons (λ (k : ℕ). k < length rows) n numbers (slice_get_within rows n (Some s) at) rest
+
+pub numbers-within : (source : Source) (rows : List (Option Subparser)) (e : Event) (can : Enabled) → IsEnabled source rows e can → All (λ (number : ℕ). number < length rows) (numbers_of e)
+numbers-within source rows _ _ (can_split n i s has phase) = one-within rows n s.now [] has (All-nil (λ (k : ℕ). k < length rows))
+numbers-within source rows _ _ (can_reduce n j p s has phase action) = one-within rows n s.now [] has (All-nil (λ (k : ℕ). k < length rows))
+numbers-within source rows _ _ (can_shift n j s has phase action) = one-within rows n s.now [] has (All-nil (λ (k : ℕ). k < length rows))
+numbers-within source rows _ _ (can_classify n j s has phase) = one-within rows n s.now [] has (All-nil (λ (k : ℕ). k < length rows))
+numbers-within source rows _ _ (can_merge n m s t has_n has_m apart alike) =
+    one-within rows n s.now (m ∷ []) has_n (one-within rows m t.now [] has_m (All-nil (λ (k : ℕ). k < length rows)))
+
+-- ---- the core after it
+
+without-own : (P : Subparser → Type 0) (numbers : List ℕ) (rows : List (Option Subparser)) → All (λ (row : Option Subparser). IfSome row P) rows
+    → All (λ (row : Option Subparser). IfSome row P) (without numbers rows)
+without-own P [] rows own = own
+without-own P (n ∷ numbers) rows own =
+    without-own P numbers (slice_set rows n None) (All-set (λ (row : Option Subparser). IfSome row P) rows n None tt own)
+
+module _ (sets : Sets) (count : ℕ) (source : Source) where
+  going-own : (pieces : List Piece) → All (OwnsPiece sets count source) pieces → All (λ (row : Option Subparser). IfSome row (OwnsRow sets count source)) (going_of pieces)
+  going-own [] own = All-nil (λ (row : Option Subparser). IfSome row (OwnsRow sets count source))
+  going-own (Going s ∷ pieces) own =
+      All-cons (λ (row : Option Subparser). IfSome row (OwnsRow sets count source)) (Some s) (going_of pieces) (All-head (OwnsPiece sets count source) (Going s) pieces own)
+      (going-own pieces (All-tail (OwnsPiece sets count source) (Going s) pieces own))
+  going-own (Over e ∷ pieces) own = going-own pieces (All-tail (OwnsPiece sets count source) (Over e) pieces own)
+
+  over-own : (pieces : List Piece) → All (OwnsPiece sets count source) pieces → All (OwnsEnded sets count) (over_of pieces)
+  over-own [] own = All-nil (OwnsEnded sets count)
+  over-own (Going s ∷ pieces) own = over-own pieces (All-tail (OwnsPiece sets count source) (Going s) pieces own)
+  over-own (Over e ∷ pieces) own =
+      All-cons (OwnsEnded sets count) e (over_of pieces) (All-head (OwnsPiece sets count source) (Over e) pieces own)
+      (over-own pieces (All-tail (OwnsPiece sets count source) (Over e) pieces own))
+
+row-weaker : (P Q : Subparser → Type 0) → ((s : Subparser) → P s → Q s) → (row : Option Subparser) → IfSome row P → IfSome row Q
+row-weaker P Q weaker None own = own
+row-weaker P Q weaker (Some s) own = weaker s own
+
+items-own : {old new : Sets} (list : List (Cond × Token)) → Keeps old new → All (λ (item : Cond × Token). IsCond old item.0.0) list → All (λ (item : Cond × Token). IsCond new item.0.0) list
+items-own list keeps own = λ k d below. keeps.own _ (own k d below)
+
+-- a core that is given up keeps no more than its source
+pub owns-given_up : {old new : Sets} (count others : ℕ) (before after : Core) → Keeps old new → OwnsCore old count before → after.source ≡ before.source → after.is_given_up ≡ true
+    → OwnsCore new others after
+owns-given_up {old} {new} count others before after keeps own source given_up = record {
+  source = subst IsSource (sym source) own.source;
+  items = subst (λ (s : Source). All (λ (item : Cond × Token). IsCond new item.0.0) s.list.now) (sym source) (items-own before.source.list.now keeps own.items);
+  rows = λ usable. absurd (true≢false (sym given_up ∙ usable));
+  ended = λ usable. absurd (true≢false (sym given_up ∙ usable));
+}
+
+module _ {old new : Sets} {lines added : List Line} (before after : Core) (keeps : Keeps old new) (own : OwnsCore old (length lines) before) (source : after.source ≡ before.source) where
+  pub owns-after : (e : Event) (pieces : List Piece) (made : List ℕ) → Extends lines added → before.is_given_up ≡ false → Becomes before e pieces after made
+      → All (OwnsPiece new (length added) before.source) pieces → OwnsCore new (length added) after
+  owns-after e pieces made longer usable becomes owned = record {
+    source = subst IsSource (sym source) own.source;
+    items = subst (λ (s : Source). All (λ (item : Cond × Token). IsCond new item.0.0) s.list.now) (sym source) (items-own before.source.list.now keeps own.items);
+    rows = λ now. subst (λ (s : Source). All (λ (row : Option Subparser). IfSome row (OwnsRow new (length added) s)) after.rows.items) (sym source)
+        (subst (All Row) (sym becomes.rows)
+        (All-append Row (without (numbers_of e) before.rows.items) (going_of pieces)
+        (without-own (OwnsRow new (length added) before.source) (numbers_of e) before.rows.items
+        (All-weaker (λ (row : Option Subparser). IfSome row (OwnsRow old (length lines) before.source)) Row
+        (row-weaker (OwnsRow old (length lines) before.source) (OwnsRow new (length added) before.source) (OwnsRow-Grows keeps longer before.source)) before.rows.items (own.rows usable)))
+        (going-own new (length added) before.source pieces owned)));
+    ended = λ now. subst (All (OwnsEnded new (length added))) (sym becomes.ended)
+        (All-append (OwnsEnded new (length added)) before.ended.items (over_of pieces)
+        (All-weaker (OwnsEnded old (length lines)) (OwnsEnded new (length added)) (OwnsEnded-Grows keeps longer) before.ended.items (own.ended usable))
+        (over-own new (length added) before.source pieces owned));
+  }
+    where
+      Row : Option Subparser → Type 0
+      Row row = IfSome row (OwnsRow new (length added) before.source)

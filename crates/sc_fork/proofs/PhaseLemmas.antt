@@ -1,0 +1,97 @@
+-- In which phases the pieces of an event are.
+use Rattle.std.proofs.Common.{◌≡◌, ℕ, ◌+◌, ◌<◌, ◌≤◌, List, [], ◌∷◌, ◌++◌, All, length, refl, sym, ap, ◌∙◌, subst, arith}
+use Rattle.std.specs.Prelude.{AllPairs}
+use Rattle.std.specs.Borrow.{Bor}
+use Rattle.std.proofs.lemmas.List.Elements.{All-head, All-tail, All-cons, All-nil, All-append}
+use Rattle.std.proofs.lemmas.List.Kept.{AllPairs-cons}
+use Rattle.sc_base.specs.declared.id.Cond.{Cond}
+use Rattle.sc_fork.specs.declared.enabled.Enabled.{Enabled}
+use Rattle.sc_fork.specs.declared.enabled.Enabled.TheVariants.{Reduce, Shift, Merge}
+use Rattle.sc_fork.specs.declared.piece.Piece.{Piece}
+use Rattle.sc_fork.specs.declared.piece.Piece.TheVariants.{Going}
+use Rattle.sc_fork.specs.declared.source.Source.{Source}
+use Rattle.sc_fork.specs.Kinds.{AddsKind, IsKind, no_part, refused_part, shifted_part}
+use Rattle.sc_fork.specs.Pieces.{AreInOrder, IfGoing, InNextPhase, IsPast, LooksBefore, LooksFrom}
+use Rattle.sc_fork.specs.Seen.{IsPartOf, ArePartsOf, no_parts, more_parts}
+use Rattle.sc_fork.proofs.PieceLemmas.{all-one}
+use Rattle.sc_fork.proofs.SplitLemmas.{rising-head, rising-tail}
+use Rattle.sc_merge.specs.declared.subparser.Phase.TheVariants.{At, Between}
+use Rattle.sc_merge.specs.declared.subparser.Subparser.{Subparser}
+use Rattle.sc_merge.specs.Keys.{AreAlike}
+use Rattle.sc_model.specs.Sets.{Sets}
+
+-- ---- parts
+
+module _ (parent : Subparser) where
+  pub parts-look : (first end : ℕ) (parts : List (Cond × ℕ)) (pieces : List Piece) → ArePartsOf parent parts pieces
+      → All (λ (p : Cond × ℕ). (first ≤ p.1) × (p.1 ≤ end)) parts → All (IfGoing (LooksFrom first end)) pieces
+  parts-look first end _ _ no_parts within = All-nil (IfGoing (LooksFrom first end))
+  parts-look first end _ _ (more_parts p parts s pieces is rest) within =
+      let Within : Cond × ℕ → Type 0 = λ q. (first ≤ q.1) × (q.1 ≤ end) in
+      let bounds : (first ≤ p.1) × (p.1 ≤ end) = All-head Within p parts within in
+      All-cons (IfGoing (LooksFrom first end)) (Going s) pieces (record { at = p.1; phase = is.phase; low = bounds.0; high = bounds.1 })
+      (parts-look first end parts pieces rest (All-tail Within p parts within))
+
+  looks-before : (p q : Cond × ℕ) (s t : Subparser) → IsPartOf parent p s → IsPartOf parent q t → p.1 < q.1 → LooksBefore (Going s) (Going t)
+  looks-before p q s t is other below = record { before = λ a b i j first second at_i at_j. by a b i j first second at_i at_j }
+    where
+      by : (a b : Subparser) (i j : ℕ) → Going s ≡ Going a → Going t ≡ Going b → a.phase ≡ At i → b.phase ≡ At j → i < j
+      by a b i j first second at_i at_j =
+          let same : s ≡ a = cc in
+          let same_other : t ≡ b = cc in
+          let left : At p.1 ≡ At i = sym is.phase ∙ ap (λ (u : Subparser). u.phase) same ∙ at_i in
+          let right : At q.1 ≡ At j = sym other.phase ∙ ap (λ (u : Subparser). u.phase) same_other ∙ at_j in
+          let left_is : p.1 ≡ i = cc in
+          let right_is : q.1 ≡ j = cc in
+          subst (λ n. n < j) left_is (subst (λ n. p.1 < n) right_is below)
+
+  before-all : (p : Cond × ℕ) (s : Subparser) (parts : List (Cond × ℕ)) (pieces : List Piece) → IsPartOf parent p s → ArePartsOf parent parts pieces
+      → All (λ (q : Cond × ℕ). p.1 < q.1) parts → All (LooksBefore (Going s)) pieces
+  before-all p s _ _ is no_parts above = All-nil (LooksBefore (Going s))
+  before-all p s _ _ is (more_parts q parts t pieces other rest) above =
+      All-cons (LooksBefore (Going s)) (Going t) pieces (looks-before p q s t is other (All-head (λ (r : Cond × ℕ). p.1 < r.1) q parts above))
+      (before-all p s parts pieces is rest (All-tail (λ (r : Cond × ℕ). p.1 < r.1) q parts above))
+
+  pub parts-rise : (parts : List (Cond × ℕ)) (pieces : List Piece) → ArePartsOf parent parts pieces → AllPairs (λ (a b : Cond × ℕ). a.1 < b.1) parts → AllPairs LooksBefore pieces
+  parts-rise _ _ no_parts rising = λ i j d low below. absurd (omega (arith, below))
+  parts-rise _ _ (more_parts p parts s pieces is rest) rising =
+      AllPairs-cons LooksBefore (Going s) pieces (before-all p s parts pieces is rest (rising-head p parts rising)) (parts-rise parts pieces rest (rising-tail p parts rising))
+
+-- ---- kinds
+
+kind-phase : (sets : Sets) (source : Source) (parent : Subparser) (j : ℕ) (cond : Cond) (kind : ℕ) (pieces : List Piece) → IsKind sets source parent j cond kind pieces
+    → All (IfGoing (λ next. next.phase ≡ Between (j + 1))) pieces
+kind-phase sets source parent j cond kind _ (no_part never) = All-nil (IfGoing (λ next. next.phase ≡ Between (j + 1)))
+kind-phase sets source parent j cond kind _ (refused_part item some got none_shifted) = all-one (IfGoing (λ next. next.phase ≡ Between (j + 1))) _ _ refl tt
+kind-phase sets source parent j cond kind _ (shifted_part state next some shifted steps) = all-one (IfGoing (λ next. next.phase ≡ Between (j + 1))) _ (Going next) refl steps.phase
+
+pub kind-phases : (sets : Sets) (source : Source) (parent : Subparser) (j : ℕ) (types variables : Cond) (start first second : List Piece) → start ≡ []
+    → AddsKind sets source parent j types 1 start first → AddsKind sets source parent j variables 2 first second → All (IfGoing (λ next. next.phase ≡ Between (j + 1))) second
+kind-phases sets source parent j types variables start first second fresh adds then_adds =
+    let both : second ≡ adds.added ++ then_adds.added = then_adds.is ∙ ap (λ ps. ps ++ then_adds.added) (adds.is ∙ ap (λ ps. ps ++ adds.added) fresh) in
+    subst (All (IfGoing (λ next. next.phase ≡ Between (j + 1)))) (sym both)
+    (All-append (IfGoing (λ next. next.phase ≡ Between (j + 1))) adds.added then_adds.added (kind-phase sets source parent j types 1 adds.added adds.part)
+    (kind-phase sets source parent j variables 2 then_adds.added then_adds.part))
+
+-- ---- by the event
+
+module _ (source : Source) (e : Enabled) (pieces : List Piece) where
+  module _ (piece : Piece) (is : pieces ≡ piece ∷ []) where
+    pub reduce-next : (s : Bor Subparser) (j p : ℕ) → e ≡ Reduce s j p → IfGoing (λ next. next.phase ≡ At j) piece → All (InNextPhase source e) pieces
+    reduce-next s j p same phase = subst (λ x. All (InNextPhase source x) pieces) (sym same) (all-one (IfGoing (λ next. next.phase ≡ At j)) pieces piece is phase)
+
+    pub shift-next : (s : Bor Subparser) (j : ℕ) → e ≡ Shift s j → IfGoing (IsPast source j) piece → All (InNextPhase source e) pieces
+    shift-next s j same phase = subst (λ x. All (InNextPhase source x) pieces) (sym same) (all-one (IfGoing (IsPast source j)) pieces piece is phase)
+
+    pub reduce-order : (s : Bor Subparser) (j p : ℕ) → e ≡ Reduce s j p → AreInOrder e pieces
+    reduce-order s j p same = subst (λ x. AreInOrder x pieces) (sym same) (ap length is)
+
+    pub shift-order : (s : Bor Subparser) (j : ℕ) → e ≡ Shift s j → AreInOrder e pieces
+    shift-order s j same = subst (λ x. AreInOrder x pieces) (sym same) (ap length is)
+
+  module _ (m : Subparser) (is : pieces ≡ Going m ∷ []) where
+    pub merge-next : (s t : Bor Subparser) → e ≡ Merge s t → AreAlike s.now m → All (InNextPhase source e) pieces
+    merge-next s t same alike = subst (λ x. All (InNextPhase source x) pieces) (sym same) (all-one (IfGoing (AreAlike s.now)) pieces (Going m) is alike)
+
+    pub merge-order : (s t : Bor Subparser) → e ≡ Merge s t → AreInOrder e pieces
+    merge-order s t same = subst (λ x. AreInOrder x pieces) (sym same) (m, is)

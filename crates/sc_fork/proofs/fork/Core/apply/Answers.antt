@@ -1,0 +1,65 @@
+use Rattle.std.proofs.Common.{length}
+use Rattle.sc_fork.proofs.CoreLemmas.{applied}
+use Rattle.sc_fork.proofs.OwnLemmas.{numbers-within, owns-after, owns-enabled}
+use Rattle.sc_fork.proofs.SoundLemmas.{choices-sound}
+use Rattle.sc_fork.proofs.fork.Core.apply.Goals as goal
+
+pub pieces_of-pieces-requires-clause-own : goal.pieces_of-pieces-requires-clause-own
+pieces_of-pieces-requires-clause-own g c =
+    let core = c.args.self.now in
+    let can = rw c.deref.ensures.value at c.in-Ok.ensures.ok in
+    owns-enabled (g.C.Conditions.sets c.args.conds.now) (length c.args.trees.now) core.source core.rows.items c.args.event c.in-Ok.enabled can (c.requires.own.rows c.if-self.false)
+
+pub replace-requires : goal.replace-requires
+replace-requires g c =
+    let core = c.args.self.now in
+    let can = rw c.deref.ensures.value at c.in-Ok.ensures.ok in
+    numbers-within core.source core.rows.items c.args.event c.in-Ok.enabled can
+
+pub returns-in_default-clause-choices : goal.returns-in_default-clause-choices
+returns-in_default-clause-choices g c = λ names files input seen is stands sound.
+    let s = g.C.Conditions.sets in
+    let core = c.args.self.now in
+    let can = rw c.deref.ensures.value at c.in-Ok.ensures.ok in
+    choices-sound (s c.args.conds.now) (s c.pieces_of-pieces.new.conds) c.args.trees.now c.pieces_of-pieces.new.trees names files input core seen c.args.event c.in-Ok.enabled
+    c.pieces_of-pieces.ensures.keeps c.requires.branches is stands can c.pieces_of-pieces.ensures.choices sound
+
+pub returns-in_default-replace-clause-choices : goal.returns-in_default-replace-clause-choices
+returns-in_default-replace-clause-choices g c = λ names files input seen is stands sound.
+    let s = g.C.Conditions.sets in
+    let core = c.args.self.now in
+    let can = rw c.deref.ensures.value at c.in-Ok.ensures.ok in
+    choices-sound (s c.args.conds.now) (s c.pieces_of-pieces.new.conds) c.args.trees.now c.pieces_of-pieces.new.trees names files input core seen c.args.event c.in-Ok.enabled
+    c.pieces_of-pieces.ensures.keeps c.requires.branches is stands can c.pieces_of-pieces.ensures.choices sound
+
+pub returns-clause-applied : goal.returns-clause-applied
+returns-clause-applied g c = λ names files input seen is stands.
+    let s = g.C.Conditions.sets in
+    let core = c.args.self.now in
+    let can = rw c.deref.ensures.value at c.in-Ok.ensures.ok in
+    applied (s c.args.conds.now) (s c.pieces_of-pieces.new.conds) c.args.trees.now c.pieces_of-pieces.new.trees names files input core c.replace.new.self c.args.event c.in-Ok.enabled seen
+    c.in-Ok-pieces.pieces.items c.in-Ok-replace.made.items c.pieces_of-pieces.ensures.keeps c.pieces_of-pieces.ensures.grows is stands can c.in-Ok-pieces.ensures.pieces c.in-Ok-pieces.ensures.own
+    c.replace.ensures.source c.in-Ok-replace.ensures.becomes
+
+pub returns-clause-choices : goal.returns-clause-choices
+returns-clause-choices g c = λ names files input seen is stands sound.
+    let s = g.C.Conditions.sets in
+    let core = c.args.self.now in
+    let can = rw c.deref.ensures.value at c.in-Ok.ensures.ok in
+    choices-sound (s c.args.conds.now) (s c.pieces_of-pieces.new.conds) c.args.trees.now c.pieces_of-pieces.new.trees names files input core seen c.args.event c.in-Ok.enabled
+    c.pieces_of-pieces.ensures.keeps c.requires.branches is stands can c.pieces_of-pieces.ensures.choices sound
+
+pub returns-clause-own : goal.returns-clause-own
+returns-clause-own g c =
+    owns-after c.args.self.now c.replace.new.self c.pieces_of-pieces.ensures.keeps c.requires.own c.replace.ensures.source c.args.event c.in-Ok-pieces.pieces.items c.in-Ok-replace.made.items
+    c.pieces_of-pieces.ensures.grows c.if-self.false c.in-Ok-replace.ensures.becomes c.in-Ok-pieces.ensures.own
+
+pub returns-clause-rows : goal.returns-clause-rows
+returns-clause-rows g c = record {
+  enabled = c.in-Ok.enabled;
+  can = rw c.deref.ensures.value at c.in-Ok.ensures.ok;
+  pieces = c.in-Ok-pieces.pieces.items;
+  becomes = c.in-Ok-replace.ensures.becomes;
+  phases = c.in-Ok-pieces.ensures.phases;
+  order = c.in-Ok-pieces.ensures.order;
+}

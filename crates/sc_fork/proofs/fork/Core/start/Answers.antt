@@ -1,0 +1,26 @@
+use Rattle.std.proofs.Common.{List, All, sym, subst}
+use Rattle.sc_base.specs.declared.id.Cond.{Cond}
+use Rattle.sc_base.specs.declared.token.Token.{Token}
+use Rattle.sc_fork.proofs.StartLemmas.{starts, start-owns}
+use Rattle.sc_fork.specs.Owns.{AreC11Tables, AreTerminals}
+use Rattle.sc_lalr.specs.declared.tables.Tables.{Tables}
+use Rattle.sc_merge.specs.Merges.{tables_with}
+use Rattle.sc_model.specs.Sets.{IsCond}
+use Rattle.sc_fork.proofs.fork.Core.start.Goals as goal
+
+pub returns-clause-start : goal.returns-clause-start
+returns-clause-start g c = λ lines files.
+    starts (tables_with (g.C.Conditions.sets c.args.conds.now) lines c.args.names.now files) _ c.args.live c.requires.live c.in_ok-rows.ensures c.new-2.ensures.items
+
+pub returns-clause-own : goal.returns-clause-own
+returns-clause-own g c =
+    let sets = g.C.Conditions.sets c.args.conds.now in
+    λ count.
+    start-owns sets count _ c.args.live
+    (record {
+      tables = subst (λ (t : Tables). AreC11Tables t) (sym c.in_ok-source.ensures.tables) c.requires.tables;
+      names = c.args.names.now;
+      terminals = subst (λ (list : List (Cond × Token)). AreTerminals c.args.names.now list c.in_ok-source.source.terminals.items) (sym c.in_ok-source.ensures.list) c.in_ok-source.ensures.terminals;
+    })
+    (subst (λ (list : List (Cond × Token)). All (λ (item : Cond × Token). IsCond sets item.0.0) list) (sym c.in_ok-source.ensures.list) c.requires.items)
+    c.requires.live c.in_ok-rows.ensures c.new-2.ensures.items

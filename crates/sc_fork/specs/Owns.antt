@@ -1,0 +1,109 @@
+-- What a core keeps of its source, its subparsers and what has ended.
+use Rattle.std.specs.Prelude.{◌≡◌, ℕ, ◌<◌, ◌≤◌, ◌==◌, ◌||◌, not, false, Bool, List, Option, is_some, length, map, option_map, All, IfSome, [], ◌∷◌}
+use Rattle.lr_tables.specs.declared.grammar.Grammar.{Grammar}
+use Rattle.lr_tables.specs.declared.grammar.Terminal.{Terminal}
+use Rattle.lr_tables.specs.Grammar.{entries_of}
+use Rattle.lr_tables.specs.Paths.{Path}
+use Rattle.lr_tables.specs.Tables as lr
+use Rattle.sc_base.specs.declared.id.Cond.{Cond}
+use Rattle.sc_base.specs.declared.token.Token.{Token}
+use Rattle.sc_base.specs.Seen.{text_at}
+use Rattle.sc_fork.specs.declared.enabled.Enabled.{Enabled}
+use Rattle.sc_fork.specs.declared.enabled.Enabled.TheVariants as enabled
+use Rattle.sc_fork.specs.declared.fork.Core.{Core}
+use Rattle.sc_fork.specs.declared.piece.Answer.{Answer}
+use Rattle.sc_fork.specs.declared.piece.Answer.TheVariants.{Root, Refused}
+use Rattle.sc_fork.specs.declared.piece.Ended.{Ended}
+use Rattle.sc_fork.specs.declared.piece.Piece.{Piece}
+use Rattle.sc_fork.specs.declared.piece.Piece.TheVariants.{Going, Over}
+use Rattle.sc_fork.specs.declared.source.Source.{Source}
+use Rattle.sc_grammar.specs.C11.{productions}
+use Rattle.sc_grammar.specs.declared.TheConstants.{TERMINALS, NONTERMINALS}
+use Rattle.sc_kinds.specs.Kinds.{terminal_of}
+use Rattle.sc_lalr.specs.declared.tables.Tables.{Tables}
+use Rattle.sc_lalr.specs.Tables.{tables_of}
+use Rattle.sc_merge.specs.declared.subparser.Phase.{Phase}
+use Rattle.sc_merge.specs.declared.subparser.Phase.TheVariants.{Between, At, Named}
+use Rattle.sc_merge.specs.declared.subparser.Subparser.{Subparser}
+use Rattle.sc_merge.specs.Merges.{OwnsSubparser}
+use Rattle.sc_model.specs.Sets.{Sets, IsCond}
+use Rattle.sc_scope.specs.Levels.{no_bindings}
+use Rattle.sc_scope.specs.Seen.{levels_in}
+use Rattle.sc_stack.specs.Entries.{Entry, states_of, values_of}
+
+-- these are the tables of the grammar of C11
+pub record AreC11Tables (tables : Tables) : Type 0 where
+  pub grammar : Grammar
+  pub entries : grammar.entries.now ≡ entries_of productions
+  pub terminals : grammar.terminals ≡ TERMINALS
+  pub nonterminals : grammar.nonterminals ≡ NONTERMINALS
+  pub states : List (List ℕ)
+  pub exact : lr.AreTables grammar (tables_of states tables)
+
+-- each terminal is the first one of its token
+abbrev pub AreTerminals : List (List ℕ) → List (Cond × Token) → List (Option Terminal) → Type 0
+AreTerminals names list terminals =
+    map (option_map (λ (x : Terminal). x.0)) terminals ≡ map (λ (item : Cond × Token). terminal_of item.1.kind (text_at names item.1.spelling.0)) list
+
+pub record IsSource (source : Source) : Type 0 where
+  pub tables : AreC11Tables source.tables.now
+  pub names : List (List ℕ)
+  pub terminals : AreTerminals names source.list.now source.terminals.items
+
+-- a symbol has a tree, but for the kind of a name
+abbrev pub has_tree : ℕ → Bool
+has_tree x = not (x == 1 || x == 2)
+
+-- The stack is a path of gotos, and has the trees of its symbols.
+pub record IsOnPath (g : Grammar) (states : List (List ℕ)) (stack : List Entry) : Type 0 where
+  pub symbols : List ℕ
+  pub path : Path g states (states_of stack) symbols
+  pub trees : map is_some (values_of stack) ≡ map has_tree symbols
+
+-- the phase is at an element of a list with so many, or at its end
+abbrev pub IsWithin : ℕ → Phase → Type 0
+IsWithin count (Between i) = i ≤ count
+IsWithin count (At i) = i ≤ count
+IsWithin count (Named i) = i < count
+
+-- the subparser's conditions and trees are those of the stores, its phase and its stack those of
+-- the source
+pub record OwnsRow (sets : Sets) (count : ℕ) (source : Source) (s : Subparser) : Type 0 where
+  pub owns : OwnsSubparser sets count s
+  pub within : IsWithin (length source.list.now) s.phase
+  pub path : (c11 : AreC11Tables source.tables.now) → IsOnPath c11.grammar c11.states s.stack
+
+abbrev pub OwnsAnswer : ℕ → Answer → Type 0
+OwnsAnswer count (Root id) = id.0 < count
+OwnsAnswer count (Refused cause place) = Unit {0}
+
+pub record OwnsEnded (sets : Sets) (count : ℕ) (e : Ended) : Type 0 where
+  pub cond : IsCond sets e.cond.0
+  pub answer : OwnsAnswer count e.answer
+
+abbrev pub OwnsPiece : Sets → ℕ → Source → Piece → Type 0
+OwnsPiece sets count source (Going s) = OwnsRow sets count source s
+OwnsPiece sets count source (Over e) = OwnsEnded sets count e
+
+-- the subparsers that an event names are owned
+abbrev pub OwnsEnabled : Sets → ℕ → Source → Enabled → Type 0
+OwnsEnabled sets count source (enabled.Split s i) = OwnsRow sets count source s.now
+OwnsEnabled sets count source (enabled.Reduce s j p) = OwnsRow sets count source s.now
+OwnsEnabled sets count source (enabled.Shift s j) = OwnsRow sets count source s.now
+OwnsEnabled sets count source (enabled.Classify s j) = OwnsRow sets count source s.now
+OwnsEnabled sets count source (enabled.Merge s t) = OwnsRow sets count source s.now × OwnsRow sets count source t.now
+
+-- The core is one of the stores with these conditions and with so many trees. Nothing is kept by a
+-- core that was given up.
+pub record OwnsCore (sets : Sets) (count : ℕ) (core : Core) : Type 0 where
+  pub source : IsSource core.source
+  pub items : All (λ (item : Cond × Token). IsCond sets item.0.0) core.source.list.now
+  pub rows : core.is_given_up ≡ false → All (λ (row : Option Subparser). IfSome row (OwnsRow sets count core.source)) core.rows.items
+  pub ended : core.is_given_up ≡ false → All (OwnsEnded sets count) core.ended.items
+
+-- no frames, one level without bindings, before the first element
+pub record IsFirst (live : Cond) (s : Subparser) : Type 0 where
+  pub cond : s.cond ≡ live
+  pub stack : s.stack ≡ []
+  pub levels : levels_in s.scopes ≡ no_bindings ∷ []
+  pub phase : s.phase ≡ Between 0

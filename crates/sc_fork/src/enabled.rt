@@ -1,0 +1,122 @@
+//! Which events a core can do.
+ghost use Rattle.std.specs.Prelude.{◌≡◌, ℕ, None, Some, IfErr, IfOk, IfSome};
+ghost use Rattle.sc_fork.specs.declared.source.Source.{Source};
+ghost use Rattle.sc_fork.specs.Enabled.{Has, IsEnabled, IsMissing, IsNotLooking, IsRefused, LooksAt};
+
+use crate::event::{Event, Fact};
+use crate::source::Source;
+use lr_tables::Action;
+use sc_merge::{Phase, Subparser};
+
+/// An event with the subparsers that it names.
+#[derive(Clone, Copy)]
+pub(crate) enum Enabled<'a> {
+    Split(&'a Subparser, usize),
+    Reduce(&'a Subparser, usize, usize),
+    Shift(&'a Subparser, usize),
+    Classify(&'a Subparser, usize),
+    Merge(&'a Subparser, &'a Subparser),
+}
+
+/// The event with its subparsers, or the first fact that stands against it.
+pub(crate) fn enabled_event<'a>(
+    source: &Source<'_>,
+    rows: &'a [Option<Subparser>],
+    event: Event,
+) -> Result<Enabled<'a>, Fact>
+    ensures ok { IfOk result (IsEnabled source.now rows.now event) }
+    ensures err { IfErr result (IsRefused source.now rows.now event) }
+{
+    match event {
+        Event::Split(number) => {
+            let parent = with_number(rows, number)?;
+            match parent.phase {
+                Phase::Between(from) => Ok(Enabled::Split(parent, from)),
+                _ => Err(Fact::WrongPhase),
+            }
+        }
+        Event::Reduce(number) => {
+            let (parent, at) = looking(rows, number)?;
+            match reduction(source.action(parent, at)) {
+                Some(production) => Ok(Enabled::Reduce(parent, at, production)),
+                None => Err(Fact::ActionIsNoReduction),
+            }
+        }
+        Event::Shift(number) => {
+            let (parent, at) = looking(rows, number)?;
+            match reduction(source.action(parent, at)) {
+                Some(_) => Err(Fact::ActionIsReduction),
+                None => Ok(Enabled::Shift(parent, at)),
+            }
+        }
+        Event::Classify(number) => {
+            let parent = with_number(rows, number)?;
+            match parent.phase {
+                Phase::Named(at) => Ok(Enabled::Classify(parent, at)),
+                _ => Err(Fact::WrongPhase),
+            }
+        }
+        Event::Merge(number, other) => mergeable(rows, number, other),
+    }
+}
+
+/// The production by which the action reduces.
+fn reduction(action: Option<Action>) -> Option<usize>
+    ensures some { IfSome result (λ production. action ≡ Some (Action.Reduce production)) }
+    ensures none { result ≡ None → (production : ℕ) → action ≡ Some (Action.Reduce production) → ⊥ }
+{
+    match action? {
+        Action::Reduce(production) => Some(production),
+        Action::Shift(_) => None,
+    }
+}
+
+fn with_number(rows: &[Option<Subparser>], number: usize) -> Result<&Subparser, Fact>
+    ensures ok { IfOk result (λ subparser. Has rows.now number subparser.now) }
+    ensures err { IfErr result (λ fact. IsMissing rows.now number fact) }
+{
+    let Some(row) = rows.get(number) else {
+        return Err(Fact::NoSuchSubparser);
+    };
+    match row {
+        Some(subparser) => Ok(subparser),
+        None => Err(Fact::NoSuchSubparser),
+    }
+}
+
+/// The subparser of the number, and the element that comes next.
+pub(crate) fn looking(
+    rows: &[Option<Subparser>],
+    number: usize,
+) -> Result<(&Subparser, usize), Fact>
+    ensures ok { IfOk result (λ found. LooksAt rows.now number found.0.now found.1) }
+    ensures err { IfErr result (IsNotLooking rows.now number) }
+{
+    let parent = with_number(rows, number)?;
+    match parent.phase {
+        Phase::At(at) => Ok((parent, at)),
+        _ => Err(Fact::WrongPhase),
+    }
+}
+
+/// The subparsers of the two numbers, where they can be merged.
+fn mergeable(rows: &[Option<Subparser>], number: usize, other: usize) -> Result<Enabled<'_>, Fact>
+    ensures ok { (source : Source) → IfOk result (IsEnabled source rows.now (Event.Merge number other)) }
+    ensures err { (source : Source) → IfErr result (IsRefused source rows.now (Event.Merge number other)) }
+{
+    let left = with_number(rows, number)?;
+    let right = with_number(rows, other)?;
+    if number == other {
+        return Err(Fact::SameSubparser);
+    }
+    if left.phase != right.phase {
+        return Err(Fact::OtherPhase);
+    }
+    if !left.stack.same_states(&right.stack) {
+        return Err(Fact::OtherStates);
+    }
+    if left.scopes.levels() != right.scopes.levels() {
+        return Err(Fact::OtherLevels);
+    }
+    Ok(Enabled::Merge(left, right))
+}

@@ -1,0 +1,316 @@
+//! A parser of all configurations at once, one event at a time.
+ghost use Rattle.std.specs.Prelude.{◌≡◌, ◌↔◌, ◌⊎◌, ℕ, ◌<◌, true, false, Err, List, None, Option, All, IfErr, IfOk, IfSome, IsTrue, length};
+ghost use Rattle.c11_parsing.specs.Classes.{Input};
+ghost use Rattle.c11_parsing.specs.Core as core;
+ghost use Rattle.c11_parsing.specs.Core.{Stands};
+ghost use Rattle.sc_base.specs.Seen.{IsHeld};
+ghost use Rattle.sc_fork.specs.declared.event.Event.{Event};
+ghost use Rattle.sc_fork.specs.declared.event.Fact.{Fact};
+ghost use Rattle.sc_fork.specs.Choices.{AreSound};
+ghost use Rattle.sc_fork.specs.Cores.{IsApplied, IsCore, IsFinished, Starts};
+ghost use Rattle.sc_fork.specs.Enabled.{Has, HasNone, IsEnabled, IsRefused, LooksAt};
+ghost use Rattle.sc_fork.specs.Outcomes.{IsOutcome, OwnsOutcome};
+ghost use Rattle.sc_fork.specs.Owns.{AreC11Tables, AreTerminals, IsFirst, OwnsCore, OwnsEnabled, OwnsPiece, IsSource};
+ghost use Rattle.sc_fork.specs.Pieces.{AddsOwnChoices, AreInOrder, AreMade, Becomes, HasMade, InNextPhase, numbers_of, without};
+ghost use Rattle.sc_fork.specs.Seen.{action_in};
+ghost use Rattle.sc_fork.specs.Starts.{AreFirst};
+ghost use Rattle.sc_merge.specs.declared.subparser.Subparser.{Subparser};
+ghost use Rattle.sc_merge.specs.Keys.{IsKeyOf};
+ghost use Rattle.sc_merge.specs.Merges.{tables_with};
+ghost use Rattle.sc_model.specs.Growth.{Extends};
+ghost use Rattle.sc_model.specs.Sets.{IsCond, Keeps};
+ghost use Rattle.sc_tree.specs.Lines.{Line, OwnsBranches};
+
+use crate::classifying::classify;
+use crate::enabled::{Enabled, enabled_event, looking};
+use crate::event::{Applied, CoreStop, Event};
+use crate::outcome::{Outcome, faults_of, root_of, roots_of};
+use crate::piece::{Ended, Piece};
+use crate::reducing::reduce;
+use crate::shifting::shift;
+use crate::source::Source;
+use crate::splitting::split;
+use lr_tables::{Action, Terminal};
+use sc_base::{Cond, Names, OutOfMemory, Place, Token};
+use sc_guarded::Guarded;
+use sc_lalr::Tables;
+use sc_merge::{Key, Phase, Subparser, key, merge};
+use sc_presence::Conditions;
+use sc_scope::Scopes;
+use sc_stack::Stack;
+use sc_tree::Trees;
+use std::alloc::Global;
+
+/// The subparsers by their numbers, and what has ended. A number stays with its subparser; the
+/// next one that is unused goes to the next subparser.
+#[derive(Drop)]
+pub struct Core<'a> {
+    pub(crate) source: Source<'a>,
+    pub(crate) rows: Vec<Option<Subparser>>,
+    pub(crate) ended: Vec<Ended>,
+    pub(crate) is_given_up: bool,
+}
+
+impl<'a> Core<'a> {
+    /// One subparser, number 0, for the live configurations, where there are any.
+    pub fn start<C: Conditions>(
+        alloc: Global,
+        conds: &C,
+        names: &Names,
+        list: &'a Guarded<Token>,
+        live: Cond,
+        end: Place,
+        tables: &'a Tables,
+    ) -> Result<Core<'a>, OutOfMemory>
+        requires tables { AreC11Tables tables.now }
+        requires live { IsCond (C.sets conds.now) live.0 }
+        requires items { All (λ item. IsCond (C.sets conds.now) item.0.0) list.now }
+        requires held { All (λ item. IsHeld names.now item.1) list.now }
+        ensures list { IfOk result (λ core. core.source.list.now ≡ list.now) }
+        ensures tables { IfOk result (λ core. core.source.tables.now ≡ tables.now) }
+        ensures end { IfOk result (λ core. core.source.end ≡ end) }
+        ensures terminals { IfOk result (λ core. AreTerminals names.now list.now core.source.terminals.items) }
+        ensures start { IfOk result (λ core. (lines : List Line) (files : List (List ℕ)) → Starts (tables_with (C.sets conds.now) lines names.now files) core live) }
+        ensures own { IfOk result (λ core. (count : ℕ) → OwnsCore (C.sets conds.now) count core) }
+        ensures usable { IfOk result (λ core. core.is_given_up ≡ false) }
+    {
+        let source = Source::new(alloc, names, list, end, tables)?;
+        let rows = first_rows(alloc, conds, live)?;
+        Ok(Core {
+            source,
+            rows,
+            ended: Vec::new(alloc),
+            is_given_up: false,
+        })
+    }
+
+    /// Does an event. Want of memory, and nothing else, gives the core up.
+    pub fn apply<C: Conditions>(
+        &mut self,
+        alloc: Global,
+        conds: &mut C,
+        trees: &mut Trees,
+        event: Event,
+    ) -> Result<Applied, CoreStop>
+        requires own { OwnsCore (C.sets conds.old) (length trees.old) self.old }
+        requires branches { OwnsBranches (C.sets conds.old) trees.old }
+        ensures applied { IfOk result (λ applied. (names files : List (List ℕ)) (input : Input) (seen : core.Core)
+            → IsCore (tables_with (C.sets conds.old) trees.old names files) input self.old seen → Stands input seen
+            → IsApplied (tables_with (C.sets conds.old) trees.old names files) (tables_with (C.sets conds.new) trees.new names files) input self.old event self.new applied.made.items seen) }
+        ensures rows { IfOk result (λ applied. HasMade self.old event self.new applied.made.items) }
+        ensures not_enabled { (fact : Fact) → result ≡ Err (CoreStop.NotEnabled fact) → IsRefused self.old.source self.old.rows.items event fact }
+        ensures given_up { (result ≡ Err CoreStop.GivenUp) ↔ (self.old.is_given_up ≡ true) }
+        ensures memory { (self.new.is_given_up ≡ true) ↔ ((result ≡ Err CoreStop.OutOfMemory) ⊎ (self.old.is_given_up ≡ true)) }
+        ensures unchanged { IfErr result (λ stop. (stop ≡ CoreStop.OutOfMemory → ⊥) → self.new ≡ self.old) }
+        ensures choices { (names files : List (List ℕ)) (input : Input) (seen : core.Core) → IsCore (tables_with (C.sets conds.old) trees.old names files) input self.old seen
+            → Stands input seen → AreSound (C.sets conds.old) trees.old → AreSound (C.sets conds.new) trees.new }
+
+        // at every outcome
+        ensures own { OwnsCore (C.sets conds.new) (length trees.new) self.new }
+        ensures keeps { Keeps (C.sets conds.old) (C.sets conds.new) }
+        ensures grows { Extends trees.old trees.new }
+        ensures branches { OwnsBranches (C.sets conds.new) trees.new }
+    {
+        if self.is_given_up {
+            return Err(CoreStop::GivenUp);
+        }
+        let pieces = match enabled_event(&self.source, &self.rows, event) {
+            Ok(enabled) => pieces_of(alloc, conds, trees, &self.source, enabled),
+            Err(fact) => return Err(CoreStop::NotEnabled { fact }),
+        };
+        let Ok(pieces) = pieces else {
+            return Err(self.give_up());
+        };
+        let Ok(made) = self.replace(alloc, event, pieces) else {
+            return Err(self.give_up());
+        };
+        Ok(Applied { made })
+    }
+
+    fn give_up(&mut self) -> CoreStop
+        ensures stop { result ≡ CoreStop.OutOfMemory }
+        ensures source { self.new.source ≡ self.old.source }
+        ensures given_up { self.new.is_given_up ≡ true }
+    {
+        self.is_given_up = true;
+        CoreStop::OutOfMemory
+    }
+
+    /// Puts the pieces in the place of the event's subparsers. The answer is the new numbers.
+    fn replace(
+        &mut self,
+        alloc: Global,
+        event: Event,
+        pieces: Vec<Piece>,
+    ) -> Result<Vec<usize>, OutOfMemory>
+        requires { All (λ number. number < length self.old.rows.items) (numbers_of event) }
+        ensures becomes { IfOk result (λ made. Becomes self.old event pieces.items self.new made.items) }
+
+        // at every outcome
+        ensures source { self.new.source ≡ self.old.source }
+        ensures given_up { self.new.is_given_up ≡ self.old.is_given_up }
+    {
+        self.remove(event);
+        let mut made = Vec::new(alloc);
+        for piece in pieces {
+            match piece {
+                Piece::Going(subparser) => {
+                    made.push(self.rows.len())?;
+                    self.rows.push(Some(subparser))?;
+                }
+                Piece::Over(ended) => self.ended.push(ended)?,
+            }
+        }
+        Ok(made)
+    }
+
+    /// The event's subparsers are gone.
+    fn remove(&mut self, event: Event)
+        requires { All (λ number. number < length self.old.rows.items) (numbers_of event) }
+        ensures rows { self.new.rows.items ≡ without (numbers_of event) self.old.rows.items }
+        ensures source { self.new.source ≡ self.old.source }
+        ensures ended { self.new.ended ≡ self.old.ended }
+        ensures given_up { self.new.is_given_up ≡ self.old.is_given_up }
+    {
+        match event {
+            Event::Merge(number, other) => {
+                self.rows[number] = None;
+                self.rows[other] = None;
+            }
+            Event::Split(number)
+            | Event::Reduce(number)
+            | Event::Shift(number)
+            | Event::Classify(number) => self.rows[number] = None,
+        }
+    }
+
+    /// The condition and the key of the subparser that has the number now.
+    pub fn look(&self, number: usize) -> Option<(Cond, Key<'_>)>
+        ensures some { IfSome result (λ found. (s : Subparser) × (Has self.now.rows.items number s × (found.0 ≡ s.cond) × IsKeyOf found.1 s)) }
+        ensures none { result ≡ None → self.now.is_given_up ≡ false → HasNone self.now.rows.items number }
+        ensures usable { IfSome result (λ found. self.now.is_given_up ≡ false) }
+    {
+        if self.is_given_up {
+            return None;
+        }
+        let subparser = self.rows.get(number)?.as_ref()?;
+        Some((subparser.cond, key(subparser)))
+    }
+
+    /// What the subparser of the number does at the element that comes next for it, where one does.
+    pub fn action(&self, number: usize) -> Option<Action>
+        ensures looks { (s : Subparser) (at : ℕ) → LooksAt self.now.rows.items number s at → result ≡ action_in self.now.source s at }
+        ensures other { ((s : Subparser) (at : ℕ) → LooksAt self.now.rows.items number s at → ⊥) → result ≡ None }
+    {
+        let Ok((subparser, at)) = looking(&self.rows, number) else {
+            return None;
+        };
+        self.source.action(subparser, at)
+    }
+
+    /// Whether no subparser is left, and the core is not given up.
+    pub fn finished(&self) -> bool
+        ensures { IsTrue result ↔ IsFinished self.now }
+    {
+        !self.is_given_up && self.rows.iter().all(|row| row.is_none())
+    }
+
+    /// What a finished core has come to: one tree with choices, and the faults.
+    pub fn result<C: Conditions>(
+        &self,
+        alloc: Global,
+        conds: &mut C,
+        trees: &mut Trees,
+    ) -> Result<Outcome, OutOfMemory>
+        requires own { OwnsCore (C.sets conds.old) (length trees.old) self.now }
+        requires branches { OwnsBranches (C.sets conds.old) trees.old }
+        requires finished { IsFinished self.now }
+        ensures outcome { IfOk result (λ outcome. (names files : List (List ℕ)) (input : Input) (seen : core.Core)
+            → IsCore (tables_with (C.sets conds.old) trees.old names files) input self.now seen → Stands input seen
+            → IsOutcome (tables_with (C.sets conds.new) trees.new names files) seen outcome) }
+        ensures own { IfOk result (OwnsOutcome (C.sets conds.new) (length trees.new)) }
+        ensures choices { (names files : List (List ℕ)) (input : Input) (seen : core.Core) → IsCore (tables_with (C.sets conds.old) trees.old names files) input self.now seen
+            → Stands input seen → AreSound (C.sets conds.old) trees.old → AreSound (C.sets conds.new) trees.new }
+
+        // at every outcome
+        ensures keeps { Keeps (C.sets conds.old) (C.sets conds.new) }
+        ensures grows { Extends trees.old trees.new }
+    {
+        let faults = faults_of(alloc, &self.ended)?;
+        let roots = roots_of(alloc, conds, &self.ended)?;
+        let root = root_of(trees, &roots)?;
+        Ok(Outcome { root, faults })
+    }
+}
+
+/// The first subparser, for the live configurations, where there are any.
+fn first_rows<C: Conditions>(
+    alloc: Global,
+    conds: &C,
+    live: Cond,
+) -> Result<Vec<Option<Subparser>>, OutOfMemory>
+    requires { IsCond (C.sets conds.now) live.0 }
+    ensures { IfOk result (λ rows. AreFirst (C.sets conds.now) live rows.items) }
+{
+    if conds.is_never(live) {
+        return Ok(Vec::new(alloc));
+    }
+    let subparser = first(alloc, live)?;
+    Ok(vec![in alloc; Some(subparser)]?)
+}
+
+/// The subparser before the first element, with one level of scopes.
+fn first(alloc: Global, live: Cond) -> Result<Subparser, OutOfMemory>
+    ensures { IfOk result (IsFirst live) }
+{
+    let mut scopes = Scopes::new(alloc);
+    scopes.push()?;
+    Ok(Subparser {
+        cond: live,
+        stack: Stack::new(alloc),
+        scopes,
+        phase: Phase::Between(0),
+    })
+}
+
+/// What the event makes of its subparsers.
+fn pieces_of<C: Conditions>(
+    alloc: Global,
+    conds: &mut C,
+    trees: &mut Trees,
+    source: &Source<'_>,
+    enabled: Enabled<'_>,
+) -> Result<Vec<Piece>, OutOfMemory>
+    requires source { IsSource source.now }
+    requires items { All (λ item. IsCond (C.sets conds.old) item.0.0) source.now.list.now }
+    requires event { (rows : List (Option Subparser)) × ((event : Event) × IsEnabled source.now rows event enabled) }
+    requires own { OwnsEnabled (C.sets conds.old) (length trees.old) source.now enabled }
+    requires branches { OwnsBranches (C.sets conds.old) trees.old }
+    ensures pieces { IfOk result (λ pieces. AreMade (C.sets conds.old) (C.sets conds.new) trees.old trees.new source.now enabled.entry pieces.items) }
+    ensures own { IfOk result (λ pieces. All (OwnsPiece (C.sets conds.new) (length trees.new) source.now) pieces.items) }
+    ensures phases { IfOk result (λ pieces. All (InNextPhase source.now enabled.entry) pieces.items) }
+    ensures order { IfOk result (λ pieces. AreInOrder enabled.entry pieces.items) }
+
+    // at every outcome
+    ensures choices { AddsOwnChoices trees.old trees.new enabled.entry }
+    ensures keeps { Keeps (C.sets conds.old) (C.sets conds.new) }
+    ensures grows { Extends trees.old trees.new }
+    ensures branches { OwnsBranches (C.sets conds.new) trees.new }
+{
+    match enabled {
+        Enabled::Split(parent, from) => split(alloc, conds, source, parent, from),
+        Enabled::Reduce(parent, at, production) => {
+            let piece = reduce(alloc, conds, trees, source, parent, at, production)?;
+            Ok(vec![in alloc; piece]?)
+        }
+        Enabled::Shift(parent, at) => {
+            let piece = shift(alloc, trees, source, parent, at)?;
+            Ok(vec![in alloc; piece]?)
+        }
+        Enabled::Classify(parent, at) => classify(alloc, conds, source, parent, at),
+        Enabled::Merge(left, right) => {
+            let merged = merge(alloc, conds, trees, left, right)?;
+            Ok(vec![in alloc; Piece::Going(merged)]?)
+        }
+    }
+}
