@@ -4,6 +4,8 @@
 #[cfg(test)]
 mod kinds;
 #[cfg(test)]
+mod project;
+#[cfg(test)]
 mod scope;
 #[cfg(test)]
 mod stack;
