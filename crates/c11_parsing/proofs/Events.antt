@@ -22,7 +22,7 @@ use Rattle.c11_parsing.specs.Trees.{Condition, Tree}
 abbrev unit : Bool → ℕ
 unit b = if b then 1 else 0
 
-count-append : (c : List ℕ) (xs ys : List Piece) → count c (xs ++ ys) ≡ count c xs + count c ys
+pub count-append : (c : List ℕ) (xs ys : List Piece) → count c (xs ++ ys) ≡ count c xs + count c ys
 count-append c [] ys = omega arith
 count-append c (x ∷ xs) ys = omega (arith, count-append c xs ys)
 
@@ -75,13 +75,13 @@ module _ (P : Piece → Type 0) where
   all-removed (Some s ∷ rows) (suc n) h =
       All-cons P (going s) (filled (slice_set rows n None)) (All-head P (going s) (filled rows) h) (all-removed rows n (All-tail P (going s) (filled rows) h))
 
-  all-row : (rows : List (Option Subparser)) (n : ℕ) (s : Subparser) → slice_get rows n ≡ Some (Some s) → All P (filled rows) → P (going s)
+  pub all-row : (rows : List (Option Subparser)) (n : ℕ) (s : Subparser) → slice_get rows n ≡ Some (Some s) → All P (filled rows) → P (going s)
   all-row [] n s e h = absurd (none-some (Some s) e)
   all-row (row ∷ rows) zero s e h = All-head P (going s) (filled rows) (subst (λ r. All P (filled (r ∷ rows))) (same_Some row (Some s) e) h)
   all-row (None ∷ rows) (suc n) s e h = all-row rows n s e h
   all-row (Some t ∷ rows) (suc n) s e h = all-row rows n s e (All-tail P (going t) (filled rows) h)
 
-  all-left : (xs ys : List Piece) → All P (xs ++ ys) → All P xs
+  pub all-left : (xs ys : List Piece) → All P (xs ++ ys) → All P xs
   all-left [] ys h = All-nil P
   all-left (x ∷ xs) ys h = All-cons P x xs (All-head P x (xs ++ ys) h) (all-left xs ys (All-tail P x (xs ++ ys) h))
 
@@ -183,7 +183,7 @@ module _ (input : Input) where
   classified-count s j test _ c is (one piece h) = count-stepped s (between (j + 1)) (λ d. s.condition d && test d) piece c is h
 
   -- a part of a split
-  left-passed : (i : ℕ) (c : List ℕ) → left_from input (next_from input i c) c ≡ left_from input i c
+  pub left-passed : (i : ℕ) (c : List ℕ) → left_from input (next_from input i c) c ≡ left_from input i c
   left-passed i c =
       ap (project c) (sym (drop-drop (position_or_len (λ (x : Condition × Token). x.0 c) (drop i input.items)) i input.items)) ∙ project-passed c (drop i input.items)
 

@@ -11,16 +11,16 @@ use Rattle.c11_parsing.specs.LR.{Run, Phase, reading, looking, named, Point, on,
 use Rattle.c11_parsing.specs.Parser.{Parser}
 use Rattle.c11_parsing.specs.Trees.{leaf}
 
-abbrev waits : Phase → ℕ
+abbrev pub waits : Phase → ℕ
 waits reading = 1
 waits looking = 0
 waits named = 0
 
 -- what is left to be read
-abbrev work : Run → ℕ
+abbrev pub work : Run → ℕ
 work r = 2 * length r.left + waits r.phase
 
-abbrev AtMost : ℕ → Point → Type 0
+abbrev pub AtMost : ℕ → Point → Type 0
 AtMost n (on r) = work r ≤ n
 AtMost n (answered a) = Unit {0}
 
@@ -65,7 +65,7 @@ module _ (m : Parser) (end : Place) where
   step-most r n looking h = looked-most r n (next_terminal m r.left) h
   step-most r n named h = classified-most r n r.left refl h
 
-  reaches-most : (n : ℕ) (x y : Point) → AtMost n x → Reaches m end x y → AtMost n y
+  pub reaches-most : (n : ℕ) (x y : Point) → AtMost n x → Reaches m end x y → AtMost n y
   reaches-most n x _ h here = h
   reaches-most n _ y h (later {r} d) = reaches-most n (step m end r) y (step-most r n r.phase (omega (arith, h))) d
 

@@ -1,14 +1,19 @@
 -- Stores to which no choice is added.
 use Rattle.std.proofs.Common.{◌≡◌, ℕ, zero, suc, ◌⊎◌, inl, inr, List, [], ◌∷◌, ◌++◌, slice_get, Some, refl, sym, ap, ◌∙◌, subst, All}
+use Rattle.std.specs.List.{Contains}
 use Rattle.std.proofs.lemmas.List.{append-nil}
-use Rattle.std.proofs.lemmas.List.Elements.{All-nil}
+use Rattle.std.proofs.lemmas.List.Elements.{All-head, All-nil, All-tail}
 use Rattle.std.proofs.lemmas.Option.{same_Some}
+use Rattle.lr_tables.proofs.Members.{cons_head, cons_tail}
 use Rattle.sc_base.specs.declared.id.Cond.{Cond}
 use Rattle.sc_base.specs.declared.id.Name.{Name}
 use Rattle.sc_base.specs.declared.id.TreeId.{TreeId}
 use Rattle.sc_base.specs.declared.place.Place.{Place}
 use Rattle.sc_base.proofs.Growth.{Extends-append}
-use Rattle.sc_fork.specs.Choices.{AddsNoChoices}
+use Rattle.sc_base.specs.declared.token.Token.{Token}
+use Rattle.sc_fork.specs.Choices.{AddsLeaves, AddsNoChoices}
+use Rattle.sc_fork.specs.Roots.{AddsChoice, no_choice, one_choice}
+use Rattle.sc_merge.specs.Merges.{AddsChoices, IsChoice}
 use Rattle.sc_model.specs.Growth.{Extends}
 use Rattle.sc_model.specs.Sets.{Sets, IsCond}
 use Rattle.sc_tree.specs.Lines.{Line, leaf, node, choice, branches_of, AddsAtMost, OwnsBranches}
@@ -16,7 +21,7 @@ use Rattle.sc_tree.specs.Lines.{Line, leaf, node, choice, branches_of, AddsAtMos
 abbrev IsNoChoice : Line → Type 0
 IsNoChoice line = (branches : List (Cond × TreeId)) → line ≡ choice branches → ⊥
 
-append_cases : {A : Type 0} (xs ys : List A) (i : ℕ) (x : A) → slice_get (xs ++ ys) i ≡ Some x → (slice_get xs i ≡ Some x) ⊎ ((j : ℕ) × (slice_get ys j ≡ Some x))
+pub append_cases : {A : Type 0} (xs ys : List A) (i : ℕ) (x : A) → slice_get (xs ++ ys) i ≡ Some x → (slice_get xs i ≡ Some x) ⊎ ((j : ℕ) × (slice_get ys j ≡ Some x))
 append_cases [] ys i x at = inr (i, at)
 append_cases (z ∷ xs) ys zero x at = inl at
 append_cases (z ∷ xs) ys (suc i) x at = append_cases xs ys i x at
@@ -53,3 +58,64 @@ adds-branches s old new adds own = subst (λ ls. OwnsBranches s ls) (sym adds.is
     by : (i : ℕ) (line : Line) → (slice_get old i ≡ Some line) ⊎ ((j : ℕ) × (slice_get adds.added j ≡ Some line)) → All (λ (branch : Cond × TreeId). IsCond s branch.0.0) (branches_of line)
     by i line (inl before) = own.each i line before
     by i line (inr new_one) = no-branches line (λ branches e. adds.none new_one.0 branches (new_one.1 ∙ ap Some e))
+
+-- ---- leaves
+
+contains-at : {A : Type 0} (xs : List A) (i : ℕ) (x : A) → slice_get xs i ≡ Some x → Contains xs x
+contains-at [] i x at = absurd (cc)
+contains-at (y ∷ xs) zero x at = subst (Contains (y ∷ xs)) (same_Some y x at) (cons_head y xs)
+contains-at (y ∷ xs) (suc i) x at = cons_tail y x xs (contains-at xs i x at)
+
+all-at : {A : Type 0} (P : A → Type 0) (xs : List A) (i : ℕ) (x : A) → All P xs → slice_get xs i ≡ Some x → P x
+all-at P [] i x all at = absurd (cc)
+all-at P (y ∷ xs) zero x all at = subst P (same_Some y x at) (All-head P y xs all)
+all-at P (y ∷ xs) (suc i) x all at = all-at P xs i x (All-tail P y xs all) at
+
+module _ (list : List (Cond × Token)) where
+  abbrev IsOfList : Place → Name → Type 0
+  IsOfList place spelling = (item : Cond × Token) × (Contains list item × (item.1.place ≡ place × item.1.spelling ≡ spelling))
+
+  pub leaves-none : (old new : List Line) → new ≡ old → AddsLeaves list old new
+  leaves-none old new same = record { added = []; is = same ∙ sym (append-nil old); leaves = λ i place spelling at. absurd (cc) }
+
+  -- at most one line, which is no leaf or that of a token
+  leaves-line : (old new : List Line) (line : Line) → ((place : Place) (spelling : Name) → line ≡ leaf place spelling → IsOfList place spelling) → AddsAtMost old new line
+      → AddsLeaves list old new
+  leaves-line old new line from (inl same) = leaves-none old new same
+  leaves-line old new line from (inr more) = record { added = line ∷ []; is = more; leaves = leaves }
+    where
+      leaves : (i : ℕ) (place : Place) (spelling : Name) → slice_get (line ∷ []) i ≡ Some (leaf place spelling) → IsOfList place spelling
+      leaves zero place spelling at = from place spelling (same_Some line (leaf place spelling) at)
+      leaves (suc i) place spelling at = absurd (cc)
+
+  pub leaves-leaf : (old new : List Line) (j : ℕ) (item : Cond × Token) → slice_get list j ≡ Some item → AddsAtMost old new (leaf item.1.place item.1.spelling) → AddsLeaves list old new
+  leaves-leaf old new j item at =
+      leaves-line old new (leaf item.1.place item.1.spelling) (λ place spelling e. (item, (contains-at list j item at, (let p : item.1.place ≡ place = cc in p, let n : item.1.spelling ≡ spelling = cc in n))))
+
+  pub leaves-node : (old new : List Line) (production : ℕ) (children : List TreeId) → AddsAtMost old new (node production children) → AddsLeaves list old new
+  leaves-node old new production children = leaves-line old new (node production children) (λ place spelling e. absurd (cc))
+
+  pub leaves-choices : (here there : Cond) (old new : List Line) → AddsChoices here there old new → AddsLeaves list old new
+  leaves-choices here there old new adds = record { added = adds.added; is = adds.is; leaves = leaves }
+    where
+      leaves : (i : ℕ) (place : Place) (spelling : Name) → slice_get adds.added i ≡ Some (leaf place spelling) → IsOfList place spelling
+      leaves i place spelling at =
+          let is : IsChoice here there (leaf place spelling) = all-at (IsChoice here there) adds.added i (leaf place spelling) adds.choices at in
+          let no : leaf place spelling ≡ choice ((here, is.left) ∷ ((there, is.right) ∷ [])) = is.is in
+          absurd (cc)
+
+  pub leaves-choice : (roots : List (Cond × TreeId)) (old new : List Line) → AddsChoice roots old new → AddsLeaves list old new
+  leaves-choice roots old new (no_choice same) = leaves-none old new same
+  leaves-choice roots old new (one_choice several more) = leaves-line old new (choice roots) (λ place spelling e. absurd (cc)) (inr more)
+
+-- the conditions of a choice of roots are the store's, as theirs are
+pub branches-choice : (s : Sets) (roots : List (Cond × TreeId)) (old new : List Line) → AddsChoice roots old new → All (λ (root : Cond × TreeId). IsCond s root.0.0) roots → OwnsBranches s old
+    → OwnsBranches s new
+branches-choice s roots old new (no_choice same) conds own = subst (OwnsBranches s) (sym same) own
+branches-choice s roots old new (one_choice several more) conds own =
+    subst (OwnsBranches s) (sym more) (record { each = λ i line at. by i line (append_cases old (choice roots ∷ []) i line at) })
+  where
+    by : (i : ℕ) (line : Line) → (slice_get old i ≡ Some line) ⊎ ((j : ℕ) × (slice_get (choice roots ∷ []) j ≡ Some line)) → All (λ (branch : Cond × TreeId). IsCond s branch.0.0) (branches_of line)
+    by i line (inl before) = own.each i line before
+    by i line (inr (zero, at)) = subst (λ l. All (λ (branch : Cond × TreeId). IsCond s branch.0.0) (branches_of l)) (same_Some (choice roots) line at) conds
+    by i line (inr (suc j, at)) = absurd (cc)

@@ -157,7 +157,7 @@ count-append c (p ∷ xs) ys = by (condition_of p c) (count-append c xs ys)
     by true e = omega (arith, e)
     by false e = omega (arith, e)
 
-count-row : (c : List ℕ) (rows : List (Option core.Subparser)) (n : ℕ) (s : core.Subparser) → slice_get rows n ≡ Some (Some s) → s.condition c ≡ true → 0 < count c (filled rows)
+pub count-row : (c : List ℕ) (rows : List (Option core.Subparser)) (n : ℕ) (s : core.Subparser) → slice_get rows n ≡ Some (Some s) → s.condition c ≡ true → 0 < count c (filled rows)
 count-row c [] n s at has = absurd (cc)
 count-row c (None ∷ rows) zero s at has = absurd (cc)
 count-row c (None ∷ rows) (suc n) s at has = count-row c rows n s at has
@@ -204,7 +204,7 @@ rows-apart input seen n o s t stands apart at_n at_o = record { outside = λ c c
 
 -- ---- a merge
 
-shown-levels : (sets : Sets) (names : List (List ℕ)) (c : List ℕ) (levels : List Level) (others : List bindings.Level) → Shows sets names c levels others → length levels ≡ length others
+pub shown-levels : (sets : Sets) (names : List (List ℕ)) (c : List ℕ) (levels : List Level) (others : List bindings.Level) → Shows sets names c levels others → length levels ≡ length others
 shown-levels sets names c _ _ none_shown = refl
 shown-levels sets names c _ _ (more_shown level b levels others first rest) = ap suc (shown-levels sets names c levels others rest)
 

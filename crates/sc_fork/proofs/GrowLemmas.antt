@@ -29,12 +29,12 @@ module _ {old new : Sets} {lines added : List Line} (keeps : Keeps old new) (lon
   pub OwnsRow-Grows : (source : Source) (s : Subparser) → OwnsRow old (length lines) source s → OwnsRow new (length added) source s
   OwnsRow-Grows source s own = record { owns = OwnsSubparser-grows s keeps longer.longer own.owns; within = own.within; path = own.path }
 
-  answer-Grows : (answer : Answer) → OwnsAnswer (length lines) answer → OwnsAnswer (length added) answer
-  answer-Grows (Root id) own = Extends-within id.0 own longer
-  answer-Grows (Refused cause place) own = own
+  answer-Grows : (source : Source) (answer : Answer) → OwnsAnswer (length lines) source answer → OwnsAnswer (length added) source answer
+  answer-Grows source (Root id) own = Extends-within id.0 own longer
+  answer-Grows source (Refused cause place) own = own
 
-  pub OwnsEnded-Grows : (e : Ended) → OwnsEnded old (length lines) e → OwnsEnded new (length added) e
-  OwnsEnded-Grows e own = record { cond = keeps.own e.cond.0 own.cond; answer = answer-Grows e.answer own.answer }
+  pub OwnsEnded-Grows : (source : Source) (e : Ended) → OwnsEnded old (length lines) source e → OwnsEnded new (length added) source e
+  OwnsEnded-Grows source e own = record { cond = keeps.own e.cond.0 own.cond; answer = answer-Grows source e.answer own.answer }
 
   module _ (names files : List (List ℕ)) where
     grows-with : Grows (tables_with old lines names files) (tables_with new added names files)

@@ -35,7 +35,7 @@ use Rattle.sc_fork.specs.declared.source.Source.{Source}
 use Rattle.sc_fork.specs.Kinds.{name_of, is_type_at, IsBehind, IsKind, no_part, refused_part, shifted_part, AddsKind}
 use Rattle.sc_fork.specs.Owns.{IsOnPath, IsWithin, OwnsPiece, OwnsRow, has_tree}
 use Rattle.sc_fork.specs.Parsers.{c11_parser}
-use Rattle.sc_fork.specs.Seen.{IsInput, IsNext, next_unknown, next_kind, IsSeen, IsSeenAt, IsOver, going_seen, over_seen, AreSeen, none_seen, more_seen, Events, shift_in, state_after}
+use Rattle.sc_fork.specs.Seen.{place_of, IsInput, IsNext, next_unknown, next_kind, IsSeen, IsSeenAt, IsOver, going_seen, over_seen, AreSeen, none_seen, more_seen, Events, shift_in, state_after}
 use Rattle.sc_lalr.specs.Tables.{action_of, tables_of}
 use Rattle.sc_merge.proofs.ShowLemmas.{ShowsAt-Grows}
 use Rattle.sc_merge.specs.declared.subparser.Phase.TheVariants.{Named}
@@ -407,7 +407,7 @@ kind-owns : (old new : Sets) (count : ℕ) (source : Source) (parent : Subparser
     → OwnsRow old count source parent → IsCond new cond.0 → has_tree kind ≡ false → kind < 96 → IsKind new source parent j cond kind pieces → All (OwnsPiece new count source) pieces
 kind-owns old new count source parent j cond kind _ keeps within owns own silent terminal (no_part never) = All-nil (OwnsPiece new count source)
 kind-owns old new count source parent j cond kind _ keeps within owns own silent terminal (refused_part item some got none_shifted) =
-    All-cons (OwnsPiece new count source) (Over (record { cond = cond; answer = Refused Syntax item.1.place })) [] (record { cond = own; answer = tt }) (All-nil (OwnsPiece new count source))
+    All-cons (OwnsPiece new count source) (Over (record { cond = cond; answer = Refused Syntax item.1.place })) [] (record { cond = own; answer = (j, sym (ap (place_of source.end) got)) }) (All-nil (OwnsPiece new count source))
 kind-owns old new count source parent j cond kind _ keeps within owns own silent terminal (shifted_part state next some shifted steps) =
     All-cons (OwnsPiece new count source) (Going next) [] row (All-nil (OwnsPiece new count source))
   where

@@ -23,7 +23,8 @@ use Rattle.sc_fork.specs.declared.piece.Ended.{Ended}
 use Rattle.sc_fork.specs.Choices.{AreDisjoint, IsSoundChoice, AreSound}
 use Rattle.sc_fork.specs.Cores.{AreRows, no_rows, empty_row, full_row, AreOver, none_over, more_over, IsCore}
 use Rattle.sc_fork.specs.Outcomes.{answers_at, faults_in, RootReads, root_reads, IsOutcome, OwnsOutcome}
-use Rattle.sc_fork.specs.Owns.{OwnsEnded}
+use Rattle.sc_fork.specs.declared.source.Source.{Source}
+use Rattle.sc_fork.specs.Owns.{IsPlaceOf, OwnsAnswer, OwnsEnded}
 use Rattle.sc_fork.specs.Roots.{faults_by, faults_of, trees_by, trees_of, IsSatisfiable, AreRoots, IsRoot, no_root, only_root, chosen_root, AddsChoice, no_choice, one_choice}
 use Rattle.sc_fork.specs.Seen.{IsAnswer, is_tree, is_fault}
 use Rattle.sc_fork.proofs.Possible.{possible}
@@ -171,33 +172,46 @@ parts-satisfiable w input _ _ arities (more_over e f es fs is rest) =
     by (Root id) = All-cons (IsSatisfiable w.sets) (e.cond, id) [] some (All-nil (IsSatisfiable w.sets))
     by (Refused cause place) = All-nil (IsSatisfiable w.sets)
 
-module _ (sets : Sets) (total : ℕ) where
+module _ (sets : Sets) (total : ℕ) (source : Source) where
   abbrev Low : Cond × TreeId → Type 0
   Low part = part.1.0 < total
 
   abbrev OwnFault : declared.Fault → Type 0
   OwnFault fault = IsCond sets fault.cond.0
 
-  pub parts-within : (es : List Ended) → All (OwnsEnded sets total) es → All Low (trees_of es)
+  pub parts-within : (es : List Ended) → All (OwnsEnded sets total source) es → All Low (trees_of es)
   parts-within [] own = All-nil Low
   parts-within (e ∷ es) own =
-      let first = All-head (OwnsEnded sets total) e es own in
-      All-append Low (trees_by e.cond e.answer) (trees_of es) (by first e.answer refl) (parts-within es (All-tail (OwnsEnded sets total) e es own))
+      let first = All-head (OwnsEnded sets total source) e es own in
+      All-append Low (trees_by e.cond e.answer) (trees_of es) (by first e.answer refl) (parts-within es (All-tail (OwnsEnded sets total source) e es own))
     where
-      by : OwnsEnded sets total e → (answer : Answer) → e.answer ≡ answer → All Low (trees_by e.cond answer)
+      by : OwnsEnded sets total source e → (answer : Answer) → e.answer ≡ answer → All Low (trees_by e.cond answer)
       by first (Root id) same =
           let owned = first.answer in
           All-cons Low (e.cond, id) [] (rw same at owned) (All-nil Low)
       by first (Refused cause place) same = All-nil Low
 
-  pub faults-own : (es : List Ended) → All (OwnsEnded sets total) es → All OwnFault (faults_of es)
+  pub faults-own : (es : List Ended) → All (OwnsEnded sets total source) es → All OwnFault (faults_of es)
   faults-own [] own = All-nil OwnFault
   faults-own (e ∷ es) own =
-      All-append OwnFault (faults_by e.cond e.answer) (faults_of es) (by (All-head (OwnsEnded sets total) e es own) e.answer) (faults-own es (All-tail (OwnsEnded sets total) e es own))
+      All-append OwnFault (faults_by e.cond e.answer) (faults_of es) (by (All-head (OwnsEnded sets total source) e es own) e.answer) (faults-own es (All-tail (OwnsEnded sets total source) e es own))
     where
-      by : OwnsEnded sets total e → (answer : Answer) → All OwnFault (faults_by e.cond answer)
+      by : OwnsEnded sets total source e → (answer : Answer) → All OwnFault (faults_by e.cond answer)
       by first (Root id) = All-nil OwnFault
       by first (Refused cause place) = All-cons OwnFault (record { cond = e.cond; cause = cause; place = place }) [] first.cond (All-nil OwnFault)
+
+  abbrev IsPlaced : declared.Fault → Type 0
+  IsPlaced fault = IsPlaceOf source.list.now source.end fault.place
+
+  pub faults-placed : (es : List Ended) → All (OwnsEnded sets total source) es → All IsPlaced (faults_of es)
+  faults-placed [] own = All-nil IsPlaced
+  faults-placed (e ∷ es) own =
+      All-append IsPlaced (faults_by e.cond e.answer) (faults_of es) (by e.answer (All-head (OwnsEnded sets total source) e es own).answer)
+      (faults-placed es (All-tail (OwnsEnded sets total source) e es own))
+    where
+      by : (answer : Answer) → OwnsAnswer total source answer → All IsPlaced (faults_by e.cond answer)
+      by (Root id) placed = All-nil IsPlaced
+      by (Refused cause place) placed = All-cons IsPlaced (record { cond = e.cond; cause = cause; place = place }) [] placed (All-nil IsPlaced)
 
 -- ---- the outcome
 
@@ -285,14 +299,15 @@ root-owned lines _ _ no_root low = tt
 root-owned lines _ _ (only_root x) low = All-head (λ (y : Cond × TreeId). y.1.0 < length lines) x [] low
 root-owned lines _ _ (chosen_root roots chosen several within named) low = within
 
-pub owns-outcome : (old new : Sets) (lines later : List Line) (roots : List (Cond × TreeId)) (es : List Ended) (o : Outcome) → Keeps old new → Extends lines later
-    → All (OwnsEnded old (length lines)) es → AreRoots old new (trees_of es) roots → o.faults.items ≡ faults_of es → IsRoot later roots o.root → OwnsOutcome new (length later) o
-owns-outcome old new lines later roots es o keeps grows own are faults root = record {
+pub owns-outcome : (old new : Sets) (lines later : List Line) (roots : List (Cond × TreeId)) (es : List Ended) (source : Source) (o : Outcome) → Keeps old new → Extends lines later
+    → All (OwnsEnded old (length lines) source) es → AreRoots old new (trees_of es) roots → o.faults.items ≡ faults_of es → IsRoot later roots o.root → OwnsOutcome new (length later) source o
+owns-outcome old new lines later roots es source o keeps grows own are faults root = record {
   root = root-owned later roots o.root root
       (λ k d below.
-      let low : (get_or roots k d).1.0 < length lines = are.within (length lines) (parts-within old (length lines) es own) k d below in
+      let low : (get_or roots k d).1.0 < length lines = are.within (length lines) (parts-within old (length lines) source es own) k d below in
       omega (arith, low, grows.longer));
-  faults = subst (All (λ (fault : declared.Fault). IsCond new fault.cond.0)) (sym faults) (λ k d below. keeps.own (get_or (faults_of es) k d).cond.0 (faults-own old (length lines) es own k d below));
+  faults = subst (All (λ (fault : declared.Fault). IsCond new fault.cond.0)) (sym faults) (λ k d below. keeps.own (get_or (faults_of es) k d).cond.0 (faults-own old (length lines) source es own k d below));
+  places = subst (All (λ (fault : declared.Fault). IsPlaceOf source.list.now source.end fault.place)) (sym faults) (faults-placed old (length lines) source es own);
 }
 
 -- ---- the choices

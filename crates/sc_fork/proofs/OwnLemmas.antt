@@ -65,11 +65,11 @@ module _ (sets : Sets) (count : ℕ) (source : Source) where
       (going-own pieces (All-tail (OwnsPiece sets count source) (Going s) pieces own))
   going-own (Over e ∷ pieces) own = going-own pieces (All-tail (OwnsPiece sets count source) (Over e) pieces own)
 
-  over-own : (pieces : List Piece) → All (OwnsPiece sets count source) pieces → All (OwnsEnded sets count) (over_of pieces)
-  over-own [] own = All-nil (OwnsEnded sets count)
+  over-own : (pieces : List Piece) → All (OwnsPiece sets count source) pieces → All (OwnsEnded sets count source) (over_of pieces)
+  over-own [] own = All-nil (OwnsEnded sets count source)
   over-own (Going s ∷ pieces) own = over-own pieces (All-tail (OwnsPiece sets count source) (Going s) pieces own)
   over-own (Over e ∷ pieces) own =
-      All-cons (OwnsEnded sets count) e (over_of pieces) (All-head (OwnsPiece sets count source) (Over e) pieces own)
+      All-cons (OwnsEnded sets count source) e (over_of pieces) (All-head (OwnsPiece sets count source) (Over e) pieces own)
       (over-own pieces (All-tail (OwnsPiece sets count source) (Over e) pieces own))
 
 row-weaker : (P Q : Subparser → Type 0) → ((s : Subparser) → P s → Q s) → (row : Option Subparser) → IfSome row P → IfSome row Q
@@ -102,10 +102,10 @@ module _ {old new : Sets} {lines added : List Line} (before after : Core) (keeps
         (All-weaker (λ (row : Option Subparser). IfSome row (OwnsRow old (length lines) before.source)) Row
         (row-weaker (OwnsRow old (length lines) before.source) (OwnsRow new (length added) before.source) (OwnsRow-Grows keeps longer before.source)) before.rows.items (own.rows usable)))
         (going-own new (length added) before.source pieces owned)));
-    ended = λ now. subst (All (OwnsEnded new (length added))) (sym becomes.ended)
-        (All-append (OwnsEnded new (length added)) before.ended.items (over_of pieces)
-        (All-weaker (OwnsEnded old (length lines)) (OwnsEnded new (length added)) (OwnsEnded-Grows keeps longer) before.ended.items (own.ended usable))
-        (over-own new (length added) before.source pieces owned));
+    ended = λ now. subst (λ (s : Source). All (OwnsEnded new (length added) s) after.ended.items) (sym source) (subst (All (OwnsEnded new (length added) before.source)) (sym becomes.ended)
+        (All-append (OwnsEnded new (length added) before.source) before.ended.items (over_of pieces)
+        (All-weaker (OwnsEnded old (length lines) before.source) (OwnsEnded new (length added) before.source) (OwnsEnded-Grows keeps longer before.source) before.ended.items (own.ended usable))
+        (over-own new (length added) before.source pieces owned)));
   }
     where
       Row : Option Subparser → Type 0

@@ -1,5 +1,5 @@
 -- In which phases the pieces of an event are.
-use Rattle.std.proofs.Common.{◌≡◌, ℕ, ◌+◌, ◌<◌, ◌≤◌, List, [], ◌∷◌, ◌++◌, All, length, refl, sym, ap, ◌∙◌, subst, arith}
+use Rattle.std.proofs.Common.{◌≡◌, ℕ, ◌+◌, ◌<◌, ◌≤◌, List, Option, [], ◌∷◌, ◌++◌, All, length, refl, sym, ap, ◌∙◌, subst, arith}
 use Rattle.std.specs.Prelude.{AllPairs}
 use Rattle.std.specs.Borrow.{Bor}
 use Rattle.std.proofs.lemmas.List.Elements.{All-head, All-tail, All-cons, All-nil, All-append}
@@ -7,11 +7,14 @@ use Rattle.std.proofs.lemmas.List.Kept.{AllPairs-cons}
 use Rattle.sc_base.specs.declared.id.Cond.{Cond}
 use Rattle.sc_fork.specs.declared.enabled.Enabled.{Enabled}
 use Rattle.sc_fork.specs.declared.enabled.Enabled.TheVariants.{Reduce, Shift, Merge}
+use Rattle.sc_fork.specs.declared.event.Event.{Event}
+use Rattle.sc_fork.specs.declared.event.Event.TheVariants as event
+use Rattle.sc_fork.specs.Enabled.{IsEnabled, can_split, can_reduce, can_shift, can_classify, can_merge}
 use Rattle.sc_fork.specs.declared.piece.Piece.{Piece}
 use Rattle.sc_fork.specs.declared.piece.Piece.TheVariants.{Going}
 use Rattle.sc_fork.specs.declared.source.Source.{Source}
 use Rattle.sc_fork.specs.Kinds.{AddsKind, IsKind, no_part, refused_part, shifted_part}
-use Rattle.sc_fork.specs.Pieces.{AreInOrder, IfGoing, InNextPhase, IsPast, LooksBefore, LooksFrom}
+use Rattle.sc_fork.specs.Pieces.{AreInOrder, IfGoing, InNextPhase, IsPast, IsReducedBy, LooksBefore, LooksFrom, Makes, splits, reduces, shifts, classifies, merges}
 use Rattle.sc_fork.specs.Seen.{IsPartOf, ArePartsOf, no_parts, more_parts}
 use Rattle.sc_fork.proofs.PieceLemmas.{all-one}
 use Rattle.sc_fork.proofs.SplitLemmas.{rising-head, rising-tail}
@@ -77,8 +80,8 @@ kind-phases sets source parent j types variables start first second fresh adds t
 
 module _ (source : Source) (e : Enabled) (pieces : List Piece) where
   module _ (piece : Piece) (is : pieces ≡ piece ∷ []) where
-    pub reduce-next : (s : Bor Subparser) (j p : ℕ) → e ≡ Reduce s j p → IfGoing (λ next. next.phase ≡ At j) piece → All (InNextPhase source e) pieces
-    reduce-next s j p same phase = subst (λ x. All (InNextPhase source x) pieces) (sym same) (all-one (IfGoing (λ next. next.phase ≡ At j)) pieces piece is phase)
+    pub reduce-next : (s : Bor Subparser) (j p : ℕ) → e ≡ Reduce s j p → IfGoing (IsReducedBy source j p s.now) piece → All (InNextPhase source e) pieces
+    reduce-next s j p same reduced = subst (λ x. All (InNextPhase source x) pieces) (sym same) (all-one (IfGoing (IsReducedBy source j p s.now)) pieces piece is reduced)
 
     pub shift-next : (s : Bor Subparser) (j : ℕ) → e ≡ Shift s j → IfGoing (IsPast source j) piece → All (InNextPhase source e) pieces
     shift-next s j same phase = subst (λ x. All (InNextPhase source x) pieces) (sym same) (all-one (IfGoing (IsPast source j)) pieces piece is phase)
@@ -95,3 +98,26 @@ module _ (source : Source) (e : Enabled) (pieces : List Piece) where
 
     pub merge-order : (s t : Bor Subparser) → e ≡ Merge s t → AreInOrder e pieces
     merge-order s t same = subst (λ x. AreInOrder x pieces) (sym same) (m, is)
+
+-- ---- what an event makes
+
+pub makes : (source : Source) (rows : List (Option Subparser)) (event : Event) (e : Enabled) (pieces : List Piece) → IsEnabled source rows event e → All (InNextPhase source e) pieces
+    → AreInOrder e pieces → Makes source rows event pieces
+makes source rows _ _ pieces (can_split n i s has between) next order = splits n i s.now pieces has between next order
+makes source rows _ _ pieces (can_reduce n j p s has looks acts) next order = alone pieces next order
+  where
+    alone : (pieces : List Piece) → All (IfGoing (IsReducedBy source j p s.now)) pieces → length pieces ≡ 1 → Makes source rows (event.Reduce n) pieces
+    alone [] next one = absurd (omega (arith, one))
+    alone (piece ∷ []) next one = reduces n j p s.now piece has looks acts (All-head (IfGoing (IsReducedBy source j p s.now)) piece [] next)
+    alone (piece ∷ (other ∷ pieces)) next one = absurd (omega (arith, one))
+makes source rows _ _ pieces (can_shift n j s has looks acts) next order = alone pieces next order
+  where
+    alone : (pieces : List Piece) → All (IfGoing (IsPast source j)) pieces → length pieces ≡ 1 → Makes source rows (event.Shift n) pieces
+    alone [] next one = absurd (omega (arith, one))
+    alone (piece ∷ []) next one = shifts n j s.now piece has looks (All-head (IfGoing (IsPast source j)) piece [] next)
+    alone (piece ∷ (other ∷ pieces)) next one = absurd (omega (arith, one))
+makes source rows _ _ pieces (can_classify n j s has named) next order = classifies n j s.now pieces has named next
+makes source rows _ _ pieces (can_merge n m s t has other apart alike) next order =
+    let At_once : Piece → Type 0 = IfGoing (AreAlike s.now) in
+    let merged : AreAlike s.now order.0 = All-head At_once (Going order.0) [] (subst (All At_once) order.1 next) in
+    subst (Makes source rows (event.Merge n m)) (sym order.1) (merges n m s.now t.now order.0 has other apart alike merged)

@@ -318,6 +318,7 @@ pub record Reduction (g : Grammar) (states : List (List ℕ)) (stack symbols : L
   pub production : Production
   pub some : 0 < number
   pub at : slice_get productions (number - 1) ≡ Some production
+  pub not_empty : 0 < length production.right
   pub high : length production.right ≤ length stack
   pub goto : (t : ℕ) × IsGoto g states (top (drop (length production.right) stack)) (96 + production.left) t
   pub head : length production.right ≡ 1 → slice_get symbols 0 ≡ option_map (symbol_number 96) (slice_get production.right 0)
@@ -359,6 +360,7 @@ module _ (g : Grammar) (entries : g.entries.now ≡ entries_of productions) (ter
         production = a.production;
         some = a.some;
         at = a.at;
+        not_empty = omega (arith, r.some, a.is_size);
         high = omega (arith, r.high, a.is_size);
         goto = (
           r.goto.0,

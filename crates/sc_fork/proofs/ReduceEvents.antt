@@ -1,7 +1,7 @@
 -- A reduction is the step of LR parsing at each configuration.
-use Rattle.std.proofs.Common.{◌≡◌, ℕ, ◌<◌, ◌≤◌, ◌-◌, true, List, [], ◌∷◌, All, IfSome, length, take, drop, reverse, slice_get, is_some, Option, Some, None, refl, sym, ap, ◌∙◌, subst, arith}
+use Rattle.std.proofs.Common.{◌≡◌, ℕ, ◌<◌, ◌≤◌, ◌-◌, ◌+◌, true, List, [], ◌∷◌, All, IfSome, length, option_map, take, drop, reverse, slice_get, is_some, Option, Some, None, refl, sym, ap, ◌∙◌, subst, arith}
 use Rattle.std.specs.List.{take-map}
-use Rattle.std.proofs.lemmas.List.{drop-map, reverse-append}
+use Rattle.std.proofs.lemmas.List.{drop-map, length-drop, reverse-append}
 use Rattle.std.proofs.lemmas.List.Elements.{All-cons, All-drop, All-head, All-tail, All-push, All-take}
 use Rattle.std.proofs.lemmas.Option.{IfSome_then, same_Some, none-some, slice_get_within}
 use Rattle.c11_parsing.specs.Bindings.{Declarators, marked}
@@ -14,7 +14,8 @@ use Rattle.c11_parsing.specs.LR.{Frame, Point, on, looking, step, acted, reduced
 use Rattle.c11_parsing.specs.Parser.{Parser}
 use Rattle.c11_parsing.specs.Trees.{Tree}
 use Rattle.lr_tables.specs.declared.grammar.Action.TheVariants.{Reduce}
-use Rattle.lr_tables.specs.Grammar.{Production}
+use Rattle.lr_tables.specs.Grammar.{Production, symbol_number}
+use Rattle.lr_tables.specs.Paths.{Path}
 use Rattle.sc_base.specs.declared.id.Cond.{Cond}
 use Rattle.sc_base.specs.declared.id.TreeId.{TreeId}
 use Rattle.sc_base.proofs.Growth.{Extends-refl}
@@ -23,8 +24,9 @@ use Rattle.sc_fork.specs.declared.source.Source.{Source}
 use Rattle.sc_fork.specs.Owns.{AreC11Tables, IsSource, IsOnPath, IsWithin, OwnsRow}
 use Rattle.sc_fork.specs.Reducing.{IsValueOf, Rebinds}
 use Rattle.sc_fork.specs.Seen.{IsInput, IsNext, IsSeen, IsSeenAt, going_seen, AreSeen, none_seen, more_seen, terminal_in, action_in, action_by}
-use Rattle.sc_fork.proofs.ProductionLemmas.{reduction-of}
-use Rattle.sc_fork.proofs.ReduceLemmas.{left-tree, on-path, goes-on, frames-read, below-reads, left-read, frames-below}
+use Rattle.sc_fork.specs.Pieces.{IsReducedBy, ReplacesSide}
+use Rattle.sc_fork.proofs.ProductionLemmas.{Reduction, reduction-of}
+use Rattle.sc_fork.proofs.ReduceLemmas.{left-tree, on-path, path-after, goes-on, frames-read, below-reads, left-read, frames-below}
 use Rattle.sc_fork.proofs.StepLemmas.{looking_run, step-acted, action-same, top-frames, top-states}
 use Rattle.sc_grammar.specs.C11.{productions}
 use Rattle.sc_lalr.specs.Tables.{goto_of}
@@ -71,8 +73,9 @@ reduced-point m end r x number state rule below numbered goes declarators rest =
     ∙ ap (after_reduction r number rule state c11_declarators) rest
 
 -- the parent was reduced to this subparser, which LR parsing does where names differ in their texts
-pub record IsReduced (old new : Sets) (before after : List Line) (source : Source) (parent s : Subparser) : Type 0 where
+pub record IsReduced (j number : ℕ) (old new : Sets) (before after : List Line) (source : Source) (parent s : Subparser) : Type 0 where
   pub row : OwnsRow new (length after) source s
+  pub by : IsReducedBy source j number parent s
   pub pieces : (names files : List (List ℕ)) (input : Input) (t : core.Subparser) → IsOneToOne names → IsInput (tables_with old before names files) source input
       → IsSeen (tables_with old before names files) input parent t → (qs : List Piece) × (Makes input t core.reduce qs × AreSeen (tables_with new after names files) input (Going s ∷ []) qs)
 
@@ -112,6 +115,42 @@ module _ (old new : Sets) (before after : List Line) (source : Source) (parent s
       subst (λ (es : List Entry). IsOnPath c11.grammar c11.states es) (sym stack)
       (subst (λ (p : Production). IsOnPath c11.grammar c11.states (record { state = state; value = value } ∷ drop (length p.right) parent.stack)) (sym same)
       (on-path c11.grammar c11.states parent.stack onto number r state value goto some))
+
+  -- the parent's path with the left side on top
+  pub by-production : IsReducedBy source j number parent s
+  by-production = record {
+    phase = phase ∙ looks;
+    rule = rule;
+    numbered = numbered;
+    some = subst (λ (p : Production). 0 < length p.right) (sym same) found.not_empty;
+    height =
+        let high : length rule.right ≤ length (states_of parent.stack) = subst (λ (p : Production). length p.right ≤ length (states_of parent.stack)) (sym same) found.high in
+        let states : states_of s.stack ≡ state ∷ drop size (states_of parent.stack) = ap states_of stack ∙ ap (λ ss. state ∷ ss) (sym (drop-map (λ (entry : Entry). entry.state) size parent.stack)) in
+        omega (arith, high, ap length states, length-drop size (states_of parent.stack));
+    sides = sides;
+  }
+    where
+      found : Reduction source_is.tables.grammar source_is.tables.states (states_of parent.stack) (own.path source_is.tables).symbols number
+      found = reduction-of source parent j number source_is source_is.tables (own.path source_is.tables) acts
+
+      same : rule ≡ found.production
+      same = same_Some rule found.production (sym numbered ∙ found.at)
+
+      sides : (c11 : AreC11Tables source.tables.now) → ReplacesSide c11.grammar c11.states (states_of parent.stack) (states_of s.stack) rule
+      sides c11 =
+          let onto = own.path c11 in
+          let r = reduction-of source parent j number source_is c11 onto acts in
+          let is : rule ≡ r.production = same_Some rule r.production (sym numbered ∙ r.at) in
+          let goto = goes-on c11.grammar c11.states parent.stack onto number r source.tables.now c11.exact c11.terminals c11.nonterminals (Some state)
+          (subst (λ (p : Production). goto_of source.tables.now (state_of (drop (length p.right) parent.stack)) p.left ≡ Some state) is goes) in
+          record {
+            symbols = onto.symbols;
+            was = onto.path;
+            becomes = subst (λ (es : List Entry). Path c11.grammar c11.states (states_of es) ((96 + rule.left) ∷ drop (length rule.right) onto.symbols)) (sym stack)
+                (subst (λ (p : Production). Path c11.grammar c11.states (states_of (record { state = state; value = value } ∷ drop (length p.right) parent.stack)) ((96 + p.left) ∷ drop (length p.right) onto.symbols))
+                (sym is) (path-after c11.grammar c11.states parent.stack onto number r state value goto));
+            alone = subst (λ (p : Production). length p.right ≡ 1 → slice_get onto.symbols 0 ≡ option_map (symbol_number 96) (slice_get p.right 0)) (sym is) r.head;
+          }
 
   own-reduced : OwnsRow new (length after) source s
   own-reduced = record { owns = owns; within = subst (λ p. IsWithin (length source.list.now) p) (sym phase) own.within; path = path }
@@ -210,8 +249,8 @@ module _ (old new : Sets) (before after : List Line) (source : Source) (parent s
       ),
     )
 
-  pub is-reduced : IsReduced old new before after source parent s
-  is-reduced = record { row = own-reduced; pieces = λ names files input t one is seen. reduced-pieces names files input t one is seen }
+  pub is-reduced : IsReduced j number old new before after source parent s
+  is-reduced = record { row = own-reduced; by = by-production; pieces = λ names files input t one is seen. reduced-pieces names files input t one is seen }
 
 -- ---- what the calls ask
 

@@ -138,14 +138,19 @@ module _ (g : Grammar) (states : List (List ℕ)) (stack : List Entry) (on : IsO
           passed-tree stack on.symbols r.production.right value on.trees high r.head (passes (λ (p : Production). one_tree p.right) productions (number - 1) r.production units-have-trees r.at) same
       by _ _ same (made values id several at) = refl
 
+  pub path-after : (state : ℕ) (value : Option TreeId) → IsGoto g states (state_of (drop size stack)) (96 + r.production.left) state
+      → Path g states (states_of (record { state = state; value = value } ∷ drop size stack)) ((96 + r.production.left) ∷ drop size on.symbols)
+  path-after state value goto =
+      above state (96 + r.production.left) (states_of (drop size stack)) (drop size on.symbols)
+      (subst (λ s. IsGoto g states s (96 + r.production.left) state) (sym (top-state (drop size stack))) goto)
+      (subst (λ ss. Path g states ss (drop size on.symbols)) (drop-map (λ (entry : Entry). entry.state) size stack) (drop-path g states size (states_of stack) on.symbols on.path))
+
   -- the state that follows is put on the stack
   pub on-path : (state : ℕ) (value : Option TreeId) → IsGoto g states (state_of (drop size stack)) (96 + r.production.left) state → is_some value ≡ true
       → IsOnPath g states (record { state = state; value = value } ∷ drop size stack)
   on-path state value goto some = record {
     symbols = (96 + r.production.left) ∷ drop size on.symbols;
-    path = above state (96 + r.production.left) (states_of (drop size stack)) (drop size on.symbols)
-        (subst (λ s. IsGoto g states s (96 + r.production.left) state) (sym (top-state (drop size stack))) goto)
-        (subst (λ ss. Path g states ss (drop size on.symbols)) (drop-map (λ (entry : Entry). entry.state) size stack) (drop-path g states size (states_of stack) on.symbols on.path));
+    path = path-after state value goto;
     trees = ap (λ b. b ∷ map is_some (values_of (drop size stack))) (some ∙ sym (nonterminal-has-tree r.production.left))
         ∙ ap (λ bs. has_tree (96 + r.production.left) ∷ bs)
         (ap (map is_some) (sym (drop-map (λ (entry : Entry). entry.value) size stack)) ∙ sym (drop-map is_some size (values_of stack)) ∙ ap (drop size) on.trees ∙ drop-map has_tree size on.symbols);

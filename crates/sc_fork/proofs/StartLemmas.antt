@@ -105,7 +105,7 @@ start-owns sets count begun live source items own first ended = record {
   source = source;
   items = items;
   rows = λ usable. by begun.rows.items first;
-  ended = λ usable. subst (All (OwnsEnded sets count)) (sym ended) (All-nil (OwnsEnded sets count));
+  ended = λ usable. subst (All (OwnsEnded sets count begun.source)) (sym ended) (All-nil (OwnsEnded sets count begun.source));
 }
   where
     Owned : Option Subparser → Type 0

@@ -6,6 +6,8 @@ use Rattle.c11_parsing.specs.Trees.{Tree}
 use Rattle.sc_base.specs.declared.fault.Fault as declared
 use Rattle.sc_base.specs.declared.id.TreeId.{TreeId}
 use Rattle.sc_fork.specs.declared.outcome.Outcome.{Outcome}
+use Rattle.sc_fork.specs.declared.source.Source.{Source}
+use Rattle.sc_fork.specs.Owns.{IsPlaceOf}
 use Rattle.sc_guarded.specs.Items.{faults_at, seen_fault}
 use Rattle.sc_model.specs.Fault.{Fault}
 use Rattle.sc_model.specs.Sets.{Sets, IsCond, IsConfig}
@@ -36,7 +38,8 @@ pub record IsOutcome (w : Tables) (seen : core.Core) (o : Outcome) : Type 0 wher
   pub faults : (c : List ℕ) → IsConfig w.sets.arities c → map (seen_fault w.files) (faults_at w.sets o.faults.items c) ≡ faults_in (answers_at seen.ended c)
   pub some : (id : TreeId) → o.root ≡ Some id → (c : List ℕ) × ((tree : Tree) × (IsConfig w.sets.arities c × HasTree seen c tree))
 
--- the outcome's conditions and its root are those of the stores
-pub record OwnsOutcome (sets : Sets) (count : ℕ) (o : Outcome) : Type 0 where
+-- the outcome's conditions and its root are those of the stores, its places those of the source
+pub record OwnsOutcome (sets : Sets) (count : ℕ) (source : Source) (o : Outcome) : Type 0 where
   pub root : IfSome o.root (λ id. id.0 < count)
   pub faults : All (λ (fault : declared.Fault). IsCond sets fault.cond.0) o.faults.items
+  pub places : All (λ (fault : declared.Fault). IsPlaceOf source.list.now source.end fault.place) o.faults.items

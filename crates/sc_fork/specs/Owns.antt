@@ -1,11 +1,12 @@
 -- What a core keeps of its source, its subparsers and what has ended.
-use Rattle.std.specs.Prelude.{◌≡◌, ℕ, ◌<◌, ◌≤◌, ◌==◌, ◌||◌, not, false, Bool, List, Option, is_some, length, map, option_map, All, IfSome, [], ◌∷◌}
+use Rattle.std.specs.Prelude.{◌≡◌, ℕ, ◌<◌, ◌≤◌, ◌==◌, ◌||◌, not, false, Bool, List, Option, is_some, length, map, option_map, slice_get, All, IfSome, [], ◌∷◌}
 use Rattle.lr_tables.specs.declared.grammar.Grammar.{Grammar}
 use Rattle.lr_tables.specs.declared.grammar.Terminal.{Terminal}
 use Rattle.lr_tables.specs.Grammar.{entries_of}
 use Rattle.lr_tables.specs.Paths.{Path}
 use Rattle.lr_tables.specs.Tables as lr
 use Rattle.sc_base.specs.declared.id.Cond.{Cond}
+use Rattle.sc_base.specs.declared.place.Place.{Place}
 use Rattle.sc_base.specs.declared.token.Token.{Token}
 use Rattle.sc_base.specs.Seen.{text_at}
 use Rattle.sc_fork.specs.declared.enabled.Enabled.{Enabled}
@@ -17,6 +18,7 @@ use Rattle.sc_fork.specs.declared.piece.Ended.{Ended}
 use Rattle.sc_fork.specs.declared.piece.Piece.{Piece}
 use Rattle.sc_fork.specs.declared.piece.Piece.TheVariants.{Going, Over}
 use Rattle.sc_fork.specs.declared.source.Source.{Source}
+use Rattle.sc_fork.specs.Seen.{place_of}
 use Rattle.sc_grammar.specs.C11.{productions}
 use Rattle.sc_grammar.specs.declared.TheConstants.{TERMINALS, NONTERMINALS}
 use Rattle.sc_kinds.specs.Kinds.{terminal_of}
@@ -73,17 +75,21 @@ pub record OwnsRow (sets : Sets) (count : ℕ) (source : Source) (s : Subparser)
   pub within : IsWithin (length source.list.now) s.phase
   pub path : (c11 : AreC11Tables source.tables.now) → IsOnPath c11.grammar c11.states s.stack
 
-abbrev pub OwnsAnswer : ℕ → Answer → Type 0
-OwnsAnswer count (Root id) = id.0 < count
-OwnsAnswer count (Refused cause place) = Unit {0}
+-- the place is that of an element, or the end
+abbrev pub IsPlaceOf : List (Cond × Token) → Place → Place → Type 0
+IsPlaceOf list end place = (j : ℕ) × (place ≡ place_of end (slice_get list j))
 
-pub record OwnsEnded (sets : Sets) (count : ℕ) (e : Ended) : Type 0 where
+abbrev pub OwnsAnswer : ℕ → Source → Answer → Type 0
+OwnsAnswer count source (Root id) = id.0 < count
+OwnsAnswer count source (Refused cause place) = IsPlaceOf source.list.now source.end place
+
+pub record OwnsEnded (sets : Sets) (count : ℕ) (source : Source) (e : Ended) : Type 0 where
   pub cond : IsCond sets e.cond.0
-  pub answer : OwnsAnswer count e.answer
+  pub answer : OwnsAnswer count source e.answer
 
 abbrev pub OwnsPiece : Sets → ℕ → Source → Piece → Type 0
 OwnsPiece sets count source (Going s) = OwnsRow sets count source s
-OwnsPiece sets count source (Over e) = OwnsEnded sets count e
+OwnsPiece sets count source (Over e) = OwnsEnded sets count source e
 
 -- the subparsers that an event names are owned
 abbrev pub OwnsEnabled : Sets → ℕ → Source → Enabled → Type 0
@@ -99,7 +105,7 @@ pub record OwnsCore (sets : Sets) (count : ℕ) (core : Core) : Type 0 where
   pub source : IsSource core.source
   pub items : All (λ (item : Cond × Token). IsCond sets item.0.0) core.source.list.now
   pub rows : core.is_given_up ≡ false → All (λ (row : Option Subparser). IfSome row (OwnsRow sets count core.source)) core.rows.items
-  pub ended : core.is_given_up ≡ false → All (OwnsEnded sets count) core.ended.items
+  pub ended : core.is_given_up ≡ false → All (OwnsEnded sets count core.source) core.ended.items
 
 -- no frames, one level without bindings, before the first element
 pub record IsFirst (live : Cond) (s : Subparser) : Type 0 where

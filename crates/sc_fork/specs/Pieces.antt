@@ -1,7 +1,11 @@
 -- What an event that a core can do makes of its subparsers, and what becomes of the core.
-use Rattle.std.specs.Prelude.{◌≡◌, ◌<◌, ◌≤◌, ◌||◌, ℕ, ◌+◌, Bool, List, [], ◌∷◌, ◌++◌, length, slice_set, Option, Some, None, All, AllPairs}
+use Rattle.std.specs.Prelude.{◌≡◌, ◌<◌, ◌≤◌, ◌||◌, ℕ, ◌+◌, ◌-◌, Bool, List, [], ◌∷◌, ◌++◌, drop, length, option_map, slice_get, slice_set, Option, Some, None, All, AllPairs}
 use Rattle.std.specs.List.{range_with_len}
 use Rattle.c11_parsing.specs.Core as core
+use Rattle.lr_tables.specs.declared.grammar.Action.TheVariants.{Reduce as Reduction}
+use Rattle.lr_tables.specs.declared.grammar.Grammar.{Grammar}
+use Rattle.lr_tables.specs.Grammar.{Production, symbol_number}
+use Rattle.lr_tables.specs.Paths.{Path}
 use Rattle.sc_fork.specs.declared.enabled.Enabled.{Enabled}
 use Rattle.sc_fork.specs.declared.enabled.Enabled.TheVariants as enabled
 use Rattle.sc_fork.specs.declared.event.Event.{Event}
@@ -12,14 +16,17 @@ use Rattle.sc_fork.specs.declared.piece.Piece.{Piece}
 use Rattle.sc_fork.specs.declared.piece.Piece.TheVariants.{Going, Over}
 use Rattle.sc_fork.specs.declared.source.Source.{Source}
 use Rattle.sc_fork.specs.Choices.{AddsNoChoices}
-use Rattle.sc_fork.specs.Enabled.{IsEnabled}
-use Rattle.sc_fork.specs.Seen.{Events, terminal_in}
+use Rattle.sc_fork.specs.Enabled.{Has}
+use Rattle.sc_fork.specs.Owns.{AreC11Tables}
+use Rattle.sc_fork.specs.Seen.{Events, action_in, terminal_in}
 use Rattle.sc_fork.specs.Shifts.{phase_after}
-use Rattle.sc_merge.specs.declared.subparser.Phase.TheVariants.{At, Between}
+use Rattle.sc_grammar.specs.C11.{productions}
+use Rattle.sc_merge.specs.declared.subparser.Phase.TheVariants.{At, Between, Named}
 use Rattle.sc_merge.specs.declared.subparser.Subparser.{Subparser}
 use Rattle.sc_merge.specs.Keys.{AreAlike}
 use Rattle.sc_merge.specs.Merges.{AddsChoices, KeepsShown}
 use Rattle.sc_model.specs.Sets.{Sets, Denotes}
+use Rattle.sc_stack.specs.Entries.{states_of}
 use Rattle.sc_tree.specs.Lines.{Line}
 
 -- what two subparsers become when they are merged
@@ -61,6 +68,23 @@ pub record LooksFrom (first end : ℕ) (s : Subparser) : Type 0 where
   pub low : first ≤ at
   pub high : at ≤ end
 
+-- The left side stands on the stack in the place of the right side, of which one symbol alone was
+-- on top.
+pub record ReplacesSide (g : Grammar) (states : List (List ℕ)) (before after : List ℕ) (rule : Production) : Type 0 where
+  pub symbols : List ℕ
+  pub was : Path g states before symbols
+  pub becomes : Path g states after ((96 + rule.left) ∷ drop (length rule.right) symbols)
+  pub alone : length rule.right ≡ 1 → slice_get symbols 0 ≡ option_map (symbol_number 96) (slice_get rule.right 0)
+
+-- the subparser is the parent reduced by production p, at the same element
+pub record IsReducedBy (source : Source) (j p : ℕ) (parent next : Subparser) : Type 0 where
+  pub phase : next.phase ≡ At j
+  pub rule : Production
+  pub numbered : slice_get productions (p - 1) ≡ Some rule
+  pub some : 0 < length rule.right
+  pub height : length (states_of next.stack) + length rule.right ≡ length (states_of parent.stack) + 1
+  pub sides : (c11 : AreC11Tables source.tables.now) → ReplacesSide c11.grammar c11.states (states_of parent.stack) (states_of next.stack) rule
+
 -- the one piece looks at an element before that of the other
 pub record LooksBefore (p q : Piece) : Type 0 where
   pub before : (s t : Subparser) (i j : ℕ) → p ≡ Going s → q ≡ Going t → s.phase ≡ At i → t.phase ≡ At j → i < j
@@ -75,7 +99,7 @@ pub record IsPast (source : Source) (j : ℕ) (s : Subparser) : Type 0 where
 -- a piece that goes on is in a phase to which the event leads
 abbrev pub InNextPhase : Source → Enabled → Piece → Type 0
 InNextPhase source (enabled.Split s i) = IfGoing (LooksFrom i (length source.list.now))
-InNextPhase source (enabled.Reduce s j p) = IfGoing (λ next. next.phase ≡ At j)
+InNextPhase source (enabled.Reduce s j p) = IfGoing (IsReducedBy source j p s.now)
 InNextPhase source (enabled.Shift s j) = IfGoing (IsPast source j)
 InNextPhase source (enabled.Classify s j) = IfGoing (λ next. next.phase ≡ Between (j + 1))
 InNextPhase source (enabled.Merge s t) = IfGoing (AreAlike s.now)
@@ -120,11 +144,20 @@ pub record Becomes (before : Core) (event : Event) (pieces : List Piece) (after 
   pub ended : after.ended.items ≡ before.ended.items ++ over_of pieces
   pub numbers : made ≡ range_with_len (length before.rows.items) (length (going_of pieces))
 
+-- Which pieces an event makes that the core can do. The parts of a split look at one element after
+-- the other. Of a reduction and of a shift there is one piece, of a merge one that goes on.
+pub data Makes (source : Source) (rows : List (Option Subparser)) : Event → List Piece → Type 0 where
+  splits : (n i : ℕ) (s : Subparser) (pieces : List Piece) → Has rows n s → s.phase ≡ Between i → All (IfGoing (LooksFrom i (length source.list.now))) pieces
+      → AllPairs LooksBefore pieces → Makes source rows (Split n) pieces
+  reduces : (n j p : ℕ) (s : Subparser) (piece : Piece) → Has rows n s → s.phase ≡ At j → action_in source s j ≡ Some (Reduction p)
+      → IfGoing (IsReducedBy source j p s) piece → Makes source rows (Reduce n) (piece ∷ [])
+  shifts : (n j : ℕ) (s : Subparser) (piece : Piece) → Has rows n s → s.phase ≡ At j → IfGoing (IsPast source j) piece → Makes source rows (Shift n) (piece ∷ [])
+  classifies : (n j : ℕ) (s : Subparser) (pieces : List Piece) → Has rows n s → s.phase ≡ Named j → All (IfGoing (λ next. next.phase ≡ Between (j + 1))) pieces
+      → Makes source rows (Classify n) pieces
+  merges : (n m : ℕ) (s t u : Subparser) → Has rows n s → Has rows m t → (n ≡ m → ⊥) → AreAlike s t → AreAlike s u → Makes source rows (Merge n m) (Going u ∷ [])
+
 -- The core can do the event, and this is what it does.
 pub record HasMade (before : Core) (event : Event) (after : Core) (made : List ℕ) : Type 0 where
-  pub enabled : Enabled
-  pub can : IsEnabled before.source before.rows.items event enabled
   pub pieces : List Piece
+  pub makes : Makes before.source before.rows.items event pieces
   pub becomes : Becomes before event pieces after made
-  pub phases : All (InNextPhase before.source enabled) pieces
-  pub order : AreInOrder enabled pieces

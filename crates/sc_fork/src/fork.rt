@@ -1,12 +1,12 @@
 //! A parser of all configurations at once, one event at a time.
-ghost use Rattle.std.specs.Prelude.{◌≡◌, ◌↔◌, ◌⊎◌, ℕ, ◌<◌, true, false, Err, List, None, Option, All, IfErr, IfOk, IfSome, IsTrue, length};
+ghost use Rattle.std.specs.Prelude.{[], ◌≡◌, ◌↔◌, ◌⊎◌, ℕ, ◌<◌, true, false, Err, List, None, Option, All, IfErr, IfOk, IfSome, IsTrue, length};
 ghost use Rattle.c11_parsing.specs.Classes.{Input};
 ghost use Rattle.c11_parsing.specs.Core as core;
 ghost use Rattle.c11_parsing.specs.Core.{Stands};
 ghost use Rattle.sc_base.specs.Seen.{IsHeld};
 ghost use Rattle.sc_fork.specs.declared.event.Event.{Event};
 ghost use Rattle.sc_fork.specs.declared.event.Fact.{Fact};
-ghost use Rattle.sc_fork.specs.Choices.{AreSound};
+ghost use Rattle.sc_fork.specs.Choices.{AddsLeaves, AreSound};
 ghost use Rattle.sc_fork.specs.Cores.{IsApplied, IsCore, IsFinished, Starts};
 ghost use Rattle.sc_fork.specs.Enabled.{Has, HasNone, IsEnabled, IsRefused, LooksAt};
 ghost use Rattle.sc_fork.specs.Outcomes.{IsOutcome, OwnsOutcome};
@@ -73,6 +73,8 @@ impl<'a> Core<'a> {
         ensures start { IfOk result (λ core. (lines : List Line) (files : List (List ℕ)) → Starts (tables_with (C.sets conds.now) lines names.now files) core live) }
         ensures own { IfOk result (λ core. (count : ℕ) → OwnsCore (C.sets conds.now) count core) }
         ensures usable { IfOk result (λ core. core.is_given_up ≡ false) }
+        ensures first { IfOk result (λ core. AreFirst (C.sets conds.now) live core.rows.items) }
+        ensures ended { IfOk result (λ core. core.ended.items ≡ []) }
     {
         let source = Source::new(alloc, names, list, end, tables)?;
         let rows = first_rows(alloc, conds, live)?;
@@ -106,6 +108,8 @@ impl<'a> Core<'a> {
             → Stands input seen → AreSound (C.sets conds.old) trees.old → AreSound (C.sets conds.new) trees.new }
 
         // at every outcome
+        ensures leaves { AddsLeaves self.old.source.list.now trees.old trees.new }
+        ensures source { self.new.source ≡ self.old.source }
         ensures own { OwnsCore (C.sets conds.new) (length trees.new) self.new }
         ensures keeps { Keeps (C.sets conds.old) (C.sets conds.new) }
         ensures grows { Extends trees.old trees.new }
@@ -228,11 +232,13 @@ impl<'a> Core<'a> {
         ensures outcome { IfOk result (λ outcome. (names files : List (List ℕ)) (input : Input) (seen : core.Core)
             → IsCore (tables_with (C.sets conds.old) trees.old names files) input self.now seen → Stands input seen
             → IsOutcome (tables_with (C.sets conds.new) trees.new names files) seen outcome) }
-        ensures own { IfOk result (OwnsOutcome (C.sets conds.new) (length trees.new)) }
+        ensures own { IfOk result (OwnsOutcome (C.sets conds.new) (length trees.new) self.now.source) }
         ensures choices { (names files : List (List ℕ)) (input : Input) (seen : core.Core) → IsCore (tables_with (C.sets conds.old) trees.old names files) input self.now seen
             → Stands input seen → AreSound (C.sets conds.old) trees.old → AreSound (C.sets conds.new) trees.new }
 
         // at every outcome
+        ensures leaves { AddsLeaves self.now.source.list.now trees.old trees.new }
+        ensures branches { OwnsBranches (C.sets conds.new) trees.new }
         ensures keeps { Keeps (C.sets conds.old) (C.sets conds.new) }
         ensures grows { Extends trees.old trees.new }
     {
@@ -293,6 +299,7 @@ fn pieces_of<C: Conditions>(
 
     // at every outcome
     ensures choices { AddsOwnChoices trees.old trees.new enabled.entry }
+    ensures leaves { AddsLeaves source.now.list.now trees.old trees.new }
     ensures keeps { Keeps (C.sets conds.old) (C.sets conds.new) }
     ensures grows { Extends trees.old trees.new }
     ensures branches { OwnsBranches (C.sets conds.new) trees.new }

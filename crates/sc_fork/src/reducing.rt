@@ -1,12 +1,14 @@
 //! A subparser reduces by a production.
-ghost use Rattle.std.specs.Prelude.{◌≡◌, ◌≤◌, ◌<◌, [], ◌∷◌, Some, All, length, IfOk, IfSome, OnOk};
+ghost use Rattle.std.specs.Prelude.{◌≡◌, ◌≤◌, ◌<◌, [], ◌∷◌, List, Some, All, length, IfOk, IfSome, OnOk};
 ghost use Rattle.c11_parsing.specs.Bindings.{variable, bind_all, declared_by, marked, parameters_by};
 ghost use Rattle.c11_parsing.specs.C11.{c11_declarators};
 ghost use Rattle.c11_parsing.specs.Core as core;
 ghost use Rattle.lr_tables.specs.declared.grammar.Action.TheVariants.{Reduce};
-ghost use Rattle.sc_fork.specs.Choices.{AddsNoChoices};
+ghost use Rattle.sc_base.specs.declared.id.Cond.{Cond};
+ghost use Rattle.sc_base.specs.declared.token.Token.{Token};
+ghost use Rattle.sc_fork.specs.Choices.{AddsLeaves, AddsNoChoices};
 ghost use Rattle.sc_fork.specs.Owns.{IsSource, OwnsPiece, OwnsRow};
-ghost use Rattle.sc_fork.specs.Pieces.{IfGoing};
+ghost use Rattle.sc_fork.specs.Pieces.{IfGoing, IsReducedBy};
 ghost use Rattle.sc_fork.specs.Reducing.{BindsUnder, IsValueOf, Rebinds};
 ghost use Rattle.sc_fork.specs.Seen.{Events, action_in};
 ghost use Rattle.sc_grammar.specs.Production.{symbols_of};
@@ -48,10 +50,11 @@ pub(crate) fn reduce<C: Conditions>(
     requires branches { OwnsBranches (C.sets conds.old) trees.old }
     ensures piece { IfOk result (λ piece. Events (C.sets conds.old) (C.sets conds.new) trees.old trees.new source.now parent.now core.reduce (piece ∷ [])) }
     ensures own { IfOk result (OwnsPiece (C.sets conds.new) (length trees.new) source.now) }
-    ensures phase { IfOk result (IfGoing (λ next. next.phase ≡ At at)) }
+    ensures reduced { IfOk result (IfGoing (IsReducedBy source.now at number parent.now)) }
 
     // at every outcome
     ensures choices { AddsNoChoices trees.old trees.new }
+    ensures leaves { (list : List (Cond × Token)) → AddsLeaves list trees.old trees.new }
     ensures keeps { Keeps (C.sets conds.old) (C.sets conds.new) }
     ensures grows { Extends trees.old trees.new }
     ensures branches { OwnsBranches (C.sets conds.new) trees.new }
@@ -99,6 +102,7 @@ fn value_of(
 
     // at every outcome
     ensures choices { AddsNoChoices trees.old trees.new }
+    ensures leaves { (list : List (Cond × Token)) → AddsLeaves list trees.old trees.new }
     ensures grows { Extends trees.old trees.new }
 {
     if values.len() == 1 {

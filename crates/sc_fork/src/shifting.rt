@@ -1,11 +1,12 @@
 //! A subparser shifts what comes next.
-ghost use Rattle.std.specs.Prelude.{◌≡◌, ◌≤◌, ◌<◌, ◌^◌, ℕ, [], ◌∷◌, Some, length, slice_get, IfOk};
+ghost use Rattle.std.specs.Prelude.{◌≡◌, ◌≤◌, ◌<◌, ◌^◌, ℕ, [], ◌∷◌, List, Some, length, slice_get, IfOk};
 ghost use Rattle.std.specs.List.{filter_map};
 ghost use Rattle.c11_parsing.specs.Core as core;
 ghost use Rattle.lr_tables.specs.declared.grammar.Action.TheVariants.{Reduce};
 ghost use Rattle.sc_base.specs.declared.id.Cond.{Cond};
 ghost use Rattle.sc_base.specs.declared.token.Token.{Token};
-ghost use Rattle.sc_fork.specs.Choices.{AddsNoChoices};
+ghost use Rattle.sc_fork.specs.Choices.{AddsLeaves, AddsNoChoices};
+ghost use Rattle.sc_fork.specs.declared.source.Source.{Source};
 ghost use Rattle.sc_fork.specs.Owns.{IsSource, OwnsAnswer, OwnsPiece, OwnsRow};
 ghost use Rattle.sc_fork.specs.Pieces.{IfGoing, IsPast};
 ghost use Rattle.sc_fork.specs.Seen.{Events, action_in};
@@ -45,6 +46,7 @@ pub(crate) fn shift(
 
     // at every outcome
     ensures choices { AddsNoChoices trees.old trees.new }
+    ensures leaves { AddsLeaves source.now.list.now trees.old trees.new }
     ensures grows { Extends trees.old trees.new }
     ensures branches { (sets : Sets) → OwnsBranches sets trees.old → OwnsBranches sets trees.new }
 {
@@ -88,6 +90,7 @@ fn shift_token(
 
     // at every outcome
     ensures choices { AddsNoChoices trees.old trees.new }
+    ensures leaves { AddsLeaves source.now.list.now trees.old trees.new }
     ensures grows { Extends trees.old trees.new }
 {
     let token = source.list.item(at).1;
@@ -116,10 +119,11 @@ const EMPTY_UNIT: usize = 2;
 fn accept(alloc: Global, trees: &mut Trees, parent: &Subparser) -> Result<Ended, OutOfMemory>
     requires { OwnsValues (length trees.old) (values_of parent.now.stack) }
     ensures accepted { IfOk result (IsAccepted trees.new parent.now) }
-    ensures own { IfOk result (λ ended. OwnsAnswer (length trees.new) ended.answer) }
+    ensures own { (source : Source) → IfOk result (λ ended. OwnsAnswer (length trees.new) source ended.answer) }
 
     // at every outcome
     ensures choices { AddsNoChoices trees.old trees.new }
+    ensures leaves { (list : List (Cond × Token)) → AddsLeaves list trees.old trees.new }
     ensures grows { Extends trees.old trees.new }
 {
     let values = parent.stack.values()?;

@@ -118,7 +118,7 @@ returns-in_ok-vec-in-Merge-clause-branches g c =
 pub returns-in_ok-vec-in-Reduce-clause-phases : goal.returns-in_ok-vec-in-Reduce-clause-phases
 returns-in_ok-vec-in-Reduce-clause-phases g c =
     reduce-next c.args.source.now c.args.enabled c.in_ok-vec-in-Reduce.field-0.items c.in_ok-piece-in-Reduce.piece c.in_ok-vec-in-Reduce.ensures.items c.in-Reduce.parent c.in-Reduce.at
-    c.in-Reduce.production c.in-Reduce.is c.in_ok-piece-in-Reduce.ensures.phase
+    c.in-Reduce.production c.in-Reduce.is c.in_ok-piece-in-Reduce.ensures.reduced
 
 pub returns-in_ok-vec-in-Reduce-clause-order : goal.returns-in_ok-vec-in-Reduce-clause-order
 returns-in_ok-vec-in-Reduce-clause-order g c =

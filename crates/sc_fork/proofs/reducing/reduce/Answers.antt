@@ -47,7 +47,7 @@ returns-in_err-scopes-clause-branches g c =
     branches-Keeps _ _ _ c.marked_scopes.ensures.keeps (adds-branches _ c.args.trees.now _ c.value_of.ensures.choices c.requires.branches)
 
 reduced : (g : Over) (c : After-drop-values-2 g)
-    → IsReduced (g.C.Conditions.sets c.args.conds.now) (g.C.Conditions.sets c.marked_scopes.new.conds) c.args.trees.now c.value_of.new.trees c.args.source.now c.args.parent.now
+    → IsReduced c.args.at c.args.number (g.C.Conditions.sets c.args.conds.now) (g.C.Conditions.sets c.marked_scopes.new.conds) c.args.trees.now c.value_of.new.trees c.args.source.now c.args.parent.now
     (record { cond = c.args.parent.now.cond; stack = c.push.new.self; scopes = c.in_ok-scopes.scopes; phase = c.args.parent.now.phase })
 reduced g c =
     let rule = production_of c.production-rule.result in
@@ -70,6 +70,9 @@ returns-clause-piece g c = λ names files input t is seen. (reduced g c).pieces 
 
 pub returns-clause-own : goal.returns-clause-own
 returns-clause-own g c = (reduced g c).row
+
+pub returns-clause-reduced : goal.returns-clause-reduced
+returns-clause-reduced g c = (reduced g c).by
 
 pub returns-clause-branches : goal.returns-clause-branches
 returns-clause-branches g c = branches-Keeps _ _ _ c.marked_scopes.ensures.keeps (adds-branches _ c.args.trees.now _ c.value_of.ensures.choices c.requires.branches)

@@ -1,4 +1,5 @@
 use Rattle.std.proofs.Common.{length}
+use Rattle.sc_fork.proofs.PhaseLemmas.{makes}
 use Rattle.sc_fork.proofs.CoreLemmas.{applied}
 use Rattle.sc_fork.proofs.OwnLemmas.{numbers-within, owns-after, owns-enabled}
 use Rattle.sc_fork.proofs.SoundLemmas.{choices-sound}
@@ -55,11 +56,10 @@ returns-clause-own g c =
     c.pieces_of-pieces.ensures.grows c.if-self.false c.in-Ok-replace.ensures.becomes c.in-Ok-pieces.ensures.own
 
 pub returns-clause-rows : goal.returns-clause-rows
-returns-clause-rows g c = record {
-  enabled = c.in-Ok.enabled;
-  can = rw c.deref.ensures.value at c.in-Ok.ensures.ok;
-  pieces = c.in-Ok-pieces.pieces.items;
-  becomes = c.in-Ok-replace.ensures.becomes;
-  phases = c.in-Ok-pieces.ensures.phases;
-  order = c.in-Ok-pieces.ensures.order;
-}
+returns-clause-rows g c =
+    let core = c.args.self.now in
+    record {
+      pieces = c.in-Ok-pieces.pieces.items;
+      makes = makes core.source core.rows.items c.args.event c.in-Ok.enabled c.in-Ok-pieces.pieces.items (rw c.deref.ensures.value at c.in-Ok.ensures.ok) c.in-Ok-pieces.ensures.phases c.in-Ok-pieces.ensures.order;
+      becomes = c.in-Ok-replace.ensures.becomes;
+    }

@@ -18,7 +18,7 @@ root_of-requires g c =
     let es = c.args.self.now.ended.items in
     let are = subst (λ (parts : List Ended). AreRoots (s c.args.conds.now) (s c.roots_of.new.conds) (trees_of parts) c.in_ok-roots.roots.items) c.deref-2.ensures.value c.in_ok-roots.ensures.roots in
     subst (λ (xs : List (Cond × TreeId)). All (λ (x : Cond × TreeId). x.1.0 < total) xs) (sym c.deref-3.ensures.value)
-    (are.within total (parts-within (s c.args.conds.now) total es (c.requires.own.ended c.requires.finished.usable)))
+    (are.within total (parts-within (s c.args.conds.now) total c.args.self.now.source es (c.requires.own.ended c.requires.finished.usable)))
 
 pub returns-in_err-root-clause-choices : goal.returns-in_err-root-clause-choices
 returns-in_err-root-clause-choices g c =
@@ -49,7 +49,7 @@ returns-clause-outcome g c =
     let root = subst (λ (xs : List (Cond × TreeId)). IsRoot later xs c.in_ok-root.root) c.deref-3.ensures.value c.in_ok-root.ensures.root in
     λ names files input seen is stands.
     outcome old new lines later names files input c.args.self.now seen c.in_ok-roots.ensures.keeps c.requires.finished.rows roots are is stands _ c.in_ok-root.ensures.grows
-    (faults-own old (length lines) es (c.requires.own.ended c.requires.finished.usable)) (c.in_ok-faults.ensures ∙ ap faults_of c.deref.ensures.value) root
+    (faults-own old (length lines) c.args.self.now.source es (c.requires.own.ended c.requires.finished.usable)) (c.in_ok-faults.ensures ∙ ap faults_of c.deref.ensures.value) root
 
 pub returns-clause-own : goal.returns-clause-own
 returns-clause-own g c =
@@ -59,7 +59,7 @@ returns-clause-own g c =
     let roots = c.in_ok-roots.roots.items in
     let are = subst (λ (parts : List Ended). AreRoots old new (trees_of parts) roots) c.deref-2.ensures.value c.in_ok-roots.ensures.roots in
     let root = subst (λ (xs : List (Cond × TreeId)). IsRoot c.root_of.new.trees xs c.in_ok-root.root) c.deref-3.ensures.value c.in_ok-root.ensures.root in
-    owns-outcome old new c.args.trees.now c.root_of.new.trees roots c.args.self.now.ended.items _ c.in_ok-roots.ensures.keeps c.in_ok-root.ensures.grows
+    owns-outcome old new c.args.trees.now c.root_of.new.trees roots c.args.self.now.ended.items c.args.self.now.source _ c.in_ok-roots.ensures.keeps c.in_ok-root.ensures.grows
     (c.requires.own.ended c.requires.finished.usable) are (c.in_ok-faults.ensures ∙ ap faults_of c.deref.ensures.value) root
 
 pub returns-clause-choices : goal.returns-clause-choices
