@@ -1,0 +1,13 @@
+pub mod ClassLemmas
+pub mod EndLemmas
+pub mod EventLemmas
+pub mod MergeLemmas
+pub mod NumberLemmas
+pub mod PartLemmas
+pub mod PlaceLemmas
+pub mod ResultLemmas
+pub mod RowLemmas
+pub mod RunLemmas
+pub mod ShiftLemmas
+pub mod TurnLemmas
+pub mod WeightLemmas

@@ -1,0 +1,100 @@
+use Rattle.std.proofs.Common.{◌≡◌, [], ◌∷◌, ◌++◌, length, sym, ap, ◌∙◌, subst, arith}
+use Rattle.std.specs.Vec.Iter.{into_iter_items}
+use Rattle.sc_fork.specs.declared.event.Event.TheVariants.{Reduce}
+use Rattle.sc_fork.specs.Pieces.{HasMade}
+use Rattle.sc_grammar.specs.Production.{production_of}
+use Rattle.sc_parse.proofs.NumberLemmas.{fewer-numbers, times-append}
+use Rattle.sc_parse.proofs.WeightLemmas.{at-number, HasReduced, none-left, reduced-first, reduced-next, reduction-number, rule-left}
+use Rattle.sc_parse.specs.Numbers.{Each, times}
+use Rattle.sc_parse.specs.Weights.{IsRanked, Moves, numbers_of}
+use Rattle.sc_parse.proofs.reductions.reduce_one.Goals as goal
+
+pub production-rank-requires-clause-first : goal.production-rank-requires-clause-first
+production-rank-requires-clause-first g c = (reduction-number (g.C.Conditions.sets c.args.conds.now) (length c.args.trees.now) c.args.steps.now c.args.number c.args.rule c.requires.own c.requires.reduces).0
+
+pub production-rank-requires-clause-last : goal.production-rank-requires-clause-last
+production-rank-requires-clause-last g c = (reduction-number (g.C.Conditions.sets c.args.conds.now) (length c.args.trees.now) c.args.steps.now c.args.number c.args.rule c.requires.own c.requires.reduces).1
+
+pub loop-made-init : goal.loop-made-init
+loop-made-init g c =
+    let made = c.in_ok-made-items.made-items in
+    let given = c.into_iter-made-iterator.ensures.into_iter_gives in
+    let left : into_iter_items c.into_iter-made-iterator.result ≡ made.items = given.0 in
+    record {
+      reduced =
+          reduced-first (g.C.Conditions.sets c.args.conds.now) (g.C.Conditions.sets c.apply.new.conds) c.args.trees.now c.apply.new.trees c.args.steps.now c.apply.new.self c.args.number c.args.rule
+          (production_of c.production-rank.result) c.args.waiting.now.entries (into_iter_items c.into_iter-made-iterator.result) c.requires.own c.requires.branches c.requires.numbers c.requires.at.0
+          c.requires.at.1 c.requires.weighed c.requires.reduces c.production-rank.ensures
+          (subst (λ ns. HasMade c.args.steps.now.core (Reduce c.args.number) c.apply.new.self.core ns) (sym left) c.in_ok-made-items.ensures.made) c.in_ok-made-items.ensures.goes_on;
+      count = given.1 ∙ made.ok.0 ∙ ap length (sym left);
+    }
+
+pub wait-requires-clause-own : goal.wait-requires-clause-own
+wait-requires-clause-own g c = c.loop-made.invariant.reduced.own
+
+pub wait-requires-clause-branches : goal.wait-requires-clause-branches
+wait-requires-clause-branches g c = c.loop-made.invariant.reduced.branches
+
+pub wait-requires-clause-numbers : goal.wait-requires-clause-numbers
+wait-requires-clause-numbers g c =
+    let at = c.loop-made in
+    let steps : into_iter_items at.made-iterator ≡ c.in-Some.made ∷ into_iter_items c.next.new.self = c.in-Some.ensures.steps.0 in
+    fewer-numbers at.steps.core.rows.items (into_iter_items at.made-iterator ++ numbers_of at.waiting.entries) (c.in-Some.made ∷ numbers_of at.waiting.entries) at.invariant.reduced.numbers
+    (λ n.
+    let first = ap (λ ns. times n (ns ++ numbers_of at.waiting.entries)) steps in
+    let e = times-append n (c.in-Some.made ∷ into_iter_items c.next.new.self) (numbers_of at.waiting.entries) in
+    omega (arith, first, e))
+
+pub wait-requires-clause-weighed : goal.wait-requires-clause-weighed
+wait-requires-clause-weighed g c = c.loop-made.invariant.reduced.weighed
+
+pub wait-requires-clause-ranked : goal.wait-requires-clause-ranked
+wait-requires-clause-ranked g c = λ s has.
+    let at = c.loop-made in
+    let R = IsRanked at.steps.core.source c.production-rank.result.left.0 in
+    let steps : into_iter_items at.made-iterator ≡ c.in-Some.made ∷ into_iter_items c.next.new.self = c.in-Some.ensures.steps.0 in
+    at-number R at.steps.core.rows.items c.in-Some.made (into_iter_items c.next.new.self) s has
+    (subst (λ ns. Each R at.steps.core.rows.items ns) steps at.invariant.reduced.ranked)
+
+pub wait-requires-clause-low : goal.wait-requires-clause-low
+wait-requires-clause-low g c = let h = rule-left c.args.rule (production_of c.production-rank.result) c.production-rank.ensures in omega (arith, h)
+
+pub loop-made-preserved : goal.loop-made-preserved
+loop-made-preserved g c =
+    let at = c.loop-made in
+    let steps : into_iter_items at.made-iterator ≡ c.in-Some.made ∷ into_iter_items c.next.new.self = c.in-Some.ensures.steps.0 in
+    let old = g.C.Conditions.sets c.args.conds.now in
+    let now = g.C.Conditions.sets at.conds in
+    record {
+      reduced =
+          reduced-next old now (g.C.Conditions.sets c.wait.new.conds) c.args.trees.now at.trees c.wait.new.trees c.args.steps.now at.steps c.wait.new.steps c.args.number c.args.waiting.now.entries
+          c.production-rank.result.left.0 c.in-Some.made (into_iter_items c.next.new.self) at.waiting.entries c.wait.new.waiting.entries
+          (subst (λ ns. HasReduced old now c.args.trees.now at.trees c.args.steps.now at.steps c.args.number c.args.waiting.now.entries c.production-rank.result.left.0 ns at.waiting.entries) steps at.invariant.reduced)
+          c.in_ok-wait.ensures.goes_on c.in_ok-wait.ensures.replaces c.in_ok-wait.ensures.weighed c.in_ok-wait.ensures.at c.in_ok-wait.ensures.below;
+      count = let was = at.invariant.count in let gone = c.in-Some.ensures.steps.1 in let short = ap length steps in omega (arith, was, gone, short);
+    }
+
+-- none is left
+done : (g : _) (c : goal.After-drop-made-iterator-2 g) → into_iter_items c.loop-made.made-iterator ≡ []
+done g c = none-left (into_iter_items c.loop-made.made-iterator) (sym c.loop-made.invariant.count ∙ c.in-None.ensures.steps.0)
+
+pub returns-clause-moves : goal.returns-clause-moves
+returns-clause-moves g c = λ j each.
+    subst (λ ns. Moves (g.C.Conditions.sets c.args.conds.now) (g.C.Conditions.sets c.loop-made.conds) c.args.trees.now c.loop-made.trees j c.args.steps.now c.loop-made.steps
+    (c.args.number ∷ numbers_of c.args.waiting.now.entries) (ns ++ numbers_of c.loop-made.waiting.entries))
+    (done g c) (c.loop-made.invariant.reduced.moves j each)
+
+pub returns-clause-weighed : goal.returns-clause-weighed
+returns-clause-weighed g c = c.loop-made.invariant.reduced.weighed
+
+pub returns-clause-below : goal.returns-clause-below
+returns-clause-below g c = λ w heavy low. (c.loop-made.invariant.reduced.below w heavy low).0
+
+pub returns-clause-keeps : goal.returns-clause-keeps
+returns-clause-keeps g c = c.loop-made.invariant.reduced.keeps
+
+pub returns-clause-grows : goal.returns-clause-grows
+returns-clause-grows g c = c.loop-made.invariant.reduced.grows
+
+pub returns-clause-owns : goal.returns-clause-owns
+returns-clause-owns g c = c.loop-made.invariant.reduced.branches

@@ -1,0 +1,7 @@
+pub mod Filed
+pub mod Numbers
+pub mod Parses
+pub mod Places
+pub mod Runs
+pub mod Turns
+pub mod Weights

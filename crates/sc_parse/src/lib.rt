@@ -1,0 +1,11 @@
+//! Parsing under all configurations at once: subparsers that stand at the same place alike are one.
+#![tactic(auto)]
+
+mod parsed;
+mod parsing;
+mod reductions;
+mod rows;
+mod steps;
+
+pub use parsed::Parsed;
+pub use parsing::parse;

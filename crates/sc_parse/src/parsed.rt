@@ -1,0 +1,12 @@
+use sc_base::{Fault, TreeId};
+use sc_fork::Event;
+
+/// What a list becomes under all configurations.
+#[derive(Drop)]
+pub struct Parsed {
+    /// One tree with choices for all configurations that are not refused, where there are any.
+    pub root: Option<TreeId>,
+    pub faults: Vec<Fault>,
+    /// The events that lead to this, in order.
+    pub events: Vec<Event>,
+}

@@ -1,0 +1,160 @@
+//! The events of a core, one after the other.
+ghost use Rattle.std.specs.Prelude.{◌≡◌, ◌<◌, ◌+◌, ◌++◌, ◌∷◌, [], ℕ, false, All, IfOk, IfSome, List, None, get_or, length, if◌then◌else◌};
+ghost use Rattle.c11_parsing.specs.Classes.{Input};
+ghost use Rattle.c11_parsing.specs.Core as core;
+ghost use Rattle.sc_fork.specs.declared.event.Fact.{Fact};
+ghost use Rattle.sc_fork.specs.Enabled.{Has, IsRefused};
+ghost use Rattle.sc_fork.specs.Pieces.{HasMade};
+ghost use Rattle.sc_merge.specs.declared.subparser.Subparser.{Subparser};
+ghost use Rattle.sc_merge.specs.Keys.{AreAlike, IsKeyOf};
+ghost use Rattle.sc_merge.specs.Merges.{tables_with};
+ghost use Rattle.sc_model.specs.Growth.{Extends};
+ghost use Rattle.sc_model.specs.Sets.{Keeps};
+ghost use Rattle.sc_parse.specs.Numbers.{AreApart, AreLike, AreNumbers, Replaces};
+ghost use Rattle.sc_parse.specs.Runs.{AreWaiting, GoesOn, IsBefore, IsRun, IsStepTo, OwnsSteps};
+ghost use Rattle.sc_tree.specs.Lines.{OwnsBranches};
+
+use sc_base::OutOfMemory;
+use sc_fork::{Core, CoreStop, Event};
+use sc_merge::Key;
+use sc_presence::Conditions;
+use sc_tree::Trees;
+use std::alloc::Global;
+
+/// A core with the events that it did.
+#[derive(Drop)]
+pub(crate) struct Steps<'a> {
+    pub core: Core<'a>,
+    pub events: Vec<Event>,
+}
+
+impl Steps<'_> {
+    /// Does an event that the core can do. The answer is the numbers of the new subparsers.
+    pub(crate) fn apply<C: Conditions>(
+        &mut self,
+        alloc: Global,
+        conds: &mut C,
+        trees: &mut Trees,
+        event: Event,
+    ) -> Result<Vec<usize>, OutOfMemory>
+        requires own { OwnsSteps (C.sets conds.old) (length trees.old) self.old }
+        requires branches { OwnsBranches (C.sets conds.old) trees.old }
+        requires enabled { (fact : Fact) → IsRefused self.old.core.source self.old.core.rows.items event fact → ⊥ }
+        ensures made { IfOk result (λ made. HasMade self.old.core event self.new.core made.items) }
+        ensures step { IfOk result (λ made. (names files : List (List ℕ)) (input : Input) (first : core.Core) → IsRun (tables_with (C.sets conds.old) trees.old names files) input first self.old
+            → IsStepTo (tables_with (C.sets conds.old) trees.old names files) (tables_with (C.sets conds.new) trees.new names files) input self.old.core event self.new.core) }
+        ensures goes_on { IfOk result (λ made. (place : ℕ) → IsBefore self.old.core.rows.items place event
+            → GoesOn (C.sets conds.old) (C.sets conds.new) trees.old trees.new place self.old self.new) }
+
+        // at every outcome
+        ensures keeps { Keeps (C.sets conds.old) (C.sets conds.new) }
+        ensures grows { Extends trees.old trees.new }
+        ensures owns { OwnsBranches (C.sets conds.new) trees.new }
+    {
+        match self.core.apply(alloc, conds, trees, event) {
+            Ok(applied) => {
+                self.events.push(event)?;
+                Ok(applied.made)
+            }
+            Err(CoreStop::OutOfMemory) => Err(OutOfMemory),
+            Err(CoreStop::NotEnabled { fact: _ }) => unreachable!(),
+            Err(CoreStop::GivenUp) => unreachable!(),
+        }
+    }
+
+    /// Puts a subparser to others, no two of which are alike: it is merged with the one that is
+    /// like it. The answer is whether it is one more.
+    pub(crate) fn join<C: Conditions>(
+        &mut self,
+        alloc: Global,
+        conds: &mut C,
+        trees: &mut Trees,
+        others: &mut Vec<usize>,
+        number: usize,
+    ) -> Result<bool, OutOfMemory>
+        requires own { OwnsSteps (C.sets conds.old) (length trees.old) self.old }
+        requires branches { OwnsBranches (C.sets conds.old) trees.old }
+        requires numbers { AreNumbers self.old.core.rows.items (number ∷ others.old.items) }
+        ensures goes_on { IfOk result (λ more. (place : ℕ) → GoesOn (C.sets conds.old) (C.sets conds.new) trees.old trees.new place self.old self.new) }
+        ensures replaces { IfOk result (λ more. Replaces self.old.core.rows.items self.new.core.rows.items (number ∷ others.old.items) others.new.items) }
+        ensures alike { IfOk result (λ more. AreLike self.old.core.rows.items (number ∷ others.old.items) self.new.core.rows.items others.new.items) }
+        ensures count { IfOk result (λ more. length others.new.items ≡ length others.old.items + (if more then 1 else 0)) }
+        ensures apart { IfOk result (λ more. AreApart self.old.core.rows.items others.old.items → AreApart self.new.core.rows.items others.new.items) }
+        ensures waiting { IfOk result (λ more. (names files : List (List ℕ)) (input : Input) (first : core.Core) (place : ℕ) → IsRun (tables_with (C.sets conds.old) trees.old names files) input first self.old
+            → AreWaiting (C.sets conds.old) input place self.old.core.rows.items (number ∷ others.old.items)
+            → AreWaiting (C.sets conds.new) input place self.new.core.rows.items others.new.items) }
+
+        // at every outcome
+        ensures keeps { Keeps (C.sets conds.old) (C.sets conds.new) }
+        ensures grows { Extends trees.old trees.new }
+        ensures owns { OwnsBranches (C.sets conds.new) trees.new }
+    {
+        let Some(place) = self.place_of_like(others, number) else {
+            others.push(number)?;
+            return Ok(true);
+        };
+        others[place] = self.merge(alloc, conds, trees, others[place], number)?;
+        Ok(false)
+    }
+
+    /// Where the one that is like the subparser stands.
+    fn place_of_like(&self, others: &[usize], number: usize) -> Option<usize>
+        requires usable { self.now.core.is_given_up ≡ false }
+        requires numbers { AreNumbers self.now.core.rows.items (number ∷ others.now) }
+        ensures some { IfSome result (λ place. place < length others.now
+            × ((s t : Subparser) → Has self.now.core.rows.items (get_or others.now place 0) s → Has self.now.core.rows.items number t → AreAlike s t)) }
+        ensures none { result ≡ None → All (λ other. (s t : Subparser) → Has self.now.core.rows.items other s → Has self.now.core.rows.items number t → AreAlike s t → ⊥) others.now }
+    {
+        let key = self.key(number);
+        for place in 0..others.len() {
+            if self.key(others[place]) == key {
+                return Some(place);
+            }
+        }
+        None
+    }
+
+    /// Merges two subparsers that are alike. The answer is the number of the one that comes of it.
+    fn merge<C: Conditions>(
+        &mut self,
+        alloc: Global,
+        conds: &mut C,
+        trees: &mut Trees,
+        number: usize,
+        other: usize,
+    ) -> Result<usize, OutOfMemory>
+        requires own { OwnsSteps (C.sets conds.old) (length trees.old) self.old }
+        requires branches { OwnsBranches (C.sets conds.old) trees.old }
+        requires numbers { AreNumbers self.old.core.rows.items (number ∷ (other ∷ [])) }
+        requires alike { (s t : Subparser) → Has self.old.core.rows.items number s → Has self.old.core.rows.items other t → AreAlike s t }
+        ensures goes_on { IfOk result (λ merged. (place : ℕ) → GoesOn (C.sets conds.old) (C.sets conds.new) trees.old trees.new place self.old self.new) }
+        ensures replaces { IfOk result (λ merged. Replaces self.old.core.rows.items self.new.core.rows.items (number ∷ (other ∷ [])) (merged ∷ [])) }
+        ensures merged { IfOk result (λ merged. (s : Subparser) → Has self.old.core.rows.items number s → (u : Subparser) × (Has self.new.core.rows.items merged u × AreAlike s u)) }
+        ensures waiting { IfOk result (λ merged. (names files : List (List ℕ)) (input : Input) (first : core.Core) (place : ℕ) → IsRun (tables_with (C.sets conds.old) trees.old names files) input first self.old
+            → AreWaiting (C.sets conds.old) input place self.old.core.rows.items (number ∷ (other ∷ []))
+            → AreWaiting (C.sets conds.new) input place self.new.core.rows.items (merged ∷ [])) }
+
+        // at every outcome
+        ensures keeps { Keeps (C.sets conds.old) (C.sets conds.new) }
+        ensures grows { Extends trees.old trees.new }
+        ensures owns { OwnsBranches (C.sets conds.new) trees.new }
+    {
+        let made = self.apply(alloc, conds, trees, Event::Merge(number, other))?;
+        match made.first() {
+            Some(merged) => Ok(*merged),
+            None => unreachable!(),
+        }
+    }
+
+    /// The key of a subparser that is not gone.
+    pub(crate) fn key(&self, number: usize) -> Key<'_>
+        requires usable { self.now.core.is_given_up ≡ false }
+        requires there { (s : Subparser) × Has self.now.core.rows.items number s }
+        ensures { (s : Subparser) × (Has self.now.core.rows.items number s × IsKeyOf result s) }
+    {
+        match self.core.look(number) {
+            Some((_, key)) => key,
+            None => unreachable!(),
+        }
+    }
+}
