@@ -4,7 +4,13 @@
 #[cfg(test)]
 mod kinds;
 #[cfg(test)]
+mod optional;
+#[cfg(test)]
+mod parse;
+#[cfg(test)]
 mod project;
+#[cfg(test)]
+mod schedules;
 #[cfg(test)]
 mod scope;
 #[cfg(test)]
