@@ -13,3 +13,13 @@ pub mod ShownItems
 pub mod TokensEnding
 pub mod TokensItemLines
 pub mod TokensShows
+pub mod TreeEnding
+pub mod TreeLines
+pub mod TreeNumbers
+pub mod TreeOrder
+pub mod TreePrinting
+pub mod TreeReading
+pub mod TreeResults
+pub mod TreeShown
+pub mod TreeTasks
+pub mod TreeWeights

@@ -25,6 +25,7 @@ use Rattle.sc_show.specs.Rules.{AreFrom, Introduced, IntroducedFile, counts_of, 
 use Rattle.sc_show.proofs.PrinterChildren.{HasChildren, HasChildren-grows, HasOrder-node}
 use Rattle.sc_show.proofs.LinesChoices.{numbers-choices_of}
 use Rattle.sc_show.proofs.PrinterNumbers.{IsTable-Keeps, IsTable-push, owned_at}
+use Rattle.sc_show.proofs.PrinterReading.{wrote-nothing, wrote-line, wrote-more}
 use Rattle.sc_show.proofs.PrinterSteps.{Prints-Keeps, Prints-printer, Prints-condition, Prints-file}
 use Rattle.sc_text.proofs.ListLemmas.{All-one}
 
@@ -77,11 +78,13 @@ Introduces-append {n = n} {i = i} {ms = ms} {more = more0} (new n1 before after 
 pub Introduced-trans : {space : Space} {s t u : Sets} {p q r : Printer} {ns ms : List ℕ} → Keeps t u → Introduced space s t p q ns → Introduced space t u q r ms → Introduced space s u p r (ns ++ ms)
 Introduced-trans {space} {s} {t} {u} {p} {q} {r} {ns} {ms} keeps a b = record {
   lines = a.lines ++ b.lines;
+  wrote = wrote-more line_text p.text.items a.lines b.lines a.wrote b.wrote;
   introduces = subst (λ needed. Introduces (counts_of p) needed (a.lines ++ b.lines) (counts_of r)) (sym (map-append condition_numbered ns ms)) (Introduces-append a.introduces b.introduces);
   ordered = λ v ks kept grows. All-append (HasOrder space (tests_of v ks)) a.lines b.lines (a.ordered v ks (Keeps-trans keeps kept) (Extends-trans b.grows grows)) (b.ordered v ks kept grows);
   table = b.table;
   grows = Extends-trans a.grows b.grows;
   same_files = b.same_files ∙ a.same_files;
+  same_trees = b.same_trees ∙ a.same_trees;
   prints = λ files before was. subst (Prints space u files r) (append_assoc before a.lines b.lines) (b.prints files (before ++ a.lines) (a.prints files before was));
 }
 
@@ -89,11 +92,13 @@ Introduced-trans {space} {s} {t} {u} {p} {q} {r} {ns} {ms} keeps a b = record {
 pub Introduced-nothing : {space : Space} {old new : Sets} {p : Printer} → Keeps old new → IsTable old p.conditions.keys → Introduced space old new p p []
 Introduced-nothing {space} {old} {new} {p} keeps table = record {
   lines = [];
+  wrote = wrote-nothing line_text p.text.items refl;
   introduces = nothing (counts_of p);
   ordered = λ s ks kept grows. All-nil (HasOrder space (tests_of s ks));
   table = IsTable-Keeps keeps table;
   grows = Extends-refl p.conditions.keys;
   same_files = refl;
+  same_trees = refl;
   prints = λ files before was. subst (Prints space new files p) (sym (append-nil before)) (Prints-Keeps keeps table was);
 }
 
@@ -101,21 +106,25 @@ Introduced-nothing {space} {old} {new} {p} keeps table = record {
 pub Introduced-known : {space : Space} {s : Sets} {p : Printer} (a : Cond) (n : ℕ) → IsTable s p.conditions.keys → slice_get p.conditions.keys n ≡ Some a → Introduced space s s p p (n ∷ [])
 Introduced-known {space} {s} {p} a n table at = record {
   lines = [];
+  wrote = wrote-nothing line_text p.text.items refl;
   introduces = known (counts_of p) (counts_of p) (condition_numbered n) [] [] (slice_get_within p.conditions.keys n a at) (nothing (counts_of p));
   ordered = λ t ks kept grows. All-nil (HasOrder space (tests_of t ks));
   table = table;
   grows = Extends-refl p.conditions.keys;
   same_files = refl;
+  same_trees = refl;
   prints = λ files before was. subst (Prints space s files p) (sym (append-nil before)) was;
 }
 
 -- a condition's line after those of its children
 pub Introduced-node : {space : Space} {old s : Sets} {p q r : Printer} {ns : List ℕ} (a : Cond) (variable : Variable) (v number : ℕ) (shown : List ℕ) → HasWordNames space → s.arities ≡ arities_of space
     → slice_get space.variables v ≡ Some variable → v < length s.arities → IsCond s a.0 → Introduced space old s p q ns → HasChildren s q.conditions.keys a v ns → length ns ≡ length variable.options
-    → number ≡ length q.conditions.keys → r.conditions.keys ≡ q.conditions.keys ++ a ∷ [] → r.files.keys ≡ q.files.keys → shown ≡ ns
+    → number ≡ length q.conditions.keys → r.conditions.keys ≡ q.conditions.keys ++ a ∷ [] → r.files.keys ≡ q.files.keys → r.trees.keys ≡ q.trees.keys → shown ≡ ns
     → r.text.items ≡ q.text.items ++ line_text (condition_line number variable.name (choices_of variable.options shown)) → Introduced space old s p r (number ∷ [])
-Introduced-node {space} {old} {s} {p} {q} {r} {ns} a variable v number shown words arities named within own parts has count at keys same_files same written = record {
+Introduced-node {space} {old} {s} {p} {q} {r} {ns} a variable v number shown words arities named within own parts has count at keys same_files same_trees same written = record {
   lines = parts.lines ++ line ∷ [];
+  wrote = wrote-more line_text p.text.items parts.lines (line ∷ []) parts.wrote
+      (wrote-line line_text q.text.items line (written ∙ ap (λ ms. q.text.items ++ line_text (condition_line number variable.name (choices_of variable.options ms))) same));
   introduces = placed;
   ordered = λ t ks kept grows.
       All-append (HasOrder space (tests_of t ks)) parts.lines (line ∷ []) (parts.ordered t ks kept (Extends-trans longer grows))
@@ -123,10 +132,10 @@ Introduced-node {space} {old} {s} {p} {q} {r} {ns} a variable v number shown wor
   table = subst (IsTable s) (sym keys) (IsTable-push a own parts.table);
   grows = Extends-trans parts.grows longer;
   same_files = same_files ∙ parts.same_files;
+  same_trees = same_trees ∙ parts.same_trees;
   prints = λ files before was.
       subst (Prints space s files r) (append_assoc before parts.lines (line ∷ []))
-      (Prints-condition a variable v number ns words arities named within has count at keys same_files
-      (written ∙ ap (λ ms. q.text.items ++ line_text (condition_line number variable.name (choices_of variable.options ms))) same) (parts.prints files before was));
+      (Prints-condition a variable v number ns words arities named within has count at keys same_files (parts.prints files before was));
 }
   where
     options : List (List ℕ × ℕ)
@@ -180,9 +189,10 @@ absent_cond ks a none has = true≢false (sym (list_any-from_Contains (on_equiv 
 
 -- a file that has a number already
 pub IntroducedFile-known : {files : List (List ℕ)} {p q : Printer} (number : ℕ) → number < length q.files.keys → q.files.keys ≡ p.files.keys
-    → q.conditions.keys ≡ p.conditions.keys → q.text.items ≡ p.text.items → IntroducedFile files p q number
-IntroducedFile-known {files} {p} {q} number within keys same same_text = record {
+    → q.conditions.keys ≡ p.conditions.keys → q.trees.keys ≡ p.trees.keys → q.text.items ≡ p.text.items → IntroducedFile files p q number
+IntroducedFile-known {files} {p} {q} number within keys same same_trees same_text = record {
   lines = [];
+  wrote = wrote-nothing line_text p.text.items same_text;
   introduces =
       let conditions = ap length (sym same) in
       let files_are = ap length (sym keys) in
@@ -192,24 +202,27 @@ IntroducedFile-known {files} {p} {q} number within keys same same_text = record 
   ordered = λ space tests. All-nil (HasOrder space tests);
   grows = subst (Extends p.files.keys) (sym keys) (Extends-refl p.files.keys);
   same_conditions = same;
-  prints = λ space s before was. subst (Prints space s files q) (sym (append-nil before)) (Prints-printer same keys same_text was);
+  same_trees = same_trees;
+  prints = λ space s before was. subst (Prints space s files q) (sym (append-nil before)) (Prints-printer same keys was);
 }
 
 pub IntroducedFile-new : {files : List (List ℕ)} {p q : Printer} (file : FileId) (name : List ℕ) (number : ℕ) → All (λ (name : List ℕ). has_no_newline name ≡ true) files → slice_get files file.0 ≡ Some name
-    → number ≡ length p.files.keys → q.files.keys ≡ p.files.keys ++ file ∷ [] → q.conditions.keys ≡ p.conditions.keys → q.text.items ≡ p.text.items ++ line_text (file_line number name)
+    → number ≡ length p.files.keys → q.files.keys ≡ p.files.keys ++ file ∷ [] → q.conditions.keys ≡ p.conditions.keys → q.trees.keys ≡ p.trees.keys → q.text.items ≡ p.text.items ++ line_text (file_line number name)
     → IntroducedFile files p q number
-IntroducedFile-new {files} {p} {q} file name number one_line named at keys same written =
+IntroducedFile-new {files} {p} {q} file name number one_line named at keys same same_trees written =
     let after : Counts = record { conditions = length p.conditions.keys; files = length p.files.keys + 1 } in
     let conditions = ap length (sym same) in
     let files_are = sym (ap length keys ∙ length-append p.files.keys (file ∷ [])) in
     let counted : after ≡ counts_of q = λ i. record { conditions = conditions i; files = files_are i } in
     record {
       lines = file_line number name ∷ [];
+      wrote = wrote-line line_text p.text.items (file_line number name) written;
       introduces = subst (Introduces (counts_of p) (file_numbered number ∷ []) (file_line number name ∷ [])) counted
           (subst (λ n. Introduces (counts_of p) (file_numbered n ∷ []) (file_line n name ∷ []) after) (sym at)
           (new (counts_of p) (counts_of p) after after (file_line (length p.files.keys) name) (file_numbered (length p.files.keys)) [] [] [] (nothing (counts_of p)) (next_file (counts_of p) name) (nothing after)));
       ordered = λ space tests. All-one (HasOrder space tests) (file_line number name) tt;
       grows = subst (Extends p.files.keys) (sym keys) (Extends-push p.files.keys file);
       same_conditions = same;
-      prints = λ space s before was. Prints-file file name number one_line named at keys same written was;
+      same_trees = same_trees;
+      prints = λ space s before was. Prints-file file name number one_line named at keys same was;
     }

@@ -10,7 +10,7 @@ use Rattle.sc_model.specs.Growth.{Extends}
 use Rattle.sc_text.specs.Layout.{Need, condition_numbered, file_numbered, needs, Counts, Gives, next_condition, next_file, Introduces, nothing, known, new, LaysOut, done, shows, HasOrder}
 use Rattle.sc_model.specs.Sets.{Sets, Keeps, IsNever}
 use Rattle.sc_model.specs.Space.{Space}
-use Rattle.sc_text.specs.Text.{Condition, TextLine}
+use Rattle.sc_text.specs.Text.{Condition, TextLine, line_text}
 use Rattle.sc_text.proofs.LayoutLemmas.{LaysOut-append}
 use Rattle.sc_text.proofs.OneLayout.{IsKnown-Introduces}
 use Rattle.sc_model.proofs.SetLemmas.{Keeps-trans, IsNever-Keeps}
@@ -20,6 +20,7 @@ use Rattle.sc_show.specs.Rules.{Introduced, IntroducedFile, Item, AreLinesOf, no
 use Rattle.sc_text.proofs.ListLemmas.{All-one}
 use Rattle.sc_show.proofs.PrinterIntroducing.{Introduces-append}
 use Rattle.sc_show.proofs.PrinterNumbers.{owned_at}
+use Rattle.sc_show.proofs.PrinterReading.{wrote-nothing, wrote-line, wrote-more}
 
 AreLinesOf-append : {s : Sets} {ks : List Cond} {fs : List FileId} {items others : List Item} {lines more : List TextLine} → AreLinesOf s ks fs items lines → AreLinesOf s ks fs others more
     → AreLinesOf s ks fs (items ++ others) (lines ++ more)
@@ -33,6 +34,7 @@ pub LaidOut-trans : {space : Space} {old mid new : Sets} {files : List (List ℕ
 LaidOut-trans {space} {old} {mid} {new} {files} {p} {q} {r} keeps a b = record {
   lines = a.lines ++ b.lines;
   shown = a.shown ++ b.shown;
+  wrote = wrote-more line_text p.text.items a.lines b.lines a.wrote b.wrote;
   laid = LaysOut-append a.laid b.laid;
   are = λ s ks fs kept grows files_grow.
       AreLinesOf-append (a.are s ks fs (Keeps-trans keeps kept) (Extends-trans b.grows grows) (Extends-trans b.files_grow files_grow)) (b.are s ks fs kept grows files_grow);
@@ -40,6 +42,7 @@ LaidOut-trans {space} {old} {mid} {new} {files} {p} {q} {r} keeps a b = record {
   table = b.table;
   grows = Extends-trans a.grows b.grows;
   files_grow = Extends-trans a.files_grow b.files_grow;
+  same_trees = b.same_trees ∙ a.same_trees;
   prints = λ before was. subst (Prints space new files r) (append_assoc before a.lines b.lines) (b.prints (before ++ a.lines) (a.prints before was));
 }
 
@@ -49,12 +52,14 @@ LaidOut-without : {space : Space} {s : Sets} {files : List (List ℕ)} {p : Prin
 LaidOut-without {space} {s} {files} {p} items without table = record {
   lines = [];
   shown = [];
+  wrote = wrote-nothing line_text p.text.items refl;
   laid = done (counts_of p);
   are = λ t ks fs kept grows files_grow. without t ks fs kept;
   ordered = λ t ks kept grows. All-nil (HasOrder space (tests_of t ks));
   table = table;
   grows = Extends-refl p.conditions.keys;
   files_grow = Extends-refl p.files.keys;
+  same_trees = refl;
   prints = λ before was. subst (Prints space s files p) (sym (append-nil before)) was;
 }
 
@@ -90,12 +95,14 @@ LaidOut-never {space} {old} {s} {files} {p} {q} item n is table introduced numbe
     record {
       lines = introduced.lines;
       shown = [];
+      wrote = introduced.wrote;
       laid = subst (λ lines. LaysOut (counts_of p) [] lines (counts_of q)) (sym none.0) (subst (LaysOut (counts_of p) [] []) (sym none.1) (done (counts_of p)));
       are = λ t ks fs kept grows files_grow. without_line item [] [] (IsNever-Keeps kept (owned_at n item.cond introduced.table numbered) empty) no_line;
       ordered = introduced.ordered;
       table = introduced.table;
       grows = introduced.grows;
       files_grow = subst (Extends p.files.keys) (sym introduced.same_files) (Extends-refl p.files.keys);
+      same_trees = introduced.same_trees;
       prints = introduced.prints files;
     }
 
@@ -111,7 +118,7 @@ numbered_still n file at = ap (λ ks. slice_get ks n) file.same_conditions ∙ a
 module _ {space : Space} {old s : Sets} {files : List (List ℕ)} {p q r u : Printer} (item : Item) (n m : ℕ) (needs_are : needs (item.line n m) ≡ condition_numbered n ∷ file_numbered m ∷ [])
     (no_order : (space : Space) (tests : List Condition) → HasOrder space tests (item.line n m)) (some : 0 < n)
     (conditions : Introduced space old s p q (n ∷ [])) (file : IntroducedFile files q r m) (numbered : slice_get q.conditions.keys n ≡ Some item.cond) (file_found : slice_get r.files.keys m ≡ Some item.file)
-    (kept : u.conditions.keys ≡ r.conditions.keys) (kept_files : u.files.keys ≡ r.files.keys)
+    (kept : u.conditions.keys ≡ r.conditions.keys) (kept_files : u.files.keys ≡ r.files.keys) (kept_trees : u.trees.keys ≡ r.trees.keys) (written : u.text.items ≡ r.text.items ++ line_text (item.line n m))
     (prints : (before : List TextLine) → Prints space s files r before → Prints space s files u (before ++ item.line n m ∷ [])) where
   keys : u.conditions.keys ≡ q.conditions.keys
   keys = kept ∙ file.same_conditions
@@ -133,6 +140,7 @@ module _ {space : Space} {old s : Sets} {files : List (List ℕ)} {p q r u : Pri
   LaidOut-one = record {
     lines = (conditions.lines ++ file.lines) ++ item.line n m ∷ [];
     shown = item.line n m ∷ [];
+    wrote = wrote-more line_text p.text.items (conditions.lines ++ file.lines) (item.line n m ∷ []) (wrote-more line_text p.text.items conditions.lines file.lines conditions.wrote file.wrote) (wrote-line line_text r.text.items (item.line n m) written);
     laid = shows (counts_of p) (counts_of u) (counts_of u) (item.line n m) [] (conditions.lines ++ file.lines) [] introduced (done (counts_of u));
     are = λ t ks fs keeps grows files_grow.
         line_of item n m [] [] some (Extends-keeps _ _ (ap (λ ls. slice_get ls n) keys ∙ numbered) grows)
@@ -144,6 +152,7 @@ module _ {space : Space} {old s : Sets} {files : List (List ℕ)} {p q r u : Pri
     table = subst (IsTable s) (sym keys) conditions.table;
     grows = subst (Extends p.conditions.keys) (sym keys) conditions.grows;
     files_grow = subst (λ fs. Extends fs u.files.keys) conditions.same_files longer_files;
+    same_trees = kept_trees ∙ file.same_trees ∙ conditions.same_trees;
     prints = λ before was.
         subst (Prints space s files u) (ap (λ ls. ls ++ item.line n m ∷ []) (append_assoc before conditions.lines file.lines) ∙ append_assoc before (conditions.lines ++ file.lines) (item.line n m ∷ []))
         (prints ((before ++ conditions.lines) ++ file.lines) (file.prints space s (before ++ conditions.lines) (conditions.prints files before was)));

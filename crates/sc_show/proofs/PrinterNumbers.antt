@@ -51,7 +51,7 @@ pub same_file : (a b : FileId) → (a.0 == b.0) ≡ true → a ≡ b
 same_file a b same = ap (λ (n : ℕ). let x : FileId = record { 0 = n } in x) (eqb-true a.0 b.0 same)
 
 -- the item where `position` says passes the test
-position_passes : {X : Type 0} (p : X → Bool) (xs : List X) (i : ℕ) → position p xs ≡ Some i → (x : X) × (slice_get xs i ≡ Some x) × (p x ≡ true)
+pub position_passes : {X : Type 0} (p : X → Bool) (xs : List X) (i : ℕ) → position p xs ≡ Some i → (x : X) × (slice_get xs i ≡ Some x) × (p x ≡ true)
 position_passes p [] i h = absurd (cc)
 position_passes p (x ∷ xs) i h =
     let found = cond_some _ (position_or_len p (x ∷ xs)) i h in

@@ -1,5 +1,5 @@
 -- Reading a text with one line more.
-use Rattle.std.proofs.Common.{◌≡◌, ℕ, zero, suc, ◌+◌, ◌<◌, Bool, true, false, List, [], ◌∷◌, ◌++◌, length, map, slice_get, slice_index, Option, Some, None, option_map, refl, sym, ap, subst, ◌∙◌, arith, append-nil, if◌then◌else◌}
+use Rattle.std.proofs.Common.{◌≡◌, ℕ, zero, suc, ◌+◌, ◌<◌, Bool, true, false, List, [], ◌∷◌, ◌++◌, length, map, slice_get, slice_index, Option, Some, None, option_map, refl, sym, ap, subst, ◌∙◌, arith, append-nil, append_assoc, if◌then◌else◌}
 use Rattle.std.specs.List.{concat, list_all}
 use Rattle.std.specs.Option.{option_and_then}
 use Rattle.std.proofs.lemmas.Bool.{lt-ltb}
@@ -10,7 +10,7 @@ use Rattle.sc_model.specs.declared.variable_option.VariableOption.{VariableOptio
 use Rattle.sc_model.specs.Bytes.{same_bytes}
 use Rattle.sc_model.specs.Growth.{IsOneToOne}
 use Rattle.sc_model.specs.Space.{Variable, Space, option_text}
-use Rattle.sc_text.specs.Text.{BodyKind, Reading, TextLine, line_text, read_lines, read_line, is_clear, variable_from, are_options}
+use Rattle.sc_text.specs.Text.{BodyKind, Reading, TextLine, read_lines, read_line, is_clear, variable_from, are_options}
 use Rattle.sc_model.proofs.ByteLemmas.{same_bytes-refl, same_bytes-true}
 use Rattle.sc_show.specs.Prints.{choices_of}
 use Rattle.sc_show.proofs.LinesChoices.{both}
@@ -33,8 +33,18 @@ read_lines-push {kind = kind} space (l ∷ ls) r t u line before unended now =
     by false None ih h = absurd (cc)
     by false (Some s) ih h = ih s h
 
-pub written-push : (lines : List TextLine) (line : TextLine) → concat (map line_text (lines ++ line ∷ [])) ≡ concat (map line_text lines) ++ line_text line
-written-push lines line = ap concat (map-append line_text lines (line ∷ [])) ∙ concat-append (map line_text lines) (line_text line ∷ []) ∙ ap (λ t. concat (map line_text lines) ++ t) (append-nil (line_text line))
+-- a text after more lines
+module _ {L : Type 0} (text_of : L → List ℕ) (p : List ℕ) {q : List ℕ} where
+  pub wrote-nothing : q ≡ p → q ≡ p ++ concat (map text_of [])
+  wrote-nothing same = same ∙ sym (append-nil p)
+
+  pub wrote-line : (line : L) → q ≡ p ++ text_of line → q ≡ p ++ concat (map text_of (line ∷ []))
+  wrote-line line wrote = wrote ∙ ap (λ t. p ++ t) (sym (append-nil (text_of line)))
+
+  pub wrote-more : {r : List ℕ} (lines more : List L) → q ≡ p ++ concat (map text_of lines) → r ≡ q ++ concat (map text_of more) → r ≡ p ++ concat (map text_of (lines ++ more))
+  wrote-more lines more first rest =
+      rest ∙ ap (λ t. t ++ concat (map text_of more)) first ∙ append_assoc p (concat (map text_of lines)) (concat (map text_of more))
+      ∙ ap (λ t. p ++ t) (sym (ap concat (map-append text_of lines more) ∙ concat-append (map text_of lines) (map text_of more)))
 
 pub clear-push : (lines : List TextLine) (line : TextLine) → list_all is_clear lines ≡ true → is_clear line ≡ true → list_all is_clear (lines ++ line ∷ []) ≡ true
 clear-push lines line h k = list_all-append is_clear lines (line ∷ []) ∙ both h (both k refl)

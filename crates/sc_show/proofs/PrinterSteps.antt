@@ -13,7 +13,7 @@ use Rattle.sc_model.specs.declared.cause.Cause.{Cause}
 use Rattle.sc_model.specs.Fault.{Fault}
 use Rattle.sc_model.specs.Sets.{Sets, IsConfig, IsCond, HasOptions, Denotes, Keeps}
 use Rattle.sc_model.specs.Space.{Space, Variable, arities_of}
-use Rattle.sc_text.specs.Text.{Condition, token_list, Reading, TextLine, condition_line, file_line, token_line, fault_line, line_text, is_clear, is_word, read_line, condition_at, chosen, read_condition, variable_from, with_condition, with_file, with_token, with_fault, place_of, nothing_read}
+use Rattle.sc_text.specs.Text.{Condition, token_list, Reading, TextLine, condition_line, file_line, token_line, fault_line, is_clear, is_word, read_line, condition_at, chosen, read_condition, variable_from, with_condition, with_file, with_token, with_fault, place_of, nothing_read}
 use Rattle.sc_model.specs.Bytes.{has_no_newline}
 use Rattle.sc_model.specs.Token.{Place, Shown}
 use Rattle.sc_model.proofs.ListLemmas.{slice_get-front, slice_get-seam}
@@ -26,16 +26,15 @@ use Rattle.sc_show.specs.declared.printer.Printer.{Printer}
 use Rattle.sc_show.specs.Prints.{HasWordNames, Prints, Agrees, IsTable, choices_of, printed_place}
 use Rattle.sc_show.proofs.PrinterChildren.{HasChildren}
 use Rattle.sc_show.proofs.LinesChoices.{both, clear_choices, numbers-choices_of}
-use Rattle.sc_show.proofs.PrinterReading.{read_lines-push, written-push, clear-push, variable_from-found, are_options-choices_of}
+use Rattle.sc_show.proofs.PrinterReading.{read_lines-push, clear-push, variable_from-found, are_options-choices_of}
 use Rattle.sc_show.proofs.PrinterNumbers.{owned_at}
 
 -- one line more
 Prints-push : {space : Space} {s : Sets} {files : List (List ℕ)} {p q : Printer} {before : List TextLine} (was : Prints space s files p before) (line : TextLine) (reading : Reading token_list)
-    → is_clear line ≡ true → q.text.items ≡ p.text.items ++ line_text line → read_line space was.reading line ≡ Some reading → reading.ended ≡ false
+    → is_clear line ≡ true → read_line space was.reading line ≡ Some reading → reading.ended ≡ false
     → Agrees s q.conditions.keys reading.conditions → reading.files ≡ map (λ (f : FileId). text_at files f.0) q.files.keys → Prints space s files q (before ++ line ∷ [])
-Prints-push {space} {before = before} was line reading clear written read unended conditions names = record {
+Prints-push {space} {before = before} was line reading clear read unended conditions names = record {
   clear = clear-push before line was.clear clear;
-  written = written ∙ ap (λ t. t ++ line_text line) was.written ∙ sym (written-push before line);
   reading = reading;
   read = read_lines-push space before _ was.reading reading line was.read was.unended read;
   unended = unended;
@@ -56,7 +55,6 @@ pub Prints-Keeps : {space : Space} {old new : Sets} {files : List (List ℕ)} {p
     → Prints space new files p before
 Prints-Keeps keeps table was = record {
   clear = was.clear;
-  written = was.written;
   reading = was.reading;
   read = was.read;
   unended = was.unended;
@@ -65,11 +63,10 @@ Prints-Keeps keeps table was = record {
 }
 
 -- the same printer with other spare room
-pub Prints-printer : {space : Space} {s : Sets} {files : List (List ℕ)} {p q : Printer} {before : List TextLine} → q.conditions.keys ≡ p.conditions.keys → q.files.keys ≡ p.files.keys → q.text.items ≡ p.text.items
+pub Prints-printer : {space : Space} {s : Sets} {files : List (List ℕ)} {p q : Printer} {before : List TextLine} → q.conditions.keys ≡ p.conditions.keys → q.files.keys ≡ p.files.keys
     → Prints space s files p before → Prints space s files q before
-Prints-printer {space} {s} {files} keys same_files same_text was = record {
+Prints-printer {space} {s} {files} keys same_files was = record {
   clear = was.clear;
-  written = same_text ∙ was.written;
   reading = was.reading;
   read = was.read;
   unended = was.unended;
@@ -118,11 +115,11 @@ pub Prints-condition : {space : Space} {s : Sets} {files : List (List ℕ)} {p q
     → HasWordNames space → s.arities ≡ arities_of space → slice_get space.variables v ≡ Some variable → v < length s.arities
     → HasChildren s p.conditions.keys a v children → length children ≡ length variable.options
     → number ≡ length p.conditions.keys → q.conditions.keys ≡ p.conditions.keys ++ a ∷ [] → q.files.keys ≡ p.files.keys
-    → q.text.items ≡ p.text.items ++ line_text (condition_line number variable.name (choices_of variable.options children)) → Prints space s files p before
+    → Prints space s files p before
     → Prints space s files q (before ++ condition_line number variable.name (choices_of variable.options children) ∷ [])
-Prints-condition {space} {s} {files} {p} {q} a variable v number children words arities found within has count at keys same_files written was =
+Prints-condition {space} {s} {files} {p} {q} a variable v number children words arities found within has count at keys same_files was =
     let options = choices_of variable.options children in
-    Prints-push was (condition_line number variable.name options) (with_condition was.reading (chosen was.reading.conditions v options)) clear written read was.unended
+    Prints-push was (condition_line number variable.name options) (with_condition was.reading (chosen was.reading.conditions v options)) clear read was.unended
     (subst (λ ks. Agrees s ks (was.reading.conditions ++ chosen was.reading.conditions v options ∷ [])) (sym keys) (Agrees-push a (chosen was.reading.conditions v options) was.conditions means))
     (was.names ∙ ap (map (λ (f : FileId). text_at files f.0)) (sym same_files))
   where
@@ -154,8 +151,8 @@ Prints-condition {space} {s} {files} {p} {q} a variable v number children words 
 -- a file's line
 pub Prints-file : {space : Space} {s : Sets} {files : List (List ℕ)} {p q : Printer} {before : List TextLine} (file : FileId) (name : List ℕ) (number : ℕ) → All (λ (name : List ℕ). has_no_newline name ≡ true) files
     → slice_get files file.0 ≡ Some name → number ≡ length p.files.keys → q.files.keys ≡ p.files.keys ++ file ∷ [] → q.conditions.keys ≡ p.conditions.keys
-    → q.text.items ≡ p.text.items ++ line_text (file_line number name) → Prints space s files p before → Prints space s files q (before ++ file_line number name ∷ [])
-Prints-file {space} {s} {files} {p} {q} file name number one_line named at keys same written was =
+    → Prints space s files p before → Prints space s files q (before ++ file_line number name ∷ [])
+Prints-file {space} {s} {files} {p} {q} file name number one_line named at keys same was =
     let clear = subst (λ (text : List ℕ). has_no_newline text ≡ true) (get_or_from_slice_get files file.0 name name named) (one_line file.0 name (slice_get_within files file.0 name named)) in
     let next : number ≡ length was.reading.files = at ∙ sym (ap length was.names ∙ length-map p.files.keys (λ (f : FileId). text_at files f.0)) in
     let read = ap (λ b. if b then Some (with_file was.reading name) else None) (eq-eqb number (length was.reading.files) next) in
@@ -163,10 +160,10 @@ Prints-file {space} {s} {files} {p} {q} file name number one_line named at keys 
     let names : was.reading.files ++ name ∷ [] ≡ map (λ (f : FileId). text_at files f.0) q.files.keys =
     ap (λ fs. fs ++ name ∷ []) was.names ∙ ap (λ n. map (λ (f : FileId). text_at files f.0) p.files.keys ++ n ∷ []) (sym named_so)
     ∙ sym (ap (map (λ (f : FileId). text_at files f.0)) keys ∙ map-append (λ (f : FileId). text_at files f.0) p.files.keys (file ∷ [])) in
-    Prints-push was (file_line number name) (with_file was.reading name) clear written read was.unended (subst (λ ks. Agrees s ks was.reading.conditions) (sym same) was.conditions) names
+    Prints-push was (file_line number name) (with_file was.reading name) clear read was.unended (subst (λ ks. Agrees s ks was.reading.conditions) (sym same) was.conditions) names
 
 -- the place that is read is the one that was printed
-place_of-printed : (files : List (List ℕ)) (keys : List FileId) (r : Reading token_list) (m : ℕ) (place : declared_place.Place) → r.files ≡ map (λ (f : FileId). text_at files f.0) keys
+pub place_of-printed : (files : List (List ℕ)) (keys : List FileId) (r : Reading token_list) (m : ℕ) (place : declared_place.Place) → r.files ≡ map (λ (f : FileId). text_at files f.0) keys
     → slice_get keys m ≡ Some place.file → place_of r (printed_place m place) ≡ Some (seen_place files place)
 place_of-printed files keys r m place names at =
     ap (option_map (λ (name : List ℕ). let x : Place = record { file = name; position = position_of place } in x))
@@ -184,30 +181,29 @@ module _ {space : Space} {s : Sets} {files : List (List ℕ)} {p : Printer} {con
   named_still = was.names ∙ ap (map (λ (f : FileId). text_at files f.0)) (sym kept_files)
 
   -- a token's line
-  pub Prints-token : (spelling : List ℕ) → has_no_newline spelling ≡ true → q.text.items ≡ p.text.items ++ line_text (token_line n (printed_place m place) spelling)
+  pub Prints-token : (spelling : List ℕ) → has_no_newline spelling ≡ true
       → Prints space s files q (before ++ token_line n (printed_place m place) spelling ∷ [])
-  Prints-token spelling one_line written =
+  Prints-token spelling one_line =
       let it : Shown = record { place = seen_place files place; spelling = spelling } in
       let read =
       ap (λ b. if b then option_map (λ at. with_token was.reading (condition_at was.reading.conditions n) (record { place = at; spelling = spelling })) (place_of was.reading (printed_place m place)) else None) below
       ∙ ap (option_map (λ at. with_token was.reading (condition_at was.reading.conditions n) (record { place = at; spelling = spelling }))) (place_of-printed files p.files.keys was.reading m place was.names file) in
-      Prints-push was (token_line n (printed_place m place) spelling) (with_token was.reading (condition_at was.reading.conditions n) it) one_line written read was.unended agrees_still named_still
+      Prints-push was (token_line n (printed_place m place) spelling) (with_token was.reading (condition_at was.reading.conditions n) it) one_line read was.unended agrees_still named_still
 
   -- a fault's line
-  pub Prints-fault : (cause : Cause) → q.text.items ≡ p.text.items ++ line_text (fault_line n cause (printed_place m place)) → Prints space s files q (before ++ fault_line n cause (printed_place m place) ∷ [])
-  Prints-fault cause written =
+  pub Prints-fault : (cause : Cause) → Prints space s files q (before ++ fault_line n cause (printed_place m place) ∷ [])
+  Prints-fault cause =
       let it : Fault = record { cause = cause; place = seen_place files place } in
       let read =
       ap (λ b. if b then option_map (λ at. with_fault was.reading (condition_at was.reading.conditions n) (record { cause = cause; place = at })) (place_of was.reading (printed_place m place)) else None) below
       ∙ ap (option_map (λ at. with_fault was.reading (condition_at was.reading.conditions n) (record { cause = cause; place = at }))) (place_of-printed files p.files.keys was.reading m place was.names file) in
-      Prints-push was (fault_line n cause (printed_place m place)) (with_fault was.reading (condition_at was.reading.conditions n) it) refl written read was.unended agrees_still named_still
+      Prints-push was (fault_line n cause (printed_place m place)) (with_fault was.reading (condition_at was.reading.conditions n) it) refl read was.unended agrees_still named_still
 
 -- nothing was printed yet
 pub Prints-nothing : {space : Space} {s : Sets} {files : List (List ℕ)} {p : Printer} (never always : Cond) → Denotes s never.0 (λ _. false) → Denotes s always.0 (λ _. true)
-    → p.conditions.keys ≡ never ∷ always ∷ [] → p.files.keys ≡ [] → p.text.items ≡ [] → Prints space s files p []
-Prints-nothing {space} {s} {files} {p} never always none all keys no_files no_text = record {
+    → p.conditions.keys ≡ never ∷ always ∷ [] → p.files.keys ≡ [] → Prints space s files p []
+Prints-nothing {space} {s} {files} {p} never always none all keys no_files = record {
   clear = refl;
-  written = no_text;
   reading = nothing_read;
   read = refl;
   unended = refl;

@@ -30,11 +30,11 @@ use Rattle.sc_show.specs.Rules.{counts_of, tests_of, list_item, fault_item, Laid
 use Rattle.sc_guarded.specs.Printable.{IsShowable, IsShowableFault}
 use Rattle.sc_show.specs.Shows.{shown_items, Shows}
 use Rattle.sc_show.proofs.Pieces.{split_lines, text_lines}
-use Rattle.sc_show.proofs.PrinterReading.{read_lines-push, written-push, clear-push}
+use Rattle.sc_show.proofs.PrinterReading.{read_lines-push, wrote-line, wrote-more, clear-push}
 use Rattle.sc_show.proofs.TokensItemLines.{parts_of, IsFileOf, read-AreAlike, lines_pass, lines_files, token_read, fault_read, faults_ascend, project-seen}
 
 -- the sets of the numbers are those of their conditions
-agrees_tests : (s : Sets) (ks : List Cond) (tests : List Condition) (n : ℕ) (c : List ℕ) → Agrees s ks tests → IsConfig s.arities c → condition_at tests n c ≡ condition_at (tests_of s ks) n c
+pub agrees_tests : (s : Sets) (ks : List Cond) (tests : List Condition) (n : ℕ) (c : List ℕ) → Agrees s ks tests → IsConfig s.arities c → condition_at tests n c ≡ condition_at (tests_of s ks) n c
 agrees_tests s [] [] n c agrees listed = refl
 agrees_tests s [] (test ∷ tests) n c agrees listed = absurd (omega (arith, agrees.long))
 agrees_tests s (k ∷ ks) [] n c agrees listed = absurd (omega (arith, agrees.long))
@@ -51,7 +51,7 @@ module _ {s : Sets} {ks : List Cond} {tests : List Condition} (agrees : Agrees s
       (a, slice_get-get_or ks n (record { 0 = 0 }) long, table.own n (record { 0 = 0 }) long)
 
   -- no two numbers stand for one set
-  numbers_reduced : (space : Space) → s.arities ≡ arities_of space → IsOneToOne ks → IsCanonical s → IsCanonical (sets_of space tests)
+  pub numbers_reduced : (space : Space) → s.arities ≡ arities_of space → IsOneToOne ks → IsCanonical s → IsCanonical (sets_of space tests)
   numbers_reduced space arities differ canonical = record { one = λ i j own own_too same. by i j (numbered i own.made) (numbered j own_too.made) same.at }
     where
       by : (i j : ℕ) → (a : Cond) × (slice_get ks i ≡ Some a) × IsCond s a.0 → (b : Cond) × (slice_get ks j ≡ Some b) × IsCond s b.0
@@ -64,7 +64,7 @@ module _ {s : Sets} {ks : List Cond} {tests : List Condition} (agrees : Agrees s
           differ.same i j a at (at_too ∙ ap Some is)
 
 -- each name has one number
-names_differ : (fs : List FileId) (files : List (List ℕ)) → IsOneToOne files → IsOneToOne fs → ((k : ℕ) → k < length fs → IsFileOf fs files k) → IsOneToOne (map (λ (f : FileId). text_at files f.0) fs)
+pub names_differ : (fs : List FileId) (files : List (List ℕ)) → IsOneToOne files → IsOneToOne fs → ((k : ℕ) → k < length fs → IsFileOf fs files k) → IsOneToOne (map (λ (f : FileId). text_at files f.0) fs)
 names_differ fs files apart differ held = record { same = λ i j name at at_too. by i j name (found_in (λ (f : FileId). text_at files f.0) fs i name at) (found_in (λ (f : FileId). text_at files f.0) fs j name at_too) }
   where
     in_table : (i : ℕ) (name : List ℕ) (f : FileId) → slice_get fs i ≡ Some f → text_at files f.0 ≡ name → slice_get files f.0 ≡ Some name
@@ -80,9 +80,9 @@ names_differ fs files apart differ held = record { same = λ i j name at at_too.
 -- be shown in earlier stores.
 pub Shows-end : {space : Space} {old made merging s : Sets} {texts files : List (List ℕ)} {p q : Printer} (list : List (Cond × Token)) (faults merged : List base.Fault) (text : List ℕ)
     → s.arities ≡ arities_of space → IsOneToOne files → All (IsShowable made texts files) list → All (IsShowableFault merging files) merged → IsCanonical s → AreMerged s files faults merged
-    → length p.conditions.keys ≡ 2 → p.files.keys ≡ [] → Prints space old files p [] → LaidOut space old s files p q (map (list_item texts) list ++ map fault_item merged)
+    → length p.conditions.keys ≡ 2 → p.files.keys ≡ [] → p.text.items ≡ [] → Prints space old files p [] → LaidOut space old s files p q (map (list_item texts) list ++ map fault_item merged)
     → IsOneToOne q.conditions.keys → IsOneToOne q.files.keys → text ≡ q.text.items ++ line_text end_line → Shows space s texts files list faults text
-Shows-end {space} {s = s} {texts = texts} {files = files} {p = p} {q = q} list faults merged text arities apart can can_too canonical are begun no_files started laid differ files_differ written =
+Shows-end {space} {s = s} {texts = texts} {files = files} {p = p} {q = q} list faults merged text arities apart can can_too canonical are begun no_files no_text started laid differ files_differ written =
     let ks = q.conditions.keys in
     let fs = q.files.keys in
     let before : Prints space s files q laid.lines = laid.prints [] started in
@@ -94,7 +94,7 @@ Shows-end {space} {s = s} {texts = texts} {files = files} {p = p} {q = q} list f
     let clear = clear-push laid.lines end_line before.clear refl in
     let read = read_lines-push space laid.lines nothing_read before.reading reading end_line before.read before.unended refl in
     let told = read-HasRead space lines nothing_read reading (omega arith) read in
-    let whole : text ≡ concat (map line_text lines) = written ∙ ap (λ t. t ++ line_text end_line) before.written ∙ sym (written-push laid.lines end_line) in
+    let whole : text ≡ concat (map line_text lines) = wrote-more line_text p.text.items laid.lines (end_line ∷ []) laid.wrote (wrote-line line_text q.text.items end_line written) ∙ ap (λ t. t ++ concat (map line_text lines)) no_text in
     let no_file = ap length no_files in
     let counted : counts_of p ≡ at_start = λ i. record { conditions = begun i; files = no_file i } in
     let from_start : LaysOut at_start (parts.first ++ parts.later) laid.lines (counts_of q) =

@@ -4,3 +4,7 @@ pub mod Pieces
 pub mod Prints
 pub mod Rules
 pub mod Shows
+pub mod TreeLayout
+pub mod TreeRules
+pub mod TreeShows
+pub mod TreeText

@@ -1,6 +1,6 @@
 -- What a printer printed, read so far, and what its numbers stand for.
 use Rattle.std.specs.Prelude.{◌≡◌, ℕ, Bool, true, false, List, [], ◌∷◌, length, map, All, Some, slice_get}
-use Rattle.std.specs.List.{concat, list_all}
+use Rattle.std.specs.List.{list_all}
 use Rattle.sc_base.specs.declared.id.Cond.{Cond}
 use Rattle.sc_base.specs.declared.id.FileId.{FileId}
 use Rattle.sc_base.specs.declared.place.Place as declared_place
@@ -10,7 +10,7 @@ use Rattle.sc_model.specs.declared.variable_option.VariableOption.{VariableOptio
 use Rattle.sc_model.specs.Growth.{IsOneToOne}
 use Rattle.sc_model.specs.Sets.{Sets, IsConfig, IsCond, Denotes}
 use Rattle.sc_model.specs.Space.{Space, Variable, option_text}
-use Rattle.sc_text.specs.Text.{Condition, Printed, token_list, Reading, TextLine, line_text, nothing_read, read_lines, condition_at, is_clear, is_word}
+use Rattle.sc_text.specs.Text.{Condition, Printed, token_list, Reading, TextLine, nothing_read, read_lines, condition_at, is_clear, is_word}
 use Rattle.sc_show.specs.declared.printer.Printer.{Printer}
 
 -- each name can stand in a line, and names one variable
@@ -44,11 +44,10 @@ pub record Agrees (s : Sets) (conditions : List Cond) (tests : List Condition) :
   pub long : length tests ≡ length conditions
   pub each : (n : ℕ) (cond : Cond) → slice_get conditions n ≡ Some cond → (c : List ℕ) → IsConfig s.arities c → condition_at tests n c ≡ s.has cond.0 c
 
--- These lines are the text so far, and read from the first to the last they give the conditions and
--- the files their numbers.
+-- These lines of the text so far, read from the first to the last, give the conditions and the files
+-- their numbers.
 pub record Prints (space : Space) (s : Sets) (files : List (List ℕ)) (printer : Printer) (lines : List TextLine) : Type 0 where
   pub clear : list_all is_clear lines ≡ true
-  pub written : printer.text.items ≡ concat (map line_text lines)
   pub reading : Reading token_list
   pub read : read_lines space nothing_read lines ≡ Some reading
   pub unended : reading.ended ≡ false

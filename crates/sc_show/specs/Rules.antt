@@ -3,6 +3,7 @@
 -- Conditions of a store with the same configurations are one, so a condition goes by its id. Its
 -- number in the text is its place in the list of those that have a number, and likewise for files.
 use Rattle.std.specs.Prelude.{◌≡◌, ℕ, ◌<◌, ◌≤◌, List, [], ◌∷◌, ◌++◌, length, map, All, Some, slice_get}
+use Rattle.std.specs.List.{concat}
 use Rattle.sc_base.specs.declared.fault.Fault as base
 use Rattle.sc_base.specs.declared.id.Cond.{Cond}
 use Rattle.sc_base.specs.declared.id.FileId.{FileId}
@@ -14,7 +15,7 @@ use Rattle.sc_model.specs.Growth.{Extends}
 use Rattle.sc_text.specs.Layout.{condition_numbered, file_numbered, Counts, Introduces, LaysOut, HasOrder, IsAscending}
 use Rattle.sc_model.specs.Sets.{Sets, IsConfig, IsNever, Keeps, DependsFrom}
 use Rattle.sc_model.specs.Space.{Space}
-use Rattle.sc_text.specs.Text.{Condition, TextLine, token_line, fault_line}
+use Rattle.sc_text.specs.Text.{Condition, TextLine, line_text, token_line, fault_line}
 use Rattle.sc_show.specs.declared.printer.Printer.{Printer}
 use Rattle.sc_show.specs.Prints.{IsTable, Prints, printed_place}
 
@@ -59,20 +60,24 @@ pub record AreFrom (s : Sets) (old new : List Cond) (from : ℕ) : Type 0 where
 -- and the numbers grow
 pub record Introduced (space : Space) (old new : Sets) (p q : Printer) (numbers : List ℕ) : Type 0 where
   pub lines : List TextLine
+  pub wrote : q.text.items ≡ p.text.items ++ concat (map line_text lines)
   pub introduces : Introduces (counts_of p) (map condition_numbered numbers) lines (counts_of q)
   pub ordered : (s : Sets) (conditions : List Cond) → Keeps new s → Extends q.conditions.keys conditions → All (HasOrder space (tests_of s conditions)) lines
   pub table : IsTable new q.conditions.keys
   pub grows : Extends p.conditions.keys q.conditions.keys
   pub same_files : q.files.keys ≡ p.files.keys
+  pub same_trees : q.trees.keys ≡ p.trees.keys
   pub prints : (files : List (List ℕ)) (before : List TextLine) → Prints space old files p before → Prints space new files q (before ++ lines)
 
 -- a file got its number, after the line that it needs
 pub record IntroducedFile (files : List (List ℕ)) (p q : Printer) (number : ℕ) : Type 0 where
   pub lines : List TextLine
+  pub wrote : q.text.items ≡ p.text.items ++ concat (map line_text lines)
   pub introduces : Introduces (counts_of p) (file_numbered number ∷ []) lines (counts_of q)
   pub ordered : (space : Space) (tests : List Condition) → All (HasOrder space tests) lines
   pub grows : Extends p.files.keys q.files.keys
   pub same_conditions : q.conditions.keys ≡ p.conditions.keys
+  pub same_trees : q.trees.keys ≡ p.trees.keys
   pub prints : (space : Space) (s : Sets) (before : List TextLine) → Prints space s files p before → Prints space s files q (before ++ lines)
 
 -- the items were printed, each after the lines that it needs; the lines say the same as the store
@@ -80,12 +85,14 @@ pub record IntroducedFile (files : List (List ℕ)) (p q : Printer) (number : �
 pub record LaidOut (space : Space) (old new : Sets) (files : List (List ℕ)) (p q : Printer) (items : List Item) : Type 0 where
   pub lines : List TextLine
   pub shown : List TextLine
+  pub wrote : q.text.items ≡ p.text.items ++ concat (map line_text lines)
   pub laid : LaysOut (counts_of p) shown lines (counts_of q)
   pub are : (s : Sets) (conditions : List Cond) (names : List FileId) → Keeps new s → Extends q.conditions.keys conditions → Extends q.files.keys names → AreLinesOf s conditions names items shown
   pub ordered : (s : Sets) (conditions : List Cond) → Keeps new s → Extends q.conditions.keys conditions → All (HasOrder space (tests_of s conditions)) lines
   pub table : IsTable new q.conditions.keys
   pub grows : Extends p.conditions.keys q.conditions.keys
   pub files_grow : Extends p.files.keys q.files.keys
+  pub same_trees : q.trees.keys ≡ p.trees.keys
   pub prints : (before : List TextLine) → Prints space old files p before → Prints space new files q (before ++ lines)
 
 -- The faults as they are printed: ordered by the bytes of the name of the file, line, column and

@@ -2,10 +2,14 @@
 #![tactic(auto)]
 
 mod conflicts;
+mod laws;
 mod lines;
 mod merge;
 mod printer;
 mod tokens;
+mod tree;
 
 pub use conflicts::show_conflicts;
+pub use laws::{shown_choice_is_stored, tree_answer_has_one_result};
 pub use tokens::show_tokens;
+pub use tree::show_tree;

@@ -3,6 +3,7 @@ ghost use Rattle.std.specs.Prelude.{◌≡◌, ◌++◌, length, codes, string_b
 ghost use Rattle.sc_model.specs.Space.{option_text};
 ghost use Rattle.sc_text.specs.Text.{numeral, place_text, choice_text, line_text, condition_line, file_line, token_line, fault_line, end_line};
 ghost use Rattle.sc_show.specs.Prints.{choices_of, printed_place};
+ghost use Rattle.sc_show.specs.TreeText.{child_text, branch_text, tree_line_text, leaf_line, node_line, choice_line, root_line};
 
 use itoa::Buffer;
 use sc_base::{Cause, OutOfMemory, Place};
@@ -95,6 +96,89 @@ pub fn write_token(
     write_place(text, file, place)?;
     text.extend_from_slice(b" ")?;
     text.extend_from_slice(spelling)?;
+    text.extend_from_slice(b"\n")?;
+    Ok(())
+}
+
+pub fn write_leaf(
+    text: &mut Vec<u8>,
+    number: usize,
+    file: usize,
+    place: Place,
+    spelling: &[u8],
+) -> Result<(), OutOfMemory>
+    ensures { OnOk result (text.new.items ≡ text.old.items ++ tree_line_text (leaf_line number (printed_place file place) spelling.now)) }
+{
+    text.extend_from_slice(b"l ")?;
+    write_number(text, number)?;
+    text.extend_from_slice(b" ")?;
+    write_place(text, file, place)?;
+    text.extend_from_slice(b" ")?;
+    text.extend_from_slice(spelling)?;
+    text.extend_from_slice(b"\n")?;
+    Ok(())
+}
+
+fn write_child(text: &mut Vec<u8>, child: usize) -> Result<(), OutOfMemory>
+    ensures { OnOk result (text.new.items ≡ text.old.items ++ child_text child) }
+{
+    text.extend_from_slice(b" ")?;
+    write_number(text, child)
+}
+
+pub fn write_node(
+    text: &mut Vec<u8>,
+    number: usize,
+    production: usize,
+    children: &[usize],
+) -> Result<(), OutOfMemory>
+    ensures { OnOk result (text.new.items ≡ text.old.items ++ tree_line_text (node_line number production children.now)) }
+{
+    text.extend_from_slice(b"n ")?;
+    write_number(text, number)?;
+    text.extend_from_slice(b" ")?;
+    write_number(text, production)?;
+    for child in children {
+        write_child(text, *child)?;
+    }
+    text.extend_from_slice(b"\n")?;
+    Ok(())
+}
+
+fn write_branch(text: &mut Vec<u8>, branch: (usize, usize)) -> Result<(), OutOfMemory>
+    ensures { OnOk result (text.new.items ≡ text.old.items ++ branch_text branch) }
+{
+    text.extend_from_slice(b" ")?;
+    write_number(text, branch.0)?;
+    text.extend_from_slice(b":")?;
+    write_number(text, branch.1)
+}
+
+/// A choice, each branch as the number of its condition and that of its tree.
+pub fn write_branches(
+    text: &mut Vec<u8>,
+    number: usize,
+    branches: &[(usize, usize)],
+) -> Result<(), OutOfMemory>
+    ensures { OnOk result (text.new.items ≡ text.old.items ++ tree_line_text (choice_line number branches.now)) }
+{
+    text.extend_from_slice(b"x ")?;
+    write_number(text, number)?;
+    for branch in branches {
+        write_branch(text, *branch)?;
+    }
+    text.extend_from_slice(b"\n")?;
+    Ok(())
+}
+
+pub fn write_root(text: &mut Vec<u8>, root: Option<usize>) -> Result<(), OutOfMemory>
+    ensures { OnOk result (text.new.items ≡ text.old.items ++ tree_line_text (root_line root)) }
+{
+    text.extend_from_slice(b"root ")?;
+    match root {
+        Some(number) => write_number(text, number)?,
+        None => text.extend_from_slice(b"-")?,
+    }
     text.extend_from_slice(b"\n")?;
     Ok(())
 }

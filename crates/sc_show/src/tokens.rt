@@ -42,7 +42,7 @@ fn print_list<C: Conditions>(
     Ok(())
 }
 
-fn print_faults<C: Conditions>(
+pub(crate) fn print_faults<C: Conditions>(
     printer: &mut Printer,
     conds: &mut C,
     space: &Space,

@@ -36,7 +36,7 @@ returns-clause-text g c =
     ∙ ap (map (seen_fault files)) (sym (faults_at-Keeps c.args.faults.now x (Keeps-trans first later) (λ k d h. (c.requires.faults k d h).own) before)) in
     Shows-end c.args.list.now c.args.faults.now merged c.print_end.new.self.text.items (later.arities ∙ first.arities ∙ c.requires.space) c.one_to_one.ensures c.requires.list
     c.in_ok-merged.ensures.faults c.canonical.ensures (record { ascending = c.in_ok-merged.ensures.ascending; same = same })
-    c.in_ok-printer.ensures.conditions c.in_ok-printer.ensures.files (c.in_ok-printer.ensures.prints space files)
+    c.in_ok-printer.ensures.conditions c.in_ok-printer.ensures.files c.in_ok-printer.ensures.text (c.in_ok-printer.ensures.prints space files)
     (subst (λ faults. LaidOut space (g.C.Conditions.sets c.merged.new.conds) (g.C.Conditions.sets c.print_faults.new.conds) files c.in_ok-printer.printer c.print_faults.new.printer
     (map (list_item c.args.names.now) c.args.list.now ++ map fault_item faults)) c.deref.ensures.value laid)
     c.one_to_one-2.ensures.conditions c.one_to_one-2.ensures.files c.in_ok-print_end.ensures

@@ -104,7 +104,7 @@ returns-clause-lines g t c =
     Introduced-node c.args.cond (seen_variable c.index-named.result.now) c.in-Some-top.variable c.in_ok-number.number c.deref.result.now c.requires.names arities
     (variable_at c.args.space.now _ _ c.index-named.ensures below) placed was.own was.lines was.children (omega arith)
     (pushed_at (λ (a b : Cond). a.0 == b.0) _ _ c.insert_full.new.self.keys _ fresh c.in_ok-number.ensures.index) (pushed (λ (a b : Cond). a.0 == b.0) _ _ _ c.in_ok-number.number fresh c.in_ok-number.ensures.keys)
-    refl c.deref.ensures.value c.in_ok-write_condition.ensures
+    refl refl c.deref.ensures.value c.in_ok-write_condition.ensures
 
 pub returns-clause-later : goal.returns-clause-later
 returns-clause-later g t c =

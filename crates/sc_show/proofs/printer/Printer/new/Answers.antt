@@ -13,5 +13,7 @@ returns g c =
       table = IsTable-first c.never.result c.always.result c.never.ensures.meaning c.always.ensures.meaning keys;
       conditions = ap length keys;
       files = c.new-2.ensures.empty;
-      prints = λ space files. Prints-nothing c.never.result c.always.result c.never.ensures.meaning c.always.ensures.meaning keys c.new-2.ensures.empty c.new.ensures.items;
+      trees = c.new-3.ensures.empty;
+      text = c.new.ensures.items;
+      prints = λ space files. Prints-nothing c.never.result c.always.result c.never.ensures.meaning c.always.ensures.meaning keys c.new-2.ensures.empty;
     }

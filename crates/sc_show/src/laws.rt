@@ -1,0 +1,22 @@
+//! Laws about the definitions, each the contract of a function without code.
+ghost use Rattle.std.specs.Prelude.{List, ℕ, Option, Result, Some, slice_get, ◌≡◌};
+ghost use Rattle.sc_base.specs.declared.fault.Fault as base;
+ghost use Rattle.sc_base.specs.declared.id.TreeId.{TreeId};
+ghost use Rattle.sc_model.specs.Fault.{Fault};
+ghost use Rattle.sc_model.specs.Sets.{Sets};
+ghost use Rattle.sc_model.specs.Space.{Space};
+ghost use Rattle.sc_show.specs.TreeShows.{IsChoiceOf, ShowsTree};
+ghost use Rattle.sc_show.specs.TreeText.{IsResultAt, ShownTree, TreeAnswer, choice_part};
+ghost use Rattle.sc_text.specs.Text.{Condition};
+ghost use Rattle.sc_tree.specs.Lines.{Line};
+
+/// The answer of a tree's text is one result at a configuration.
+pub fn tree_answer_has_one_result()
+    ensures { (answer : TreeAnswer) (config : List ℕ) (r s : Result ShownTree Fault) → IsResultAt answer config r → IsResultAt answer config s → r ≡ s }
+{}
+
+/// Each choice that a tree's text shows is one of the store, with as many branches.
+pub fn shown_choice_is_stored()
+    ensures { (space : Space) (s : Sets) (names files : List (List ℕ)) (store : List Line) (root : Option TreeId) (faults : List base.Fault) (text : List ℕ) (shows : ShowsTree space s names files store root faults text)
+        (number : ℕ) (tests : List (Condition × ℕ)) → slice_get shows.answer.parts number ≡ Some (choice_part tests) → IsChoiceOf s store shows.ids tests }
+{}
