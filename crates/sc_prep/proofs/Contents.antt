@@ -91,12 +91,13 @@ module _ {names more files more_files : List (List ℕ)} (grows : Extends names 
 abbrev LooksSame : (names files more more_files : List (List ℕ)) → Option Content → Type 0
 LooksSame names files more more_files None = Unit {0}
 LooksSame names files more more_files (Some (content.Refused cause place)) = seen_place more_files place ≡ seen_place files place
-LooksSame names files more more_files (Some (content.Lines found)) = map (seen more more_files) found.tokens.items ≡ map (seen names files) found.tokens.items
+LooksSame names files more more_files (Some (content.Lines found)) =
+    (map (seen more more_files) found.tokens.items ≡ map (seen names files) found.tokens.items) × (seen_place more_files found.end ≡ seen_place files found.end)
 
 looks-back : (names files more more_files : List (List ℕ)) (c : Option Content) → LooksSame names files more more_files c → LooksSame more more_files names files c
 looks-back names files more more_files None same = tt
 looks-back names files more more_files (Some (content.Refused cause place)) same = sym same
-looks-back names files more more_files (Some (content.Lines found)) same = sym same
+looks-back names files more more_files (Some (content.Lines found)) same = (sym same.0, sym same.1)
 
 content-as : (names files more more_files : List (List ℕ)) (name : List ℕ) {bytes : Option (List ℕ)} {c : Option Content} → LooksSame names files more more_files c → IsContent names files name bytes c
     → IsContent more more_files name bytes c
@@ -107,9 +108,10 @@ content-as names files more more_files name same (nested bytes found are) = nest
   few = are.few;
   lexemes = are.lexemes;
   lexed = are.lexed;
-  tokens = same ∙ are.tokens;
+  tokens = same.0 ∙ are.tokens;
   group = are.group;
-  tree = subst (λ ts. IsTree (lines_of c11_directive_names ts) are.group) (sym same) are.tree;
+  tree = subst (λ ts. IsTree (lines_of c11_directive_names ts) are.group) (sym same.0) are.tree;
+  ends = same.1 ∙ are.ends;
 })
 
 abbrev AreHeldContents : List (List ℕ) → ℕ → ℕ → Option Content → Type 0
@@ -120,7 +122,9 @@ module _ {names more files more_files : List (List ℕ)} (grows : Extends names 
   looks-later file None there held = tt
   looks-later file (Some (content.Refused cause place)) there held =
       place-later grows files_grow place (subst (λ (f : FileId). f.0 < length files) (sym (held (content.Refused cause place) refl)) there)
-  looks-later file (Some (content.Lines found)) there held = tokens-later grows files_grow found.tokens.items (held (content.Lines found) refl).placed
+  looks-later file (Some (content.Lines found)) there held =
+      let lines = held (content.Lines found) refl in
+      (tokens-later grows files_grow found.tokens.items lines.placed, place-later grows files_grow found.end (subst (λ (f : FileId). f.0 < length files) (sym lines.end_inside) there))
 
   plain-later : (t : Token) → IsHeld names t → IsPlainOrNewline names t → IsPlainOrNewline more t
   plain-later t held plain = ap (λ text. is_newline t.kind || has_no_newline text) (text-later grows t.spelling.0 held.spelling) ∙ plain
@@ -133,6 +137,7 @@ module _ {names more files more_files : List (List ℕ)} (grows : Extends names 
       record {
         placed = All-weaker (IsPlaced names (length files)) (IsPlaced more (length more_files)) (IsPlaced-later grows files_grow) tokens held.placed;
         inside = held.inside;
+        end_inside = held.end_inside;
         plain = λ k d h. plain-later (get_or tokens k d) (all k d h) (held.plain k d h);
         lines_are = record {
           tokens_are = held.lines_are.tokens_are;

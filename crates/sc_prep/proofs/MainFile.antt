@@ -1,8 +1,11 @@
 -- A walk of the main file, from before its first line.
-use Rattle.std.proofs.Common.{◌≡◌, ℕ, ◌<◌, ◌++◌, Bool, true, List, [], ◌∷◌, All, length, map, Option, Some, None, refl, sym, ap, ◌∙◌, subst, arith}
+use Rattle.std.proofs.Common.{◌≡◌, ℕ, ◌<◌, ◌++◌, Bool, true, false, List, [], ◌∷◌, All, length, map, Option, Some, None, Result, Err, refl, sym, ap, ◌∙◌, subst, arith}
 use Rattle.std.proofs.lemmas.List.Elements.{All-append, All-cons, All-nil}
-use Rattle.std.specs.Prelude.{unwrap_or, slice_get}
-use Rattle.c11_directives.specs.Pre.{Context, Pre, State, context_of, initial_state}
+use Rattle.std.proofs.lemmas.Bool.{both_ways}
+use Rattle.std.specs.Option.{option_to_list}
+use Rattle.std.specs.Prelude.{is_none, unwrap_or, slice_get}
+use Rattle.c11_directives.proofs.PreLaws.{pre-unique}
+use Rattle.c11_directives.specs.Pre.{Context, Includes, Pre, State, context_of, entered, file_with, found_or, initial_state}
 use Rattle.c11_macros.specs.Macros.{initial_macros}
 use Rattle.sc_base.specs.declared.fault.Fault as base
 use Rattle.sc_base.specs.declared.id.Cond.{Cond}
@@ -10,8 +13,9 @@ use Rattle.sc_base.specs.declared.id.FileId.{FileId}
 use Rattle.sc_base.specs.declared.token.Token.{Token}
 use Rattle.sc_base.specs.Interns as interns
 use Rattle.sc_base.specs.Interns.{Interns}
-use Rattle.sc_base.specs.Seen.{seen, text_at}
-use Rattle.sc_guarded.specs.Items.{items_at, seen_fault}
+use Rattle.sc_base.specs.declared.place.Place as declared
+use Rattle.sc_base.specs.Seen.{seen, seen_place, text_at}
+use Rattle.sc_guarded.specs.Items.{faults_at, items_at, seen_fault}
 use Rattle.sc_guarded.specs.Printable.{AreApart}
 use Rattle.sc_model.proofs.SetLemmas.{IsConfig-kept}
 use Rattle.sc_model.specs.Bytes.{has_no_newline}
@@ -19,17 +23,24 @@ use Rattle.sc_model.specs.Growth.{Extends}
 use Rattle.sc_model.specs.Outside.{Files}
 use Rattle.sc_model.specs.Sets.{Sets, IsCond, IsConfig, Keeps}
 use Rattle.sc_model.specs.Space.{Space, arities_of}
+use Rattle.sc_model.specs.declared.cause.Cause.{Cause}
+use Rattle.sc_model.specs.Fault.{Fault, fault_at, first_place}
+use Rattle.sc_model.specs.Token as plain
+use Rattle.sc_prep.proofs.EnterLeads.{HasRefusal, has-lines, has-refusal}
 use Rattle.sc_prep.proofs.EnterMoves.{refused-here}
 use Rattle.sc_prep.proofs.FileTokens.{all-shown, faults-few}
 use Rattle.sc_prep.proofs.MainWalk.{begins-as, entered-ordinary}
 use Rattle.sc_prep.proofs.Plain.{initial-plain}
-use Rattle.sc_prep.specs.Closes.{RefusesEach}
-use Rattle.sc_prep.specs.Contents.{AreContents, content_at}
+use Rattle.sc_prep.specs.Closes.{RefusesEach, has_none, is_empty}
+use Rattle.sc_prep.specs.Contents.{AreContents, IsContent, IsHeldContent, content_at, end_of_file, end_place}
+use Rattle.sc_prep.specs.declared.content.Content.{Content}
+use Rattle.sc_prep.specs.declared.content.Content.TheVariants as content
+use Rattle.sc_prep.specs.declared.prepared.Prepared.{Prepared}
 use Rattle.sc_prep.specs.declared.content.Contents.{Contents}
 use Rattle.sc_prep.specs.declared.walk.Walk.{Walk}
 use Rattle.sc_prep.specs.Includes.{EntersAt}
 use Rattle.sc_prep.specs.Machine.{Machine, start}
-use Rattle.sc_prep.specs.Preprocesses.{IsOrdinary, IsRefused, OwnsList}
+use Rattle.sc_prep.specs.Preprocesses.{IsOrdinary, IsRefused, OwnsList, is_accepted}
 use Rattle.sc_prep.specs.Printable.{AllPass, ArePlaced, ArePlainPaths, CanBeShown, any_token, is_plain}
 use Rattle.sc_prep.specs.Simulates.{IsBegun, IsContext, IsOutcomeOf, IsReady, Leads, Owns, PlainEach, Simulates}
 use Rattle.sc_space.specs.Sound.{IsSound}
@@ -56,6 +67,52 @@ paths-interned {old} {new} {main} (interns.fresh never grown) paths plain =
 
 pub space-context : (space : Space) (files : Files) → IsContext space (context_of space files)
 space-context space files = record { include = refl; depth = refl; standard = refl }
+
+-- ---- where the main file ends
+
+-- the end may be another
+module _ {s : Sets} {names files : List (List ℕ)} (p : Prepared) (end : declared.Place) where
+  pub IsOrdinary-end : {preprocesses : Result (List plain.Token) Fault → Type 0} {config : List ℕ} → IsOrdinary s names files p preprocesses config
+      → IsOrdinary s names files (record p { end = end }) preprocesses config
+  IsOrdinary-end is = record { answer = is.answer; preprocessed = is.preprocessed; stands = is.stands; live = is.live }
+
+  pub CanBeShown-end : CanBeShown s names files p → CanBeShown s names files (record p { end = end })
+  CanBeShown-end shown = record { list = shown.list; faults = shown.faults; apart = shown.apart; paths = shown.paths }
+
+no_fault-empty : (files : List (List ℕ)) (o : Option Fault) (faults : List base.Fault) → map (seen_fault files) faults ≡ option_to_list o → is_none o ≡ is_empty faults
+no_fault-empty files None [] is = refl
+no_fault-empty files None (f ∷ fs) is = cc
+no_fault-empty files (Some fault) [] is = cc
+no_fault-empty files (Some fault) (f ∷ fs) is = refl
+
+-- a configuration is live where it has no fault
+pub live-outcome : {s : Sets} {names files : List (List ℕ)} {p : Prepared} {config : List ℕ} {m : Machine} → IsOutcomeOf s names files p config m → s.has p.live.0 config ≡ has_none s p.faults.items config
+live-outcome {s} {names} {files} {p} {config} {m} is = is.live ∙ no_fault-empty files m.fault (faults_at s p.faults.items config) is.fault
+
+module _ (space : Space) (outside : Files) (main config : List ℕ) where
+  -- a file that refuses whoever enters it is accepted at no configuration
+  refuses-main : {files : List (List ℕ)} {cause : Cause} {place : declared.Place} {answer : Result (List plain.Token) Fault} → HasRefusal files main (outside main) cause place
+      → Pre space outside main config answer → is_accepted answer ≡ false
+  refuses-main {files} {cause} {place} {answer} refusal is =
+      let fault = fault_at cause (seen_place files place) in
+      let includes : Includes (context_of space outside) (main ∷ []) (first_place main) (initial_state space main config) (Err fault) =
+      entered (file_with main refusal.bytes) (ap (found_or None main) refusal.is) (refusal.refuses (context_of space outside) (initial_state space main config) refl) in
+      ap is_accepted (pre-unique is (record { end = Err fault; walked = includes; is = refl }))
+
+  -- the end that was kept is the main file's, where it is accepted
+  pub main-end : {s : Sets} {names files new_names new_files : List (List ℕ)} {p : Prepared} {bytes : List ℕ} {c : Content} → outside main ≡ Some bytes
+      → IsContent names files main (outside main) (Some c) → IsOrdinary s new_names new_files p (Pre space outside main config) config → s.has p.live.0 config ≡ true
+      → seen_place files (end_place c) ≡ end_of_file main bytes
+  main-end {files = files} {c = content.Lines found} held is ordinary live =
+      let lines = has-lines is in
+      lines.are.ends ∙ ap (λ o. end_of_file main (unwrap_or o [])) (sym lines.is ∙ held)
+  main-end {files = files} {c = content.Refused cause place} held is ordinary live =
+      absurd (both_ways true (sym live ∙ (ordinary.live ∙ refuses-main (has-refusal is) ordinary.preprocessed)) refl)
+
+-- it is in the file
+pub end-inside : (names : List (List ℕ)) (files : ℕ) {file : FileId} (c : Content) → IsHeldContent names files file c → (end_place c).file ≡ file
+end-inside names files (content.Lines found) held = held.end_inside
+end-inside names files (content.Refused cause place) held = held
 
 -- ---- the walk before the first line
 
@@ -131,6 +188,12 @@ module _ {s : Sets} {space : Space} {names files : List (List ℕ)} {walk : Walk
         let ends = ends-refused config listed in
         record { items = ap (λ list. map (seen names files) (items_at next_sets list config)) list-empty; faults = ends.fault; live = ends.live }
 
+    pub refused-live : (config : List ℕ) → IsConfig s.arities config → next_sets.has next.prepared.live.0 config ≡ has_none next_sets next.prepared.faults.items config
+    refused-live config listed = live-outcome (ends-refused config listed)
+
+    pub refused-end : next.prepared.end ≡ walk.prepared.end
+    refused-end = ap (λ (w : Walk). w.prepared.end) refuses.same
+
     pub refused-owns : OwnsList next_sets next.prepared
     refused-owns = record {
       list = subst (All (λ (item : Cond × Token). IsCond next_sets item.0.0)) (sym list-empty) (λ k d h. absurd (omega (arith, h)));
@@ -164,6 +227,9 @@ module _ {s : Sets} {space : Space} {names files : List (List ℕ)} {walk : Walk
               (subst (λ name. EntersAt x name 0 first (s.has cond.0 config) end.machine) (ap (λ (o : Option (List ℕ)). unwrap_or o []) named) end.done),
           end.simulates.prepared,
         )
+
+    pub entered-live : (config : List ℕ) → IsConfig s.arities config → next_sets.has next.prepared.live.0 config ≡ has_none next_sets next.prepared.faults.items config
+    entered-live config listed = live-outcome (ends-entered config listed).2
 
     entered-apart : AreApart next_sets next.prepared.faults.items
     entered-apart = record {

@@ -1,7 +1,8 @@
 -- What a file's bytes hold.
-use Rattle.std.proofs.Common.{◌≡◌, ℕ, ◌<◌, List, All, length, map, slice_get, Some, Err, sym, ap, subst}
+use Rattle.std.proofs.Common.{◌≡◌, ◌∙◌, ℕ, ◌<◌, List, All, length, map, slice_get, Some, Err, sym, ap, subst}
 use Rattle.c11_directives.specs.Lines.{c11_directive_names, lines_of, IsTree, Tree}
 use Rattle.c11_directives.specs.Pre.{Enters, file_with, too_large, unended, badly_nested}
+use Rattle.c11_tokens.specs.Lex.{end_position}
 use Rattle.sc_base.specs.declared.id.FileId.{FileId}
 use Rattle.sc_base.specs.declared.place.Place.{Place}
 use Rattle.sc_base.specs.declared.token.Token.{Token}
@@ -47,8 +48,9 @@ module _ (names files : List (List ℕ)) (name bytes : List ℕ) where
           (subst (λ d. Tree (lines_of d.directives (map (in_file name) are.lexemes)) (Err (seen_place files place))) (sym standard)
           (subst (λ ls. Tree ls (Err (seen_place files place))) as_lexed (is.tree files))))
 
-      pub nested-lines : (tree : FileTree) (found : FileLines) → found.tokens.items ≡ ts → IsTreeOf names ts tree → IsContent names files name (Some bytes) (Some (content.Lines found))
-      nested-lines tree found same is =
+      pub nested-lines : (tree : FileTree) (found : FileLines) → found.tokens.items ≡ ts → position_of found.end ≡ end_position bytes → found.end.file ≡ file → IsTreeOf names ts tree
+          → IsContent names files name (Some bytes) (Some (content.Lines found))
+      nested-lines tree found same ends end_inside is =
           let tokens_same = sym same in
           nested bytes found (record {
             few = few;
@@ -57,13 +59,15 @@ module _ (names files : List (List ℕ)) (name bytes : List ℕ) where
             tokens = subst (λ us. map (seen names files) us ≡ map (in_file name) are.lexemes) tokens_same (tokens-seen names files file name bytes ts are named);
             group = (is.nested files).0;
             tree = subst (λ us. IsTree (seen_lines names files us) (is.nested files).0) tokens_same (is.nested files).1;
+            ends = place-seen files file name found.end named end_inside ∙ ap (λ p. record { file = name; position = p }) ends;
           })
 
-pub held-lines : {names : List (List ℕ)} (files : ℕ) (file : FileId) (bytes : List ℕ) (ts : List Token) (tree : FileTree) (found : FileLines) → found.tokens.items ≡ ts → found.lines.items ≡ tree.lines.items → file.0 < files
+pub held-lines : {names : List (List ℕ)} (files : ℕ) (file : FileId) (bytes : List ℕ) (ts : List Token) (tree : FileTree) (found : FileLines) → found.tokens.items ≡ ts → found.lines.items ≡ tree.lines.items → found.end.file ≡ file → file.0 < files
     → AreTokensOf names file bytes ts → All (IsHeld names) ts → IsTreeOf names ts tree → AreHeldLines names files file found
-held-lines {names} files file bytes ts tree found same lines_same there are held is = record {
+held-lines {names} files file bytes ts tree found same lines_same end_inside there are held is = record {
   placed = subst (All (IsPlaced names files)) (sym same) (file-placed names file bytes ts are files there held);
   inside = subst (All (λ (t : Token). t.place.file ≡ file)) (sym same) are.spell.placed;
+  end_inside = end_inside;
   plain = subst (All (IsPlainOrNewline names)) (sym same) (file-plain names file bytes ts are);
   lines_are = subst (λ (us : List Token). AreLines names us found.lines.items) (sym same) (subst (λ (ls : List Line). AreLines names ts ls) (sym lines_same) is.lines);
   branches = λ paths. subst (λ (us : List Token). HasBranches (seen_lines names paths us) found.lines.items) (sym same)

@@ -3,7 +3,7 @@ use Rattle.std.specs.Prelude.{◌≡◌, ℕ, ◌<◌, List, map, length, All, O
 use Rattle.std.specs.Option.{option_and_then}
 use Rattle.c11_directives.specs.Lines.{Group, IsTree}
 use Rattle.c11_directives.specs.Pre.{Context, State, Enters, c11, file_with}
-use Rattle.c11_tokens.specs.Lex.{Lexed}
+use Rattle.c11_tokens.specs.Lex.{Lexed, end_position}
 use Rattle.sc_base.specs.declared.id.FileId.{FileId}
 use Rattle.sc_base.specs.declared.place.Place.{Place}
 use Rattle.sc_base.specs.declared.token.Token as base
@@ -14,6 +14,7 @@ use Rattle.sc_lines.specs.Split.{AreLines}
 use Rattle.sc_model.specs.declared.cause.Cause.{Cause}
 use Rattle.sc_model.specs.Fault.{fault_at}
 use Rattle.sc_model.specs.Outside.{Files, largest_file}
+use Rattle.sc_model.specs.Token as plain
 use Rattle.sc_model.specs.Token.{Lexeme, in_file}
 use Rattle.sc_prep.specs.declared.content.Content.{Content}
 use Rattle.sc_prep.specs.declared.content.Content.TheVariants as content
@@ -23,7 +24,11 @@ use Rattle.sc_prep.specs.declared.content.Reading.{Reading}
 use Rattle.sc_prep.specs.declared.content.Reading.TheVariants as reading
 use Rattle.sc_prep.specs.Printable.{IsPlaced, IsPlainOrNewline}
 
--- the tokens are those of a file with these bytes, and its lines nest
+-- where a file with these bytes ends
+abbrev pub end_of_file : List ℕ → List ℕ → plain.Place
+end_of_file name bytes = record { file = name; position = end_position bytes }
+
+-- the tokens and the end are those of a file with these bytes, and its lines nest
 pub record AreLinesOf (names files : List (List ℕ)) (name bytes : List ℕ) (lines : FileLines) : Type 0 where
   pub few : largest_file < length bytes → ⊥
   pub lexemes : List Lexeme
@@ -31,6 +36,7 @@ pub record AreLinesOf (names files : List (List ℕ)) (name bytes : List ℕ) (l
   pub tokens : map (seen names files) lines.tokens.items ≡ map (in_file name) lexemes
   pub group : Group
   pub tree : IsTree (seen_lines names files lines.tokens.items) group
+  pub ends : seen_place files lines.end ≡ end_of_file name bytes
 
 -- whoever enters a file with these bytes has this fault
 abbrev pub RefusesAll : List (List ℕ) → List ℕ → List ℕ → Cause → Place → Type 0
@@ -44,10 +50,12 @@ pub data IsContent (names files : List (List ℕ)) (name : List ℕ) : Option (L
       → IsContent names files name (Some bytes) (Some (content.Refused cause place))
   nested : (bytes : List ℕ) (found : FileLines) → AreLinesOf names files name bytes found → IsContent names files name (Some bytes) (Some (content.Lines found))
 
--- the tables hold the tokens, which stand in this file, and their lines are told with their branches
+-- the tables hold the tokens, which stand in this file as its end does, and their lines are told with
+-- their branches
 pub record AreHeldLines (names : List (List ℕ)) (files : ℕ) (file : FileId) (lines : FileLines) : Type 0 where
   pub placed : All (IsPlaced names files) lines.tokens.items
   pub inside : All (λ (t : base.Token). t.place.file ≡ file) lines.tokens.items
+  pub end_inside : lines.end.file ≡ file
   pub plain : All (IsPlainOrNewline names) lines.tokens.items
   pub lines_are : AreLines names lines.tokens.items lines.lines.items
   pub branches : (paths : List (List ℕ)) → HasBranches (seen_lines names paths lines.tokens.items) lines.lines.items
@@ -55,6 +63,11 @@ pub record AreHeldLines (names : List (List ℕ)) (files : ℕ) (file : FileId) 
 abbrev pub IsHeldContent : List (List ℕ) → ℕ → FileId → Content → Type 0
 IsHeldContent names files file (content.Lines found) = AreHeldLines names files file found
 IsHeldContent names files file (content.Refused cause place) = place.file ≡ file
+
+-- where the file ends; of one that is refused, a place in it
+abbrev pub end_place : Content → Place
+end_place (content.Lines found) = found.end
+end_place (content.Refused cause place) = place
 
 abbrev pub known : Reading → Option (Option Content)
 known reading.Unread = None

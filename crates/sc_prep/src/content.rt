@@ -3,11 +3,11 @@ ghost use Rattle.std.specs.Option.{option_and_then, option_map};
 ghost use Rattle.sc_base.specs.Seen.{seen_place};
 ghost use Rattle.sc_model.specs.Fault as model;
 ghost use Rattle.sc_model.specs.Growth.{Extends};
-ghost use Rattle.sc_prep.specs.Contents.{AreContents, IsContent, IsHeldContent, IsKept, IsReading, KeepsContents, content_at, known, ReadsSame};
+ghost use Rattle.sc_prep.specs.Contents.{AreContents, IsContent, IsHeldContent, IsKept, IsReading, KeepsContents, content_at, end_place, known, ReadsSame};
 ghost use Rattle.sc_prep.specs.Preprocesses.{ReadsNothing};
 
 use sc_base::{Cause, FileId, Files, LARGEST_FILE, Names, OutOfMemory, Place, Stop, Token};
-use sc_lex::{LexStop, tokens};
+use sc_lex::{LexStop, end, tokens};
 use sc_lines::{Line, NestStop, groups};
 use sc_source::Source;
 use std::alloc::Global;
@@ -26,6 +26,8 @@ pub enum Content {
 pub struct FileLines {
     pub tokens: Vec<Token>,
     pub lines: Vec<Line>,
+    /// Where the file ends.
+    pub end: Place,
 }
 
 /// What is known of a name.
@@ -176,12 +178,23 @@ fn read_content(
         Ok(tree) => Ok(Content::Lines(FileLines {
             tokens,
             lines: tree.lines,
+            end: end(file, bytes),
         })),
         Err(NestStop::Nesting(place)) => Ok(Content::Refused {
             cause: Cause::BadNesting,
             place,
         }),
         Err(NestStop::OutOfMemory) => Err(OutOfMemory),
+    }
+}
+
+/// Where a file ends. Where it is refused, no place of it counts.
+pub fn end_place(content: &Content) -> Place
+    ensures { result ≡ end_place content.now }
+{
+    match content {
+        Content::Lines(lines) => lines.end,
+        Content::Refused { place, .. } => *place,
     }
 }
 

@@ -1,4 +1,4 @@
-ghost use Rattle.std.specs.Prelude.{◌≡◌, ℕ, ◌≤◌, true, List, Some, IfOk, IfErr};
+ghost use Rattle.std.specs.Prelude.{◌≡◌, ℕ, ◌<◌, ◌≤◌, length, true, List, Some, IfOk, IfErr};
 ghost use Rattle.sc_model.specs.Bytes.{has_no_newline};
 ghost use Rattle.sc_model.specs.Growth.{Extends};
 ghost use Rattle.sc_model.specs.Outside.{Files as Outside};
@@ -7,10 +7,13 @@ ghost use Rattle.sc_model.specs.Sets.{IsConfig, Keeps};
 ghost use Rattle.sc_model.specs.Space.{arities_of};
 ghost use Rattle.sc_space.specs.Seen.{seen_space};
 ghost use Rattle.sc_space.specs.Sound.{IsSound};
+ghost use Rattle.sc_base.specs.Seen.{seen_place};
+ghost use Rattle.sc_prep.specs.Closes.{has_none};
+ghost use Rattle.sc_prep.specs.Contents.{end_of_file};
 ghost use Rattle.sc_prep.specs.Preprocesses.{IsOrdinary, OwnsList, Stops};
 ghost use Rattle.sc_prep.specs.Printable.{ArePlainPaths, CanBeShown};
 
-use crate::content::{Contents, first_place};
+use crate::content::{Contents, end_place, first_place};
 use crate::entry::Entry;
 use crate::prepared::Prepared;
 use crate::walk::Walk;
@@ -37,6 +40,12 @@ pub fn preprocess<C: Conditions, S: Source>(
     ensures ordinary { (outside : Outside) → S.holds src.old ≡ Some outside → IfOk result (λ p. (config : List ℕ)
         → IsConfig (C.sets conds.old).arities config
         → IsOrdinary (C.sets conds.new) names.new files.new p (Pre (seen_space space.now) outside main.now config) config) }
+    ensures end { (outside : Outside) (bytes : List ℕ) → S.holds src.old ≡ Some outside → outside main.now ≡ Some bytes
+        → IfOk result (λ p. (config : List ℕ) → IsConfig (C.sets conds.old).arities config → (C.sets conds.new).has p.live.0 config ≡ true
+        → seen_place files.new p.end ≡ end_of_file main.now bytes) }
+    ensures end_held { IfOk result (λ p. p.end.file.0 < length files.new) }
+    ensures live { IfOk result (λ p. (config : List ℕ) → IsConfig (C.sets conds.old).arities config
+        → (C.sets conds.new).has p.live.0 config ≡ has_none (C.sets conds.new) p.faults.items config) }
     ensures owns { IfOk result (OwnsList (C.sets conds.new)) }
     ensures shown { ArePlainPaths files.old → has_no_newline main.now ≡ true → IfOk result (CanBeShown (C.sets conds.new) names.new files.new) }
     ensures stops { IfErr result (Stops (C.sets conds.old).arities (seen_space space.now).branches (S.faults src.old) (S.faults src.new)) }
@@ -50,7 +59,7 @@ pub fn preprocess<C: Conditions, S: Source>(
 {
     let file = files.intern(main)?;
     let table = MacroTable::start(alloc, space, names)?;
-    let mut walk = Walk::new(alloc, conds, table)?;
+    let mut walk = Walk::new(alloc, conds, table, first_place(file))?;
     let mut contents = Contents::new(alloc);
     let always = conds.always();
     let Some(content) = contents.read(alloc, src, names, files, file)? else {
@@ -75,5 +84,6 @@ pub fn preprocess<C: Conditions, S: Source>(
         always,
         &content,
     )?;
+    walk.prepared.end = end_place(&content);
     Ok(walk.prepared)
 }

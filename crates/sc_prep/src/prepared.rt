@@ -1,4 +1,4 @@
-use sc_base::{Cond, Fault, Token};
+use sc_base::{Cond, Fault, Place, Token};
 use sc_guarded::Guarded;
 
 /// What a file becomes under all configurations. A configuration with a fault is refused, and its
@@ -9,4 +9,6 @@ pub struct Prepared {
     pub faults: Vec<Fault>,
     /// The configurations without a fault.
     pub live: Cond,
+    /// Where the main file ends. Where every configuration is refused, this tells nothing.
+    pub end: Place,
 }

@@ -9,7 +9,7 @@ ghost use Rattle.sc_lines.specs.Nests.{seen_line};
 ghost use Rattle.sc_prep.specs.Printable.{StaysHeld};
 
 use crate::prepared::Prepared;
-use sc_base::{Cause, Cond, Fault, OutOfMemory, Token};
+use sc_base::{Cause, Cond, Fault, OutOfMemory, Place, Token};
 use sc_guarded::Guarded;
 use sc_presence::Conditions;
 use sc_table::MacroTable;
@@ -47,10 +47,12 @@ impl Walk {
         alloc: Global,
         conds: &C,
         table: MacroTable,
+        end: Place,
     ) -> Result<Walk, OutOfMemory>
         ensures owns { IfOk result (λ walk. Owns (C.sets conds.now) walk) }
         ensures empty { IfOk result (λ walk. (walk.gathered ≡ []) × (walk.prepared.list ≡ []) × (walk.prepared.faults.items ≡ [])) }
         ensures table { IfOk result (λ walk. walk.table ≡ table) }
+        ensures end { IfOk result (λ walk. walk.prepared.end ≡ end) }
         ensures starts { IfOk result (λ walk. (names files : List (List ℕ)) (config : List ℕ) (first : State) → IsConfig (C.sets conds.now).arities config
             → IsBegun (C.sets conds.now) names table config first → Simulates (C.sets conds.now) names files walk config (start first)) }
     {
@@ -64,6 +66,7 @@ impl Walk {
                 list: Guarded::new(alloc)?,
                 faults: Vec::new(alloc),
                 live: conds.always(),
+                end,
             },
         })
     }

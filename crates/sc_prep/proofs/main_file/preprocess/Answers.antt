@@ -1,14 +1,27 @@
-use Rattle.std.proofs.Common.{◌∙◌, ◌<◌, length, sym, subst}
-use Rattle.c11_directives.specs.Pre.{context_of}
-use Rattle.sc_base.proofs.Growth.{Extends-trans}
+use Rattle.std.proofs.Common.{◌∙◌, ◌<◌, ◌≡◌, ℕ, Global, List, Option, Some, ap, length, sym, subst}
+use Rattle.std.proofs.lemmas.Option.{none-some}
+use Rattle.std.specs.Option.{option_map}
+use Rattle.std.specs.declared.rc.Rc.{Rc}
+use Rattle.c11_directives.specs.Pre.{Pre, context_of}
+use Rattle.sc_base.proofs.Growth.{Extends-trans, Extends-within}
 use Rattle.sc_base.specs.declared.id.FileId.{FileId}
+use Rattle.sc_base.specs.declared.place.Place.{Place}
+use Rattle.sc_base.specs.Seen.{seen_place}
 use Rattle.sc_model.specs.declared.cause.Cause.TheVariants.{NotFound}
 use Rattle.sc_model.specs.Fault.{fault_at}
+use Rattle.sc_model.specs.Outside.{Files}
+use Rattle.sc_model.specs.Sets.{IsConfig}
+use Rattle.sc_prep.proofs.Contents.{place-later}
 use Rattle.sc_prep.proofs.FindLemmas.{name-absent}
 use Rattle.sc_prep.proofs.main_file.preprocess.Goals as goal
-use Rattle.sc_prep.proofs.MainFile.{begins-new, contents-new, entered-is, entered-shown, none-passed, paths-interned, plain-new, ready-new, refused-is, refused-owns, refused-shown, space-context}
+use Rattle.sc_prep.proofs.main_file.preprocess.Goals.{After-drop-walk-7}
+use Rattle.sc_prep.proofs.main_file.preprocess.Given.{Over}
+use Rattle.sc_prep.proofs.MainFile.{CanBeShown-end, IsOrdinary-end, begins-new, contents-new, end-inside, entered-is, entered-live, entered-shown, main-end, none-passed, paths-interned, plain-new, ready-new, refused-is, refused-live, refused-owns, refused-shown, space-context}
 use Rattle.sc_prep.proofs.MainWalk.{missing-ordinary}
-use Rattle.sc_prep.specs.Preprocesses.{IsRefused}
+use Rattle.sc_prep.specs.Contents.{end_place}
+use Rattle.sc_prep.specs.declared.content.Content.{Content}
+use Rattle.sc_prep.specs.declared.walk.Walk.{Walk}
+use Rattle.sc_prep.specs.Preprocesses.{IsOrdinary, IsRefused}
 use Rattle.sc_prep.specs.Printable.{is_plain}
 use Rattle.sc_space.specs.Seen.{seen_space}
 
@@ -29,7 +42,7 @@ returns-in_default-clause-ordinary g c = λ outside holds config listed.
     missing-ordinary (g.C.Conditions.sets c.refuse_at.new.conds) c.read.new.names files c.refuse_at.new.self.prepared space outside main config
     (name-absent c.read.new.self outside agrees c.in_ok-file.file main named c.in_ok-content.field-0 c.in_ok-content.ensures.content c.in_default.is)
     (subst (λ place. IsRefused (g.C.Conditions.sets c.refuse_at.new.conds) c.read.new.names files c.refuse_at.new.self.prepared (fault_at NotFound place) config)
-    (c.first_place.ensures.place files main named) refused)
+    (c.first_place-in_default.ensures.place files main named) refused)
 
 pub returns-in_default-clause-owns : goal.returns-in_default-clause-owns
 returns-in_default-clause-owns g c =
@@ -45,7 +58,7 @@ returns-in_default-clause-shown g c = λ paths plain.
     let table = c.in_ok-table.ensures in
     let fresh = begins-new (seen_space c.args.space.now) files c.requires.space walk.owns walk.empty walk.table table.table table.initial c.read.ensures.names walk.starts in
     refused-shown fresh c.refuse_at.ensures.keeps c.args.main.now _ c.always-always.ensures.own c.always-always.ensures.meaning.at c.in_ok-refuse_at.ensures.refuses
-    (subst (λ (f : FileId). f.0 < length files) (sym c.first_place.ensures.in_file) c.in_ok-file.ensures.own)
+    (subst (λ (f : FileId). f.0 < length files) (sym c.first_place-in_default.ensures.in_file) c.in_ok-file.ensures.own)
     (paths-interned c.in_ok-file.ensures.adds paths plain)
 
 pub enter-requires-clause-ready : goal.enter-requires-clause-ready
@@ -54,8 +67,10 @@ enter-requires-clause-ready g c =
     let table = c.in_ok-table.ensures in
     ready-new (begins-new (seen_space c.args.space.now) c.intern.new.self c.requires.space walk.owns walk.empty walk.table table.table table.initial c.read.ensures.names walk.starts) c.in_ok-content.ensures.contents
 
-pub returns-clause-ordinary : goal.returns-clause-ordinary
-returns-clause-ordinary g c = λ outside holds.
+enters-ordinary : (g : Over) (c : After-drop-walk-7 g) (outside : Files) → g.S.Source.holds c.args.src.now ≡ Some outside → (config : List ℕ)
+    → IsConfig (g.C.Conditions.sets c.args.conds.now).arities config
+    → IsOrdinary (g.C.Conditions.sets c.enter.new.conds) c.enter.new.names c.enter.new.files c.enter.new.self.prepared (Pre (seen_space c.args.space.now) outside c.args.main.now config) config
+enters-ordinary g c outside holds =
     let space = seen_space c.args.space.now in
     let walk = c.in_ok-walk.ensures in
     let table = c.in_ok-table.ensures in
@@ -63,6 +78,9 @@ returns-clause-ordinary g c = λ outside holds.
     let agrees = c.in_ok-enter.ensures.ready.read.told outside (c.enter.ensures.kept ∙ (c.read.ensures.kept ∙ holds)) in
     entered-is fresh c.enter.ensures.keeps c.args.main.now outside c.in_ok-file.file c.always-always.result c.in_ok-file.ensures.named c.always-always.ensures.meaning.at
     (c.in_ok-enter.ensures.enters (context_of space outside) (space-context space outside) agrees)
+
+pub returns-clause-ordinary : goal.returns-clause-ordinary
+returns-clause-ordinary g c = λ outside holds config listed. IsOrdinary-end c.enter.new.self.prepared c.end_place-walk.result (enters-ordinary g c outside holds config listed)
 
 pub returns-clause-shown : goal.returns-clause-shown
 returns-clause-shown g c = λ paths plain.
@@ -77,8 +95,8 @@ returns-clause-shown g c = λ paths plain.
     let each = plain-new fresh main c.requires.sound plain in
     let list = c.in_ok-enter.ensures.plain x (space-context space some.0) some.1 c.requires.sound named each (none-passed fresh (is_plain c.read.new.names)) in
     let more_named = c.in_ok-enter.ensures.paths x (space-context space some.0) some.1 c.requires.sound named each in
-    entered-shown fresh c.enter.ensures.keeps main c.in_ok-file.file c.always-always.result c.in_ok-file.ensures.named c.always-always.ensures.meaning.at
-    (c.in_ok-enter.ensures.enters x (space-context space some.0) some.1) c.in_ok-enter.ensures.ready list more_named
+    CanBeShown-end c.enter.new.self.prepared c.end_place-walk.result (entered-shown fresh c.enter.ensures.keeps main c.in_ok-file.file c.always-always.result c.in_ok-file.ensures.named c.always-always.ensures.meaning.at
+    (c.in_ok-enter.ensures.enters x (space-context space some.0) some.1) c.in_ok-enter.ensures.ready list more_named)
 
 -- the tables only grow
 pub returns-in_err-refuse_at-clause-names : goal.returns-in_err-refuse_at-clause-names
@@ -98,3 +116,56 @@ returns-in_err-enter-clause-files g c = Extends-trans c.intern.ensures.grows c.e
 
 pub returns-clause-files : goal.returns-clause-files
 returns-clause-files g c = Extends-trans c.intern.ensures.grows c.enter.ensures.files
+
+pub returns-clause-end : goal.returns-clause-end
+returns-clause-end g c = λ outside bytes holds there config listed live.
+    let files = c.intern.new.self in
+    let file = c.in_ok-file.file in
+    let main = c.args.main.now in
+    let content = c.in-Some.content.value in
+    let contents = c.in_ok-content.ensures.contents in
+    let at = c.in_ok-content.ensures.content ∙ ap (λ (o : Option (Rc Content Global)). Some (option_map (λ held. held.value) o)) c.in-Some.is in
+    let agrees = contents.told outside (c.read.ensures.kept ∙ holds) in
+    let is = agrees.each file.0 main (Some content) c.in_ok-file.ensures.named at in
+    let inside = subst (λ (f : FileId). f.0 < length files) (sym (end-inside c.read.new.names (length files) content (contents.held file content at))) c.in_ok-file.ensures.own in
+    ap (seen_place c.enter.new.files) (c.end_place-walk.ensures ∙ ap end_place c.deref-2.ensures)
+    ∙ (place-later c.enter.ensures.names c.enter.ensures.files (end_place content) inside
+    ∙ main-end (seen_space c.args.space.now) outside main config there is (enters-ordinary g c outside holds config listed) live)
+
+pub returns-clause-end_held : goal.returns-clause-end_held
+returns-clause-end_held g c =
+    let files = c.intern.new.self in
+    let file = c.in_ok-file.file in
+    let content = c.in-Some.content.value in
+    let at = c.in_ok-content.ensures.content ∙ ap (λ (o : Option (Rc Content Global)). Some (option_map (λ held. held.value) o)) c.in-Some.is in
+    let same = ap (λ (p : Place). p.file) (c.end_place-walk.ensures ∙ ap end_place c.deref-2.ensures) ∙ end-inside c.read.new.names (length files) content (c.in_ok-content.ensures.contents.held file content at) in
+    Extends-within c.end_place-walk.result.file.0 (subst (λ (f : FileId). f.0 < length files) (sym same) c.in_ok-file.ensures.own) c.enter.ensures.files
+
+pub returns-clause-live : goal.returns-clause-live
+returns-clause-live g c =
+    let space = seen_space c.args.space.now in
+    let walk = c.in_ok-walk.ensures in
+    let table = c.in_ok-table.ensures in
+    let fresh = begins-new space c.intern.new.self c.requires.space walk.owns walk.empty walk.table table.table table.initial c.read.ensures.names walk.starts in
+    let some = c.in_ok-enter.ensures.ready.read.some in
+    entered-live fresh c.enter.ensures.keeps c.args.main.now c.in_ok-file.file c.always-always.result c.in_ok-file.ensures.named c.always-always.ensures.meaning.at
+    (c.in_ok-enter.ensures.enters (context_of space some.0) (space-context space some.0) some.1)
+
+pub returns-in_default-clause-end : goal.returns-in_default-clause-end
+returns-in_default-clause-end g c = λ outside bytes holds there config listed live.
+    let agrees = c.in_ok-content.ensures.contents.told outside (c.read.ensures.kept ∙ holds) in
+    let absent = name-absent c.read.new.self outside agrees c.in_ok-file.file c.args.main.now c.in_ok-file.ensures.named c.in_ok-content.field-0 c.in_ok-content.ensures.content c.in_default.is in
+    absurd (none-some bytes (sym absent ∙ there))
+
+pub returns-in_default-clause-end_held : goal.returns-in_default-clause-end_held
+returns-in_default-clause-end_held g c =
+    let files = c.intern.new.self in
+    let same = ap (λ (w : Walk). w.prepared.end.file) c.in_ok-refuse_at.ensures.refuses.same ∙ (ap (λ (p : Place). p.file) c.in_ok-walk.ensures.end ∙ c.first_place.ensures.in_file) in
+    subst (λ (f : FileId). f.0 < length files) (sym same) c.in_ok-file.ensures.own
+
+pub returns-in_default-clause-live : goal.returns-in_default-clause-live
+returns-in_default-clause-live g c =
+    let walk = c.in_ok-walk.ensures in
+    let table = c.in_ok-table.ensures in
+    let fresh = begins-new (seen_space c.args.space.now) c.intern.new.self c.requires.space walk.owns walk.empty walk.table table.table table.initial c.read.ensures.names walk.starts in
+    refused-live fresh c.refuse_at.ensures.keeps c.args.main.now _ c.always-always.ensures.own c.always-always.ensures.meaning.at c.in_ok-refuse_at.ensures.refuses
