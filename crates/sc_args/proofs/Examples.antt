@@ -2,7 +2,7 @@
 use Rattle.std.proofs.Common.{◌≡◌, refl, [], ◌∷◌, codes, ℕ, List}
 use Rattle.std.specs.Prelude.{Ok, Err}
 use Rattle.clap.proofs.OnLiterals.{clap_on_literals}
-use Rattle.sc_args.specs.Words.{asked_of, tokens, usage, bad_file}
+use Rattle.sc_args.specs.Words.{asked_of, tokens, project, usage, bad_file}
 
 pub no_word : (program : List ℕ) → asked_of (program ∷ []) ≡ Err usage
 unfolding asked_of clap_on_literals
@@ -15,6 +15,19 @@ unknown_word program = refl
 pub word_too_few : (program : List ℕ) → asked_of (program ∷ codes "tokens" ∷ codes "a" ∷ []) ≡ Err usage
 unfolding asked_of clap_on_literals
 word_too_few program = refl
+
+pub project_too_few : (program : List ℕ) → asked_of (program ∷ codes "project" ∷ codes "a" ∷ []) ≡ Err usage
+unfolding asked_of clap_on_literals
+project_too_few program = refl
+
+pub parse_too_many : (program : List ℕ) → asked_of (program ∷ codes "parse" ∷ codes "a" ∷ codes "b" ∷ codes "c" ∷ []) ≡ Err usage
+unfolding asked_of clap_on_literals
+parse_too_many program = refl
+
+choices_in_order : (program : List ℕ)
+    → asked_of (program ∷ codes "project" ∷ codes "a" ∷ codes "b" ∷ codes "X=0" ∷ codes "Y=1" ∷ codes "" ∷ []) ≡ Ok (project (codes "a") (codes "b") (codes "X=0" ∷ codes "Y=1" ∷ [] ∷ []))
+unfolding asked_of clap_on_literals
+choices_in_order program = refl
 
 pub word_too_many : (program : List ℕ) → asked_of (program ∷ codes "conflicts" ∷ codes "x" ∷ []) ≡ Err usage
 unfolding asked_of clap_on_literals

@@ -1,4 +1,4 @@
--- Words without an error name `tokens` with both its words, or `conflicts`.
+-- Words without an error name a command with all that it requires.
 use Rattle.std.proofs.Common.{◌≡◌, ◌∙◌, ap, sym, subst, refl, [], ◌∷◌, ◌++◌, codes, ℕ, List, length, true, false, ◌&&◌, ◌||◌, inl, inr}
 use Rattle.std.specs.Prelude.{◌⊎◌, ◌≢◌, Option, Some, None, Ok, Err, if◌then◌else◌, Bool, is_some, not, fold, option_map, find, cond, unwrap_or}
 use Rattle.std.specs.Option.{option_map_or}
@@ -16,16 +16,20 @@ use Rattle.clap.specs.declared.error.ErrorKind.TheVariants as kind
 use Rattle.sc_args.proofs.Steps.{IsFaultless, both, level_steps, not_empty}
 use Rattle.clap.specs.Takes.{is_given}
 use Rattle.clap.specs.declared.parser.matches.ValueSource.TheVariants.{CommandLine}
-use Rattle.sc_args.proofs.Values.{AllUsable, IsUsable, finished_is_full, is_full, text_of_given, used_is_full, walk_is_full}
-use Rattle.sc_args.specs.Words.{Asked, asked_by, asked_of, asked_where, asked_with, bad_file, conflicts, conflicts_app, is_file_name, required_rule, superc_app, tokens, tokens_app, usage}
+use Rattle.sc_args.proofs.Values.{AllUsable, IsUsable, choices_are_full, finished_is_full, have_no_defaults, is_full, text_of_given, used_is_full, walk_is_full}
+use Rattle.sc_args.specs.Words.{Asked, asked_by, asked_of, asked_where, asked_with, bad_file, choices_in, choices_rule, conflicts, conflicts_app, file_app, is_file_name, parse, project, project_app, required_rule, superc_app, tokens, usage}
 
 abbrev has_text : Text → List Row → Bool
 has_text id rows = is_some (first_of id rows)
 
--- A command is named: `tokens` with both its words, or `conflicts`.
+-- the command with that name, with both its files
+abbrev NamesOnFiles : Text → Text × List Row → Type 0
+NamesOnFiles name p = (p.0 ≡ name) × (has_text (codes "space") p.1 ≡ true) × (has_text (codes "file") p.1 ≡ true)
+
+-- A command is named: one on two files, or `conflicts`.
 abbrev NamesCommand : Option (Text × List Row) → Type 0
 NamesCommand None = ⊥
-NamesCommand (Some p) = ((p.0 ≡ codes "tokens") × (has_text (codes "space") p.1 ≡ true) × (has_text (codes "file") p.1 ≡ true)) ⊎ (p.0 ≡ codes "conflicts")
+NamesCommand (Some p) = NamesOnFiles (codes "tokens") p ⊎ (NamesOnFiles (codes "parse") p ⊎ (NamesOnFiles (codes "project") p ⊎ (p.0 ≡ codes "conflicts")))
 
 -- ---- the subcommand that a step names
 
@@ -139,8 +143,11 @@ required rows true e = refl
 required rows false e = absurd (not_empty kind.MissingSubcommand [] e)
 
 -- the subcommands as they are built
-abbrev tokens_built : Shape
-tokens_built = built_leaf (inherited whole.top tokens_app.top)
+abbrev files_built : Text → Shape
+files_built name = built_leaf (inherited whole.top (file_app name).top)
+
+abbrev project_built : Shape
+project_built = built_leaf (inherited whole.top project_app.top)
 
 abbrev conflicts_built : Shape
 conflicts_built = built_leaf (inherited whole.top conflicts_app.top)
@@ -154,7 +161,16 @@ record IsEntered (name : Text) (s : Shape) (p : Text × List Text) : Type 0 wher
 abbrev help_built : Shape
 help_built = built_leaf help_shape
 
-built_subs : whole.subs ≡ tokens_built ∷ conflicts_built ∷ help_built ∷ []
+abbrev after_project : List Shape
+after_project = conflicts_built ∷ help_built ∷ []
+
+abbrev after_parse : List Shape
+after_parse = project_built ∷ after_project
+
+abbrev after_tokens : List Shape
+after_tokens = files_built (codes "parse") ∷ after_parse
+
+built_subs : whole.subs ≡ files_built (codes "tokens") ∷ after_tokens
 built_subs = refl
 
 abbrev answers : Text × List Text → Shape → Bool
@@ -173,23 +189,46 @@ entered_as name s p e found = record {
   kinds = ap (λ o. option_map_or (λ s. level_fault s [] nothing_held p.1 false []) o []) found;
 }
 
-one_of_two : (p : Text × List Text) → bytes_eq p.0 (codes "help") ≡ false → is_some (entered whole (Some p)) ≡ true
-    → IsEntered (codes "tokens") tokens_built p ⊎ IsEntered (codes "conflicts") conflicts_built p
-one_of_two p no_help is_entered = cases (answers p tokens_built) (answers p conflicts_built) (answers p help_built) refl refl refl
+abbrev IsEnteredCommand : Text × List Text → Type 0
+IsEnteredCommand p = IsEntered (codes "tokens") (files_built (codes "tokens")) p ⊎ (IsEntered (codes "parse") (files_built (codes "parse")) p
+    ⊎ (IsEntered (codes "project") project_built p ⊎ IsEntered (codes "conflicts") conflicts_built p))
+
+-- a name that a shape without aliases answers to
+named_so : (name : Text) (p : Text × List Text) → (bytes_eq name p.0 || false) ≡ true → bytes_eq name p.0 ≡ true
+named_so name p e = sym (or-false (bytes_eq name p.0)) ∙ e
+
+one_of_four : (p : Text × List Text) → bytes_eq p.0 (codes "help") ≡ false → is_some (entered whole (Some p)) ≡ true → IsEnteredCommand p
+one_of_four p no_help is_entered =
+    cases (answers p (files_built (codes "tokens"))) (answers p (files_built (codes "parse"))) (answers p project_built) (answers p conflicts_built) (answers p help_built) refl refl refl refl refl
   where
-    cases : (a b c : Bool) → answers p tokens_built ≡ a → answers p conflicts_built ≡ b → answers p help_built ≡ c
-        → IsEntered (codes "tokens") tokens_built p ⊎ IsEntered (codes "conflicts") conflicts_built p
-    cases true b c ea eb ec =
-        inl (entered_as (codes "tokens") tokens_built p (sym (or-false (bytes_eq (codes "tokens") p.0)) ∙ ea) (found_first (answers p) tokens_built (conflicts_built ∷ help_built ∷ []) ea))
-    cases false true c ea eb ec = inr (entered_as (codes "conflicts") conflicts_built p (sym (or-false (bytes_eq (codes "conflicts") p.0)) ∙ eb)
-        (found_later (answers p) tokens_built (conflicts_built ∷ help_built ∷ []) ea ∙ found_first (answers p) conflicts_built (help_built ∷ []) eb))
-    cases false false true ea eb ec =
+    no_tokens : answers p (files_built (codes "tokens")) ≡ false → find (answers p) whole.subs ≡ find (answers p) after_tokens
+    no_tokens e = found_later (answers p) (files_built (codes "tokens")) after_tokens e
+
+    no_parse : answers p (files_built (codes "parse")) ≡ false → find (answers p) after_tokens ≡ find (answers p) after_parse
+    no_parse e = found_later (answers p) (files_built (codes "parse")) after_parse e
+
+    no_project : answers p project_built ≡ false → find (answers p) after_parse ≡ find (answers p) after_project
+    no_project e = found_later (answers p) project_built after_project e
+
+    no_conflicts : answers p conflicts_built ≡ false → find (answers p) after_project ≡ find (answers p) (help_built ∷ [])
+    no_conflicts e = found_later (answers p) conflicts_built (help_built ∷ []) e
+
+    cases : (a b c d e : Bool) → answers p (files_built (codes "tokens")) ≡ a → answers p (files_built (codes "parse")) ≡ b → answers p project_built ≡ c → answers p conflicts_built ≡ d
+        → answers p help_built ≡ e → IsEnteredCommand p
+    cases true b c d e ea eb ec ed ee =
+        inl (entered_as (codes "tokens") (files_built (codes "tokens")) p (named_so (codes "tokens") p ea) (found_first (answers p) (files_built (codes "tokens")) after_tokens ea))
+    cases false true c d e ea eb ec ed ee = inr (inl (entered_as (codes "parse") (files_built (codes "parse")) p (named_so (codes "parse") p eb)
+        (no_tokens ea ∙ found_first (answers p) (files_built (codes "parse")) after_parse eb)))
+    cases false false true d e ea eb ec ed ee = inr (inr (inl (entered_as (codes "project") project_built p (named_so (codes "project") p ec)
+        (no_tokens ea ∙ (no_parse eb ∙ found_first (answers p) project_built after_project ec)))))
+    cases false false false true e ea eb ec ed ee = inr (inr (inr (entered_as (codes "conflicts") conflicts_built p (named_so (codes "conflicts") p ed)
+        (no_tokens ea ∙ (no_parse eb ∙ (no_project ec ∙ found_first (answers p) conflicts_built (help_built ∷ []) ed))))))
+    cases false false false false true ea eb ec ed ee =
         let is_help : bytes_eq p.0 (codes "help") ≡ true =
-        (bytes_eq-Decides p.0 (codes "help")).1 (sym ((bytes_eq-Decides (codes "help") p.0).0 (sym (or-false (bytes_eq (codes "help") p.0)) ∙ ec))) in
+        (bytes_eq-Decides p.0 (codes "help")).1 (sym ((bytes_eq-Decides (codes "help") p.0).0 (named_so (codes "help") p ee))) in
         absurd (both_ways (bytes_eq p.0 (codes "help")) no_help is_help)
-    cases false false false ea eb ec =
-        let nothing : find (answers p) whole.subs ≡ None = found_later (answers p) tokens_built (conflicts_built ∷ help_built ∷ []) ea
-        ∙ (found_later (answers p) conflicts_built (help_built ∷ []) eb ∙ found_later (answers p) help_built [] ec) in
+    cases false false false false false ea eb ec ed ee =
+        let nothing : find (answers p) whole.subs ≡ None = no_tokens ea ∙ (no_parse eb ∙ (no_project ec ∙ (no_conflicts ed ∙ found_later (answers p) help_built [] ee))) in
         absurd (both_ways (is_some (entered whole (Some p))) (ap (λ o. is_some (option_map (λ s. rows_at s p.1) o)) nothing) is_entered)
 
 -- ---- what the words name
@@ -208,8 +247,8 @@ takes_one index id again (v ∷ vs) rows e full = used_is_full id (reading_by (o
 help_fails_always : IsUsable help_flag
 help_fails_always again values rows e full = absurd (not_empty kind.DisplayHelp [] (both (range_kinds 0 0 (length values)) (kind.DisplayHelp ∷ []) e).1)
 
-tokens_usable : AllUsable tokens_built.rules
-tokens_usable test a found = go (test (one_value_rule 1 (codes "space"))) (test (one_value_rule 2 (codes "file"))) (test help_flag) found
+files_usable : (name : Text) → AllUsable (files_built name).rules
+files_usable name test a found = go (test (one_value_rule 1 (codes "space"))) (test (one_value_rule 2 (codes "file"))) (test help_flag) found
   where
     go : (x y z : Bool) → cond x (Some (one_value_rule 1 (codes "space"))) (cond y (Some (one_value_rule 2 (codes "file"))) (cond z (Some help_flag) None)) ≡ Some a → IsUsable a
     go true y z e = subst IsUsable (ap (λ o. unwrap_or o help_flag) e) (takes_one 1 (codes "space"))
@@ -217,38 +256,70 @@ tokens_usable test a found = go (test (one_value_rule 1 (codes "space"))) (test 
     go false false true e = subst IsUsable (ap (λ o. unwrap_or o help_flag) e) help_fails_always
     go false false false e = absurd (none-some a e)
 
-both_given : (rows : List Row) → check_fault tokens_built rows false ≡ [] → (is_given (codes "space") rows ≡ true) × (is_given (codes "file") rows ≡ true)
-both_given rows e = go (is_given (codes "space") rows) (is_given (codes "file") rows) e
-  where
-    go : (a b : Bool) → (if not a || (not b || false) then kind.MissingRequiredArgument ∷ [] else []) ≡ [] → (a ≡ true) × (b ≡ true)
-    go true true e = (refl, refl)
-    go false b e = absurd (not_empty kind.MissingRequiredArgument [] e)
-    go true false e = absurd (not_empty kind.MissingRequiredArgument [] e)
+abbrev several_rule : Rule
+several_rule = with_index 3 (filled choices_rule)
 
-tokens_have : (words : List Text) → level_fault tokens_built [] nothing_held words false [] ≡ []
-    → (has_text (codes "space") (rows_after tokens_built.rules [] words) ≡ true) × (has_text (codes "file") (rows_after tokens_built.rules [] words) ≡ true)
-tokens_have words e = (text_of_given (codes "space") (finished tokens_built.rules end) full given.0, text_of_given (codes "file") (finished tokens_built.rules end) full given.1)
+takes_several_words : IsUsable several_rule
+takes_several_words again [] rows e full = choices_are_full (reading_by several_rule) CommandLine [] rows full
+takes_several_words again (v ∷ vs) rows e full = choices_are_full (reading_by several_rule) CommandLine (v ∷ vs) rows full
+
+project_usable : AllUsable project_built.rules
+project_usable test a found = go (test (one_value_rule 1 (codes "space"))) (test (one_value_rule 2 (codes "file"))) (test several_rule) (test help_flag) found
   where
-    steps : IsFaultless tokens_built [] nothing_held words false []
-    steps = level_steps tokens_built [] nothing_held words false [] e
+    go : (x y z w : Bool)
+        → cond x (Some (one_value_rule 1 (codes "space"))) (cond y (Some (one_value_rule 2 (codes "file"))) (cond z (Some several_rule) (cond w (Some help_flag) None))) ≡ Some a → IsUsable a
+    go true y z w e = subst IsUsable (ap (λ o. unwrap_or o help_flag) e) (takes_one 1 (codes "space"))
+    go false true z w e = subst IsUsable (ap (λ o. unwrap_or o help_flag) e) (takes_one 2 (codes "file"))
+    go false false true w e = subst IsUsable (ap (λ o. unwrap_or o help_flag) e) takes_several_words
+    go false false false true e = subst IsUsable (ap (λ o. unwrap_or o help_flag) e) help_fails_always
+    go false false false false e = absurd (none-some a e)
+
+-- rows of a command on files, which requires both
+abbrev GivesBoth : Shape → Type 0
+GivesBoth s = (rows : List Row) → check_fault s rows false ≡ [] → (is_given (codes "space") rows ≡ true) × (is_given (codes "file") rows ≡ true)
+
+requires_both : (a b : Bool) → (if not a || (not b || false) then kind.MissingRequiredArgument ∷ [] else []) ≡ [] → (a ≡ true) × (b ≡ true)
+requires_both true true e = (refl, refl)
+requires_both false b e = absurd (not_empty kind.MissingRequiredArgument [] e)
+requires_both true false e = absurd (not_empty kind.MissingRequiredArgument [] e)
+
+files_given : (name : Text) → GivesBoth (files_built name)
+files_given name rows e = requires_both (is_given (codes "space") rows) (is_given (codes "file") rows) e
+
+project_given : GivesBoth project_built
+project_given rows e = requires_both (is_given (codes "space") rows) (is_given (codes "file") rows) e
+
+both_have : (s : Shape) → AllUsable s.rules → have_no_defaults s.rules ≡ true → GivesBoth s → (words : List Text) → level_fault s [] nothing_held words false [] ≡ []
+    → (has_text (codes "space") (rows_after s.rules [] words) ≡ true) × (has_text (codes "file") (rows_after s.rules [] words) ≡ true)
+both_have s usable bare gives words e = (text_of_given (codes "space") (finished s.rules end) refl full given.0, text_of_given (codes "file") (finished s.rules end) refl full given.1)
+  where
+    steps : IsFaultless s [] nothing_held words false []
+    steps = level_steps s [] nothing_held words false [] e
 
     end : Held
-    end = (walk tokens_built.rules [] nothing_held words).held
+    end = (walk s.rules [] nothing_held words).held
 
-    given : (is_given (codes "space") (finished tokens_built.rules (walk tokens_built.rules [] nothing_held words).held) ≡ true)
-        × (is_given (codes "file") (finished tokens_built.rules (walk tokens_built.rules [] nothing_held words).held) ≡ true)
-    given = both_given (finished tokens_built.rules (walk tokens_built.rules [] nothing_held words).held) steps.checks
+    given : (is_given (codes "space") (finished s.rules (walk s.rules [] nothing_held words).held) ≡ true)
+        × (is_given (codes "file") (finished s.rules (walk s.rules [] nothing_held words).held) ≡ true)
+    given = gives (finished s.rules (walk s.rules [] nothing_held words).held) steps.checks
 
-    full : is_full (finished tokens_built.rules (walk tokens_built.rules [] nothing_held words).held) ≡ true
-    full = finished_is_full tokens_built.rules tokens_usable tokens_built.args_override_self (walk tokens_built.rules [] nothing_held words).held refl steps.settles
-        (walk_is_full tokens_built tokens_usable [] words (walk_from nothing_held) steps.walks refl)
+    full : is_full (finished s.rules (walk s.rules [] nothing_held words).held) ≡ true
+    full = finished_is_full s.rules usable s.args_override_self (walk s.rules [] nothing_held words).held bare steps.settles
+        (walk_is_full s usable [] words (walk_from nothing_held) steps.walks refl)
 
-entered_command : (p : Text × List Text) → entered_fault whole (Some p) ≡ [] → IsEntered (codes "tokens") tokens_built p ⊎ IsEntered (codes "conflicts") conflicts_built p
-    → NamesCommand (entered whole (Some p))
-entered_command p e (inl t) =
-    let have = tokens_have p.1 (sym t.kinds ∙ e) in
-    subst NamesCommand (sym t.rows) (inl (refl, have.0, have.1))
-entered_command p e (inr t) = subst NamesCommand (sym t.rows) (inr refl)
+entered_on_files : (name : Text) (p : Text × List Text) → entered_fault whole (Some p) ≡ [] → IsEntered name (files_built name) p
+    → NamesOnFiles name (rows_at (files_built name) p.1)
+entered_on_files name p e t =
+    let have = both_have (files_built name) (files_usable name) refl (files_given name) p.1 (sym t.kinds ∙ e) in
+    (refl, have.0, have.1)
+
+entered_command : (p : Text × List Text) → entered_fault whole (Some p) ≡ [] → IsEnteredCommand p → NamesCommand (entered whole (Some p))
+entered_command p e (inl t) = subst NamesCommand (sym t.rows) (inl (entered_on_files (codes "tokens") p e t))
+entered_command p e (inr (inl t)) = subst NamesCommand (sym t.rows) (inr (inl (entered_on_files (codes "parse") p e t)))
+entered_command p e (inr (inr (inl t))) =
+    let have = both_have project_built project_usable refl project_given p.1 (sym t.kinds ∙ e) in
+    subst NamesCommand (sym t.rows) (inr (inr (inl (refl, have.0, have.1))))
+entered_command p e (inr (inr (inr t))) = subst NamesCommand (sym t.rows) (inr (inr (inr refl)))
 
 faultless_words_name_a_command : (words : List Text) → fault_of superc_app words ≡ [] → NamesCommand (subcommand_of superc_app words)
 faultless_words_name_a_command words e = go (stop_in (argument_words superc_app words)) refl steps.enters
@@ -263,26 +334,30 @@ faultless_words_name_a_command words e = go (stop_in (argument_words superc_app 
     go : (o : Option (Text × List Text)) → stop_in (argument_words superc_app words) ≡ o → entered_fault whole o ≡ [] → is_some (entered whole o) ≡ true → NamesCommand (entered whole o)
     go None stops below is_entered = absurd (both_ways false refl is_entered)
     go (Some p) stops below is_entered = entered_command p below
-        (one_of_two p (walk_names_no_help whole.top (names_of whole) (argument_words superc_app words) (walk_from nothing_held) p refl refl steps.walks stops) is_entered)
+        (one_of_four p (walk_names_no_help whole.top (names_of whole) (argument_words superc_app words) (walk_from nothing_held) p refl refl steps.walks stops) is_entered)
 
 -- what is asked for by a command that is named
 asked_no_misuse : (asked : Asked) → Ok asked ≢ Err usage
 asked_no_misuse asked e = cc
 
-both_asked : (space file : Option Text) → is_some space ≡ true → is_some file ≡ true → asked_with space file ≢ Err usage
-both_asked (Some space) (Some file) p q = by (is_file_name file)
+both_asked : (command : Text → Text → Asked) (space file : Option Text) → is_some space ≡ true → is_some file ≡ true → asked_with command space file ≢ Err usage
+both_asked command (Some space) (Some file) p q = by (is_file_name file)
   where
-    by : (b : Bool) → (if b then Ok (tokens space file) else Err bad_file) ≢ Err usage
+    by : (b : Bool) → (if b then Ok (command space file) else Err bad_file) ≢ Err usage
     by true e = cc
     by false e = cc
-both_asked None file p q = absurd (false≢true p)
-both_asked (Some space) None p q = absurd (false≢true q)
+both_asked command None file p q = absurd (false≢true p)
+both_asked command (Some space) None p q = absurd (false≢true q)
 
 named_is_asked : (found : Option (Text × List Row)) → NamesCommand found → asked_by found ≢ Err usage
 named_is_asked None never = absurd never
 named_is_asked (Some p) (inl t) = subst (λ name. asked_by (Some (name, p.1)) ≢ Err usage) (sym t.0)
-    (both_asked (first_of (codes "space") p.1) (first_of (codes "file") p.1) t.1 t.2)
-named_is_asked (Some p) (inr t) = subst (λ name. asked_by (Some (name, p.1)) ≢ Err usage) (sym t) (λ e. asked_no_misuse conflicts e)
+    (both_asked tokens (first_of (codes "space") p.1) (first_of (codes "file") p.1) t.1 t.2)
+named_is_asked (Some p) (inr (inl t)) = subst (λ name. asked_by (Some (name, p.1)) ≢ Err usage) (sym t.0)
+    (both_asked parse (first_of (codes "space") p.1) (first_of (codes "file") p.1) t.1 t.2)
+named_is_asked (Some p) (inr (inr (inl t))) = subst (λ name. asked_by (Some (name, p.1)) ≢ Err usage) (sym t.0)
+    (both_asked (λ space file. project space file (choices_in p.1)) (first_of (codes "space") p.1) (first_of (codes "file") p.1) t.1 t.2)
+named_is_asked (Some p) (inr (inr (inr t))) = subst (λ name. asked_by (Some (name, p.1)) ≢ Err usage) (sym t) (λ e. asked_no_misuse conflicts e)
 
 pub taken_words_are_no_misuse : (words : List Text) → fault_of superc_app words ≡ [] → asked_of words ≢ Err usage
 unfolding asked_of

@@ -1,11 +1,12 @@
 -- In a walk without a fault, each use of an argument that takes one value has a value.
-use Rattle.std.proofs.Common.{◌≡◌, ◌∙◌, ap, sym, refl, [], ◌∷◌, ◌++◌, ℕ, zero, suc, List, length, true, false, arith, ◌&&◌}
+use Rattle.std.proofs.Common.{◌≡◌, ◌∙◌, ◌||◌, ap, codes, subst, sym, refl, [], ◌∷◌, ◌++◌, ℕ, zero, suc, List, length, true, false, arith, ◌&&◌}
 use Rattle.std.specs.Prelude.{Option, Some, None, if◌then◌else◌, Bool, is_some, fold, find, cond, slice_get, encode_utf8, drop, option_and_then}
 use Rattle.std.specs.List.{list_all}
 use Rattle.std.specs.Option.{option_map_or}
 use Rattle.std.specs.Str.{bytes_eq, chars}
-use Rattle.std.proofs.lemmas.Bool.{and_from, and_parts, false≢true}
+use Rattle.std.proofs.lemmas.Bool.{and_from, and_parts, both_ways, false≢true}
 use Rattle.std.proofs.lemmas.List.Folds.{list_all-append}
+use Rattle.std.proofs.lemmas.Slice.Eq.{bytes_eq-Decides}
 use Rattle.clap.specs.Facts.{explicit_source}
 use Rattle.clap.specs.Kinds.{Kinds, or_else}
 use Rattle.clap.specs.Lexer.{long_of, short_of}
@@ -18,9 +19,9 @@ use Rattle.clap.specs.declared.builder.value_parser.Reading.{Reading}
 use Rattle.clap.specs.declared.error.ErrorKind.TheVariants as kind
 use Rattle.sc_args.proofs.Steps.{both}
 
--- each row has a value
+-- each row has a value, but for that of the choices, which may have none
 abbrev pub is_full_row : Row → Bool
-is_full_row r = is_some (slice_get r.values 0)
+is_full_row r = bytes_eq r.id (codes "choices") || is_some (slice_get r.values 0)
 
 abbrev pub is_full : List Row → Bool
 is_full = list_all is_full_row
@@ -38,17 +39,27 @@ full_at_row id change missing (r ∷ rs) keeps m e = go (bytes_eq r.id id) (full
     go false later = and_from (is_full_row r) (is_full (at_row id change missing rs)) parts.0 later
 
 more_is_full : (s : ValueSource) (values : List Text) (r : Row) → is_full_row r ≡ true → is_full (more_values s values r) ≡ true
-more_is_full s values r e = go r.values e
+more_is_full s values r e = go (bytes_eq r.id (codes "choices")) r.values e
   where
-    go : (vs : List Text) → is_some (slice_get vs 0) ≡ true → (is_some (slice_get (vs ++ values) 0) && true) ≡ true
-    go [] e = absurd (false≢true e)
-    go (v ∷ vs) e = refl
+    go : (b : Bool) (vs : List Text) → (b || is_some (slice_get vs 0)) ≡ true → ((b || is_some (slice_get (vs ++ values) 0)) && true) ≡ true
+    go true vs e = refl
+    go false [] e = absurd (false≢true e)
+    go false (v ∷ vs) e = refl
 
 -- one use with a value
 pub used_is_full : (id : Text) (how : Reading) (s : ValueSource) (v : Text) (vs : List Text) (rows : List Row) → is_full rows ≡ true
     → is_full (with_values id how s (v ∷ vs) (without id rows)) ≡ true
 used_is_full id how s v vs rows e =
-    full_at_row id (more_values s (v ∷ vs)) _ (without id rows) (λ r h. more_is_full s (v ∷ vs) r h) refl (full_at_row id (λ _. []) [] rows (λ _ _. refl) refl e)
+    full_at_row id (more_values s (v ∷ vs)) _ (without id rows) (λ r h. more_is_full s (v ∷ vs) r h) (first (bytes_eq id (codes "choices")))
+    (full_at_row id (λ _. []) [] rows (λ _ _. refl) refl e)
+  where
+    first : (b : Bool) → ((b || true) && true) ≡ true
+    first true = refl
+    first false = refl
+
+-- more words that choose
+pub choices_are_full : (how : Reading) (s : ValueSource) (values : List Text) (rows : List Row) → is_full rows ≡ true → is_full (with_values (codes "choices") how s values rows) ≡ true
+choices_are_full how s values rows e = full_at_row (codes "choices") (more_values s values) _ rows (λ r h. more_is_full s values r h) refl e
 
 -- a use that doesn't fail leaves each row with a value
 abbrev pub IsUsable : Rule → Type 0
@@ -234,13 +245,18 @@ pub finished_is_full : (c : List Rule) → AllUsable c → (again : Bool) (h : H
     → is_full (finished c h) ≡ true
 finished_is_full c usable again h none e f = full_as (finished c h) (settled c h).rows (defaults_keep_rows c (settled c h).rows none) (settled_is_full c usable again h e f)
 
--- an argument that is given in such rows has a text
-pub text_of_given : (id : Text) (rows : List Row) → is_full rows ≡ true → is_given id rows ≡ true → is_some (first_of id rows) ≡ true
-text_of_given id [] f given = given
-text_of_given id (r ∷ rs) f given = go (bytes_eq r.id id) (text_of_given id rs (and_parts (is_full_row r) (is_full rs) f).1) given
+-- an argument but the choices that is given in such rows has a text
+pub text_of_given : (id : Text) (rows : List Row) → bytes_eq id (codes "choices") ≡ false → is_full rows ≡ true → is_given id rows ≡ true → is_some (first_of id rows) ≡ true
+text_of_given id [] other f given = given
+text_of_given id (r ∷ rs) other f given = go (bytes_eq r.id id) refl (text_of_given id rs other (and_parts (is_full_row r) (is_full rs) f).1) given
   where
-    go : (b : Bool) → (is_given id rs ≡ true → is_some (first_of id rs) ≡ true)
+    valued : (b : Bool) → b ≡ false → (b || is_some (slice_get r.values 0)) ≡ true → is_some (slice_get r.values 0) ≡ true
+    valued false is e = e
+    valued true is e = absurd (both_ways true is refl)
+
+    go : (b : Bool) → bytes_eq r.id id ≡ b → (is_given id rs ≡ true → is_some (first_of id rs) ≡ true)
         → option_map_or (λ r. explicit_source r.source) (cond b (Some r) (find (λ r. bytes_eq r.id id) rs)) false ≡ true
         → is_some (option_and_then (λ r. slice_get r.values 0) (cond b (Some r) (find (λ r. bytes_eq r.id id) rs))) ≡ true
-    go true later given = (and_parts (is_full_row r) (is_full rs) f).0
-    go false later given = later given
+    go true same later given =
+        valued (bytes_eq r.id (codes "choices")) (subst (λ t. bytes_eq t (codes "choices") ≡ false) (sym ((bytes_eq-Decides r.id id).0 same)) other) (and_parts (is_full_row r) (is_full rs) f).0
+    go false same later given = later given

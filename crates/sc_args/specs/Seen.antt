@@ -1,13 +1,15 @@
 -- An answer of the call as the definitions see it.
-use Rattle.std.specs.Prelude.{◌≡◌, string_bytes, Result, Ok, Err}
+use Rattle.std.specs.Prelude.{◌≡◌, map, string_bytes, Result, Ok, Err}
 use Rattle.sc_args.specs.declared.command.Command.{Command}
 use Rattle.sc_args.specs.declared.command.Command.TheVariants as command
 use Rattle.sc_args.specs.declared.stop.ArgsStop.{ArgsStop}
 use Rattle.sc_args.specs.declared.stop.ArgsStop.TheVariants as stop
-use Rattle.sc_args.specs.Words.{Asked, Misuse, tokens, conflicts, usage, bad_file}
+use Rattle.sc_args.specs.Words.{Asked, Misuse, tokens, parse, project, conflicts, usage, bad_file}
 
 abbrev pub seen_command : Command → Asked
 seen_command (command.Tokens space file) = tokens (string_bytes space) (string_bytes file)
+seen_command (command.Parse space file) = parse (string_bytes space) (string_bytes file)
+seen_command (command.Project space file choices) = project (string_bytes space) (string_bytes file) (map string_bytes choices.items)
 seen_command command.Conflicts = conflicts
 
 -- The call refuses the words for the misuse of the definition, or memory ran out.

@@ -1,7 +1,9 @@
-ghost use Rattle.std.specs.Prelude.{◌≡◌, nat_le};
+ghost use Rattle.std.specs.Prelude.{◌≡◌, List, ℕ, [], IfErr, IfOk, map, nat_le, option_map, string_bytes, unwrap_or};
 ghost use Rattle.std.specs.List.{list_all};
 ghost use Rattle.clap.specs.Words.{found_of, rows_of, subcommand_rows_of};
-ghost use Rattle.sc_args.specs.Words.{is_file_name};
+ghost use Rattle.sc_args.specs.Seen.{Answers, Refuses};
+ghost use Rattle.sc_args.specs.Words.{Asked, asked_by, asked_of, asked_on_files, asked_with, choices_in, is_file_name, parse, project, tokens};
+ghost use Rattle.sc_args.specs.declared.stop.ArgsStop.TheVariants as stop;
 
 use crate::{ArgsStop, command_line};
 use clap::ArgMatches;
@@ -11,16 +13,26 @@ use std::alloc::Global;
 #[derive(Debug, Drop)]
 pub enum Command {
     /// The preprocessed tokens of a file under all configurations of a space file.
-    Tokens { space: String, file: String },
+    Tokens {
+        space: String,
+        file: String,
+    },
+    /// The tree of a file under all configurations of a space file.
+    Parse {
+        space: String,
+        file: String,
+    },
+    /// The tree of a file under the configuration that words of the form `NAME=OPTION` choose.
+    Project {
+        space: String,
+        file: String,
+        choices: Vec<String>,
+    },
     /// The resolved conflicts of the tables of C11.
     Conflicts,
 }
 
 impl Command {
-    ghost use Rattle.std.specs.Prelude.{map, option_map, string_bytes};
-    ghost use Rattle.sc_args.specs.Words.{asked_by, asked_of, asked_tokens, asked_with};
-    ghost use Rattle.sc_args.specs.Seen.{Answers};
-
     /// Reads the words of a call, of which the first is the program's name.
     pub fn read(alloc: Global, words: &[String]) -> Result<Command, ArgsStop>
         ensures { Answers result (asked_of (map string_bytes words.now)) }
@@ -38,6 +50,12 @@ impl Command {
         if let Some(found) = matches.subcommand_matches("tokens") {
             return Command::tokens(alloc, found);
         }
+        if let Some(found) = matches.subcommand_matches("parse") {
+            return Command::parse(alloc, found);
+        }
+        if let Some(found) = matches.subcommand_matches("project") {
+            return Command::project(alloc, found);
+        }
         if matches.subcommand_matches("conflicts").is_some() {
             return Ok(Command::Conflicts);
         }
@@ -45,29 +63,78 @@ impl Command {
     }
 
     fn tokens(alloc: Global, found: &ArgMatches<'_>) -> Result<Command, ArgsStop>
-        ensures { Answers result (asked_tokens (rows_of (found_of found.now))) }
+        ensures { Answers result (asked_on_files tokens (rows_of (found_of found.now))) }
     {
-        Command::tokens_with(alloc, found.get_str("space"), found.get_str("file"))
+        let (space, file) = files(alloc, found)?;
+        Ok(Command::Tokens { space, file })
     }
 
-    fn tokens_with(
-        alloc: Global,
-        space: Option<&str>,
-        file: Option<&str>,
-    ) -> Result<Command, ArgsStop>
-        ensures { Answers result (asked_with (option_map (λ s. s.now) space.entry) (option_map (λ s. s.now) file.entry)) }
+    fn parse(alloc: Global, found: &ArgMatches<'_>) -> Result<Command, ArgsStop>
+        ensures { Answers result (asked_on_files parse (rows_of (found_of found.now))) }
     {
-        let (Some(space), Some(file)) = (space, file) else {
-            return Err(ArgsStop::no_command(alloc));
-        };
-        if !is_file_name(file.as_bytes()) {
-            return Err(ArgsStop::BadFile);
-        }
-        Ok(Command::Tokens {
-            space: String::from_str(alloc, space)?,
-            file: String::from_str(alloc, file)?,
+        let (space, file) = files(alloc, found)?;
+        Ok(Command::Parse { space, file })
+    }
+
+    fn project(alloc: Global, found: &ArgMatches<'_>) -> Result<Command, ArgsStop>
+        ensures { let rows = rows_of (found_of found.now) in
+            Answers result (asked_on_files (λ space file. project space file (choices_in rows)) rows) }
+    {
+        let (space, file) = files(alloc, found)?;
+        let choices = choices(alloc, found.get_strs("choices"))?;
+        Ok(Command::Project {
+            space,
+            file,
+            choices,
         })
     }
+}
+
+/// The names of the space file and of the main file.
+fn files(alloc: Global, found: &ArgMatches<'_>) -> Result<(String, String), ArgsStop>
+    ensures ok { IfOk result (λ names. (command : List ℕ → List ℕ → Asked)
+        → asked_on_files command (rows_of (found_of found.now)) ≡ Ok (command (string_bytes names.0) (string_bytes names.1))) }
+    ensures err { IfErr result (λ refused. (command : List ℕ → List ℕ → Asked)
+        → Refuses refused (asked_on_files command (rows_of (found_of found.now)))) }
+{
+    named_files(alloc, found.get_str("space"), found.get_str("file"))
+}
+
+fn named_files(
+    alloc: Global,
+    space: Option<&str>,
+    file: Option<&str>,
+) -> Result<(String, String), ArgsStop>
+    ensures ok { IfOk result (λ names. (command : List ℕ → List ℕ → Asked)
+        → asked_with command (option_map (λ s. s.now) space.entry) (option_map (λ s. s.now) file.entry)
+        ≡ Ok (command (string_bytes names.0) (string_bytes names.1))) }
+    ensures err { IfErr result (λ refused. (command : List ℕ → List ℕ → Asked)
+        → Refuses refused (asked_with command (option_map (λ s. s.now) space.entry) (option_map (λ s. s.now) file.entry))) }
+{
+    let (Some(space), Some(file)) = (space, file) else {
+        return Err(ArgsStop::no_command(alloc));
+    };
+    if !is_file_name(file.as_bytes()) {
+        return Err(ArgsStop::BadFile);
+    }
+    let space = String::from_str(alloc, space)?;
+    let file = String::from_str(alloc, file)?;
+    Ok((space, file))
+}
+
+/// The words that choose options.
+fn choices(alloc: Global, words: Option<&[&str]>) -> Result<Vec<String>, ArgsStop>
+    ensures ok { IfOk result (λ choices. map string_bytes choices.items
+        ≡ unwrap_or (option_map (λ s. map (λ w. w.now) s.now) words.entry) []) }
+    ensures err { IfErr result (λ refused. refused ≡ stop.OutOfMemory) }
+{
+    let mut choices = Vec::new(alloc);
+    if let Some(words) = words {
+        for word in words {
+            choices.push(String::from_str(alloc, word)?)?;
+        }
+    }
+    Ok(choices)
 }
 
 /// Whether a main file may have this name.

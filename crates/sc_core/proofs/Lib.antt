@@ -1,2 +1,9 @@
+pub mod Cuts
+pub mod Failing
+pub mod ParsedFiles
+pub mod Plains
+pub mod Projecting
 pub mod Telling
+pub mod Translating
+pub mod TreeTelling
 pub mod Writing

@@ -50,7 +50,7 @@ unrefused-by : (a : Result (List Token) Fault) (ts items : List Token) (refusals
 unrefused-by (Ok us) ts items refusals e stands = stands.1
 unrefused-by (Err fault) ts items refusals e stands = cc
 
-tells-by : (b : Bool) (Never Accepted : Type 0) → (b ≡ false → Never) → (b ≡ true → Never → ⊥) → (Never → Accepted) → (Accepted → Never) → Tells (not b) Accepted
+pub tells-by : (b : Bool) (Never Accepted : Type 0) → (b ≡ false → Never) → (b ≡ true → Never → ⊥) → (Never → Accepted) → (Accepted → Never) → Tells (not b) Accepted
 tells-by true Never Accepted none some accepts never = λ all. some refl (never all)
 tells-by false Never Accepted none some accepts never = accepts (none refl)
 

@@ -1,3 +1,5 @@
+pub mod Cut
+pub mod Ordinary
 pub mod RunError
 pub mod Outcome
 pub mod Status

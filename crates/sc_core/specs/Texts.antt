@@ -1,12 +1,40 @@
 -- What the text of a command is, before it is written.
-use Rattle.std.specs.Prelude.{◌≡◌, ℕ, not, List, [], All, Option, Some, None}
+use Rattle.std.specs.Prelude.{◌≡◌, false, ◌⊎◌, ◌<◌, ◌+◌, ℕ, not, List, [], ◌∷◌, length, map, All, IfSome, Option, Some, None, Result, Ok, Err}
+use Rattle.c11_parsing.specs.Parser.{Parser}
+use Rattle.c11_parsing.specs.Trees.{Tree}
+use Rattle.sc_base.specs.declared.fault.Fault as base
+use Rattle.sc_base.specs.declared.id.TreeId.{TreeId}
+use Rattle.sc_base.specs.declared.stop.Stop.{Stop}
+use Rattle.sc_base.specs.declared.stop.Stop.TheVariants.{BranchesFull, ReadFault, OutOfMemory}
+use Rattle.sc_core.specs.declared.tree_texts.ParsedFile.{ParsedFile}
+use Rattle.sc_core.specs.Ordinary.{HasManyClasses, IsC11Parser, Translates}
+use Rattle.sc_core.specs.RunError.{space_line}
+use Rattle.sc_expand.specs.Stops.{HasConfigs}
+use Rattle.sc_fork.specs.Outcomes.{RootReads}
+use Rattle.sc_guarded.specs.Items as guarded
+use Rattle.sc_guarded.specs.Items.{faults_at}
+use Rattle.sc_guarded.specs.Printable.{IsShowableFault, AreApart}
+use Rattle.sc_model.specs.Fault.{Fault}
+use Rattle.sc_model.specs.Sets.{Sets, IsConfig}
+use Rattle.sc_prep.specs.Printable.{ArePlainPaths}
+use Rattle.sc_show.specs.TreeLayout.{IsTreeTextOf}
+use Rattle.sc_show.specs.TreeShows.{AreShowableLeaves}
+use Rattle.sc_show.specs.TreeText.{TreeAnswer}
+use Rattle.sc_space.specs.Config.{read_config}
+use Rattle.sc_space.specs.declared.fault.SpaceStop.{SpaceStop}
+use Rattle.sc_space.specs.declared.fault.SpaceStop.TheVariants as stop
+use Rattle.sc_space.specs.Seen.{seen_fault}
+use Rattle.sc_space.specs.SpaceFile as file
+use Rattle.sc_tree.specs.Lines.{OwnsBranches}
+use Rattle.sc_tree.specs.Reads.{Tables, Reads}
+use Rattle.sc_tree.specs.Walks.{is_choice}
 use Rattle.sc_core.specs.declared.run_error.RunError.{RunError}
 use Rattle.sc_core.specs.declared.run_error.RunError.TheVariants as error
 use Rattle.sc_core.specs.declared.output.Output.{Output}
-use Rattle.sc_core.specs.Outcome.{FillsBranches, IsOrdinaryAnswer, IsTokensText, RefusesSpace, Tells, HasText}
+use Rattle.sc_core.specs.Outcome.{HasNoFault, IsOrdinaryAnswer, IsParseText, IsProjectText, IsTokensText, IsTranslationAnswer, RefusesSpace, Tells, HasText}
 use Rattle.sc_text.specs.Layout.{IsTextOf}
 use Rattle.sc_model.specs.Outside.{Files, Rose}
-use Rattle.sc_model.specs.Space.{Space}
+use Rattle.sc_model.specs.Space.{Space, IsListed, arities_of}
 use Rattle.sc_text.specs.Text.{token_list, Answer}
 use Rattle.sc_show.specs.Pieces.{IsLine, split_lines_after}
 
@@ -29,12 +57,90 @@ pub record IsTokensAnswer (holds : Option Files) (name main : List ℕ) (text : 
 abbrev pub IsAnswer : Option Files → List (List ℕ) → Output → Type 0
 IsAnswer holds words text = HasText holds words (lines_of text) (not text.is_refused)
 
--- why there is no text in the space of this file
+-- why the space file of this name gives no space
 abbrev pub FailsInSpace : Option Files → ℕ → ℕ → List ℕ → RunError → Type 0
 FailsInSpace holds before after name (error.Usage text) = ⊥
 FailsInSpace holds before after name error.BadFile = ⊥
 FailsInSpace holds before after name error.NoSpace = (files : Files) → holds ≡ Some files → files name ≡ None
 FailsInSpace holds before after name (error.BadSpace line) = (files : Files) → holds ≡ Some files → RefusesSpace files name line.items
-FailsInSpace holds before after name (error.BranchesFull line) = (files : Files) → holds ≡ Some files → FillsBranches files name line.items
+FailsInSpace holds before after name (error.BranchesFull line) = ⊥
 FailsInSpace holds before after name error.ReadFault = Rose before after
 FailsInSpace holds before after name error.OutOfMemory = Unit {0}
+
+-- why the words choose no configuration of the space
+abbrev pub FailsToChoose : Space → List (List ℕ) → RunError → Type 0
+FailsToChoose space choices (error.BadSpace line) = (fault : file.Fault) × ((read_config space choices ≡ Err fault) × (line.items ≡ space_line fault))
+FailsToChoose space choices error.OutOfMemory = Unit {0}
+FailsToChoose space choices _ = ⊥
+
+-- what a refusal of a space file or of words is told as
+abbrev pub TellsRefusal : SpaceStop → RunError → Type 0
+TellsRefusal (stop.Fault fault) (error.BadSpace line) = line.items ≡ space_line (seen_fault fault)
+TellsRefusal stop.OutOfMemory error.OutOfMemory = Unit {0}
+TellsRefusal _ _ = ⊥
+
+-- ---- trees
+
+-- at the configuration the file has its tree and no fault, or its fault alone
+abbrev pub Stands : Tables → Option TreeId → List base.Fault → List ℕ → Result Tree Fault → Type 0
+Stands w root faults config (Ok tree) = (faults_at w.sets faults config ≡ []) × RootReads w config root tree
+Stands w root faults config (Err fault) = map (guarded.seen_fault w.files) (faults_at w.sets faults config) ≡ fault ∷ []
+
+-- the configuration has what ordinary translation gives there
+pub record IsTranslated (parser : Parser) (space : Space) (files : Files) (main : List ℕ) (w : Tables) (root : Option TreeId) (faults : List base.Fault) (config : List ℕ) : Type 0 where
+  pub ordinary : Result Tree Fault
+  pub translated : Translates parser space files main config ordinary
+  pub stands : Stands w root faults config ordinary
+
+-- each configuration has it
+pub record AreTranslated (space : Space) (files : Files) (main : List ℕ) (w : Tables) (root : Option TreeId) (faults : List base.Fault) : Type 0 where
+  pub parser : Parser
+  pub is_c11 : IsC11Parser parser
+  pub each : (config : List ℕ) → IsListed space config → IsTranslated parser space files main w root faults config
+
+-- what a parsed file is, seen through the tables
+abbrev pub seen_by : Sets → (names files : List (List ℕ)) → ParsedFile → Tables
+seen_by s names files p = record { sets = s; names = names; files = files; lines = p.trees }
+
+-- all of it can be shown
+pub record CanShowTree (s : Sets) (names files : List (List ℕ)) (p : ParsedFile) : Type 0 where
+  pub leaves : AreShowableLeaves names files p.trees
+  pub branches : OwnsBranches s p.trees
+  pub root : IfSome p.root (λ id. id.0 < length p.trees)
+  pub faults : All (IsShowableFault s files) p.faults.items
+  pub apart : AreApart s p.faults.items
+  pub paths : ArePlainPaths files
+
+-- Another parsed file has the same faults, a tree where the first has one, which at every configuration is that of the first
+-- at this one, and no choices.
+pub record IsPlain (w : Tables) (config : List ℕ) (old p : ParsedFile) : Type 0 where
+  pub faults : p.faults.items ≡ old.faults.items
+  pub reads : (tree : Tree) → RootReads w config old.root tree → RootReads (record w { lines = p.trees }) config p.root tree
+  pub plain : All (λ line. is_choice line ≡ false) p.trees
+
+-- the root stands for a tree at some configuration
+abbrev pub IsSomewhere : Sets → (names files : List (List ℕ)) → ParsedFile → Type 0
+IsSomewhere s names files p = (id : TreeId) → p.root ≡ Some id → (c : List ℕ) × (IsConfig s.arities c × ((tree : Tree) × Reads (seen_by s names files p) c id.0 tree))
+
+-- the text of a tree in this space, and whether some configuration has a fault
+pub record TellsTree (holds : Option Files) (space : Space) (main : List ℕ) (text : Output) : Type 0 where
+  pub answer : TreeAnswer
+  pub text_of : IsTreeTextOf space (lines_of text) answer
+  pub verdict : Tells (not text.is_refused) (HasNoFault space answer)
+  pub right : (files : Files) → holds ≡ Some files → IsTranslationAnswer space files main answer (not text.is_refused)
+
+-- the same of the space that the space file is read as
+pub record IsParseAnswer (holds : Option Files) (name main : List ℕ) (text : Output) : Type 0 where
+  pub lines : All IsLine (lines_of text)
+  pub tree : IsParseText holds name main (lines_of text) (not text.is_refused)
+
+pub record IsProjectAnswer (holds : Option Files) (name main : List ℕ) (choices : List (List ℕ)) (text : Output) : Type 0 where
+  pub lines : All IsLine (lines_of text)
+  pub tree : IsProjectText holds name main choices (lines_of text) (not text.is_refused)
+
+-- why a file in this space gives no tree
+abbrev pub StopsIn : Option Files → ℕ → ℕ → Space → List ℕ → Stop → Type 0
+StopsIn holds before after space main (BranchesFull count) =
+    (count ≡ space.branches + 1) × (HasConfigs (arities_of space) (space.branches + 1) ⊎ HasManyClasses holds space main)
+StopsIn holds before after space main ReadFault = Rose before after
+StopsIn holds before after space main OutOfMemory = Unit {0}

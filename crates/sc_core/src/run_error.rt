@@ -17,7 +17,7 @@ pub enum RunError {
     NoSpace,
     /// The space file is refused; this line says why.
     BadSpace(Vec<u8>),
-    /// A call of a macro differs in more configurations than the space allows. This line tells the
+    /// Configurations differ at one place in more ways than the space allows. This line tells the
     /// limit and one more.
     BranchesFull(Vec<u8>),
     /// A file could not be read.

@@ -1,8 +1,11 @@
-ghost use Rattle.std.specs.Prelude.{◌≡◌, ◌≤◌, Some, IfOk, IfErr};
+ghost use Rattle.std.specs.Prelude.{◌≡◌, ◌≤◌, map, string_bytes, Ok, Some, IfOk, IfErr};
 ghost use Rattle.sc_core.specs.RunError.{space_line};
 ghost use Rattle.sc_core.specs.Outcome.{HasSpace};
-ghost use Rattle.sc_core.specs.Texts.{FailsInSpace};
+ghost use Rattle.sc_core.specs.Texts.{FailsInSpace, FailsToChoose, TellsRefusal};
 ghost use Rattle.sc_model.specs.Outside.{Files};
+ghost use Rattle.sc_model.specs.Sets.{HasOptions};
+ghost use Rattle.sc_model.specs.Space.{IsListed, arities_of};
+ghost use Rattle.sc_space.specs.Config.{read_config};
 ghost use Rattle.sc_space.specs.Seen.{seen_space, seen_fault};
 ghost use Rattle.sc_space.specs.Sound.{IsSound};
 
@@ -27,8 +30,34 @@ pub fn read_space<S: Source>(alloc: Global, src: &mut S, name: &str) -> Result<S
     };
     match Space::read(alloc, &bytes) {
         Ok(space) => Ok(space),
-        Err(SpaceStop::Fault(fault)) => Err(RunError::BadSpace(fault_line(alloc, &fault)?)),
-        Err(SpaceStop::OutOfMemory) => Err(RunError::OutOfMemory),
+        Err(stop) => Err(refusal(alloc, stop)?),
+    }
+}
+
+/// The configuration of the space that words choose.
+pub fn chosen_config(
+    alloc: Global,
+    space: &Space,
+    choices: &[String],
+) -> Result<Vec<usize>, RunError>
+    requires { IsSound (seen_space space.now) }
+    ensures config { IfOk result (λ config. read_config (seen_space space.now) (map string_bytes choices.now) ≡ Ok config.items) }
+    ensures listed { IfOk result (λ config. IsListed (seen_space space.now) config.items) }
+    ensures error { IfErr result (FailsToChoose (seen_space space.now) (map string_bytes choices.now)) }
+{
+    match space.config(alloc, choices) {
+        Ok(config) => Ok(config),
+        Err(stop) => Err(refusal(alloc, stop)?),
+    }
+}
+
+/// Why there is no space or no configuration.
+fn refusal(alloc: Global, stop: SpaceStop) -> Result<RunError, OutOfMemory>
+    ensures { IfOk result (TellsRefusal stop) }
+{
+    match stop {
+        SpaceStop::Fault(fault) => Ok(RunError::BadSpace(fault_line(alloc, &fault)?)),
+        SpaceStop::OutOfMemory => Ok(RunError::OutOfMemory),
     }
 }
 

@@ -9,7 +9,7 @@ pub enum Status {
     BadWords,
     /// The space file is not there, or it is refused.
     BadSpace,
-    /// A call of a macro differs in more configurations than the space allows.
+    /// Configurations differ at one place in more ways than the space allows.
     BranchesFull,
     /// A file could not be read.
     ReadFault,

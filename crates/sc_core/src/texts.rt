@@ -1,9 +1,10 @@
 ghost use Rattle.std.specs.Prelude.{◌≡◌, ◌≤◌, true, false, map, length, string_bytes, All, Some, IfOk, IfErr};
-ghost use Rattle.sc_args.specs.Words.{is_file_name};
-ghost use Rattle.sc_core.specs.Outcome.{IsConflictsText, FailsWith};
+ghost use Rattle.sc_args.specs.Words.{is_file_name, tokens as asked_tokens};
+ghost use Rattle.sc_core.specs.Outcome.{IsConflictsText, FailsFor, FailsWith};
 ghost use Rattle.sc_core.specs.RunError as lines;
+ghost use Rattle.sc_fork.specs.Owns.{AreC11Tables};
 ghost use Rattle.sc_prep.specs.Preprocesses.{Stops};
-ghost use Rattle.sc_core.specs.Texts.{TellsTokens, IsTokensAnswer, IsAnswer, FailsInSpace, lines_of};
+ghost use Rattle.sc_core.specs.Texts.{TellsTokens, IsTokensAnswer, IsAnswer, lines_of};
 ghost use Rattle.sc_model.specs.Sets.{IsCond, IsNever};
 ghost use Rattle.sc_model.specs.Space.{arities_of};
 ghost use Rattle.sc_model.specs.Bytes.{has_no_newline};
@@ -14,9 +15,11 @@ ghost use Rattle.sc_space.specs.Sound.{IsSound};
 use crate::output::Output;
 use crate::run_error::RunError;
 use crate::space_file::read_space;
+use crate::tree_texts::{parse_text, project_text};
 use itoa::Buffer;
 use sc_args::Command;
 use sc_base::{Fault, Files, Names, OutOfMemory, Stop};
+use sc_lalr::Tables;
 use sc_prep::preprocess;
 use sc_presence::{Conditions, Diagrams};
 use sc_show::{show_conflicts, show_tokens};
@@ -37,6 +40,12 @@ pub fn text_for<S: Source>(alloc: Global, words: &[String], src: &mut S) -> Resu
         Command::Tokens { space, file } => {
             tokens_text(alloc, src, space.as_str(), file.as_str())
         }
+        Command::Parse { space, file } => parse_text(alloc, src, space.as_str(), file.as_str()),
+        Command::Project {
+            space,
+            file,
+            choices,
+        } => project_text(alloc, src, space.as_str(), file.as_str(), &choices),
         Command::Conflicts => Ok(Output {
             lines: conflicts_text(alloc)?,
             is_refused: false,
@@ -49,10 +58,17 @@ fn conflicts_text(alloc: Global) -> Result<Vec<u8>, OutOfMemory>
     ensures text { IfOk result (λ text. IsConflictsText (split_lines_after text.items)) }
     ensures lines { IfOk result (λ text. All IsLine (split_lines_after text.items)) }
 {
+    let tables = tables(alloc)?;
+    show_conflicts(alloc, &tables)
+}
+
+/// The tables of C11.
+pub fn tables(alloc: Global) -> Result<Tables, OutOfMemory>
+    ensures { IfOk result (λ tables. AreC11Tables tables) }
+{
     let grammar = sc_grammar::grammar();
     let states = sc_items::states(alloc, &grammar)?;
-    let tables = sc_lalr::build(alloc, &grammar, &states)?;
-    show_conflicts(alloc, &tables)
+    sc_lalr::build(alloc, &grammar, &states)
 }
 
 /// The tokens and the faults of a file under all configurations of the space of another.
@@ -64,7 +80,7 @@ fn tokens_text<S: Source>(
 ) -> Result<Output, RunError>
     requires { is_file_name file.now ≡ true }
     ensures text { IfOk result (IsTokensAnswer (S.holds src.old) space.now file.now) }
-    ensures error { IfErr result (FailsInSpace (S.holds src.old) (S.faults src.old) (S.faults src.new) space.now) }
+    ensures error { IfErr result (FailsFor (asked_tokens space.now file.now) (record { holds = S.holds src.old; before = S.faults src.old; after = S.faults src.new })) }
 
     // at every outcome
     ensures kept { S.holds src.new ≡ S.holds src.old }
@@ -84,7 +100,7 @@ fn tokens_text<S: Source>(
 
 /// What the error output gets where a call has so many branches or more.
 #[tactic(auto, using(sc_text::proofs::Numerals::numeral_is))]
-fn branches_line(alloc: Global, count: usize) -> Result<Vec<u8>, OutOfMemory>
+pub fn branches_line(alloc: Global, count: usize) -> Result<Vec<u8>, OutOfMemory>
     ensures { IfOk result (λ line. line.items ≡ lines.branches_line count) }
 {
     let mut line = Vec::from_slice(alloc, b"superc: branches full: ")?;
@@ -94,7 +110,7 @@ fn branches_line(alloc: Global, count: usize) -> Result<Vec<u8>, OutOfMemory>
 }
 
 /// The conditions over the configurations of a space.
-fn conditions(alloc: Global, space: &Space) -> Result<Diagrams, OutOfMemory>
+pub fn conditions(alloc: Global, space: &Space) -> Result<Diagrams, OutOfMemory>
     requires { IsSound (seen_space space.now) }
     ensures { IfOk result (λ conds. (⟦<Diagrams as Conditions>⟧.sets conds).arities ≡ arities_of (seen_space space.now)) }
 {
@@ -150,7 +166,7 @@ fn text_under<C: Conditions, S: Source>(
 }
 
 /// Whether some configuration has a fault.
-fn has_fault<C: Conditions>(conds: &C, faults: &[Fault]) -> bool
+pub fn has_fault<C: Conditions>(conds: &C, faults: &[Fault]) -> bool
     requires { All (λ fault. IsCond (C.sets conds.now) fault.cond.0) faults.now }
     ensures none { result ≡ false → All (λ fault. IsNever (C.sets conds.now) fault.cond.0) faults.now }
     ensures some { result ≡ true → All (λ fault. IsNever (C.sets conds.now) fault.cond.0) faults.now → ⊥ }

@@ -16,6 +16,19 @@ fn answer(alloc: Global, words: &[String]) -> Result<String, Fail> {
         Ok(Command::Tokens { space, file }) => {
             Ok(format!(in alloc; "tokens of {file} under {space}")?)
         }
+        Ok(Command::Parse { space, file }) => {
+            Ok(format!(in alloc; "tree of {file} under {space}")?)
+        }
+        Ok(
+            Command::Project {
+                space,
+                file,
+                choices,
+            },
+        ) => {
+            let count = choices.len();
+            Ok(format!(in alloc; "tree of {file} under {space} by {count} words")?)
+        }
         Ok(Command::Conflicts) => Ok(String::from_str(alloc, "all conflicts")?),
         Err(refused) => Ok(refused.to_string(alloc)?),
     }
@@ -23,8 +36,11 @@ fn answer(alloc: Global, words: &[String]) -> Result<String, Fail> {
 
 #[test]
 fn reads_the_words(rt: HostRuntime) -> Result<(), Fail> {
-    let rows: [(&[&str], &str); 7] = [
+    let rows: [(&[&str], &str); 10] = [
         (&["superc", "tokens", "a", "b"], "tokens of b under a"),
+        (&["superc", "parse", "a", "b"], "tree of b under a"),
+        (&["superc", "project", "a", "b"], "under a by 0 words"),
+        (&["superc", "project", "a", "b", "A=1", "B=2"], "by 2 words"),
         (&["superc", "conflicts"], "all conflicts"),
         (&["superc", "tokens", "a", ""], "bad file name"),
         (&["superc", "frob"], "unrecognized subcommand 'frob'"),

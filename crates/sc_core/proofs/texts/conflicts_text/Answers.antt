@@ -7,16 +7,18 @@ use Rattle.sc_show.proofs.ConflictLines.{are_named, conflict_lines}
 use Rattle.sc_show.specs.Pieces.{IsLine}
 
 pub show_conflicts-requires : goal.show_conflicts-requires
-show_conflicts-requires c = are_named c.in_ok-tables.ensures (omega (arith, c.grammar-grammar.ensures.terminals))
+show_conflicts-requires c =
+    let tables = c.in_ok-tables.ensures in
+    are_named {g = tables.grammar} {tables = c.in_ok-tables.tables} (record { states = tables.states; exact = tables.exact }) (omega (arith, tables.terminals))
 
 pub returns-clause-text : goal.returns-clause-text
 returns-clause-text c =
     let tables = c.in_ok-tables.ensures in
     IfOk-weaker c.show_conflicts.result _ _ (λ text lines. record {
-      grammar = c.grammar-grammar.result;
-      entries = c.grammar-grammar.ensures.productions;
-      terminals = c.grammar-grammar.ensures.terminals;
-      nonterminals = c.grammar-grammar.ensures.nonterminals;
+      grammar = tables.grammar;
+      entries = tables.entries;
+      terminals = tables.terminals;
+      nonterminals = tables.nonterminals;
       tables = tables_of tables.states c.in_ok-tables.tables;
       are_tables = tables.exact;
       written = lines;

@@ -1,0 +1,279 @@
+-- What the parsing of a preprocessed file comes to.
+use Rattle.std.proofs.Common.{◌≡◌, ◌∙◌, ◌++◌, ℕ, suc, ◌<◌, ◌≤◌, Bool, true, false, List, [], ◌∷◌, All, length, map, get_or, slice_get, Option, Some, None, Result, Ok, Err, append-nil, arith, inr, refl, sym, ap, subst}
+use Rattle.std.proofs.lemmas.Bool.{false≢true}
+use Rattle.std.proofs.lemmas.List.{length-map}
+use Rattle.std.proofs.lemmas.List.Elements.{All-append, All-contains, All-weaker}
+use Rattle.std.proofs.lemmas.Option.{slice_get_within, slice_get-get_or}
+use Rattle.std.proofs.lemmas.Simd.{map-map}
+use Rattle.std.specs.Prelude.{if◌then◌else◌}
+use Rattle.c11_directives.specs.Pre.{Pre}
+use Rattle.c11_parsing.specs.Classes.{Input, project}
+use Rattle.c11_parsing.specs.LR.{LR}
+use Rattle.c11_parsing.specs.Parser.{Parser}
+use Rattle.c11_parsing.specs.Trees.{Condition, Tree}
+use Rattle.sc_base.specs.declared.fault.Fault as base
+use Rattle.sc_base.specs.declared.id.Cond.{Cond}
+use Rattle.sc_base.specs.declared.id.Name.{Name}
+use Rattle.sc_base.specs.declared.id.TreeId.{TreeId}
+use Rattle.sc_base.specs.declared.place.Place as declared
+use Rattle.sc_base.specs.declared.stop.Stop.{Stop}
+use Rattle.sc_base.specs.declared.stop.Stop.TheVariants.{BranchesFull, ReadFault, OutOfMemory}
+use Rattle.sc_base.specs.declared.token.Token.{Token}
+use Rattle.sc_base.specs.Seen.{seen, seen_place}
+use Rattle.sc_core.proofs.Translating.{held-main}
+use Rattle.sc_core.specs.Ordinary.{IsC11Parser, IsFileInput, IsPreparedAt, Translates, not_prepared, parsed}
+use Rattle.sc_core.specs.Texts.{AreTranslated, IsTranslated, StopsIn}
+use Rattle.sc_fork.specs.Choices.{AddsLeaves}
+use Rattle.sc_fork.specs.Outcomes.{RootReads, root_reads, faults_in}
+use Rattle.sc_fork.specs.Owns.{AreC11Tables, IsPlaceOf}
+use Rattle.sc_fork.specs.Parsers.{c11_parser}
+use Rattle.sc_fork.specs.Seen.{place_of}
+use Rattle.sc_guarded.proofs.ItemLemmas.{faults_at-append, faults_at-Keeps}
+use Rattle.sc_guarded.specs.Items.{faults_at, items_at, seen_fault}
+use Rattle.sc_guarded.specs.Printable.{AreApart, IsShowable, IsShowableFault}
+use Rattle.sc_lalr.specs.declared.tables.Tables as code
+use Rattle.sc_lalr.specs.Tables.{tables_of}
+use Rattle.sc_merge.specs.Merges.{tables_with}
+use Rattle.sc_model.proofs.SetLemmas.{IsConfig-Keeps}
+use Rattle.sc_model.specs.Fault.{Fault}
+use Rattle.sc_model.specs.Outside.{Files}
+use Rattle.sc_model.specs.Sets.{Sets, IsConfig, Keeps}
+use Rattle.sc_model.specs.Space.{Space, IsListed, arities_of}
+use Rattle.sc_model.specs.Token as plain
+use Rattle.sc_parse.specs.declared.parsed.Parsed.{Parsed}
+use Rattle.sc_parse.specs.Parses.{IsInputOf, IsParse, OwnsParsed, StopsFor}
+use Rattle.sc_parse.specs.Places.{IsSchedule}
+use Rattle.sc_fork.specs.declared.event.Event.{Event}
+use Rattle.sc_prep.specs.Closes.{has_none, is_empty}
+use Rattle.sc_prep.specs.Contents.{end_of_file}
+use Rattle.sc_prep.specs.declared.prepared.Prepared.{Prepared}
+use Rattle.sc_prep.specs.Preprocesses as prep
+use Rattle.sc_prep.specs.Preprocesses.{IsOrdinary, OwnsList, is_accepted}
+use Rattle.sc_prep.specs.Printable.{CanBeShown}
+use Rattle.sc_show.specs.TreeShows.{AreShowableLeaves, IsShowableLeaf}
+use Rattle.sc_tree.specs.Lines.{Line}
+use Rattle.sc_tree.specs.Reads.{Reads}
+
+-- ---- the list as it is parsed
+
+pub c11-parser : {tables : code.Tables} → AreC11Tables tables → Parser
+c11-parser {tables} are = c11_parser (tables_of are.states tables)
+
+pub c11-is : {tables : code.Tables} (are : AreC11Tables tables) → IsC11Parser (c11-parser are)
+unfolding c11-parser
+c11-is {tables} are = record {
+  grammar = are.grammar;
+  entries = are.entries;
+  terminals = are.terminals;
+  nonterminals = are.nonterminals;
+  tables = tables_of are.states tables;
+  are_tables = are.exact;
+  is = refl;
+}
+
+abbrev pub item_seen : Sets → (names files : List (List ℕ)) → Cond × Token → Condition × plain.Token
+item_seen s names files item = (s.has item.0.0, seen names files item.1)
+
+abbrev pub file_input : Sets → (names files : List (List ℕ)) → Parser → Prepared → Input
+file_input s names files parser p = record { parser = parser; arities = s.arities; items = map (item_seen s names files) p.list; end = seen_place files p.end; live = s.has p.live.0 }
+
+project-items : (s : Sets) (names files : List (List ℕ)) (c : List ℕ) (list : List (Cond × Token)) → project c (map (item_seen s names files) list) ≡ map (seen names files) (items_at s list c)
+project-items s names files c [] = refl
+project-items s names files c (item ∷ items) = by (s.has item.0.0 c) (project-items s names files c items)
+  where
+    by : (b : Bool) → project c (map (item_seen s names files) items) ≡ map (seen names files) (items_at s items c)
+        → (if b then seen names files item.1 ∷ project c (map (item_seen s names files) items) else project c (map (item_seen s names files) items))
+        ≡ map (seen names files) (if b then item.1 ∷ items_at s items c else items_at s items c)
+    by true e = ap (λ ts. seen names files item.1 ∷ ts) e
+    by false e = e
+
+-- ---- faults
+
+short-faults : (files : List (List ℕ)) (faults : List base.Fault) (answer : Result Tree Fault) → map (seen_fault files) faults ≡ faults_in (answer ∷ []) → length faults ≤ 1
+short-faults files faults (Ok tree) is = let same = sym (length-map faults (seen_fault files)) ∙ ap length is in omega arith
+short-faults files faults (Err fault) is = let same = sym (length-map faults (seen_fault files)) ∙ ap length is in omega arith
+
+no-faults : (files : List (List ℕ)) (faults : List base.Fault) → map (seen_fault files) faults ≡ [] → faults ≡ []
+no-faults files [] is = refl
+no-faults files (fault ∷ faults) is = let long : suc (length (map (seen_fault files) faults)) ≡ 0 = ap length is in absurd (omega arith)
+
+empty-is : (faults : List base.Fault) → is_empty faults ≡ true → faults ≡ []
+empty-is [] is = refl
+empty-is (fault ∷ faults) is = absurd (false≢true is)
+
+-- ---- after preprocessing
+
+module _ (s : Sets) (names files : List (List ℕ)) (p : Prepared) (tables : code.Tables) (are : AreC11Tables tables) (shown : CanBeShown s names files p) where
+  abbrev pub input : Input
+  input = file_input s names files (c11-parser are) p
+
+  pub is-input : (lines : List Line) → IsInputOf (tables_with s lines names files) p.list tables p.end p.live input
+  unfolding c11-parser
+  is-input lines = record {
+    states = are.states;
+    parser = refl;
+    arities = refl;
+    ends = refl;
+    has_live = λ c listed. refl;
+    tokens = map-map (λ (item : Condition × plain.Token). item.1) (item_seen s names files) p.list;
+    conditions = λ c listed. map-map (λ (item : Condition × plain.Token). item.0 c) (item_seen s names files) p.list;
+    files = All-weaker (IsShowable s names files) (λ (item : Cond × Token). item.1.place.file.0 < length files) (λ item is. is.file) p.list shown.list;
+  }
+
+  -- what is parsed where preprocessing accepts the file, by what it gives there
+  module _ (space : Space) (main : List ℕ) (outside : Files) (arities : s.arities ≡ arities_of space)
+      (ordinary : (config : List ℕ) → IsConfig s.arities config → IsOrdinary s names files p (Pre space outside main config) config)
+      (ends : (bytes : List ℕ) → outside main ≡ Some bytes → (config : List ℕ) → IsConfig s.arities config → s.has p.live.0 config ≡ true → seen_place files p.end ≡ end_of_file main bytes) where
+    prepared-tokens : (config : List ℕ) (o : Result (List plain.Token) Fault) (ts : List plain.Token) → o ≡ Ok ts
+        → prep.Stands o (map (seen names files) (items_at s p.list config)) (map (seen_fault files) (faults_at s p.faults.items config)) → project config input.items ≡ ts
+    prepared-tokens config (Ok us) ts is stands = project-items s names files config p.list ∙ (stands.0 ∙ cc)
+    prepared-tokens config (Err fault) ts is stands = cc
+
+    pub prepared-at : (config : List ℕ) → IsListed space config → IsPreparedAt space outside main input config
+    prepared-at config listed =
+        let here = subst (λ ns. IsConfig ns config) (sym arities) listed in
+        let o = ordinary config here in
+        record {
+          answer = o.answer;
+          preprocessed = o.preprocessed;
+          live = o.live;
+          tokens = λ ts is. prepared-tokens config o.answer ts is o.stands;
+          ends = λ ts bytes is held. ends bytes held config here (o.live ∙ ap is_accepted is);
+        }
+
+    pub file-input : IsFileInput space outside main input
+    file-input = record { parser = c11-is are; each = prepared-at }
+
+  -- why there is no tree
+  pub stops-in : (space : Space) (main : List ℕ) (holds : Option Files) (before after : ℕ) → s.arities ≡ arities_of space
+      → ((outside : Files) → holds ≡ Some outside → IsFileInput space outside main input) → (stop : Stop) → StopsFor input space.branches stop → StopsIn holds before after space main stop
+  stops-in space main holds before after arities is (BranchesFull count) stops = (stops.0, inr (record { input = input; arities = arities; more = stops.1; is_input = is }))
+  stops-in space main holds before after arities is ReadFault stops = absurd stops
+  stops-in space main holds before after arities is OutOfMemory stops = tt
+
+-- ---- after parsing
+
+module _ (s new : Sets) (keeps : Keeps s new) (names files : List (List ℕ)) (p : Prepared) (tables : code.Tables) (are : AreC11Tables tables) (shown : CanBeShown s names files p) (owns : OwnsList s p)
+    (lines : List Line) (result : Parsed) (events : List Event)
+    (parse : IsParse (tables_with new lines names files) (input s names files p tables are shown) result) (schedule : IsSchedule (input s names files p tables are shown) events) where
+  abbrev all_faults : List base.Fault
+  all_faults = p.faults.items ++ result.faults.items
+
+  -- a live configuration has an answer
+  answer-at : (c : List ℕ) → IsConfig s.arities c → s.has p.live.0 c ≡ true
+      → (answer : Result Tree Fault) × LR (c11-parser are) (seen_place files p.end) (project c (map (item_seen s names files) p.list)) answer
+  answer-at c listed live = let is = schedule.answers c listed live in (is.ended.answer c, is.answer)
+
+  faults-after : (c : List ℕ) → IsConfig s.arities c → faults_at new all_faults c ≡ faults_at s p.faults.items c ++ faults_at new result.faults.items c
+  faults-after c listed =
+      faults_at-append new p.faults.items result.faults.items c ∙ ap (λ faults. faults ++ faults_at new result.faults.items c) (faults_at-Keeps p.faults.items c keeps owns.faults listed)
+
+  here : (c : List ℕ) → IsConfig new.arities c → IsConfig s.arities c
+  here c listed = subst (λ ns. IsConfig ns c) keeps.arities listed
+
+  pub parsed-apart : ((c : List ℕ) → IsConfig s.arities c → s.has p.live.0 c ≡ has_none s p.faults.items c) → AreApart new all_faults
+  parsed-apart live = record { few = λ c listed. few c (here c listed) (s.has p.live.0 c) refl }
+    where
+      few : (c : List ℕ) → IsConfig s.arities c → (b : Bool) → s.has p.live.0 c ≡ b → length (faults_at new all_faults c) ≤ 1
+      few c listed true is =
+          let none = empty-is (faults_at s p.faults.items c) (sym (live c listed) ∙ is) in
+          let answer = answer-at c listed is in
+          let same = faults-after c listed ∙ ap (λ faults. faults ++ faults_at new result.faults.items c) none in
+          subst (λ (faults : List base.Fault). length faults ≤ 1) (sym same) (short-faults files (faults_at new result.faults.items c) answer.0 (parse.faults c answer.0 listed is answer.1))
+      few c listed false is =
+          let none = parse.others c listed is in
+          let same = faults-after c listed ∙ (ap (λ faults. faults_at s p.faults.items c ++ faults) none ∙ append-nil (faults_at s p.faults.items c)) in
+          subst (λ (faults : List base.Fault). length faults ≤ 1) (sym same) (shown.apart.few c listed)
+
+  -- the root stands for the tree of a configuration
+  pub parsed-somewhere : (id : TreeId) → result.root ≡ Some id
+      → (c : List ℕ) × (IsConfig new.arities c × ((tree : Tree) × Reads (tables_with new lines names files) c id.0 tree))
+  parsed-somewhere id is =
+      let some = parse.some id is in
+      (some.0, (IsConfig-Keeps keeps some.1.1.is_config, (some.1.0, root-at id some.1.0 (subst (λ o. RootReads (tables_with new lines names files) some.0 o some.1.0) is (parse.trees some.0 some.1.0 some.1.1)))))
+    where
+      root-at : {c : List ℕ} (id : TreeId) (tree : Tree) → RootReads (tables_with new lines names files) c (Some id) tree → Reads (tables_with new lines names files) c id.0 tree
+      root-at id tree (root_reads _ _ reads) = reads
+
+  module _ (space : Space) (main : List ℕ) (outside : Files) (arities : s.arities ≡ arities_of space)
+      (ordinary : (config : List ℕ) → IsConfig s.arities config → IsOrdinary s names files p (Pre space outside main config) config)
+      (ends : (bytes : List ℕ) → outside main ≡ Some bytes → (config : List ℕ) → IsConfig s.arities config → s.has p.live.0 config ≡ true → seen_place files p.end ≡ end_of_file main bytes) where
+    abbrev There : List ℕ → Type 0
+    There config = IsTranslated (c11-parser are) space outside main (tables_with new lines names files) result.root all_faults config
+
+    parsed-as : (config : List ℕ) → IsConfig s.arities config → s.has p.live.0 config ≡ true → faults_at s p.faults.items config ≡ [] → (answer : Result Tree Fault)
+        → Translates (c11-parser are) space outside main config answer
+        → LR (c11-parser are) (seen_place files p.end) (project config (map (item_seen s names files) p.list)) answer → There config
+    parsed-as config listed live none (Ok tree) translated lr =
+        let after = faults-after config listed ∙ ap (λ faults. faults ++ faults_at new result.faults.items config) none in
+        record {
+          ordinary = Ok tree;
+          translated = translated;
+          stands = (
+            after ∙ no-faults files (faults_at new result.faults.items config) (parse.faults config (Ok tree) listed live lr),
+            parse.trees config tree (record { is_config = listed; live = live; answer = lr }),
+          );
+        }
+    parsed-as config listed live none (Err fault) translated lr =
+        let after = faults-after config listed ∙ ap (λ faults. faults ++ faults_at new result.faults.items config) none in
+        record { ordinary = Err fault; translated = translated; stands = ap (map (seen_fault files)) after ∙ parse.faults config (Err fault) listed live lr }
+
+    translated-by : (config : List ℕ) → IsConfig s.arities config → (o : Result (List plain.Token) Fault) → Pre space outside main config o
+        → prep.Stands o (map (seen names files) (items_at s p.list config)) (map (seen_fault files) (faults_at s p.faults.items config)) → s.has p.live.0 config ≡ is_accepted o → There config
+    translated-by config listed (Ok ts) pre stands live =
+        let answer = answer-at config listed live in
+        let held = held-main pre in
+        let tokens = project-items s names files config p.list ∙ stands.0 in
+        let lr = subst (λ (place : plain.Place). LR (c11-parser are) place ts answer.0) (ends held.0 held.1 config listed live)
+        (subst (λ (us : List plain.Token). LR (c11-parser are) (seen_place files p.end) us answer.0) tokens answer.1) in
+        parsed-as config listed live (no-faults files (faults_at s p.faults.items config) stands.1) answer.0 (parsed ts held.0 answer.0 pre held.1 lr) answer.1
+    translated-by config listed (Err fault) pre stands live =
+        let none = parse.others config listed live in
+        let after = faults-after config listed ∙ (ap (λ faults. faults_at s p.faults.items config ++ faults) none ∙ append-nil (faults_at s p.faults.items config)) in
+        record { ordinary = Err fault; translated = not_prepared fault pre; stands = ap (map (seen_fault files)) after ∙ stands }
+
+    pub parsed-translated : AreTranslated space outside main (tables_with new lines names files) result.root all_faults
+    parsed-translated = record {
+      parser = c11-parser are;
+      is_c11 = c11-is are;
+      each = λ config listed.
+          let now = subst (λ ns. IsConfig ns config) (sym arities) listed in
+          let o = ordinary config now in
+          translated-by config now o.answer o.preprocessed o.stands o.live;
+    }
+
+-- ---- what can be shown
+
+module _ {s : Sets} {names files : List (List ℕ)} {p : Prepared} (shown : CanBeShown s names files p) where
+  pub parsed-leaves : {lines : List Line} → AddsLeaves p.list [] lines → AreShowableLeaves names files lines
+  parsed-leaves {lines} adds = record {
+    each = λ i place spelling at.
+        let found = adds.leaves i place spelling (ap (λ ls. slice_get ls i) (sym (adds.is ∙ refl)) ∙ at) in
+        let item = All-contains (IsShowable s names files) p.list found.0 shown.list found.1.0 in
+        leaf-shown found.0 place spelling item found.1.1.0 found.1.1.1;
+  }
+    where
+      leaf-shown : (item : Cond × Token) (place : declared.Place) (spelling : Name) → IsShowable s names files item → item.1.place ≡ place → item.1.spelling ≡ spelling → IsShowableLeaf names files place spelling
+      leaf-shown item place spelling is at so =
+          subst (λ (q : declared.Place). IsShowableLeaf names files q spelling) at
+          (subst (λ (n : Name). IsShowableLeaf names files item.1.place n) so (record { file = is.file; name = is.held.spelling; plain = is.plain }))
+
+  place-held : (place : declared.Place) → p.end.file.0 < length files → IsPlaceOf p.list p.end place → place.file.0 < length files
+  place-held place end is = by (slice_get p.list is.0) refl (is.1)
+    where
+      item-is : (item : Cond × Token) → is.0 < length p.list → slice_get p.list is.0 ≡ Some item → get_or p.list is.0 item ≡ item
+      item-is item within at = let same = sym (slice_get-get_or p.list is.0 item within) ∙ at in cc
+
+      by : (o : Option (Cond × Token)) → slice_get p.list is.0 ≡ o → place ≡ place_of p.end (slice_get p.list is.0) → place.file.0 < length files
+      by None at so = subst (λ (q : declared.Place). q.file.0 < length files) (sym (so ∙ ap (place_of p.end) at)) end
+      by (Some item) at so =
+          let within = slice_get_within p.list is.0 item at in
+          let there = shown.list is.0 item within in
+          subst (λ (q : declared.Place). q.file.0 < length files) (sym (so ∙ ap (place_of p.end) at)) (subst (λ (x : Cond × Token). x.1.place.file.0 < length files) (item-is item within at) there.file)
+
+  pub parsed-faults : {new : Sets} {count : ℕ} {result : Parsed} → Keeps s new → OwnsParsed new count p.list p.end result → p.end.file.0 < length files
+      → All (IsShowableFault new files) (p.faults.items ++ result.faults.items)
+  parsed-faults {new} {count} {result} keeps owned end =
+      All-append (IsShowableFault new files) p.faults.items result.faults.items
+      (All-weaker (IsShowableFault s files) (IsShowableFault new files) (λ fault is. record { own = keeps.own fault.cond.0 is.own; file = is.file }) p.faults.items shown.faults)
+      (λ k d h. record { own = owned.faults k d h; file = place-held (get_or result.faults.items k d).place end (owned.places k d h) })

@@ -1,0 +1,14 @@
+use Rattle.std.proofs.lemmas.Result.{IfOk-weaker}
+use Rattle.sc_core.proofs.texts.tables.Goals as goal
+
+pub returns : goal.returns
+returns c =
+    let grammar = c.grammar-grammar in
+    IfOk-weaker c.build.result _ _ (λ tables are. record {
+      grammar = grammar.result;
+      entries = grammar.ensures.productions;
+      terminals = grammar.ensures.terminals;
+      nonterminals = grammar.ensures.nonterminals;
+      states = are.states;
+      exact = are.exact;
+    }) c.build.ensures

@@ -1,0 +1,119 @@
+use Rattle.std.proofs.Common.{◌∙◌, List, All, sym, subst}
+use Rattle.std.proofs.lemmas.List.Elements.{All-weaker}
+use Rattle.std.proofs.lemmas.Result.{err_from_is_err_and}
+use Rattle.sc_base.specs.declared.fault.Fault as base
+use Rattle.sc_base.specs.declared.id.Cond.{Cond}
+use Rattle.sc_base.specs.declared.token.Token.{Token}
+use Rattle.sc_base.specs.Seen.{IsHeld}
+use Rattle.sc_core.proofs.ParsedFiles.{file-input, input, is-input, parsed-apart, parsed-faults, parsed-leaves, parsed-somewhere, parsed-translated, stops-in}
+use Rattle.sc_core.proofs.tree_texts.parsed.Goals as goal
+use Rattle.sc_core.proofs.tree_texts.parsed.Goals.{After-drop-prepared-2}
+use Rattle.sc_core.specs.Texts.{AreTranslated}
+use Rattle.sc_fork.specs.Choices.{AddsLeaves}
+use Rattle.sc_guarded.specs.Printable.{AreApart, IsShowable, IsShowableFault}
+use Rattle.sc_merge.specs.Merges.{tables_with}
+use Rattle.sc_model.proofs.SetLemmas.{Keeps-trans}
+use Rattle.sc_model.specs.Sets.{IsConfig}
+use Rattle.sc_space.specs.Seen.{seen_space}
+use Rattle.sc_tree.specs.Lines.{Line}
+
+pub parse-requires-clause-held : goal.parse-requires-clause-held
+parse-requires-clause-held g c =
+    let list = c.in_ok-prepared.prepared.list in
+    let shown = c.in_ok-prepared.ensures.shown c.requires.paths c.requires.plain in
+    All-weaker (IsShowable (g.C.Conditions.sets c.preprocess.new.conds) c.preprocess.new.names c.preprocess.new.files) (λ (item : Cond × Token). IsHeld c.preprocess.new.names item.1) (λ item is. is.held) list shown.list
+
+pub returns-in_err-parsed-clause-stops : goal.returns-in_err-parsed-clause-stops
+returns-in_err-parsed-clause-stops g c =
+    let s = g.C.Conditions.sets c.preprocess.new.conds in
+    let names = c.preprocess.new.names in
+    let files = c.preprocess.new.files in
+    let prepared = c.in_ok-prepared.prepared in
+    let tables = c.in_ok-tables.tables in
+    let are = c.in_ok-tables.ensures in
+    let made = c.in_ok-prepared.ensures in
+    let shown = made.shown c.requires.paths c.requires.plain in
+    let space = seen_space c.args.space.now in
+    let main = c.args.file.now in
+    let arities = made.keeps.arities ∙ c.requires.arities in
+    let p = err_from_is_err_and c.from_residual-in_err-parsed.result c.from_residual-in_err-parsed.ensures.1 in
+    rw (p.1, p.2) (stops-in s names files prepared tables are shown space main (g.S.Source.holds c.args.src.now) _ _ arities
+    (λ outside holds. file-input s names files prepared tables are shown space main outside arities
+    (λ config listed. made.ordinary outside holds config (subst (λ ns. IsConfig ns config) made.keeps.arities listed))
+    (λ bytes held config listed live. made.end outside bytes holds held config (subst (λ ns. IsConfig ns config) made.keeps.arities listed) live))
+    c.in_err-parsed.field-0.0 (c.in_err-parsed.ensures.stops files (input s names files prepared tables are shown) (is-input s names files prepared tables are shown c.new-trees.result)))
+
+pub returns-in_err-parsed-clause-keeps : goal.returns-in_err-parsed-clause-keeps
+returns-in_err-parsed-clause-keeps g c = Keeps-trans c.preprocess.ensures.keeps c.parse.ensures.keeps
+
+pub returns-in_err-append-clause-keeps : goal.returns-in_err-append-clause-keeps
+returns-in_err-append-clause-keeps g c = Keeps-trans c.preprocess.ensures.keeps c.parse.ensures.keeps
+
+pub returns-clause-shown : goal.returns-clause-shown
+returns-clause-shown g c =
+    let s = g.C.Conditions.sets c.preprocess.new.conds in
+    let new = g.C.Conditions.sets c.parse.new.conds in
+    let names = c.preprocess.new.names in
+    let files = c.preprocess.new.files in
+    let prepared = c.in_ok-prepared.prepared in
+    let tables = c.in_ok-tables.tables in
+    let are = c.in_ok-tables.ensures in
+    let made = c.in_ok-prepared.ensures in
+    let shown = made.shown c.requires.paths c.requires.plain in
+    let parsed = c.in_ok-parsed.parsed in
+    let is = is-input s names files prepared tables are shown c.new-trees.result in
+    let parse = c.in_ok-parsed.ensures.parse files (input s names files prepared tables are shown) is in
+    let schedule = c.in_ok-parsed.ensures.schedule files (input s names files prepared tables are shown) is in
+    let items = c.in_ok-append.ensures.items in
+    record {
+      leaves = parsed-leaves shown (subst (λ (old : List Line). AddsLeaves prepared.list old c.parse.new.trees) c.new-trees.ensures c.in_ok-parsed.ensures.leaves);
+      branches = c.parse.ensures.owns;
+      root = c.in_ok-parsed.ensures.own.root;
+      faults = subst (All (IsShowableFault new files)) (sym items) (parsed-faults shown c.parse.ensures.keeps c.in_ok-parsed.ensures.own made.end_held);
+      apart = subst (AreApart new) (sym items) (parsed-apart s new c.parse.ensures.keeps names files prepared tables are shown made.owns c.parse.new.trees parsed parsed.events.items parse schedule
+          (λ config listed. made.live config (subst (λ ns. IsConfig ns config) made.keeps.arities listed)));
+      paths = shown.paths;
+    }
+
+pub returns-clause-translated : goal.returns-clause-translated
+returns-clause-translated g c = λ outside holds.
+    let s = g.C.Conditions.sets c.preprocess.new.conds in
+    let new = g.C.Conditions.sets c.parse.new.conds in
+    let names = c.preprocess.new.names in
+    let files = c.preprocess.new.files in
+    let prepared = c.in_ok-prepared.prepared in
+    let tables = c.in_ok-tables.tables in
+    let are = c.in_ok-tables.ensures in
+    let made = c.in_ok-prepared.ensures in
+    let shown = made.shown c.requires.paths c.requires.plain in
+    let parsed = c.in_ok-parsed.parsed in
+    let is = is-input s names files prepared tables are shown c.new-trees.result in
+    let parse = c.in_ok-parsed.ensures.parse files (input s names files prepared tables are shown) is in
+    let schedule = c.in_ok-parsed.ensures.schedule files (input s names files prepared tables are shown) is in
+    let space = seen_space c.args.space.now in
+    let main = c.args.file.now in
+    subst (λ (faults : List base.Fault). AreTranslated space outside main (tables_with new c.parse.new.trees names files) parsed.root faults) (sym c.in_ok-append.ensures.items)
+    (parsed-translated s new c.parse.ensures.keeps names files prepared tables are shown made.owns c.parse.new.trees parsed parsed.events.items parse schedule space main outside
+    (made.keeps.arities ∙ c.requires.arities)
+    (λ config listed. made.ordinary outside holds config (subst (λ ns. IsConfig ns config) made.keeps.arities listed))
+    (λ bytes held config listed live. made.end outside bytes holds held config (subst (λ ns. IsConfig ns config) made.keeps.arities listed) live))
+
+pub returns-clause-somewhere : goal.returns-clause-somewhere
+returns-clause-somewhere g c =
+    let s = g.C.Conditions.sets c.preprocess.new.conds in
+    let new = g.C.Conditions.sets c.parse.new.conds in
+    let names = c.preprocess.new.names in
+    let files = c.preprocess.new.files in
+    let prepared = c.in_ok-prepared.prepared in
+    let tables = c.in_ok-tables.tables in
+    let are = c.in_ok-tables.ensures in
+    let made = c.in_ok-prepared.ensures in
+    let shown = made.shown c.requires.paths c.requires.plain in
+    let parsed = c.in_ok-parsed.parsed in
+    let is = is-input s names files prepared tables are shown c.new-trees.result in
+    let parse = c.in_ok-parsed.ensures.parse files (input s names files prepared tables are shown) is in
+    let schedule = c.in_ok-parsed.ensures.schedule files (input s names files prepared tables are shown) is in
+    parsed-somewhere s new c.parse.ensures.keeps names files prepared tables are shown made.owns c.parse.new.trees parsed parsed.events.items parse schedule
+
+pub returns-clause-keeps : goal.returns-clause-keeps
+returns-clause-keeps g c = Keeps-trans c.preprocess.ensures.keeps c.parse.ensures.keeps

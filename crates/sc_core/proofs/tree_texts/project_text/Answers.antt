@@ -1,0 +1,110 @@
+use Rattle.std.proofs.Common.{◌≡◌, ◌∙◌, ◌≤◌, ap, arith, inl, inr, map, refl, sym, subst, List, Ok, ℕ, string_bytes}
+use Rattle.std.proofs.lemmas.Result.{err_from_is_err_and}
+use Rattle.std.specs.Prelude.{not}
+use Rattle.sc_args.specs.Words.{project}
+use Rattle.sc_core.proofs.Cuts.{cut-sound, never-fills, one-config}
+use Rattle.sc_core.proofs.Failing.{choice-fails, space-fails}
+use Rattle.sc_core.proofs.Projecting.{projected-answer}
+use Rattle.sc_core.proofs.Telling.{name-plain}
+use Rattle.sc_core.proofs.tree_texts.project_text.Goals as goal
+use Rattle.sc_core.specs.Cut.{first_config}
+use Rattle.sc_core.specs.Outcome.{HasNoFault, IsTranslationAnswer, Tells}
+use Rattle.sc_core.specs.Texts.{StopsIn, lines_of}
+use Rattle.sc_model.specs.Outside.{Rose}
+use Rattle.sc_model.specs.Sets.{IsConfig}
+use Rattle.sc_model.specs.Space.{IsListed, Space, arities_of}
+use Rattle.sc_show.specs.TreeLayout.{IsTreeTextOf}
+use Rattle.sc_space.specs.Seen.{seen_space}
+use Rattle.sc_space.specs.Sound.{IsSound}
+
+pub cut-requires : goal.cut-requires
+cut-requires g c = subst (IsListed (seen_space c.in_ok-space.space)) (sym c.deref.ensures.value) c.in_ok-config.ensures.listed
+
+pub conditions-requires : goal.conditions-requires
+conditions-requires g c =
+    let space = seen_space c.in_ok-space.space in
+    let listed = subst (IsListed space) (sym c.deref.ensures.value) c.in_ok-config.ensures.listed in
+    subst IsSound (sym c.in_ok-only.ensures) (cut-sound space c.deref.result.now listed c.in_ok-space.ensures.sound)
+
+pub plain_under-requires-clause-sound : goal.plain_under-requires-clause-sound
+plain_under-requires-clause-sound g c =
+    let space = seen_space c.in_ok-space.space in
+    let listed = subst (IsListed space) (sym c.deref.ensures.value) c.in_ok-config.ensures.listed in
+    subst IsSound (sym c.in_ok-only.ensures) (cut-sound space c.deref.result.now listed c.in_ok-space.ensures.sound)
+
+pub plain_under-requires-clause-plain : goal.plain_under-requires-clause-plain
+plain_under-requires-clause-plain g c = name-plain c.args.file.now c.requires
+
+pub plain_under-requires-clause-one : goal.plain_under-requires-clause-one
+plain_under-requires-clause-one g c =
+    let space = seen_space c.in_ok-space.space in
+    let listed = subst (IsListed space) (sym c.deref.ensures.value) c.in_ok-config.ensures.listed in
+    subst (λ (only : Space). (d : List ℕ) → IsConfig (arities_of only) d → d ≡ first_config only) (sym c.in_ok-only.ensures) (one-config space c.deref.result.now listed)
+
+pub returns-in_err-space-clause-error : goal.returns-in_err-space-clause-error
+returns-in_err-space-clause-error g c =
+    let name = c.args.space.now in
+    let p = err_from_is_err_and c.from_residual.result c.from_residual.ensures.1 in
+    rw (p.1, p.2) (space-fails (project name c.args.file.now (map string_bytes c.args.choices.now))
+    (record { holds = g.S.Source.holds c.args.src.now; before = g.S.Source.faults c.args.src.now; after = g.S.Source.faults c.read_space.new.src })
+    name refl c.in_err-space.field-0.0 c.in_err-space.ensures.error)
+
+pub returns-in_err-config-clause-error : goal.returns-in_err-config-clause-error
+returns-in_err-config-clause-error g c =
+    let p = err_from_is_err_and c.from_residual-in_err-config.result c.from_residual-in_err-config.ensures.1 in
+    rw (p.1, p.2) (choice-fails (record { holds = g.S.Source.holds c.args.src.now; before = g.S.Source.faults c.args.src.now; after = g.S.Source.faults c.read_space.new.src })
+    c.args.space.now c.args.file.now (map string_bytes c.args.choices.now) (seen_space c.in_ok-space.space) c.in_ok-space.ensures.space c.in_err-config.field-0.0 c.in_err-config.ensures.error)
+
+pub returns-in-Ok-clause-text : goal.returns-in-Ok-clause-text
+returns-in-Ok-clause-text g c =
+    let space = seen_space c.in_ok-space.space in
+    let config = c.deref.result.now in
+    let listed = subst (IsListed space) (sym c.deref.ensures.value) c.in_ok-config.ensures.listed in
+    let tells = c.in-Ok.ensures.tree in
+    let answer = tells.0.answer in
+    let is = c.in_ok-only.ensures in
+    let text = c.in-Ok.text in
+    record {
+      lines = c.in-Ok.ensures.lines;
+      tree = record {
+        space = space;
+        config = config;
+        chosen = c.in_ok-config.ensures.config ∙ ap (λ (d : List ℕ). Ok d) (sym c.deref.ensures.value);
+        answer = answer;
+        text = subst (λ (only : Space). IsTreeTextOf only (lines_of text) answer) is tells.0.text_of;
+        plain = tells.1;
+        verdict = subst (λ (only : Space). Tells (not text.is_refused) (HasNoFault only answer)) is tells.0.verdict;
+        right = λ files holds. (
+          c.in_ok-space.ensures.space files holds,
+          projected-answer space files c.args.file.now config answer (not text.is_refused) listed
+              (subst (λ (only : Space). IsTranslationAnswer only files c.args.file.now answer (not text.is_refused)) is (tells.0.right files (c.in_ok-space.ensures.kept ∙ holds))),
+        );
+      };
+    }
+
+pub returns-clause-error : goal.returns-clause-error
+returns-clause-error g c =
+    let space = seen_space c.in_ok-space.space in
+    let only = seen_space c.in_ok-only.only in
+    let main = c.args.file.now in
+    let listed = subst (IsListed space) (sym c.deref.ensures.value) c.in_ok-config.ensures.listed in
+    let sound = subst IsSound (sym c.in_ok-only.ensures) (cut-sound space c.deref.result.now listed c.in_ok-space.ensures.sound) in
+    let one = subst (λ (only : Space). (d : List ℕ) → IsConfig (arities_of only) d → d ≡ first_config only) (sym c.in_ok-only.ensures) (one-config space c.deref.result.now listed) in
+    let many = subst (StopsIn (g.S.Source.holds c.read_space.new.src) _ _ only main) c.in-Err-BranchesFull.field-0-is c.in-Err-BranchesFull.ensures.stops in
+    absurd (never-fills only (g.S.Source.holds c.read_space.new.src) main one sound many.1)
+
+rose-before : (before mid after : ℕ) → before ≤ mid → Rose mid after → Rose before after
+rose-before before mid after least (inl more) = inl (omega arith)
+rose-before before mid after least (inr full) = inr full
+
+pub returns-in-Err-ReadFault-clause-error : goal.returns-in-Err-ReadFault-clause-error
+returns-in-Err-ReadFault-clause-error g c =
+    let only = seen_space c.in_ok-only.only in
+    let rose = subst (StopsIn (g.S.Source.holds c.read_space.new.src) (g.S.Source.faults c.read_space.new.src) (g.S.Source.faults c.plain_under.new.src) only c.args.file.now)
+    c.in-Err-ReadFault.field-0-is c.in-Err-ReadFault.ensures.stops in
+    rose-before (g.S.Source.faults c.args.src.now) (g.S.Source.faults c.read_space.new.src) (g.S.Source.faults c.plain_under.new.src) c.read_space.ensures.counted rose
+
+pub returns-in_err-branches_line-in-Err-BranchesFull-clause-error : goal.returns-in_err-branches_line-in-Err-BranchesFull-clause-error
+returns-in_err-branches_line-in-Err-BranchesFull-clause-error g c =
+    let p = err_from_is_err_and c.from_residual-in_err-branches_line-in-Err-BranchesFull.result c.from_residual-in_err-branches_line-in-Err-BranchesFull.ensures.1 in
+    rw (p.1, p.2) tt

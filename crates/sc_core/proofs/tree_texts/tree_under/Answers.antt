@@ -1,0 +1,20 @@
+use Rattle.std.proofs.Common.{◌≡◌, ◌∙◌, true, sym, subst}
+use Rattle.std.proofs.lemmas.List.Elements.{All-nil}
+use Rattle.sc_core.proofs.TreeTelling.{tells-tree, tree-lines}
+use Rattle.sc_core.proofs.tree_texts.tree_under.Goals as goal
+use Rattle.sc_model.specs.Bytes.{has_no_newline}
+use Rattle.sc_prep.specs.Printable.{ArePlainPaths}
+use Rattle.sc_space.specs.Seen.{seen_space}
+
+pub parsed-requires-clause-paths : goal.parsed-requires-clause-paths
+parsed-requires-clause-paths g c = subst ArePlainPaths (sym c.in_ok-files.ensures) (All-nil (λ path. has_no_newline path ≡ true))
+
+pub returns-clause-lines : goal.returns-clause-lines
+returns-clause-lines g c = tree-lines c.in_ok-parsed.parsed c.in_ok-text_of.field-0.lines.items c.in_ok-text_of.ensures.text
+
+pub returns-clause-tree : goal.returns-clause-tree
+returns-clause-tree g c =
+    let made = c.in_ok-parsed.ensures in
+    let text = c.in_ok-text_of.ensures in
+    tells-tree text.keeps c.parsed.new.names c.parsed.new.files (seen_space c.args.space.now) c.in_ok-parsed.parsed c.in_ok-text_of.field-0 text.text made.shown (made.keeps.arities ∙ c.requires.arities) text.none text.some
+    (g.S.Source.holds c.args.src.now) c.args.file.now (λ outside holds. made.translated outside holds)
