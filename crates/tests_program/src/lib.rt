@@ -5,3 +5,5 @@
 mod both;
 #[cfg(test)]
 mod program;
+#[cfg(test)]
+mod trees;

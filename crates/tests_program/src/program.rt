@@ -6,36 +6,36 @@ use std::test::Fail;
 /// A call on these words, where the source holds a space file `s`, a main file `m.c` and perhaps a
 /// header `h`, and what comes of it.
 #[derive(Clone, Copy)]
-struct Case<'a> {
-    words: &'a [&'a str],
-    space: &'a str,
-    main: &'a [u8],
-    header: Option<&'a [u8]>,
-    failing: Failing,
-    status: u8,
-    out: &'a str,
-    err: &'a str,
+pub struct Case<'a> {
+    pub words: &'a [&'a str],
+    pub space: &'a str,
+    pub main: &'a [u8],
+    pub header: Option<&'a [u8]>,
+    pub failing: Failing,
+    pub status: u8,
+    pub out: &'a str,
+    pub err: &'a str,
 }
 
 /// Which read, which write to the output and which to the error output fail, by their numbers from 0.
 #[derive(Clone, Copy)]
-struct Failing {
-    read: u64,
-    out: u64,
-    err: u64,
+pub struct Failing {
+    pub read: u64,
+    pub out: u64,
+    pub err: u64,
 }
 
 /// No call that a test makes has this number.
 const NONE: u64 = 99_999;
 
-const NOTHING: Failing = Failing {
+pub const NOTHING: Failing = Failing {
     read: NONE,
     out: NONE,
     err: NONE,
 };
 
 /// Two tokens in the one configuration of no variable.
-const TOKENS: Case<'static> = Case {
+pub const TOKENS: Case<'static> = Case {
     words: &["superc", "tokens", "s", "m.c"],
     space: "[variables]\n",
     main: b"x y\n",
@@ -46,7 +46,7 @@ const TOKENS: Case<'static> = Case {
     err: "",
 };
 
-const ONE: &str = "[variables]\nA = [\"undef\", 1]\n";
+pub const ONE: &str = "[variables]\nA = [\"undef\", 1]\n";
 
 const CONDITIONALS: [Case<'static>; 14] = [
     TOKENS,
@@ -545,7 +545,7 @@ fn sink(alloc: Global, failing: u64) -> Result<MemorySink, Fail> {
 }
 
 /// What the run of a case wrote to the output and to the error output, and its status.
-fn ran(alloc: Global, case: &Case<'_>) -> Result<(Vec<u8>, Vec<u8>, u8), Fail> {
+pub fn ran(alloc: Global, case: &Case<'_>) -> Result<(Vec<u8>, Vec<u8>, u8), Fail> {
     let words = words(alloc, case.words)?;
     let mut source = files(alloc, case)?;
     let mut out = sink(alloc, case.failing.out)?;
