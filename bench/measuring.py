@@ -67,14 +67,14 @@ def conditionals(size, sections, variables, nested=1):
     return "\n".join(lines) + "\n"
 
 
-def run(program, folder, name, variables, text, options=2, repeats=3):
-    """Measures `superc tokens` on a text, and prints a line."""
+def run(program, folder, name, variables, text, options=2, repeats=3, command="tokens"):
+    """Measures the program on a text, and prints a line."""
     path = os.path.join(folder, "m.c")
     with open(path, "w") as file:
         file.write(text)
     with open(os.path.join(folder, "space"), "w") as file:
         file.write(space(variables, options))
-    words = [program, "tokens", os.path.join(folder, "space"), path]
+    words = [program, command, os.path.join(folder, "space"), path]
     clock, processor, memory, nodes = min(measure(words) for _ in range(repeats))
     size = len(text)
     print(f"{name:44} {size / 1e6:7.2f} MB {clock:7.2f} s {processor:7.2f} s cpu {size / 1e6 / clock:7.1f} MB/s {memory / 1e6:8.1f} MB, {memory / size:6.1f} x, {nodes} nodes", flush=True)
