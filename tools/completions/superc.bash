@@ -3,11 +3,13 @@ _superc() {
     local word=${COMP_WORDS[COMP_CWORD]} last=${COMP_WORDS[COMP_CWORD-1]}
     COMPREPLY=()
     if [ "$COMP_CWORD" -eq 1 ]; then
-        mapfile -t COMPREPLY < <(compgen -W 'tokens conflicts' -- "$word")
+        mapfile -t COMPREPLY < <(compgen -W 'tokens parse project conflicts' -- "$word")
         return
     fi
     case ${COMP_WORDS[1]}:$last in
         tokens:*) mapfile -t COMPREPLY < <(compgen -f -- "$word") ;;
+        parse:*) mapfile -t COMPREPLY < <(compgen -f -- "$word") ;;
+        project:*) mapfile -t COMPREPLY < <(compgen -f -- "$word") ;;
         conflicts:*) ;;
     esac
 }

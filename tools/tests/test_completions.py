@@ -48,7 +48,7 @@ class Completions(unittest.TestCase):
 
     @unittest.skipUnless(shutil.which("bash"), "bash is not there")
     def test_what_bash_offers(self) -> None:
-        self.assertEqual(complete("superc", ""), ["tokens", "conflicts"])
+        self.assertEqual(complete("superc", ""), ["tokens", "parse", "project", "conflicts"])
         self.assertEqual(complete("superc-view", "t"), ["tokens", "tree"])
         self.assertEqual(complete("superc-view", "at", "--"), ["--input", "--space", "--text"])
         self.assertEqual(complete("superc-view", "dot", "--part", ""), [])
