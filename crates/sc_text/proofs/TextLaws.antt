@@ -14,16 +14,16 @@ use Rattle.sc_model.specs.Bytes.{has_no_newline}
 use Rattle.sc_text.proofs.Numerals.{numeral-injective, numeral-digits, is_no_digit}
 
 -- the same front, and the same rest
-record Cut {T : Type 0} (x y : T) (r s : List ℕ) : Type 0 where
-  same : x ≡ y
-  rest : r ≡ s
+pub record Cut {T : Type 0} (x y : T) (r s : List ℕ) : Type 0 where
+  pub same : x ≡ y
+  pub rest : r ≡ s
 
 -- a field ends where this text begins
-abbrev ends_field : (ℕ → Bool) → List ℕ → Bool
+abbrev pub ends_field : (ℕ → Bool) → List ℕ → Bool
 ends_field stops [] = false
 ends_field stops (b ∷ bs) = stops b
 
-cut : (stops : ℕ → Bool) (xs ys r s : List ℕ) → list_any stops xs ≡ false → list_any stops ys ≡ false → ends_field stops r ≡ true → ends_field stops s ≡ true → xs ++ r ≡ ys ++ s → Cut xs ys r s
+pub cut : (stops : ℕ → Bool) (xs ys r s : List ℕ) → list_any stops xs ≡ false → list_any stops ys ≡ false → ends_field stops r ≡ true → ends_field stops s ≡ true → xs ++ r ≡ ys ++ s → Cut xs ys r s
 cut stops [] [] r s p q h k e = record { same = refl; rest = e }
 cut stops [] (y ∷ ys) r s p q h k e = absurd (true≢false (sym h ∙ (ap (ends_field stops) e ∙ (or_parts (stops y) (list_any stops ys) q).0)))
 cut stops (x ∷ xs) [] r s p q h k e = absurd (true≢false (sym k ∙ (ap (ends_field stops) (sym e) ∙ (or_parts (stops x) (list_any stops xs) p).0)))
@@ -33,19 +33,19 @@ cut stops (x ∷ xs) (y ∷ ys) r s p q h k e =
     let same = more.same in
     record { same = cc; rest = more.rest }
 
-cut-number : (m n : ℕ) (r s : List ℕ) → ends_field is_no_digit r ≡ true → ends_field is_no_digit s ≡ true → numeral m ++ r ≡ numeral n ++ s → Cut m n r s
+pub cut-number : (m n : ℕ) (r s : List ℕ) → ends_field is_no_digit r ≡ true → ends_field is_no_digit s ≡ true → numeral m ++ r ≡ numeral n ++ s → Cut m n r s
 cut-number m n r s h k e =
     let c = cut is_no_digit (numeral m) (numeral n) r s (numeral-digits m) (numeral-digits n) h k e in
     record { same = numeral-injective m n c.same; rest = c.rest }
 
 -- the last field of a line
-cut-plain : (xs ys r s : List ℕ) → has_no_newline xs ≡ true → has_no_newline ys ≡ true → xs ++ 10 ∷ r ≡ ys ++ 10 ∷ s → Cut xs ys r s
+pub cut-plain : (xs ys r s : List ℕ) → has_no_newline xs ≡ true → has_no_newline ys ≡ true → xs ++ 10 ∷ r ≡ ys ++ 10 ∷ s → Cut xs ys r s
 cut-plain xs ys r s p q e =
     let c = cut (λ b. b == 10) xs ys (10 ∷ r) (10 ∷ s) (not-true _ p) (not-true _ q) refl refl e in
     let rest = c.rest in
     record { same = c.same; rest = cc }
 
-cut-place : (p q : Printed) (r s : List ℕ) → ends_field is_no_digit r ≡ true → ends_field is_no_digit s ≡ true → place_text p ++ r ≡ place_text q ++ s → Cut p q r s
+pub cut-place : (p q : Printed) (r s : List ℕ) → ends_field is_no_digit r ≡ true → ends_field is_no_digit s ≡ true → place_text p ++ r ≡ place_text q ++ s → Cut p q r s
 cut-place p q r s h k e =
     let apart : numeral p.file ++ (58 ∷ (numeral p.position.line ++ (58 ∷ (numeral p.position.column ++ r)))) ≡ numeral q.file ++ (58 ∷ (numeral q.position.line ++ (58 ∷ (numeral q.position.column ++ s)))) = simp append_assoc at e in
     let files = cut-number p.file q.file (58 ∷ (numeral p.position.line ++ (58 ∷ (numeral p.position.column ++ r)))) (58 ∷ (numeral q.position.line ++ (58 ∷ (numeral q.position.column ++ s)))) refl refl apart in
@@ -59,18 +59,18 @@ cut-place p q r s h k e =
     }
 
 -- the choices up to the end of the line
-choices_end : (os : List (List ℕ × ℕ)) (r : List ℕ) → ends_field is_no_digit (flat_map choice_text os ++ 10 ∷ r) ≡ true
+pub choices_end : (os : List (List ℕ × ℕ)) (r : List ℕ) → ends_field is_no_digit (flat_map choice_text os ++ 10 ∷ r) ≡ true
 choices_end [] r = refl
 choices_end (o ∷ os) r = refl
 
-choices_word : (os : List (List ℕ × ℕ)) (r : List ℕ) → ends_field is_wordless (flat_map choice_text os ++ 10 ∷ r) ≡ true
+pub choices_word : (os : List (List ℕ × ℕ)) (r : List ℕ) → ends_field is_wordless (flat_map choice_text os ++ 10 ∷ r) ≡ true
 choices_word [] r = refl
 choices_word (o ∷ os) r = refl
 
-abbrev is_clear_choice : List ℕ × ℕ → Bool
+abbrev pub is_clear_choice : List ℕ × ℕ → Bool
 is_clear_choice choice = is_word choice.0 && not (list_any (λ b. b == 58) choice.0)
 
-cut-choices : (os ps : List (List ℕ × ℕ)) (r s : List ℕ) → list_all is_clear_choice os ≡ true → list_all is_clear_choice ps ≡ true
+pub cut-choices : (os ps : List (List ℕ × ℕ)) (r s : List ℕ) → list_all is_clear_choice os ≡ true → list_all is_clear_choice ps ≡ true
     → flat_map choice_text os ++ 10 ∷ r ≡ flat_map choice_text ps ++ 10 ∷ s → Cut os ps r s
 cut-choices [] [] r s p q e = record { same = refl; rest = cc }
 cut-choices [] (y ∷ ys) r s p q e = cc
@@ -105,7 +105,7 @@ pub code_of-injective : (c d : Cause) → code_of c ≡ code_of d → c ≡ d
 code_of-injective c d e = sym (cause-code c) ∙ (ap (λ code. get_or causes (code - 1) NotFound) e ∙ cause-code d)
 
 -- each kind of line with what follows it
-cut-file : (m n : ℕ) (xs ys r s : List ℕ) → has_no_newline xs ≡ true → has_no_newline ys ≡ true → line_text (file_line m xs) ++ r ≡ line_text (file_line n ys) ++ s → Cut (file_line m xs) (file_line n ys) r s
+pub cut-file : (m n : ℕ) (xs ys r s : List ℕ) → has_no_newline xs ≡ true → has_no_newline ys ≡ true → line_text (file_line m xs) ++ r ≡ line_text (file_line n ys) ++ s → Cut (file_line m xs) (file_line n ys) r s
 cut-file m n xs ys r s p q e =
     let apart : 115 ∷ 32 ∷ (numeral m ++ (32 ∷ (xs ++ (10 ∷ r)))) ≡ 115 ∷ 32 ∷ (numeral n ++ (32 ∷ (ys ++ (10 ∷ s)))) = simp append_assoc at e in
     let ids = cut-number m n (32 ∷ (xs ++ (10 ∷ r))) (32 ∷ (ys ++ (10 ∷ s))) refl refl cc in
@@ -117,7 +117,7 @@ token-fields : (id place spelling r : List ℕ)
     → (codes "t " ++ id ++ codes " " ++ place ++ codes " " ++ spelling ++ codes "\n") ++ r ≡ 116 ∷ 32 ∷ (id ++ (32 ∷ (place ++ (32 ∷ (spelling ++ (10 ∷ r))))))
 token-fields id place spelling r = simp append_assoc
 
-cut-token : (m n : ℕ) (p q : Printed) (xs ys r s : List ℕ) → has_no_newline xs ≡ true → has_no_newline ys ≡ true
+pub cut-token : (m n : ℕ) (p q : Printed) (xs ys r s : List ℕ) → has_no_newline xs ≡ true → has_no_newline ys ≡ true
     → line_text (token_line m p xs) ++ r ≡ line_text (token_line n q ys) ++ s → Cut (token_line m p xs) (token_line n q ys) r s
 cut-token m n p q xs ys r s h k e =
     let apart = sym (token-fields (numeral m) (place_text p) xs r) ∙ (e ∙ token-fields (numeral n) (place_text q) ys s) in
@@ -132,7 +132,7 @@ fault-fields : (id code name place r : List ℕ)
     → (codes "f " ++ id ++ codes " " ++ code ++ codes " " ++ name ++ codes " " ++ place ++ codes "\n") ++ r ≡ 102 ∷ 32 ∷ (id ++ (32 ∷ (code ++ (32 ∷ (name ++ (32 ∷ (place ++ (10 ∷ r))))))))
 fault-fields id code name place r = simp append_assoc
 
-cut-fault : (m n : ℕ) (c d : Cause) (p q : Printed) (r s : List ℕ) → line_text (fault_line m c p) ++ r ≡ line_text (fault_line n d q) ++ s → Cut (fault_line m c p) (fault_line n d q) r s
+pub cut-fault : (m n : ℕ) (c d : Cause) (p q : Printed) (r s : List ℕ) → line_text (fault_line m c p) ++ r ≡ line_text (fault_line n d q) ++ s → Cut (fault_line m c p) (fault_line n d q) r s
 cut-fault m n c d p q r s e =
     let apart = sym (fault-fields (numeral m) (numeral (code_of c)) (name_of c) (place_text p) r) ∙ (e ∙ fault-fields (numeral n) (numeral (code_of d)) (name_of d) (place_text q) s) in
     let end_p : List ℕ = 32 ∷ (place_text p ++ (10 ∷ r)) in
@@ -148,7 +148,7 @@ cut-fault m n c d p q r s e =
     let after_place = places.rest in
     record { same = λ i. fault_line (ids.same i) (cause i) (places.same i); rest = cc }
 
-cut-condition : (m n : ℕ) (xs ys : List ℕ) (os ps : List (List ℕ × ℕ)) (r s : List ℕ) → is_clear (condition_line m xs os) ≡ true → is_clear (condition_line n ys ps) ≡ true
+pub cut-condition : (m n : ℕ) (xs ys : List ℕ) (os ps : List (List ℕ × ℕ)) (r s : List ℕ) → is_clear (condition_line m xs os) ≡ true → is_clear (condition_line n ys ps) ≡ true
     → line_text (condition_line m xs os) ++ r ≡ line_text (condition_line n ys ps) ++ s → Cut (condition_line m xs os) (condition_line n ys ps) r s
 cut-condition m n xs ys os ps r s h k e =
     let a = and_parts (is_word xs) (list_all is_clear_choice os) h in
@@ -163,10 +163,10 @@ cut-condition m n xs ys os ps r s h k e =
     record { same = λ i. condition_line (ids.same i) (names.same i) (choices.same i); rest = choices.rest }
 
 -- lines of two kinds begin with two letters
-other_letter : (letter : ℕ) {xs ys : List ℕ} {P : Type 0} → ends_field (λ b. b == letter) xs ≡ true → ends_field (λ b. b == letter) ys ≡ false → xs ≡ ys → P
+pub other_letter : (letter : ℕ) {xs ys : List ℕ} {P : Type 0} → ends_field (λ b. b == letter) xs ≡ true → ends_field (λ b. b == letter) ys ≡ false → xs ≡ ys → P
 other_letter letter h k e = absurd (true≢false (sym h ∙ (ap (ends_field (λ b. b == letter)) e ∙ k)))
 
-cut-line : (x y : TextLine) (r s : List ℕ) → is_clear x ≡ true → is_clear y ≡ true → line_text x ++ r ≡ line_text y ++ s → Cut x y r s
+pub cut-line : (x y : TextLine) (r s : List ℕ) → is_clear x ≡ true → is_clear y ≡ true → line_text x ++ r ≡ line_text y ++ s → Cut x y r s
 cut-line (condition_line m xs os) (condition_line n ys ps) r s h k e = cut-condition m n xs ys os ps r s h k e
 cut-line (condition_line m xs os) y r s h k e = other_letter 99 refl refl e
 cut-line (file_line m xs) (file_line n ys) r s h k e = cut-file m n xs ys r s h k e
@@ -178,11 +178,11 @@ cut-line (fault_line m c p) y r s h k e = other_letter 102 refl refl e
 cut-line end_line end_line r s h k e = record { same = refl; rest = cc }
 cut-line end_line y r s h k e = other_letter 101 refl refl e
 
-line-nonempty : (x : TextLine) (r : List ℕ) {P : Type 0} → line_text x ++ r ≡ [] → P
+pub line-nonempty : (x : TextLine) (r : List ℕ) {P : Type 0} → line_text x ++ r ≡ [] → P
 line-nonempty (condition_line m xs os) r e = cc
 line-nonempty x r e = cc
 
-same_lines : (xs ys : List TextLine) → list_all is_clear xs ≡ true → list_all is_clear ys ≡ true → concat (map line_text xs) ≡ concat (map line_text ys) → xs ≡ ys
+pub same_lines : (xs ys : List TextLine) → list_all is_clear xs ≡ true → list_all is_clear ys ≡ true → concat (map line_text xs) ≡ concat (map line_text ys) → xs ≡ ys
 same_lines [] [] h k e = refl
 same_lines [] (y ∷ ys) h k e = line-nonempty y (concat (map line_text ys)) (sym e)
 same_lines (x ∷ xs) [] h k e = line-nonempty x (concat (map line_text xs)) e
