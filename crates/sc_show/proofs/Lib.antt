@@ -22,4 +22,5 @@ pub mod TreeReading
 pub mod TreeResults
 pub mod TreeShown
 pub mod TreeTasks
+pub mod TreeTextLaws
 pub mod TreeWeights

@@ -1,14 +1,20 @@
 //! Laws about the definitions, each the contract of a function without code.
 ghost use Rattle.std.specs.Prelude.{List, ℕ, Option, Result, Some, slice_get, ◌≡◌};
+ghost use Rattle.std.specs.List.{concat};
 ghost use Rattle.sc_base.specs.declared.fault.Fault as base;
 ghost use Rattle.sc_base.specs.declared.id.TreeId.{TreeId};
 ghost use Rattle.sc_model.specs.Fault.{Fault};
 ghost use Rattle.sc_model.specs.Sets.{Sets};
 ghost use Rattle.sc_model.specs.Space.{Space};
 ghost use Rattle.sc_show.specs.TreeShows.{IsChoiceOf, ShowsTree};
-ghost use Rattle.sc_show.specs.TreeText.{IsResultAt, ShownTree, TreeAnswer, choice_part};
+ghost use Rattle.sc_show.specs.TreeText.{IsResultAt, ReadsTree, ShownTree, TreeAnswer, choice_part};
 ghost use Rattle.sc_text.specs.Text.{Condition};
 ghost use Rattle.sc_tree.specs.Lines.{Line};
+
+/// A tree's text reads as one answer, however it is cut into pieces.
+pub fn tree_text_has_one_answer()
+    ensures { (space : Space) (p q : List (List ℕ)) (a b : TreeAnswer) → concat p ≡ concat q → ReadsTree space p a → ReadsTree space q b → a ≡ b }
+{}
 
 /// The answer of a tree's text is one result at a configuration.
 pub fn tree_answer_has_one_result()
