@@ -2,6 +2,8 @@ pub mod ConflictLines
 pub mod LinesChoices
 pub mod MergeFaults
 pub mod MergeOrdering
+pub mod OneIntroduction
+pub mod OneTreeText
 pub mod Pieces
 pub mod PrinterChildren
 pub mod PrinterIntroducing

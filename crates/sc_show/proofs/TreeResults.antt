@@ -14,7 +14,8 @@ use Rattle.sc_model.specs.Sets.{Sets, IsConfig, IsCanonical}
 use Rattle.sc_model.specs.Space.{Space, arities_of}
 use Rattle.sc_text.specs.Layout.{Counts, at_start, sets_of, is_fault, IsEmpty}
 use Rattle.sc_text.specs.Text.{Condition, TextLine, fault_line, end_line, nothing_read, condition_at, project}
-use Rattle.sc_text.proofs.LayoutReading.{faults_read, Holds, read-HasRead}
+use Rattle.sc_text.proofs.LayoutReading.{faults_read, Holds, HasRead, read-HasRead}
+use Rattle.sc_text.proofs.ListLemmas.{All-front, All-back}
 use Rattle.sc_text.proofs.OneAnswer.{IsShown}
 use Rattle.sc_tree.specs.Lines.{Line}
 use Rattle.sc_tree.specs.Reads.{Reads}
@@ -115,18 +116,10 @@ common_of P [] all = All-nil P
 common_of P (line ∷ lines) all =
     All-cons P line lines (All-head (OfCommon P) (common_line line) (map common_line lines) all) (common_of P lines (All-tail (OfCommon P) (common_line line) (map common_line lines) all))
 
-all_after : {X : Type 0} (P : X → Type 0) (xs ys : List X) → All P (xs ++ ys) → All P ys
-all_after P [] ys all = all
-all_after P (x ∷ xs) ys all = all_after P xs ys (All-tail P x (xs ++ ys) all)
-
-all_before : {X : Type 0} (P : X → Type 0) (xs ys : List X) → All P (xs ++ ys) → All P xs
-all_before P [] ys all = All-nil P
-all_before P (x ∷ xs) ys all = All-cons P x xs (All-head P x (xs ++ ys) all) (all_before P xs ys (All-tail P x (xs ++ ys) all))
-
 laid_all : {n m : Counts} {items lines : List TreeLine} (P : TreeLine → Type 0) → LaysOutTree n items lines m → All P lines → All P items
 laid_all P (done n) all = all
 laid_all P (shows n after m item items first more introduced rest) all =
-    let later = all_after P (map common_line first) (item ∷ more) all in
+    let later = All-back P (map common_line first) (item ∷ more) all in
     All-cons P item items (All-head P item more later) (laid_all P rest (All-tail P item more later))
 
 module _ (space : Space) (conditions : List Condition) (files : List (List ℕ)) (reduced : IsCanonical (sets_of space conditions)) (some : 0 < length conditions)
@@ -152,23 +145,35 @@ nothing_had {space} (x ∷ xs) shown none = absurd (All-head (IsShown space) x x
     by true faults e = cc
     by false faults e = refl
 
--- a text whose faults no configuration has is one without faults
-pub no-tree-faults : {space : Space} {pieces : List (List ℕ)} {answer : TreeAnswer} → IsTreeTextOf space pieces answer
-    → ((c : List ℕ) → IsConfig (arities_of space) c → project answer.faults c ≡ []) → answer.faults ≡ []
-no-tree-faults {space} {pieces} {answer} x none =
-    let lines = x.reads.lines in
-    let reading = x.reads.reading in
-    let rules = x.rules in
-    let told = read-HasRead space (common_lines lines) nothing_read reading (omega arith) x.reads.read in
-    let some : 0 < at_start.conditions = omega arith in
-    let holds = Holds space reading.conditions reading.files in
-    let of_items = laid_all (OfCommon holds) rules.laid (of_common holds lines told.holds) in
-    let after_body = all_after (OfCommon holds) rules.body (root_line answer.root ∷ map common_line (rules.faults ++ end_line ∷ [])) of_items in
-    let of_faults = all_before holds rules.faults (end_line ∷ []) (common_of holds (rules.faults ++ end_line ∷ []) (All-tail (OfCommon holds) (root_line answer.root) (map common_line (rules.faults ++ end_line ∷ [])) after_body)) in
-    let shown = faults_shown space reading.conditions reading.files rules.reduced (omega (arith, told.grows)) (λ c. ap (λ f. f c) (told.kept 0 (omega arith))) rules.faults rules.right_faults of_faults in
-    let are : answer.faults ≡ faults_read reading.conditions reading.files rules.faults =
-    x.reads.faults ∙ told.faults ∙ tree_faults rules.body lines answer.root rules.faults some rules.numbered rules.laid reading.conditions reading.files in
-    nothing_had answer.faults (subst (All (IsShown space)) (sym are) shown) none
+-- what is known of the lines of a text
+module _ {space : Space} {pieces : List (List ℕ)} {answer : TreeAnswer} (x : IsTreeTextOf space pieces answer) where
+  pub text_read : HasRead space nothing_read x.reads.reading (common_lines x.reads.lines)
+  text_read = read-HasRead space (common_lines x.reads.lines) nothing_read x.reads.reading (omega arith) x.reads.read
+
+  pub text_faults_hold : All (Holds space x.reads.reading.conditions x.reads.reading.files) x.rules.faults
+  text_faults_hold =
+      let P = Holds space x.reads.reading.conditions x.reads.reading.files in
+      let last : List TreeLine = map common_line (x.rules.faults ++ end_line ∷ []) in
+      let of_items = laid_all (OfCommon P) x.rules.laid (of_common P x.reads.lines text_read.holds) in
+      let after_body = All-back (OfCommon P) x.rules.body (root_line answer.root ∷ last) of_items in
+      All-front P x.rules.faults (end_line ∷ []) (common_of P (x.rules.faults ++ end_line ∷ []) (All-tail (OfCommon P) (root_line answer.root) last after_body))
+
+  pub text_faults : answer.faults ≡ faults_read x.reads.reading.conditions x.reads.reading.files x.rules.faults
+  text_faults =
+      let some : 0 < at_start.conditions = omega arith in
+      x.reads.faults ∙ text_read.faults
+      ∙ tree_faults x.rules.body x.reads.lines answer.root x.rules.faults some x.rules.numbered x.rules.laid x.reads.reading.conditions x.reads.reading.files
+
+  pub text_faults_shown : All (IsShown space) answer.faults
+  text_faults_shown =
+      let conditions = x.reads.reading.conditions in
+      let files = x.reads.reading.files in
+      let never = λ (c : List ℕ). ap (λ f. f c) (text_read.kept 0 (omega arith)) in
+      subst (All (IsShown space)) (sym text_faults) (faults_shown space conditions files x.rules.reduced (omega (arith, text_read.grows)) never x.rules.faults x.rules.right_faults text_faults_hold)
+
+  -- a text whose faults no configuration has is one without faults
+  pub no-tree-faults : ((c : List ℕ) → IsConfig (arities_of space) c → project answer.faults c ≡ []) → answer.faults ≡ []
+  no-tree-faults none = nothing_had answer.faults text_faults_shown none
 
 -- ---- the result at a configuration
 

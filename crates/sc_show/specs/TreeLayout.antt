@@ -1,12 +1,12 @@
 -- The rules of the text of a tree: which lines it has, and in which order.
 use Rattle.std.specs.Prelude.{◌≡◌, ℕ, ◌+◌, ◌<◌, true, List, [], ◌∷◌, ◌++◌, length, map, All, Option, Some, None, slice_get}
-use Rattle.std.specs.List.{list_all}
+use Rattle.std.specs.List.{AllZip, list_all}
 use Rattle.sc_model.specs.Growth.{IsOneToOne}
-use Rattle.sc_model.specs.Sets.{IsCanonical}
-use Rattle.sc_model.specs.Space.{Space}
-use Rattle.sc_text.specs.Layout.{Need, condition_numbered, file_numbered, needs, Counts, at_start, Introduces, sets_of, HasOrder, IsAscending, is_fault}
-use Rattle.sc_text.specs.Text.{TextLine, end_line, token_list, Reading}
-use Rattle.sc_show.specs.TreeText.{TreeLine, common_line, leaf_line, node_line, choice_line, root_line, common_lines, TreeAnswer, ReadsTree}
+use Rattle.sc_model.specs.Sets.{IsConfig, IsCanonical}
+use Rattle.sc_model.specs.Space.{Space, arities_of}
+use Rattle.sc_text.specs.Layout.{Need, condition_numbered, file_numbered, needs, Counts, at_start, Introduces, sets_of, HasOrder, IsAscending, is_fault, AreSame}
+use Rattle.sc_text.specs.Text.{Condition, TextLine, end_line, token_list, Reading, project}
+use Rattle.sc_show.specs.TreeText.{TreeLine, common_line, leaf_line, node_line, choice_line, root_line, common_lines, Part, leaf_part, node_part, choice_part, TreeAnswer, ReadsTree}
 
 -- what a line needs before it, in order
 abbrev pub tree_needs : TreeLine → List Need
@@ -73,3 +73,23 @@ pub record KeepsTreeRules (space : Space) (lines : List TreeLine) (reading : Rea
 pub record IsTreeTextOf (space : Space) (pieces : List (List ℕ)) (answer : TreeAnswer) : Type 0 where
   pub reads : ReadsTree space pieces answer
   pub rules : KeepsTreeRules space reads.lines reads.reading answer.root
+
+-- ---- what has one text
+
+-- the same child under the same configurations
+pub record IsSameBranch (space : Space) (x y : Condition × ℕ) : Type 0 where
+  pub cond : AreSame space x.0 y.0
+  pub child : x.1 ≡ y.1
+
+-- parts that are one but for how their conditions are made
+abbrev pub IsSamePart : Space → Part → Part → Type 0
+IsSamePart space (leaf_part shown) (leaf_part other) = shown ≡ other
+IsSamePart space (node_part production children) (node_part other others) = (production ≡ other) × (children ≡ others)
+IsSamePart space (choice_part branches) (choice_part others) = AllZip (IsSameBranch space) branches others
+IsSamePart space part other = ⊥
+
+-- the same parts under the same numbers, one root, and at each configuration the same faults
+pub record IsSameTreeAnswer (space : Space) (a b : TreeAnswer) : Type 0 where
+  pub parts : AllZip (IsSamePart space) a.parts b.parts
+  pub root : a.root ≡ b.root
+  pub faults : (config : List ℕ) → IsConfig (arities_of space) config → project a.faults config ≡ project b.faults config

@@ -6,6 +6,7 @@ ghost use Rattle.sc_base.specs.declared.id.TreeId.{TreeId};
 ghost use Rattle.sc_model.specs.Fault.{Fault};
 ghost use Rattle.sc_model.specs.Sets.{Sets};
 ghost use Rattle.sc_model.specs.Space.{Space};
+ghost use Rattle.sc_show.specs.TreeLayout.{IsSameTreeAnswer, IsTreeTextOf};
 ghost use Rattle.sc_show.specs.TreeShows.{IsChoiceOf, ShowsTree};
 ghost use Rattle.sc_show.specs.TreeText.{IsResultAt, ReadsTree, ShownTree, TreeAnswer, choice_part};
 ghost use Rattle.sc_text.specs.Text.{Condition};
@@ -14,6 +15,12 @@ ghost use Rattle.sc_tree.specs.Lines.{Line};
 /// A tree's text reads as one answer, however it is cut into pieces.
 pub fn tree_text_has_one_answer()
     ensures { (space : Space) (p q : List (List ℕ)) (a b : TreeAnswer) → concat p ≡ concat q → ReadsTree space p a → ReadsTree space q b → a ≡ b }
+{}
+
+/// A tree's result has one text: two texts that keep the rules and read as the same parts and faults
+/// are one.
+pub fn tree_result_has_one_text()
+    ensures { (space : Space) (p q : List (List ℕ)) (a b : TreeAnswer) → IsTreeTextOf space p a → IsTreeTextOf space q b → IsSameTreeAnswer space a b → p ≡ q }
 {}
 
 /// The answer of a tree's text is one result at a configuration.
