@@ -3,6 +3,7 @@ pub mod LinesChoices
 pub mod MergeFaults
 pub mod MergeOrdering
 pub mod OneIntroduction
+pub mod OneShownTree
 pub mod OneTreeText
 pub mod Pieces
 pub mod PrinterChildren

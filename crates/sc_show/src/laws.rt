@@ -5,7 +5,7 @@ ghost use Rattle.sc_base.specs.declared.fault.Fault as base;
 ghost use Rattle.sc_base.specs.declared.id.TreeId.{TreeId};
 ghost use Rattle.sc_model.specs.Fault.{Fault};
 ghost use Rattle.sc_model.specs.Sets.{Sets};
-ghost use Rattle.sc_model.specs.Space.{Space};
+ghost use Rattle.sc_model.specs.Space.{Space, arities_of};
 ghost use Rattle.sc_show.specs.TreeLayout.{IsSameTreeAnswer, IsTreeTextOf};
 ghost use Rattle.sc_show.specs.TreeShows.{IsChoiceOf, ShowsTree};
 ghost use Rattle.sc_show.specs.TreeText.{IsResultAt, ReadsTree, ShownTree, TreeAnswer, choice_part};
@@ -21,6 +21,12 @@ pub fn tree_text_has_one_answer()
 /// are one.
 pub fn tree_result_has_one_text()
     ensures { (space : Space) (p q : List (List ℕ)) (a b : TreeAnswer) → IsTreeTextOf space p a → IsTreeTextOf space q b → IsSameTreeAnswer space a b → p ≡ q }
+{}
+
+/// A tree of a store has one text: two texts that show it with the same faults are one.
+pub fn shown_tree_has_one_text()
+    ensures { (space : Space) (s : Sets) (names files : List (List ℕ)) (store : List Line) (root : Option TreeId) (faults : List base.Fault) (p q : List ℕ) → s.arities ≡ arities_of space
+        → ShowsTree space s names files store root faults p → ShowsTree space s names files store root faults q → p ≡ q }
 {}
 
 /// The answer of a tree's text is one result at a configuration.
