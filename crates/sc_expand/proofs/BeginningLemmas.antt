@@ -1,3 +1,4 @@
+use Rattle.sc_expand.specs.Having.{tokens_in}
 -- What a template that was refused says, and lists of arguments.
 use Rattle.std.proofs.Common.{◌≡◌, ℕ, zero, suc, ◌+◌, ◌<◌, ◌++◌, Bool, true, false, not, if◌then◌else◌, Option, Some, None, Result, Ok, Err, refl, subst, sym, ap, ◌∙◌, List, [], ◌∷◌, map, reverse, length, take, drop, get_or, All, arith, Vec, Global}
 use Rattle.std.proofs.lemmas.List.{drop_more, length-drop, take-append-drop}
@@ -19,7 +20,6 @@ use Rattle.sc_expand.proofs.Parting.{parted_call}
 use Rattle.sc_expand.specs.Arguments.{parted}
 use Rattle.sc_expand.specs.Plain.{IsTemplate, gathered}
 use Rattle.sc_model.specs.Bytes.{same_bytes}
-use Rattle.sc_expand.specs.Called.{tokens_in}
 use Rattle.sc_expand.specs.Beginning.{Begins, IsRefused, IsTemplateOf, token_at, tokens_of, with_argument}
 use Rattle.sc_expand.specs.Taking.{has_first}
 use Rattle.sc_expand.specs.Seen.{AreHeld, IsHeldCall, IsHeldTemplate, IsHeldToken, Stores, seen_at, seen_template, seen_wanted, stores, waiting_at}

@@ -1,5 +1,5 @@
 -- A list as it is given, and what the loop leaves of it, as what it expands to at each configuration.
-use Rattle.std.proofs.Common.{◌≡◌, ℕ, ◌<◌, Bool, true, false, true≢false, List, [], ◌∷◌, All, map, Ok, Err, refl, sym, ap, subst, ◌∙◌, if◌then◌else◌}
+use Rattle.std.proofs.Common.{◌≡◌, ℕ, ◌<◌, Bool, true, false, true≢false, List, [], ◌∷◌, All, drop, map, Ok, Err, refl, sym, ap, subst, ◌∙◌, if◌then◌else◌}
 use Rattle.std.proofs.lemmas.List.Elements.{All-cons, All-head, All-nil, All-tail}
 use Rattle.c11_macros.specs.Expansion.{Expands}
 use Rattle.c11_macros.specs.Macros.{Macros}
@@ -10,7 +10,8 @@ use Rattle.sc_base.specs.declared.token.Token.{Token}
 use Rattle.sc_base.specs.Seen.{IsHeld, seen}
 use Rattle.sc_expand.proofs.Ending.{bared}
 use Rattle.sc_expand.proofs.SeenLemmas.{AreHeld-nil}
-use Rattle.sc_expand.proofs.TextLemmas.{begun, expanded-fault, expanded-list, seen_hidden-begun}
+use Rattle.sc_expand.proofs.TextLemmas.{begun, expanded-fault, expanded-list, seen_hidden-begun, text-defines}
+use Rattle.sc_expand.specs.Alike.{DefineAlike, DefineTextAlike, IsAlikeCall, IsAlikeEnclosing, IsAlikeExpansion}
 use Rattle.sc_expand.specs.Answers.{IsEmpty, IsExpanded, IsHeldAnswer}
 use Rattle.sc_expand.specs.declared.expansion.Expansion.{Expansion}
 use Rattle.sc_expand.specs.Machine.{IsHeldExpansion}
@@ -19,6 +20,7 @@ use Rattle.sc_expand.specs.Running.{IsDone, IsUntouched, PutsOut}
 use Rattle.sc_expand.specs.Seen.{AreHeld, IsHeldCall, IsHeldEnclosing, IsHeldToken, Stores, failures_at, provenance_of, seen_at, seen_failure, stores}
 use Rattle.sc_guarded.specs.declared.expanded.Expanded.{Expanded}
 use Rattle.sc_guarded.specs.Items.{faults_at, items_at}
+use Rattle.sc_hoist.specs.Alike.{AreAlike, AreAlikeFaults, IsAlike}
 use Rattle.sc_model.specs.Sets.{Sets, IsCond, IsConfig, IsNever}
 use Rattle.sc_subst.specs.declared.hidden.Hidden.{Hidden}
 use Rattle.sc_subst.specs.Hides.{set_at}
@@ -147,3 +149,34 @@ answer-some old new live e after answer fresh out list_is =
     let none : All (λ (x : Cond × Hidden). IsNever old.sets x.0.0 → ⊥) e.top.out = subst (All (λ (x : Cond × Hidden). IsNever old.sets x.0.0 → ⊥)) (sym fresh.out) (All-nil (λ (x : Cond × Hidden). IsNever old.sets x.0.0 → ⊥)) in
     subst (All (λ (x : Cond × Token). IsNever new.sets x.0.0 → ⊥)) (sym list_is)
     (All-bared (λ (x : Cond × Token). IsNever new.sets x.0.0 → ⊥) (λ x. IsNever new.sets x.0.0 → ⊥) (λ x some. some) after.top.out (out.some none))
+
+-- ---- alike configurations
+
+-- tables that define the names alike that the tokens of the text look up
+pub source-defines : (s : Sets) (names files : List (List ℕ)) (c : List ℕ) (one other : Macros) (e : Expansion) (list : List (Cond × Token)) → map bared e.top.work ≡ list → All (λ (x : Cond × Hidden). set_at e.sets x.1.hide.0 ≡ []) e.top.work
+    → DefineTextAlike one other (map (seen names files) (items_at s list c)) → DefineAlike (provenance_of files) one other (seen_at (stores s names e.sets) e.top.work c)
+source-defines s names files c one other e list tokens unhidden defines =
+    let source = source-is s names e.sets c e.top.work unhidden ∙ ap (λ l. map (begun names) (items_at s l c)) tokens in
+    subst (DefineAlike (provenance_of files) one other) (sym source) (text-defines names files one other (items_at s list c) defines)
+
+pub started-alike : (s : Sets) (c d : List ℕ) (e : Expansion) (list : List (Cond × Token)) (live : Cond) → IsUntouched e → e.refusals.live ≡ live → map bared e.top.work ≡ list
+    → IsAlike s c d live → AreAlike s c d list → IsAlikeExpansion s c d e
+started-alike s c d e list live fresh live_is tokens both same = record {
+  refusals = record {
+    live = subst (IsAlike s c d) (sym live_is) both;
+    faults = subst (λ fs. AreAlikeFaults s c d (drop 0 fs)) (sym fresh.faults) (All-nil (λ (f : Fault). IsAlike s c d f.cond));
+  };
+  top = record {
+    work = All-given (λ (x : Cond × Token). IsAlike s c d x.0) e.top.work (subst (AreAlike s c d) (sym tokens) same);
+    out = subst (AreAlike s c d) (sym fresh.out) (All-nil (λ (x : Cond × Hidden). IsAlike s c d x.0));
+    calls = subst (All (IsAlikeCall s c d)) (sym fresh.calls) (All-nil (IsAlikeCall s c d));
+  };
+  below = subst (All (IsAlikeEnclosing s c d)) (sym fresh.below) (All-nil (IsAlikeEnclosing s c d));
+}
+
+pub answer-alike : (s : Sets) (c d : List ℕ) (after : Expansion) (answer : Expanded) → answer.list ≡ map bared after.top.out → answer.faults ≡ after.refusals.faults → IsAlikeExpansion s c d after
+    → AreAlike s c d answer.list × AreAlikeFaults s c d answer.faults.items
+answer-alike s c d after answer list_is faults_are alike = (
+  subst (AreAlike s c d) (sym list_is) (All-bared (λ (x : Cond × Token). IsAlike s c d x.0) (λ x. IsAlike s c d x.0) (λ x same. same) after.top.out alike.top.out),
+  subst (λ v. AreAlikeFaults s c d v.items) (sym faults_are) alike.refusals.faults,
+)

@@ -3,15 +3,18 @@ use Rattle.std.proofs.Common.{◌≡◌, ◌&&◌, ◌++◌, ◌∷◌, [], ◌�
 use Rattle.std.proofs.lemmas.List.{append_assoc, append-nil, drop_more, map-append, take_more}
 use Rattle.std.proofs.lemmas.Option.{get_or_from_slice_get, slice_get-map, slice_get_within}
 use Rattle.std.specs.Option.{option_map}
-use Rattle.std.proofs.lemmas.List.Elements.{All-cons, All-head, All-nil, All-tail}
+use Rattle.std.proofs.lemmas.List.Elements.{All-cons, All-head, All-nil, All-tail, All-take}
 use Rattle.c11_macros.specs.Hidden as model
 use Rattle.c11_macros.specs.Hidden.{HideSet}
 use Rattle.c11_macros.specs.Substitution.{argument, hidden_by, hiding, with_space}
 use Rattle.sc_base.specs.declared.id.Cond.{Cond}
 use Rattle.sc_base.specs.declared.id.Name.{Name}
 use Rattle.sc_base.specs.declared.place.Place.{Place}
+use Rattle.sc_expand.proofs.AlikeFilling.{items_at-alike, lists-Keeps}
+use Rattle.sc_expand.proofs.AlikeLemmas.{IsAlike-Keeps}
 use Rattle.sc_guarded.proofs.ItemLemmas.{items_at-append, items_at-Keeps, items_at-take}
 use Rattle.sc_guarded.specs.Items.{items_at}
+use Rattle.sc_hoist.specs.Alike.{AreAlike, IsAlike}
 use Rattle.sc_expand.specs.Seen.{AreHeld, IsHeldPartIn, IsHeldToken, Stores, provenance_of, stores}
 use Rattle.sc_expand.specs.Filling.{expanded_argument, first_spaced_if, part_at, parts_at, spaced}
 use Rattle.sc_model.proofs.SetLemmas.{IsConfig-Keeps, Keeps-refl, Keeps-trans}
@@ -100,6 +103,7 @@ pub record Puts (first now : Sets) (cond left : ℕ) (space : Bool) (list before
   pub left_own : IsCond now left
   pub left_is : (c : List ℕ) → IsConfig first.arities c → now.has left c ≡ (first.has cond c && is_nothing (items_at first (take i list) c))
   pub is : (c : List ℕ) → IsConfig first.arities c → items_at now after c ≡ items_at first before c ++ first_spaced_if (first.has cond c) space (items_at first (take i list) c)
+  pub alike : (c d : List ℕ) → IsConfig first.arities c → IsConfig first.arities d → AreAlike first c d list → first.has cond c ≡ first.has cond d → AreAlike first c d before → AreAlike now c d after
 
 pub puts_none : (s : Sets) (cond : ℕ) (space : Bool) (list before : List (Cond × Hidden)) → IsCond s cond → All (λ (item : Cond × Hidden). IsCond s item.0.0) before → Puts s s cond cond space list before before 0
 puts_none s cond space list before own before_own = record {
@@ -109,6 +113,7 @@ puts_none s cond space list before own before_own = record {
   left_own = own;
   left_is = λ c listed. none (s.has cond c);
   is = λ c listed. nothing (items_at s before c) (s.has cond c);
+  alike = λ c d p q list_alike cond_alike before_alike. before_alike;
 }
   where
     none : (b : Bool) → b ≡ (b && true)
@@ -119,14 +124,22 @@ puts_none s cond space list before own before_own = record {
     nothing ts true = sym (append-nil ts)
     nothing ts false = sym (append-nil ts)
 
+-- configurations that have the same of the list have had a token of it, or none
+puts_left : {first now : Sets} {cond left : ℕ} {space : Bool} {list before after : List (Cond × Hidden)} {i : ℕ} → Puts first now cond left space list before after i → (c d : List ℕ) → IsConfig first.arities c → IsConfig first.arities d
+    → AreAlike first c d list → first.has cond c ≡ first.has cond d → now.has left c ≡ now.has left d
+puts_left {first} {now} {cond} {left} {space} {list} {before} {after} {i} was c d p q list_alike cond_alike =
+    let items = items_at-alike first c d (take i list) (All-take (λ (item : Cond × Hidden). IsAlike first c d item.0) i list list_alike) in
+    was.left_is c p ∙ ((λ j. cond_alike j && is_nothing (items j)) ∙ sym (was.left_is d q))
+
 -- one token more, in what it has in common with the condition
 pub puts_more : (first old new : Sets) (cond left rest met : ℕ) (space : Bool) (list before mid after : List (Cond × Hidden)) (i : ℕ) (x : Cond × Hidden) → Puts first old cond left space list before mid i
     → i < length list → x ≡ get_or list i x → IsCond first x.0.0 → IsCond first cond → Keeps old new → All (λ (item : Cond × Hidden). IsCond new item.0.0) after
     → ((c : List ℕ) → IsConfig old.arities c → (met_at : Bool) → met_at ≡ (old.has x.0.0 c && old.has cond c) → items_at new after c ≡ items_at old mid c ++ (if met_at then (if old.has left c then spaced space x.1 else x.1) ∷ [] else []))
     → ((st : Stores) (files : ℕ) → IsHeldToken st files x.1 → AllHeld st files mid → AllHeld st files after)
     → IsCond new rest → ((c : List ℕ) → IsConfig old.arities c → new.has rest c ≡ (old.has left c && not (old.has x.0.0 c && old.has cond c)))
+    → ((c d : List ℕ) → IsConfig old.arities c → IsConfig old.arities d → old.has left c ≡ old.has left d → (old.has x.0.0 c && old.has cond c) ≡ (old.has x.0.0 d && old.has cond d) → AreAlike old c d mid → AreAlike new c d after)
     → Puts first new cond rest space list before after (i + 1)
-puts_more first old new cond left rest met space list before mid after i x was within is x_own cond_own keeps own put put_held rest_own told = record {
+puts_more first old new cond left rest met space list before mid after i x was within is x_own cond_own keeps own put put_held rest_own told put_alike = record {
   keeps = Keeps-trans was.keeps keeps;
   own = own;
   held = λ st files list_held held.
@@ -152,6 +165,11 @@ puts_more first old new cond left rest met space list before mid after i x was w
       ∙ (ap (λ l. (b ++ first_spaced_if f space ys) ++ (if first.has x.0.0 c && f then (if l then spaced space x.1 else x.1) ∷ [] else [])) (was.left_is c listed)
       ∙ (append_assoc b (first_spaced_if f space ys) (if first.has x.0.0 c && f then (if f && is_nothing ys then spaced space x.1 else x.1) ∷ [] else [])
       ∙ (ap (λ l. b ++ l) (spaced_more f (first.has x.0.0 c) space ys x.1) ∙ ap (λ l. b ++ first_spaced_if f space l) (sym (items_at-take first list i x c within is))))));
+  alike = λ c d p q list_alike cond_alike before_alike.
+      let x_first : IsAlike first c d x.0 = subst (λ (item : Cond × Hidden). IsAlike first c d item.0) (sym is) (list_alike i x within) in
+      let x_alike : IsAlike old c d x.0 = IsAlike-Keeps was.keeps p q {cond = x.0} x_own x_first in
+      let now_alike : old.has cond c ≡ old.has cond d = was.keeps.at cond c cond_own p ∙ (cond_alike ∙ sym (was.keeps.at cond d cond_own q)) in
+      put_alike c d (IsConfig-Keeps was.keeps p) (IsConfig-Keeps was.keeps q) (puts_left was c d p q list_alike cond_alike) (λ j. x_alike j && now_alike j) (was.alike c d p q list_alike cond_alike before_alike);
 }
 
 -- ---- the parts of a template
@@ -178,13 +196,15 @@ pub record Fills (first now : Sets) (expanded : List (List (Cond × Hidden))) (c
   pub own : All (λ (item : Cond × Hidden). IsCond now item.0.0) made
   pub held : (st : Stores) (files : ℕ) → All (IsHeldPartIn st files) parts → All (AllHeld st files) expanded → AllHeld st files made
   pub is : (c : List ℕ) → IsConfig first.arities c → items_at now made c ++ parts_at first expanded (first.has cond c) c (drop i parts) ≡ parts_at first expanded (first.has cond c) c parts
+  pub alike : (c d : List ℕ) → IsConfig first.arities c → IsConfig first.arities d → All (AreAlike first c d) expanded → first.has cond c ≡ first.has cond d → AreAlike now c d made
 
 pub fills_more : (first old new : Sets) (expanded : List (List (Cond × Hidden))) (cond : ℕ) (parts : List Part) (made after : List (Cond × Hidden)) (i : ℕ) (d : Part) → Fills first old expanded cond parts made i
     → i < length parts → Owned first expanded → IsCond first cond → Keeps old new → All (λ (item : Cond × Hidden). IsCond new item.0.0) after
     → ((c : List ℕ) → IsConfig old.arities c → items_at new after c ≡ items_at old made c ++ part_at old expanded (old.has cond c) c (get_or parts i d))
     → ((st : Stores) (files : ℕ) → IsHeldPartIn st files (get_or parts i d) → All (AllHeld st files) expanded → AllHeld st files made → AllHeld st files after)
+    → ((c d : List ℕ) → IsConfig old.arities c → IsConfig old.arities d → All (AreAlike old c d) expanded → old.has cond c ≡ old.has cond d → AreAlike old c d made → AreAlike new c d after)
     → Fills first new expanded cond parts after (i + 1)
-fills_more first old new expanded cond parts made after i d was within own cond_own keeps after_own put put_held = record {
+fills_more first old new expanded cond parts made after i d was within own cond_own keeps after_own put put_held put_alike = record {
   keeps = Keeps-trans was.keeps keeps;
   own = after_own;
   held = λ st files parts_held expanded_held. put_held st files (parts_held i d within) expanded_held (was.held st files parts_held expanded_held);
@@ -196,6 +216,9 @@ fills_more first old new expanded cond parts made after i d was within own cond_
       ∙ (ap (λ l. (items_at old made c ++ l) ++ rest) (part_at-Keeps first old expanded cond c p was.keeps own cond_own listed)
       ∙ (append_assoc (items_at old made c) (part_at first expanded f c p) rest
       ∙ (ap (λ ps. items_at old made c ++ parts_at first expanded f c ps) (sym (drop_more parts i d within)) ∙ was.is c listed)));
+  alike = λ c e p q expanded_alike cond_alike.
+      let now_alike : old.has cond c ≡ old.has cond e = was.keeps.at cond c cond_own p ∙ (cond_alike ∙ sym (was.keeps.at cond e cond_own q)) in
+      put_alike c e (IsConfig-Keeps was.keeps p) (IsConfig-Keeps was.keeps q) (lists-Keeps was.keeps p q expanded own expanded_alike) now_alike (was.alike c e p q expanded_alike cond_alike);
 }
 
 -- ---- lists made item by item

@@ -1,6 +1,7 @@
 -- The calls of branches leave their list one after the other.
 use Rattle.std.proofs.Common.{◌≡◌, ℕ, zero, suc, ◌+◌, ◌<◌, ◌≤◌, Bool, true, false, List, [], ◌∷◌, ◌++◌, All, map, take, drop, length, get_or, IsTrue, refl, sym, ap, subst, ◌∙◌, arith, append-nil, if◌then◌else◌}
-use Rattle.std.proofs.lemmas.List.{length-append, take_more}
+use Rattle.std.proofs.lemmas.List.{get_or-take, length-append, length-take, take_more}
+use Rattle.std.proofs.lemmas.List.Elements.{All-cons, All-nil}
 use Rattle.c11_macros.specs.Defines.{is_function_like}
 use Rattle.c11_macros.specs.Expansion.{is_looked_up}
 use Rattle.c11_macros.specs.Hidden as model
@@ -8,18 +9,21 @@ use Rattle.c11_macros.specs.Hidden.{Provenance}
 use Rattle.c11_macros.specs.Macros.{Definition, Macros}
 use Rattle.sc_base.specs.declared.id.Cond.{Cond}
 use Rattle.sc_base.specs.declared.place.Place.{Place}
+use Rattle.sc_expand.proofs.AlikeGathering.{each-behind, places-same}
+use Rattle.sc_expand.proofs.AlikeLemmas.{IsAlike-Keeps}
 use Rattle.sc_expand.proofs.BeginningLemmas.{same_conds}
 use Rattle.sc_expand.proofs.GatherPlaces.{spelled-behind}
 use Rattle.sc_expand.proofs.TakingSteps.{seen-first}
-use Rattle.sc_expand.specs.Called.{AreGathered, IsBranch, IsCalled, IsMacro, tokens_in}
+use Rattle.sc_expand.specs.Called.{AreGathered, IsBranch, IsCalled, IsMacro}
 use Rattle.sc_expand.specs.declared.expansion.Expansion.{Expansion}
 use Rattle.sc_expand.specs.Gather.{Gathers}
-use Rattle.sc_expand.specs.Having.{has_each}
+use Rattle.sc_expand.specs.Having.{has_each, tokens_in}
 use Rattle.sc_expand.specs.Machine.{at}
 use Rattle.sc_expand.specs.Seen.{Grows, Stores, seen_at}
 use Rattle.sc_expand.specs.Taking.{has_first}
 use Rattle.sc_expand.specs.Turn.{At}
 use Rattle.sc_hoist.proofs.BranchLemmas.{lists_at-append}
+use Rattle.sc_hoist.specs.Alike.{IsAlike}
 use Rattle.sc_hoist.specs.Branches.{lists_at}
 use Rattle.sc_hoist.specs.Calls.{call_end, call_length, spelled_at}
 use Rattle.sc_hoist.specs.declared.branch.Branch.{Branch}
@@ -72,23 +76,6 @@ first-of-each s t [] (y ∷ ys) c is = absurd (cc)
 first-of-each s t (x ∷ xs) [] c is = absurd (cc)
 first-of-each s t (x ∷ xs) (y ∷ ys) c is = cc
 
-each-behind : (s t : Sets) (xs ys : List (Cond × Hidden)) (c : List ℕ) → has_each s xs c ≡ has_each t ys c → has_each s (drop 1 xs) c ≡ has_each t (drop 1 ys) c
-each-behind s t [] [] c is = refl
-each-behind s t [] (y ∷ ys) c is = absurd (cc)
-each-behind s t (x ∷ xs) [] c is = absurd (cc)
-each-behind s t (x ∷ xs) (y ∷ ys) c is = cc
-
-places-same : (s t : Sets) (n : ℕ) (xs ys : List (Cond × Hidden)) (c : List ℕ) → has_each s xs c ≡ has_each t ys c
-    → places_from s n (map (λ (x : Cond × Hidden). x.0) xs) c ≡ places_from t n (map (λ (x : Cond × Hidden). x.0) ys) c
-places-same s t n [] [] c is = refl
-places-same s t n [] (y ∷ ys) c is = absurd (cc)
-places-same s t n (x ∷ xs) [] c is = absurd (cc)
-places-same s t n (x ∷ xs) (y ∷ ys) c is =
-    let first : s.has x.0.0 c ≡ t.has y.0.0 c = cc in
-    let rest : has_each s xs c ≡ has_each t ys c = cc in
-    let more = places-same s t (n + 1) xs ys c rest in
-    λ i. if first i then n ∷ more i else more i
-
 seen-whole : (st : Stores) (list : List (Cond × Hidden)) (c : List ℕ) → has_first st.sets list c ≡ true → (t : model.Hidden Place) × (seen_at st list c ≡ t ∷ seen_at st (drop 1 list) c)
 seen-whole st [] c has = absurd (cc)
 seen-whole st (x ∷ xs) c has =
@@ -107,7 +94,7 @@ module _ (old new : Stores) (e0 e1 : Expansion) (c : List ℕ) (same : at new e1
   called-later places is =
       let spelled = spelled-same is.stands in
       let from = ap (λ cs. places_from new.sets 1 cs c) (same_conds e1.top.work)
-      ∙ (places-same new.sets old.sets 1 (drop 1 e1.top.work) (drop 1 e0.top.work) c (each-behind new.sets old.sets e1.top.work e0.top.work c each) ∙ sym (ap (λ cs. places_from old.sets 1 cs c) (same_conds e0.top.work))) in
+      ∙ (places-same new.sets old.sets c c 1 (drop 1 e1.top.work) (drop 1 e0.top.work) (each-behind new.sets old.sets c c e1.top.work e0.top.work each) ∙ sym (ap (λ cs. places_from old.sets 1 cs c) (same_conds e0.top.work))) in
       record {
         stands = first-of-each new.sets old.sets e1.top.work e0.top.work c each ∙ is.stands;
         stand_at = is.stand_at ∙ sym (λ i. 0 ∷ take (call_length (spelled i)) (from i));
@@ -204,6 +191,16 @@ module _ {old mid : Stores} (grows : Grows old mid) (form : declared_form.Form) 
         gathers = λ c place provenance macros d rest listed lists work is. gathers-next c listed (old.sets.has b.cond.0 c) refl place provenance macros d rest lists work is;
         first = λ c place listed lists. first-next c listed (old.sets.has b.cond.0 c) refl place lists;
         others = λ c listed none. others-next c listed (old.sets.has b.cond.0 c) refl none;
+        alike = λ c d span at_c at_d same was.
+            let P : Branch → Type 0 = λ x. IsAlike old.sets c d x.cond in
+            let before : All P (take i bs) = λ k z h. (
+            let low : k < i = omega (arith, h, length-take i bs) in
+            let here = same k z (omega (arith, low, within, length-take (i + 1) bs)) in
+            subst P (get_or-take (i + 1) bs k z (omega (arith, low)) ∙ sym (get_or-take i bs k z low)) here) in
+            let last : P b = subst P (get_or-take (i + 1) bs i b (omega arith) ∙ sym is_next) (same i b (omega (arith, within, length-take (i + 1) bs))) in
+            let next = IsAlike-Keeps grows.sets at_c at_d own last in
+            more.alike c d span (later c at_c) (later d at_d) (All-cons (λ (x : Branch). IsAlike mid.sets c d x.cond) b [] next (All-nil (λ (x : Branch). IsAlike mid.sets c d x.cond)))
+            (done.alike c d span at_c at_d before was);
       }
 
 -- no call was taken out yet
@@ -212,6 +209,7 @@ gathered-none st e form items head = record {
   gathers = λ c place provenance macros d rest listed lists work is. absurd (none place lists);
   first = λ c place listed lists. absurd (none place lists);
   others = λ c listed lists. (refl, refl);
+  alike = λ c d span at_c at_d same was. was;
 }
   where
     none : (place : List ℕ) → (let nothing : List (List ℕ) = [] in nothing) ≡ place ∷ [] → ⊥

@@ -14,11 +14,11 @@ use Rattle.sc_expand.proofs.GatherCases.{case-still, case-uncalled-alone, case-u
 use Rattle.sc_expand.proofs.GatherPlaces.{spelled-behind}
 use Rattle.sc_expand.proofs.GatherTaking.{function-form, rest-is}
 use Rattle.sc_expand.proofs.TakingSteps.{state-scanning}
-use Rattle.sc_expand.specs.Called.{AreGathered, IsMacro, tokens_in}
+use Rattle.sc_expand.specs.Called.{AreGathered, IsMacro}
 use Rattle.sc_expand.specs.declared.expansion.Expansion.{Expansion}
 use Rattle.sc_expand.specs.Gather as gathers
 use Rattle.sc_expand.specs.Gather.{Gathers}
-use Rattle.sc_expand.specs.Having.{has_each}
+use Rattle.sc_expand.specs.Having.{has_each, tokens_in}
 use Rattle.sc_expand.specs.Machine.{at}
 use Rattle.sc_expand.specs.Plain.{Fails, open_call}
 use Rattle.sc_expand.specs.Seen.{Stores, seen_at}
@@ -110,10 +110,10 @@ module _ (old mid now new : Stores) (e0 e1 e2 : Expansion) (branches : List Bran
       let other = done.others c listed (is.lists ∙ ap (λ b. if b then place ∷ [] else []) none) in
       (is.last ∙ other.0, is.last_each ∙ (other.1 ∙ is.each))
 
-  pub ended-other : (end : CallEnd) → Ended false end → ((at new e2 c ≡ at old e0 c) × (uncalled ≡ false)) × (has_first new.sets e2.top.work c ≡ has_first old.sets e0.top.work c)
+  pub ended-other : (end : CallEnd) → Ended false end → ((at new e2 c ≡ at old e0 c) × (uncalled ≡ false)) × (has_each new.sets e2.top.work c ≡ has_each old.sets e0.top.work c)
   ended-other end is =
       let same = untaken false end is refl in
-      ((same.0 ∙ is.other is.refused_is, is.uncalled_is), first-of-each new.sets old.sets e2.top.work e0.top.work c same.1)
+      ((same.0 ∙ is.other is.refused_is, is.uncalled_is), same.1)
 
   pub ended-first : (end : CallEnd) → Ended true end → has_first old.sets e0.top.work c ≡ true → (at new e2 c).live ≡ true → has_first new.sets e2.top.work c ≡ uncalled
   ended-first closed is stands live = first-of-each new.sets now.sets e2.top.work e2.top.work c is.last_each ∙ (done.first c place listed is.lists ∙ sym is.uncalled_is)

@@ -1,5 +1,5 @@
 -- The parts of the configurations of a name, by how its call goes on.
-use Rattle.std.proofs.Common.{◌≡◌, ℕ, ◌≤◌, ◌&&◌, ◌||◌, not, Bool, true, false, List, [], ◌∷◌, ◌++◌, All, length, get_or, sym, ap, subst, ◌∙◌, arith, if◌then◌else◌, map, Some, IsTrue}
+use Rattle.std.proofs.Common.{◌≡◌, ℕ, ◌≤◌, ◌&&◌, ◌||◌, not, Bool, true, false, List, [], ◌∷◌, ◌++◌, All, length, get_or, refl, sym, ap, subst, ◌<◌, true≢false, ◌∙◌, arith, if◌then◌else◌, map, Some, IsTrue}
 use Rattle.c11_macros.specs.Defines.{is_function_like}
 use Rattle.c11_macros.specs.Expansion.{is_looked_up}
 use Rattle.c11_macros.specs.Hidden as model
@@ -8,13 +8,17 @@ use Rattle.c11_macros.specs.Macros.{Macros, list_at}
 use Rattle.sc_base.proofs.Growth.{Extends-refl}
 use Rattle.sc_base.specs.declared.fault.Fault.{Fault}
 use Rattle.sc_base.specs.declared.place.Place.{Place}
+use Rattle.sc_expand.proofs.AlikeGathering.{each-same-call, refused-alike}
+use Rattle.sc_expand.proofs.AlikeLemmas.{IsAlike-Keeps, IsAlikeIn-Keeps}
 use Rattle.sc_expand.proofs.GatherBranches.{called-later, spelled-same}
 use Rattle.sc_expand.proofs.GatherEnds.{Ending, both, end-behind, end-is, ended-first, ended-gathers, ended-other, macro-is}
 use Rattle.sc_expand.proofs.GatherSteps.{refused-failures, refused-live, refused-other}
 use Rattle.sc_expand.proofs.SeenLemmas.{Grows-trans, IsHeldExpansion-Grows, at-Grows}
 use Rattle.sc_expand.proofs.TakingSteps.{has_first-Keeps}
 use Rattle.sc_expand.proofs.WorkListLemmas.{has_each-Keeps}
-use Rattle.sc_expand.specs.Called.{AreGathered, IsBranch, IsCalled, tokens_in}
+use Rattle.sc_expand.specs.Called.{AreGathered, IsBranch, IsCalled}
+use Rattle.sc_expand.specs.Alike.{AreAlikeRefusals, IsAlikeIn, IsSameCall, Span}
+use Rattle.sc_expand.specs.Having.{has_each, tokens_in}
 use Rattle.sc_expand.specs.Gather.{Gathers}
 use Rattle.sc_expand.specs.declared.expansion.Expansion.{Expansion}
 use Rattle.sc_expand.specs.declared.refusals.Refusals.{Refusals}
@@ -24,8 +28,10 @@ use Rattle.sc_expand.specs.Taking.{has_first}
 use Rattle.sc_expand.specs.Turn.{At}
 use Rattle.sc_hoist.proofs.BranchLemmas.{lists_at-Keeps}
 use Rattle.sc_hoist.proofs.PartLemmas.{one_list}
+use Rattle.sc_hoist.specs.Alike.{IsAlike}
 use Rattle.sc_hoist.specs.Branches.{AreBranches, lists_at}
-use Rattle.sc_hoist.specs.Calls.{alone, bare, call_end, call_end_at, call_places, closed, is_end, still}
+use Rattle.sc_hoist.specs.Leaves.{Agree}
+use Rattle.sc_hoist.specs.Calls.{CallEnd, alone, bare, call_end, call_end_at, call_places, closed, is_end, still}
 use Rattle.sc_hoist.specs.declared.branch.Branch.{Branch}
 use Rattle.sc_base.specs.Seen.{seen_place}
 use Rattle.sc_macro.specs.declared.definition.Definition as declared_definition
@@ -53,6 +59,16 @@ pub record Parted (s0 s1 s2 s3 : Sets) (names later : List (List ℕ)) (files : 
   pub live : Denotes s3 r.live.0 (λ c. s2.has e.refusals.live.0 c && not (s2.has stays_open c))
   pub failures : (c : List ℕ) → IsConfig s2.arities c → All (λ (f : Fault). IsCond s2 f.cond.0) e.refusals.faults.items
       → failures_at s3 r.faults.items c ≡ failures_at s2 e.refusals.faults.items c ++ (if s2.has stays_open c then failure ∷ [] else [])
+  pub agree : (c d : List ℕ) → IsConfig s1.arities c → IsConfig s1.arities d → s1.has closes c ≡ s1.has closes d
+      → call_places s1 names (tokens_in e.top.work) 0 c ≡ call_places s1 names (tokens_in e.top.work) 0 d → Agree s2 branches c d
+  pub alike : (c d : List ℕ) (others : ℕ) → IsConfig s2.arities c → IsConfig s2.arities d → All (λ (f : Fault). IsCond s2 f.cond.0) e.refusals.faults.items
+      → s2.has stays_open c ≡ s2.has stays_open d → AreAlikeRefusals s2 c d others e.refusals → AreAlikeRefusals s3 c d others r
+
+part-same : (end one two : CallEnd) (has had : Bool) → has ≡ had → (has ≡ true → one ≡ two) → (has && is_end end one) ≡ (had && is_end end two)
+part-same end one two true true is same = ap (is_end end) (same refl)
+part-same end one two true false is same = absurd (cc)
+part-same end one two false true is same = absurd (cc)
+part-same end one two false false is same = refl
 
 module _ {s0 s1 s2 s3 : Sets} {names later : List (List ℕ)} {files : ℕ} {e : Expansion} {r : Refusals} {cond closes stays_open : ℕ} {branches : List Branch} {failure : Failure Place}
     (parts : Parted s0 s1 s2 s3 names later files e r cond closes stays_open branches failure) where
@@ -143,6 +159,52 @@ module _ {s0 s1 s2 s3 : Sets} {names later : List (List ℕ)} {files : ℕ} {e :
           branch-called c (get_or branches k d).places.items listed1 list.0 list.1;
     }
 
+  -- ---- two configurations
+
+  lacking : (c : List ℕ) → IsConfig s1.arities c → s1.has closes c ≡ false → (k : ℕ) (x : Branch) → k < length branches → s2.has (get_or branches k x).cond.0 c ≡ false
+  lacking c listed none k x h = by (s2.has (get_or branches k x).cond.0 c) refl
+    where
+      by : (b : Bool) → s2.has (get_or branches k x).cond.0 c ≡ b → b ≡ false
+      by true is = absurd (true≢false (sym (one_list s2 branches c (s1.has closes c) (call_places s1 names (tokens_in e.top.work) 0 c) (parts.lists c listed) k x h is).0 ∙ none))
+      by false is = refl
+
+  -- both have the name and its call, or neither has the name
+  module _ (c d : List ℕ) (at_c : IsConfig s0.arities c) (at_d : IsConfig s0.arities d) (same : s0.has cond c ≡ s0.has cond d) (call : s0.has cond c ≡ true → IsSameCall s0 names c d e.top.work) where
+    pub end-alike : (end : CallEnd) → (s0.has cond c && is_end end (call_end_at s0 names (tokens_in e.top.work) 0 c)) ≡ (s0.has cond d && is_end end (call_end_at s0 names (tokens_in e.top.work) 0 d))
+    end-alike end = part-same end (call_end_at s0 names (tokens_in e.top.work) 0 c) (call_end_at s0 names (tokens_in e.top.work) 0 d) (s0.has cond c) (s0.has cond d) same (λ has. (call has).ends)
+
+    c1 : IsConfig s1.arities c
+    c1 = IsConfig-Keeps parts.first at_c
+
+    d1 : IsConfig s1.arities d
+    d1 = IsConfig-Keeps parts.first at_d
+
+    c2 : IsConfig s2.arities c
+    c2 = IsConfig-Keeps parts.second c1
+
+    d2 : IsConfig s2.arities d
+    d2 = IsConfig-Keeps parts.second d1
+
+    closes-alike : s1.has closes c ≡ s1.has closes d
+    closes-alike = parts.closed_is.at c c1 ∙ (end-alike closed ∙ sym (parts.closed_is.at d d1))
+
+    branches-alike : (has : Bool) → s1.has closes c ≡ has → All (λ (b : Branch). IsAlike s2 c d b.cond) branches
+    branches-alike true is =
+        let own = parts.held.top.work.own in
+        let two = both (s0.has cond c) (is_end closed (call_end_at s0 names (tokens_in e.top.work) 0 c)) (sym (parts.closed_is.at c c1) ∙ is) in
+        let later : IsSameCall s1 names c d e.top.work = each-same-call e.top.work e.top.work g01 parts.held.top.work refl (has_each-Keeps e.top.work c parts.first own at_c) (has_each-Keeps e.top.work d parts.first own at_d) (call two.0) in
+        (parts.agree c d c1 d1 closes-alike later.places).each
+    branches-alike false is = λ k x h. lacking c c1 is k x h ∙ sym (lacking d d1 (sym closes-alike ∙ is) k x h)
+
+    pub each-branch : All (λ (b : Branch). IsAlike s3 c d b.cond) branches
+    each-branch = λ k x h. IsAlike-Keeps parts.third c2 d2 (parts.are.own k x h) (branches-alike (s1.has closes c) refl k x h)
+
+    pub parted-alike : (span : Span) → IsAlikeIn s0 c d span e → IsAlikeIn s3 c d span refused
+    parted-alike span alike =
+        let opens = parts.open_is.at c c1 ∙ (end-alike still ∙ sym (parts.open_is.at d d1)) in
+        let later = parts.second.at stays_open c parts.open_is.own c1 ∙ (opens ∙ sym (parts.second.at stays_open d parts.open_is.own d1)) in
+        refused-alike parts.third e r stays_open held2 parts.alike c d span c2 d2 later (IsAlikeIn-Keeps (Keeps-trans parts.first parts.second) at_c at_d span e parts.held alike)
+
   -- ---- the end
 
   ending-at : (s4 s5 : Sets) (last_names : List (List ℕ)) (e2 : Expansion) (uncalled : ℕ) → Keeps s3 s4 → Keeps s4 s5 → IsHeldExpansion (stores s4 last_names e2.sets) files e2
@@ -201,8 +263,12 @@ pub parted-by : (s0 s1 s2 s3 : Sets) (names later : List (List ℕ)) (files : �
     → Denotes s3 r.live.0 (λ c. s2.has e.refusals.live.0 c && not (s2.has stays_open c))
     → ((c : List ℕ) → IsConfig s2.arities c → All (λ (f : Fault). IsCond s2 f.cond.0) e.refusals.faults.items
     → failures_at s3 r.faults.items c ≡ failures_at s2 e.refusals.faults.items c ++ (if s2.has stays_open c then failure ∷ [] else []))
+    → ((c d : List ℕ) → IsConfig s1.arities c → IsConfig s1.arities d → s1.has closes c ≡ s1.has closes d
+    → call_places s1 names (tokens_in e.top.work) 0 c ≡ call_places s1 names (tokens_in e.top.work) 0 d → Agree s2 found c d)
+    → ((c d : List ℕ) (others : ℕ) → IsConfig s2.arities c → IsConfig s2.arities d → All (λ (f : Fault). IsCond s2 f.cond.0) e.refusals.faults.items
+    → s2.has stays_open c ≡ s2.has stays_open d → AreAlikeRefusals s2 c d others e.refusals → AreAlikeRefusals s3 c d others r)
     → Parted s0 s1 s2 s3 names later files e r cond closes stays_open branches failure
-parted-by s0 s1 s2 s3 names later files e r cond closes stays_open found branches failure value first second third longer held closed_is open_is lists are live failures = record {
+parted-by s0 s1 s2 s3 names later files e r cond closes stays_open found branches failure value first second third longer held closed_is open_is lists are live failures agree alike = record {
   first = first;
   second = second;
   third = third;
@@ -214,6 +280,8 @@ parted-by s0 s1 s2 s3 names later files e r cond closes stays_open found branche
   are = subst (AreBranches s2) (sym value) are;
   live = live;
   failures = failures;
+  agree = λ c d at_c at_d same placed. subst (λ bs. Agree s2 bs c d) (sym value) (agree c d at_c at_d same placed);
+  alike = alike;
 }
 
 -- what gathering comes to, whatever the configuration
@@ -223,8 +291,10 @@ pub record IsGathered (s0 s5 : Sets) (names last : List (List ℕ)) (files : Lis
       → macros (text_of names head.token.spelling) ≡ Some (seen_definition names definition)
       → Gathers (provenance_of files) macros (seen_hidden names e0.sets head) rest (at (stores s0 names e0.sets) e0 c) (at (stores s5 last e4.sets) e4 c) (s5.has uncalled c)
   pub others : (c : List ℕ) → IsConfig s0.arities c → s0.has cond c ≡ false
-      → ((at (stores s5 last e4.sets) e4 c ≡ at (stores s0 names e0.sets) e0 c) × (s5.has uncalled c ≡ false)) × (has_first s5 e4.top.work c ≡ has_first s0 e0.top.work c)
+      → ((at (stores s5 last e4.sets) e4 c ≡ at (stores s0 names e0.sets) e0 c) × (s5.has uncalled c ≡ false)) × (has_each s5 e4.top.work c ≡ has_each s0 e0.top.work c)
   pub first : (c : List ℕ) → IsConfig s0.arities c → s0.has cond c ≡ true → s5.has e4.refusals.live.0 c ≡ true → has_first s5 e4.top.work c ≡ s5.has uncalled c
+  pub alike : (c d : List ℕ) (span : Span) → IsConfig s0.arities c → IsConfig s0.arities d → s0.has cond c ≡ s0.has cond d → (s0.has cond c ≡ true → IsSameCall s0 names c d e0.top.work)
+      → IsAlikeIn s0 c d span e0 → IsAlikeIn s5 c d span e4 × (s5.has uncalled c ≡ s5.has uncalled d)
 
 module _ {s0 s1 s2 s3 : Sets} {names later : List (List ℕ)} {e : Expansion} {r : Refusals} {cond closes stays_open : ℕ} {branches : List Branch} (files : List (List ℕ)) (head : Hidden)
     (parts : Parted s0 s1 s2 s3 names later (length files) e r cond closes stays_open branches (failure_at UnterminatedCall (seen_hidden names e.sets head)))
@@ -235,12 +305,15 @@ module _ {s0 s1 s2 s3 : Sets} {names later : List (List ℕ)} {e : Expansion} {r
     (bare_is : Denotes s1 bares (λ c. s0.has cond c && is_end bare (call_end_at s0 names (tokens_in e.top.work) 0 c))) (alone_is : Denotes s1 alones (λ c. s0.has cond c && is_end alone (call_end_at s0 names (tokens_in e.top.work) 0 c)))
     (meaning : (f g : List ℕ → Bool) → Denotes s4 bares f → Denotes s4 alones g → Denotes s5 uncalled (λ c. f c || g c))
     (done : AreGathered (stores s3 later e.sets) (stores s4 last e4.sets) (record e { refusals = r }) e4 definition.form items head branches) where
+  uncalled_is : Denotes s5 uncalled (λ c. (s0.has cond c && is_end bare (call_end_at s0 names (tokens_in e.top.work) 0 c)) || (s0.has cond c && is_end alone (call_end_at s0 names (tokens_in e.top.work) 0 c)))
+  uncalled_is =
+      let mid = Keeps-trans parts.second (Keeps-trans parts.third fourth) in
+      meaning _ _ (Denotes-Keeps mid bare_is) (Denotes-Keeps mid alone_is)
+
   ended : (c : List ℕ) → IsConfig s0.arities c → (has : Bool) → s0.has cond c ≡ has
       → Ending (stores s0 names e.sets) (stores s3 later e.sets) (stores s4 last e4.sets) (stores s5 last e4.sets) e (record e { refusals = r }) e4 branches (failure_at UnterminatedCall (seen_hidden names e.sets head)) c
       (call_places s1 names (tokens_in e.top.work) 0 c) (s2.has stays_open c) (s5.has uncalled c) has (call_end_at s0 names (tokens_in e.top.work) 0 c)
-  ended =
-      let mid = Keeps-trans parts.second (Keeps-trans parts.third fourth) in
-      ending parts s4 s5 last e4 uncalled fourth fifth held4 (meaning _ _ (Denotes-Keeps mid bare_is) (Denotes-Keeps mid alone_is))
+  ended = ending parts s4 s5 last e4 uncalled fourth fifth held4 uncalled_is
 
   pub is-gathered : IsGathered s0 s5 names last files e e4 cond uncalled definition head
   is-gathered = record {
@@ -258,4 +331,15 @@ module _ {s0 s1 s2 s3 : Sets} {names later : List (List ℕ)} {e : Expansion} {r
     first = λ c listed has live.
         ended-first (stores s0 names e.sets) (stores s3 later e.sets) (stores s4 last e4.sets) (stores s5 last e4.sets) e (record e { refusals = r }) e4 branches definition.form items head c (call_places s1 names (tokens_in e.top.work) 0 c)
         (s2.has stays_open c) (s5.has uncalled c) (parted-config parts c listed) done (call_end_at s0 names (tokens_in e.top.work) 0 c) (ended c listed true has) (stands c listed has) live;
+    alike = λ c d span at_c at_d same call was.
+        let c3 = parted-config parts c at_c in
+        let d3 = parted-config parts d at_d in
+        let c4 = IsConfig-Keeps fourth c3 in
+        let d4 = IsConfig-Keeps fourth d3 in
+        let kept = done.alike c d span c3 d3 (each-branch parts c d at_c at_d same call) (parted-alike parts c d at_c at_d same call span was) in
+        let bares = end-alike parts c d at_c at_d same call bare in
+        let alones = end-alike parts c d at_c at_d same call alone in (
+          IsAlikeIn-Keeps fifth c4 d4 span e4 held4 kept,
+          uncalled_is.at c (IsConfig-Keeps fifth c4) ∙ ((λ i. bares i || alones i) ∙ sym (uncalled_is.at d (IsConfig-Keeps fifth d4))),
+        );
   }

@@ -13,7 +13,8 @@ use Rattle.sc_base.specs.Seen.{text_at}
 use Rattle.sc_expand.proofs.BeginningLemmas.{behind_place, call_tokens, map_of_take, same_conds}
 use Rattle.sc_expand.proofs.GatherCases.{Closed, closed-call, spellings}
 use Rattle.sc_expand.specs.Beginning.{token_at}
-use Rattle.sc_expand.specs.Called.{IsBranch, IsCall, IsCalled, tokens_in}
+use Rattle.sc_expand.specs.Called.{IsBranch, IsCall, IsCalled}
+use Rattle.sc_expand.specs.Having.{tokens_in}
 use Rattle.sc_expand.specs.declared.expansion.Expansion.{Expansion}
 use Rattle.sc_expand.specs.Seen.{Stores, seen_at, stores}
 use Rattle.sc_expand.specs.Taking.{has_first}

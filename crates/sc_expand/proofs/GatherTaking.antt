@@ -12,10 +12,12 @@ use Rattle.sc_base.proofs.Growth.{Extends-refl, Extends-trans}
 use Rattle.sc_base.specs.declared.id.Cond.{Cond}
 use Rattle.sc_base.specs.declared.id.Name.{Name}
 use Rattle.sc_base.specs.declared.place.Place.{Place}
+use Rattle.sc_expand.proofs.AlikeLemmas.{IsAlike-Keeps}
 use Rattle.sc_expand.proofs.GatherCases.{case-closed}
 use Rattle.sc_expand.proofs.SeenLemmas.{IsHeldExpansion-Grows, at-Grows}
 use Rattle.sc_expand.proofs.TakingSteps.{has_first-Keeps, seen-first, state-scanning}
 use Rattle.sc_expand.proofs.WorkListLemmas.{has_each-Keeps}
+use Rattle.sc_expand.specs.Alike.{IsAlikeIn, Span}
 use Rattle.sc_expand.specs.Arguments.{parted}
 use Rattle.sc_expand.specs.Called.{AreGathered, Begins, IsBranch, IsCall, IsMacro, refused, waits}
 use Rattle.sc_expand.specs.declared.expansion.Expansion.{Expansion}
@@ -27,6 +29,7 @@ use Rattle.sc_expand.specs.Plain.{Fails, bad_stringize, gathered, miscounted}
 use Rattle.sc_expand.specs.Seen.{AreHeld, Grows, IsHeldEnclosing, IsHeldFrame, IsHeldRefusals, Stores, failures_at, seen_at, stores, view_at}
 use Rattle.sc_expand.specs.Taking.{has_first}
 use Rattle.sc_expand.specs.Turn.{At}
+use Rattle.sc_hoist.specs.Alike.{IsAlike}
 use Rattle.sc_hoist.specs.Branches.{lists_at}
 use Rattle.sc_hoist.specs.declared.branch.Branch.{Branch}
 use Rattle.sc_macro.specs.declared.definition.Item as declared_item
@@ -45,6 +48,10 @@ use Rattle.sc_subst.specs.Seen.{IsHeldHidden, seen_hidden}
 pub three-on-ok : {A E P Q R S : Type 0} (r : Result A E) → (P → Q → R → S) → OnOk r P → OnOk r Q → OnOk r R → OnOk r S
 three-on-ok (Ok a) f p q x = f p q x
 three-on-ok (Err e) f p q x = tt
+
+pub four-on-ok : {A E P Q R S T : Type 0} (r : Result A E) → (P → Q → R → S → T) → OnOk r P → OnOk r Q → OnOk r R → OnOk r S → OnOk r T
+four-on-ok (Ok a) f p q x y = f p q x y
+four-on-ok (Err e) f p q x y = tt
 
 -- ---- one configuration
 
@@ -133,6 +140,7 @@ pub record HasLeft (s0 s1 : Sets) (names : List (List ℕ)) (e0 e1 : Expansion) 
   pub others : (c : List ℕ) → IsConfig s0.arities c → s0.has branch.cond.0 c ≡ false
       → (seen_at (stores s1 names e1.sets) e1.top.work c ≡ seen_at (stores s0 names e0.sets) e0.top.work c) × (has_each s1 e1.top.work c ≡ has_each s0 e0.top.work c)
   pub first : (c : List ℕ) → IsConfig s0.arities c → s0.has branch.cond.0 c ≡ true → has_first s1 e1.top.work c ≡ false
+  pub alike : (c d : List ℕ) (span : Span) → IsConfig s0.arities c → IsConfig s0.arities d → IsAlike s0 c d branch.cond → IsAlikeIn s0 c d span e0 → IsAlikeIn s1 c d span e1
 
 pub left-by : (s0 s1 : Sets) (names : List (List ℕ)) (e0 e1 : Expansion) (branch : Branch) (between : List Hidden) (close : Hidden) → Keeps s0 s1 → e1.sets ≡ e0.sets → e1.top ≡ record e0.top { work = e1.top.work }
     → e1.refusals ≡ e0.refusals → e1.below ≡ e0.below
@@ -140,9 +148,10 @@ pub left-by : (s0 s1 : Sets) (names : List (List ℕ)) (e0 e1 : Expansion) (bran
     → IsCall (seen_at (stores s0 names e0.sets) (drop 1 e0.top.work) c) (seen_list names e0.sets between) (seen_hidden names e0.sets close) (seen_at (stores s1 names e1.sets) e1.top.work c))
     → ((c : List ℕ) → IsConfig s0.arities c → s0.has branch.cond.0 c ≡ false
     → (seen_at (stores s1 names e1.sets) e1.top.work c ≡ seen_at (stores s0 names e0.sets) e0.top.work c) × (has_each s1 e1.top.work c ≡ has_each s0 e0.top.work c))
-    → ((c : List ℕ) → IsConfig s0.arities c → s0.has branch.cond.0 c ≡ true → has_first s1 e1.top.work c ≡ false) → HasLeft s0 s1 names e0 e1 branch between close
-left-by s0 s1 names e0 e1 branch between close keeps sets top refusals below call others first =
-    record { keeps = keeps; sets = sets; top = top; refusals = refusals; below = below; call = call; others = others; first = first }
+    → ((c : List ℕ) → IsConfig s0.arities c → s0.has branch.cond.0 c ≡ true → has_first s1 e1.top.work c ≡ false)
+    → ((c d : List ℕ) (span : Span) → IsConfig s0.arities c → IsConfig s0.arities d → IsAlike s0 c d branch.cond → IsAlikeIn s0 c d span e0 → IsAlikeIn s1 c d span e1) → HasLeft s0 s1 names e0 e1 branch between close
+left-by s0 s1 names e0 e1 branch between close keeps sets top refusals below call others first alike =
+    record { keeps = keeps; sets = sets; top = top; refusals = refusals; below = below; call = call; others = others; first = first; alike = alike }
 
 module _ {s0 s1 : Sets} {names : List (List ℕ)} {e0 e1 : Expansion} {branch : Branch} {between : List Hidden} {close : Hidden} (left : HasLeft s0 s1 names e0 e1 branch between close)
     (files : ℕ) (held : IsHeldExpansion (stores s0 names e0.sets) files e0) where
@@ -191,7 +200,8 @@ module _ {s0 s1 : Sets} {names : List (List ℕ)} {e0 e1 : Expansion} {branch : 
         ∙ ap (fitted_case d (seen_hidden names e0.sets close) after) (sym (fits f.parameters f.variadic f.is)))
 
     module _ (here : AreHeld mid files e1.top.work) (names2 : List (List ℕ)) (s2 : Sets) (e2 : Expansion) (grows : Grows mid (stores s2 names2 e2.sets)) (same : e2.top.work ≡ e1.top.work)
-        (others : (c : List ℕ) → IsConfig s1.arities c → s1.has branch.cond.0 c ≡ false → at (stores s2 names2 e2.sets) e2 c ≡ at mid e1 c) where
+        (others : (c : List ℕ) → IsConfig s1.arities c → s1.has branch.cond.0 c ≡ false → at (stores s2 names2 e2.sets) e2 c ≡ at mid e1 c)
+        (alike : (c d : List ℕ) (span : Span) → IsConfig s1.arities c → IsConfig s1.arities d → IsAlike s1 c d branch.cond → IsAlikeIn s1 c d span e1 → IsAlikeIn s2 c d span e2) where
       abbrev new : Stores
       new = stores s2 names2 e2.sets
 
@@ -209,6 +219,11 @@ module _ {s0 s1 : Sets} {names : List (List ℕ)} {e0 e1 : Expansion} {branch : 
             others c listed1 (has-later c listed ∙ lacks) ∙ left-other c listed lacks,
             ap (λ l. has_each s2 l c) same ∙ (has_each-Keeps e1.top.work c grows.sets here.own listed1 ∙ (left.others c listed lacks).1),
           )
+
+      gathered-alike : (c d : List ℕ) (span : Span) → IsConfig s0.arities c → IsConfig s0.arities d → All (λ b. IsAlike s0 c d b.cond) (branch ∷ []) → IsAlikeIn s0 c d span e0 → IsAlikeIn s2 c d span e2
+      gathered-alike c d span at_c at_d branches was =
+          let same = All-head (λ (b : Branch). IsAlike s0 c d b.cond) branch [] branches in
+          alike c d span (IsConfig-Keeps left.keeps at_c) (IsConfig-Keeps left.keeps at_d) (IsAlike-Keeps left.keeps at_c at_d is_branch.own same) (left.alike c d span at_c at_d same was)
 
       pub begun-gathered : (raw : List (List Hidden)) → fit ≡ Some raw → IsHeldHidden names e0.sets head → IsHeldHidden names e0.sets close → AreHeldArguments names e0.sets raw → IsHeldForm names form → All (IsHeldItem names) items
           → ((c : List ℕ) (provenance : Provenance Place) (d : Definition) → IsConfig s1.arities c → s1.has branch.cond.0 c ≡ true → d.form ≡ seen_form names2 form
@@ -232,6 +247,7 @@ module _ {s0 s1 : Sets} {names : List (List ℕ)} {e0 e1 : Expansion} {branch : 
             begun-gathers provenance macros t rest after (at old e0 c) (at mid e1 c) (at new e2 c) work (is_branch.each c listed has).calls (left-at c listed after refl) d x arguments case three;
         first = gathered-first;
         others = gathered-others;
+        alike = gathered-alike;
       }
 
       pub misfit-gathered : fit ≡ None → ((c : List ℕ) → IsConfig s1.arities c → s1.has branch.cond.0 c ≡ true → (at new e2 c).live ≡ false)
@@ -248,4 +264,5 @@ module _ {s0 s1 : Sets} {names : List (List ℕ)} {e0 e1 : Expansion} {branch : 
             misfit-gathers provenance macros t rest after (at old e0 c) (at mid e1 c) (at new e2 c) work (is_branch.each c listed has).calls (left-at c listed after refl) case (dead c listed1 has1) (failures c listed1 has1);
         first = gathered-first;
         others = gathered-others;
+        alike = gathered-alike;
       }

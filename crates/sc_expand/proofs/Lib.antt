@@ -1,3 +1,5 @@
+pub mod AlikeLemmas
+pub mod AlikeGathering
 pub mod PlainArguments
 pub mod PlainCompletes
 pub mod PlainMoves
@@ -16,6 +18,7 @@ pub mod WorkListLemmas
 pub mod SeenLemmas
 pub mod BeginningLemmas
 pub mod FillingLemmas
+pub mod AlikeFilling
 pub mod MachineLemmas
 pub mod MachineCalls
 pub mod MachineReplaces
@@ -29,8 +32,10 @@ pub mod Dropping
 pub mod Rests
 pub mod Turning
 pub mod RunLemmas
+pub mod AlikeRunning
 pub mod Ending
 pub mod ExpandLemmas
+pub mod AlikeTaking
 pub mod TakingParts
 pub mod TakingTurns
 pub mod TextLemmas

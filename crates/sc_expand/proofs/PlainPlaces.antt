@@ -10,12 +10,18 @@ use Rattle.c11_macros.specs.Macros.{Definition, Form, Item, Macros, function_lik
 use Rattle.c11_macros.specs.Results.{result_and_then, result_map}
 use Rattle.c11_macros.specs.Substitution as substitution
 use Rattle.c11_macros.specs.Substitution.{Part, Piece, Slot, all_glued, argument, argument_pieces, begins_paste, expansion_of, filled, filled_by, for_parameter, for_paste, glued, hidden_by, hiding, is_text_kind, joined, literal_of, neither, operator, or_placemarker, parts, pasted_as, piece, pieces_of, placemarker, quoted_spelling, slot_of, slots, spellings, spellings_after, stringized, substituted, tokens_of, wants, with_space}
+use Rattle.c11_macros.specs.Trace.{taking, trace, trace_each, trace_rescan}
 use Rattle.c11_tokens.specs.Relex.{relexed}
 use Rattle.sc_expand.specs.Moved.{IsKept, moved, moved_answer, moved_failure}
 use Rattle.sc_model.specs.declared.cause.Cause.TheVariants.{BadStringize}
 use Rattle.sc_model.specs.declared.kind.Kind.{Kind}
 use Rattle.sc_model.specs.declared.kind.Kind.TheVariants.{Text}
 use Rattle.sc_model.specs.Bytes.{same_bytes}
+
+-- by something that looks up these names
+pub record LooksUp (A : Type 0) (names_of : A → List (List ℕ)) (names : List (List ℕ)) : Type 0 where
+  pub by : A
+  pub named : names_of by ≡ names
 
 -- ---- steps of which each may fail
 
@@ -353,27 +359,46 @@ module _ {P Q : Type 0} (f : P → Q) where
         ∙ asked-moved d.form (list_of one d t) 0 arguments
 
     module _ (macros : Macros) where
+      abbrev pub ExpandsBy : List (Hidden Q) → Result (List (Hidden Q)) (Failure Q) → List (List ℕ) → Type 0
+      ExpandsBy ts r = LooksUp (Expands two macros ts r) (λ d. (trace d).looked_up)
+
+      abbrev EachBy : List (Option (List (Hidden Q))) → List (Result (List (Hidden Q)) (Failure Q)) → List (List ℕ) → Type 0
+      EachBy asks rs = LooksUp (Each two macros asks rs) (λ each. (trace_each each).looked_up)
+
+      abbrev RescansBy : Result (List (Hidden Q)) (Failure Q) → List (Hidden Q) → Result (List (Hidden Q)) (Failure Q) → List (List ℕ) → Type 0
+      RescansBy made rest r = LooksUp (Rescans two macros made rest r) (λ g. (trace_rescan g).looked_up)
+
       mutual
-        -- what a list expands to is mapped with the list
-        pub expands-moved : {ts : List (Hidden P)} {r : Result (List (Hidden P)) (Failure P)} → Expands one macros ts r → Expands two macros (map (moved f) ts) (moved_answer f r)
-        expands-moved empty = empty
+        -- what a list expands to is mapped with the list, and the same names are looked up
+        pub expands-moved : {ts : List (Hidden P)} {r : Result (List (Hidden P)) (Failure P)} (d : Expands one macros ts r) → ExpandsBy (map (moved f) ts) (moved_answer f r) (trace d).looked_up
+        expands-moved empty = record { by = empty; named = refl }
         expands-moved (stay {t} {rest} {r} is d) =
-            subst (Expands two macros (moved f t ∷ all rest)) (with_first-moved t r) (stay (case_of-moved macros t rest ∙ ap moved_case is) (expands-moved d))
+            let e = expands-moved d in
+            subst (λ a. ExpandsBy (moved f t ∷ all rest) a ((taking t).looked_up ++ (trace d).looked_up)) (with_first-moved t r)
+            (record { by = stay (case_of-moved macros t rest ∙ ap moved_case is) e.by; named = ap (λ names. (taking t).looked_up ++ names) e.named })
         expands-moved (object {t} {rest} {r} d is g) =
-            object d (case_of-moved macros t rest ∙ ap moved_case is)
-            (subst (λ made. Rescans two macros made (all rest) (moved_answer f r)) (sym (object_result-moved d t)) (rescans-moved g))
-        expands-moved (unterminated {t} {rest} is) = unterminated (case_of-moved macros t rest ∙ ap moved_case is)
-        expands-moved (miscounted {t} {rest} is) = miscounted (case_of-moved macros t rest ∙ ap moved_case is)
+            let h = subst (λ made. RescansBy made (all rest) (moved_answer f r) (trace_rescan g).looked_up) (sym (object_result-moved d t)) (rescans-moved g) in
+            record { by = object d (case_of-moved macros t rest ∙ ap moved_case is) h.by; named = ap (λ names. (taking t).looked_up ++ names) h.named }
+        expands-moved (unterminated {t} {rest} is) = record { by = unterminated (case_of-moved macros t rest ∙ ap moved_case is); named = refl }
+        expands-moved (miscounted {t} {rest} is) = record { by = miscounted (case_of-moved macros t rest ∙ ap moved_case is); named = refl }
         expands-moved (call {t} {rest} {r} d arguments close after results is each g) =
-            call d (map all arguments) (moved f close) (all after) (map (moved_answer f) results) (case_of-moved macros t rest ∙ ap moved_case is)
-            (subst (λ asks. Each two macros asks (map (moved_answer f) results)) (sym (asked_of-moved d t arguments)) (each-moved each))
-            (subst (λ made. Rescans two macros made (all after) (moved_answer f r)) (sym (call_result-moved d t arguments close results)) (rescans-moved g))
+            let every = subst (λ asks. EachBy asks (map (moved_answer f) results) (trace_each each).looked_up) (sym (asked_of-moved d t arguments)) (each-moved each) in
+            let h = subst (λ made. RescansBy made (all after) (moved_answer f r) (trace_rescan g).looked_up) (sym (call_result-moved d t arguments close results)) (rescans-moved g) in
+            record {
+              by = call d (map all arguments) (moved f close) (all after) (map (moved_answer f) results) (case_of-moved macros t rest ∙ ap moved_case is) every.by h.by;
+              named = λ i. ((taking t).looked_up ++ []) ++ (every.named i ++ h.named i);
+            }
 
-        each-moved : {asks : List (Option (List (Hidden P)))} {rs : List (Result (List (Hidden P)) (Failure P))} → Each one macros asks rs → Each two macros (map (option_map all) asks) (map (moved_answer f) rs)
-        each-moved none = none
-        each-moved (passed others) = passed (each-moved others)
-        each-moved (expanded first others) = expanded (expands-moved first) (each-moved others)
+        each-moved : {asks : List (Option (List (Hidden P)))} {rs : List (Result (List (Hidden P)) (Failure P))} (each : Each one macros asks rs) → EachBy (map (option_map all) asks) (map (moved_answer f) rs) (trace_each each).looked_up
+        each-moved none = record { by = none; named = refl }
+        each-moved (passed others) = let more = each-moved others in record { by = passed more.by; named = more.named }
+        each-moved (expanded first others) =
+            let e = expands-moved first in
+            let more = each-moved others in
+            record { by = expanded e.by more.by; named = λ i. e.named i ++ more.named i }
 
-        rescans-moved : {made : Result (List (Hidden P)) (Failure P)} {rest : List (Hidden P)} {r : Result (List (Hidden P)) (Failure P)} → Rescans one macros made rest r → Rescans two macros (moved_answer f made) (all rest) (moved_answer f r)
-        rescans-moved (on {body} {rest} {r} d) = on (subst (λ ts. Expands two macros ts (moved_answer f r)) (map-append (moved f) body rest) (expands-moved d))
-        rescans-moved (refused failure) = refused (moved_failure f failure)
+        rescans-moved : {made : Result (List (Hidden P)) (Failure P)} {rest : List (Hidden P)} {r : Result (List (Hidden P)) (Failure P)} (g : Rescans one macros made rest r) → RescansBy (moved_answer f made) (all rest) (moved_answer f r) (trace_rescan g).looked_up
+        rescans-moved (on {body} {rest} {r} d) =
+            let e = subst (λ ts. ExpandsBy ts (moved_answer f r) (trace d).looked_up) (map-append (moved f) body rest) (expands-moved d) in
+            record { by = on e.by; named = e.named }
+        rescans-moved (refused failure) = record { by = refused (moved_failure f failure); named = refl }

@@ -1,17 +1,19 @@
 -- What drops out of the frame on top, with all that is next for refused configurations alone, and what
 -- does not: no configuration that was not refused moves.
 use Rattle.std.proofs.Common.{◌≡◌, ℕ, ◌<◌, ◌-◌, ◌&&◌, Bool, true, false, true≢false, List, [], ◌∷◌, ◌++◌, All, drop, length, map, length-append, append-nil, Option, Some, None, slice_get, sum_by, refl, sym, ap, subst, ◌∙◌, arith, if◌then◌else◌}
-use Rattle.std.proofs.lemmas.List.Elements.{All-pop}
+use Rattle.std.proofs.lemmas.List.Elements.{All-pop, All-tail}
 use Rattle.std.proofs.lemmas.List.Sums.{sum_by-append}
 use Rattle.std.proofs.lemmas.Option.{get_or_from_slice_get, slice_get_within}
 use Rattle.c11_macros.specs.Hidden.{Provenance}
 use Rattle.c11_macros.specs.Macros.{Macros}
 use Rattle.sc_base.specs.declared.id.Cond.{Cond}
 use Rattle.sc_base.specs.declared.place.Place.{Place}
+use Rattle.sc_expand.proofs.AlikeLemmas.{IsAlikeExpansion-Keeps}
 use Rattle.sc_expand.proofs.MachineCalls.{calls_at-append, leave-other}
 use Rattle.sc_expand.proofs.MachineLemmas.{Stands-Grows, state_in-Grows}
 use Rattle.sc_expand.proofs.SeenLemmas.{AreHeld-tail, IsHeldExpansion-Grows, at-Grows}
 use Rattle.sc_expand.proofs.UnchangedLemmas.{drops-first, drops-nothing, drops-then, never-empty, not-both}
+use Rattle.sc_expand.specs.Alike.{AreAlikeRefusals, IsAlikeCall, IsAlikeEnclosing, IsAlikeFrame}
 use Rattle.sc_expand.specs.declared.call.Call.{Call}
 use Rattle.sc_expand.specs.declared.expansion.Expansion.{Expansion}
 use Rattle.sc_expand.specs.declared.frame.Enclosing.{Enclosing}
@@ -23,6 +25,7 @@ use Rattle.sc_expand.specs.Running.{IsDropped, IsReady, IsRested, frame_weight, 
 use Rattle.sc_expand.specs.Seen.{AreHeld, Grows, IsHeldCall, IsHeldEnclosing, IsHeldFrame, IsHeldRefusals, Stores, calls_at, failures_at, seen_at, view_at, waiting_at}
 use Rattle.sc_expand.specs.Turn.{At}
 use Rattle.sc_guarded.specs.Items.{items_at}
+use Rattle.sc_hoist.specs.Alike.{AreAlike, IsAlike}
 use Rattle.sc_model.proofs.SetLemmas.{IsConfig-Keeps, IsConfig-kept}
 use Rattle.sc_model.proofs.ListLemmas.{slice_get-seam}
 use Rattle.sc_model.specs.Sets.{Sets, Denotes, IsCond, IsConfig, IsNever, Keeps}
@@ -103,6 +106,7 @@ module _ {old new : Stores} (grows : Grows old new) (e : Expansion) where
           sym (ap (λ v. state_in new e.below.items v c) view ∙ state_in-Grows grows files c listed e.below.items (view_at old e.top c) held.below),
         ));
     drops = λ files held uncalled. drops-nothing old.sets e uncalled;
+    alike = λ files c d held p q alike. IsAlikeExpansion-Keeps grows.sets p q e held alike;
   }
 
 -- ---- what is next drops out, and only refused configurations have it
@@ -154,6 +158,15 @@ module _ (st : Stores) (e after : Expansion) (refusals : after.refusals ≡ e.re
         let third = ap (λ l. calls_at st l c) calls in
         λ i. record { out = first i; work = fewer i; calls = third i }));
     drops = λ files held uncalled. drops-first st.sets e after item never work calls out below uncalled;
+    alike = λ files c d held p q alike. record {
+      refusals = subst (AreAlikeRefusals st.sets c d 0) (sym refusals) alike.refusals;
+      top = record {
+        work = All-tail (λ (item : Cond × Hidden). IsAlike st.sets c d item.0) item after.top.work (subst (AreAlike st.sets c d) work alike.top.work);
+        out = subst (AreAlike st.sets c d) (sym out) alike.top.out;
+        calls = subst (All (IsAlikeCall st.sets c d)) (sym calls) alike.top.calls;
+      };
+      below = subst (λ b. All (IsAlikeEnclosing st.sets c d) b.items) (sym below) alike.below;
+    };
   }
 
   pub rested-dropped : ((cond : Cond) → next_of e ≡ Some cond → (c : List ℕ) → IsConfig st.sets.arities c → st.sets.has cond.0 c ≡ true → st.sets.has e.refusals.live.0 c ≡ true → ⊥)
@@ -180,6 +193,15 @@ module _ (st : Stores) (e after : Expansion) (refusals : after.refusals ≡ e.re
         let second = ap (λ l. seen_at st l c) work in
         λ i. record { out = first i; work = second i; calls = fewer i }));
     drops = λ files held uncalled. absurd (never-empty after.top.calls.items k (sym calls ∙ uncalled.calls));
+    alike = λ files c d held p q alike. record {
+      refusals = subst (AreAlikeRefusals st.sets c d 0) (sym refusals) alike.refusals;
+      top = record {
+        work = subst (AreAlike st.sets c d) (sym work) alike.top.work;
+        out = subst (AreAlike st.sets c d) (sym out) alike.top.out;
+        calls = (All-pop (IsAlikeCall st.sets c d) e.top.calls.items after.top.calls.items (Some k) calls alike.top.calls).0;
+      };
+      below = subst (λ b. All (IsAlikeEnclosing st.sets c d) b.items) (sym below) alike.below;
+    };
   }
   rested-dropped never (running.token item none later work out below) =
       rested-token item (λ c listed has live. never item.0 (next-token e item after.top.work none work) c listed has live) work (later ∙ sym none) out below
@@ -201,6 +223,13 @@ module _ (st : Stores) (e after : Expansion) (refusals : after.refusals ≡ e.re
           ap (λ bs. state_in st bs (view_at st e.top c) c) below ∙ (r.1 ∙ ap (λ t. state_in st after.below.items (view_at st t c) c) (sym top)),
         ));
     drops = λ files held uncalled. absurd (never-empty after.below.items o (sym below ∙ uncalled.below));
+    alike = λ files c d held p q alike.
+        let popped = All-pop (IsAlikeEnclosing st.sets c d) e.below.items after.below.items (Some o) below alike.below in
+        record {
+          refusals = subst (AreAlikeRefusals st.sets c d 0) (sym refusals) alike.refusals;
+          top = subst (IsAlikeFrame st.sets c d) (sym top) popped.1.frame;
+          below = popped.0;
+        };
   }
 
 -- ---- one after the other
@@ -216,6 +245,7 @@ rested-then {old} {mid} {new} {one} {two} {three} grows a b = record {
   drops = λ files held uncalled.
       let first = a.drops files held uncalled in
       drops-then old.sets mid.sets one two three grows.sets held.refusals.live held.top.work.own a.refusals first (b.drops files (a.held files held) first.uncalled);
+  alike = λ files c d held p q alike. b.alike files c d (a.held files held) (IsConfig-Keeps grows.sets p) (IsConfig-Keeps grows.sets q) (a.alike files c d held p q alike);
 }
 
 -- ---- it grows lighter

@@ -53,6 +53,13 @@ steps_in arities files macros names within st e = steps_left arities (provenance
 -- ---- the start
 
 module _ (files : List (List ℕ)) (macros : List ℕ → Macros) (old : Stores) (was : Expansion) (held : IsHeldExpansion old (length files) was) (fresh : IsUntouched was) where
+  -- nothing was put out yet
+  pub start-state : (c : List ℕ) → state_in old was.below.items (view_at old was.top c) c ≡ scanning [] (seen_at old was.top.work c)
+  start-state c =
+      let none : calls_at old was.top.calls.items c ≡ [] = ap (λ l. calls_at old l c) fresh.calls in
+      let out : seen_at old was.top.out c ≡ [] = ap (λ l. seen_at old l c) fresh.out in
+      ap (λ bs. state_in old bs (view_at old was.top c) c) fresh.below ∙ (λ i. state_by (out i) (seen_at old was.top.work c) (none i))
+
   pub running-start : IsRunning files macros old old was was
   running-start = record {
     held = held;
@@ -65,13 +72,10 @@ module _ (files : List (List ℕ)) (macros : List ℕ → Macros) (old : Stores)
       told_at c false refused = told.unasked refused (ap (λ l. failures_at old.sets l c) fresh.faults)
       told_at c true live =
           let none : calls_at old was.top.calls.items c ≡ [] = ap (λ l. calls_at old l c) fresh.calls in
-          let out : seen_at old was.top.out c ≡ [] = ap (λ l. seen_at old l c) fresh.out in
           let few : length (calls_at old was.top.calls.items c) ≤ 1 = subst (λ ws. length ws ≤ 1) (sym none) (omega arith) in
           let stands : Stands old c [] (view_at old was.top c) = on_top few in
-          let state : state_in old was.below.items (view_at old was.top c) c ≡ scanning [] (seen_at old was.top.work c) =
-          ap (λ bs. state_in old bs (view_at old was.top c) c) fresh.below ∙ (λ i. state_by (out i) (seen_at old was.top.work c) (none i)) in
           told.going live (ap (λ l. failures_at old.sets l c) fresh.faults) (subst (λ bs. Stands old c bs (view_at old was.top c)) (sym fresh.below) stands)
-          (subst (Reaches (provenance_of files) (macros c) (seen_at old was.top.work c)) (sym state) (reaches-start (provenance_of files) (macros c) (seen_at old was.top.work c)))
+          (subst (Reaches (provenance_of files) (macros c) (seen_at old was.top.work c)) (sym (start-state c)) (reaches-start (provenance_of files) (macros c) (seen_at old was.top.work c)))
 
 -- ---- what is told at a configuration
 
@@ -145,7 +149,7 @@ module _ {files : List (List ℕ)} {macros : List ℕ → Macros} {old now : Sto
 module _ {files : List (List ℕ)} {macros : List ℕ → Macros} {old now : Stores} {was e : Expansion} (grows : Grows old now) (r : IsRunning files macros old now was e)
     (names : List (List ℕ)) (within : (c : List ℕ) → IsWithin names (macros c)) (began : IsHeldExpansion old (length files) was) (new : Stores) (after : Expansion) where
   module _ (rested : IsRested now new e after) where
-    rests-at : (c : List ℕ) → IsConfig old.sets.arities c → Progress (provenance_of files) (macros c) now new c e.below.items after.below.items (at now e c) (at new after c) false
+    pub rests-at : (c : List ℕ) → IsConfig old.sets.arities c → Progress (provenance_of files) (macros c) now new c e.below.items after.below.items (at now e c) (at new after c) false
     rests-at c listed = rested.progress (length files) (provenance_of files) (macros c) c r.held (IsConfig-Keeps grows.sets listed)
 
     pub running-rested : Grows now new → IsRunning files macros old new was after
@@ -159,7 +163,7 @@ module _ {files : List (List ℕ)} {macros : List ℕ → Macros} {old now : Sto
     rested-le = running-le grows r new after names within (λ c. false) rests-at
 
   module _ (other : List ℕ → Macros) (same : (c : List ℕ) → IsConfig old.sets.arities c → other c ≡ macros c) {went : Bool} (turned : IsTurned files other now new e after went) where
-    turned-at : (c : List ℕ) → IsConfig old.sets.arities c → Progress (provenance_of files) (macros c) now new c e.below.items after.below.items (at now e c) (at new after c) (turned.takes c)
+    pub turned-at : (c : List ℕ) → IsConfig old.sets.arities c → Progress (provenance_of files) (macros c) now new c e.below.items after.below.items (at now e c) (at new after c) (turned.takes c)
     turned-at c listed = subst (λ m. Progress (provenance_of files) m now new c e.below.items after.below.items (at now e c) (at new after c) (turned.takes c)) (same c listed) (turned.progress c (IsConfig-Keeps grows.sets listed))
 
     pub running-turned : Keeps now.sets new.sets → IsHeldExpansion new (length files) after → PutsOut now new e.refusals.live.0 (put_out e) (put_out after) → IsRunning files macros old new was after

@@ -10,16 +10,20 @@ use Rattle.c11_macros.specs.Macros.{Macros}
 use Rattle.c11_macros.specs.Macros as model
 use Rattle.sc_base.specs.declared.id.Cond.{Cond}
 use Rattle.sc_base.specs.declared.place.Place.{Place}
+use Rattle.sc_expand.proofs.AlikeTaking.{part-alike, part-each}
 use Rattle.sc_expand.proofs.SeenLemmas.{at-Grows, seen_hidden-Grows}
 use Rattle.sc_expand.proofs.TakingSteps.{has_first-Keeps, none-before, same-step}
+use Rattle.sc_expand.specs.Alike.{IsAlikeIn, IsAlikeTaken, IsSameCall, Span}
+use Rattle.sc_expand.specs.Having.{has_each}
 use Rattle.sc_expand.specs.Machine.{IsHeldExpansion, at}
-use Rattle.sc_expand.specs.Seen.{Grows, IsHeldToken, Stores, provenance_of, seen_at}
+use Rattle.sc_expand.specs.Seen.{AreHeld, Grows, IsHeldToken, Stores, provenance_of, seen_at}
 use Rattle.sc_expand.specs.Taking.{AreTaken, Comes, Step, step_at, untaken}
 use Rattle.sc_expand.specs.Turn.{At}
 use Rattle.sc_expand.specs.declared.expansion.Expansion.{Expansion}
 use Rattle.sc_expand.specs.declared.taking.Taken.{Taken}
 use Rattle.sc_guarded.proofs.ItemLemmas.{items_at-append}
 use Rattle.sc_guarded.specs.Items.{items_at}
+use Rattle.sc_hoist.specs.Alike.{IsAlike}
 use Rattle.sc_macro.specs.declared.definition.Definition.{Definition}
 use Rattle.sc_macro.specs.Seen.{IsHeldDefinition, seen_definition, text_of}
 use Rattle.sc_model.proofs.SetLemmas.{IsConfig-Keeps}
@@ -51,11 +55,17 @@ module _ (files : List (List ℕ)) (old mid new : Stores) (was now next : Expans
       → ((c : List ℕ) (macros : Macros) (rest : List (Hidden Place)) → IsConfig mid.sets.arities c → mid.sets.has part.0.0 c ≡ true → (at mid now c).view.work ≡ seen_hidden mid.names mid.hides head ∷ rest
       → macros (text_of mid.names head.token.spelling) ≡ seen_by mid.names part.1 → Comes (provenance_of files) macros (seen_hidden mid.names mid.hides head) rest (at mid now c) (step_at new next later c))
       → ((c : List ℕ) → IsConfig mid.sets.arities c → mid.sets.has part.0.0 c ≡ false → step_at new next later c ≡ step_at mid now after c)
+      → AreHeld old counted was.top.work → map (λ (item : Cond × declared.Hidden). item.1) now.top.work ≡ map (λ (item : Cond × declared.Hidden). item.1) was.top.work
+      → ((c : List ℕ) → IsConfig mid.sets.arities c → mid.sets.has part.0.0 c ≡ false → has_each new.sets next.top.work c ≡ has_each mid.sets now.top.work c)
+      → ((c d : List ℕ) (span : Span) → IsConfig mid.sets.arities c → IsConfig mid.sets.arities d → IsAlike mid.sets c d part.0 → (mid.sets.has part.0.0 c ≡ true → IsSameCall mid.sets mid.names c d now.top.work)
+      → IsAlikeTaken mid.sets c d after → IsAlikeIn mid.sets c d span now → IsAlikeIn new.sets c d span next × IsAlikeTaken new.sets c d later)
       → AreTaken files old new was next before later head (take (i + 1) parts)
-  part-taken counted within is grows held own definition one done comes others = record {
+  part-taken counted within is grows held own definition one done comes others work tokens each alike = record {
     comes = λ c macros rest listed work found.
         came c macros rest listed work (old.sets.has part.0.0 c) refl (ap (map (seen_by old.names)) (sym (with-next old.sets parts i part c within is)) ∙ found);
     others = λ c listed none. left c listed (old.sets.has part.0.0 c) refl (sym (with-next old.sets parts i part c within is) ∙ none);
+    others_each = part-each parts i part within is grows own done new next each;
+    alike = part-alike parts i part within is grows own done new next later counted work tokens one alike;
   }
     where
       t : Hidden Place
@@ -99,6 +109,10 @@ none-found f (x ∷ xs) is = cc
 pub one-found : {A B : Type 0} (f : A → B) (xs : List A) (b : Bool) (y : B) → map f xs ≡ (if b then y ∷ [] else []) → length xs ≡ 1 → b ≡ true
 one-found f xs true y is one = refl
 one-found f xs false y is one = let none = none-found f xs is in absurd (omega (arith, one, ap length none))
+
+pub some-found : {A B : Type 0} (f : A → B) (xs : List A) (b : Bool) (y : B) → map f xs ≡ (if b then y ∷ [] else []) → (xs ≡ [] → ⊥) → b ≡ true
+some-found f xs true y is some = refl
+some-found f xs false y is some = absurd (some (none-found f xs is))
 
 -- the stores grew, and nothing is known of the token still
 pub still-untaken : {old new : Stores} {files : ℕ} → Grows old new → (e : Expansion) (taken : Taken) → IsHeldExpansion old files e → Denotes old.sets taken.stays.0 (λ c. false) → taken.made.items ≡ []

@@ -1,16 +1,18 @@
 -- What a configuration's list expands to, told of the tokens of a text.
-use Rattle.std.proofs.Common.{◌≡◌, ℕ, List, [], ◌∷◌, map, Result, Ok, Err, refl, ap, subst, ◌∙◌}
+use Rattle.std.proofs.Common.{◌≡◌, ℕ, List, [], ◌∷◌, map, Result, Ok, Err, refl, sym, ap, subst, ◌∙◌}
 use Rattle.c11_macros.specs.Expansion.{Expands}
 use Rattle.c11_macros.specs.Hidden as model
 use Rattle.c11_macros.specs.Hidden.{Failure, no_names}
 use Rattle.c11_macros.specs.Macros.{Macros}
 use Rattle.c11_macros.specs.Text.{TextExpands, fault_of, place_alone, text_of_answer, token_of, unhidden}
+use Rattle.c11_macros.specs.Trace.{Agree}
 use Rattle.sc_base.specs.declared.fault.Fault as base_fault
 use Rattle.sc_base.specs.declared.id.Name.{Name}
 use Rattle.sc_base.specs.declared.place.Place.{Place}
 use Rattle.sc_base.specs.declared.token.Token as base_token
 use Rattle.sc_base.specs.Seen.{seen, seen_place}
 use Rattle.sc_expand.proofs.PlainPlaces.{expands-moved}
+use Rattle.sc_expand.specs.Alike.{DefineAlike, DefineTextAlike}
 use Rattle.sc_expand.specs.Answers.{IsExpanded}
 use Rattle.sc_expand.specs.Moved.{IsKept, moved, moved_answer, moved_failure}
 use Rattle.sc_expand.specs.Seen.{provenance_of, seen_failure}
@@ -45,8 +47,17 @@ text-expands names files macros tokens r d = record {
   answer = moved_answer (seen_place files) r;
   expands =
       subst (λ ts. Expands place_alone macros ts (moved_answer (seen_place files) r)) (unhidden-begun names files tokens)
-      (expands-moved (seen_place files) (places-kept files) macros d);
+      (expands-moved (seen_place files) (places-kept files) macros d).by;
   is = refl;
+}
+
+-- tables that define the names alike that the tokens of a text look up
+pub text-defines : (names files : List (List ℕ)) (one other : Macros) (tokens : List base_token.Token) → DefineTextAlike one other (map (seen names files) tokens) → DefineAlike (provenance_of files) one other (map (begun names) tokens)
+text-defines names files one other tokens defines = record {
+  agree = λ r d.
+      let e = expands-moved (seen_place files) (places-kept files) one d in
+      let same = subst (DefineAlike place_alone one other) (sym (unhidden-begun names files tokens)) defines in
+      subst (Agree one other) e.named (same.agree (moved_answer (seen_place files) r) e.by);
 }
 
 -- the tokens that were put out, without their hide sets

@@ -6,6 +6,7 @@ use Rattle.c11_macros.specs.Hidden.{Provenance}
 use Rattle.c11_macros.specs.Macros.{Macros}
 use Rattle.sc_base.specs.declared.id.Cond.{Cond}
 use Rattle.sc_base.specs.declared.place.Place.{Place}
+use Rattle.sc_expand.proofs.AlikeFilling.{alike-leave}
 use Rattle.sc_expand.proofs.Dropping.{IsNone}
 use Rattle.sc_expand.proofs.MachineCalls.{calls_at-append, last-alone}
 use Rattle.sc_expand.proofs.MachineLeaves.{left-held, left-progress}
@@ -13,6 +14,7 @@ use Rattle.sc_expand.proofs.MachineLemmas.{stands-cases, turn-progress}
 use Rattle.sc_expand.proofs.Rests.{next-argument, next-call, put-less, put-same}
 use Rattle.sc_expand.proofs.SeenLemmas.{seen_at-Grows}
 use Rattle.sc_expand.proofs.UnchangedLemmas.{never-empty}
+use Rattle.sc_expand.specs.Alike.{DefineNextAlike, IsAlikeCall, IsAlikeEnclosing, IsAlikeExpansion}
 use Rattle.sc_expand.specs.declared.call.Call.{Call}
 use Rattle.sc_expand.specs.declared.expansion.Expansion.{Expansion}
 use Rattle.sc_expand.specs.declared.frame.Enclosing.{Enclosing}
@@ -24,7 +26,7 @@ use Rattle.sc_expand.specs.Turn.{Turn}
 use Rattle.sc_expand.specs.Unchanged as unchanged
 use Rattle.sc_expand.specs.Unchanged.{IsUncalled, LooksUpNone, Passes}
 use Rattle.sc_model.proofs.SetLemmas.{IsConfig-Keeps}
-use Rattle.sc_model.specs.Sets.{IsConfig}
+use Rattle.sc_model.specs.Sets.{IsConfig, Sets}
 use Rattle.sc_subst.specs.declared.hidden.Hidden.{Hidden}
 
 -- the calls on top are these
@@ -119,6 +121,31 @@ module _ {st : Stores} {files : ℕ} (e : Expansion) (held : IsHeldExpansion st 
   pub enclosing-held : (below : Vec Enclosing) (o : Enclosing) → e.below.items ≡ below.items ++ o ∷ [] → IsHeldEnclosing st files o
   enclosing-held below o less = (All-pop (IsHeldEnclosing st files) e.below.items below.items (Some o) less held.below).1
 
+-- ---- what two configurations have alike
+
+module _ {s : Sets} {c d : List ℕ} (e : Expansion) (alike : IsAlikeExpansion s c d e) (calls : Vec Call) where
+  popped-alike : (r : Option Call) → e.top.calls.items ≡ calls.items ++ option_to_list r → IsAlikeExpansion s c d (with_calls e calls)
+  popped-alike r popped = record {
+    refusals = alike.refusals;
+    top = record { work = alike.top.work; out = alike.top.out; calls = (All-pop (IsAlikeCall s c d) e.top.calls.items calls.items r popped alike.top.calls).0 };
+    below = alike.below;
+  }
+
+  call-alike : (call : Call) → e.top.calls.items ≡ calls.items ++ call ∷ [] → IsAlikeCall s c d call
+  call-alike call popped = (All-pop (IsAlikeCall s c d) e.top.calls.items calls.items (Some call) popped alike.top.calls).1
+
+  -- there is no call
+  none-alike : IsNone Call e.top.calls.items calls.items → IsAlikeExpansion s c d (with_calls e calls)
+  none-alike none = popped-alike None (none.before ∙ ap (λ (ks : List Call). ks ++ []) (sym none.after))
+
+  -- and no list below
+  alone-alike : (below : Vec Enclosing) → IsNone Call e.top.calls.items calls.items → IsNone Enclosing e.below.items below.items → IsAlikeExpansion s c d (with_below e calls below)
+  alone-alike below none less = record {
+    refusals = alike.refusals;
+    top = (none-alike none).top;
+    below = subst (All (IsAlikeEnclosing s c d)) (less.before ∙ sym less.after) alike.below;
+  }
+
 -- ---- turns
 
 module _ {old new : Stores} (grows : Grows old new) (files : List (List ℕ)) (macros : List ℕ → Macros) (e after : Expansion) (is : IsExpansion old (length files) e) where
@@ -127,29 +154,35 @@ module _ {old new : Stores} (grows : Grows old new) (files : List (List ℕ)) (m
 
   -- a turn of the configurations that have what is next
   next-turn : (next : Cond) → next_of e ≡ Some next → IsReady old.sets e → (IsUncalled e → LooksUpNone old.sets old.names macros e → Passes new.sets e after)
+      → ((c d : List ℕ) → IsConfig old.sets.arities c → IsConfig old.sets.arities d → DefineNextAlike old (macros c) (macros d) c e → IsAlikeExpansion old.sets c d e → IsAlikeExpansion new.sets c d after)
       → ((c : List ℕ) → IsConfig old.sets.arities c → Progress (provenance_of files) (macros c) old new c e.below.items after.below.items (at old e c) (at new after c) (old.sets.has next.0 c)) → IsTurned files macros old new e after true
-  next-turn next here ready passes progress = record {
+  next-turn next here ready passes alike progress = record {
     takes = λ c. old.sets.has next.0 c;
     progress = progress;
     some = λ went. ready.some next here;
     ended = λ not. absurd (true≢false not);
     passes = passes;
+    alike = alike;
   }
 
   pub called-turn : (calls : Vec Call) (call : Call) → e.top.calls.items ≡ calls.items ++ call ∷ [] → IsReady old.sets e
+      → ((c d : List ℕ) → IsConfig old.sets.arities c → IsConfig old.sets.arities d → IsAlikeCall old.sets c d call → IsAlikeExpansion old.sets c d (with_calls e calls) → IsAlikeExpansion new.sets c d after)
       → ((c : List ℕ) → IsConfig old.sets.arities c → Progress (provenance_of files) (macros c) old new c e.below.items after.below.items (at_call old (with_calls e calls) call c) (at new after c) (old.sets.has call.cond.0 c))
       → IsTurned files macros old new e after true
-  called-turn calls call popped ready progress = next-turn call.cond (next-call e calls.items call popped) ready
+  called-turn calls call popped ready alike progress = next-turn call.cond (next-call e calls.items call popped) ready
       (λ uncalled none. absurd (never-empty calls.items call (sym popped ∙ uncalled.calls)))
+      (λ c d p q defines same. alike c d p q (call-alike e same calls call popped) (popped-alike e same calls (Some call) popped))
       (λ c listed. subst (λ a. Progress (provenance_of files) (macros c) old new c e.below.items after.below.items a (at new after c) (old.sets.has call.cond.0 c)) (at_call-popped old c e calls call popped) (progress c listed))
 
   pub taken-turn : (calls : Vec Call) → IsNone Call e.top.calls.items calls.items → (item : Cond × Hidden) → slice_get e.top.work 0 ≡ Some item → after.below ≡ e.below → IsReady old.sets e
       → (IsUncalled (with_calls e calls) → LooksUpNone old.sets old.names macros (with_calls e calls) → Passes new.sets (with_calls e calls) after)
+      → ((c d : List ℕ) → IsConfig old.sets.arities c → IsConfig old.sets.arities d → DefineNextAlike old (macros c) (macros d) c (with_calls e calls) → IsAlikeExpansion old.sets c d (with_calls e calls) → IsAlikeExpansion new.sets c d after)
       → ((c : List ℕ) → IsConfig old.sets.arities c → Turn (provenance_of files) (macros c) (at old (with_calls e calls) c) (at new after c) (old.sets.has item.0.0 c)) → IsTurned files macros old new e after true
-  taken-turn calls none item first below ready passes turns = next-turn item.0 (next-first e item none.before first) ready
+  taken-turn calls none item first below ready passes alike turns = next-turn item.0 (next-first e item none.before first) ready
       (λ uncalled looks.
       let p = passes (record { below = uncalled.below; calls = none.after }) looks in
       record { passed = p.passed; put = p.put; work = p.work; out = p.out; restricted = p.restricted; refusals = p.refusals; uncalled = p.uncalled })
+      (λ c d p q defines same. alike c d p q (record { same = λ item first empty has live looks. defines.same item first none.before has live looks }) (none-alike e same calls none))
       (λ c listed.
       let progress = turn-progress (provenance_of files) (macros c) grows (length files) c listed e.below.items is.held.below (turns c listed) in
       subst (λ b. Progress (provenance_of files) (macros c) old new c e.below.items b.items (at old e c) (at new after c) (old.sets.has item.0.0 c)) (sym below)
@@ -168,6 +201,7 @@ module _ (st : Stores) (files : List (List ℕ)) (macros : List ℕ → Macros) 
     some = λ went. ready.some o.call.cond (next-argument e below.items o none empty less);
     ended = λ not. absurd (true≢false not);
     passes = λ uncalled looks. absurd (never-empty below.items o (sym less ∙ uncalled.below));
+    alike = λ c d p q defines alike. alike-leave st.sets c d e after below.items o less (ap (λ b. b.items) later) refusals work out resumed alike;
   }
 
   pub left-still : (calls : Vec Call) (r : Option Call) (below : Vec Enclosing) (o : Enclosing) → e.top.calls.items ≡ calls.items ++ option_to_list r → e.top.work ≡ [] → IsNone Call e.top.calls.items calls.items → e.below.items ≡ below.items ++ o ∷ []
@@ -203,6 +237,7 @@ module _ (st : Stores) (files : List (List ℕ)) (macros : List ℕ → Macros) 
       refusals = refl;
       uncalled = record { below = less.after; calls = none.after };
     };
+    alike = λ c d p q defines alike. alone-alike e alike calls below none less;
   }
 
   pub no-out : (calls : Vec Call) (below : Vec Enclosing) → IsNone Enclosing e.below.items below.items → put_out (with_below e calls below) ≡ put_out e

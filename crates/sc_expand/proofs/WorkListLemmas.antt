@@ -1,11 +1,13 @@
 -- A list whose first items are restricted to a condition, one after the other.
-use Rattle.std.proofs.Common.{◌≡◌, ◌<◌, ℕ, ◌+◌, ◌&&◌, Bool, true, false, List, [], ◌∷◌, ◌++◌, All, map, take, drop, length, get_or, set, if◌then◌else◌, ap, sym, ◌∙◌, refl, subst, arith, add-zero}
-use Rattle.std.proofs.lemmas.List.{take_more_set, map-set, set-get_or, drop-set-lt, drop-drop, get_or-drop, length-map}
+use Rattle.std.proofs.Common.{◌≡◌, ◌≢◌, ◌<◌, ℕ, inl, inr, ◌+◌, ◌&&◌, Bool, true, false, List, [], ◌∷◌, ◌++◌, All, map, take, drop, length, get_or, set, if◌then◌else◌, ap, sym, ◌∙◌, refl, subst, arith, add-zero}
+use Rattle.std.proofs.lemmas.Bool.{cases_eq}
+use Rattle.std.proofs.lemmas.List.{take_more_set, map-set, set-get_or, drop-set-lt, drop-drop, get_or_default, get_or-drop, get_or-set_other, get_or-set_same, get_or-take, length-map, length-take}
 use Rattle.std.proofs.lemmas.List.Elements.{All-head, All-tail, All-take, All-set}
 use Rattle.sc_base.specs.declared.id.Cond.{Cond}
 use Rattle.sc_guarded.proofs.ItemLemmas.{items_at-append, items_at-Keeps, items_at-take}
 use Rattle.sc_guarded.specs.Items.{items_at}
 use Rattle.sc_expand.specs.Having.{has_each}
+use Rattle.sc_hoist.specs.Alike.{AreAlike, IsAlike}
 use Rattle.std.proofs.Math.ListN.{get_or-map}
 use Rattle.sc_model.proofs.SetLemmas.{Keeps-trans, IsConfig-Keeps}
 use Rattle.sc_model.specs.Sets.{Sets, IsConfig, IsCond, Denotes, Keeps}
@@ -25,6 +27,17 @@ module _ {T : Type 0} where
     pub own : All (λ (item : Cond × T). IsCond now item.0.0) after
     pub at : (c : List ℕ) → IsConfig first.arities c → items_at now (take n after) c ≡ (if first.has by c then items_at first (take n before) c else [])
     pub same : (c : List ℕ) → IsConfig first.arities c → first.has by c ≡ true → has_each now after c ≡ has_each first before c
+    pub alike : (c d : List ℕ) (k : ℕ) (z : Cond × T) → IsConfig first.arities c → IsConfig first.arities d → first.has by c ≡ first.has by d → k < length before
+        → IsAlike first c d (get_or before k z).0 → IsAlike now c d (get_or after k z).0
+
+  -- what is so of each item is so of the first ones
+  pub restricted_alike : (s t : Sets) (c d : List ℕ) (m : ℕ) (before after : List (Cond × T)) → length after ≡ length before
+      → ((k : ℕ) (z : Cond × T) → k < length before → IsAlike s c d (get_or before k z).0 → IsAlike t c d (get_or after k z).0) → AreAlike s c d (take m before) → AreAlike t c d (take m after)
+  restricted_alike s t c d m before after long each alike = λ k z h.
+      let low : k < m = omega (arith, h, length-take m after) in
+      let within : k < length before = omega (arith, h, length-take m after, long) in
+      let first : k < length (take m before) = omega (arith, low, within, length-take m before) in
+      subst (λ (x : Cond × T). IsAlike t c d x.0) (sym (get_or-take m after k z low)) (each k z within (subst (λ (x : Cond × T). IsAlike s c d x.0) (get_or-take m before k z low) (alike k z first)))
 
   pub has_each-Keeps : {old new : Sets} (items : List (Cond × T)) (c : List ℕ) → Keeps old new → All (λ (item : Cond × T). IsCond old item.0.0) items → IsConfig old.arities c → has_each new items c ≡ has_each old items c
   has_each-Keeps [] c keeps own listed = refl
@@ -85,4 +98,18 @@ module _ {T : Type 0} where
             let each : map f after ≡ map g before = has_each-Keeps after c keeps was.own here ∙ was.same c listed has in
             let value : new.has made.0 c ≡ get_or (map g before) n (g x) = met c listed ∙ (and_true (first.has x.0.0 c) (first.has by c) has ∙ (ap g x_before ∙ sym (get_or-map g before n x))) in
             map-set f after n (made, x.1) ∙ ((λ i. set (each i) n (value i)) ∙ set-get_or (map g before) n (g x));
+        alike = λ c d k z at_c at_d same low_k told_k.
+            let A : Cond × T → Type 0 = λ y. IsAlike new c d y.0 in
+            let B : Cond × T → Type 0 = λ y. IsAlike first c d y.0 in
+            let here : IsConfig old.arities c = IsConfig-Keeps was.keeps at_c in
+            let there : IsConfig old.arities d = IsConfig-Keeps was.keeps at_d in
+            let one : k ≡ n → A (get_or (set after n (made, x.1)) k z) = λ is_n. (
+            let x_told : B x = subst B (ap (λ m. get_or before m z) is_n ∙ (get_or_default before n z x low ∙ sym x_before)) told_k in
+            let at_n : A (made, x.1) = met c at_c ∙ ((λ i. x_told i && same i) ∙ sym (met d at_d)) in
+            subst A (sym (ap (λ m. get_or (set after n (made, x.1)) m z) is_n ∙ get_or-set_same after n (made, x.1) z within)) at_n) in
+            let other : k ≢ n → A (get_or (set after n (made, x.1)) k z) = λ not_n. (
+            let own_k : IsCond old (get_or after k z).0.0 = was.own k z (subst (λ m. k < m) long low_k) in
+            let kept_k = keeps.at _ c own_k here ∙ (was.alike c d k z at_c at_d same low_k told_k ∙ sym (keeps.at _ d own_k there)) in
+            subst A (sym (get_or-set_other after n k (made, x.1) z not_n)) kept_k) in
+            elim (cases_eq k n) as (λ w. A (get_or (set after n (made, x.1)) k z)) [ inl is_n ↦ one is_n | inr not_n ↦ other not_n ];
       }

@@ -1,17 +1,17 @@
 -- Calls that are taken out of a list, each in the configurations that have its tokens.
-use Rattle.std.specs.Prelude.{◌≡◌, ℕ, true, false, List, [], ◌∷◌, ◌++◌, Some, Result, Err, codes, map}
+use Rattle.std.specs.Prelude.{◌≡◌, ℕ, true, false, List, [], ◌∷◌, ◌++◌, All, Some, Result, Err, codes, map}
 use Rattle.c11_macros.specs.Call.{Call, call_of}
 use Rattle.c11_macros.specs.Expansion.{call_result, is_looked_up, list_of}
 use Rattle.c11_macros.specs.Hidden as model
 use Rattle.c11_macros.specs.Hidden.{Failure, Provenance}
 use Rattle.c11_macros.specs.Macros.{Definition, Macros}
 use Rattle.c11_macros.specs.Substitution.{Slot}
-use Rattle.sc_base.specs.declared.id.Cond.{Cond}
 use Rattle.sc_base.specs.declared.place.Place.{Place}
-use Rattle.sc_base.specs.declared.token.Token.{Token}
 use Rattle.sc_expand.specs.declared.expansion.Expansion.{Expansion}
 use Rattle.sc_expand.specs.Gather.{Gathers}
-use Rattle.sc_expand.specs.Having.{has_each}
+use Rattle.sc_expand.specs.Alike.{IsAlikeIn, Span}
+use Rattle.sc_hoist.specs.Alike.{IsAlike}
+use Rattle.sc_expand.specs.Having.{has_each, tokens_in}
 use Rattle.sc_expand.specs.Machine.{at, with_call}
 use Rattle.sc_expand.specs.Plain.{IsTemplate, gathered}
 use Rattle.sc_expand.specs.Seen.{Stores, calls_at}
@@ -44,10 +44,6 @@ pub record IsCall {P : Type 0} (ts between : List (model.Hidden P)) (close : mod
   pub ends : (commas : ℕ) → EndsBefore commas (between ++ close ∷ after) after
 
 -- ---- the configurations of a branch
-
--- the tokens of a list without their hide sets
-abbrev pub tokens_in : List (Cond × Hidden) → List (Cond × Token)
-tokens_in list = map (λ item. (item.0, item.1.token)) list
 
 -- a name stands first at the configuration and is called, the tokens of the call stand at these places, and no other call waits
 pub record IsCalled (st : Stores) (e : Expansion) (places c : List ℕ) : Type 0 where
@@ -87,3 +83,5 @@ pub record AreGathered (old st : Stores) (was now : Expansion) (form : declared_
   pub first : (c place : List ℕ) → IsConfig old.sets.arities c → lists_at old.sets branches c ≡ place ∷ [] → has_first st.sets now.top.work c ≡ false
   pub others : (c : List ℕ) → IsConfig old.sets.arities c → lists_at old.sets branches c ≡ []
       → (at st now c ≡ at old was c) × (has_each st.sets now.top.work c ≡ has_each old.sets was.top.work c)
+  pub alike : (c d : List ℕ) (span : Span) → IsConfig old.sets.arities c → IsConfig old.sets.arities d → All (λ branch. IsAlike old.sets c d branch.cond) branches
+      → IsAlikeIn old.sets c d span was → IsAlikeIn st.sets c d span now

@@ -16,3 +16,4 @@ pub mod Running
 pub mod Moved
 pub mod OneLine
 pub mod Unchanged
+pub mod Alike

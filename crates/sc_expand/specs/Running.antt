@@ -10,6 +10,7 @@ use Rattle.sc_expand.specs.declared.call.Call.{Call}
 use Rattle.sc_expand.specs.declared.expansion.Expansion.{Expansion}
 use Rattle.sc_expand.specs.declared.frame.Enclosing.{Enclosing}
 use Rattle.sc_expand.specs.declared.frame.Frame.{Frame}
+use Rattle.sc_expand.specs.Alike.{DefineNextAlike, IsAlikeExpansion}
 use Rattle.sc_expand.specs.Machine.{IsHeldExpansion, Progress, at}
 use Rattle.sc_expand.specs.Seen.{Stores, provenance_of, seen_at}
 use Rattle.sc_expand.specs.Unchanged.{Drops, IsUncalled, LooksUpNone, Passes}
@@ -75,6 +76,8 @@ pub record IsRested (old new : Stores) (e after : Expansion) : Type 0 where
   pub progress : (files : ℕ) (provenance : Provenance Place) (macros : Macros) (c : List ℕ) → IsHeldExpansion old files e → IsConfig old.sets.arities c
       → Progress provenance macros old new c e.below.items after.below.items (at old e c) (at new after c) false
   pub drops : (files : ℕ) → IsHeldExpansion old files e → IsUncalled e → Drops old.sets e after
+  pub alike : (files : ℕ) (c d : List ℕ) → IsHeldExpansion old files e → IsConfig old.sets.arities c → IsConfig old.sets.arities d
+      → IsAlikeExpansion old.sets c d e → IsAlikeExpansion new.sets c d after
 
 -- nothing is left to be expanded
 pub record HasEnded (e : Expansion) : Type 0 where
@@ -90,6 +93,8 @@ pub record IsTurned (files : List (List ℕ)) (macros : List ℕ → Macros) (ol
   pub some : went ≡ true → ((c : List ℕ) → IsConfig old.sets.arities c → takes c ≡ true → old.sets.has e.refusals.live.0 c ≡ true → ⊥) → ⊥
   pub ended : went ≡ false → HasEnded after
   pub passes : IsUncalled e → LooksUpNone old.sets old.names macros e → Passes new.sets e after
+  pub alike : (c d : List ℕ) → IsConfig old.sets.arities c → IsConfig old.sets.arities d → DefineNextAlike old (macros c) (macros d) c e
+      → IsAlikeExpansion old.sets c d e → IsAlikeExpansion new.sets c d after
 
 -- ---- whole runs
 

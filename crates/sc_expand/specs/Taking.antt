@@ -16,7 +16,10 @@ use Rattle.sc_base.specs.declared.id.Cond.{Cond}
 use Rattle.sc_base.specs.declared.place.Place.{Place}
 use Rattle.sc_expand.specs.declared.expansion.Expansion.{Expansion}
 use Rattle.sc_expand.specs.declared.taking.Taken.{Taken}
+use Rattle.sc_expand.specs.Alike.{IsAlikeIn, IsAlikeTaken, IsSameCall, Span}
+use Rattle.sc_hoist.specs.Alike.{AreAlike}
 use Rattle.sc_expand.specs.Gather.{without_call}
+use Rattle.sc_expand.specs.Having.{has_each}
 use Rattle.sc_expand.specs.Machine.{at}
 use Rattle.sc_expand.specs.Plain.{Fails, IsTemplate, gathered}
 use Rattle.sc_expand.specs.Seen.{AreHeld, Stores, provenance_of, seen_at, state_of}
@@ -78,3 +81,7 @@ pub record AreTaken (files : List (List ℕ)) (old st : Stores) (was now : Expan
       → map (option_map (λ shared. seen_definition old.names shared.value)) (items_at old.sets parts c) ≡ macros (text_of old.names head.token.spelling) ∷ []
       → Comes (provenance_of files) macros (seen_hidden old.names old.hides head) rest (at old was c) (step_at st now after c)
   pub others : (c : List ℕ) → IsConfig old.sets.arities c → items_at old.sets parts c ≡ [] → step_at st now after c ≡ step_at old was before c
+  pub others_each : (c : List ℕ) → IsConfig old.sets.arities c → items_at old.sets parts c ≡ [] → has_each st.sets now.top.work c ≡ has_each old.sets was.top.work c
+  pub alike : (c d : List ℕ) (span : Span) → IsConfig old.sets.arities c → IsConfig old.sets.arities d → AreAlike old.sets c d parts
+      → ((items_at old.sets parts c ≡ [] → ⊥) → IsSameCall old.sets old.names c d was.top.work) → IsAlikeTaken old.sets c d before
+      → IsAlikeIn old.sets c d span was → IsAlikeIn st.sets c d span now × IsAlikeTaken st.sets c d after

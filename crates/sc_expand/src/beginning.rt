@@ -1,5 +1,5 @@
 //! How a call begins: what replaces it but for its arguments, and which of these are wanted.
-ghost use Rattle.std.specs.Prelude.{◌≡◌, ◌<◌, ◌≤◌, ℕ, ◌&&◌, ◌||◌, ◌++◌, ◌∷◌, [], Bool, true, false, List, Result, Ok, Err, All, map, drop, if◌then◌else◌, reverse, length, IfOk, IfSome, IfNone, OnOk};
+ghost use Rattle.std.specs.Prelude.{◌≡◌, ◌<◌, ◌≤◌, ℕ, ◌&&◌, ◌||◌, ◌++◌, ◌∷◌, [], Bool, true, false, List, Result, Ok, Err, All, map, drop, if◌then◌else◌, reverse, length, IfOk, IfSome, IfNone, OnOk, take};
 ghost use Rattle.c11_macros.specs.Hidden as model;
 ghost use Rattle.c11_macros.specs.Hidden.{Failure, HideSet, Provenance, failure_at, meet, with_name};
 ghost use Rattle.c11_macros.specs.Expansion.{call_result, list_of};
@@ -7,6 +7,7 @@ ghost use Rattle.c11_macros.specs.Substitution.{argument, substituted};
 ghost use Rattle.sc_base.specs.declared.id.Cond as declared_cond;
 ghost use Rattle.sc_base.specs.declared.id.Name as declared_name;
 ghost use Rattle.sc_base.specs.declared.place.Place as declared_place;
+ghost use Rattle.sc_hoist.specs.Alike.{AreAlike, IsAlike};
 ghost use Rattle.sc_expand.specs.Beginning.{Begins, IsRefused, IsTemplateOf, token_at, tokens_of, with_argument};
 ghost use Rattle.sc_expand.specs.Having.{has_each};
 ghost use Rattle.sc_expand.specs.Seen.{IsHeldCall, IsHeldTemplate, IsHeldToken, Stores, seen_at, seen_wanted, stores};
@@ -200,6 +201,8 @@ pub fn take_out<C: Conditions>(
     ensures first { OnOk result ((c : List ℕ) → IsConfig (C.sets conds.old).arities c → (C.sets conds.old).has cond.0 c ≡ true → 0 < count
         → has_first (C.sets conds.new) list.new c ≡ false) }
     ensures own { OnOk result (All (λ item. IsCond (C.sets conds.new) item.0.0) list.new) }
+    ensures alike { OnOk result ((c d : List ℕ) (first : ℕ) → IsConfig (C.sets conds.old).arities c → IsConfig (C.sets conds.old).arities d → IsAlike (C.sets conds.old) c d cond
+        → AreAlike (C.sets conds.old) c d (take first list.old) → AreAlike (C.sets conds.new) c d (take first list.new)) }
 
     // at every outcome
     ensures items { map (λ item. item.1) list.new ≡ map (λ item. item.1) list.old }

@@ -1,6 +1,8 @@
 //! Macro expansion of a list of tokens that differ by configuration.
 ghost use Rattle.std.specs.Prelude.{◌≡◌, ℕ, ◌<◌, [], List, All, true, false, length, map, IfErr, IfOk};
 ghost use Rattle.sc_base.specs.Seen.{IsHeld, seen};
+ghost use Rattle.sc_expand.specs.Alike.{DefineTextAlike};
+ghost use Rattle.sc_hoist.specs.Alike.{AreAlike, AreAlikeFaults};
 ghost use Rattle.sc_expand.specs.Answers.{IsEmpty, IsExpanded, IsHeldAnswer};
 ghost use Rattle.sc_expand.specs.Running.{IsUntouched};
 ghost use Rattle.sc_expand.specs.Stops.{StopsBy};
@@ -48,6 +50,9 @@ pub fn expand<C: Conditions>(
     ensures unchanged { IfOk result (λ e. DefinesNone (C.sets conds.old) names.old (macros_at (C.sets conds.old) names.old table.now) live.0 list.now
         → IsRestricted (C.sets conds.new) live.0 list.now e.list × (e.faults.items ≡ [])) }
     ensures stops { IfErr result (StopsBy (C.sets conds.old).arities limit) }
+    ensures alike { IfOk result (λ e. (c d : List ℕ) → IsConfig (C.sets conds.old).arities c → IsConfig (C.sets conds.old).arities d → (C.sets conds.old).has live.0 c ≡ true → (C.sets conds.old).has live.0 d ≡ true → AreAlike (C.sets conds.old) c d list.now
+        → DefineTextAlike (macros_at (C.sets conds.old) names.old table.now c) (macros_at (C.sets conds.old) names.old table.now d) (map (seen names.old files.now) (items_at (C.sets conds.old) list.now c))
+        → AreAlike (C.sets conds.new) c d e.list × AreAlikeFaults (C.sets conds.new) c d e.faults.items) }
 
     // at every outcome
     ensures keeps { Keeps (C.sets conds.old) (C.sets conds.new) }

@@ -2,6 +2,8 @@
 ghost use Rattle.std.specs.Prelude.{◌≡◌, ℕ, ◌&&◌, ◌++◌, ◌∷◌, [], not, List, All, map, true, false, length, slice_index_or, if◌then◌else◌, OnOk, IfOk};
 ghost use Rattle.c11_macros.specs.Substitution.{hiding, with_space};
 ghost use Rattle.sc_base.specs.declared.id.Cond as base;
+ghost use Rattle.sc_expand.specs.Alike.{IsAlikeCall};
+ghost use Rattle.sc_hoist.specs.Alike.{AreAlike, IsAlike};
 ghost use Rattle.sc_expand.specs.Filling.{first_spaced_if, part_at, parts_at, spaced as spaced_as};
 ghost use Rattle.sc_expand.specs.Seen.{AreHeld, IsHeldCall, IsHeldPartIn, IsHeldToken, Stores, provenance_of, seen_at, stores};
 ghost use Rattle.sc_guarded.specs.Items.{items_at};
@@ -38,6 +40,8 @@ fn put_spaced<C: Conditions>(
         ++ (if (C.sets conds.old).has has.0 c then (if (C.sets conds.old).has left.0 c then spaced_as space token else token) ∷ [] else [])) }
     ensures left { IfOk result (λ rest. Denotes (C.sets conds.new) rest.0 (λ c. (C.sets conds.old).has left.0 c && not ((C.sets conds.old).has has.0 c))) }
     ensures held { OnOk result ((st : Stores) (files : ℕ) → IsHeldToken st files token → All (λ item. IsHeldToken st files item.1) made.old → All (λ item. IsHeldToken st files item.1) made.new) }
+    ensures alike { OnOk result ((c d : List ℕ) → IsConfig (C.sets conds.old).arities c → IsConfig (C.sets conds.old).arities d → IsAlike (C.sets conds.old) c d left → IsAlike (C.sets conds.old) c d has
+        → AreAlike (C.sets conds.old) c d made.old → AreAlike (C.sets conds.new) c d made.new) }
 
     // at every outcome
     ensures keeps { Keeps (C.sets conds.old) (C.sets conds.new) }
@@ -79,6 +83,8 @@ fn put_list<C: Conditions>(
     ensures is { OnOk result ((c : List ℕ) → IsConfig (C.sets conds.old).arities c → items_at (C.sets conds.new) made.new c
         ≡ items_at (C.sets conds.old) made.old c ++ first_spaced_if ((C.sets conds.old).has cond.0 c) space (items_at (C.sets conds.old) list.now c)) }
     ensures held { OnOk result ((st : Stores) (files : ℕ) → All (λ item. IsHeldToken st files item.1) list.now → All (λ item. IsHeldToken st files item.1) made.old → All (λ item. IsHeldToken st files item.1) made.new) }
+    ensures alike { OnOk result ((c d : List ℕ) → IsConfig (C.sets conds.old).arities c → IsConfig (C.sets conds.old).arities d → AreAlike (C.sets conds.old) c d list.now → IsAlike (C.sets conds.old) c d cond
+        → AreAlike (C.sets conds.old) c d made.old → AreAlike (C.sets conds.new) c d made.new) }
 
     // at every outcome
     ensures keeps { Keeps (C.sets conds.old) (C.sets conds.new) }
@@ -108,6 +114,8 @@ fn put_part<C: Conditions>(
     ensures is { OnOk result ((c : List ℕ) → IsConfig (C.sets conds.old).arities c → items_at (C.sets conds.new) made.new c
         ≡ items_at (C.sets conds.old) made.old c ++ part_at (C.sets conds.old) expanded.now ((C.sets conds.old).has cond.0 c) c part) }
     ensures held { OnOk result ((st : Stores) (files : ℕ) → IsHeldPartIn st files part → All (λ list. All (λ item. IsHeldToken st files item.1) list) expanded.now → All (λ item. IsHeldToken st files item.1) made.old → All (λ item. IsHeldToken st files item.1) made.new) }
+    ensures alike { OnOk result ((c d : List ℕ) → IsConfig (C.sets conds.old).arities c → IsConfig (C.sets conds.old).arities d → All (AreAlike (C.sets conds.old) c d) expanded.now → IsAlike (C.sets conds.old) c d cond
+        → AreAlike (C.sets conds.old) c d made.old → AreAlike (C.sets conds.new) c d made.new) }
 
     // at every outcome
     ensures keeps { Keeps (C.sets conds.old) (C.sets conds.new) }
@@ -139,6 +147,7 @@ fn put_parts<C: Conditions>(
     ensures is { IfOk result (λ made. (c : List ℕ) → IsConfig (C.sets conds.old).arities c → items_at (C.sets conds.new) made c
         ≡ parts_at (C.sets conds.old) expanded.now ((C.sets conds.old).has cond.0 c) c parts.now) }
     ensures held { IfOk result (λ made. (st : Stores) (files : ℕ) → All (IsHeldPartIn st files) parts.now → All (λ list. All (λ item. IsHeldToken st files item.1) list) expanded.now → All (λ item. IsHeldToken st files item.1) made) }
+    ensures alike { IfOk result (λ made. (c d : List ℕ) → IsConfig (C.sets conds.old).arities c → IsConfig (C.sets conds.old).arities d → All (AreAlike (C.sets conds.old) c d) expanded.now → IsAlike (C.sets conds.old) c d cond → AreAlike (C.sets conds.new) c d made) }
 
     // at every outcome
     ensures keeps { Keeps (C.sets conds.old) (C.sets conds.new) }
@@ -224,6 +233,7 @@ pub fn fill<C: Conditions>(
         → seen_at (stores (C.sets conds.new) names.now sets.new) made.items c ≡ []) }
     ensures held { IfOk result (λ made. (files : ℕ) → All (IsHeldPartIn (stores (C.sets conds.old) names.now sets.old) files) parts.now
         → IsHeldCall (stores (C.sets conds.old) names.now sets.old) files call.now → AreHeld (stores (C.sets conds.new) names.now sets.new) files made.items) }
+    ensures alike { IfOk result (λ made. (c d : List ℕ) → IsConfig (C.sets conds.old).arities c → IsConfig (C.sets conds.old).arities d → IsAlikeCall (C.sets conds.old) c d call.now → AreAlike (C.sets conds.new) c d made.items) }
 
     // at every outcome
     ensures keeps { Keeps (C.sets conds.old) (C.sets conds.new) }

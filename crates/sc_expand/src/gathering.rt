@@ -6,6 +6,8 @@ ghost use Rattle.c11_macros.specs.Macros as model_macros;
 ghost use Rattle.c11_macros.specs.Macros.{Macros};
 ghost use Rattle.c11_macros.specs.Defines.{is_function_like};
 ghost use Rattle.sc_base.specs.declared.place.Place.{Place};
+ghost use Rattle.sc_expand.specs.Alike.{IsAlikeIn, IsSameCall, Span};
+ghost use Rattle.sc_hoist.specs.Alike.{IsAlike};
 ghost use Rattle.sc_expand.specs.Called.{AreGathered, Begins, IsBranch, IsCall};
 ghost use Rattle.sc_expand.specs.Gather.{Gathers};
 ghost use Rattle.sc_hoist.specs.Branches.{lists_at};
@@ -71,6 +73,11 @@ impl Expansion {
         ensures first_others { OnOk result ((c : List ℕ) → IsConfig (C.sets conds.old).arities c → (C.sets conds.old).has cond.0 c ≡ false
             → has_first (C.sets conds.new) self.new.top.work c ≡ has_first (C.sets conds.old) self.old.top.work c) }
         ensures stops { IfErr result (StopsBy (C.sets conds.old).arities limit) }
+        ensures alike { IfOk result (λ uncalled. (c d : List ℕ) (span : Span) → IsConfig (C.sets conds.old).arities c → IsConfig (C.sets conds.old).arities d
+            → IsAlike (C.sets conds.old) c d cond → ((C.sets conds.old).has cond.0 c ≡ true → IsSameCall (C.sets conds.old) names.old c d self.old.top.work)
+            → IsAlikeIn (C.sets conds.old) c d span self.old → IsAlikeIn (C.sets conds.new) c d span self.new × IsAlike (C.sets conds.new) c d uncalled) }
+        ensures others_each { OnOk result ((c : List ℕ) → IsConfig (C.sets conds.old).arities c → (C.sets conds.old).has cond.0 c ≡ false
+            → has_each (C.sets conds.new) self.new.top.work c ≡ has_each (C.sets conds.old) self.old.top.work c) }
 
         // at every outcome
         ensures keeps { Keeps (C.sets conds.old) (C.sets conds.new) }
@@ -204,6 +211,8 @@ impl Expansion {
         ensures refusals { OnOk result (self.new.refusals ≡ self.old.refusals) }
         ensures below { OnOk result (self.new.below ≡ self.old.below) }
         ensures tokens { OnOk result (map (λ item. item.1) self.new.top.work ≡ map (λ item. item.1) self.old.top.work) }
+        ensures alike { OnOk result ((c d : List ℕ) (span : Span) → IsConfig (C.sets conds.old).arities c → IsConfig (C.sets conds.old).arities d → IsAlike (C.sets conds.old) c d branch.now.cond
+            → IsAlikeIn (C.sets conds.old) c d span self.old → IsAlikeIn (C.sets conds.new) c d span self.new) }
 
         // at every outcome
         ensures keeps { Keeps (C.sets conds.old) (C.sets conds.new) }
@@ -249,6 +258,8 @@ impl Expansion {
         ensures work { OnOk result (self.new.top.work ≡ self.old.top.work) }
         ensures below { OnOk result (self.new.below ≡ self.old.below) }
         ensures out { OnOk result (self.new.top.out ≡ self.old.top.out) }
+        ensures alike { OnOk result ((c d : List ℕ) (span : Span) → IsConfig (C.sets conds.old).arities c → IsConfig (C.sets conds.old).arities d → IsAlike (C.sets conds.old) c d cond
+            → IsAlikeIn (C.sets conds.old) c d span self.old → IsAlikeIn (C.sets conds.new) c d span self.new) }
 
         // at every outcome
         ensures keeps { Keeps (C.sets conds.old) (C.sets conds.new) }

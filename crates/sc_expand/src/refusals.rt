@@ -1,4 +1,6 @@
 ghost use Rattle.std.specs.Prelude.{◌≡◌, ℕ, ◌<◌, ◌&&◌, ◌++◌, ◌∷◌, [], not, Bool, List, All, IfOk, OnOk, if◌then◌else◌};
+ghost use Rattle.sc_expand.specs.Alike.{AreAlikeRefusals};
+ghost use Rattle.sc_hoist.specs.Alike.{IsAlike};
 ghost use Rattle.sc_expand.specs.Seen.{IsHeldRefusals, failures_at};
 ghost use Rattle.sc_model.specs.Sets.{IsConfig, IsCond, Denotes, Keeps};
 
@@ -29,6 +31,8 @@ impl Refusals {
             → failures_at (C.sets conds.new) self.new.faults.items c
             ≡ failures_at (C.sets conds.old) self.old.faults.items c ++ (if (C.sets conds.old).has cond.0 c then record { cause = cause; place = place } ∷ [] else [])) }
         ensures held { OnOk result ((files : ℕ) → place.file.0 < files → IsHeldRefusals (C.sets conds.old) files self.old → IsHeldRefusals (C.sets conds.new) files self.new) }
+        ensures alike { OnOk result ((c d : List ℕ) (others : ℕ) → IsConfig (C.sets conds.old).arities c → IsConfig (C.sets conds.old).arities d → All (λ f. IsCond (C.sets conds.old) f.cond.0) self.old.faults.items
+            → IsAlike (C.sets conds.old) c d cond → AreAlikeRefusals (C.sets conds.old) c d others self.old → AreAlikeRefusals (C.sets conds.new) c d others self.new) }
 
         // at every outcome
         ensures keeps { Keeps (C.sets conds.old) (C.sets conds.new) }

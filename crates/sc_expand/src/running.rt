@@ -1,6 +1,7 @@
 //! The loop of an expansion.
-ghost use Rattle.std.specs.Prelude.{◌≡◌, ◌<◌, ℕ, List, Some, length, IfErr, IfOk, IsSome, OnOk};
+ghost use Rattle.std.specs.Prelude.{◌≡◌, ◌<◌, ℕ, List, Some, length, true, IfErr, IfOk, IsSome, OnOk};
 ghost use Rattle.std.specs.Bool.{OnFalse, OnTrue};
+ghost use Rattle.sc_expand.specs.Alike.{DefineAlike, IsAlikeExpansion};
 ghost use Rattle.sc_expand.specs.Machine.{IsExpansion, IsHeldExpansion};
 ghost use Rattle.sc_expand.specs.Running.{IsDone, IsDropped, IsReady, IsRested, IsTurned, IsUntouched, PutsOut, next_of, put_out, weight};
 ghost use Rattle.sc_expand.specs.Seen.{failures_at, provenance_of, seen_at, stores};
@@ -37,6 +38,9 @@ impl Expansion {
         ensures unchanged { OnOk result (LooksUpNone (C.sets conds.old) names.old (macros_at (C.sets conds.old) names.old table.now) self.old
             → IsRestricted (C.sets conds.new) self.old.refusals.live.0 self.old.top.work self.new.top.out × (self.new.refusals ≡ self.old.refusals)) }
         ensures stops { IfErr result (StopsBy (C.sets conds.old).arities limit) }
+        ensures alike { OnOk result ((c d : List ℕ) → IsConfig (C.sets conds.old).arities c → IsConfig (C.sets conds.old).arities d → (C.sets conds.old).has self.old.refusals.live.0 c ≡ true
+            → DefineAlike (provenance_of files.now) (macros_at (C.sets conds.old) names.old table.now c) (macros_at (C.sets conds.old) names.old table.now d) (seen_at (stores (C.sets conds.old) names.old self.old.sets) self.old.top.work c)
+            → IsAlikeExpansion (C.sets conds.old) c d self.old → IsAlikeExpansion (C.sets conds.new) c d self.new) }
 
         // at every outcome
         ensures keeps { Keeps (C.sets conds.old) (C.sets conds.new) }

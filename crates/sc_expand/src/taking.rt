@@ -9,6 +9,9 @@ ghost use Rattle.c11_macros.specs.Macros.{Macros};
 ghost use Rattle.sc_base.specs.declared.id.Name as declared_name;
 ghost use Rattle.sc_base.specs.declared.place.Place.{Place};
 ghost use Rattle.sc_base.specs.declared.stop.Stop.TheVariants as declared_stop;
+ghost use Rattle.sc_expand.specs.Alike.{DefineNextAlike, IsAlikeExpansion, IsAlikeIn, IsAlikeTaken, IsSameCall, Span};
+ghost use Rattle.sc_hoist.specs.Alike.{AreAlike, IsAlike};
+ghost use Rattle.sc_expand.specs.Having.{has_each};
 ghost use Rattle.sc_expand.specs.Machine.{IsHeldExpansion, at};
 ghost use Rattle.sc_expand.specs.Running.{PutsOut};
 ghost use Rattle.sc_expand.specs.Seen.{AreHeld, IsHeldToken, provenance_of, seen_at, stores};
@@ -67,6 +70,9 @@ impl Expansion {
         ensures passes { OnOk result (IsUncalled self.old → LooksUpNone (C.sets conds.old) names.old (macros_at (C.sets conds.old) names.old table.now) self.old
             → Passes (C.sets conds.new) self.old self.new) }
         ensures stops { IfErr result (StopsBy (C.sets conds.old).arities limit) }
+        ensures alike { OnOk result ((c d : List ℕ) → IsConfig (C.sets conds.old).arities c → IsConfig (C.sets conds.old).arities d
+            → DefineNextAlike (stores (C.sets conds.old) names.old self.old.sets) (macros_at (C.sets conds.old) names.old table.now c) (macros_at (C.sets conds.old) names.old table.now d) c self.old
+            → IsAlikeExpansion (C.sets conds.old) c d self.old → IsAlikeExpansion (C.sets conds.new) c d self.new) }
 
         // at every outcome
         ensures keeps { Keeps (C.sets conds.old) (C.sets conds.new) }
@@ -113,6 +119,11 @@ impl Expansion {
             → IsUndefined names.old (macros_at (C.sets conds.old) names.old table.now c) token.token)
             → (self.new ≡ self.old) × (taken.made.items ≡ [])) }
         ensures stops { IfErr result (StopsBy (C.sets conds.old).arities limit) }
+        ensures alike { IfOk result (λ taken. (c d : List ℕ) (span : Span) → IsConfig (C.sets conds.old).arities c → IsConfig (C.sets conds.old).arities d
+            → IsAlike (C.sets conds.old) c d cond → ((C.sets conds.old).has cond.0 c ≡ true → IsSameCall (C.sets conds.old) names.old c d self.old.top.work)
+            → ((C.sets conds.old).has cond.0 c ≡ true → expansion.is_looked_up (seen_hidden names.old self.old.sets token) ≡ true
+            → macros_at (C.sets conds.old) names.old table.now c (text_of names.old token.token.spelling) ≡ macros_at (C.sets conds.old) names.old table.now d (text_of names.old token.token.spelling))
+            → IsAlikeIn (C.sets conds.old) c d span self.old → IsAlikeIn (C.sets conds.new) c d span self.new × IsAlikeTaken (C.sets conds.new) c d taken) }
 
         // at every outcome
         ensures keeps { Keeps (C.sets conds.old) (C.sets conds.new) }
@@ -163,6 +174,11 @@ impl Expansion {
             → IsUndefined names.old (macros_at (C.sets conds.old) names.old table.now c) head.token)
             → (self.new ≡ self.old) × (taken.made.items ≡ [])) }
         ensures stops { IfErr result (StopsBy (C.sets conds.old).arities limit) }
+        ensures alike { IfOk result (λ taken. (c d : List ℕ) (span : Span) → IsConfig (C.sets conds.old).arities c → IsConfig (C.sets conds.old).arities d
+            → IsAlike (C.sets conds.old) c d cond → ((C.sets conds.old).has cond.0 c ≡ true → IsSameCall (C.sets conds.old) names.old c d self.old.top.work)
+            → ((C.sets conds.old).has cond.0 c ≡ true → macros_at (C.sets conds.old) names.old table.now c (text_of names.old head.token.spelling)
+            ≡ macros_at (C.sets conds.old) names.old table.now d (text_of names.old head.token.spelling))
+            → IsAlikeIn (C.sets conds.old) c d span self.old → IsAlikeIn (C.sets conds.new) c d span self.new × IsAlikeTaken (C.sets conds.new) c d taken) }
 
         // at every outcome
         ensures keeps { Keeps (C.sets conds.old) (C.sets conds.new) }
@@ -242,6 +258,9 @@ impl Expansion {
             → step_at (stores (C.sets conds.new) names.new self.new.sets) self.new taken.new c ≡ step_at (stores (C.sets conds.old) names.old self.old.sets) self.old taken.old c) }
         ensures undefined { OnOk result (All (λ part. part.1 ≡ None) parts.now → (self.new ≡ self.old) × (taken.new.made ≡ taken.old.made)) }
         ensures stops { IfErr result (StopsBy (C.sets conds.old).arities limit) }
+        ensures alike { OnOk result ((c d : List ℕ) (span : Span) → IsConfig (C.sets conds.old).arities c → IsConfig (C.sets conds.old).arities d
+            → AreAlike (C.sets conds.old) c d parts.now → ((items_at (C.sets conds.old) parts.now c ≡ [] → ⊥) → IsSameCall (C.sets conds.old) names.old c d self.old.top.work) → IsAlikeTaken (C.sets conds.old) c d taken.old
+            → IsAlikeIn (C.sets conds.old) c d span self.old → IsAlikeIn (C.sets conds.new) c d span self.new × IsAlikeTaken (C.sets conds.new) c d taken.new) }
 
         // at every outcome
         ensures keeps { Keeps (C.sets conds.old) (C.sets conds.new) }
@@ -289,6 +308,11 @@ impl Expansion {
             → step_at (stores (C.sets conds.new) names.new self.new.sets) self.new taken.new c ≡ step_at (stores (C.sets conds.old) names.old self.old.sets) self.old taken.old c) }
         ensures undefined { OnOk result (definition.now ≡ None → (self.new ≡ self.old) × (taken.new.made ≡ taken.old.made)) }
         ensures stops { IfErr result (StopsBy (C.sets conds.old).arities limit) }
+        ensures alike { OnOk result ((c d : List ℕ) (span : Span) → IsConfig (C.sets conds.old).arities c → IsConfig (C.sets conds.old).arities d
+            → IsAlike (C.sets conds.old) c d cond → ((C.sets conds.old).has cond.0 c ≡ true → IsSameCall (C.sets conds.old) names.old c d self.old.top.work) → IsAlikeTaken (C.sets conds.old) c d taken.old
+            → IsAlikeIn (C.sets conds.old) c d span self.old → IsAlikeIn (C.sets conds.new) c d span self.new × IsAlikeTaken (C.sets conds.new) c d taken.new) }
+        ensures others_each { OnOk result ((c : List ℕ) → IsConfig (C.sets conds.old).arities c → (C.sets conds.old).has cond.0 c ≡ false
+            → has_each (C.sets conds.new) self.new.top.work c ≡ has_each (C.sets conds.old) self.old.top.work c) }
 
         // at every outcome
         ensures keeps { Keeps (C.sets conds.old) (C.sets conds.new) }
@@ -340,6 +364,11 @@ impl Expansion {
         ensures others { OnOk result ((c : List ℕ) → IsConfig (C.sets conds.old).arities c → (C.sets conds.old).has cond.0 c ≡ false
             → step_at (stores (C.sets conds.new) names.new self.new.sets) self.new taken.new c ≡ step_at (stores (C.sets conds.old) names.old self.old.sets) self.old taken.old c) }
         ensures stops { IfErr result (StopsBy (C.sets conds.old).arities limit) }
+        ensures alike { OnOk result ((c d : List ℕ) (span : Span) → IsConfig (C.sets conds.old).arities c → IsConfig (C.sets conds.old).arities d
+            → IsAlike (C.sets conds.old) c d cond → ((C.sets conds.old).has cond.0 c ≡ true → IsSameCall (C.sets conds.old) names.old c d self.old.top.work) → IsAlikeTaken (C.sets conds.old) c d taken.old
+            → IsAlikeIn (C.sets conds.old) c d span self.old → IsAlikeIn (C.sets conds.new) c d span self.new × IsAlikeTaken (C.sets conds.new) c d taken.new) }
+        ensures others_each { OnOk result ((c : List ℕ) → IsConfig (C.sets conds.old).arities c → (C.sets conds.old).has cond.0 c ≡ false
+            → has_each (C.sets conds.new) self.new.top.work c ≡ has_each (C.sets conds.old) self.old.top.work c) }
 
         // at every outcome
         ensures keeps { Keeps (C.sets conds.old) (C.sets conds.new) }
@@ -383,6 +412,8 @@ impl Expansion {
             → (at (stores (C.sets conds.new) names.new self.new.sets) self.new c ≡ at (stores (C.sets conds.old) names.old self.old.sets) self.old c)
             × (seen_at (stores (C.sets conds.new) names.new self.new.sets) made.new.items c ≡ seen_at (stores (C.sets conds.old) names.old self.old.sets) made.old.items c)) }
         ensures stops { IfErr result (λ stop. stop ≡ declared_stop.OutOfMemory) }
+        ensures alike { OnOk result ((c d : List ℕ) (span : Span) → IsConfig (C.sets conds.old).arities c → IsConfig (C.sets conds.old).arities d → IsAlike (C.sets conds.old) c d cond → AreAlike (C.sets conds.old) c d made.old.items
+            → IsAlikeIn (C.sets conds.old) c d span self.old → IsAlikeIn (C.sets conds.new) c d span self.new × AreAlike (C.sets conds.new) c d made.new.items) }
 
         // at every outcome
         ensures keeps { Keeps (C.sets conds.old) (C.sets conds.new) }

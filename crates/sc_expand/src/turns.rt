@@ -1,6 +1,7 @@
 //! The turns of an expansion at a call that waits: an argument is entered, or left.
 ghost use Rattle.std.specs.Prelude.{◌≡◌, ℕ, ◌++◌, ◌∷◌, [], List, true, map, slice_set, IfOk, OnOk};
 ghost use Rattle.c11_macros.specs.Macros.{Macros};
+ghost use Rattle.sc_expand.specs.Alike.{IsAlikeCall, IsAlikeExpansion};
 ghost use Rattle.sc_expand.specs.Machine.{IsHeldExpansion, IsResumed, Progress, at, at_call};
 ghost use Rattle.sc_expand.specs.Running.{put_out};
 ghost use Rattle.sc_expand.specs.Seen.{IsHeldCall, calls_at, provenance_of, stores};
@@ -85,6 +86,8 @@ impl Expansion {
         ensures turns { OnOk result ((files : List (List ℕ)) (macros : Macros) (c : List ℕ) → IsConfig (C.sets conds.old).arities c
             → Turn (provenance_of files) macros (at_call (stores (C.sets conds.old) names.now self.old.sets) self.old call c)
             (at (stores (C.sets conds.new) names.now self.new.sets) self.new c) ((C.sets conds.old).has call.cond.0 c)) }
+        ensures alike { OnOk result ((c d : List ℕ) → IsConfig (C.sets conds.old).arities c → IsConfig (C.sets conds.old).arities d → IsAlikeCall (C.sets conds.old) c d call
+            → IsAlikeExpansion (C.sets conds.old) c d self.old → IsAlikeExpansion (C.sets conds.new) c d self.new) }
 
         // at every outcome
         ensures keeps { Keeps (C.sets conds.old) (C.sets conds.new) }
@@ -124,6 +127,8 @@ impl Expansion {
             (at_call (stores (C.sets conds.old) names.now self.old.sets) self.old call c)
             (at (stores (C.sets conds.new) names.now self.new.sets) self.new c) ((C.sets conds.old).has call.cond.0 c)) }
         ensures out { OnOk result (put_out self.new ≡ put_out self.old) }
+        ensures alike { OnOk result ((c d : List ℕ) → IsConfig (C.sets conds.old).arities c → IsConfig (C.sets conds.old).arities d → IsAlikeCall (C.sets conds.old) c d call
+            → IsAlikeExpansion (C.sets conds.old) c d self.old → IsAlikeExpansion (C.sets conds.new) c d self.new) }
 
         // at every outcome
         ensures keeps { Keeps (C.sets conds.old) (C.sets conds.new) }

@@ -1,4 +1,5 @@
 ghost use Rattle.std.specs.Prelude.{◌≡◌, ℕ, ◌^◌, ◌<◌, ◌≤◌, ◌++◌, ◌∷◌, [], List, All, map, take, drop, length, slice_get, if◌then◌else◌, true, Some, OnOk};
+ghost use Rattle.sc_hoist.specs.Alike.{AreAlike, IsAlike};
 ghost use Rattle.sc_expand.specs.Having.{has_each};
 ghost use Rattle.sc_guarded.specs.Items.{items_at};
 ghost use Rattle.sc_model.specs.Sets.{IsConfig, IsCond, Keeps};
@@ -112,6 +113,8 @@ impl WorkList {
             ≡ (if (C.sets conds.old).has by.0 c then items_at (C.sets conds.old) (take count self.old) c else [])) }
         ensures others { OnOk result ((c : List ℕ) → IsConfig (C.sets conds.old).arities c → (C.sets conds.old).has by.0 c ≡ true
             → has_each (C.sets conds.new) self.new c ≡ has_each (C.sets conds.old) self.old c) }
+        ensures alike { OnOk result ((c d : List ℕ) (first : ℕ) → IsConfig (C.sets conds.old).arities c → IsConfig (C.sets conds.old).arities d → IsAlike (C.sets conds.old) c d by
+            → AreAlike (C.sets conds.old) c d (take first self.old) → AreAlike (C.sets conds.new) c d (take first self.new)) }
 
         // at every outcome
         ensures items { map (λ item. item.1) self.new ≡ map (λ item. item.1) self.old }

@@ -4,3 +4,4 @@ pub mod Calls
 pub mod Leaves
 pub mod Places
 pub mod Reading
+pub mod Alike

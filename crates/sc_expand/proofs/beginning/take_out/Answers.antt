@@ -1,6 +1,7 @@
 use Rattle.std.proofs.Common.{◌≡◌, ◌∙◌, [], false, true, not, ap, take, if◌then◌else◌}
 use Rattle.std.proofs.lemmas.List.Elements.{All-take}
 use Rattle.sc_base.specs.declared.id.Cond.{Cond}
+use Rattle.sc_expand.proofs.AlikeLemmas.{AreAlike-Keeps, alike-of}
 use Rattle.sc_expand.proofs.BeginningLemmas.{first_gone, taken_out}
 use Rattle.sc_expand.proofs.WorkListLemmas.{has_each-Keeps}
 use Rattle.sc_guarded.proofs.ItemLemmas.{items_at-Keeps}
@@ -42,3 +43,13 @@ returns-clause-first g c = λ x listed has some.
     let here = IsConfig-Keeps first listed in
     let test : mid.has c.in_ok-others.others.0 x ≡ false = (c.in_ok-others.ensures.meaning _ (Denotes-self old c.args.cond.0 c.requires.cond_own)).at x here ∙ ap not has in
     first_gone now c.restrict_before.new.self c.args.count x some (c.in_ok-restrict_before.ensures.restricted x here ∙ ap (λ b. if b then items_at mid (take c.args.count c.args.list.now) x else []) test)
+
+pub returns-clause-alike : goal.returns-clause-alike
+returns-clause-alike g c = λ x y m at_x at_y same alike.
+    let old = g.C.Conditions.sets c.args.conds.now in
+    let first = c.in_ok-others.ensures.keeps in
+    let here = IsConfig-Keeps first at_x in
+    let there = IsConfig-Keeps first at_y in
+    let told = c.in_ok-others.ensures.meaning _ (Denotes-self old c.args.cond.0 c.requires.cond_own) in
+    c.in_ok-restrict_before.ensures.alike x y m here there (alike-of told here there (ap not same))
+    (AreAlike-Keeps first at_x at_y (take m c.args.list.now) (All-take (λ (item : Cond × Hidden). IsCond old item.0.0) m c.args.list.now c.requires.own) alike)

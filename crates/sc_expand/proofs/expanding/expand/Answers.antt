@@ -1,5 +1,6 @@
-use Rattle.std.proofs.Common.{length, ◌∙◌}
-use Rattle.sc_expand.proofs.ExpandLemmas.{answer-held, answer-some, done-empty, done-expanded, started-held}
+use Rattle.std.proofs.Common.{ap, length, sym, ◌∙◌}
+use Rattle.sc_base.specs.declared.id.Cond.{Cond}
+use Rattle.sc_expand.proofs.ExpandLemmas.{answer-alike, answer-held, answer-some, done-empty, done-expanded, source-defines, started-alike, started-held}
 use Rattle.sc_expand.proofs.UnchangedAnswers.{answer-unchanged, looks-given}
 use Rattle.sc_expand.specs.Seen.{stores}
 use Rattle.sc_table.proofs.Growth.{macros_at-Extends, macros_at-Keeps, IsTable-Extends, IsTable-Keeps}
@@ -45,6 +46,17 @@ returns-clause-unchanged g c = λ none.
     let began = c.in_ok-expansion.expansion in
     let looks = looks-given s c.args.names.now (macros_at s c.args.names.now c.args.table.now) began c.args.list.now c.args.live e.live e.tokens none in
     answer-unchanged (g.C.Conditions.sets c.run.new.conds) began c.run.new.self c.in_ok-expanded.expanded c.args.list.now c.args.live e.live e.tokens e.untouched f.list f.faults (c.in_ok-run.ensures.unchanged looks)
+
+pub returns-clause-alike : goal.returns-clause-alike
+returns-clause-alike g c = λ one two p q here there same defines.
+    let s = g.C.Conditions.sets c.args.conds.now in
+    let macros = macros_at s c.args.names.now c.args.table.now in
+    let e = c.in_ok-expansion.ensures in
+    let f = c.in_ok-expanded.ensures in
+    let began = c.in_ok-expansion.expansion in
+    let looks = source-defines s c.args.names.now c.args.files.now one (macros one) (macros two) began c.args.list.now e.tokens e.unhidden defines in
+    let start = started-alike s one two began c.args.list.now c.args.live e.untouched e.live e.tokens (here ∙ sym there) same in
+    answer-alike (g.C.Conditions.sets c.run.new.conds) one two c.run.new.self c.in_ok-expanded.expanded f.list f.faults (c.in_ok-run.ensures.alike one two p q (ap (λ (k : Cond). s.has k.0 one) e.live ∙ here) looks start)
 
 pub returns-clause-table : goal.returns-clause-table
 returns-clause-table g c = IsTable-Extends c.run.ensures.names (IsTable-Keeps c.run.ensures.keeps c.requires.table)

@@ -3,10 +3,13 @@ use Rattle.std.proofs.lemmas.List.Elements.{All-nil}
 use Rattle.c11_macros.specs.Substitution.{hidden_by, hiding, with_space}
 use Rattle.sc_base.proofs.Growth.{Extends-refl}
 use Rattle.sc_base.specs.declared.id.Cond.{Cond}
+use Rattle.sc_expand.proofs.AlikeFilling.{AreAlike-conditions, AreAlike-nil}
+use Rattle.sc_expand.proofs.AlikeLemmas.{IsAlike-Keeps}
 use Rattle.sc_expand.proofs.FillingLemmas.{AllHeld, items_later, items_seen, made_held, parts_seen}
 use Rattle.sc_expand.specs.Filling.{first_spaced_if, parts_at}
 use Rattle.sc_expand.specs.Seen.{AreHeld, IsHeldToken, provenance_of, stores}
 use Rattle.sc_guarded.specs.Items.{items_at}
+use Rattle.sc_hoist.specs.Alike.{AreAlike, IsAlike}
 use Rattle.sc_model.proofs.SetLemmas.{IsConfig-Keeps, Keeps-trans}
 use Rattle.sc_subst.proofs.Later.{hide_later}
 use Rattle.sc_subst.proofs.Tokens.{spaced_first}
@@ -107,3 +110,16 @@ returns-clause-held g c = λ files parts_held call_held.
 
 pub returns-clause-keeps : goal.returns-clause-keeps
 returns-clause-keeps g c = Keeps-trans c.put_parts.ensures.keeps c.put_list.ensures.keeps
+
+pub returns-clause-alike : goal.returns-clause-alike
+returns-clause-alike g c = λ x y p q alike.
+    let old = g.C.Conditions.sets c.args.conds.now in
+    let mid = g.C.Conditions.sets c.put_parts.new.conds in
+    let new = g.C.Conditions.sets c.put_list.new.conds in
+    let keeps = c.put_parts.ensures.keeps in
+    let lists = subst (All (AreAlike {T = Hidden} old x y)) (sym c.deref.ensures.value) alike.expanded in
+    let filled : AreAlike mid x y c.in_ok-filled.filled = c.in_ok-filled.ensures.alike x y p q lists alike.cond in
+    let empty : AreAlike mid x y c.in_ok-spaced.spaced = subst (AreAlike mid x y) (sym c.in_ok-spaced.ensures) (AreAlike-nil mid x y) in
+    let cond : IsAlike mid x y c.args.call.now.cond = IsAlike-Keeps keeps p q {cond = c.args.call.now.cond} c.requires.held.1.1.own alike.cond in
+    let spaced : AreAlike new x y c.put_list.new.made = c.in_ok-put_list.ensures.alike x y (IsConfig-Keeps keeps p) (IsConfig-Keeps keeps q) filled cond empty in
+    AreAlike-conditions new x y c.put_list.new.made c.in_ok-made.made.items c.in_ok-made.ensures.conditions spaced

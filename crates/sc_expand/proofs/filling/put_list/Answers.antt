@@ -1,6 +1,7 @@
 use Rattle.std.proofs.Common.{◌∙◌, ◌++◌, ◌∷◌, ◌&&◌, ◌≤◌, [], not, if◌then◌else◌, length, sym, ap, subst, arith, take_all}
 use Rattle.std.proofs.lemmas.Option.{get_or_from_slice_get, slice_get_within}
 use Rattle.sc_base.specs.declared.id.Cond.{Cond}
+use Rattle.sc_expand.proofs.AlikeLemmas.{AreAlike-Keeps, IsAlike-Keeps, alike-of}
 use Rattle.sc_expand.proofs.FillingLemmas.{puts_more, puts_none}
 use Rattle.sc_expand.specs.Filling.{first_spaced_if, spaced}
 use Rattle.sc_guarded.proofs.ItemLemmas.{items_at-Keeps}
@@ -63,6 +64,8 @@ loop-index-preserved g c =
     let there = IsConfig-Keeps keeps here in
     c.in_ok-left.ensures.left.at y (IsConfig-Keeps c.put_spaced.ensures.keeps there)
     ∙ (ap (λ b. b && not (mid.has c.in_ok-met.met.0 y)) (keeps.at c.loop-index.left.0 y was.left_own here) ∙ ap (λ b. old.has c.loop-index.left.0 y && not b) (told.at y there)))
+    (λ y z p q left met made. c.in_ok-left.ensures.alike y z (IsConfig-Keeps keeps p) (IsConfig-Keeps keeps q) (IsAlike-Keeps keeps p q {cond = c.loop-index.left} was.left_own left)
+    (alike-of {cond = c.in_ok-met.met} told (IsConfig-Keeps keeps p) (IsConfig-Keeps keeps q) met) (AreAlike-Keeps keeps p q c.loop-index.made was.own made))
 
 pub returns-clause-own : goal.returns-clause-own
 returns-clause-own g c = c.loop-index.invariant.own
@@ -79,3 +82,6 @@ returns-clause-is g c = λ x listed.
 
 pub returns-clause-held : goal.returns-clause-held
 returns-clause-held g c = c.loop-index.invariant.held
+
+pub returns-clause-alike : goal.returns-clause-alike
+returns-clause-alike g c = c.loop-index.invariant.alike

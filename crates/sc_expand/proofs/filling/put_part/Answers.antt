@@ -2,12 +2,14 @@ use Rattle.std.proofs.Common.{◌∙◌, ◌++◌, ◌∷◌, [], All, subst, sy
 use Rattle.std.proofs.lemmas.List.Elements.{All-push}
 use Rattle.std.proofs.lemmas.Result.{on_ok_weaker}
 use Rattle.sc_base.specs.declared.id.Cond.{Cond}
+use Rattle.sc_expand.proofs.AlikeFilling.{AreAlike-push}
 use Rattle.sc_expand.proofs.FillingLemmas.{AllHeld}
 use Rattle.sc_expand.specs.Filling.{part_at}
 use Rattle.sc_expand.specs.Seen.{IsHeldPartIn, IsHeldToken}
 use Rattle.sc_subst.specs.declared.hidden.Hidden.{Hidden}
 use Rattle.sc_guarded.proofs.ItemLemmas.{items_at-append}
 use Rattle.sc_guarded.specs.Items.{items_at}
+use Rattle.sc_hoist.specs.Alike.{AreAlike}
 use Rattle.sc_expand.proofs.filling.put_part.Goals as goal
 
 pub returns-in_ok-push-in-Token-clause-is : goal.returns-in_ok-push-in-Token-clause-is
@@ -31,3 +33,15 @@ returns-in-Some-clause-held g c =
     let found = c.in-Some.ensures.lookup in
     puts st files (subst (AllHeld st files) (sym found.1) (expanded_held c.in-Argument.parameter c.in-Some.list.now found.3.0)) held)
     c.put_list.ensures.held
+
+pub returns-in_ok-push-in-Token-clause-alike : goal.returns-in_ok-push-in-Token-clause-alike
+returns-in_ok-push-in-Token-clause-alike g c = λ x y p q expanded cond made.
+    AreAlike-push (g.C.Conditions.sets c.args.conds.now) x y c.args.made.now c.push.new.self c.args.cond c.in-Token.token c.in_ok-push-in-Token.ensures.ok made cond
+
+pub returns-in-Some-clause-alike : goal.returns-in-Some-clause-alike
+returns-in-Some-clause-alike g c =
+    on_ok_weaker c.put_list.result
+    (λ puts x y p q expanded cond made.
+    let found = c.in-Some.ensures.lookup in
+    puts x y p q (subst (AreAlike (g.C.Conditions.sets c.args.conds.now) x y) (sym found.1) (expanded c.in-Argument.parameter c.in-Some.list.now found.3.0)) cond made)
+    c.put_list.ensures.alike

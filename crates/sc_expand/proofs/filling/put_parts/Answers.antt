@@ -2,10 +2,12 @@ use Rattle.std.proofs.Common.{◌∙◌, ◌++◌, All, sym, ap, subst}
 use Rattle.std.proofs.lemmas.List.{append-nil, drop_all}
 use Rattle.std.proofs.lemmas.List.Elements.{All-nil}
 use Rattle.sc_base.specs.declared.id.Cond.{Cond}
+use Rattle.sc_expand.proofs.AlikeFilling.{AreAlike-nil}
 use Rattle.sc_expand.proofs.FillingLemmas.{fills_more}
 use Rattle.sc_expand.specs.Filling.{parts_at}
 use Rattle.sc_expand.specs.Seen.{IsHeldToken}
 use Rattle.sc_guarded.specs.Items.{items_at}
+use Rattle.sc_hoist.specs.Alike.{AreAlike}
 use Rattle.sc_model.proofs.SetLemmas.{Keeps-refl, Keeps-trans}
 use Rattle.sc_model.specs.Sets.{IsCond}
 use Rattle.sc_subst.specs.declared.hidden.Hidden.{Hidden}
@@ -20,6 +22,7 @@ loop-part-init g c =
       own = subst (All P) (sym c.in_ok-made.ensures) (All-nil P);
       held = λ st files parts_held expanded_held. subst (All (λ (item : Cond × Hidden). IsHeldToken st files item.1)) (sym c.in_ok-made.ensures) (All-nil (λ (item : Cond × Hidden). IsHeldToken st files item.1));
       is = λ x listed. ap (λ l. items_at s l x ++ parts_at s c.args.expanded.now (s.has c.args.cond.0 x) x c.args.parts.now) c.in_ok-made.ensures;
+      alike = λ x y p q expanded cond. subst (AreAlike s x y) (sym c.in_ok-made.ensures) (AreAlike-nil s x y);
     }
 
 pub put_part-requires-clause-own : goal.put_part-requires-clause-own
@@ -40,7 +43,7 @@ loop-part-preserved g c =
     let old = g.C.Conditions.sets c.loop-part.conds in
     let new = g.C.Conditions.sets c.put_part.new.conds in
     fills_more first old new c.args.expanded.now c.args.cond.0 c.args.parts.now c.loop-part.made c.put_part.new.made c.loop-part.part-index _ c.loop-part.invariant c.loop-part-test.true
-    c.requires.expanded_own c.requires.cond_own c.put_part.ensures.keeps c.in_ok-put_part.ensures.own c.in_ok-put_part.ensures.is c.in_ok-put_part.ensures.held
+    c.requires.expanded_own c.requires.cond_own c.put_part.ensures.keeps c.in_ok-put_part.ensures.own c.in_ok-put_part.ensures.is c.in_ok-put_part.ensures.held c.in_ok-put_part.ensures.alike
 
 pub returns-clause-own : goal.returns-clause-own
 returns-clause-own g c = c.loop-part.invariant.own
@@ -58,3 +61,6 @@ returns-clause-keeps g c = c.loop-part.invariant.keeps
 
 pub returns-clause-held : goal.returns-clause-held
 returns-clause-held g c = c.loop-part.invariant.held
+
+pub returns-clause-alike : goal.returns-clause-alike
+returns-clause-alike g c = c.loop-part.invariant.alike

@@ -1,11 +1,14 @@
 use Rattle.std.proofs.Common.{◌≡◌, ◌∙◌, ◌&&◌, ◌++◌, ◌∷◌, [], not, false, All, sym, ap, subst, if◌then◌else◌}
 use Rattle.std.proofs.lemmas.List.Elements.{All-push}
 use Rattle.sc_base.specs.declared.id.Cond.{Cond}
+use Rattle.sc_expand.proofs.AlikeFilling.{AreAlike-push}
+use Rattle.sc_expand.proofs.AlikeLemmas.{AreAlike-Keeps, IsAlike-Keeps, alike-of}
 use Rattle.sc_expand.proofs.FillingLemmas.{items_at-two, spaced_token, put_parted, put_whole, rest_parted, rest_whole}
 use Rattle.sc_expand.specs.Filling.{spaced}
 use Rattle.sc_expand.specs.Seen.{IsHeldToken}
 use Rattle.sc_guarded.proofs.ItemLemmas.{items_at-append, items_at-Keeps}
 use Rattle.sc_guarded.specs.Items.{items_at}
+use Rattle.sc_hoist.specs.Alike.{IsAlike}
 use Rattle.sc_model.proofs.SetLemmas.{Denotes-self, Denotes-Keeps, IsConfig-Keeps, Keeps-trans}
 use Rattle.sc_model.specs.Sets.{IsCond}
 use Rattle.sc_subst.specs.declared.hidden.Hidden.{Hidden}
@@ -101,3 +104,28 @@ returns-clause-held g c = λ st files token_held held.
     subst (All P) (sym c.in_ok-push-3.ensures.ok)
     (All-push P c.push-2.new.self (c.in_ok-later.later, c.args.token)
     (subst (All P) (sym c.in_ok-push-2.ensures.ok) (All-push P c.args.made.now (c.in_ok-first.first, c.with_space_as.result) held first)) token_held)
+
+pub returns-then-is_never-clause-alike : goal.returns-then-is_never-clause-alike
+returns-then-is_never-clause-alike g c = λ x y p q left has made.
+    let new = g.C.Conditions.sets c.apply_and.new.self in
+    let keeps = c.apply_and.ensures.keeps in
+    AreAlike-push new x y c.args.made.now c.push.new.self c.args.has c.args.token c.in_ok-push.ensures.ok
+    (AreAlike-Keeps keeps p q c.args.made.now c.requires.own made) (IsAlike-Keeps keeps p q {cond = c.args.has} c.requires.has_own has)
+
+pub returns-clause-alike : goal.returns-clause-alike
+returns-clause-alike g c = λ x y p q left has made.
+    let old = g.C.Conditions.sets c.args.conds.now in
+    let new = g.C.Conditions.sets c.apply_and-3.new.self in
+    let keeps_later = c.apply_and-3.ensures.keeps in
+    let keeps_first = Keeps-trans c.negate.ensures.keeps (Keeps-trans c.apply_and-2.ensures.keeps keeps_later) in
+    let keeps_two = Keeps-trans c.apply_and.ensures.keeps c.negate.ensures.keeps in
+    let keeps = Keeps-trans c.apply_and.ensures.keeps keeps_first in
+    let here = IsConfig-Keeps keeps p in
+    let there = IsConfig-Keeps keeps q in
+    let first = c.in_ok-first.ensures.meaning _ _ (Denotes-self old c.args.has.0 c.requires.has_own) (Denotes-self old c.args.left.0 c.requires.left_own) in
+    let others = c.in_ok-others.ensures.meaning _ first in
+    let later = c.in_ok-later.ensures.meaning _ _ (Denotes-Keeps keeps_two (Denotes-self old c.args.has.0 c.requires.has_own)) others in
+    let is_first : IsAlike new x y c.in_ok-first.first = alike-of {cond = c.in_ok-first.first} (Denotes-Keeps keeps_first first) here there (λ i. has i && left i) in
+    let is_later : IsAlike new x y c.in_ok-later.later = alike-of {cond = c.in_ok-later.later} (Denotes-Keeps keeps_later later) here there (λ i. has i && not (has i && left i)) in
+    AreAlike-push new x y c.push-2.new.self c.push-3.new.self c.in_ok-later.later c.args.token c.in_ok-push-3.ensures.ok
+    (AreAlike-push new x y c.args.made.now c.push-2.new.self c.in_ok-first.first c.with_space_as.result c.in_ok-push-2.ensures.ok (AreAlike-Keeps keeps p q c.args.made.now c.requires.own made) is_first) is_later

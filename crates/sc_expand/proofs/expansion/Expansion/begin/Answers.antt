@@ -1,13 +1,17 @@
-use Rattle.std.proofs.Common.{◌≡◌, true, false, map, refl, sym, ap, subst, ◌∙◌}
+use Rattle.std.proofs.Common.{◌≡◌, true, false, All, map, refl, sym, ap, subst, ◌∙◌}
+use Rattle.std.proofs.lemmas.List.Elements.{All-push}
 use Rattle.c11_macros.specs.Hidden.{failure_at, meet, with_name}
 use Rattle.c11_macros.specs.Macros.{Form}
 use Rattle.c11_macros.specs.Substitution.{substituted}
+use Rattle.sc_expand.proofs.AlikeGathering.{begun-alike, refused-alike}
 use Rattle.sc_expand.proofs.BeginningLemmas.{in_none, in_some, is_gathered, is_template}
 use Rattle.sc_expand.proofs.GatherSteps.{pushed-at, pushed-held, pushed-other, refused-failures, refused-live, refused-other}
 use Rattle.sc_expand.proofs.SeenLemmas.{IsHeldExpansion-Grows}
 use Rattle.sc_expand.proofs.TakingSteps.{both-on-ok, on-ok}
+use Rattle.sc_expand.specs.Alike.{IsAlikeCall}
 use Rattle.sc_expand.specs.Beginning as beginning
 use Rattle.sc_expand.specs.Called.{refused, waits}
+use Rattle.sc_expand.specs.declared.call.Call.{Call}
 use Rattle.sc_expand.specs.Seen.{Grows, seen_template, stores}
 use Rattle.sc_macro.specs.Seen.{seen_item}
 use Rattle.sc_model.proofs.SetLemmas.{Keeps-refl}
@@ -90,3 +94,18 @@ returns-in-None-clause-others g c = both-on-ok c.refuse.result
     record { sets = c.refuse.ensures.keeps; names = c.begin_call.ensures.names; hides = c.begin_call.ensures.sets } in
     refused-other grows c.args.self.now c.requires.held.1 c.refuse.new.self c.args.cond.0 (failure_at BadStringize (seen_hidden c.args.names.now c.args.self.now.sets c.args.head)) live failures x listed lacks)
     c.refuse.ensures.live c.refuse.ensures.failures
+
+pub returns-in_ok-push-in-Some-clause-alike : goal.returns-in_ok-push-in-Some-clause-alike
+returns-in_ok-push-in-Some-clause-alike g c = λ x y span at_x at_y same alike.
+    let s = g.C.Conditions.sets c.args.conds.now in
+    let call = c.in-Some.call in
+    let P : Call → Type 0 = IsAlikeCall s x y in
+    let begun = begun-alike s x y (in_some _ c.in_ok-made.made call c.in-Some.is c.in_ok-made.ensures.some) same in
+    record { refusals = alike.refusals; work = alike.work; out = alike.out; calls = subst (All P) (sym c.in_ok-push-in-Some.ensures.items) (All-push P c.args.self.now.top.calls.items call alike.calls begun) }
+
+pub returns-in-None-clause-alike : goal.returns-in-None-clause-alike
+returns-in-None-clause-alike g c = on-ok c.refuse.result
+    (λ told x y span at_x at_y same alike.
+    let now = refused-alike c.refuse.ensures.keeps c.args.self.now c.refuse.new.self c.args.cond.0 c.requires.held.1 told x y span at_x at_y same alike in
+    record { refusals = now.refusals; work = now.work; out = now.out; calls = now.calls })
+    c.refuse.ensures.alike

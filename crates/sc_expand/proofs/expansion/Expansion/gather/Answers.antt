@@ -1,3 +1,4 @@
+use Rattle.sc_expand.specs.Having.{tokens_in}
 use Rattle.std.proofs.Common.{◌<◌, length}
 use Rattle.std.proofs.lemmas.List.Elements.{All-map}
 use Rattle.std.proofs.lemmas.Result.{err_from_is_err_and}
@@ -5,11 +6,11 @@ use Rattle.c11_macros.specs.Hidden.{failure_at}
 use Rattle.sc_base.proofs.Growth.{Extends-refl}
 use Rattle.sc_base.specs.declared.id.Cond.{Cond}
 use Rattle.sc_base.specs.declared.token.Token.{Token}
+use Rattle.sc_expand.proofs.GatherBranches.{first-of-each}
 use Rattle.sc_expand.proofs.GatherEnds.{stops-by}
 use Rattle.sc_expand.proofs.GatherParts.{are-branches, is-gathered, one-at-most, parted-by, parted-held}
 use Rattle.sc_expand.proofs.GatherTaking.{head-held}
 use Rattle.sc_expand.proofs.SeenLemmas.{IsHeldExpansion-Grows}
-use Rattle.sc_expand.specs.Called.{tokens_in}
 use Rattle.sc_expand.specs.Seen.{Grows, IsHeldToken, stores}
 use Rattle.sc_hoist.specs.Calls.{call_places}
 use Rattle.sc_model.proofs.SetLemmas.{Keeps-trans}
@@ -75,7 +76,8 @@ gather_calls-requires-clause-held g c =
     let ends = c.in_ok-found.found.ends in
     let parts = parted-by s0 s1 s2 s3 n c.items_at.new.names files e0 c.refuse.new.self c.args.cond.0 ends.closed.0 ends.still.0 c.in_ok-branches.branches.items c.deref.result.now
     (failure_at UnterminatedCall (seen_hidden n e0.sets c.args.head)) c.deref.ensures.value c.find_calls.ensures.keeps c.closed_calls.ensures.keeps c.refuse.ensures.keeps c.items_at.ensures.names c.requires.held
-    c.in_ok-found.ensures.closed c.in_ok-found.ensures.still c.in_ok-branches.ensures.lists c.in_ok-branches.ensures.branches c.in_ok-refuse.ensures.live c.in_ok-refuse.ensures.failures in
+    c.in_ok-found.ensures.closed c.in_ok-found.ensures.still c.in_ok-branches.ensures.lists c.in_ok-branches.ensures.branches c.in_ok-refuse.ensures.live c.in_ok-refuse.ensures.failures
+    c.in_ok-branches.ensures.agree c.in_ok-refuse.ensures.alike in
     let head = head-held (IsHeldToken (stores s0 n e0.sets) files) e0.top.work c.args.head c.requires.held.top.work.held c.requires.head in
     (files, parted-held parts (c.in_ok-refuse.ensures.held files head.file))
 
@@ -91,7 +93,8 @@ gather_calls-requires-clause-branches g c =
     let ends = c.in_ok-found.found.ends in
     let parts = parted-by s0 s1 s2 s3 n c.items_at.new.names files e0 c.refuse.new.self c.args.cond.0 ends.closed.0 ends.still.0 c.in_ok-branches.branches.items c.deref.result.now
     (failure_at UnterminatedCall (seen_hidden n e0.sets c.args.head)) c.deref.ensures.value c.find_calls.ensures.keeps c.closed_calls.ensures.keeps c.refuse.ensures.keeps c.items_at.ensures.names c.requires.held
-    c.in_ok-found.ensures.closed c.in_ok-found.ensures.still c.in_ok-branches.ensures.lists c.in_ok-branches.ensures.branches c.in_ok-refuse.ensures.live c.in_ok-refuse.ensures.failures in
+    c.in_ok-found.ensures.closed c.in_ok-found.ensures.still c.in_ok-branches.ensures.lists c.in_ok-branches.ensures.branches c.in_ok-refuse.ensures.live c.in_ok-refuse.ensures.failures
+    c.in_ok-branches.ensures.agree c.in_ok-refuse.ensures.alike in
     are-branches parts c.requires.stands c.requires.live c.requires.calls
 
 pub gather_calls-requires-clause-one : goal.gather_calls-requires-clause-one
@@ -106,7 +109,8 @@ gather_calls-requires-clause-one g c =
     let ends = c.in_ok-found.found.ends in
     let parts = parted-by s0 s1 s2 s3 n c.items_at.new.names files e0 c.refuse.new.self c.args.cond.0 ends.closed.0 ends.still.0 c.in_ok-branches.branches.items c.deref.result.now
     (failure_at UnterminatedCall (seen_hidden n e0.sets c.args.head)) c.deref.ensures.value c.find_calls.ensures.keeps c.closed_calls.ensures.keeps c.refuse.ensures.keeps c.items_at.ensures.names c.requires.held
-    c.in_ok-found.ensures.closed c.in_ok-found.ensures.still c.in_ok-branches.ensures.lists c.in_ok-branches.ensures.branches c.in_ok-refuse.ensures.live c.in_ok-refuse.ensures.failures in
+    c.in_ok-found.ensures.closed c.in_ok-found.ensures.still c.in_ok-branches.ensures.lists c.in_ok-branches.ensures.branches c.in_ok-refuse.ensures.live c.in_ok-refuse.ensures.failures
+    c.in_ok-branches.ensures.agree c.in_ok-refuse.ensures.alike in
     one-at-most parts
 
 pub returns-in_err-gather_calls-clause-keeps : goal.returns-in_err-gather_calls-clause-keeps
@@ -136,7 +140,8 @@ returns-clause-held g c =
     let ends = c.in_ok-found.found.ends in
     let parts = parted-by s0 s1 s2 s3 n c.items_at.new.names files e0 c.refuse.new.self c.args.cond.0 ends.closed.0 ends.still.0 c.in_ok-branches.branches.items c.deref.result.now
     (failure_at UnterminatedCall (seen_hidden n e0.sets c.args.head)) c.deref.ensures.value c.find_calls.ensures.keeps c.closed_calls.ensures.keeps c.refuse.ensures.keeps c.items_at.ensures.names c.requires.held
-    c.in_ok-found.ensures.closed c.in_ok-found.ensures.still c.in_ok-branches.ensures.lists c.in_ok-branches.ensures.branches c.in_ok-refuse.ensures.live c.in_ok-refuse.ensures.failures in
+    c.in_ok-found.ensures.closed c.in_ok-found.ensures.still c.in_ok-branches.ensures.lists c.in_ok-branches.ensures.branches c.in_ok-refuse.ensures.live c.in_ok-refuse.ensures.failures
+    c.in_ok-branches.ensures.agree c.in_ok-refuse.ensures.alike in
     let head = head-held (IsHeldToken (stores s0 n e0.sets) files) e0.top.work c.args.head c.requires.held.top.work.held c.requires.head in
     let s4 = g.C.Conditions.sets c.gather_calls.new.conds in
     let s5 = g.C.Conditions.sets c.apply_or.new.self in
@@ -158,7 +163,8 @@ returns-clause-gathers g c =
     let ends = c.in_ok-found.found.ends in
     let parts = parted-by s0 s1 s2 s3 n c.items_at.new.names files e0 c.refuse.new.self c.args.cond.0 ends.closed.0 ends.still.0 c.in_ok-branches.branches.items c.deref.result.now
     (failure_at UnterminatedCall (seen_hidden n e0.sets c.args.head)) c.deref.ensures.value c.find_calls.ensures.keeps c.closed_calls.ensures.keeps c.refuse.ensures.keeps c.items_at.ensures.names c.requires.held
-    c.in_ok-found.ensures.closed c.in_ok-found.ensures.still c.in_ok-branches.ensures.lists c.in_ok-branches.ensures.branches c.in_ok-refuse.ensures.live c.in_ok-refuse.ensures.failures in
+    c.in_ok-found.ensures.closed c.in_ok-found.ensures.still c.in_ok-branches.ensures.lists c.in_ok-branches.ensures.branches c.in_ok-refuse.ensures.live c.in_ok-refuse.ensures.failures
+    c.in_ok-branches.ensures.agree c.in_ok-refuse.ensures.alike in
     let head = head-held (IsHeldToken (stores s0 n e0.sets) files) e0.top.work c.args.head c.requires.held.top.work.held c.requires.head in
     let s4 = g.C.Conditions.sets c.gather_calls.new.conds in
     let s5 = g.C.Conditions.sets c.apply_or.new.self in
@@ -180,7 +186,8 @@ returns-clause-others g c =
     let ends = c.in_ok-found.found.ends in
     let parts = parted-by s0 s1 s2 s3 n c.items_at.new.names files e0 c.refuse.new.self c.args.cond.0 ends.closed.0 ends.still.0 c.in_ok-branches.branches.items c.deref.result.now
     (failure_at UnterminatedCall (seen_hidden n e0.sets c.args.head)) c.deref.ensures.value c.find_calls.ensures.keeps c.closed_calls.ensures.keeps c.refuse.ensures.keeps c.items_at.ensures.names c.requires.held
-    c.in_ok-found.ensures.closed c.in_ok-found.ensures.still c.in_ok-branches.ensures.lists c.in_ok-branches.ensures.branches c.in_ok-refuse.ensures.live c.in_ok-refuse.ensures.failures in
+    c.in_ok-found.ensures.closed c.in_ok-found.ensures.still c.in_ok-branches.ensures.lists c.in_ok-branches.ensures.branches c.in_ok-refuse.ensures.live c.in_ok-refuse.ensures.failures
+    c.in_ok-branches.ensures.agree c.in_ok-refuse.ensures.alike in
     let head = head-held (IsHeldToken (stores s0 n e0.sets) files) e0.top.work c.args.head c.requires.held.top.work.held c.requires.head in
     let s4 = g.C.Conditions.sets c.gather_calls.new.conds in
     let s5 = g.C.Conditions.sets c.apply_or.new.self in
@@ -202,7 +209,8 @@ returns-clause-first_others g c =
     let ends = c.in_ok-found.found.ends in
     let parts = parted-by s0 s1 s2 s3 n c.items_at.new.names files e0 c.refuse.new.self c.args.cond.0 ends.closed.0 ends.still.0 c.in_ok-branches.branches.items c.deref.result.now
     (failure_at UnterminatedCall (seen_hidden n e0.sets c.args.head)) c.deref.ensures.value c.find_calls.ensures.keeps c.closed_calls.ensures.keeps c.refuse.ensures.keeps c.items_at.ensures.names c.requires.held
-    c.in_ok-found.ensures.closed c.in_ok-found.ensures.still c.in_ok-branches.ensures.lists c.in_ok-branches.ensures.branches c.in_ok-refuse.ensures.live c.in_ok-refuse.ensures.failures in
+    c.in_ok-found.ensures.closed c.in_ok-found.ensures.still c.in_ok-branches.ensures.lists c.in_ok-branches.ensures.branches c.in_ok-refuse.ensures.live c.in_ok-refuse.ensures.failures
+    c.in_ok-branches.ensures.agree c.in_ok-refuse.ensures.alike in
     let head = head-held (IsHeldToken (stores s0 n e0.sets) files) e0.top.work c.args.head c.requires.held.top.work.held c.requires.head in
     let s4 = g.C.Conditions.sets c.gather_calls.new.conds in
     let s5 = g.C.Conditions.sets c.apply_or.new.self in
@@ -210,7 +218,7 @@ returns-clause-first_others g c =
     let all = is-gathered c.args.files.now c.args.head parts head.held c.args.definition.now c.deref-2.result.now _ c.requires.definition c.deref-2.ensures.value c.in_ok-items.ensures.own c.in_ok-items.ensures.is
     c.requires.function c.requires.stands c.requires.calls s4 s5 c.gather_calls.new.names c.gather_calls.new.self ends.bare.0 ends.alone.0 c.in_ok-uncalled.uncalled.0 c.gather_calls.ensures.keeps c.apply_or.ensures.keeps
     held4 c.in_ok-found.ensures.bare c.in_ok-found.ensures.alone c.in_ok-uncalled.ensures.meaning c.in_ok-gather_calls.ensures.gathered in
-    λ x listed lacks. (all.others x listed lacks).1
+    λ x listed lacks. first-of-each s5 s0 c.gather_calls.new.self.top.work e0.top.work x (all.others x listed lacks).1
 
 pub returns-clause-first_called : goal.returns-clause-first_called
 returns-clause-first_called g c =
@@ -224,7 +232,8 @@ returns-clause-first_called g c =
     let ends = c.in_ok-found.found.ends in
     let parts = parted-by s0 s1 s2 s3 n c.items_at.new.names files e0 c.refuse.new.self c.args.cond.0 ends.closed.0 ends.still.0 c.in_ok-branches.branches.items c.deref.result.now
     (failure_at UnterminatedCall (seen_hidden n e0.sets c.args.head)) c.deref.ensures.value c.find_calls.ensures.keeps c.closed_calls.ensures.keeps c.refuse.ensures.keeps c.items_at.ensures.names c.requires.held
-    c.in_ok-found.ensures.closed c.in_ok-found.ensures.still c.in_ok-branches.ensures.lists c.in_ok-branches.ensures.branches c.in_ok-refuse.ensures.live c.in_ok-refuse.ensures.failures in
+    c.in_ok-found.ensures.closed c.in_ok-found.ensures.still c.in_ok-branches.ensures.lists c.in_ok-branches.ensures.branches c.in_ok-refuse.ensures.live c.in_ok-refuse.ensures.failures
+    c.in_ok-branches.ensures.agree c.in_ok-refuse.ensures.alike in
     let head = head-held (IsHeldToken (stores s0 n e0.sets) files) e0.top.work c.args.head c.requires.held.top.work.held c.requires.head in
     let s4 = g.C.Conditions.sets c.gather_calls.new.conds in
     let s5 = g.C.Conditions.sets c.apply_or.new.self in
@@ -233,3 +242,49 @@ returns-clause-first_called g c =
     c.requires.function c.requires.stands c.requires.calls s4 s5 c.gather_calls.new.names c.gather_calls.new.self ends.bare.0 ends.alone.0 c.in_ok-uncalled.uncalled.0 c.gather_calls.ensures.keeps c.apply_or.ensures.keeps
     held4 c.in_ok-found.ensures.bare c.in_ok-found.ensures.alone c.in_ok-uncalled.ensures.meaning c.in_ok-gather_calls.ensures.gathered in
     all.first
+
+pub returns-clause-others_each : goal.returns-clause-others_each
+returns-clause-others_each g c =
+    let s0 = g.C.Conditions.sets c.args.conds.now in
+    let s1 = g.C.Conditions.sets c.find_calls.new.conds in
+    let s2 = g.C.Conditions.sets c.closed_calls.new.conds in
+    let s3 = g.C.Conditions.sets c.refuse.new.conds in
+    let n = c.args.names.now in
+    let e0 = c.args.self.now in
+    let files = length c.args.files.now in
+    let ends = c.in_ok-found.found.ends in
+    let parts = parted-by s0 s1 s2 s3 n c.items_at.new.names files e0 c.refuse.new.self c.args.cond.0 ends.closed.0 ends.still.0 c.in_ok-branches.branches.items c.deref.result.now
+    (failure_at UnterminatedCall (seen_hidden n e0.sets c.args.head)) c.deref.ensures.value c.find_calls.ensures.keeps c.closed_calls.ensures.keeps c.refuse.ensures.keeps c.items_at.ensures.names c.requires.held
+    c.in_ok-found.ensures.closed c.in_ok-found.ensures.still c.in_ok-branches.ensures.lists c.in_ok-branches.ensures.branches c.in_ok-refuse.ensures.live c.in_ok-refuse.ensures.failures
+    c.in_ok-branches.ensures.agree c.in_ok-refuse.ensures.alike in
+    let head = head-held (IsHeldToken (stores s0 n e0.sets) files) e0.top.work c.args.head c.requires.held.top.work.held c.requires.head in
+    let s4 = g.C.Conditions.sets c.gather_calls.new.conds in
+    let s5 = g.C.Conditions.sets c.apply_or.new.self in
+    let held4 = c.in_ok-gather_calls.ensures.held files (parted-held parts (c.in_ok-refuse.ensures.held files head.file)) in
+    let all = is-gathered c.args.files.now c.args.head parts head.held c.args.definition.now c.deref-2.result.now _ c.requires.definition c.deref-2.ensures.value c.in_ok-items.ensures.own c.in_ok-items.ensures.is
+    c.requires.function c.requires.stands c.requires.calls s4 s5 c.gather_calls.new.names c.gather_calls.new.self ends.bare.0 ends.alone.0 c.in_ok-uncalled.uncalled.0 c.gather_calls.ensures.keeps c.apply_or.ensures.keeps
+    held4 c.in_ok-found.ensures.bare c.in_ok-found.ensures.alone c.in_ok-uncalled.ensures.meaning c.in_ok-gather_calls.ensures.gathered in
+    λ x listed lacks. (all.others x listed lacks).1
+
+pub returns-clause-alike : goal.returns-clause-alike
+returns-clause-alike g c =
+    let s0 = g.C.Conditions.sets c.args.conds.now in
+    let s1 = g.C.Conditions.sets c.find_calls.new.conds in
+    let s2 = g.C.Conditions.sets c.closed_calls.new.conds in
+    let s3 = g.C.Conditions.sets c.refuse.new.conds in
+    let n = c.args.names.now in
+    let e0 = c.args.self.now in
+    let files = length c.args.files.now in
+    let ends = c.in_ok-found.found.ends in
+    let parts = parted-by s0 s1 s2 s3 n c.items_at.new.names files e0 c.refuse.new.self c.args.cond.0 ends.closed.0 ends.still.0 c.in_ok-branches.branches.items c.deref.result.now
+    (failure_at UnterminatedCall (seen_hidden n e0.sets c.args.head)) c.deref.ensures.value c.find_calls.ensures.keeps c.closed_calls.ensures.keeps c.refuse.ensures.keeps c.items_at.ensures.names c.requires.held
+    c.in_ok-found.ensures.closed c.in_ok-found.ensures.still c.in_ok-branches.ensures.lists c.in_ok-branches.ensures.branches c.in_ok-refuse.ensures.live c.in_ok-refuse.ensures.failures
+    c.in_ok-branches.ensures.agree c.in_ok-refuse.ensures.alike in
+    let head = head-held (IsHeldToken (stores s0 n e0.sets) files) e0.top.work c.args.head c.requires.held.top.work.held c.requires.head in
+    let s4 = g.C.Conditions.sets c.gather_calls.new.conds in
+    let s5 = g.C.Conditions.sets c.apply_or.new.self in
+    let held4 = c.in_ok-gather_calls.ensures.held files (parted-held parts (c.in_ok-refuse.ensures.held files head.file)) in
+    let all = is-gathered c.args.files.now c.args.head parts head.held c.args.definition.now c.deref-2.result.now _ c.requires.definition c.deref-2.ensures.value c.in_ok-items.ensures.own c.in_ok-items.ensures.is
+    c.requires.function c.requires.stands c.requires.calls s4 s5 c.gather_calls.new.names c.gather_calls.new.self ends.bare.0 ends.alone.0 c.in_ok-uncalled.uncalled.0 c.gather_calls.ensures.keeps c.apply_or.ensures.keeps
+    held4 c.in_ok-found.ensures.bare c.in_ok-found.ensures.alone c.in_ok-uncalled.ensures.meaning c.in_ok-gather_calls.ensures.gathered in
+    all.alike

@@ -6,12 +6,13 @@ use Rattle.c11_macros.specs.Hidden.{failure_at}
 use Rattle.c11_macros.specs.Macros.{function_like}
 use Rattle.sc_base.proofs.Growth.{Extends-refl}
 use Rattle.sc_base.specs.declared.id.Name.{Name}
+use Rattle.sc_expand.proofs.AlikeGathering.{refused-alike}
 use Rattle.sc_expand.proofs.BeginningLemmas.{in_some}
 use Rattle.sc_expand.proofs.GatherFiles.{arguments-held}
 use Rattle.sc_expand.proofs.GatherSteps.{refused-failures, refused-live, refused-other}
-use Rattle.sc_expand.proofs.GatherTaking.{begun-gathered, function-form, head-held, left-by, left-grows, left-held, misfit-gathered, seen_fit, three-on-ok}
+use Rattle.sc_expand.proofs.GatherTaking.{begun-gathered, function-form, head-held, left-by, left-grows, left-held, four-on-ok, misfit-gathered, seen_fit, three-on-ok}
 use Rattle.sc_expand.proofs.SeenLemmas.{IsHeldExpansion-Grows, token-Grows}
-use Rattle.sc_expand.proofs.TakingSteps.{both-on-ok, on-ok}
+use Rattle.sc_expand.proofs.TakingSteps.{on-ok}
 use Rattle.sc_expand.specs.Arguments.{parted}
 use Rattle.sc_expand.specs.Called.{Begins}
 use Rattle.sc_expand.specs.Machine.{at}
@@ -44,7 +45,7 @@ begin-requires-clause-held g c =
     let between = c.in_ok-call.call.between.items in
     let close = c.in_ok-call.call.close in
     let told = c.in_ok-call.ensures in
-    let left = left-by s0 s1 n e0 e1 c.args.branch.now between close c.take_call.ensures.keeps c.take_call.ensures.sets told.top told.refusals told.below told.call told.others told.first in
+    let left = left-by s0 s1 n e0 e1 c.args.branch.now between close c.take_call.ensures.keeps c.take_call.ensures.sets told.top told.refusals told.below told.call told.others told.first told.alike in
     (files, left-held left files held (told.held files held.top.work))
 
 pub begin-requires-clause-head : goal.begin-requires-clause-head
@@ -88,7 +89,7 @@ returns-in-Some-clause-held g c = on-ok c.begin.result
     let between = c.in_ok-call.call.between.items in
     let close = c.in_ok-call.call.close in
     let told = c.in_ok-call.ensures in
-    let left = left-by s0 s1 n e0 e1 c.args.branch.now between close c.take_call.ensures.keeps c.take_call.ensures.sets told.top told.refusals told.below told.call told.others told.first in
+    let left = left-by s0 s1 n e0 e1 c.args.branch.now between close c.take_call.ensures.keeps c.take_call.ensures.sets told.top told.refusals told.below told.call told.others told.first told.alike in
     let H : Hidden → Type 0 = IsHeldToken (stores s0 n e0.sets) files in
     let own = told.own files held.top.work in
     let here = told.held files held.top.work in
@@ -108,8 +109,8 @@ returns-in-Some-clause-held g c = on-ok c.begin.result
     c.begin.ensures.held
 
 pub returns-in-Some-clause-gathered : goal.returns-in-Some-clause-gathered
-returns-in-Some-clause-gathered g c = three-on-ok c.begin.result
-    (λ begins others work.
+returns-in-Some-clause-gathered g c = four-on-ok c.begin.result
+    (λ begins others work alike.
     let files = c.requires.held.0 in
     let held = c.requires.held.1 in
     let s0 = g.C.Conditions.sets c.args.conds.now in
@@ -120,7 +121,7 @@ returns-in-Some-clause-gathered g c = three-on-ok c.begin.result
     let between = c.in_ok-call.call.between.items in
     let close = c.in_ok-call.call.close in
     let told = c.in_ok-call.ensures in
-    let left = left-by s0 s1 n e0 e1 c.args.branch.now between close c.take_call.ensures.keeps c.take_call.ensures.sets told.top told.refusals told.below told.call told.others told.first in
+    let left = left-by s0 s1 n e0 e1 c.args.branch.now between close c.take_call.ensures.keeps c.take_call.ensures.sets told.top told.refusals told.below told.call told.others told.first told.alike in
     let H : Hidden → Type 0 = IsHeldToken (stores s0 n e0.sets) files in
     let own = told.own files held.top.work in
     let here = told.held files held.top.work in
@@ -136,11 +137,11 @@ returns-in-Some-clause-gathered g c = three-on-ok c.begin.result
     let n2 = c.begin.new.names in
     let e2 = c.begin.new.self in
     let grows : Grows (stores s1 n e1.sets) (stores s2 n2 e2.sets) = record { sets = c.begin.ensures.keeps; names = c.begin.ensures.names; hides = c.begin.ensures.sets } in
-    begun-gathered left files held c.args.form.now c.args.items.now c.args.head c.requires.branch c.requires.function (Some raw) fits here n2 s2 e2 grows work others raw refl head.held
+    begun-gathered left files held c.args.form.now c.args.items.now c.args.head c.requires.branch c.requires.function (Some raw) fits here n2 s2 e2 grows work others alike raw refl head.held
     (All-head H close between own).held (All-map (All (IsHeldHidden n e0.sets)) (λ a. a.items) c.in-Some.raw.items hidden) c.requires.form c.requires.items
     (λ x provenance d listed has formed list. subst (λ v. Begins provenance d (seen_hidden n2 e2.sets c.args.head) (seen_hidden n2 e2.sets close) (seen_arguments n2 e2.sets (map (λ a. a.items) v))
     (at (stores s1 n e1.sets) e1 x) (at (stores s2 n2 e2.sets) e2 x)) c.deref-in-Some.ensures.value (begins x provenance d listed has formed list)))
-    c.begin.ensures.begins c.begin.ensures.others c.begin.ensures.work
+    c.begin.ensures.begins c.begin.ensures.others c.begin.ensures.work c.begin.ensures.alike
 
 pub returns-in-Some-clause-keeps : goal.returns-in-Some-clause-keeps
 returns-in-Some-clause-keeps g c = Keeps-trans c.take_call.ensures.keeps c.begin.ensures.keeps
@@ -156,7 +157,7 @@ returns-clause-held g c = on-ok c.refuse.result
     let between = c.in_ok-call.call.between.items in
     let close = c.in_ok-call.call.close in
     let told = c.in_ok-call.ensures in
-    let left = left-by s0 s1 n e0 e1 c.args.branch.now between close c.take_call.ensures.keeps c.take_call.ensures.sets told.top told.refusals told.below told.call told.others told.first in
+    let left = left-by s0 s1 n e0 e1 c.args.branch.now between close c.take_call.ensures.keeps c.take_call.ensures.sets told.top told.refusals told.below told.call told.others told.first told.alike in
     let H : Hidden → Type 0 = IsHeldToken (stores s0 n e0.sets) files in
     let own = told.own files held.top.work in
     let here = told.held files held.top.work in
@@ -168,8 +169,8 @@ returns-clause-held g c = on-ok c.refuse.result
     c.refuse.ensures.held
 
 pub returns-clause-gathered : goal.returns-clause-gathered
-returns-clause-gathered g c = both-on-ok c.refuse.result
-    (λ live failures.
+returns-clause-gathered g c = three-on-ok c.refuse.result
+    (λ live failures alike.
     let files = c.requires.held.0 in
     let held = c.requires.held.1 in
     let s0 = g.C.Conditions.sets c.args.conds.now in
@@ -180,7 +181,7 @@ returns-clause-gathered g c = both-on-ok c.refuse.result
     let between = c.in_ok-call.call.between.items in
     let close = c.in_ok-call.call.close in
     let told = c.in_ok-call.ensures in
-    let left = left-by s0 s1 n e0 e1 c.args.branch.now between close c.take_call.ensures.keeps c.take_call.ensures.sets told.top told.refusals told.below told.call told.others told.first in
+    let left = left-by s0 s1 n e0 e1 c.args.branch.now between close c.take_call.ensures.keeps c.take_call.ensures.sets told.top told.refusals told.below told.call told.others told.first told.alike in
     let here = told.held files held.top.work in
     let fits : (parameters : List (List ℕ)) (variadic : Bool) → seen_form n c.args.form.now ≡ function_like parameters variadic
     → seen_fit n e0.sets None ≡ arguments_for parameters variadic (parted (length parameters) 0 (seen_list n e0.sets between)) =
@@ -193,8 +194,8 @@ returns-clause-gathered g c = both-on-ok c.refuse.result
     let r = c.refuse.new.self in
     let cond = c.args.branch.now.cond.0 in
     misfit-gathered left files held c.args.form.now c.args.items.now c.args.head c.requires.branch c.requires.function None fits here n s2 (record e1 { refusals = r }) grows refl
-    (refused-other grows e1 mid r cond failure live failures) refl (refused-live grows e1 mid r cond failure live failures) (refused-failures grows e1 mid r cond failure live failures))
-    c.refuse.ensures.live c.refuse.ensures.failures
+    (refused-other grows e1 mid r cond failure live failures) (refused-alike grows.sets e1 r cond mid alike) refl (refused-live grows e1 mid r cond failure live failures) (refused-failures grows e1 mid r cond failure live failures))
+    c.refuse.ensures.live c.refuse.ensures.failures c.refuse.ensures.alike
 
 pub returns-clause-keeps : goal.returns-clause-keeps
 returns-clause-keeps g c = Keeps-trans c.take_call.ensures.keeps c.refuse.ensures.keeps

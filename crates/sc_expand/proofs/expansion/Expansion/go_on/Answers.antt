@@ -2,6 +2,8 @@ use Rattle.std.proofs.Common.{◌≡◌, ◌&&◌, Bool, append-nil, [], ◌++�
 use Rattle.std.proofs.lemmas.Bool.{and_parts}
 use Rattle.std.proofs.lemmas.List.Elements.{All-pop}
 use Rattle.sc_base.proofs.Growth.{Extends-refl}
+use Rattle.sc_expand.proofs.AlikeFilling.{alike-enter, alike-narrowed}
+use Rattle.sc_expand.proofs.AlikeLemmas.{IsAlikeExpansion-Keeps}
 use Rattle.sc_expand.proofs.MachineGoesOn.{entered-held, entered-progress, later-held, replaced-progress}
 use Rattle.sc_expand.proofs.SeenLemmas.{IsHeldCall-Grows, IsHeldExpansion-Grows, calls_at-Grows, failures_at-Grows, view_at-Grows, waiting_at-Grows}
 use Rattle.sc_expand.specs.declared.call.Wanted.{Wanted}
@@ -128,3 +130,28 @@ returns-in-None-clause-progress g c = on-both c.replace.result c.replace.ensures
     (λ i. if has i then with_call (top i) (call_is i) else top i, has)) in
     subst (λ l. Progress (provenance_of table) macros old new config c.args.self.now.below.items l (at_call old c.args.self.now c.args.call config) (at new c.replace.new.self config) (was.has c.args.call.cond.0 config))
     (sym (ap (λ l. l.items) below)) progress)
+
+pub returns-in-Some-clause-alike : goal.returns-in-Some-clause-alike
+returns-in-Some-clause-alike g c = on-four c.enter.result c.enter.ensures.below c.enter.ensures.work c.enter.ensures.out c.enter.ensures.calls (λ below work out calls. λ x y p q call_alike alike.
+    let was = g.C.Conditions.sets c.args.conds.now in
+    let old = stores was c.args.names.now c.args.self.now.sets in
+    let new = g.C.Conditions.sets c.apply_and.new.self in
+    let keeps = c.apply_and.ensures.keeps in
+    let later = record c.args.call { cond = c.in_ok-call.field-0; wanted = c.pop.new.self } in
+    let held = c.requires.held.1.0 in
+    let held_call = c.requires.held.1.1 in
+    let both = c.in_ok-call.ensures.meaning (was.has c.args.call.cond.0) (was.has c.args.self.now.refusals.live.0) (Denotes-self was c.args.call.cond.0 held_call.own) (Denotes-self was c.args.self.now.refusals.live.0 held.refusals.live) in
+    let narrowed = alike-narrowed {old = old} keeps p q c.args.self.now.refusals.live c.args.call later held_call both refl alike.refusals.live call_alike in
+    alike-enter new x y c.args.self.now c.enter.new.self later c.in-Some.wanted c.enter.ensures.refusals below work out calls narrowed (IsAlikeExpansion-Keeps {old = old} keeps p q c.args.self.now held alike))
+
+pub returns-in-None-clause-alike : goal.returns-in-None-clause-alike
+returns-in-None-clause-alike g c = on-ok c.replace.result c.replace.ensures.alike (λ made. λ x y p q call_alike alike.
+    let was = g.C.Conditions.sets c.args.conds.now in
+    let old = stores was c.args.names.now c.args.self.now.sets in
+    let keeps = c.apply_and.ensures.keeps in
+    let later = record c.args.call { cond = c.in_ok-call.field-0; wanted = c.pop.new.self } in
+    let held = c.requires.held.1.0 in
+    let held_call = c.requires.held.1.1 in
+    let both = c.in_ok-call.ensures.meaning (was.has c.args.call.cond.0) (was.has c.args.self.now.refusals.live.0) (Denotes-self was c.args.call.cond.0 held_call.own) (Denotes-self was c.args.self.now.refusals.live.0 held.refusals.live) in
+    let narrowed = alike-narrowed {old = old} keeps p q c.args.self.now.refusals.live c.args.call later held_call both refl alike.refusals.live call_alike in
+    made x y (IsConfig-Keeps keeps p) (IsConfig-Keeps keeps q) narrowed (IsAlikeExpansion-Keeps {old = old} keeps p q c.args.self.now held alike))

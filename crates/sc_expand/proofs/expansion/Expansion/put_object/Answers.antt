@@ -6,6 +6,9 @@ use Rattle.sc_expand.specs.Seen.{AreHeld, Grows, failures_at, seen_at, stores}
 use Rattle.sc_expand.specs.Taking.{put_in, refused}
 use Rattle.sc_model.proofs.SetLemmas.{IsConfig-Keeps, Keeps-refl}
 use Rattle.sc_subst.specs.Seen.{seen_hidden}
+use Rattle.sc_expand.proofs.AlikeLemmas.{AreAlike-Keeps, IsAlikeIn-Keeps}
+use Rattle.sc_expand.proofs.AlikeTaking.{alike-append, alike-under}
+use Rattle.sc_hoist.specs.Alike.{AreAlike}
 use Rattle.sc_expand.proofs.expansion.Expansion.put_object.Goals as goal
 
 pub returns-in_ok-put_under-in-Ok-clause-held : goal.returns-in_ok-put_under-in-Ok-clause-held
@@ -89,3 +92,22 @@ returns-in_ok-refuse-in-Err-Fault-clause-others g c = λ x listed has.
     let failures = c.in_ok-refuse-in-Err-Fault.ensures.failures x listed c.requires.held.refusals.own
     ∙ (ap (λ b. failures_at s c.args.self.now.refusals.faults.items x ++ (if b then failure_at c.in-Err-Fault.cause t ∷ [] else [])) has ∙ append-nil _) in
     ((λ i. record { live = live i; view = view i; failures = failures i }), seen_at-Grows grows x listed c.args.made.now.items c.requires.made)
+
+pub returns-in_ok-put_under-in-Ok-clause-alike : goal.returns-in_ok-put_under-in-Ok-clause-alike
+returns-in_ok-put_under-in-Ok-clause-alike g c = λ x y span p q same before alike.
+    let s = g.C.Conditions.sets c.args.conds.now in
+    let list = c.in-Ok.list.items in
+    let was = c.args.made.now.items in
+    let made = c.in_ok-put_under-in-Ok.ensures ∙ ap (λ ts. was ++ map (λ t. (c.args.cond, t)) ts) c.deref.ensures.value in (
+      record { refusals = alike.refusals; work = alike.work; out = alike.out; calls = alike.calls },
+      subst (AreAlike s x y) (sym made) (alike-append s x y was (map (λ t. (c.args.cond, t)) list) before (alike-under s x y c.args.cond list same)),
+    )
+
+pub returns-in_ok-refuse-in-Err-Fault-clause-alike : goal.returns-in_ok-refuse-in-Err-Fault-clause-alike
+returns-in_ok-refuse-in-Err-Fault-clause-alike g c = λ x y span p q same before alike.
+    let keeps = c.refuse.ensures.keeps in
+    let held = c.requires.held in
+    let kept = IsAlikeIn-Keeps keeps p q span c.args.self.now held alike in (
+      record { refusals = c.in_ok-refuse-in-Err-Fault.ensures.alike x y span.faults p q held.refusals.own same alike.refusals; work = kept.work; out = kept.out; calls = kept.calls },
+      AreAlike-Keeps keeps p q c.args.made.now.items c.requires.made.own before,
+    )

@@ -1,8 +1,11 @@
 use Rattle.std.proofs.Common.{◌≡◌, ◌++◌, All, Result, Ok, Err, OnOk, map, refl, sym, ap, subst, ◌∙◌}
 use Rattle.sc_base.proofs.Growth.{Extends-refl}
+use Rattle.sc_expand.proofs.AlikeFilling.{AreAlike-append}
+use Rattle.sc_expand.proofs.AlikeLemmas.{IsAlikeExpansion-Keeps}
 use Rattle.sc_expand.proofs.MachineReplaces.{refused-turn, replaced-turn}
 use Rattle.sc_expand.proofs.SeenLemmas.{AreHeld-append, IsHeldExpansion-Grows}
 use Rattle.sc_expand.specs.Seen.{AreHeld, Grows, IsHeldPartIn, IsHeldTemplate, seen_template, stores}
+use Rattle.sc_hoist.specs.Alike.{AreAlike}
 use Rattle.sc_subst.specs.Parts.{seen_part}
 use Rattle.sc_expand.proofs.expansion.Expansion.replace.Goals as goal
 
@@ -58,3 +61,22 @@ returns-clause-turns g c = on-both c.refuse.result c.refuse.ensures.live c.refus
     table macros config listed c.in-Refused.cause refl (ap (seen_template old c.args.call.head.token.place) c.in-Refused.is) live
     (failures config listed c.requires.held.1.0.refusals.own)
     (λ has. c.requires.live config listed has) (λ has. c.requires.calls config listed has))
+
+pub returns-in-Parts-clause-alike : goal.returns-in-Parts-clause-alike
+returns-in-Parts-clause-alike g c = λ x y p q call_alike alike.
+    let old = stores (g.C.Conditions.sets c.args.conds.now) c.args.names.now c.args.self.now.sets in
+    let new = g.C.Conditions.sets c.fill.new.conds in
+    let later = IsAlikeExpansion-Keeps {old = old} c.in_ok-made-in-Parts.ensures.keeps p q c.args.self.now c.requires.held.1.0 alike in
+    let made = c.in_ok-made-in-Parts.ensures.alike x y p q call_alike in
+    let work : c.put_first.new.self ≡ c.in_ok-made-in-Parts.made.items ++ c.args.self.now.top.work = c.in_ok-put_first-in-Parts.ensures ∙ ap (λ l. l ++ c.args.self.now.top.work) c.deref-in-Parts.ensures.value in
+    record {
+      refusals = later.refusals;
+      top = record { work = subst (AreAlike new x y) (sym work) (AreAlike-append new x y c.in_ok-made-in-Parts.made.items c.args.self.now.top.work made later.top.work); out = later.top.out; calls = later.top.calls };
+      below = later.below;
+    }
+
+pub returns-clause-alike : goal.returns-clause-alike
+returns-clause-alike g c = on-ok c.refuse.result c.refuse.ensures.alike (λ refused. λ x y p q call_alike alike.
+    let old = stores (g.C.Conditions.sets c.args.conds.now) c.args.names.now c.args.self.now.sets in
+    let later = IsAlikeExpansion-Keeps {old = old} c.refuse.ensures.keeps p q c.args.self.now c.requires.held.1.0 alike in
+    record { refusals = refused x y 0 p q c.requires.held.1.0.refusals.own call_alike.cond alike.refusals; top = later.top; below = later.below })

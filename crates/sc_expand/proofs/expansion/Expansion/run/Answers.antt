@@ -1,5 +1,6 @@
 use Rattle.std.proofs.Common.{rules, ◌≡◌, ℕ, List, length, sym, subst, ◌∙◌}
 use Rattle.sc_base.proofs.Growth.{Extends-refl}
+use Rattle.sc_expand.proofs.AlikeRunning.{alike-rested, alike-start, alike-turned}
 use Rattle.sc_expand.proofs.PlainTables.{entry_names, within-table}
 use Rattle.sc_expand.proofs.RunLemmas.{less-le, rested-le, running-done, running-is, running-out, running-rested, running-start, running-turned, running-unchanged, turned-less}
 use Rattle.sc_expand.proofs.SeenLemmas.{Grows-refl, Grows-trans, IsTable-Grows, macros_at-Grows}
@@ -15,6 +16,8 @@ loop-self-init g c =
     let old = stores (g.C.Conditions.sets c.args.conds.now) c.args.names.now c.args.self.now.sets in record {
       grows = Grows-refl old;
       running = running-start c.args.files.now (macros_at (g.C.Conditions.sets c.args.conds.now) c.args.names.now c.args.table.now) old c.args.self.now c.requires.held c.requires.untouched;
+      alike = alike-start c.args.files.now (macros_at (g.C.Conditions.sets c.args.conds.now) c.args.names.now c.args.table.now) (entry_names c.args.names.now c.args.table.now.entries.entries)
+          (within-table (g.C.Conditions.sets c.args.conds.now) c.args.names.now c.args.table.now) old c.args.self.now c.requires.held c.requires.untouched;
     }
 
 pub drop_refused-requires : goal.drop_refused-requires
@@ -195,6 +198,29 @@ returns-then-not-went-clause-unchanged g c =
     let r_after = running-turned grows r texts within c.requires.held new c.turn.new.self other same turned later.sets c.in_ok-went.ensures.held c.in_ok-went.ensures.out in
     running-unchanged r_after (turned.ended c.if-not-went.true) c.requires.untouched.out
 
+pub returns-then-not-went-clause-alike : goal.returns-then-not-went-clause-alike
+returns-then-not-went-clause-alike g c =
+    let i = c.loop-self.invariant in
+    let old = stores (g.C.Conditions.sets c.args.conds.now) c.args.names.now c.args.self.now.sets in
+    let loop = stores (g.C.Conditions.sets c.loop-self.conds) c.loop-self.names c.loop-self.self.sets in
+    let mid = stores (g.C.Conditions.sets c.drop_refused.new.conds) c.loop-self.names c.drop_refused.new.self.sets in
+    let hides = subst (λ h. Extends c.loop-self.self.sets h) (sym c.drop_refused.ensures.sets) (Extends-refl c.loop-self.self.sets) in
+    let more : Grows loop mid = record { sets = c.drop_refused.ensures.keeps; names = Extends-refl c.loop-self.names; hides = hides } in
+    let grows : Grows old mid = Grows-trans i.grows more in
+    let texts = entry_names c.args.names.now c.args.table.now.entries.entries in
+    let within = within-table (g.C.Conditions.sets c.args.conds.now) c.args.names.now c.args.table.now in
+    let rested = c.in_ok-drop_refused.ensures.rested c.loop-self.names in
+    let r = running-rested i.grows i.running texts within c.requires.held mid c.drop_refused.new.self rested more in
+    let new = stores (g.C.Conditions.sets c.turn.new.conds) c.turn.new.names c.turn.new.self.sets in
+    let later : Grows mid new = record { sets = c.turn.ensures.keeps; names = c.turn.ensures.names; hides = c.turn.ensures.sets } in
+    let other = macros_at (g.C.Conditions.sets c.drop_refused.new.conds) c.loop-self.names c.args.table.now in
+    let macros = macros_at (g.C.Conditions.sets c.args.conds.now) c.args.names.now c.args.table.now in
+    let same : (config : List ℕ) → IsConfig (g.C.Conditions.sets c.args.conds.now).arities config → other config ≡ macros config = λ config listed. λ k. λ text. macros_at-Grows grows c.requires.table config text listed k in
+    let turned = c.in_ok-went.ensures.turned in
+    let still = alike-rested c.args.files.now macros texts within i.grows i.running c.requires.held i.alike mid c.drop_refused.new.self rested in
+    let alike = alike-turned c.args.files.now macros texts within grows r c.requires.held still new c.turn.new.self other same turned in
+    λ one two p q here defines were. (alike.at one two p q defines were).alike
+
 pub returns-then-not-went-clause-keeps : goal.returns-then-not-went-clause-keeps
 returns-then-not-went-clause-keeps g c =
     let i = c.loop-self.invariant in
@@ -275,4 +301,6 @@ loop-self-preserved g c =
     let same : (config : List ℕ) → IsConfig (g.C.Conditions.sets c.args.conds.now).arities config → other config ≡ macros config = λ config listed. λ k. λ text. macros_at-Grows grows c.requires.table config text listed k in
     let turned = c.in_ok-went.ensures.turned in
     let r_after = running-turned grows r texts within c.requires.held new c.turn.new.self other same turned later.sets c.in_ok-went.ensures.held c.in_ok-went.ensures.out in
-    record { grows = Grows-trans grows later; running = r_after }
+    let still = alike-rested c.args.files.now macros texts within i.grows i.running c.requires.held i.alike mid c.drop_refused.new.self rested in
+    let alike = alike-turned c.args.files.now macros texts within grows r c.requires.held still new c.turn.new.self other same turned in
+    record { grows = Grows-trans grows later; running = r_after; alike = alike }

@@ -1,9 +1,9 @@
-use Rattle.std.proofs.Common.{◌≡◌, ◌∙◌, ◌++◌, All, List, ap, drop, length, sym, subst}
+use Rattle.std.proofs.Common.{◌≡◌, ◌∙◌, ◌++◌, All, List, ap, drop, length, sym, subst, ◌&&◌, refl}
 use Rattle.std.specs.Prelude.{slice_get}
 use Rattle.sc_base.proofs.Growth.{Extends-refl}
 use Rattle.sc_base.specs.declared.id.Cond.{Cond}
 use Rattle.sc_expand.proofs.PuttingOut.{some-Keeps}
-use Rattle.sc_expand.proofs.SeenLemmas.{IsHeldExpansion-Grows, IsTable-Grows, seen_at-append, token-Grows}
+use Rattle.sc_expand.proofs.SeenLemmas.{IsHeldExpansion-Grows, IsTable-Grows, seen_at-append, token-Grows, macros_at-Grows}
 use Rattle.sc_expand.proofs.TakingTurns.{both_true, first-begun, first-held, first-own, first-token, put-ends, put-held, refused-out, take-turn}
 use Rattle.sc_expand.proofs.UnchangedTaking.{first-undefined, stays-both, take-passes}
 use Rattle.sc_expand.specs.declared.expansion.Expansion.{Expansion}
@@ -15,6 +15,11 @@ use Rattle.sc_model.proofs.SetLemmas.{Denotes-self, IsConfig-Keeps, IsConfig-kep
 use Rattle.sc_model.specs.Sets.{IsNever, Keeps}
 use Rattle.sc_subst.specs.declared.hidden.Hidden.{Hidden}
 use Rattle.sc_table.specs.Table.{macros_at}
+use Rattle.sc_expand.proofs.AlikeGathering.{same-call}
+use Rattle.sc_expand.proofs.AlikeLemmas.{alike-of, in-whole, whole, whole-in, AreAlike-Keeps, IsAlikeExpansion-Keeps, IsAlikeIn-Keeps}
+use Rattle.sc_expand.proofs.AlikeTaking.{alike-first, as-long, put-alike}
+use Rattle.sc_expand.specs.Alike.{IsAlikeEnclosing}
+use Rattle.sc_macro.specs.Seen.{text_of}
 use Rattle.sc_expand.proofs.expansion.Expansion.take.Goals as goal
 
 pub take_under-requires-clause-held : goal.take_under-requires-clause-held
@@ -156,3 +161,36 @@ returns-clause-passes g c = λ uncalled looks.
     take-passes s2 was next item taken.made.items taken.stays uncalled c.requires.first (put.work ∙ ap (λ (e : Expansion). taken.made.items ++ drop 1 e.top.work) same.0) same.1
     (put.refusals ∙ ap (λ (e : Expansion). e.refusals) same.0) (put.below ∙ ap (λ (e : Expansion). e.below) same.0) (put.calls ∙ ap (λ (e : Expansion). e.top.calls) same.0)
     both (subst (λ (e : Expansion). IsPushed s2 taken.stays c.args.token e.top.out next.top.out) same.0 put.pushed)
+
+pub returns-clause-alike : goal.returns-clause-alike
+returns-clause-alike g c = λ x y p q defined alike.
+    let s0 = g.C.Conditions.sets c.args.conds.now in
+    let s1 = g.C.Conditions.sets c.apply_and.new.self in
+    let s2 = g.C.Conditions.sets c.take_under.new.conds in
+    let n = c.args.names.now in
+    let h = c.args.self.now.sets in
+    let was = c.args.self.now in
+    let now = c.take_under.new.self in
+    let held = c.requires.held in
+    let taken = c.in_ok-taken.ensures in
+    let put = c.in_ok-put_out.ensures in
+    let item : Cond × Hidden = (c.args.has, c.args.token) in
+    let first = c.apply_and.ensures.keeps in
+    let p1 = IsConfig-Keeps first p in
+    let q1 = IsConfig-Keeps first q in
+    let grew : Grows (stores s0 n h) (stores s1 n h) = record { sets = first; names = Extends-refl n; hides = Extends-refl h } in
+    let own = first-own (stores s0 n h) (length c.args.files.now) was.top.work item c.requires.first held.top.work in
+    let meets = c.in_ok-cond.ensures.meaning _ _ (Denotes-self s0 c.args.has.0 own) (Denotes-self s0 was.refusals.live.0 held.refusals.live) in
+    let has_alike = alike-first s0 x y was.top.work item c.requires.first alike.top.work in
+    let live_alike = alike.refusals.live in
+    let text = text_of n c.args.token.token.spelling in
+    let span = whole was in
+    let came = taken.alike x y span p1 q1 (alike-of meets p1 q1 (λ i. has_alike i && live_alike i))
+    (λ has. same-call was.top.work (AreAlike-Keeps first p q was.top.work held.top.work.own alike.top.work))
+    (λ has looked.
+    let both = both_true (s0.has c.args.has.0 x) (s0.has was.refusals.live.0 x) (sym (meets.at x p1) ∙ has) in
+    macros_at-Grows grew c.requires.table x text p ∙ (defined.same item c.requires.first c.requires.calls both.0 both.1 looked ∙ sym (macros_at-Grows grew c.requires.table y text q)))
+    (IsAlikeIn-Keeps first p q span was held (in-whole span was alike)) in
+    let below = subst (λ l. All (IsAlikeEnclosing s2 x y) l.items) (sym taken.below) (IsAlikeExpansion-Keeps (Keeps-trans first c.take_under.ensures.keeps) p q was held alike).below in
+    put-alike s2 x y now c.put_out.new.self c.in_ok-taken.taken c.args.token put.refusals put.below put.calls put.work put.pushed came.1
+    (whole-in span now (as-long was.top.work now.top.work taken.items) refl refl came.0 below)

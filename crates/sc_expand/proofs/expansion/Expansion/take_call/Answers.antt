@@ -1,5 +1,6 @@
 use Rattle.std.proofs.Common.{ℕ, ◌+◌, ◌-◌, ◌<◌, All, length, drop, take, map, sym, ap, subst, ◌∙◌, arith, if◌then◌else◌}
 use Rattle.std.proofs.lemmas.List.Elements.{All-cons, All-drop, All-take}
+use Rattle.sc_expand.proofs.AlikeLemmas.{IsAlikeIn-Keeps}
 use Rattle.sc_expand.proofs.GatherPlaces.{branch-placed, call-taken, held-at, held-same, held-tokens, places-below, places-three}
 use Rattle.sc_expand.specs.Beginning.{token_at}
 use Rattle.sc_guarded.specs.Items.{items_at}
@@ -81,3 +82,8 @@ returns-clause-held g c = λ files held.
       own = c.in_ok-take_out.ensures.own;
       held = λ k d h. (let it = held-same (IsHeldToken st files) c.args.self.now.top.work c.take_out.new.list c.take_out.ensures.items held.held k d h in record { held = it.held; file = it.file });
     }
+
+pub returns-clause-alike : goal.returns-clause-alike
+returns-clause-alike g c = λ x y span at_x at_y same alike.
+    let kept = IsAlikeIn-Keeps c.take_out.ensures.keeps at_x at_y span c.args.self.now c.requires.held.1 alike in
+    record { refusals = kept.refusals; work = c.in_ok-take_out.ensures.alike x y span.work at_x at_y same alike.work; out = kept.out; calls = kept.calls }

@@ -2,13 +2,16 @@ use Rattle.std.proofs.Common.{◌∙◌, ◌||◌, ap, sym}
 use Rattle.sc_base.proofs.Growth.{Extends-refl}
 use Rattle.sc_expand.proofs.SeenLemmas.{AreHeld-Grows, IsHeldExpansion-Grows, at-Grows, seen_at-Grows}
 use Rattle.sc_expand.proofs.TakingLemmas.{or_false}
-use Rattle.sc_expand.proofs.TakingSteps.{both-on-ok, called-comes, has_first-Keeps, object-comes, same-step}
+use Rattle.sc_expand.proofs.TakingSteps.{both-on-ok, called-comes, has_first-Keeps, object-comes, same-step, on-ok}
 use Rattle.sc_expand.specs.Machine.{at}
 use Rattle.sc_expand.specs.Seen.{Grows, provenance_of, stores}
 use Rattle.sc_expand.specs.Taking.{has_first}
 use Rattle.sc_macro.specs.Seen.{seen_definition}
 use Rattle.sc_model.proofs.SetLemmas.{Denotes-self, IsConfig-Keeps, Keeps-trans}
 use Rattle.sc_subst.specs.Seen.{seen_hidden}
+use Rattle.sc_expand.proofs.AlikeLemmas.{alike-of, AreAlike-Keeps, IsAlike-Keeps, IsAlikeIn-Keeps}
+use Rattle.sc_expand.proofs.WorkListLemmas.{has_each-Keeps}
+use Rattle.sc_expand.specs.Having.{has_each}
 use Rattle.sc_expand.proofs.expansion.Expansion.take_defined.Goals as goal
 
 pub returns-in_err-taken-clause-keeps : goal.returns-in_err-taken-clause-keeps
@@ -93,3 +96,41 @@ returns-clause-others g c = both-on-ok c.put_object.result
     let other = others x listed no in
     same-step other.0 first (c.put_object.ensures.keeps.at c.args.taken.now.stays.0 x c.requires.taken.stays listed) other.1)
     c.put_object.ensures.others c.put_object.ensures.top
+
+pub returns-then-is_function_like-clause-alike : goal.returns-then-is_function_like-clause-alike
+returns-then-is_function_like-clause-alike g c = λ x y span p q same called taken alike.
+    let s1 = g.C.Conditions.sets c.gather.new.conds in
+    let first = c.gather.ensures.keeps in
+    let second = c.apply_or.ensures.keeps in
+    let p1 = IsConfig-Keeps first p in
+    let q1 = IsConfig-Keeps first q in
+    let stays = c.args.taken.now.stays in
+    let own = c.requires.taken.stays in
+    let came = c.in_ok-uncalled.ensures.alike x y span p q same called alike in
+    let told = c.in_ok-taken.ensures.meaning _ _ (Denotes-self s1 stays.0 (first.own _ own)) (Denotes-self s1 c.in_ok-uncalled.uncalled.0 c.in_ok-uncalled.ensures.own) in
+    let stayed = IsAlike-Keeps first p q own taken.stays in (
+      IsAlikeIn-Keeps second p1 q1 span c.gather.new.self c.in_ok-uncalled.ensures.held came.0,
+      record {
+        stays = alike-of told (IsConfig-Keeps second p1) (IsConfig-Keeps second q1) (λ i. stayed i || came.1 i);
+        made = AreAlike-Keeps (Keeps-trans first second) p q c.args.taken.now.made.items c.requires.taken.made.own taken.made;
+      },
+    )
+
+pub returns-then-is_function_like-clause-others_each : goal.returns-then-is_function_like-clause-others_each
+returns-then-is_function_like-clause-others_each g c = λ x listed no.
+    let work = c.gather.new.self.top.work in
+    has_each-Keeps work x c.apply_or.ensures.keeps c.in_ok-uncalled.ensures.held.top.work.own (IsConfig-Keeps c.gather.ensures.keeps listed) ∙ c.in_ok-uncalled.ensures.others_each x listed no
+
+pub returns-clause-alike : goal.returns-clause-alike
+returns-clause-alike g c = on-ok c.put_object.result
+    (λ made x y span p q same called taken alike.
+    let came = made x y span p q same taken.made alike in
+    (came.0, record { stays = IsAlike-Keeps c.put_object.ensures.keeps p q c.requires.taken.stays taken.stays; made = came.1 }))
+    c.put_object.ensures.alike
+
+pub returns-clause-others_each : goal.returns-clause-others_each
+returns-clause-others_each g c = on-ok c.put_object.result
+    (λ top x listed no.
+    let work = c.args.self.now.top.work in
+    ap (λ f. has_each (g.C.Conditions.sets c.put_object.new.conds) f.work x) top ∙ has_each-Keeps work x c.put_object.ensures.keeps c.requires.held.top.work.own listed)
+    c.put_object.ensures.top

@@ -1,4 +1,4 @@
-use Rattle.std.proofs.Common.{◌≡◌, ◌∙◌, ◌∷◌, ℕ, [], List, All, Global, None, Option, ap, map, not, subst, sym, if◌then◌else◌}
+use Rattle.std.proofs.Common.{◌≡◌, ◌∙◌, ◌∷◌, ℕ, [], List, All, Global, None, Option, ap, map, not, subst, sym, if◌then◌else◌, refl}
 use Rattle.std.specs.Global.{Vec}
 use Rattle.std.specs.declared.rc.Rc.{Rc}
 use Rattle.c11_macros.specs.Macros.{Definition}
@@ -6,7 +6,7 @@ use Rattle.c11_tokens.specs.Lex.{is_identifier_kind}
 use Rattle.sc_base.proofs.Growth.{Extends-refl}
 use Rattle.sc_base.specs.declared.id.Cond.{Cond}
 use Rattle.sc_expand.proofs.SeenLemmas.{IsHeldExpansion-Grows, at-Grows}
-use Rattle.sc_expand.proofs.TakingParts.{none-found, one-found, seen_by, still-untaken}
+use Rattle.sc_expand.proofs.TakingParts.{none-found, one-found, seen_by, still-untaken, some-found}
 use Rattle.sc_expand.proofs.TakingTurns.{both_true}
 use Rattle.sc_expand.proofs.UnchangedTaking.{found-none}
 use Rattle.sc_expand.specs.Seen.{Grows, provenance_of, stores}
@@ -19,6 +19,12 @@ use Rattle.sc_model.proofs.SetLemmas.{IsConfig-Keeps, IsConfig-kept, Keeps-trans
 use Rattle.sc_subst.specs.declared.hidden.Hidden.{Hidden}
 use Rattle.sc_subst.specs.Seen.{hide_at, seen_hidden}
 use Rattle.sc_table.specs.Table.{macros_at}
+use Rattle.std.proofs.lemmas.List.Elements.{All-nil}
+use Rattle.sc_expand.proofs.AlikeGathering.{each-same-call}
+use Rattle.sc_expand.proofs.AlikeLemmas.{alike-of, IsAlike-Keeps, IsAlikeIn-Keeps}
+use Rattle.sc_expand.proofs.AlikeTaking.{found-alike, same-defined}
+use Rattle.sc_expand.proofs.WorkListLemmas.{has_each-Keeps}
+use Rattle.sc_hoist.specs.Alike.{AreAlike, IsAlike}
 use Rattle.sc_expand.proofs.expansion.Expansion.take_name.Goals as goal
 
 pub take_parts-requires-clause-held : goal.take_parts-requires-clause-held
@@ -85,3 +91,24 @@ returns-clause-undefined g c = λ undefined.
     (λ x listed has. undefined x (IsConfig-kept c.lookup.ensures.keeps listed) has name) c.in_ok-parts.ensures.some in
     let told = c.in_ok-take_parts.ensures.undefined (subst (All (λ (part : Cond × Option (Rc declared.Definition Global)). part.1 ≡ None)) (sym c.deref.ensures.value) found) in
     (told.0, ap (λ (made : Vec (Cond × Hidden)). made.items) told.1 ∙ c.new.ensures.items)
+
+pub returns-clause-alike : goal.returns-clause-alike
+returns-clause-alike g c = λ x y span p q same called defined alike.
+    let s0 = g.C.Conditions.sets c.args.conds.now in
+    let s1 = g.C.Conditions.sets c.lookup.new.conds in
+    let n = c.args.names.now in
+    let h = c.args.self.now.sets in
+    let work = c.args.self.now.top.work in
+    let own = c.requires.held.top.work.own in
+    let keeps = c.lookup.ensures.keeps in
+    let grows : Grows (stores s0 n h) (stores s1 n h) = record { sets = keeps; names = Extends-refl n; hides = Extends-refl h } in
+    let parts = c.in_ok-parts.parts.items in
+    let one = c.in_ok-parts.ensures.parts x p in
+    let both = same-defined (s0.has c.args.cond.0 x) (s0.has c.args.cond.0 y) _ _ same defined in
+    let found = found-alike (seen_by n) s1 parts x y c.in_ok-parts.ensures.differ (one ∙ (both ∙ sym (c.in_ok-parts.ensures.parts y q))) in
+    let never = c.never.ensures.meaning in
+    c.in_ok-take_parts.ensures.alike x y span (IsConfig-Keeps keeps p) (IsConfig-Keeps keeps q) (subst (AreAlike s1 x y) (sym c.deref.ensures.value) found)
+    (λ some. each-same-call work work grows c.requires.held.top.work refl (has_each-Keeps work x keeps own p) (has_each-Keeps work y keeps own q)
+    (called (some-found (seen_by n) (items_at s1 parts x) _ _ one (λ none. some (ap (λ l. items_at s1 l x) c.deref.ensures.value ∙ none)))))
+    (record { stays = IsAlike-Keeps keeps p q never.own (alike-of never p q refl); made = subst (AreAlike s1 x y) (sym c.new.ensures.items) (All-nil (λ (item : Cond × Hidden). IsAlike s1 x y item.0)) })
+    (IsAlikeIn-Keeps keeps p q span c.args.self.now c.requires.held alike)

@@ -10,6 +10,8 @@ use Rattle.sc_expand.specs.Taking.{kept}
 use Rattle.sc_macro.specs.Seen.{seen_definition}
 use Rattle.sc_model.proofs.SetLemmas.{Denotes-self, IsConfig-Keeps}
 use Rattle.sc_subst.specs.Seen.{seen_hidden}
+use Rattle.sc_expand.proofs.AlikeLemmas.{alike-of, AreAlike-Keeps, IsAlikeIn-Keeps}
+use Rattle.sc_expand.proofs.WorkListLemmas.{has_each-Keeps}
 use Rattle.sc_expand.proofs.expansion.Expansion.take_part.Goals as goal
 
 pub returns-in_ok-taken-in-None-clause-held : goal.returns-in_ok-taken-in-None-clause-held
@@ -51,3 +53,19 @@ returns-in-Some-clause-comes g c = on-ok c.take_defined.result
     let n = c.args.names.now in
     comes x macros rest listed has work (is ∙ (ap (option_map (λ shared. seen_definition n shared.value)) c.in-Some.is ∙ ap (λ d. Some (seen_definition n d)) (sym c.deref.ensures))))
     c.take_defined.ensures.comes
+
+pub returns-in_ok-taken-in-None-clause-alike : goal.returns-in_ok-taken-in-None-clause-alike
+returns-in_ok-taken-in-None-clause-alike g c = λ x y span p q same called taken alike.
+    let s = g.C.Conditions.sets c.args.conds.now in
+    let keeps = c.apply_or.ensures.keeps in
+    let told = c.in_ok-taken-in-None.ensures.meaning _ _ (Denotes-self s c.args.taken.now.stays.0 c.requires.taken.stays) (Denotes-self s c.args.cond.0 c.requires.cond_own) in
+    let stayed = taken.stays in (
+      IsAlikeIn-Keeps keeps p q span c.args.self.now c.requires.held alike,
+      record {
+        stays = alike-of told (IsConfig-Keeps keeps p) (IsConfig-Keeps keeps q) (λ i. stayed i || same i);
+        made = AreAlike-Keeps keeps p q c.args.taken.now.made.items c.requires.taken.made.own taken.made;
+      },
+    )
+
+pub returns-in_ok-taken-in-None-clause-others_each : goal.returns-in_ok-taken-in-None-clause-others_each
+returns-in_ok-taken-in-None-clause-others_each g c = λ x listed no. has_each-Keeps c.args.self.now.top.work x c.apply_or.ensures.keeps c.requires.held.top.work.own listed

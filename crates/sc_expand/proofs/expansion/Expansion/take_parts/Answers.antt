@@ -14,6 +14,7 @@ use Rattle.sc_model.proofs.SetLemmas.{IsConfig-kept, Keeps-trans}
 use Rattle.sc_model.specs.Sets.{IsCond}
 use Rattle.sc_subst.specs.Seen.{seen_hidden}
 use Rattle.sc_table.proofs.Growth.{IsHeldDefinition-Extends}
+use Rattle.sc_hoist.specs.Alike.{AreAlike}
 use Rattle.sc_expand.proofs.expansion.Expansion.take_parts.Goals as goal
 
 pub take_part-requires-clause-name : goal.take_part-requires-clause-name
@@ -59,7 +60,7 @@ loop-part-preserved g c =
           (length c.args.files.now) c.loop-part-test.true c.part-item.is was.grows c.requires.head
           (subst (λ p. IsCond s0 p.0.0) (sym c.part-item.is) (c.requires.own c.loop-part.part-index c.part-item.result c.loop-part-test.true))
           (subst (λ p. IfSome p.1 (λ shared. IsHeldDefinition c.args.names.now shared.value)) (sym c.part-item.is) (c.requires.definitions c.loop-part.part-index c.part-item.result c.loop-part-test.true))
-          c.requires.one was.done ensures.comes ensures.others;
+          c.requires.one was.done ensures.comes ensures.others c.requires.held.top.work was.items ensures.others_each ensures.alike;
     }
 
 pub returns-clause-items : goal.returns-clause-items
@@ -79,3 +80,9 @@ take_part-requires-clause-definition g c =
 
 pub returns-in_err-take_part-clause-keeps : goal.returns-in_err-take_part-clause-keeps
 returns-in_err-take_part-clause-keeps g c = Keeps-trans c.loop-part.invariant.grows.sets c.take_part.ensures.keeps
+
+pub returns-clause-alike : goal.returns-clause-alike
+returns-clause-alike g c = λ x y span p q alike called taken start.
+    let s = g.C.Conditions.sets c.args.conds.now in
+    let all : take c.loop-part.part-index c.args.parts.now ≡ c.args.parts.now = take_all c.loop-part.part-index c.args.parts.now c.loop-part-test.false in
+    c.loop-part.invariant.done.alike x y span p q (subst (AreAlike s x y) (sym all) alike) (λ some. called (λ none. some (ap (λ l. items_at s l x) all ∙ none))) taken start

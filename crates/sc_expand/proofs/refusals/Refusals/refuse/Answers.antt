@@ -1,11 +1,13 @@
-use Rattle.std.proofs.Common.{◌∙◌, ◌++◌, ◌∷◌, ◌<◌, [], All, map, sym, ap, subst, if◌then◌else◌}
+use Rattle.std.proofs.Common.{◌∙◌, ◌++◌, ◌∷◌, ◌<◌, ◌&&◌, [], All, drop, map, not, sym, ap, subst, if◌then◌else◌}
 use Rattle.std.proofs.lemmas.List.{map-append}
-use Rattle.std.proofs.lemmas.List.Elements.{All-push}
+use Rattle.std.proofs.lemmas.List.Elements.{All-drop, All-push}
 use Rattle.sc_base.specs.declared.fault.Fault.{Fault}
+use Rattle.sc_expand.proofs.AlikeLemmas.{AreAlikeFaults-Keeps, IsAlike-Keeps, All-drop-push, alike-of}
 use Rattle.sc_expand.specs.Seen.{seen_failure, failures_at}
 use Rattle.sc_guarded.proofs.ItemLemmas.{faults_at-append, faults_at-Keeps, map-one}
 use Rattle.sc_guarded.specs.Items.{faults_at}
-use Rattle.sc_model.proofs.SetLemmas.{Denotes-self, Denotes-Keeps, Keeps-trans}
+use Rattle.sc_hoist.specs.Alike.{IsAlike}
+use Rattle.sc_model.proofs.SetLemmas.{Denotes-self, Denotes-Keeps, IsConfig-Keeps, Keeps-trans}
 use Rattle.sc_model.specs.Sets.{IsCond, Keeps}
 use Rattle.sc_expand.proofs.refusals.Refusals.refuse.Goals as goal
 
@@ -41,4 +43,18 @@ returns-clause-held g c = λ files within was.
       live = c.in_ok-live.ensures.own;
       own = subst (All Own) (sym c.in_ok-push.ensures.items) (All-push Own faults fault (λ k d h. keeps.own _ (was.own k d h)) (keeps.own _ c.requires.own));
       placed = subst (All Placed) (sym c.in_ok-push.ensures.items) (All-push Placed faults fault was.placed within);
+    }
+
+pub returns-clause-alike : goal.returns-clause-alike
+returns-clause-alike g c = λ x y others at_x at_y own same alike.
+    let old = g.C.Conditions.sets c.args.conds.now in
+    let new = g.C.Conditions.sets c.apply_and.new.self in
+    let faults = c.args.self.now.faults.items in
+    let fault : Fault = record { cond = c.args.cond; cause = c.args.cause; place = c.args.place } in
+    let keeps : Keeps old new = Keeps-trans c.negate.ensures.keeps c.apply_and.ensures.keeps in
+    let P : Fault → Type 0 = λ f. IsAlike new x y f.cond in
+    let kept = AreAlikeFaults-Keeps keeps at_x at_y (drop others faults) (All-drop (λ (f : Fault). IsCond old f.cond.0) others faults own) alike.faults in
+    record {
+      live = alike-of (returns-clause-live g c) (IsConfig-Keeps keeps at_x) (IsConfig-Keeps keeps at_y) (λ i. alike.live i && not (same i));
+      faults = subst (λ l. All P (drop others l)) (sym c.in_ok-push.ensures.items) (All-drop-push P others faults fault kept (IsAlike-Keeps keeps at_x at_y c.requires.own same));
     }

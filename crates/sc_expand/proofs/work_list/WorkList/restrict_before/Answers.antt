@@ -1,7 +1,8 @@
 use Rattle.std.proofs.Common.{◌≡◌, ◌<◌, ◌∙◌, ℕ, List, [], take, length, get_or, sym, ap, subst, arith, if◌then◌else◌}
 use Rattle.std.proofs.lemmas.List.{length-map}
 use Rattle.sc_base.specs.declared.id.Cond.{Cond}
-use Rattle.sc_expand.proofs.WorkListLemmas.{restricted_more}
+use Rattle.sc_expand.proofs.WorkListLemmas.{restricted_alike, restricted_more}
+use Rattle.sc_hoist.specs.Alike.{AreAlike}
 use Rattle.sc_guarded.specs.Items.{items_at}
 use Rattle.sc_model.proofs.SetLemmas.{Denotes-self}
 use Rattle.sc_model.specs.Sets.{IsCond}
@@ -17,6 +18,18 @@ returns-clause-restricted g c = λ x listed.
     let P : ℕ → Type 0 = λ n. items_at now (take n after) x ≡ (if first.has c.args.by.0 x then items_at first (take n c.self.inside.tokens.items) x else []) in
     let Q : List (Cond × Hidden) → Type 0 = λ l. items_at now (take c.args.count after) x ≡ (if first.has c.args.by.0 x then items_at first (take c.args.count l) x else []) in
     subst Q c.self.view_is (subst P end (c.loop-index.invariant.at x listed))
+
+pub returns-clause-alike : goal.returns-clause-alike
+returns-clause-alike g c = λ x y m at_x at_y same.
+    let first = g.C.Conditions.sets c.args.conds.now in
+    let now = g.C.Conditions.sets c.loop-index.conds in
+    let before = c.self.inside.tokens.items in
+    let after = c.loop-index.self-inside.tokens.items in
+    let was = c.loop-index.invariant in
+    let only : Cond × Hidden → Hidden = λ pair. pair.1 in
+    let long : length after ≡ length before = sym (length-map after only) ∙ (ap length was.items ∙ length-map before only) in
+    let Q : List (Cond × Hidden) → Type 0 = λ l. AreAlike first x y (take m l) → AreAlike now x y (take m after) in
+    subst Q c.self.view_is (restricted_alike first now x y m before after long (λ k z low. was.alike x y k z at_x at_y same low))
 
 pub loop-index-preserved : goal.loop-index-preserved
 loop-index-preserved g c =

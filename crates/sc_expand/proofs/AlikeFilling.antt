@@ -1,0 +1,104 @@
+-- Configurations that have the same of a call have the same of what replaces it, and of its
+-- argument as it is entered and left.
+use Rattle.std.proofs.Common.{◌≡◌, ℕ, ◌&&◌, ◌++◌, ◌∷◌, [], List, All, Some, map, refl, sym, ap, subst, ◌∙◌, if◌then◌else◌}
+use Rattle.std.proofs.lemmas.List.Elements.{All-append, All-cons, All-head, All-map, All-nil, All-pop, All-push, All-set, All-tail}
+use Rattle.sc_base.specs.declared.id.Cond.{Cond}
+use Rattle.sc_expand.proofs.AlikeLemmas.{All-both, AreAlike-Keeps, IsAlikeCall-Keeps, alike-of}
+use Rattle.sc_expand.specs.Alike.{AreAlikeRefusals, IsAlikeCall, IsAlikeEnclosing, IsAlikeExpansion}
+use Rattle.sc_expand.specs.declared.call.Call.{Call}
+use Rattle.sc_expand.specs.declared.call.Wanted.{Wanted}
+use Rattle.sc_expand.specs.declared.expansion.Expansion.{Expansion}
+use Rattle.sc_expand.specs.declared.frame.Enclosing.{Enclosing}
+use Rattle.sc_expand.specs.Machine.{IsResumed}
+use Rattle.sc_expand.specs.Seen.{IsHeldCall, Stores}
+use Rattle.sc_guarded.specs.Items.{items_at}
+use Rattle.sc_hoist.specs.Alike.{AreAlike, IsAlike}
+use Rattle.sc_model.proofs.SetLemmas.{IsConfig-Keeps}
+use Rattle.sc_model.specs.Sets.{Denotes, IsCond, IsConfig, Keeps, Sets}
+use Rattle.sc_subst.specs.declared.hidden.Hidden.{Hidden}
+
+-- ---- lists
+
+module _ {T : Type 0} (s : Sets) (c d : List ℕ) where
+  abbrev pub Same : Cond × T → Type 0
+  Same item = IsAlike s c d item.0
+
+  -- the items that stand at both are the same
+  pub items_at-alike : (list : List (Cond × T)) → AreAlike s c d list → items_at s list c ≡ items_at s list d
+  items_at-alike [] alike = refl
+  items_at-alike (x ∷ xs) alike =
+      ap (λ b. if b then x.1 ∷ items_at s xs c else items_at s xs c) (All-head Same x xs alike)
+      ∙ ap (λ r. if s.has x.0.0 d then x.1 ∷ r else r) (items_at-alike xs (All-tail Same x xs alike))
+
+  -- one item more
+  pub AreAlike-push : (list more : List (Cond × T)) (cond : Cond) (item : T) → more ≡ list ++ (cond, item) ∷ [] → AreAlike s c d list → IsAlike s c d cond → AreAlike s c d more
+  AreAlike-push list more cond item is alike here = subst (All Same) (sym is) (All-push Same list (cond, item) alike here)
+
+  pub AreAlike-append : (xs ys : List (Cond × T)) → AreAlike s c d xs → AreAlike s c d ys → AreAlike s c d (xs ++ ys)
+  AreAlike-append xs ys first rest = All-append Same xs ys first rest
+
+  pub AreAlike-nil : AreAlike {T = T} s c d []
+  AreAlike-nil = All-nil Same
+
+  -- items under the same conditions
+  pub AreAlike-conditions : (xs ys : List (Cond × T)) → map (λ (item : Cond × T). item.0) ys ≡ map (λ (item : Cond × T). item.0) xs → AreAlike s c d xs → AreAlike s c d ys
+  AreAlike-conditions xs [] same alike = All-nil Same
+  AreAlike-conditions [] (y ∷ ys) same alike = absurd (cc)
+  AreAlike-conditions (x ∷ xs) (y ∷ ys) same alike =
+      let cond : y.0 ≡ x.0 = cc in
+      let rest : map (λ (item : Cond × T). item.0) ys ≡ map (λ (item : Cond × T). item.0) xs = cc in
+      All-cons Same y ys (subst (λ (k : Cond). IsAlike s c d k) (sym cond) (All-head Same x xs alike)) (AreAlike-conditions xs ys rest (All-tail Same x xs alike))
+
+-- each of several lists
+pub lists-Keeps : {old new : Sets} (keeps : Keeps old new) {c d : List ℕ} (p : IsConfig old.arities c) (q : IsConfig old.arities d) {T : Type 0} (lists : List (List (Cond × T)))
+    → All (All (λ (item : Cond × T). IsCond old item.0.0)) lists → All (AreAlike old c d) lists → All (AreAlike new c d) lists
+lists-Keeps {old} {new} keeps {c} {d} p q {T} lists own alike =
+    All-both (All (λ (item : Cond × T). IsCond old item.0.0)) (AreAlike old c d) (AreAlike new c d) (λ list made same. AreAlike-Keeps keeps p q list made same) lists own alike
+
+-- ---- a call that goes on
+
+-- the call, in those that were not refused
+pub alike-narrowed : {old : Stores} {new : Sets} (keeps : Keeps old.sets new) {c d : List ℕ} (p : IsConfig old.sets.arities c) (q : IsConfig old.sets.arities d) {files : ℕ} (live : Cond) (call later : Call)
+    → IsHeldCall old files call → Denotes new later.cond.0 (λ x. old.sets.has call.cond.0 x && old.sets.has live.0 x) → later.expanded ≡ call.expanded
+    → IsAlike old.sets c d live → IsAlikeCall old.sets c d call → IsAlikeCall new c d later
+alike-narrowed {old} {new} keeps {c} {d} p q {files} live call later held meaning expanded live_alike alike = record {
+  cond = alike-of meaning (IsConfig-Keeps keeps p) (IsConfig-Keeps keeps q) (λ i. alike.cond i && live_alike i);
+  expanded = subst (λ lists. All (AreAlike new c d) lists.items) (sym expanded) (IsAlikeCall-Keeps {old = old} keeps p q call held alike).expanded;
+}
+
+module _ (s : Sets) (c d : List ℕ) (e after : Expansion) where
+  -- an argument is entered
+  pub alike-enter : (call : Call) (w : Wanted) → after.refusals ≡ e.refusals → after.below.items ≡ e.below.items ++ record { frame = e.top; call = call; parameter = w.parameter } ∷ []
+      → after.top.work ≡ map (λ (t : Hidden). (call.cond, t)) w.tokens.items → after.top.out ≡ [] → after.top.calls.items ≡ []
+      → IsAlikeCall s c d call → IsAlikeExpansion s c d e → IsAlikeExpansion s c d after
+  alike-enter call w refusals below work out calls call_alike alike =
+      let o : Enclosing = record { frame = e.top; call = call; parameter = w.parameter } in
+      record {
+        refusals = subst (AreAlikeRefusals s c d 0) (sym refusals) alike.refusals;
+        top = record {
+          work = subst (AreAlike s c d) (sym work) (All-map (Same {T = Hidden} s c d) (λ (t : Hidden). (call.cond, t)) w.tokens.items (λ k t within. call_alike.cond));
+          out = subst (AreAlike s c d) (sym out) (All-nil (Same {T = Hidden} s c d));
+          calls = subst (All (IsAlikeCall s c d)) (sym calls) (All-nil (IsAlikeCall s c d));
+        };
+        below = subst (All (IsAlikeEnclosing s c d)) (sym below) (All-push (IsAlikeEnclosing s c d) e.below.items o alike.below (record { frame = alike.top; call = call_alike }));
+      }
+
+  -- an argument is left, and its call waits again
+  pub alike-leave : (below : List Enclosing) (o : Enclosing) → e.below.items ≡ below ++ o ∷ [] → after.below.items ≡ below → after.refusals ≡ e.refusals
+      → after.top.work ≡ o.frame.work → after.top.out ≡ o.frame.out → IsResumed o e.top.out after.top.calls.items → IsAlikeExpansion s c d e → IsAlikeExpansion s c d after
+  alike-leave below o were are refusals work out resumed alike =
+      let popped = All-pop (IsAlikeEnclosing s c d) e.below.items below (Some o) were alike.below in
+      let enclosing : IsAlikeEnclosing s c d o = popped.1 in
+      let call : IsAlikeCall s c d resumed.call = record {
+        cond = subst (λ (k : Cond). IsAlike s c d k) (sym resumed.cond) enclosing.call.cond;
+        expanded = subst (All (AreAlike s c d)) (sym resumed.expanded) (All-set (AreAlike s c d) o.call.expanded.items o.parameter e.top.out alike.top.out enclosing.call.expanded);
+      } in
+      record {
+        refusals = subst (AreAlikeRefusals s c d 0) (sym refusals) alike.refusals;
+        top = record {
+          work = subst (AreAlike s c d) (sym work) enclosing.frame.work;
+          out = subst (AreAlike s c d) (sym out) enclosing.frame.out;
+          calls = subst (All (IsAlikeCall s c d)) (sym resumed.is) (All-push (IsAlikeCall s c d) o.frame.calls.items resumed.call enclosing.frame.calls call);
+        };
+        below = subst (All (IsAlikeEnclosing s c d)) (sym are) popped.0;
+      }

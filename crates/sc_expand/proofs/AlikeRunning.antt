@@ -1,0 +1,118 @@
+-- Configurations that are alike stay so through the turns of an expansion, where what one of them looks
+-- up is defined alike for both.
+use Rattle.std.proofs.Common.{◌≡◌, ℕ, Bool, true, List, [], ◌∷◌, All, Some, drop, length, map, slice_get, inl, inr, refl, sym, ap, subst, ◌∙◌, if◌then◌else◌}
+use Rattle.c11_macros.specs.Expansion.{IsWithin}
+use Rattle.c11_macros.specs.Hidden as model
+use Rattle.c11_macros.specs.Hidden.{Provenance}
+use Rattle.c11_macros.specs.Macros.{Macros}
+use Rattle.sc_base.specs.declared.id.Cond.{Cond}
+use Rattle.sc_base.specs.declared.place.Place.{Place}
+use Rattle.sc_expand.proofs.MachineLemmas.{pending_at, progress-step, stands-cases, state-top}
+use Rattle.sc_expand.proofs.PlainAgreement.{AgreesFrom, agrees-move, agrees-name, agrees-start, agrees-under}
+use Rattle.sc_expand.proofs.PlainCompletes.{ends, scanned}
+use Rattle.sc_expand.proofs.PlainTurns.{under}
+use Rattle.sc_expand.proofs.Rests.{first-is}
+use Rattle.sc_expand.proofs.RunLemmas.{IsRunning, rests-at, running-stands, start-state, turned-at}
+use Rattle.sc_expand.specs.Alike.{DefineAlike, DefineNextAlike, IsAlikeExpansion}
+use Rattle.sc_expand.specs.declared.expansion.Expansion.{Expansion}
+use Rattle.sc_expand.specs.declared.frame.Enclosing.{Enclosing}
+use Rattle.sc_expand.specs.Machine.{IsHeldExpansion, Progress, Stands, state_in}
+use Rattle.sc_expand.specs.Plain.{State, scanning}
+use Rattle.sc_expand.specs.Running.{IsRested, IsTurned, IsUntouched}
+use Rattle.sc_expand.specs.Seen.{Grows, Stores, calls_at, provenance_of, seen_at, state_by, state_of, view_at}
+use Rattle.sc_expand.specs.Turn.{At}
+use Rattle.sc_guarded.specs.Items.{items_at}
+use Rattle.sc_model.proofs.SetLemmas.{IsConfig-Keeps}
+use Rattle.sc_model.specs.Sets.{IsConfig}
+use Rattle.sc_subst.specs.declared.hidden.Hidden.{Hidden}
+use Rattle.sc_subst.specs.Seen.{seen_hidden}
+
+-- a configuration that has the first token has it before the others
+seen-first : (st : Stores) (c : List ℕ) (work : List (Cond × Hidden)) (item : Cond × Hidden) → slice_get work 0 ≡ Some item → st.sets.has item.0.0 c ≡ true
+    → seen_at st work c ≡ seen_hidden st.names st.hides item.1 ∷ seen_at st (drop 1 work) c
+seen-first st c work item first has =
+    ap (λ l. seen_at st l c) (first-is work item first)
+    ∙ ap (λ b. map (seen_hidden st.names st.hides) (if b then item.1 ∷ items_at st.sets (drop 1 work) c else items_at st.sets (drop 1 work) c)) has
+
+module _ (provenance : Provenance Place) (macros other : Macros) (names : List (List ℕ)) (within : IsWithin names macros) where
+  abbrev Agrees : State Place → Type 0
+  Agrees = AgreesFrom provenance macros other names within
+
+  -- what the next turn looks up
+  agrees-next : (st : Stores) (c : List ℕ) (e : Expansion) → (st.sets.has e.refusals.live.0 c ≡ true → Stands st c e.below.items (view_at st e.top c))
+      → (st.sets.has e.refusals.live.0 c ≡ true → Agrees (state_in st e.below.items (view_at st e.top c) c)) → DefineNextAlike st macros other c e
+  agrees-next st c e stands agrees = record {
+    same = λ item first none has live looks.
+        let t = seen_hidden st.names st.hides item.1 in
+        let out = seen_at st e.top.out c in
+        let rest = seen_at st (drop 1 e.top.work) c in
+        let work : seen_at st e.top.work c ≡ t ∷ rest = seen-first st c e.top.work item first has in
+        let calls : calls_at st e.top.calls.items c ≡ [] = ap (λ l. calls_at st l c) none in
+        elim (stands-cases st c (stands live)) [
+          | inl top ↦
+              let below = map (pending_at st c) e.below.items in
+              let state : state_in st e.below.items (view_at st e.top c) c ≡ under below (scanning out (t ∷ rest)) = state-top st c (view_at st e.top c) top.0 ∙ ap (under below) (λ i. state_by out (work i) (calls i)) in
+              agrees-name provenance macros other names within out rest t (agrees-under provenance macros other names within below (scanning out (t ∷ rest)) (subst Agrees state (agrees live))) looks
+          | inr below ↦ absurd (nothing t rest (sym work ∙ ap (λ v. v.work) below.1))
+        ];
+  }
+    where
+      nothing : (t : model.Hidden Place) (rest : List (model.Hidden Place)) → t ∷ rest ≡ [] → ⊥
+      nothing t rest none = cc
+
+  -- whatever a turn does
+  agrees-progress : (old new : Stores) (c : List ℕ) (below later : List Enclosing) {a b : At} {takes : Bool} → Progress provenance macros old new c below later a b takes
+      → (a.live ≡ true → Stands old c below a.view) → (a.live ≡ true → Agrees (state_in old below a.view c)) → b.live ≡ true → Agrees (state_in new later b.view c)
+  agrees-progress old new c below later {a} {b} progress stands agrees live =
+      let s = progress-step provenance macros old new c below later progress live stands in
+      elim s.1.step [
+        | inl m ↦ agrees-move provenance macros other names within (state_in old below a.view c) (state_in new later b.view c) (agrees s.0) m
+        | inr same ↦ subst Agrees same (agrees s.0)
+      ]
+
+module _ (files : List (List ℕ)) (macros : List ℕ → Macros) (names : List (List ℕ)) (within : (c : List ℕ) → IsWithin names (macros c)) where
+  -- both have the same, and what the one still looks up is defined alike for both
+  pub record AreAlikeNow (now : Stores) (e : Expansion) (c d : List ℕ) : Type 0 where
+    pub alike : IsAlikeExpansion now.sets c d e
+    pub agrees : now.sets.has e.refusals.live.0 c ≡ true → AgreesFrom (provenance_of files) (macros c) (macros d) names (within c) (state_in now e.below.items (view_at now e.top c) c)
+
+  -- so it is where they began alike
+  pub record StayAlike (old now : Stores) (was e : Expansion) : Type 0 where
+    pub at : (c d : List ℕ) → IsConfig old.sets.arities c → IsConfig old.sets.arities d → DefineAlike (provenance_of files) (macros c) (macros d) (seen_at old was.top.work c) → IsAlikeExpansion old.sets c d was
+        → AreAlikeNow now e c d
+
+  pub alike-start : (old : Stores) (was : Expansion) → IsHeldExpansion old (length files) was → IsUntouched was → StayAlike old old was was
+  alike-start old was held fresh = record {
+    at = λ c d p q defines alike. record {
+      alike = alike;
+      agrees = λ live.
+          let source = seen_at old was.top.work c in
+          let e = ends (provenance_of files) (macros c) names (within c) (scanning [] source) in
+          let s = scanned e.1 in
+          subst (AgreesFrom (provenance_of files) (macros c) (macros d) names (within c)) (sym (start-state files macros old was held fresh c))
+          (agrees-start (provenance_of files) (macros c) (macros d) names (within c) source s.answer s.expands (defines.agree s.answer s.expands));
+    };
+  }
+
+  module _ {old now : Stores} {was e : Expansion} (grows : Grows old now) (r : IsRunning files macros old now was e) (began : IsHeldExpansion old (length files) was) (stay : StayAlike old now was e) (new : Stores) (after : Expansion) where
+    pub alike-rested : IsRested now new e after → StayAlike old new was after
+    alike-rested rested = record {
+      at = λ c d p q defines alike.
+          let a = stay.at c d p q defines alike in
+          record {
+            alike = rested.alike (length files) c d r.held (IsConfig-Keeps grows.sets p) (IsConfig-Keeps grows.sets q) a.alike;
+            agrees = agrees-progress (provenance_of files) (macros c) (macros d) names (within c) now new c e.below.items after.below.items (rests-at grows r names within began new after rested c p) (running-stands grows r c p) a.agrees;
+          };
+    }
+
+    pub alike-turned : (other : List ℕ → Macros) (same : (c : List ℕ) → IsConfig old.sets.arities c → other c ≡ macros c) {went : Bool} → IsTurned files other now new e after went → StayAlike old new was after
+    alike-turned other same turned = record {
+      at = λ c d p q defines alike.
+          let a = stay.at c d p q defines alike in
+          let next = agrees-next (provenance_of files) (macros c) (macros d) names (within c) now c e (running-stands grows r c p) a.agrees in
+          record {
+            alike = turned.alike c d (IsConfig-Keeps grows.sets p) (IsConfig-Keeps grows.sets q)
+                (subst (λ m. DefineNextAlike now m (other d) c e) (sym (same c p)) (subst (λ m. DefineNextAlike now (macros c) m c e) (sym (same d q)) next)) a.alike;
+            agrees = agrees-progress (provenance_of files) (macros c) (macros d) names (within c) now new c e.below.items after.below.items (turned-at grows r names within began new after other same turned c p) (running-stands grows r c p) a.agrees;
+          };
+    }
