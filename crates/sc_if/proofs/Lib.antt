@@ -9,3 +9,4 @@ pub mod ShortCircuit
 pub mod Stacks
 pub mod Pieces
 pub mod Replacements
+pub mod AlikeReplacing

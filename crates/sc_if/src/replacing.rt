@@ -4,7 +4,8 @@ ghost use Rattle.c11_expressions.specs.Lines.{without_defined};
 ghost use Rattle.sc_base.specs.declared.stop.Stop.TheVariants as stop;
 ghost use Rattle.sc_base.specs.Seen.{IsHeld};
 ghost use Rattle.sc_guarded.specs.Items.{faults_at, items_at};
-ghost use Rattle.sc_if.specs.Replaced.{AreDigits, IsHeldList, IsHeldPiece, IsKeptTable, IsPlacedPiece, Stands, as_number, seen_failure, token_for, unhidden};
+ghost use Rattle.sc_hoist.specs.Alike.{AreAlike, AreAlikeFaults, IsAlike};
+ghost use Rattle.sc_if.specs.Replaced.{AreDigits, IsHeldList, IsHeldPiece, IsKeptTable, IsPlacedPiece, Stands, as_number, seen_failure, seen_piece, token_for, unhidden};
 ghost use Rattle.sc_model.specs.declared.cause.Cause.TheVariants.{BadIf};
 ghost use Rattle.sc_model.specs.Growth.{Extends};
 ghost use Rattle.sc_model.specs.Sets.{IsConfig, IsCond, Keeps};
@@ -50,6 +51,9 @@ pub fn replace_defined<C: Conditions>(
     ensures faults_own { IfOk result (λ e. All (λ f. IsCond (C.sets conds.new) f.cond.0) e.faults.items) }
     ensures faults_placed { IfOk result (λ e. All (λ f. f.place ≡ hash) e.faults.items) }
     ensures memory { IfErr result (λ refusal. refusal ≡ stop.OutOfMemory) }
+    ensures alike { IfOk result (λ e. (c d : List ℕ) → IsConfig (C.sets conds.old).arities c → IsConfig (C.sets conds.old).arities d → (C.sets conds.old).has live.0 c ≡ true → (C.sets conds.old).has live.0 d ≡ true
+        → without_defined (macros_at (C.sets conds.old) names.old table.old c) (map (unhidden names.old) line.now) ≡ without_defined (macros_at (C.sets conds.old) names.old table.old d) (map (unhidden names.old) line.now)
+        → AreAlike (C.sets conds.new) c d e.list × AreAlikeFaults (C.sets conds.new) c d e.faults.items) }
 
     // at every outcome
     ensures table { IsTable (C.sets conds.new) names.new table.new }
@@ -119,6 +123,9 @@ fn replaced<C: Conditions>(
     ensures list { IfOk result (λ list. IsHeldList (C.sets conds.new) names.now list) }
     ensures placed { IfOk result (λ list. (files : ℕ) → All (IsPlacedPiece files) pieces.now → All (λ item. item.1.place.file.0 < files) list) }
     ensures memory { IfErr result (λ refusal. refusal ≡ stop.OutOfMemory) }
+    ensures alike { IfOk result (λ list. (c d : List ℕ) → IsConfig (C.sets conds.old).arities c → IsConfig (C.sets conds.old).arities d → IsAlike (C.sets conds.old) c d live
+        → ((C.sets conds.old).has live.0 c ≡ true → All (λ piece. seen_piece (macros_at (C.sets conds.old) names.now table.old c) names.now piece ≡ seen_piece (macros_at (C.sets conds.old) names.now table.old d) names.now piece) pieces.now)
+        → AreAlike (C.sets conds.new) c d list) }
 
     // at every outcome
     ensures table { IsTable (C.sets conds.new) names.now table.new }
@@ -154,6 +161,9 @@ fn put<C: Conditions>(
     ensures list { OnOk result (IsHeldList (C.sets conds.new) names.now list.new) }
     ensures placed { OnOk result ((files : ℕ) → IsPlacedPiece files piece → All (λ item. item.1.place.file.0 < files) list.old → All (λ item. item.1.place.file.0 < files) list.new) }
     ensures memory { IfErr result (λ refusal. refusal ≡ stop.OutOfMemory) }
+    ensures alike { OnOk result ((c d : List ℕ) → IsConfig (C.sets conds.old).arities c → IsConfig (C.sets conds.old).arities d → IsAlike (C.sets conds.old) c d live
+        → ((C.sets conds.old).has live.0 c ≡ true → seen_piece (macros_at (C.sets conds.old) names.now table.old c) names.now piece ≡ seen_piece (macros_at (C.sets conds.old) names.now table.old d) names.now piece)
+        → AreAlike (C.sets conds.old) c d list.old → AreAlike (C.sets conds.new) c d list.new) }
 
     // at every outcome
     ensures table { IsTable (C.sets conds.new) names.now table.new }
@@ -187,6 +197,8 @@ fn put_number<C: Conditions>(
         ++ (if (C.sets conds.old).has live.0 c then as_number token (if (C.sets conds.old).has defined.0 c then digits.one else digits.zero) ∷ [] else [])) }
     ensures list { OnOk result ((names : List (List ℕ)) → AreDigits names digits.one digits.zero → IsHeldList (C.sets conds.old) names list.old → IsHeldList (C.sets conds.new) names list.new) }
     ensures placed { OnOk result ((files : ℕ) → token.place.file.0 < files → All (λ item. item.1.place.file.0 < files) list.old → All (λ item. item.1.place.file.0 < files) list.new) }
+    ensures alike { OnOk result ((c d : List ℕ) → IsConfig (C.sets conds.old).arities c → IsConfig (C.sets conds.old).arities d → IsAlike (C.sets conds.old) c d live → ((C.sets conds.old).has live.0 c ≡ true → IsAlike (C.sets conds.old) c d defined)
+        → AreAlike (C.sets conds.old) c d list.old → AreAlike (C.sets conds.new) c d list.new) }
 
     // at every outcome
     ensures keeps { Keeps (C.sets conds.old) (C.sets conds.new) }
@@ -224,6 +236,7 @@ fn push<C: Conditions>(
         → items_at (C.sets conds.now) list.new c ≡ items_at (C.sets conds.now) list.old c ++ (if (C.sets conds.now).has cond.0 c then token ∷ [] else [])) }
     ensures list { OnOk result ((names : List (List ℕ)) → IsHeld names token → IsHeldList (C.sets conds.now) names list.old → IsHeldList (C.sets conds.now) names list.new) }
     ensures placed { OnOk result ((files : ℕ) → token.place.file.0 < files → All (λ item. item.1.place.file.0 < files) list.old → All (λ item. item.1.place.file.0 < files) list.new) }
+    ensures alike { OnOk result ((c d : List ℕ) → IsAlike (C.sets conds.now) c d cond → AreAlike (C.sets conds.now) c d list.old → AreAlike (C.sets conds.now) c d list.new) }
 {
     if conds.is_never(cond) {
         return Ok(());

@@ -1,5 +1,6 @@
 use Rattle.std.proofs.Common.{sym, ◌∙◌}
 use Rattle.std.proofs.lemmas.Bool.{true≢false}
+use Rattle.sc_if.proofs.AlikeReplacing.{AreAlike-push}
 use Rattle.sc_if.proofs.Replacements.{IsHeldList-push, never-adds, placed-push, push-adds}
 use Rattle.sc_if.proofs.replacing.push.Goals as goal
 
@@ -15,3 +16,6 @@ returns-clause-list g c = λ names held was.
 
 pub returns-clause-placed : goal.returns-clause-placed
 returns-clause-placed g c = λ files here were. placed-push files c.args.list.now c.push.new.self c.args.cond c.args.token c.in_ok-push.ensures.ok here were
+
+pub returns-clause-alike : goal.returns-clause-alike
+returns-clause-alike g c = λ x y here were. AreAlike-push (g.C.Conditions.sets c.args.conds.now) x y c.args.list.now c.push.new.self c.args.cond c.args.token c.in_ok-push.ensures.ok here were

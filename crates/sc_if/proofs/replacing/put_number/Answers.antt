@@ -1,5 +1,6 @@
-use Rattle.std.proofs.Common.{◌<◌, sym, subst}
+use Rattle.std.proofs.Common.{◌<◌, ap, not, sym, subst, ◌∙◌}
 use Rattle.sc_base.specs.Seen.{IsHeld}
+use Rattle.sc_if.proofs.AlikeReplacing.{AreAlike-Keeps, both-same}
 use Rattle.sc_if.proofs.Replacements.{IsHeldList-Keeps, both-added, number-held}
 use Rattle.sc_model.proofs.SetLemmas.{Denotes-Keeps, Denotes-self, IsConfig-Keeps, Keeps-trans}
 use Rattle.sc_if.proofs.replacing.put_number.Goals as goal
@@ -37,3 +38,19 @@ pub returns-clause-placed : goal.returns-clause-placed
 returns-clause-placed g c = λ files here were.
     c.in_ok-push-2.ensures.placed files (subst (λ t. t.place.file.0 < files) (sym c.number-2.ensures) here)
     (c.in_ok-push.ensures.placed files (subst (λ t. t.place.file.0 < files) (sym c.number.ensures) here) were)
+
+pub returns-clause-alike : goal.returns-clause-alike
+returns-clause-alike g c = λ x y p q live_alike defined_alike list_alike.
+    let old = g.C.Conditions.sets c.args.conds.now in
+    let one = c.apply_and.ensures.keeps in
+    let two = c.negate.ensures.keeps in
+    let three = c.apply_and-2.ensures.keeps in
+    let keeps = Keeps-trans one (Keeps-trans two three) in
+    let here = IsConfig-Keeps keeps p in
+    let there = IsConfig-Keeps keeps q in
+    let live = Denotes-self old c.args.live.0 c.requires.live_own in
+    let defined = Denotes-self old c.args.defined.0 c.requires.defined_own in
+    let yes = Denotes-Keeps (Keeps-trans two three) (c.in_ok-with.ensures.meaning _ _ live defined) in
+    let no = c.in_ok-without.ensures.meaning _ _ (Denotes-Keeps (Keeps-trans one two) live) (c.in_ok-undefined.ensures.meaning _ (Denotes-Keeps one defined)) in
+    c.in_ok-push-2.ensures.alike x y (no.at x here ∙ (both-same live_alike (λ is. ap not (defined_alike is)) ∙ sym (no.at y there)))
+    (c.in_ok-push.ensures.alike x y (yes.at x here ∙ (both-same live_alike defined_alike ∙ sym (yes.at y there))) (AreAlike-Keeps keeps p q c.args.list.now c.requires.list list_alike))

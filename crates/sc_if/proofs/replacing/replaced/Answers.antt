@@ -1,5 +1,8 @@
+use Rattle.std.proofs.Common.{sym, ◌∙◌}
+use Rattle.sc_if.proofs.AlikeReplacing.{IsAlike-Keeps, pieces-told}
 use Rattle.sc_if.proofs.Replacements.{loop-at, still-trans}
 use Rattle.sc_model.proofs.SetLemmas.{IsConfig-Keeps, Keeps-trans}
+use Rattle.sc_table.specs.Table.{macros_at}
 use Rattle.sc_if.proofs.replacing.replaced.Goals as goal
 
 pub returns-in_err-put-clause-keeps : goal.returns-in_err-put-clause-keeps
@@ -22,4 +25,10 @@ loop-piece-preserved g c =
       placed = λ files placed. c.in_ok-put.ensures.placed files (placed _ _ c.loop-piece-test.true) (was.placed files placed);
       at = λ x listed. loop-at old mid new names c.args.table.now c.loop-piece.table c.args.digits.one c.args.digits.zero c.args.live pieces i _ c.loop-piece.list c.put.new.list x
           was.keeps was.still c.requires.live_own listed c.loop-piece-test.true (was.at x listed) (c.in_ok-put.ensures.at x (IsConfig-Keeps was.keeps listed));
+      alike = λ x y p q live same.
+          let first = macros_at old names c.args.table.now in
+          let later = macros_at mid names c.loop-piece.table in
+          c.in_ok-put.ensures.alike x y (IsConfig-Keeps was.keeps p) (IsConfig-Keeps was.keeps q) (IsAlike-Keeps was.keeps p q c.args.live c.requires.live_own live)
+          (λ is. pieces-told (later x) (later y) (first x) (first y) names (λ text. was.still x text p) (λ text. was.still y text q) pieces (same (sym (was.keeps.at c.args.live.0 x c.requires.live_own p) ∙ is)) i _ c.loop-piece-test.true)
+          (was.alike x y p q live same);
     }
