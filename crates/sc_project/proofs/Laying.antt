@@ -16,7 +16,7 @@ use Rattle.sc_tree.specs.Reads.{Tables, IsTokenAt, Reads, leaf_reads, node_reads
 use Rattle.sc_tree.specs.Walks.{is_choice}
 use Rattle.sc_project.specs.Layout.{LaysOut, leaf_laid, node_laid, choice_laid, AllLaid, none_laid, more_laid}
 
-cons_first : {x y : TreeId} → ◌≡◌ {A = List TreeId} (x ∷ []) (y ∷ []) → x ≡ y
+pub cons_first : {x y : TreeId} → ◌≡◌ {A = List TreeId} (x ∷ []) (y ∷ []) → x ≡ y
 cons_first e = cc
 
 -- ---- what stands for a tree can be laid out
@@ -142,12 +142,12 @@ slice_get-back : (xs ys : List Line) (n : ℕ) → slice_get (xs ++ ys) (length 
 slice_get-back [] ys n = rw zero-add refl
 slice_get-back (x ∷ xs) ys n = rw suc-add (slice_get-back xs ys n)
 
-Stand-front : (whole a b : List Line) (start : ℕ) → Stand whole start (a ++ b) → Stand whole start a
+pub Stand-front : (whole a b : List Line) (start : ℕ) → Stand whole start (a ++ b) → Stand whole start a
 Stand-front whole a b start stand = record {
   each = λ i h. stand.each i (simp length-append (omega (arith, h))) ∙ slice_get-front a b i h;
 }
 
-Stand-back : (whole a b : List Line) (start : ℕ) → Stand whole start (a ++ b) → Stand whole (start + length a) b
+pub Stand-back : (whole a b : List Line) (start : ℕ) → Stand whole start (a ++ b) → Stand whole (start + length a) b
 Stand-back whole a b start stand = record {
   each = λ i h.
       let e : (start + length a) + i ≡ start + (length a + i) = omega arith in

@@ -97,7 +97,7 @@ module _ (s : Sets) (names files : List (List ℕ)) (store : List Line) (ids : L
   only_one child (more_numbers x n [] (m ∷ ns) at rest) same = elim rest [ ]
   only_one child (more_numbers x n (y ∷ xs) ns at rest) same = absurd (cc)
 
-  shown_token : (w : Tables) (place : declared_place.Place) (spelling : Name) (token : Token) → w.names ≡ names → w.files ≡ files → IsTokenAt w place spelling token
+  pub shown_token : (w : Tables) (place : declared_place.Place) (spelling : Name) (token : Token) → w.names ≡ names → w.files ≡ files → IsTokenAt w place spelling token
       → ◌≡◌ {A = Shown} (record { place = seen_place files place; spelling = text_at names spelling.0 }) (shown token)
   shown_token w place spelling token same_names same_files is =
       let name : text_at names spelling.0 ≡ token.spelling = ap (λ ns. text_at ns spelling.0) (sym same_names) ∙ ap (λ o. unwrap_or o []) is.spelling in

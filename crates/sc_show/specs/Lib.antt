@@ -1,6 +1,7 @@
 pub mod Conflicts
 pub mod Order
 pub mod Pieces
+pub mod PlainText
 pub mod Prints
 pub mod Rules
 pub mod Shows
