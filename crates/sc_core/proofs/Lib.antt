@@ -1,6 +1,8 @@
 pub mod Cuts
 pub mod Failing
+pub mod LaidParts
 pub mod ParsedFiles
+pub mod PlainTelling
 pub mod Plains
 pub mod Projecting
 pub mod Telling

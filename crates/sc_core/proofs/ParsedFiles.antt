@@ -22,9 +22,8 @@ use Rattle.sc_base.specs.declared.token.Token.{Token}
 use Rattle.sc_base.specs.Seen.{seen, seen_place}
 use Rattle.sc_core.proofs.Translating.{held-main}
 use Rattle.sc_core.specs.Ordinary.{IsC11Parser, IsFileInput, IsPreparedAt, Translates, not_prepared, parsed}
-use Rattle.sc_core.specs.Texts.{AreTranslated, IsTranslated, StopsIn}
+use Rattle.sc_core.specs.Texts.{AreTranslated, HasAnswers, IsTranslated, Stands, StopsIn}
 use Rattle.sc_fork.specs.Choices.{AddsLeaves}
-use Rattle.sc_fork.specs.Outcomes.{RootReads, root_reads, faults_in}
 use Rattle.sc_fork.specs.Owns.{AreC11Tables, IsPlaceOf}
 use Rattle.sc_fork.specs.Parsers.{c11_parser}
 use Rattle.sc_fork.specs.Seen.{place_of}
@@ -52,7 +51,7 @@ use Rattle.sc_prep.specs.Preprocesses.{IsOrdinary, OwnsList, is_accepted}
 use Rattle.sc_prep.specs.Printable.{CanBeShown}
 use Rattle.sc_show.specs.TreeShows.{AreShowableLeaves, IsShowableLeaf}
 use Rattle.sc_tree.specs.Lines.{Line}
-use Rattle.sc_tree.specs.Reads.{Reads}
+use Rattle.sc_tree.specs.Reads.{Tables}
 
 -- ---- the list as it is parsed
 
@@ -89,13 +88,18 @@ project-items s names files c (item ∷ items) = by (s.has item.0.0 c) (project-
 
 -- ---- faults
 
-short-faults : (files : List (List ℕ)) (faults : List base.Fault) (answer : Result Tree Fault) → map (seen_fault files) faults ≡ faults_in (answer ∷ []) → length faults ≤ 1
-short-faults files faults (Ok tree) is = let same = sym (length-map faults (seen_fault files)) ∙ ap length is in omega arith
-short-faults files faults (Err fault) is = let same = sym (length-map faults (seen_fault files)) ∙ ap length is in omega arith
+short-stands : (w : Tables) (root : Option TreeId) (faults : List base.Fault) (c : List ℕ) (answer : Result Tree Fault) → Stands w root faults c answer → length (faults_at w.sets faults c) ≤ 1
+short-stands w root faults c (Ok tree) stands = let none = ap length stands.0 in omega arith
+short-stands w root faults c (Err fault) stands = let one = sym (length-map (faults_at w.sets faults c) (seen_fault w.files)) ∙ ap length stands in omega arith
 
 no-faults : (files : List (List ℕ)) (faults : List base.Fault) → map (seen_fault files) faults ≡ [] → faults ≡ []
 no-faults files [] is = refl
 no-faults files (fault ∷ faults) is = let long : suc (length (map (seen_fault files) faults)) ≡ 0 = ap length is in absurd (omega arith)
+
+one-fault : (faults : List base.Fault) → is_empty faults ≡ false → length faults ≤ 1 → (fault : base.Fault) × (faults ≡ fault ∷ [])
+one-fault [] is few = absurd (false≢true (sym is))
+one-fault (fault ∷ []) is few = (fault, refl)
+one-fault (fault ∷ other ∷ faults) is few = absurd (omega (arith, few))
 
 empty-is : (faults : List base.Fault) → is_empty faults ≡ true → faults ≡ []
 empty-is [] is = refl
@@ -171,29 +175,43 @@ module _ (s new : Sets) (keeps : Keeps s new) (names files : List (List ℕ)) (p
   here : (c : List ℕ) → IsConfig new.arities c → IsConfig s.arities c
   here c listed = subst (λ ns. IsConfig ns c) keeps.arities listed
 
-  pub parsed-apart : ((c : List ℕ) → IsConfig s.arities c → s.has p.live.0 c ≡ has_none s p.faults.items c) → AreApart new all_faults
-  parsed-apart live = record { few = λ c listed. few c (here c listed) (s.has p.live.0 c) refl }
-    where
-      few : (c : List ℕ) → IsConfig s.arities c → (b : Bool) → s.has p.live.0 c ≡ b → length (faults_at new all_faults c) ≤ 1
-      few c listed true is =
-          let none = empty-is (faults_at s p.faults.items c) (sym (live c listed) ∙ is) in
-          let answer = answer-at c listed is in
-          let same = faults-after c listed ∙ ap (λ faults. faults ++ faults_at new result.faults.items c) none in
-          subst (λ (faults : List base.Fault). length faults ≤ 1) (sym same) (short-faults files (faults_at new result.faults.items c) answer.0 (parse.faults c answer.0 listed is answer.1))
-      few c listed false is =
-          let none = parse.others c listed is in
-          let same = faults-after c listed ∙ (ap (λ faults. faults_at s p.faults.items c ++ faults) none ∙ append-nil (faults_at s p.faults.items c)) in
-          subst (λ (faults : List base.Fault). length faults ≤ 1) (sym same) (shown.apart.few c listed)
+  -- a live configuration has what parsing answers, each other one the faults of preprocessing
+  stands-live : (c : List ℕ) → IsConfig s.arities c → s.has p.live.0 c ≡ true → faults_at s p.faults.items c ≡ [] → (answer : Result Tree Fault)
+      → LR (c11-parser are) (seen_place files p.end) (project c (map (item_seen s names files) p.list)) answer → Stands (tables_with new lines names files) result.root all_faults c answer
+  stands-live c listed live none (Ok tree) lr = (
+    faults-after c listed ∙ ap (λ faults. faults ++ faults_at new result.faults.items c) none ∙ no-faults files (faults_at new result.faults.items c) (parse.faults c (Ok tree) listed live lr),
+    parse.trees c tree (record { is_config = listed; live = live; answer = lr }),
+  )
+  stands-live c listed live none (Err fault) lr =
+      ap (map (seen_fault files)) (faults-after c listed ∙ ap (λ faults. faults ++ faults_at new result.faults.items c) none) ∙ parse.faults c (Err fault) listed live lr
 
-  -- the root stands for the tree of a configuration
-  pub parsed-somewhere : (id : TreeId) → result.root ≡ Some id
-      → (c : List ℕ) × (IsConfig new.arities c × ((tree : Tree) × Reads (tables_with new lines names files) c id.0 tree))
-  parsed-somewhere id is =
-      let some = parse.some id is in
-      (some.0, (IsConfig-Keeps keeps some.1.1.is_config, (some.1.0, root-at id some.1.0 (subst (λ o. RootReads (tables_with new lines names files) some.0 o some.1.0) is (parse.trees some.0 some.1.0 some.1.1)))))
-    where
-      root-at : {c : List ℕ} (id : TreeId) (tree : Tree) → RootReads (tables_with new lines names files) c (Some id) tree → Reads (tables_with new lines names files) c id.0 tree
-      root-at id tree (root_reads _ _ reads) = reads
+  faults-before : (c : List ℕ) → IsConfig s.arities c → s.has p.live.0 c ≡ false → faults_at new all_faults c ≡ faults_at s p.faults.items c
+  faults-before c listed live = faults-after c listed ∙ (ap (λ faults. faults_at s p.faults.items c ++ faults) (parse.others c listed live) ∙ append-nil (faults_at s p.faults.items c))
+
+  module _ (live : (c : List ℕ) → IsConfig s.arities c → s.has p.live.0 c ≡ has_none s p.faults.items c) where
+    none-before : (c : List ℕ) → IsConfig s.arities c → s.has p.live.0 c ≡ true → faults_at s p.faults.items c ≡ []
+    none-before c listed is = empty-is (faults_at s p.faults.items c) (sym (live c listed) ∙ is)
+
+    answered-by : (c : List ℕ) → IsConfig s.arities c → (b : Bool) → s.has p.live.0 c ≡ b
+        → (answer : Result Tree Fault) × Stands (tables_with new lines names files) result.root all_faults c answer
+    answered-by c listed true is = let answer = answer-at c listed is in (answer.0, stands-live c listed is (none-before c listed is) answer.0 answer.1)
+    answered-by c listed false is =
+        let one = one-fault (faults_at s p.faults.items c) (sym (live c listed) ∙ is) (shown.apart.few c listed) in
+        (Err (seen_fault files one.0), ap (map (seen_fault files)) (faults-before c listed is ∙ one.1))
+
+    -- the root stands for the tree of a configuration
+    accepted-by : (id : TreeId) → result.root ≡ Some id
+        → (c : List ℕ) × (IsConfig new.arities c × ((tree : Tree) × Stands (tables_with new lines names files) result.root all_faults c (Ok tree)))
+    accepted-by id is =
+        let some = parse.some id is in
+        let it = some.1.1 in
+        (some.0, (IsConfig-Keeps keeps it.is_config, (some.1.0, stands-live some.0 it.is_config it.live (none-before some.0 it.is_config it.live) (Ok some.1.0) it.answer)))
+
+    pub parsed-answers : HasAnswers (tables_with new lines names files) result.root all_faults
+    parsed-answers = record { each = λ c listed. answered-by c (here c listed) (s.has p.live.0 c) refl; some = accepted-by }
+
+    pub parsed-apart : AreApart new all_faults
+    parsed-apart = record { few = λ c listed. let is = parsed-answers.each c listed in short-stands (tables_with new lines names files) result.root all_faults c is.0 is.1 }
 
   module _ (space : Space) (main : List ℕ) (outside : Files) (arities : s.arities ≡ arities_of space)
       (ordinary : (config : List ℕ) → IsConfig s.arities config → IsOrdinary s names files p (Pre space outside main config) config)
@@ -204,19 +222,7 @@ module _ (s new : Sets) (keeps : Keeps s new) (names files : List (List ℕ)) (p
     parsed-as : (config : List ℕ) → IsConfig s.arities config → s.has p.live.0 config ≡ true → faults_at s p.faults.items config ≡ [] → (answer : Result Tree Fault)
         → Translates (c11-parser are) space outside main config answer
         → LR (c11-parser are) (seen_place files p.end) (project config (map (item_seen s names files) p.list)) answer → There config
-    parsed-as config listed live none (Ok tree) translated lr =
-        let after = faults-after config listed ∙ ap (λ faults. faults ++ faults_at new result.faults.items config) none in
-        record {
-          ordinary = Ok tree;
-          translated = translated;
-          stands = (
-            after ∙ no-faults files (faults_at new result.faults.items config) (parse.faults config (Ok tree) listed live lr),
-            parse.trees config tree (record { is_config = listed; live = live; answer = lr }),
-          );
-        }
-    parsed-as config listed live none (Err fault) translated lr =
-        let after = faults-after config listed ∙ ap (λ faults. faults ++ faults_at new result.faults.items config) none in
-        record { ordinary = Err fault; translated = translated; stands = ap (map (seen_fault files)) after ∙ parse.faults config (Err fault) listed live lr }
+    parsed-as config listed live none answer translated lr = record { ordinary = answer; translated = translated; stands = stands-live config listed live none answer lr }
 
     translated-by : (config : List ℕ) → IsConfig s.arities config → (o : Result (List plain.Token) Fault) → Pre space outside main config o
         → prep.Stands o (map (seen names files) (items_at s p.list config)) (map (seen_fault files) (faults_at s p.faults.items config)) → s.has p.live.0 config ≡ is_accepted o → There config
@@ -228,9 +234,7 @@ module _ (s new : Sets) (keeps : Keeps s new) (names files : List (List ℕ)) (p
         (subst (λ (us : List plain.Token). LR (c11-parser are) (seen_place files p.end) us answer.0) tokens answer.1) in
         parsed-as config listed live (no-faults files (faults_at s p.faults.items config) stands.1) answer.0 (parsed ts held.0 answer.0 pre held.1 lr) answer.1
     translated-by config listed (Err fault) pre stands live =
-        let none = parse.others config listed live in
-        let after = faults-after config listed ∙ (ap (λ faults. faults_at s p.faults.items config ++ faults) none ∙ append-nil (faults_at s p.faults.items config)) in
-        record { ordinary = Err fault; translated = not_prepared fault pre; stands = ap (map (seen_fault files)) after ∙ stands }
+        record { ordinary = Err fault; translated = not_prepared fault pre; stands = ap (map (seen_fault files)) (faults-before config listed live) ∙ stands }
 
     pub parsed-translated : AreTranslated space outside main (tables_with new lines names files) result.root all_faults
     parsed-translated = record {

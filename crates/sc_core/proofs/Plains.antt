@@ -11,7 +11,7 @@ use Rattle.sc_base.specs.declared.id.Name.{Name}
 use Rattle.sc_base.specs.declared.id.TreeId.{TreeId}
 use Rattle.sc_base.specs.declared.place.Place.{Place}
 use Rattle.sc_core.specs.declared.tree_texts.ParsedFile.{ParsedFile}
-use Rattle.sc_core.specs.Texts.{AreTranslated, CanShowTree, IsPlain, IsSomewhere, Stands, seen_by}
+use Rattle.sc_core.specs.Texts.{AreTranslated, CanShowTree, HasAnswers, IsLaid, IsPlain, Stands, no_tree, seen_by, tree_laid}
 use Rattle.sc_fork.specs.Outcomes.{RootReads, root_reads}
 use Rattle.sc_guarded.specs.Items.{faults_at, seen_fault}
 use Rattle.sc_guarded.specs.Printable.{AreApart, IsShowableFault}
@@ -98,41 +98,46 @@ module _ {s : Sets} {names files : List (List ℕ)} (old : ParsedFile) (shown : 
   }
 
   -- the root stands for a tree at the one configuration
-  pub root-has : (c : List ℕ) → ((d : List ℕ) → IsConfig s.arities d → d ≡ c) → IsSomewhere s names files old → (id : TreeId) → old.root ≡ Some id → HasTree s old.trees c id.0
-  root-has c one somewhere id is =
-      let some = somewhere id is in
-      record { names = names; files = files; tree = some.1.1.0; reads = subst (λ (d : List ℕ). Reads (seen_by s names files old) d id.0 some.1.1.0) (one some.0 some.1.0) some.1.1.1 }
+  pub root-has : (c : List ℕ) → ((d : List ℕ) → IsConfig s.arities d → d ≡ c) → HasAnswers (seen_by s names files old) old.root old.faults.items → (id : TreeId) → old.root ≡ Some id → HasTree s old.trees c id.0
+  root-has c one answers id is =
+      let some = answers.some id is in
+      let tree = some.1.1.0 in
+      by (subst (λ (d : List ℕ). RootReads (seen_by s names files old) d (Some id) tree) (one some.0 some.1.0) (subst (λ (o : Option TreeId). RootReads (seen_by s names files old) some.0 o tree) is some.1.1.1.1))
+    where
+      by : {tree : Tree} → RootReads (seen_by s names files old) c (Some id) tree → HasTree s old.trees c id.0
+      by {tree} (root_reads _ _ reads) = record { names = names; files = files; tree = tree; reads = reads }
 
 -- ---- the same tree
 
 module _ (s : Sets) (names files : List (List ℕ)) (old p : ParsedFile) (c : List ℕ) (same : p.faults.items ≡ old.faults.items) where
-  pub plain-none : old.root ≡ None → p.trees ≡ [] → IsPlain (seen_by s names files old) c old p
-  plain-none no_root no_trees = record {
+  pub plain-none : old.root ≡ None → p.root ≡ None → p.trees ≡ [] → IsPlain (seen_by s names files old) c old p
+  plain-none no_root none no_trees = record {
     faults = same;
     reads = λ tree reads. absurd (rootless tree (subst (λ (o : Option TreeId). RootReads (seen_by s names files old) c o tree) no_root reads));
     plain = subst (All (λ line. is_choice line ≡ false)) (sym no_trees) (All-nil (λ line. is_choice line ≡ false));
+    laid = subst (λ (o : Option TreeId). IsLaid (seen_by s names files old) c p.trees o p.root) (sym no_root) (subst (IsLaid (seen_by s names files old) c p.trees None) (sym none) no_tree);
   }
     where
       rootless : (tree : Tree) → RootReads (seen_by s names files old) c None tree → ⊥
       rootless tree reads = elim reads [ ]
 
   pub plain-some : (id root : TreeId) → old.root ≡ Some id → p.root ≡ Some root → All (λ line. is_choice line ≡ false) p.trees
-      → ((tree : Tree) → Reads (seen_by s names files old) c id.0 tree → Reads (seen_by s names files p) c root.0 tree) → IsPlain (seen_by s names files old) c old p
-  plain-some id root was is plain reads = record {
+      → ((tree : Tree) → Reads (seen_by s names files old) c id.0 tree → Reads (seen_by s names files p) c root.0 tree) → LaysOut s old.trees c id.0 0 p.trees root.0 → IsPlain (seen_by s names files old) c old p
+  plain-some id root was is plain reads laid = record {
     faults = same;
     reads = λ tree old_reads.
         subst (λ (o : Option TreeId). RootReads (seen_by s names files p) c o tree) (sym is)
         (again tree (subst (λ (o : Option TreeId). RootReads (seen_by s names files old) c o tree) was old_reads));
     plain = plain;
+    laid = subst (λ (o : Option TreeId). IsLaid (seen_by s names files old) c p.trees o p.root) (sym was) (subst (IsLaid (seen_by s names files old) c p.trees (Some id)) (sym is) (tree_laid id root laid));
   }
     where
       again : (tree : Tree) → RootReads (seen_by s names files old) c (Some id) tree → RootReads (seen_by s names files p) c (Some root) tree
       again tree (root_reads _ _ at) = root_reads root tree (reads tree at)
 
 -- what it stands for at that configuration
-module _ {s : Sets} {names files : List (List ℕ)} {old p : ParsedFile} (space : Space) (main : List ℕ) (outside : Files) (c : List ℕ) (one : (d : List ℕ) → IsListed space d → d ≡ c)
-    (plain : IsPlain (seen_by s names files old) c old p) where
-  stands-plain : (d : List ℕ) → d ≡ c → (o : Result Tree Fault) → Stands (seen_by s names files old) old.root old.faults.items d o → Stands (seen_by s names files p) p.root p.faults.items d o
+module _ {s : Sets} {names files : List (List ℕ)} {old p : ParsedFile} (c : List ℕ) (plain : IsPlain (seen_by s names files old) c old p) where
+  pub stands-plain : (d : List ℕ) → d ≡ c → (o : Result Tree Fault) → Stands (seen_by s names files old) old.root old.faults.items d o → Stands (seen_by s names files p) p.root p.faults.items d o
   stands-plain d is (Ok tree) stands = (
     subst (λ (fs : List base.Fault). faults_at s fs d ≡ []) (sym plain.faults) stands.0,
     subst (λ (e : List ℕ). RootReads (seen_by s names files p) e p.root tree) (sym is)
@@ -140,8 +145,9 @@ module _ {s : Sets} {names files : List (List ℕ)} {old p : ParsedFile} (space 
   )
   stands-plain d is (Err fault) stands = subst (λ (fs : List base.Fault). map (seen_fault files) (faults_at s fs d) ≡ fault ∷ []) (sym plain.faults) stands
 
-  pub plain-translated : AreTranslated space outside main (seen_by s names files old) old.root old.faults.items → AreTranslated space outside main (seen_by s names files p) p.root p.faults.items
-  plain-translated are = record {
+  pub plain-translated : (space : Space) (main : List ℕ) (outside : Files) → ((d : List ℕ) → IsListed space d → d ≡ c)
+      → AreTranslated space outside main (seen_by s names files old) old.root old.faults.items → AreTranslated space outside main (seen_by s names files p) p.root p.faults.items
+  plain-translated space main outside one are = record {
     parser = are.parser;
     is_c11 = are.is_c11;
     each = λ d listed.

@@ -1,9 +1,7 @@
 -- That a text tells what ordinary translation gives.
-use Rattle.std.proofs.Common.{◌≡◌, ◌∙◌, ℕ, not, true, false, List, [], ◌∷◌, All, get_or, length, map, Option, Some, Result, Ok, Err, refl, sym, ap, subst}
+use Rattle.std.proofs.Common.{◌≡◌, ◌∙◌, ℕ, not, true, false, List, [], ◌∷◌, All, length, map, slice_get, Option, Some, Result, Ok, Err, refl, sym, ap, subst}
 use Rattle.std.proofs.lemmas.List.{length-map, nil_from_length}
-use Rattle.std.proofs.lemmas.Bool.{both_ways}
-use Rattle.std.proofs.lemmas.List.Elements.{All-cons, All-nil, All-weaker}
-use Rattle.std.proofs.lemmas.Option.{slice_get_within, slice_get-get_or}
+use Rattle.std.proofs.lemmas.List.Elements.{All-weaker}
 use Rattle.c11_parsing.specs.Trees.{Tree}
 use Rattle.sc_base.proofs.Growth.{Extends-refl}
 use Rattle.sc_base.specs.declared.fault.Fault as base
@@ -13,7 +11,7 @@ use Rattle.sc_core.proofs.Translating.{translates-unique}
 use Rattle.sc_core.specs.declared.output.Output.{Output}
 use Rattle.sc_core.specs.declared.tree_texts.ParsedFile.{ParsedFile}
 use Rattle.sc_core.specs.Ordinary.{Translates}
-use Rattle.sc_core.specs.Outcome.{HasNoFault, IsPlainPart, IsTranslationAnswer, TranslatesAll, shown_result}
+use Rattle.sc_core.specs.Outcome.{HasNoFault, IsTranslationAnswer, TranslatesAll, shown_result}
 use Rattle.sc_core.specs.Texts.{AreTranslated, CanShowTree, Stands, TellsTree, seen_by}
 use Rattle.sc_fork.specs.Outcomes.{RootReads, root_reads}
 use Rattle.sc_guarded.proofs.ItemLemmas.{faults_at-Keeps, faults_at-never, never-faults_at}
@@ -27,13 +25,11 @@ use Rattle.sc_model.specs.Space.{Space, IsListed, arities_of}
 use Rattle.sc_show.proofs.TreeReading.{tree_text_lines}
 use Rattle.sc_show.specs.Pieces.{IsLine, split_lines_after}
 use Rattle.sc_show.specs.TreeLayout.{IsTreeTextOf}
-use Rattle.sc_show.specs.TreeShows.{ShowsTree, ArePartsOf, no_parts, more_parts, IsPartOf, leaf_shown, node_shown, choice_shown, IsRootOf, no_root, root_of, shown_tree}
-use Rattle.sc_show.specs.TreeText.{Part, IsResultAt, accepted, refused}
+use Rattle.sc_show.specs.TreeShows.{ShowsTree, IsRootOf, no_root, root_of, shown_tree}
+use Rattle.sc_show.specs.TreeText.{IsResultAt, accepted, refused}
 use Rattle.sc_text.specs.Text.{project}
 use Rattle.sc_tree.proofs.ReadLemmas.{Reads-Grows}
-use Rattle.sc_tree.specs.Lines.{Line}
 use Rattle.sc_tree.specs.Reads.{Reads}
-use Rattle.sc_tree.specs.Walks.{is_choice}
 
 -- each piece of the text is a line
 pub tree-lines : {space : Space} {s : Sets} {names files : List (List ℕ)} (p : ParsedFile) (text : List ℕ) → ShowsTree space s names files p.trees p.root p.faults.items text
@@ -41,32 +37,14 @@ pub tree-lines : {space : Space} {s : Sets} {names files : List (List ℕ)} (p :
 tree-lines p text shows = subst (All IsLine) (sym (shows.cut ∙ shows.text_of.reads.written)) (tree_text_lines shows.text_of.reads.lines shows.text_of.reads.clear)
 
 -- the number of the root
-root-numbered : {ids : List TreeId} {root : Option TreeId} {number : Option ℕ} (id : TreeId) → IsRootOf ids root number → root ≡ Some id → (n : ℕ) × (number ≡ Some n)
+pub root-numbered : {ids : List TreeId} {root : Option TreeId} {number : Option ℕ} (id : TreeId) → IsRootOf ids root number → root ≡ Some id → (n : ℕ) × ((number ≡ Some n) × (slice_get ids n ≡ Some id))
 root-numbered id no_root is = cc
-root-numbered id (root_of other n at) is = (n, refl)
-
--- ---- texts without choices
-
-plain-part : {s : Sets} {names files : List (List ℕ)} {ids : List TreeId} {line : Line} {part : Part} → IsPartOf s names files ids line part → is_choice line ≡ false → IsPlainPart part
-plain-part (leaf_shown place spelling) plain = tt
-plain-part (node_shown production children numbers are) plain = tt
-plain-part (choice_shown branches tests are) plain = absurd (both_ways true plain refl)
-
-plain-parts : {s : Sets} {names files : List (List ℕ)} {store : List Line} {ids others : List TreeId} {parts : List Part} → All (λ line. is_choice line ≡ false) store
-    → ArePartsOf s names files store ids others parts → All IsPlainPart parts
-plain-parts plain no_parts = All-nil IsPlainPart
-plain-parts {store = store} plain (more_parts id line part others parts at is rest) =
-    let within = slice_get_within store id.0 line at in
-    let same = sym (slice_get-get_or store id.0 line within) ∙ at in
-    let here : get_or store id.0 line ≡ line = cc in
-    All-cons IsPlainPart part parts (plain-part is (subst (λ (l : Line). is_choice l ≡ false) here (plain id.0 line within))) (plain-parts plain rest)
+root-numbered id (root_of other n at) is = (n, (refl, at ∙ is))
 
 -- ---- what a text tells
 
 module _ {s new : Sets} (keeps : Keeps s new) (names files : List (List ℕ)) (space : Space) (p : ParsedFile) (text : Output) (shows : ShowsTree space new names files p.trees p.root p.faults.items text.lines.items)
-    (shown : CanShowTree s names files p) (arities : s.arities ≡ arities_of space)
-    (none : text.is_refused ≡ false → All (λ (f : base.Fault). IsNever s f.cond.0) p.faults.items)
-    (some : text.is_refused ≡ true → All (λ (f : base.Fault). IsNever s f.cond.0) p.faults.items → ⊥) where
+    (shown : CanShowTree s names files p) (arities : s.arities ≡ arities_of space) where
   abbrev NoFault : Type 0
   NoFault = All (λ (f : base.Fault). IsNever s f.cond.0) p.faults.items
 
@@ -79,7 +57,7 @@ module _ {s new : Sets} (keeps : Keeps s new) (names files : List (List ℕ)) (s
   owns : All (λ (f : base.Fault). IsCond s f.cond.0) p.faults.items
   owns = All-weaker (IsShowableFault s files) (λ (f : base.Fault). IsCond s f.cond.0) (λ f is. is.own) p.faults.items shown.faults
 
-  shown-faults : (config : List ℕ) → IsListed space config → project shows.answer.faults config ≡ map (seen_fault files) (faults_at s p.faults.items config)
+  pub shown-faults : (config : List ℕ) → IsListed space config → project shows.answer.faults config ≡ map (seen_fault files) (faults_at s p.faults.items config)
   shown-faults config listed = shows.faults_are config (IsConfig-Keeps keeps (here config listed)) ∙ ap (map (seen_fault files)) (faults_at-Keeps p.faults.items config keeps owns (here config listed))
 
   none-shown : NoFault → HasNoFault space shows.answer
@@ -96,14 +74,14 @@ module _ {s new : Sets} (keeps : Keeps s new) (names files : List (List ℕ)) (s
       Reads-Grows (seen_by s names files p) (seen_by new names files p) config id tree
       (record { sets = keeps; names = Extends-refl names; files = Extends-refl files; lines = Extends-refl p.trees }) listed reads
 
-  result-at : (config : List ℕ) → IsListed space config → (o : Result Tree Fault) → Stands (seen_by s names files p) p.root p.faults.items config o → IsResultAt shows.answer config (shown_result o)
+  pub result-at : (config : List ℕ) → IsListed space config → (o : Result Tree Fault) → Stands (seen_by s names files p) p.root p.faults.items config o → IsResultAt shows.answer config (shown_result o)
   result-at config listed (Ok tree) stands = by p.root refl stands.1
     where
       by : (root : Option TreeId) → p.root ≡ root → RootReads (seen_by s names files p) config root tree → IsResultAt shows.answer config (Ok (shown_tree tree))
       by _ is (root_reads id _ reads) =
           let number = root-numbered id shows.root_is is in
-          accepted number.0 (shown_tree tree) (shown-faults config listed ∙ ap (map (seen_fault files)) stands.0) number.1
-          (shows.trees config (IsConfig-Keeps keeps (here config listed)) id number.0 tree is number.1 (reads-now config id.0 tree (here config listed) reads))
+          accepted number.0 (shown_tree tree) (shown-faults config listed ∙ ap (map (seen_fault files)) stands.0) number.1.0
+          (shows.trees config (IsConfig-Keeps keeps (here config listed)) id number.0 tree is number.1.0 (reads-now config id.0 tree (here config listed) reads))
   result-at config listed (Err fault) stands = refused fault (shown-faults config listed ∙ stands)
 
   accepted-by : (config : List ℕ) (P : Result Tree Fault → Type 0) (o : Result Tree Fault) → P o → Stands (seen_by s names files p) p.root p.faults.items config o
@@ -115,41 +93,40 @@ module _ {s new : Sets} (keeps : Keeps s new) (names files : List (List ℕ)) (s
   unrefused-by config (Ok other) tree is stands = stands.0
   unrefused-by config (Err fault) tree is stands = cc
 
-  module _ (main : List ℕ) (outside : Files) (are : AreTranslated space outside main (seen_by s names files p) p.root p.faults.items) where
-    all-accepted : NoFault → TranslatesAll are.parser space outside main
-    all-accepted never config listed =
-        let at = are.each config listed in
-        accepted-by config (Translates are.parser space outside main config) at.ordinary at.translated at.stands (faults_at-never s p.faults.items never config (here config listed))
-
-    none-refused : TranslatesAll are.parser space outside main → NoFault
-    none-refused all =
-        never-faults_at s p.faults.items (λ config listed.
-        let at = are.each config (there config listed) in
-        let a = all config (there config listed) in
-        unrefused-by config at.ordinary a.0 (translates-unique at.translated a.1) at.stands)
-
-    translation-answer : IsTranslationAnswer space outside main shows.answer (not text.is_refused)
-    translation-answer = record {
-      parser = are.parser;
-      is_c11 = are.is_c11;
-      ordinary = λ config listed.
+  module _ (none : text.is_refused ≡ false → NoFault) (some : text.is_refused ≡ true → NoFault → ⊥) where
+    module _ (main : List ℕ) (outside : Files) (are : AreTranslated space outside main (seen_by s names files p) p.root p.faults.items) where
+      all-accepted : NoFault → TranslatesAll are.parser space outside main
+      all-accepted never config listed =
           let at = are.each config listed in
-          record { ordinary = at.ordinary; translated = at.translated; same = result-at config listed at.ordinary at.stands };
-      verdict = tells-by text.is_refused NoFault (TranslatesAll are.parser space outside main) none some all-accepted none-refused;
+          accepted-by config (Translates are.parser space outside main config) at.ordinary at.translated at.stands (faults_at-never s p.faults.items never config (here config listed))
+
+      none-refused : TranslatesAll are.parser space outside main → NoFault
+      none-refused all =
+          never-faults_at s p.faults.items (λ config listed.
+          let at = are.each config (there config listed) in
+          let a = all config (there config listed) in
+          unrefused-by config at.ordinary a.0 (translates-unique at.translated a.1) at.stands)
+
+      translation-answer : IsTranslationAnswer space outside main shows.answer (not text.is_refused)
+      translation-answer = record {
+        parser = are.parser;
+        is_c11 = are.is_c11;
+        ordinary = λ config listed.
+            let at = are.each config listed in
+            record { ordinary = at.ordinary; translated = at.translated; same = result-at config listed at.ordinary at.stands };
+        verdict = tells-by text.is_refused NoFault (TranslatesAll are.parser space outside main) none some all-accepted none-refused;
+      }
+
+    pub tells-tree : (holds : Option Files) (main : List ℕ)
+        → ((outside : Files) → holds ≡ Some outside → AreTranslated space outside main (seen_by s names files p) p.root p.faults.items) → TellsTree holds space main text
+    tells-tree holds main translated = record {
+      answer = shows.answer;
+      text_of = subst (λ pieces. IsTreeTextOf space pieces shows.answer) (sym shows.cut) shows.text_of;
+      verdict = tells-by text.is_refused NoFault (HasNoFault space shows.answer) none some none-shown none-had;
+      right = λ outside held. translation-answer main outside (translated outside held);
     }
 
-  pub tells-tree : (holds : Option Files) (main : List ℕ)
-      → ((outside : Files) → holds ≡ Some outside → AreTranslated space outside main (seen_by s names files p) p.root p.faults.items) → TellsTree holds space main text
-  tells-tree holds main translated = record {
-    answer = shows.answer;
-    text_of = subst (λ pieces. IsTreeTextOf space pieces shows.answer) (sym shows.cut) shows.text_of;
-    verdict = tells-by text.is_refused NoFault (HasNoFault space shows.answer) none some none-shown none-had;
-    right = λ outside held. translation-answer main outside (translated outside held);
-  }
-
-  -- where the store has no choices, neither has the text
-  pub tells-plain : (holds : Option Files) (main : List ℕ)
-      → ((outside : Files) → holds ≡ Some outside → AreTranslated space outside main (seen_by s names files p) p.root p.faults.items)
-      → All (λ line. is_choice line ≡ false) p.trees → (tells : TellsTree holds space main text) × All IsPlainPart tells.answer.parts
-  unfolding tells-tree
-  tells-plain holds main translated plain = (tells-tree holds main translated, plain-parts plain shows.parts)
+    pub answer-told : (holds : Option Files) (main : List ℕ)
+        (translated : (outside : Files) → holds ≡ Some outside → AreTranslated space outside main (seen_by s names files p) p.root p.faults.items) → shows.answer ≡ (tells-tree holds main translated).answer
+    unfolding tells-tree
+    answer-told holds main translated = refl

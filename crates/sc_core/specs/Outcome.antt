@@ -25,9 +25,10 @@ use Rattle.sc_text.specs.Text.{token_list, Answer, At, project}
 use Rattle.sc_model.specs.Token.{Shown, Token, shown}
 use Rattle.sc_show.specs.Conflicts.{conflict_pieces}
 use Rattle.sc_show.specs.Pieces.{IsLine}
+use Rattle.sc_show.specs.PlainText.{IsPlainAnswer}
 use Rattle.sc_show.specs.TreeLayout.{IsTreeTextOf}
 use Rattle.sc_show.specs.TreeShows.{shown_tree}
-use Rattle.sc_show.specs.TreeText.{Part, leaf_part, node_part, choice_part, ShownTree, TreeAnswer, IsResultAt}
+use Rattle.sc_show.specs.TreeText.{ShownTree, TreeAnswer, IsResultAt}
 use Rattle.sc_source.specs.Sink.{WritesCut}
 use Rattle.sc_space.specs.Config.{read_config}
 use Rattle.sc_space.specs.SpaceFile as file
@@ -161,35 +162,31 @@ pub record IsParseText (holds : Option Files) (name main : List ℕ) (pieces : L
 
 -- ---- the text of one configuration
 
--- the part is a token or a node
-abbrev pub IsPlainPart : Part → Type 0
-IsPlainPart (leaf_part shown) = Unit {0}
-IsPlainPart (node_part production children) = Unit {0}
-IsPlainPart (choice_part branches) = ⊥
-
 -- the answer has been accepted
 abbrev pub is_translated : Result Tree Fault → Bool
 is_translated (Ok tree) = true
 is_translated (Err fault) = false
 
--- The answer of one configuration is what ordinary translation of the files gives at another of its space, and it is told
--- whether that is accepted.
+-- The answer of one configuration is exactly what ordinary translation of the files gives at another of its space, and it is
+-- told whether that is accepted.
 pub record IsProjectedAnswer (space : Space) (files : Files) (main config : List ℕ) (answer : TreeAnswer) (accepted : Bool) : Type 0 where
   pub parser : Parser
   pub is_c11 : IsC11Parser parser
   pub ordinary : Result Tree Fault
   pub translated : Translates parser space files main config ordinary
   pub same : IsResultAt answer (first_config space) (shown_result ordinary)
+  pub exact : IsPlainAnswer answer (first_config space) (shown_result ordinary)
   pub verdict : accepted ≡ is_translated ordinary
 
--- The pieces are the lines of a text without choices, in the space that has the chosen configuration alone.
+-- The pieces are the lines of the text of a result, a tree or a fault, in the space that has the chosen configuration alone.
 pub record IsProjectText (holds : Option Files) (name main : List ℕ) (choices : List (List ℕ)) (pieces : List (List ℕ)) (accepted : Bool) : Type 0 where
   pub space : Space
   pub config : List ℕ
   pub chosen : read_config space choices ≡ Ok config
   pub answer : TreeAnswer
   pub text : IsTreeTextOf (cut_space space config) pieces answer
-  pub plain : All IsPlainPart answer.parts
+  pub result : Result ShownTree Fault
+  pub plain : IsPlainAnswer answer (first_config space) result
   pub verdict : Tells accepted (HasNoFault (cut_space space config) answer)
   pub right : (files : Files) → holds ≡ Some files → HasSpace files name space × IsProjectedAnswer space files main config answer accepted
 

@@ -7,6 +7,7 @@ use Rattle.sc_base.specs.declared.id.TreeId.{TreeId}
 use Rattle.sc_base.specs.declared.stop.Stop.{Stop}
 use Rattle.sc_base.specs.declared.stop.Stop.TheVariants.{BranchesFull, ReadFault, OutOfMemory}
 use Rattle.sc_core.specs.declared.tree_texts.ParsedFile.{ParsedFile}
+use Rattle.sc_core.specs.Cut.{first_config}
 use Rattle.sc_core.specs.Ordinary.{HasManyClasses, IsC11Parser, Translates}
 use Rattle.sc_core.specs.RunError.{space_line}
 use Rattle.sc_expand.specs.Stops.{HasConfigs}
@@ -17,16 +18,18 @@ use Rattle.sc_guarded.specs.Printable.{IsShowableFault, AreApart}
 use Rattle.sc_model.specs.Fault.{Fault}
 use Rattle.sc_model.specs.Sets.{Sets, IsConfig}
 use Rattle.sc_prep.specs.Printable.{ArePlainPaths}
+use Rattle.sc_project.specs.Layout.{LaysOut}
+use Rattle.sc_show.specs.PlainText.{IsPlainAnswer}
 use Rattle.sc_show.specs.TreeLayout.{IsTreeTextOf}
 use Rattle.sc_show.specs.TreeShows.{AreShowableLeaves}
-use Rattle.sc_show.specs.TreeText.{TreeAnswer}
+use Rattle.sc_show.specs.TreeText.{ShownTree, TreeAnswer, IsResultAt}
 use Rattle.sc_space.specs.Config.{read_config}
 use Rattle.sc_space.specs.declared.fault.SpaceStop.{SpaceStop}
 use Rattle.sc_space.specs.declared.fault.SpaceStop.TheVariants as stop
 use Rattle.sc_space.specs.Seen.{seen_fault}
 use Rattle.sc_space.specs.SpaceFile as file
-use Rattle.sc_tree.specs.Lines.{OwnsBranches}
-use Rattle.sc_tree.specs.Reads.{Tables, Reads}
+use Rattle.sc_tree.specs.Lines.{Line, OwnsBranches}
+use Rattle.sc_tree.specs.Reads.{Tables}
 use Rattle.sc_tree.specs.Walks.{is_choice}
 use Rattle.sc_core.specs.declared.run_error.RunError.{RunError}
 use Rattle.sc_core.specs.declared.run_error.RunError.TheVariants as error
@@ -98,6 +101,11 @@ pub record AreTranslated (space : Space) (files : Files) (main : List ℕ) (w : 
   pub is_c11 : IsC11Parser parser
   pub each : (config : List ℕ) → IsListed space config → IsTranslated parser space files main w root faults config
 
+-- Each configuration has its tree and no fault, or one fault. Where there is a root, some configuration has a tree.
+pub record HasAnswers (w : Tables) (root : Option TreeId) (faults : List base.Fault) : Type 0 where
+  pub each : (config : List ℕ) → IsConfig w.sets.arities config → (result : Result Tree Fault) × Stands w root faults config result
+  pub some : (id : TreeId) → root ≡ Some id → (config : List ℕ) × (IsConfig w.sets.arities config × ((tree : Tree) × Stands w root faults config (Ok tree)))
+
 -- what a parsed file is, seen through the tables
 abbrev pub seen_by : Sets → (names files : List (List ℕ)) → ParsedFile → Tables
 seen_by s names files p = record { sets = s; names = names; files = files; lines = p.trees }
@@ -111,16 +119,18 @@ pub record CanShowTree (s : Sets) (names files : List (List ℕ)) (p : ParsedFil
   pub apart : AreApart s p.faults.items
   pub paths : ArePlainPaths files
 
+-- where there is a tree, the store is what is laid out of it at the configuration, with the other root
+pub data IsLaid (w : Tables) (config : List ℕ) (trees : List Line) : Option TreeId → Option TreeId → Type 0 where
+  no_tree : IsLaid w config trees None None
+  tree_laid : (id root : TreeId) → LaysOut w.sets w.lines config id.0 0 trees root.0 → IsLaid w config trees (Some id) (Some root)
+
 -- Another parsed file has the same faults, a tree where the first has one, which at every configuration is that of the first
--- at this one, and no choices.
+-- at this one, and no choices. Its tree is laid out.
 pub record IsPlain (w : Tables) (config : List ℕ) (old p : ParsedFile) : Type 0 where
   pub faults : p.faults.items ≡ old.faults.items
   pub reads : (tree : Tree) → RootReads w config old.root tree → RootReads (record w { lines = p.trees }) config p.root tree
   pub plain : All (λ line. is_choice line ≡ false) p.trees
-
--- the root stands for a tree at some configuration
-abbrev pub IsSomewhere : Sets → (names files : List (List ℕ)) → ParsedFile → Type 0
-IsSomewhere s names files p = (id : TreeId) → p.root ≡ Some id → (c : List ℕ) × (IsConfig s.arities c × ((tree : Tree) × Reads (seen_by s names files p) c id.0 tree))
+  pub laid : IsLaid w config p.trees old.root p.root
 
 -- the text of a tree in this space, and whether some configuration has a fault
 pub record TellsTree (holds : Option Files) (space : Space) (main : List ℕ) (text : Output) : Type 0 where
@@ -128,6 +138,13 @@ pub record TellsTree (holds : Option Files) (space : Space) (main : List ℕ) (t
   pub text_of : IsTreeTextOf space (lines_of text) answer
   pub verdict : Tells (not text.is_refused) (HasNoFault space answer)
   pub right : (files : Files) → holds ≡ Some files → IsTranslationAnswer space files main answer (not text.is_refused)
+
+-- In a space of one configuration the text is that of its result, a tree or a fault.
+pub record TellsPlain (holds : Option Files) (space : Space) (main : List ℕ) (text : Output) : Type 0 where
+  pub tells : TellsTree holds space main text
+  pub result : Result ShownTree Fault
+  pub same : IsResultAt tells.answer (first_config space) result
+  pub plain : IsPlainAnswer tells.answer (first_config space) result
 
 -- the same of the space that the space file is read as
 pub record IsParseAnswer (holds : Option Files) (name main : List ℕ) (text : Output) : Type 0 where

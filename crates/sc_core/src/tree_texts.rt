@@ -2,8 +2,8 @@
 ghost use Rattle.std.specs.Prelude.{◌≡◌, ◌≤◌, ℕ, List, Some, All, true, false, map, string_bytes, IfOk, IfErr};
 ghost use Rattle.sc_args.specs.Words.{is_file_name, parse as asked_parse, project as asked_project};
 ghost use Rattle.sc_core.specs.Cut.{first_config};
-ghost use Rattle.sc_core.specs.Outcome.{FailsFor, IsPlainPart};
-ghost use Rattle.sc_core.specs.Texts.{AreTranslated, CanShowTree, IsParseAnswer, IsPlain, IsProjectAnswer, IsSomewhere, lines_of, seen_by, StopsIn, TellsTree};
+ghost use Rattle.sc_core.specs.Outcome.{FailsFor};
+ghost use Rattle.sc_core.specs.Texts.{AreTranslated, CanShowTree, HasAnswers, IsParseAnswer, IsPlain, IsProjectAnswer, lines_of, seen_by, StopsIn, TellsPlain, TellsTree};
 ghost use Rattle.sc_model.specs.Bytes.{has_no_newline};
 ghost use Rattle.sc_model.specs.Growth.{Extends};
 ghost use Rattle.sc_model.specs.Outside.{Files as Outside};
@@ -135,7 +135,7 @@ fn plain_under<C: Conditions, S: Source>(
     requires plain { has_no_newline file.now ≡ true }
     requires one { (c : List ℕ) → IsConfig (arities_of (seen_space space.now)) c → c ≡ first_config (seen_space space.now) }
     ensures lines { IfOk result (λ text. All IsLine (lines_of text)) }
-    ensures tree { IfOk result (λ text. (tells : TellsTree (S.holds src.old) (seen_space space.now) file.now text) × All IsPlainPart tells.answer.parts) }
+    ensures tree { IfOk result (TellsPlain (S.holds src.old) (seen_space space.now) file.now) }
     ensures stops { IfErr result (StopsIn (S.holds src.old) (S.faults src.old) (S.faults src.new) (seen_space space.now) file.now) }
 
     // at every outcome
@@ -167,7 +167,7 @@ fn parsed<C: Conditions, S: Source>(
     ensures shown { IfOk result (CanShowTree (C.sets conds.new) names.new files.new) }
     ensures translated { (outside : Outside) → S.holds src.old ≡ Some outside → IfOk result (λ p.
         AreTranslated (seen_space space.now) outside file.now (seen_by (C.sets conds.new) names.new files.new p) p.root p.faults.items) }
-    ensures somewhere { IfOk result (IsSomewhere (C.sets conds.new) names.new files.new) }
+    ensures answered { IfOk result (λ p. HasAnswers (seen_by (C.sets conds.new) names.new files.new p) p.root p.faults.items) }
     ensures stops { IfErr result (StopsIn (S.holds src.old) (S.faults src.old) (S.faults src.new) (seen_space space.now) file.now) }
 
     // at every outcome
@@ -211,7 +211,7 @@ fn plain<C: Conditions>(
     requires sound { IsSound (seen_space space.now) }
     requires one { (c : List ℕ) → IsConfig (arities_of (seen_space space.now)) c → c ≡ first_config (seen_space space.now) }
     requires shown { CanShowTree (C.sets conds.now) names.now files.now parsed }
-    requires somewhere { IsSomewhere (C.sets conds.now) names.now files.now parsed }
+    requires answered { HasAnswers (seen_by (C.sets conds.now) names.now files.now parsed) parsed.root parsed.faults.items }
     ensures shown { IfOk result (CanShowTree (C.sets conds.now) names.now files.now) }
     ensures plain { IfOk result (IsPlain (seen_by (C.sets conds.now) names.now files.now parsed) (first_config (seen_space space.now)) parsed) }
 {

@@ -5,10 +5,10 @@ use Rattle.sc_base.specs.declared.fault.Fault as base
 use Rattle.sc_base.specs.declared.id.Cond.{Cond}
 use Rattle.sc_base.specs.declared.token.Token.{Token}
 use Rattle.sc_base.specs.Seen.{IsHeld}
-use Rattle.sc_core.proofs.ParsedFiles.{file-input, input, is-input, parsed-apart, parsed-faults, parsed-leaves, parsed-somewhere, parsed-translated, stops-in}
+use Rattle.sc_core.proofs.ParsedFiles.{file-input, input, is-input, parsed-answers, parsed-apart, parsed-faults, parsed-leaves, parsed-translated, stops-in}
 use Rattle.sc_core.proofs.tree_texts.parsed.Goals as goal
 use Rattle.sc_core.proofs.tree_texts.parsed.Goals.{After-drop-prepared-2}
-use Rattle.sc_core.specs.Texts.{AreTranslated}
+use Rattle.sc_core.specs.Texts.{AreTranslated, HasAnswers}
 use Rattle.sc_fork.specs.Choices.{AddsLeaves}
 use Rattle.sc_guarded.specs.Printable.{AreApart, IsShowable, IsShowableFault}
 use Rattle.sc_merge.specs.Merges.{tables_with}
@@ -98,8 +98,8 @@ returns-clause-translated g c = λ outside holds.
     (λ config listed. made.ordinary outside holds config (subst (λ ns. IsConfig ns config) made.keeps.arities listed))
     (λ bytes held config listed live. made.end outside bytes holds held config (subst (λ ns. IsConfig ns config) made.keeps.arities listed) live))
 
-pub returns-clause-somewhere : goal.returns-clause-somewhere
-returns-clause-somewhere g c =
+pub returns-clause-answered : goal.returns-clause-answered
+returns-clause-answered g c =
     let s = g.C.Conditions.sets c.preprocess.new.conds in
     let new = g.C.Conditions.sets c.parse.new.conds in
     let names = c.preprocess.new.names in
@@ -113,7 +113,10 @@ returns-clause-somewhere g c =
     let is = is-input s names files prepared tables are shown c.new-trees.result in
     let parse = c.in_ok-parsed.ensures.parse files (input s names files prepared tables are shown) is in
     let schedule = c.in_ok-parsed.ensures.schedule files (input s names files prepared tables are shown) is in
-    parsed-somewhere s new c.parse.ensures.keeps names files prepared tables are shown made.owns c.parse.new.trees parsed parsed.events.items parse schedule
+    let lines = c.parse.new.trees in
+    subst (HasAnswers (tables_with new lines names files) parsed.root) (sym c.in_ok-append.ensures.items)
+    (parsed-answers s new c.parse.ensures.keeps names files prepared tables are shown made.owns lines parsed parsed.events.items parse schedule
+    (λ config listed. made.live config (subst (λ ns. IsConfig ns config) made.keeps.arities listed)))
 
 pub returns-clause-keeps : goal.returns-clause-keeps
 returns-clause-keeps g c = Keeps-trans c.preprocess.ensures.keeps c.parse.ensures.keeps

@@ -1,9 +1,9 @@
 use Rattle.std.proofs.Common.{◌≡◌, ◌∙◌, true, sym, subst}
 use Rattle.std.proofs.lemmas.List.Elements.{All-nil}
-use Rattle.sc_core.proofs.Plains.{plain-translated}
-use Rattle.sc_core.proofs.TreeTelling.{tells-plain, tree-lines}
+use Rattle.sc_core.proofs.Cuts.{only-listed}
+use Rattle.sc_core.proofs.PlainTelling.{tells-plain}
+use Rattle.sc_core.proofs.TreeTelling.{tree-lines}
 use Rattle.sc_core.proofs.tree_texts.plain_under.Goals as goal
-use Rattle.sc_core.specs.Cut.{first_config}
 use Rattle.sc_model.specs.Bytes.{has_no_newline}
 use Rattle.sc_prep.specs.Printable.{ArePlainPaths}
 use Rattle.sc_space.specs.Seen.{seen_space}
@@ -20,6 +20,5 @@ returns-clause-tree g c =
     let only = c.in_ok-plain.ensures in
     let text = c.in_ok-text_of.ensures in
     let space = seen_space c.args.space.now in
-    tells-plain text.keeps c.parsed.new.names c.parsed.new.files space c.in_ok-plain.plain c.in_ok-text_of.field-0 text.text only.shown (made.keeps.arities ∙ c.requires.arities) text.none text.some
-    (g.S.Source.holds c.args.src.now) c.args.file.now
-    (λ outside holds. plain-translated space c.args.file.now outside (first_config space) c.requires.one only.plain (made.translated outside holds)) only.plain.plain
+    tells-plain text.keeps c.parsed.new.names c.parsed.new.files space c.in_ok-parsed.parsed c.in_ok-plain.plain c.in_ok-text_of.field-0 text.text only.shown (made.keeps.arities ∙ c.requires.arities)
+    (only-listed space c.requires.sound.has_options) c.requires.one only.plain made.answered text.none text.some (g.S.Source.holds c.args.src.now) c.args.file.now made.translated

@@ -2,7 +2,7 @@ use Rattle.std.proofs.Common.{◌≡◌, ◌∙◌, ◌≤◌, ap, arith, inl, i
 use Rattle.std.proofs.lemmas.Result.{err_from_is_err_and}
 use Rattle.std.specs.Prelude.{not}
 use Rattle.sc_args.specs.Words.{project}
-use Rattle.sc_core.proofs.Cuts.{cut-sound, never-fills, one-config}
+use Rattle.sc_core.proofs.Cuts.{cut-sound, first-cut, never-fills, one-config}
 use Rattle.sc_core.proofs.Failing.{choice-fails, space-fails}
 use Rattle.sc_core.proofs.Projecting.{projected-answer}
 use Rattle.sc_core.proofs.Telling.{name-plain}
@@ -13,7 +13,9 @@ use Rattle.sc_core.specs.Texts.{StopsIn, lines_of}
 use Rattle.sc_model.specs.Outside.{Rose}
 use Rattle.sc_model.specs.Sets.{IsConfig}
 use Rattle.sc_model.specs.Space.{IsListed, Space, arities_of}
+use Rattle.sc_show.specs.PlainText.{IsPlainAnswer}
 use Rattle.sc_show.specs.TreeLayout.{IsTreeTextOf}
+use Rattle.sc_show.specs.TreeText.{IsResultAt}
 use Rattle.sc_space.specs.Seen.{seen_space}
 use Rattle.sc_space.specs.Sound.{IsSound}
 
@@ -60,9 +62,13 @@ returns-in-Ok-clause-text g c =
     let space = seen_space c.in_ok-space.space in
     let config = c.deref.result.now in
     let listed = subst (IsListed space) (sym c.deref.ensures.value) c.in_ok-config.ensures.listed in
-    let tells = c.in-Ok.ensures.tree in
-    let answer = tells.0.answer in
+    let told = c.in-Ok.ensures.tree in
+    let tells = told.tells in
+    let answer = tells.answer in
     let is = c.in_ok-only.ensures in
+    let first = ap (λ (only : Space). first_config only) is ∙ first-cut space config listed in
+    let same = subst (λ (d : List ℕ). IsResultAt answer d told.result) first told.same in
+    let plain = subst (λ (d : List ℕ). IsPlainAnswer answer d told.result) first told.plain in
     let text = c.in-Ok.text in
     record {
       lines = c.in-Ok.ensures.lines;
@@ -71,13 +77,14 @@ returns-in-Ok-clause-text g c =
         config = config;
         chosen = c.in_ok-config.ensures.config ∙ ap (λ (d : List ℕ). Ok d) (sym c.deref.ensures.value);
         answer = answer;
-        text = subst (λ (only : Space). IsTreeTextOf only (lines_of text) answer) is tells.0.text_of;
-        plain = tells.1;
-        verdict = subst (λ (only : Space). Tells (not text.is_refused) (HasNoFault only answer)) is tells.0.verdict;
+        text = subst (λ (only : Space). IsTreeTextOf only (lines_of text) answer) is tells.text_of;
+        result = told.result;
+        plain = plain;
+        verdict = subst (λ (only : Space). Tells (not text.is_refused) (HasNoFault only answer)) is tells.verdict;
         right = λ files holds. (
           c.in_ok-space.ensures.space files holds,
-          projected-answer space files c.args.file.now config answer (not text.is_refused) listed
-              (subst (λ (only : Space). IsTranslationAnswer only files c.args.file.now answer (not text.is_refused)) is (tells.0.right files (c.in_ok-space.ensures.kept ∙ holds))),
+          projected-answer space files c.args.file.now config answer (not text.is_refused) told.result listed same plain
+              (subst (λ (only : Space). IsTranslationAnswer only files c.args.file.now answer (not text.is_refused)) is (tells.right files (c.in_ok-space.ensures.kept ∙ holds))),
         );
       };
     }
