@@ -1,4 +1,4 @@
-//! The tests of the libraries, over public calls.
+//! The tests of the libraries of names, files, spaces and words, over public calls.
 #![tactic(auto)]
 
 #[cfg(test)]
@@ -6,22 +6,6 @@ mod args;
 #[cfg(test)]
 mod base;
 #[cfg(test)]
-mod guarded;
-#[cfg(test)]
-mod items;
-#[cfg(test)]
-mod lalr;
-#[cfg(test)]
-mod lex;
-#[cfg(test)]
-mod lines;
-#[cfg(test)]
-mod presence;
-#[cfg(test)]
-mod show;
-#[cfg(test)]
 mod source;
 #[cfg(test)]
 mod space;
-#[cfg(test)]
-mod subst;

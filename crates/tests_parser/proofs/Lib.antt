@@ -1,3 +1,1 @@
-pub mod OwnLemmas
 pub mod ParseLemmas
-pub mod TreeLemmas

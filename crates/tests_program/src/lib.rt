@@ -2,8 +2,6 @@
 #![tactic(auto)]
 
 #[cfg(test)]
-mod both;
-#[cfg(test)]
 mod program;
 #[cfg(test)]
 mod trees;

@@ -1,6 +1,7 @@
 use sc_core::run;
 use sc_source::{MemorySink, MemorySource};
 use std::alloc::Global;
+use std::process::Abort;
 use std::test::Fail;
 
 /// A call on these words, where the source holds a space file `s`, a main file `m.c` and perhaps a
@@ -544,69 +545,61 @@ fn sink(alloc: Global, failing: u64) -> Result<MemorySink, Fail> {
     Ok(sink)
 }
 
+/// The status of a run on these words.
+fn status_of(
+    alloc: Global,
+    words: &[String],
+    source: &mut MemorySource,
+    out: &mut MemorySink,
+    err: &mut MemorySink,
+) -> u8 {
+    run(alloc, words, source, out, err).code()
+}
+
 /// What the run of a case wrote to the output and to the error output, and its status.
-pub fn ran(alloc: Global, case: &Case<'_>) -> Result<(Vec<u8>, Vec<u8>, u8), Fail> {
+fn ran(alloc: Global, case: &Case<'_>) -> Result<(Vec<u8>, Vec<u8>, u8), Fail> {
     let words = words(alloc, case.words)?;
     let mut source = files(alloc, case)?;
     let mut out = sink(alloc, case.failing.out)?;
     let mut err = sink(alloc, case.failing.err)?;
-    let status = run(alloc, &words, &mut source, &mut out, &mut err);
-    Ok((out.bytes(alloc)?, err.bytes(alloc)?, status.code()))
+    let status = status_of(alloc, &words, &mut source, &mut out, &mut err);
+    Ok((out.bytes(alloc)?, err.bytes(alloc)?, status))
+}
+
+/// The runs of some cases are as they say.
+pub fn check_runs(rt: &impl Abort, alloc: Global, cases: &[Case<'_>]) -> Result<(), Fail> {
+    for (index, case) in cases.iter().enumerate() {
+        let (out, err, status) = ran(alloc, case)?;
+        assert_eq!(rt; out.as_slice(), case.out.as_bytes(), "out of {index}");
+        assert_eq!(rt; err.as_slice(), case.err.as_bytes(), "err of {index}");
+        assert_eq!(rt; status, case.status, "status of {index}");
+    }
+    Ok(())
 }
 
 #[test]
 fn runs(rt: HostRuntime) -> Result<(), Fail> {
-    for case in &CONDITIONALS {
-        let (out, err, status) = ran(rt.alloc(), case)?;
-        assert_eq!(rt; out.as_slice(), case.out.as_bytes());
-        assert_eq!(rt; err.as_slice(), case.err.as_bytes());
-        assert_eq!(rt; status, case.status);
-    }
-    Ok(())
+    check_runs(&rt, rt.alloc(), &CONDITIONALS)
 }
 
 #[test]
 fn runs_definitions(rt: HostRuntime) -> Result<(), Fail> {
-    for case in &DEFINITIONS {
-        let (out, err, status) = ran(rt.alloc(), case)?;
-        assert_eq!(rt; out.as_slice(), case.out.as_bytes());
-        assert_eq!(rt; err.as_slice(), case.err.as_bytes());
-        assert_eq!(rt; status, case.status);
-    }
-    Ok(())
+    check_runs(&rt, rt.alloc(), &DEFINITIONS)
 }
 
 #[test]
 fn runs_calls(rt: HostRuntime) -> Result<(), Fail> {
-    for case in &CALLS {
-        let (out, err, status) = ran(rt.alloc(), case)?;
-        assert_eq!(rt; out.as_slice(), case.out.as_bytes());
-        assert_eq!(rt; err.as_slice(), case.err.as_bytes());
-        assert_eq!(rt; status, case.status);
-    }
-    Ok(())
+    check_runs(&rt, rt.alloc(), &CALLS)
 }
 
 #[test]
 fn runs_expressions(rt: HostRuntime) -> Result<(), Fail> {
-    for case in &EXPRESSIONS {
-        let (out, err, status) = ran(rt.alloc(), case)?;
-        assert_eq!(rt; out.as_slice(), case.out.as_bytes());
-        assert_eq!(rt; err.as_slice(), case.err.as_bytes());
-        assert_eq!(rt; status, case.status);
-    }
-    Ok(())
+    check_runs(&rt, rt.alloc(), &EXPRESSIONS)
 }
 
 #[test]
 fn runs_files(rt: HostRuntime) -> Result<(), Fail> {
-    for case in &FILES {
-        let (out, err, status) = ran(rt.alloc(), case)?;
-        assert_eq!(rt; out.as_slice(), case.out.as_bytes());
-        assert_eq!(rt; err.as_slice(), case.err.as_bytes());
-        assert_eq!(rt; status, case.status);
-    }
-    Ok(())
+    check_runs(&rt, rt.alloc(), &FILES)
 }
 
 #[test]

@@ -1,6 +1,4 @@
-use crate::program::{Case, Failing, NOTHING, ONE, TOKENS, ran};
-use std::alloc::Global;
-use std::process::Abort;
+use crate::program::{Case, Failing, NOTHING, ONE, TOKENS, check_runs};
 use std::test::Fail;
 
 /// The tree of an empty file.
@@ -383,17 +381,6 @@ const WORDS: [Case<'static>; 1] = [Case {
     err: "superc: bad file name\n",
     ..PARSE
 }];
-
-/// The runs of some cases are as they say.
-fn check_runs(rt: &impl Abort, alloc: Global, cases: &[Case<'_>]) -> Result<(), Fail> {
-    for (index, case) in cases.iter().enumerate() {
-        let (out, err, status) = ran(alloc, case)?;
-        assert_eq!(rt; out.as_slice(), case.out.as_bytes(), "out of {index}");
-        assert_eq!(rt; err.as_slice(), case.err.as_bytes(), "err of {index}");
-        assert_eq!(rt; status, case.status, "status of {index}");
-    }
-    Ok(())
-}
 
 #[test]
 fn empty_file(rt: HostRuntime) -> Result<(), Fail> {
