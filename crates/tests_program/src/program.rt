@@ -557,7 +557,7 @@ fn status_of(
 }
 
 /// What the run of a case wrote to the output and to the error output, and its status.
-fn ran(alloc: Global, case: &Case<'_>) -> Result<(Vec<u8>, Vec<u8>, u8), Fail> {
+pub fn ran(alloc: Global, case: &Case<'_>) -> Result<(Vec<u8>, Vec<u8>, u8), Fail> {
     let words = words(alloc, case.words)?;
     let mut source = files(alloc, case)?;
     let mut out = sink(alloc, case.failing.out)?;

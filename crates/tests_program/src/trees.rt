@@ -1,4 +1,4 @@
-use crate::program::{Case, Failing, NOTHING, ONE, TOKENS, check_runs};
+use crate::program::{Case, Failing, NOTHING, ONE, TOKENS, check_runs, ran};
 use std::test::Fail;
 
 /// The tree of an empty file.
@@ -159,6 +159,71 @@ const PARAMETER: [Case<'static>; 1] = [Case {
     out: "s 0 m.c\nl 0 0:1:1 typedef\nl 1 0:1:9 int\nn 2 76 0 1\nl 3 0:1:13 T\nn 4 288 3\nl 5 0:1:14 ;\nn 6 21 2 4 5\nl 7 0:1:16 void\nl 8 0:1:21 h\nn 9 288 8\nl 10 0:1:22 (\nl 11 0:1:23 int\nl 12 0:1:27 (\nl 13 0:1:28 T\nn 14 287 13\nl 15 0:1:29 )\nn 16 186 12 14 15\nn 17 68 11 16\nl 18 0:1:30 )\nn 19 186 10 17 18\nn 20 162 9 19\nl 21 0:1:31 ;\nn 22 19 7 20 21\nn 23 4 6 22\nn 24 1 23\nroot 24\nend\n",
     ..PARSE
 }];
+
+/// Twenty variables.
+const TWENTY: &str =
+    "[variables]\nV1 = [\"undef\", 1]\nV2 = [\"undef\", 1]\nV3 = [\"undef\", 1]\nV4 = [\"undef\", 1]\nV5 = [\"undef\", 1]\nV6 = [\"undef\", 1]\nV7 = [\"undef\", 1]\nV8 = [\"undef\", 1]\nV9 = [\"undef\", 1]\nV10 = [\"undef\", 1]\nV11 = [\"undef\", 1]\nV12 = [\"undef\", 1]\nV13 = [\"undef\", 1]\nV14 = [\"undef\", 1]\nV15 = [\"undef\", 1]\nV16 = [\"undef\", 1]\nV17 = [\"undef\", 1]\nV18 = [\"undef\", 1]\nV19 = [\"undef\", 1]\nV20 = [\"undef\", 1]\n";
+
+/// An enumerator under each of them, and one under none.
+const ENUMERATORS: &[u8] =
+    b"enum e {\n#ifdef V1\nE1,\n#endif\n#ifdef V2\nE2,\n#endif\n#ifdef V3\nE3,\n#endif\n#ifdef V4\nE4,\n#endif\n#ifdef V5\nE5,\n#endif\n#ifdef V6\nE6,\n#endif\n#ifdef V7\nE7,\n#endif\n#ifdef V8\nE8,\n#endif\n#ifdef V9\nE9,\n#endif\n#ifdef V10\nE10,\n#endif\n#ifdef V11\nE11,\n#endif\n#ifdef V12\nE12,\n#endif\n#ifdef V13\nE13,\n#endif\n#ifdef V14\nE14,\n#endif\n#ifdef V15\nE15,\n#endif\n#ifdef V16\nE16,\n#endif\n#ifdef V17\nE17,\n#endif\n#ifdef V18\nE18,\n#endif\n#ifdef V19\nE19,\n#endif\n#ifdef V20\nE20,\n#endif\nZ };\n";
+
+const ALL_TWENTY: &[&str] = &[
+    "superc", "project", "s", "m.c", "V1=1", "V2=1", "V3=1", "V4=1", "V5=1", "V6=1", "V7=1",
+    "V8=1", "V9=1", "V10=1", "V11=1", "V12=1", "V13=1", "V14=1", "V15=1", "V16=1", "V17=1",
+    "V18=1", "V19=1", "V20=1",
+];
+
+/// Three of the 1,048,576 configurations.
+const CHOSEN_ENUMERATORS: [Case<'static>; 3] = [
+    Case {
+        words: PROJECT,
+        space: TWENTY,
+        main: ENUMERATORS,
+        out: "s 0 m.c\nl 0 0:1:1 enum\nl 1 0:1:6 e\nn 2 288 1\nl 3 0:1:8 {\nl 4 0:62:1 Z\nn 5 288 4\nl 6 0:62:3 }\nn 7 149 0 2 3 5 6\nl 8 0:62:4 ;\nn 9 18 7 8\nn 10 1 9\nroot 10\nend\n",
+        ..PARSE
+    },
+    Case {
+        words: &["superc", "project", "s", "m.c", "V20=1", "V1=1"],
+        space: TWENTY,
+        main: ENUMERATORS,
+        out: "s 0 m.c\nl 0 0:1:1 enum\nl 1 0:1:6 e\nn 2 288 1\nl 3 0:1:8 {\nl 4 0:3:1 E1\nn 5 288 4\nl 6 0:3:3 ,\nl 7 0:60:1 E20\nn 8 288 7\nn 9 153 5 6 8\nl 10 0:60:4 ,\nl 11 0:62:1 Z\nn 12 288 11\nn 13 153 9 10 12\nl 14 0:62:3 }\nn 15 149 0 2 3 13 14\nl 16 0:62:4 ;\nn 17 18 15 16\nn 18 1 17\nroot 18\nend\n",
+        ..PARSE
+    },
+    Case {
+        words: ALL_TWENTY,
+        space: TWENTY,
+        main: ENUMERATORS,
+        out: "s 0 m.c\nl 0 0:1:1 enum\nl 1 0:1:6 e\nn 2 288 1\nl 3 0:1:8 {\nl 4 0:3:1 E1\nn 5 288 4\nl 6 0:3:3 ,\nl 7 0:6:1 E2\nn 8 288 7\nn 9 153 5 6 8\nl 10 0:6:3 ,\nl 11 0:9:1 E3\nn 12 288 11\nn 13 153 9 10 12\nl 14 0:9:3 ,\nl 15 0:12:1 E4\nn 16 288 15\nn 17 153 13 14 16\nl 18 0:12:3 ,\nl 19 0:15:1 E5\nn 20 288 19\nn 21 153 17 18 20\nl 22 0:15:3 ,\nl 23 0:18:1 E6\nn 24 288 23\nn 25 153 21 22 24\nl 26 0:18:3 ,\nl 27 0:21:1 E7\nn 28 288 27\nn 29 153 25 26 28\nl 30 0:21:3 ,\nl 31 0:24:1 E8\nn 32 288 31\nn 33 153 29 30 32\nl 34 0:24:3 ,\nl 35 0:27:1 E9\nn 36 288 35\nn 37 153 33 34 36\nl 38 0:27:3 ,\nl 39 0:30:1 E10\nn 40 288 39\nn 41 153 37 38 40\nl 42 0:30:4 ,\nl 43 0:33:1 E11\nn 44 288 43\nn 45 153 41 42 44\nl 46 0:33:4 ,\nl 47 0:36:1 E12\nn 48 288 47\nn 49 153 45 46 48\nl 50 0:36:4 ,\nl 51 0:39:1 E13\nn 52 288 51\nn 53 153 49 50 52\nl 54 0:39:4 ,\nl 55 0:42:1 E14\nn 56 288 55\nn 57 153 53 54 56\nl 58 0:42:4 ,\nl 59 0:45:1 E15\nn 60 288 59\nn 61 153 57 58 60\nl 62 0:45:4 ,\nl 63 0:48:1 E16\nn 64 288 63\nn 65 153 61 62 64\nl 66 0:48:4 ,\nl 67 0:51:1 E17\nn 68 288 67\nn 69 153 65 66 68\nl 70 0:51:4 ,\nl 71 0:54:1 E18\nn 72 288 71\nn 73 153 69 70 72\nl 74 0:54:4 ,\nl 75 0:57:1 E19\nn 76 288 75\nn 77 153 73 74 76\nl 78 0:57:4 ,\nl 79 0:60:1 E20\nn 80 288 79\nn 81 153 77 78 80\nl 82 0:60:4 ,\nl 83 0:62:1 Z\nn 84 288 83\nn 85 153 81 82 84\nl 86 0:62:3 }\nn 87 149 0 2 3 85 86\nl 88 0:62:4 ;\nn 89 18 87 88\nn 90 1 89\nroot 90\nend\n",
+        ..PARSE
+    },
+];
+
+/// Ends of lines in the tree of all of them: each enumerator is a leaf, at its place.
+const ENUMERATOR_LEAVES: &[&str] = &[
+    " 0:3:1 E1\n",
+    " 0:6:1 E2\n",
+    " 0:9:1 E3\n",
+    " 0:12:1 E4\n",
+    " 0:15:1 E5\n",
+    " 0:18:1 E6\n",
+    " 0:21:1 E7\n",
+    " 0:24:1 E8\n",
+    " 0:27:1 E9\n",
+    " 0:30:1 E10\n",
+    " 0:33:1 E11\n",
+    " 0:36:1 E12\n",
+    " 0:39:1 E13\n",
+    " 0:42:1 E14\n",
+    " 0:45:1 E15\n",
+    " 0:48:1 E16\n",
+    " 0:51:1 E17\n",
+    " 0:54:1 E18\n",
+    " 0:57:1 E19\n",
+    " 0:60:1 E20\n",
+    " 0:62:1 Z\n",
+    "\nend\n",
+];
 
 /// A fault of one side leaves the tree of the other.
 const REFUSED_SIDE: [Case<'static>; 3] = [
@@ -420,6 +485,29 @@ fn loop_name(rt: HostRuntime) -> Result<(), Fail> {
 #[test]
 fn parameter(rt: HostRuntime) -> Result<(), Fail> {
     check_runs(&rt, rt.alloc(), &PARAMETER)
+}
+
+#[test]
+fn chosen_enumerators(rt: HostRuntime) -> Result<(), Fail> {
+    check_runs(&rt, rt.alloc(), &CHOSEN_ENUMERATORS)
+}
+
+/// All configurations of the twenty variables are accepted by one run.
+#[test]
+fn enumerators(rt: HostRuntime) -> Result<(), Fail> {
+    let case = Case {
+        space: TWENTY,
+        main: ENUMERATORS,
+        ..PARSE
+    };
+    let (out, err, status) = ran(rt.alloc(), &case)?;
+    let text = String::from_utf8(out)?;
+    for leaf in ENUMERATOR_LEAVES {
+        assert!(rt; text.contains(leaf), "{leaf}");
+    }
+    assert!(rt; err.is_empty());
+    assert_eq!(rt; status, 0);
+    Ok(())
 }
 
 #[test]
