@@ -1,9 +1,10 @@
 -- Tables that define the names alike that an expansion looked up give it the same answer, by the same trace.
-use Rattle.std.proofs.Common.{◌≡◌, ℕ, Bool, true, false, List, [], ◌∷◌, ◌++◌, Option, Some, None, Result, Ok, Err, refl, sym, ap, ◌∙◌, if◌then◌else◌}
-use Rattle.c11_macros.specs.Expansion.{Case, is_looked_up, looked_up_case, defined_case, case_of, Expands, empty, stay, object, unterminated, miscounted, call, Each, none, passed, expanded, Rescans, on, refused}
+use Rattle.std.proofs.Common.{◌≡◌, ℕ, Bool, true, false, List, [], ◌∷◌, ◌++◌, Option, Result, refl, sym, ap, ◌∙◌, if◌then◌else◌}
+use Rattle.c11_macros.specs.Call.{behind_call}
+use Rattle.c11_macros.specs.Expansion.{is_looked_up, looked_up_case, defined_case, case_of, Expands, empty, stay, object, unterminated, miscounted, call, Each, none, passed, expanded, Rescans, on, refused}
 use Rattle.c11_macros.specs.Hidden.{Hidden, Provenance, Failure}
 use Rattle.c11_macros.specs.Macros.{Macros}
-use Rattle.c11_macros.specs.Trace.{Trace, after_step, both, taking, taking_call, trace, trace_each, trace_rescan, Agree, ExpandsBy}
+use Rattle.c11_macros.specs.Trace.{Trace, after_step, both, failing, looked_up_at, taking, taking_call, trace, trace_each, trace_rescan, Agree, ExpandsBy}
 
 agree-front : (one two : Macros) (xs ys : List (List ℕ)) → Agree one two (xs ++ ys) → Agree one two xs
 agree-front one two [] ys agree = tt
@@ -17,25 +18,25 @@ case-by : {P : Type 0} (one two : Macros) (looked : Bool) (name : List ℕ) (res
 case-by one two true name rest agree = ap (λ d. defined_case d rest) agree.0
 case-by one two false name rest agree = refl
 
-case-agrees : {P : Type 0} (one two : Macros) (t : Hidden P) (rest : List (Hidden P)) → Agree one two (taking t).looked_up → case_of one t rest ≡ case_of two t rest
+case-agrees : {P : Type 0} (one two : Macros) (t : Hidden P) (rest : List (Hidden P)) → Agree one two (looked_up_at t) → case_of one t rest ≡ case_of two t rest
 case-agrees one two t rest agree = case-by one two (is_looked_up t) t.spelling rest agree
 
-pub record EachBy {P : Type 0} (provenance : Provenance P) (macros : Macros) (asks : List (Option (List (Hidden P)))) (rs : List (Result (List (Hidden P)) (Failure P))) (x : Trace P) : Type 0 where
+pub record EachBy {P : Type 0} (provenance : Provenance P) (macros : Macros) (asks : List (Option (List (Hidden P)))) (rs : List (Result (List (Hidden P)) (Failure P))) (x : Trace) : Type 0 where
   pub each : Each provenance macros asks rs
   pub by : trace_each each ≡ x
 
-pub record RescansBy {P : Type 0} (provenance : Provenance P) (macros : Macros) (made : Result (List (Hidden P)) (Failure P)) (rest : List (Hidden P)) (r : Result (List (Hidden P)) (Failure P)) (x : Trace P) : Type 0 where
+pub record RescansBy {P : Type 0} (provenance : Provenance P) (macros : Macros) (made : Result (List (Hidden P)) (Failure P)) (rest : List (Hidden P)) (r : Result (List (Hidden P)) (Failure P)) (x : Trace) : Type 0 where
   pub goes : Rescans provenance macros made rest r
   pub by : trace_rescan goes ≡ x
 
 -- what is known of the names of a whole is known of those of its parts
-head-of : {P : Type 0} (one two : Macros) (x y : Trace P) → Agree one two (both x y).looked_up → Agree one two x.looked_up
+head-of : (one two : Macros) (x y : Trace) → Agree one two (both x y).looked_up → Agree one two x.looked_up
 head-of one two x y agree = agree-front one two x.looked_up y.looked_up agree
 
-tail-of : {P : Type 0} (one two : Macros) (x y : Trace P) → Agree one two (both x y).looked_up → Agree one two y.looked_up
+tail-of : (one two : Macros) (x y : Trace) → Agree one two (both x y).looked_up → Agree one two y.looked_up
 tail-of one two x y agree = agree-back one two x.looked_up y.looked_up agree
 
-both-same : {P : Type 0} {x y u v : Trace P} → x ≡ u → y ≡ v → both x y ≡ both u v
+both-same : {x y u v : Trace} → x ≡ u → y ≡ v → both x y ≡ both u v
 both-same p q = λ i. both (p i) (q i)
 
 module _ {P : Type 0} {provenance : Provenance P} (one two : Macros) where
@@ -43,17 +44,17 @@ module _ {P : Type 0} {provenance : Provenance P} (one two : Macros) where
     pub agrees : {ts : List (Hidden P)} {r : Result (List (Hidden P)) (Failure P)} (d : Expands provenance one ts r) → Agree one two (trace d).looked_up → ExpandsBy provenance two ts r (trace d)
     agrees empty agree = record { expands = empty; by = refl }
     agrees (stay {t} {rest} is d) agree =
-        let more = agrees d (tail-of one two (taking t) (trace d) agree) in
-        record { expands = stay (sym (case-agrees one two t rest (head-of one two (taking t) (trace d) agree)) ∙ is) more.expands; by = ap (both (taking t)) more.by }
+        let more = agrees d (tail-of one two (taking t rest) (trace d) agree) in
+        record { expands = stay (sym (case-agrees one two t rest (head-of one two (taking t rest) (trace d) agree)) ∙ is) more.expands; by = ap (both (taking t rest)) more.by }
     agrees (object {t} {rest} d is g) agree =
-        let more = agrees-rescan g (tail-of one two (taking t) (trace_rescan g) agree) in
-        record { expands = object d (sym (case-agrees one two t rest (head-of one two (taking t) (trace_rescan g) agree)) ∙ is) more.goes; by = ap (both (taking t)) more.by }
-    agrees (unterminated {t} {rest} is) agree = record { expands = unterminated (sym (case-agrees one two t rest agree) ∙ is); by = refl }
-    agrees (miscounted {t} {rest} is) agree = record { expands = miscounted (sym (case-agrees one two t rest agree) ∙ is); by = refl }
+        let more = agrees-rescan g (tail-of one two (taking t rest) (trace_rescan g) agree) in
+        record { expands = object d (sym (case-agrees one two t rest (head-of one two (taking t rest) (trace_rescan g) agree)) ∙ is) more.goes; by = ap (both (taking t rest)) more.by }
+    agrees (unterminated {t} {rest} is) agree = record { expands = unterminated (sym (case-agrees one two t rest (head-of one two (taking t rest) failing agree)) ∙ is); by = refl }
+    agrees (miscounted {t} {rest} is) agree = record { expands = miscounted (sym (case-agrees one two t rest (head-of one two (taking t rest) (both (taking_call (behind_call rest)) failing) agree)) ∙ is); by = refl }
     agrees (call {t} {rest} d arguments close after results is each g) agree =
-        let front = both (taking t) (taking_call rest after) in
+        let front = both (taking t rest) (taking_call after) in
         let back = both (trace_each each) (trace_rescan g) in
-        let head = head-of one two (taking t) (taking_call rest after) (head-of one two front back agree) in
+        let head = head-of one two (taking t rest) (taking_call after) (head-of one two front back agree) in
         let args = agrees-each each (head-of one two (trace_each each) (trace_rescan g) (tail-of one two front back agree)) in
         let more = agrees-rescan g (tail-of one two (trace_each each) (trace_rescan g) (tail-of one two front back agree)) in
         record {

@@ -1,13 +1,17 @@
 -- Calls and substitutions, computed on examples (C11 6.10.3.5).
-use Rattle.std.proofs.Common.{◌≡◌, ℕ, Bool, true, false, List, [], ◌∷◌, ◌++◌, map, Option, Some, None, Result, Ok, Err, codes, refl}
-use Rattle.c11_macros.specs.Call.{Call, call_of, arguments_for}
+use Rattle.std.proofs.Common.{◌≡◌, ℕ, Bool, true, false, List, [], ◌∷◌, map, take, Option, Some, None, Result, Ok, Err, codes, refl, if◌then◌else◌}
+use Rattle.c11_macros.specs.Call.{call_of, arguments_for}
 use Rattle.c11_macros.specs.Defines.{Defined, reads}
-use Rattle.c11_macros.specs.Hidden.{Hidden, Provenance, Failure, no_names}
-use Rattle.c11_macros.specs.Macros.{Item, Form, object_like, function_like}
+use Rattle.c11_macros.specs.Expansion as expansion
+use Rattle.c11_macros.specs.Expansion.{Expands, empty, stay, none, passed, expanded, on}
+use Rattle.c11_macros.specs.Footprint.{Footprint, footprint}
+use Rattle.c11_macros.specs.Hidden.{Hidden, Provenance, Failure, failure_at, no_names}
+use Rattle.c11_macros.specs.Macros.{Item, Form, object_like, function_like, items, Macros}
 use Rattle.c11_macros.specs.Substitution.{parts, neither, substituted, wants}
 use Rattle.c11_tokens.specs.Relex.{relexed}
+use Rattle.sc_model.specs.Bytes.{same_bytes}
 use Rattle.sc_model.specs.declared.cause.Cause.{Cause}
-use Rattle.sc_model.specs.declared.cause.Cause.TheVariants.{BadDefine, ProtectedName, BadPaste, BadStringize}
+use Rattle.sc_model.specs.declared.cause.Cause.TheVariants.{BadDefine, ProtectedName, BadPaste, BadStringize, UnterminatedCall, WrongArguments}
 use Rattle.sc_model.specs.declared.kind.Kind.{Kind}
 use Rattle.sc_model.specs.declared.kind.Kind.TheVariants.{Other}
 use Rattle.sc_model.specs.Token.{Place, Token}
@@ -157,3 +161,39 @@ reads-protected = refl
 
 reads-no_name : reads (token true (codes "1") ∷ []) ≡ Err BadDefine
 reads-no_name = refl
+
+-- ---- the footprint of a name
+
+-- #define f(x) g and #define g(y) y
+abbrev table : Macros
+table name =
+    if same_bytes name (codes "f") then Some (record { form = function_like x false; replacement = items (item false (codes "g") ∷ []) })
+    else (if same_bytes name (codes "g") then Some (record { form = function_like (codes "y" ∷ []) false; replacement = items (item false (codes "y") ∷ []) })
+    else None)
+
+-- f(1)(2);
+abbrev line : List (Hidden ℕ)
+line = at 1 true (codes "f") ∷ at 2 false (codes "(") ∷ at 3 false (codes "1") ∷ at 4 false (codes ")") ∷ at 5 false (codes "(") ∷ at 6 false (codes "2") ∷ at 7 false (codes ")") ∷ at 8 false (codes ";") ∷ []
+
+abbrev line_expands : (r : Result (List (Hidden ℕ)) (Failure ℕ)) × Expands provenance table line r
+line_expands = (_, expansion.call _ _ _ _ _ refl (passed none) (on (expansion.call _ _ _ _ _ refl (expanded (stay refl empty) none) (on (stay refl (stay refl empty))))))
+
+-- what g takes was behind f, and 1 and 2 are no names
+footprint-goes_on : footprint line_expands.1 ≡ record { left = 1; looked_up = codes "f" ∷ codes "g" ∷ []; fails = false }
+footprint-goes_on = refl
+
+-- g(1,2); has no answer, and g(1 no end
+abbrev misfit_line : List (Hidden ℕ)
+misfit_line = at 1 true (codes "g") ∷ at 2 false (codes "(") ∷ at 3 false (codes "1") ∷ at 4 false (codes ",") ∷ at 5 false (codes "2") ∷ at 6 false (codes ")") ∷ at 7 false (codes ";") ∷ []
+
+abbrev of_misfit : Footprint
+of_misfit = let d : Expands provenance table misfit_line (Err (failure_at WrongArguments (at 1 true (codes "g")))) = expansion.miscounted refl in footprint d
+
+footprint-misfit : of_misfit ≡ record { left = 1; looked_up = codes "g" ∷ []; fails = true }
+footprint-misfit = refl
+
+abbrev of_open : Footprint
+of_open = let d : Expands provenance table (take 3 misfit_line) (Err (failure_at UnterminatedCall (at 1 true (codes "g")))) = expansion.unterminated refl in footprint d
+
+footprint-open : of_open ≡ record { left = 2; looked_up = codes "g" ∷ []; fails = true }
+footprint-open = refl

@@ -1,9 +1,11 @@
 -- A list has one expansion, by one trace.
-use Rattle.std.proofs.Common.{◌≡◌, ℕ, List, [], ◌∷◌, ◌++◌, Option, Some, None, Result, Ok, Err, refl, sym, ap, subst}
+use Rattle.std.proofs.Common.{◌≡◌, List, [], ◌∷◌, ◌++◌, length, Option, Some, None, Result, Ok, Err, refl, sym, ap, subst}
+use Rattle.c11_macros.specs.Call.{behind_call}
 use Rattle.c11_macros.specs.Expansion.{Case, stays, replaced, unclosed, misfit, called, case_of, list_of, asked, object_result, call_result, with_first, Expands, empty, stay, object, unterminated, miscounted, call, Each, none, passed, expanded, Rescans, on, refused}
+use Rattle.c11_macros.specs.Footprint.{footprint, footprint_from}
 use Rattle.c11_macros.specs.Hidden.{Hidden, Provenance, Failure, failure_at}
 use Rattle.c11_macros.specs.Macros.{Macros, Definition}
-use Rattle.c11_macros.specs.Trace.{Trace, no_trace, after_step, both, taking, taking_call, trace, trace_each, trace_rescan, Same}
+use Rattle.c11_macros.specs.Trace.{Trace, no_trace, failing, after_step, both, taking, taking_call, trace, trace_each, trace_rescan, Same}
 use Rattle.sc_model.specs.declared.cause.Cause.TheVariants.{UnterminatedCall, WrongArguments}
 
 module _ {P : Type 0} (provenance : Provenance P) (macros : Macros) where
@@ -11,62 +13,62 @@ module _ {P : Type 0} (provenance : Provenance P) (macros : Macros) where
   Answer = Result (List (Hidden P)) (Failure P)
 
   -- each expansion of the list has this answer and this trace
-  abbrev pub Only : List (Hidden P) → Answer → Trace P → Type 0
+  abbrev pub Only : List (Hidden P) → Answer → Trace → Type 0
   Only ts r x = (s : Answer) (e : Expands provenance macros ts s) → Same r s x (trace e)
 
-  abbrev pub OnlyEach : List (Option (List (Hidden P))) → List Answer → Trace P → Type 0
+  abbrev pub OnlyEach : List (Option (List (Hidden P))) → List Answer → Trace → Type 0
   OnlyEach asks rs x = (ss : List Answer) (e : Each provenance macros asks ss) → Same rs ss x (trace_each e)
 
-  abbrev pub OnlyRescan : Answer → List (Hidden P) → Answer → Trace P → Type 0
+  abbrev pub OnlyRescan : Answer → List (Hidden P) → Answer → Trace → Type 0
   OnlyRescan made rest r x = (s : Answer) (e : Rescans provenance macros made rest s) → Same r s x (trace_rescan e)
 
 -- an expansion of a list that is not empty, by the case of its first token
-data Did {P : Type 0} (provenance : Provenance P) (macros : Macros) (t : Hidden P) (rest : List (Hidden P)) : Case P → Result (List (Hidden P)) (Failure P) → Trace P → Type 0 where
-  did_stay : (r : Result (List (Hidden P)) (Failure P)) (d : Expands provenance macros rest r) → Did provenance macros t rest stays (with_first t r) (both (taking t) (trace d))
+data Did {P : Type 0} (provenance : Provenance P) (macros : Macros) (t : Hidden P) (rest : List (Hidden P)) : Case P → Result (List (Hidden P)) (Failure P) → Trace → Type 0 where
+  did_stay : (r : Result (List (Hidden P)) (Failure P)) (d : Expands provenance macros rest r) → Did provenance macros t rest stays (with_first t r) (both (taking t rest) (trace d))
   did_object : (r : Result (List (Hidden P)) (Failure P)) (d : Definition) (g : Rescans provenance macros (object_result provenance d t) rest r)
-      → Did provenance macros t rest (replaced d) r (both (taking t) (trace_rescan g))
-  did_unterminated : Did provenance macros t rest unclosed (Err (failure_at UnterminatedCall t)) (taking t)
-  did_miscounted : Did provenance macros t rest misfit (Err (failure_at WrongArguments t)) (taking t)
+      → Did provenance macros t rest (replaced d) r (both (taking t rest) (trace_rescan g))
+  did_unterminated : Did provenance macros t rest unclosed (Err (failure_at UnterminatedCall t)) (both (taking t rest) failing)
+  did_miscounted : Did provenance macros t rest misfit (Err (failure_at WrongArguments t)) (both (taking t rest) (both (taking_call (behind_call rest)) failing))
   did_call : (r : Result (List (Hidden P)) (Failure P)) (d : Definition) (arguments : List (List (Hidden P))) (close : Hidden P) (after : List (Hidden P)) (results : List (Result (List (Hidden P)) (Failure P)))
       (each : Each provenance macros (asked d.form (list_of provenance d t) 0 arguments) results) (g : Rescans provenance macros (call_result provenance d t arguments close results) after r)
-      → Did provenance macros t rest (called d arguments close after) r (both (both (taking t) (taking_call rest after)) (both (trace_each each) (trace_rescan g)))
+      → Did provenance macros t rest (called d arguments close after) r (both (both (taking t rest) (taking_call after)) (both (trace_each each) (trace_rescan g)))
 
 module _ {P : Type 0} {provenance : Provenance P} {macros : Macros} where
   did : {t : Hidden P} {rest : List (Hidden P)} {s : Result (List (Hidden P)) (Failure P)} (e : Expands provenance macros (t ∷ rest) s) → Did provenance macros t rest (case_of macros t rest) s (trace e)
-  did {t} {rest} (stay {r = r} is d) = subst (λ c. Did provenance macros t rest c (with_first t r) (both (taking t) (trace d))) (sym is) (did_stay r d)
-  did {t} {rest} (object {r = r} d is g) = subst (λ c. Did provenance macros t rest c r (both (taking t) (trace_rescan g))) (sym is) (did_object r d g)
-  did {t} {rest} (unterminated is) = subst (λ c. Did provenance macros t rest c (Err (failure_at UnterminatedCall t)) (taking t)) (sym is) did_unterminated
-  did {t} {rest} (miscounted is) = subst (λ c. Did provenance macros t rest c (Err (failure_at WrongArguments t)) (taking t)) (sym is) did_miscounted
+  did {t} {rest} (stay {r = r} is d) = subst (λ c. Did provenance macros t rest c (with_first t r) (both (taking t rest) (trace d))) (sym is) (did_stay r d)
+  did {t} {rest} (object {r = r} d is g) = subst (λ c. Did provenance macros t rest c r (both (taking t rest) (trace_rescan g))) (sym is) (did_object r d g)
+  did {t} {rest} (unterminated is) = subst (λ c. Did provenance macros t rest c (Err (failure_at UnterminatedCall t)) (both (taking t rest) failing)) (sym is) did_unterminated
+  did {t} {rest} (miscounted is) = subst (λ c. Did provenance macros t rest c (Err (failure_at WrongArguments t)) (both (taking t rest) (both (taking_call (behind_call rest)) failing))) (sym is) did_miscounted
   did {t} {rest} (call {r = r} d arguments close after results is each g) =
-      subst (λ c. Did provenance macros t rest c r (both (both (taking t) (taking_call rest after)) (both (trace_each each) (trace_rescan g)))) (sym is) (did_call r d arguments close after results each g)
+      subst (λ c. Did provenance macros t rest c r (both (both (taking t rest) (taking_call after)) (both (trace_each each) (trace_rescan g)))) (sym is) (did_call r d arguments close after results each g)
 
   only-empty : Only provenance macros [] (Ok []) no_trace
   only-empty s empty = record { answer = refl; trace = refl }
 
-  stayed : (t : Hidden P) (rest : List (Hidden P)) (r s : Result (List (Hidden P)) (Failure P)) (x y : Trace P) → Only provenance macros rest r x → Did provenance macros t rest stays s y → Same (with_first t r) s (both (taking t) x) y
-  stayed t rest r s x y only (did_stay u d) = let o = only u d in record { answer = ap (with_first t) o.answer; trace = ap (both (taking t)) o.trace }
+  stayed : (t : Hidden P) (rest : List (Hidden P)) (r s : Result (List (Hidden P)) (Failure P)) (x y : Trace) → Only provenance macros rest r x → Did provenance macros t rest stays s y → Same (with_first t r) s (both (taking t rest) x) y
+  stayed t rest r s x y only (did_stay u d) = let o = only u d in record { answer = ap (with_first t) o.answer; trace = ap (both (taking t rest)) o.trace }
 
-  replaced-by : (t : Hidden P) (rest : List (Hidden P)) (d : Definition) (r s : Result (List (Hidden P)) (Failure P)) (x y : Trace P) → OnlyRescan provenance macros (object_result provenance d t) rest r x → Did provenance macros t rest (replaced d) s y → Same r s (both (taking t) x) y
-  replaced-by t rest d r s x y only (did_object u e g) = let o = only u g in record { answer = o.answer; trace = ap (both (taking t)) o.trace }
+  replaced-by : (t : Hidden P) (rest : List (Hidden P)) (d : Definition) (r s : Result (List (Hidden P)) (Failure P)) (x y : Trace) → OnlyRescan provenance macros (object_result provenance d t) rest r x → Did provenance macros t rest (replaced d) s y → Same r s (both (taking t rest) x) y
+  replaced-by t rest d r s x y only (did_object u e g) = let o = only u g in record { answer = o.answer; trace = ap (both (taking t rest)) o.trace }
 
-  was-unclosed : (t : Hidden P) (rest : List (Hidden P)) (s : Result (List (Hidden P)) (Failure P)) (y : Trace P) → Did provenance macros t rest unclosed s y → Same (Err (failure_at UnterminatedCall t)) s (taking t) y
+  was-unclosed : (t : Hidden P) (rest : List (Hidden P)) (s : Result (List (Hidden P)) (Failure P)) (y : Trace) → Did provenance macros t rest unclosed s y → Same (Err (failure_at UnterminatedCall t)) s (both (taking t rest) failing) y
   was-unclosed t rest s y did_unterminated = record { answer = refl; trace = refl }
 
-  was-misfit : (t : Hidden P) (rest : List (Hidden P)) (s : Result (List (Hidden P)) (Failure P)) (y : Trace P) → Did provenance macros t rest misfit s y → Same (Err (failure_at WrongArguments t)) s (taking t) y
+  was-misfit : (t : Hidden P) (rest : List (Hidden P)) (s : Result (List (Hidden P)) (Failure P)) (y : Trace) → Did provenance macros t rest misfit s y → Same (Err (failure_at WrongArguments t)) s (both (taking t rest) (both (taking_call (behind_call rest)) failing)) y
   was-misfit t rest s y did_miscounted = record { answer = refl; trace = refl }
 
   was-called : (t : Hidden P) (rest : List (Hidden P)) (d : Definition) (arguments : List (List (Hidden P))) (close : Hidden P) (after : List (Hidden P)) (results : List (Result (List (Hidden P)) (Failure P)))
-      (r s : Result (List (Hidden P)) (Failure P)) (x y z : Trace P) → OnlyEach provenance macros (asked d.form (list_of provenance d t) 0 arguments) results x → OnlyRescan provenance macros (call_result provenance d t arguments close results) after r z
-      → Did provenance macros t rest (called d arguments close after) s y → Same r s (both (both (taking t) (taking_call rest after)) (both x z)) y
+      (r s : Result (List (Hidden P)) (Failure P)) (x y z : Trace) → OnlyEach provenance macros (asked d.form (list_of provenance d t) 0 arguments) results x → OnlyRescan provenance macros (call_result provenance d t arguments close results) after r z
+      → Did provenance macros t rest (called d arguments close after) s y → Same r s (both (both (taking t rest) (taking_call after)) (both x z)) y
   was-called t rest d arguments close after results r s x y z only-each only-rescan (did_call u e lists c more others each g) =
       let same = only-each others each in
       let o = subst (λ rs. OnlyRescan provenance macros (call_result provenance d t arguments close rs) after r z) same.answer only-rescan u g in
-      record { answer = o.answer; trace = ap (λ (p : Trace P × Trace P). both (both (taking t) (taking_call rest after)) (both p.0 p.1)) (λ i. (same.trace i, o.trace i)) }
+      record { answer = o.answer; trace = ap (λ (p : Trace × Trace). both (both (taking t rest) (taking_call after)) (both p.0 p.1)) (λ i. (same.trace i, o.trace i)) }
 
-  only-passed : {asks : List (Option (List (Hidden P)))} {rs : List (Result (List (Hidden P)) (Failure P))} {x : Trace P} → OnlyEach provenance macros asks rs x → OnlyEach provenance macros (None ∷ asks) (Ok [] ∷ rs) x
+  only-passed : {asks : List (Option (List (Hidden P)))} {rs : List (Result (List (Hidden P)) (Failure P))} {x : Trace} → OnlyEach provenance macros asks rs x → OnlyEach provenance macros (None ∷ asks) (Ok [] ∷ rs) x
   only-passed only ss (passed {rs = us} e) = let o = only us e in record { answer = ap (λ l. Ok [] ∷ l) o.answer; trace = o.trace }
 
-  only-expanded : {asks : List (Option (List (Hidden P)))} {rs : List (Result (List (Hidden P)) (Failure P))} {argument : List (Hidden P)} {r : Result (List (Hidden P)) (Failure P)} {x y : Trace P}
+  only-expanded : {asks : List (Option (List (Hidden P)))} {rs : List (Result (List (Hidden P)) (Failure P))} {argument : List (Hidden P)} {r : Result (List (Hidden P)) (Failure P)} {x y : Trace}
       → Only provenance macros argument r x → OnlyEach provenance macros asks rs y → OnlyEach provenance macros (Some argument ∷ asks) (r ∷ rs) (both (after_step x) y)
   only-expanded first others ss (expanded {rs = us} {r = u} d e) =
       let o = first u d in
@@ -76,10 +78,10 @@ module _ {P : Type 0} {provenance : Provenance P} {macros : Macros} where
   only-none : OnlyEach provenance macros [] [] no_trace
   only-none ss none = record { answer = refl; trace = refl }
 
-  only-rescan : {body rest : List (Hidden P)} {r : Result (List (Hidden P)) (Failure P)} {x : Trace P} → Only provenance macros (body ++ rest) r x → OnlyRescan provenance macros (Ok body) rest r x
+  only-rescan : {body rest : List (Hidden P)} {r : Result (List (Hidden P)) (Failure P)} {x : Trace} → Only provenance macros (body ++ rest) r x → OnlyRescan provenance macros (Ok body) rest r x
   only-rescan only s (on d) = only s d
 
-  only-refused : {rest : List (Hidden P)} (failure : Failure P) → OnlyRescan provenance macros (Err failure) rest (Err failure) no_trace
+  only-refused : {rest : List (Hidden P)} (failure : Failure P) → OnlyRescan provenance macros (Err failure) rest (Err failure) failing
   only-refused failure s (refused f) = record { answer = refl; trace = refl }
 
   mutual
@@ -100,3 +102,7 @@ module _ {P : Type 0} {provenance : Provenance P} {macros : Macros} where
     one-rescan : {made : Result (List (Hidden P)) (Failure P)} {rest : List (Hidden P)} {r : Result (List (Hidden P)) (Failure P)} (g : Rescans provenance macros made rest r) → OnlyRescan provenance macros made rest r (trace_rescan g)
     one-rescan (on d) = only-rescan (one d)
     one-rescan (refused failure) = only-refused failure
+
+  -- two expansions of a list have the same footprint of its first token
+  pub one_footprint : {t : Hidden P} {rest : List (Hidden P)} {r s : Result (List (Hidden P)) (Failure P)} (d : Expands provenance macros (t ∷ rest) r) (e : Expands provenance macros (t ∷ rest) s) → footprint d ≡ footprint e
+  one_footprint {rest} {s} d e = ap (λ (x : Trace). footprint_from (length rest) x.uses) (one d s e).trace

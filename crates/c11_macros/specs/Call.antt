@@ -1,5 +1,5 @@
 -- The call of a function-like macro: what stands between its parentheses (C11 6.10.3p10 to p12, 6.10.3.1).
-use Rattle.std.specs.Prelude.{ℕ, zero, suc, ◌+◌, ◌==◌, ◌&&◌, ◌||◌, not, Bool, true, false, List, [], ◌∷◌, ◌++◌, length, codes, Option, Some, None, if◌then◌else◌}
+use Rattle.std.specs.Prelude.{ℕ, zero, suc, ◌+◌, ◌==◌, ◌&&◌, ◌||◌, Bool, true, false, List, [], ◌∷◌, ◌++◌, length, codes, Option, Some, None, if◌then◌else◌}
 use Rattle.c11_macros.specs.Hidden.{Hidden}
 use Rattle.c11_macros.specs.Macros.{Form, object_like, function_like}
 use Rattle.sc_model.specs.Bytes.{same_bytes}
@@ -52,6 +52,15 @@ call_step other commas depth t ts go = onto t (go commas depth)
 abbrev pub call_of : {P : Type 0} → ℕ → ℕ → List (Hidden P) → Option (Call P)
 call_of commas depth [] = None
 call_of commas depth (t ∷ ts) = call_step (role_of t.spelling) commas depth t ts (λ c d. call_of c d ts)
+
+abbrev pub rest_or : {P : Type 0} → List (Hidden P) → Option (Call P) → List (Hidden P)
+rest_or ts None = ts
+rest_or ts (Some call) = call.rest
+
+-- what follows the call that these tokens begin with
+abbrev pub behind_call : {P : Type 0} → List (Hidden P) → List (Hidden P)
+behind_call [] = []
+behind_call (t ∷ ts) = rest_or ts (call_of zero zero ts)
 
 -- so many arguments fit the macro; for ... none need be given (own)
 abbrev pub counts : Form → ℕ → Bool

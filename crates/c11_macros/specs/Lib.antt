@@ -8,3 +8,4 @@ pub mod Same
 pub mod Substitution
 pub mod Text
 pub mod Trace
+pub mod Footprint

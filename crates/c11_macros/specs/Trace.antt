@@ -1,52 +1,71 @@
--- What an expansion used: the names that it looked up, the places of the tokens that it took from its list, and its steps.
-use Rattle.std.specs.Prelude.{◌≡◌, ℕ, ◌+◌, ◌-◌, List, [], ◌∷◌, ◌++◌, map, length, take, Option, Some, None, Result, Ok, Err, if◌then◌else◌}
+-- What an expansion used: the names that it looked up, the tokens that it took from its list, and its steps.
+use Rattle.std.specs.Prelude.{◌≡◌, ℕ, suc, ◌+◌, List, [], ◌∷◌, ◌++◌, length, Option, Result, if◌then◌else◌}
+use Rattle.c11_macros.specs.Call.{behind_call}
 use Rattle.c11_macros.specs.Expansion.{is_looked_up, Expands, empty, stay, object, unterminated, miscounted, call, Each, none, passed, expanded, Rescans, on, refused}
 use Rattle.c11_macros.specs.Hidden.{Hidden, Provenance, Failure}
 use Rattle.c11_macros.specs.Macros.{Macros}
 
-pub record Trace (P : Type 0) : Type 0 where
+-- What was used, in order. A number says how many tokens of the list are left.
+pub data Use : Type 0 where
+  -- the next of so many tokens is looked at
+  stands : ℕ → Use
+  -- these names are looked up
+  looks_up : List (List ℕ) → Use
+  -- a call is taken, and so many tokens follow it
+  takes : ℕ → Use
+  -- there is no answer
+  fails : Use
+
+pub record Trace : Type 0 where
   pub steps : ℕ
   pub looked_up : List (List ℕ)
-  pub taken : List P
+  pub uses : List Use
 
-abbrev pub no_trace : {P : Type 0} → Trace P
-no_trace = record { steps = 0; looked_up = []; taken = [] }
+abbrev pub no_trace : Trace
+no_trace = record { steps = 0; looked_up = []; uses = [] }
 
--- one step more
-abbrev pub after_step : {P : Type 0} → Trace P → Trace P
-after_step x = record x { steps = x.steps + 1 }
+abbrev pub failing : Trace
+failing = record no_trace { uses = fails ∷ [] }
 
-abbrev pub both : {P : Type 0} → Trace P → Trace P → Trace P
-both x y = record { steps = x.steps + y.steps; looked_up = x.looked_up ++ y.looked_up; taken = x.taken ++ y.taken }
+-- An argument's trace with one step more. What it stood at and took is its own list's.
+abbrev pub after_step : Trace → Trace
+after_step x = record { steps = x.steps + 1; looked_up = x.looked_up; uses = looks_up x.looked_up ∷ [] }
 
--- the token was taken, and its name was looked up where it is one that is not hidden
-abbrev pub taking : {P : Type 0} → Hidden P → Trace P
-taking t = record { steps = 1; looked_up = if is_looked_up t then t.spelling ∷ [] else []; taken = t.place ∷ [] }
+abbrev pub both : Trace → Trace → Trace
+both x y = record { steps = x.steps + y.steps; looked_up = x.looked_up ++ y.looked_up; uses = x.uses ++ y.uses }
 
--- the tokens of a call behind its name were taken
-abbrev pub taking_call : {P : Type 0} → (rest after : List (Hidden P)) → Trace P
-taking_call rest after = record { steps = 0; looked_up = []; taken = map (λ t. t.place) (take (length rest - length after) rest) }
+-- the name of a token is looked up where it is one that is not hidden
+abbrev pub looked_up_at : {P : Type 0} → Hidden P → List (List ℕ)
+looked_up_at t = if is_looked_up t then t.spelling ∷ [] else []
+
+-- the token was looked at, with the rest behind it
+abbrev pub taking : {P : Type 0} → Hidden P → List (Hidden P) → Trace
+taking t rest = record { steps = 1; looked_up = looked_up_at t; uses = stands (suc (length rest)) ∷ looks_up (looked_up_at t) ∷ [] }
+
+-- a call was taken that these tokens follow
+abbrev pub taking_call : {P : Type 0} → List (Hidden P) → Trace
+taking_call after = record no_trace { uses = takes (length after) ∷ [] }
 
 abbrev mutual
-  pub trace : {P : Type 0} {provenance : Provenance P} {macros : Macros} {ts : List (Hidden P)} {r : Result (List (Hidden P)) (Failure P)} → Expands provenance macros ts r → Trace P
+  pub trace : {P : Type 0} {provenance : Provenance P} {macros : Macros} {ts : List (Hidden P)} {r : Result (List (Hidden P)) (Failure P)} → Expands provenance macros ts r → Trace
   trace empty = no_trace
-  trace (stay {t} is rest) = both (taking t) (trace rest)
-  trace (object {t} d is rest) = both (taking t) (trace_rescan rest)
-  trace (unterminated {t} is) = taking t
-  trace (miscounted {t} is) = taking t
-  trace (call {t} {rest} d arguments close after results is each more) = both (both (taking t) (taking_call rest after)) (both (trace_each each) (trace_rescan more))
+  trace (stay {t} {rest} is d) = both (taking t rest) (trace d)
+  trace (object {t} {rest} d is more) = both (taking t rest) (trace_rescan more)
+  trace (unterminated {t} {rest} is) = both (taking t rest) failing
+  trace (miscounted {t} {rest} is) = both (taking t rest) (both (taking_call (behind_call rest)) failing)
+  trace (call {t} {rest} d arguments close after results is each more) = both (both (taking t rest) (taking_call after)) (both (trace_each each) (trace_rescan more))
 
-  pub trace_each : {P : Type 0} {provenance : Provenance P} {macros : Macros} {asks : List (Option (List (Hidden P)))} {rs : List (Result (List (Hidden P)) (Failure P))} → Each provenance macros asks rs → Trace P
+  pub trace_each : {P : Type 0} {provenance : Provenance P} {macros : Macros} {asks : List (Option (List (Hidden P)))} {rs : List (Result (List (Hidden P)) (Failure P))} → Each provenance macros asks rs → Trace
   trace_each none = no_trace
   trace_each (passed others) = trace_each others
   trace_each (expanded first others) = both (after_step (trace first)) (trace_each others)
 
-  pub trace_rescan : {P : Type 0} {provenance : Provenance P} {macros : Macros} {made : Result (List (Hidden P)) (Failure P)} {rest : List (Hidden P)} {r : Result (List (Hidden P)) (Failure P)} → Rescans provenance macros made rest r → Trace P
+  pub trace_rescan : {P : Type 0} {provenance : Provenance P} {macros : Macros} {made : Result (List (Hidden P)) (Failure P)} {rest : List (Hidden P)} {r : Result (List (Hidden P)) (Failure P)} → Rescans provenance macros made rest r → Trace
   trace_rescan (on more) = trace more
-  trace_rescan (refused failure) = no_trace
+  trace_rescan (refused failure) = failing
 
 -- the same answer by the same trace
-pub record Same {A P : Type 0} (r s : A) (x y : Trace P) : Type 0 where
+pub record Same {A : Type 0} (r s : A) (x y : Trace) : Type 0 where
   pub answer : r ≡ s
   pub trace : x ≡ y
 
@@ -56,6 +75,6 @@ Agree one two [] = Unit {0}
 Agree one two (name ∷ names) = (one name ≡ two name) × Agree one two names
 
 -- the list expands to this answer by this trace
-pub record ExpandsBy {P : Type 0} (provenance : Provenance P) (macros : Macros) (ts : List (Hidden P)) (r : Result (List (Hidden P)) (Failure P)) (x : Trace P) : Type 0 where
+pub record ExpandsBy {P : Type 0} (provenance : Provenance P) (macros : Macros) (ts : List (Hidden P)) (r : Result (List (Hidden P)) (Failure P)) (x : Trace) : Type 0 where
   pub expands : Expands provenance macros ts r
   pub by : trace expands ≡ x

@@ -1,6 +1,7 @@
 //! Laws about the definitions, each the contract of a function without code.
-ghost use Rattle.std.specs.Prelude.{ℕ, List, Result};
+ghost use Rattle.std.specs.Prelude.{◌≡◌, ℕ, List, ◌∷◌, Result};
 ghost use Rattle.c11_macros.specs.Expansion.{Expands, IsWithin};
+ghost use Rattle.c11_macros.specs.Footprint.{footprint};
 ghost use Rattle.c11_macros.specs.Hidden.{Failure, Hidden, Provenance};
 ghost use Rattle.c11_macros.specs.Macros.{Macros};
 ghost use Rattle.c11_macros.specs.Trace.{Agree, ExpandsBy, Same, trace};
@@ -9,6 +10,12 @@ ghost use Rattle.c11_macros.specs.Trace.{Agree, ExpandsBy, Same, trace};
 pub fn expansion_has_one_answer<P>()
     ensures { (provenance : Provenance P) (macros : Macros) (ts : List (Hidden P)) (r s : Result (List (Hidden P)) (Failure P))
         (d : Expands provenance macros ts r) (e : Expands provenance macros ts s) → Same r s (trace d) (trace e) }
+{}
+
+/// The name that stands first in a list has one footprint, by whatever derivation it expands.
+pub fn name_has_one_footprint<P>()
+    ensures { (provenance : Provenance P) (macros : Macros) (t : Hidden P) (rest : List (Hidden P)) (r s : Result (List (Hidden P)) (Failure P))
+        (d : Expands provenance macros (t ∷ rest) r) (e : Expands provenance macros (t ∷ rest) s) → footprint d ≡ footprint e }
 {}
 
 /// Tables that define the names alike that an expansion looked up give it the same answer, by the same trace.

@@ -5,4 +5,5 @@ mod laws;
 
 pub use laws::{
     expansion_depends_on_the_names_looked_up, expansion_has_an_answer, expansion_has_one_answer,
+    name_has_one_footprint,
 };

@@ -13,6 +13,7 @@ pub mod PlainTurns
 pub mod PlainCases
 pub mod PlainNames
 pub mod PlainAgreement
+pub mod PlainFootprint
 pub mod Parting
 pub mod WorkListLemmas
 pub mod SeenLemmas

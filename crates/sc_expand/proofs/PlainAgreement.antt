@@ -5,7 +5,7 @@ use Rattle.c11_macros.specs.Expansion as expansion
 use Rattle.c11_macros.specs.Expansion.{Expands, IsWithin, case_of, defined_case, is_looked_up, looked_up_case}
 use Rattle.c11_macros.specs.Hidden.{Failure, Hidden, Provenance}
 use Rattle.c11_macros.specs.Macros.{Macros}
-use Rattle.c11_macros.specs.Trace.{Agree, taking, trace, trace_each, trace_rescan}
+use Rattle.c11_macros.specs.Trace.{Agree, looked_up_at, trace, trace_each, trace_rescan}
 use Rattle.sc_expand.proofs.PlainCompletes.{Completes, ends, looked, refuses, resumes, scanned}
 use Rattle.sc_expand.proofs.PlainMoves.{move-back}
 use Rattle.sc_expand.proofs.PlainNames.{Covers, covers-front, covers-same, covers-then}
@@ -14,13 +14,13 @@ use Rattle.sc_expand.specs.Plain as plain
 use Rattle.sc_expand.specs.Plain.{Fails, Leads, Moves, State, Waiting, expanding, no_step, scanning, step, waiting, with_expanded}
 
 -- the name of the first token is looked up, where it is one that is not hidden
-head-taken : {P : Type 0} {provenance : Provenance P} {macros : Macros} {t : Hidden P} {rest : List (Hidden P)} {r : Result (List (Hidden P)) (Failure P)} (d : Expands provenance macros (t ∷ rest) r) → Covers (trace d).looked_up (taking t).looked_up
-head-taken {t = t} (expansion.stay is d) = covers-front (taking t).looked_up (trace d).looked_up
-head-taken {t = t} (expansion.object e is g) = covers-front (taking t).looked_up (trace_rescan g).looked_up
-head-taken (expansion.unterminated is) = covers-same refl
-head-taken (expansion.miscounted is) = covers-same refl
+head-taken : {P : Type 0} {provenance : Provenance P} {macros : Macros} {t : Hidden P} {rest : List (Hidden P)} {r : Result (List (Hidden P)) (Failure P)} (d : Expands provenance macros (t ∷ rest) r) → Covers (trace d).looked_up (looked_up_at t)
+head-taken {t = t} (expansion.stay is d) = covers-front (looked_up_at t) (trace d).looked_up
+head-taken {t = t} (expansion.object e is g) = covers-front (looked_up_at t) (trace_rescan g).looked_up
+head-taken {t = t} (expansion.unterminated is) = covers-front (looked_up_at t) []
+head-taken {t = t} (expansion.miscounted is) = covers-front (looked_up_at t) []
 head-taken {t = t} (expansion.call e arguments close after results is each g) =
-    covers-then (covers-front ((taking t).looked_up ++ []) ((trace_each each).looked_up ++ (trace_rescan g).looked_up)) (covers-front (taking t).looked_up [])
+    covers-then (covers-front (looked_up_at t ++ []) ((trace_each each).looked_up ++ (trace_rescan g).looked_up)) (covers-front (looked_up_at t) [])
 
 module _ {P : Type 0} (provenance : Provenance P) (macros other : Macros) (names : List (List ℕ)) (within : IsWithin names macros) where
   -- the tables agree on all names that the state still looks up
@@ -51,7 +51,7 @@ module _ {P : Type 0} (provenance : Provenance P) (macros other : Macros) (names
   agrees-under [] s agrees = agrees
   agrees-under (p ∷ ps) s agrees = agrees-under ps s (agrees-inside p.out p.work p.call p.parameter (under ps s) agrees)
 
-  agrees-head : (out rest : List (Hidden P)) (t : Hidden P) → AgreesFrom (scanning out (t ∷ rest)) → Agree macros other (taking t).looked_up
+  agrees-head : (out rest : List (Hidden P)) (t : Hidden P) → AgreesFrom (scanning out (t ∷ rest)) → Agree macros other (looked_up_at t)
   agrees-head out rest t agrees =
       let e = ends provenance macros names within (scanning out (t ∷ rest)) in
       let s = scanned e.1 in

@@ -6,12 +6,13 @@ use Rattle.std.proofs.lemmas.List.Sums.{sum_by-cons, sum_by-set}
 use Rattle.std.proofs.Math.ListN.{get_or-map}
 use Rattle.c11_macros.proofs.OneAnswer.{one}
 use Rattle.c11_macros.specs.Expansion.{Each, Expands, Rescans, expanded, none, passed, refused}
+use Rattle.c11_macros.specs.Footprint.{Footprint, footprint_from, with_names}
 use Rattle.c11_macros.specs.Hidden.{Failure, Hidden, HideSet, Provenance}
 use Rattle.c11_macros.specs.Macros.{Macros}
 use Rattle.c11_macros.specs.Substitution.{Slot, argument, expansion_of}
 use Rattle.c11_macros.specs.Trace.{trace, trace_each, trace_rescan}
-use Rattle.sc_expand.proofs.PlainCompletes.{Completes, Waits, after_these, looked, refuses, resumes, scanned, steps, waits, waits_for, waits_none}
-use Rattle.sc_expand.proofs.PlainNames.{Covers, covers-back, covers-both, covers-front, covers-same, covers-then}
+use Rattle.sc_expand.proofs.PlainCompletes.{Completes, Waits, after_these, looked, refuses, resumes, scanned, steps, using, waits, waits_for, waits_none}
+use Rattle.sc_expand.proofs.PlainNames.{Covers, IsRestOf, rest-behind, covers-back, covers-both, covers-front, covers-same, covers-then}
 use Rattle.sc_subst.specs.Halves.{completed, unless_failed, expansions, failure_or, first_failure, list_or_empty}
 use Rattle.sc_expand.proofs.PlainWanted.{AreApart, among-first, among-later, is_among, not-among}
 use Rattle.sc_expand.specs.Plain.{Waiting, expanding, replacement_of, scanning, waiting}
@@ -87,14 +88,20 @@ module _ {P : Type 0} (provenance : Provenance P) (macros : Macros) where
     at = λ m is. subst (λ cost. Known (argument arguments m) (expansion_of results m) cost all) (sym (get_or-set_other cs n m 0 0 (λ same. true≢false (sym is ∙ (ap (is_among ps) same ∙ out))))) (known.at m (among-later m n ps is));
   }
 
+  -- names of an argument, and what is used behind it
+  told-rest : (all looks : List (List ℕ)) (whole part : Footprint) → Covers all looks → IsRestOf (with_names all whole) part → IsRestOf (with_names all whole) (with_names looks part)
+  told-rest all looks whole part told rest = record { left = rest.left; fails = rest.fails; covers = covers-both (covers-then (covers-front all whole.looked_up) told) rest.covers }
+
   -- A call's replacement is scanned with the rest, in so many steps after those of its arguments. All
-  -- names that are looked up are those of the arguments and of this scan.
-  pub record Supplied (out work : List (Hidden P)) (made r : Answer) (count cost : ℕ) (all names : List (List ℕ)) : Type 0 where
+  -- names that are looked up are those of the arguments and of this scan. So it is where only so many
+  -- tokens of the rest are left.
+  pub record Supplied (out work : List (Hidden P)) (made r : Answer) (count cost : ℕ) (all names : List (List ℕ)) (uses : ℕ → Footprint) : Type 0 where
     pub answer : Answer
     pub rescans : Rescans provenance macros made work answer
     pub is : r ≡ after_these out answer
     pub few : count ≤ 1 + 2 * (cost + (trace_rescan rescans).steps)
     pub covers : Covers (all ++ (trace_rescan rescans).looked_up) names
+    pub rests : (left : ℕ) → IsRestOf (with_names all (footprint_from left (trace_rescan rescans).uses)) (uses left)
 
   module _ (t : Hidden P) (names : HideSet) (template : Result (List (Slot P)) (Failure P)) (arguments : List (List (Hidden P)))
       (results : List Answer) (out work : List (Hidden P)) (all : List (List ℕ)) where
@@ -116,13 +123,13 @@ module _ {P : Type 0} (provenance : Provenance P) (macros : Macros) where
             (get_or-set_same xs n list [] (omega (arith, filled.0)) ∙ sym (argument-expansions results n ∙ ap list_or_empty is))
         by m not false there = get_or-set_other xs n m list [] (eqb-false m n there) ∙ filled.1 m (not-among m n ps (eqb-false m n there) not)
 
-    abbrev Replaced : List ℕ → Answer → ℕ → ℕ → List (List ℕ) → Type 0
-    Replaced ps r count cost looks = Supplied out work (completed provenance t names ps results template) r count cost all looks
+    abbrev Replaced : List ℕ → Answer → ℕ → ℕ → List (List ℕ) → (ℕ → Footprint) → Type 0
+    Replaced ps r count cost looks uses = Supplied out work (completed provenance t names ps results template) r count cost all looks uses
 
     -- one argument, and then the others
     argued : (n : ℕ) (ps : List ℕ) (xs : List (List (Hidden P))) (cs : List ℕ) (r : Answer) → n < length cs → Known (argument arguments n) (expansion_of results n) (get_or cs n 0) all
-        → ((list : List (Hidden P)) → expansion_of results n ≡ Ok list → (c : Completes provenance macros (waiting out work (call_with ps (set xs n list))) r) → Replaced ps r (steps c) (sum (set cs n 0)) (looked c))
-        → (c : Completes provenance macros (expanding out work (call_with ps xs) n (scanning [] (argument arguments n))) r) → Replaced (n ∷ ps) r (1 + steps c) (sum cs) (looked c)
+        → ((list : List (Hidden P)) → expansion_of results n ≡ Ok list → (c : Completes provenance macros (waiting out work (call_with ps (set xs n list))) r) → Replaced ps r (steps c) (sum (set cs n 0)) (looked c) (using c))
+        → (c : Completes provenance macros (expanding out work (call_with ps xs) n (scanning [] (argument arguments n))) r) → Replaced (n ∷ ps) r (1 + steps c) (sum cs) (looked c) (using c)
     argued n ps xs cs r below known later (resumes o k w m s list q c d) =
         let first = scanned c in
         let same = one known.expands first.answer first.expands in
@@ -131,8 +138,8 @@ module _ {P : Type 0} (provenance : Provenance P) (macros : Macros) where
         let more = later list is d in
         let whole : completed provenance t names (n ∷ ps) results template ≡ completed provenance t names ps results template =
         ap (λ e. unless_failed (failure_or e (first_failure ps results)) (replacement_of provenance (call_with [] (expansions results)))) is in
-        subst (λ made. Supplied out work made r (1 + (1 + (steps c + steps d))) (sum cs) all (looked c ++ looked d)) (sym whole)
-        (record { answer = more.answer; rescans = more.rescans; is = more.is; covers = covers-both (covers-then (covers-front all (trace_rescan more.rescans).looked_up) told) more.covers; few = omega (arith, first.counted, ap (λ x. x.steps) same.trace, known.is, more.few, sum_by-set (λ k. k) cs n 0 0 below) })
+        subst (λ made. Supplied out work made r (1 + (1 + (steps c + steps d))) (sum cs) all (looked c ++ looked d) (λ left. with_names (looked c) (using d left))) (sym whole)
+        (record { answer = more.answer; rescans = more.rescans; is = more.is; covers = covers-both (covers-then (covers-front all (trace_rescan more.rescans).looked_up) told) more.covers; rests = λ left. told-rest all (looked c) (footprint_from left (trace_rescan more.rescans).uses) (using d left) told (more.rests left); few = omega (arith, first.counted, ap (λ x. x.steps) same.trace, known.is, more.few, sum_by-set (λ k. k) cs n 0 0 below) })
     argued n ps xs cs r below known later (refuses o k w m s failure c) =
         let first = scanned c in
         let same = one known.expands first.answer first.expands in
@@ -140,26 +147,27 @@ module _ {P : Type 0} (provenance : Provenance P) (macros : Macros) where
         let is : expansion_of results n ≡ Err failure = same.answer ∙ sym (first.is ∙ after-none first.answer) in
         let whole : completed provenance t names (n ∷ ps) results template ≡ Err failure =
         ap (λ e. unless_failed (failure_or e (first_failure ps results)) (replacement_of provenance (call_with [] (expansions results)))) is in
-        subst (λ made. Supplied out work made (Err failure) (1 + (1 + steps c)) (sum cs) all (looked c)) (sym whole)
-        (record { answer = Err failure; rescans = refused failure; is = refl; covers = covers-then (covers-front all []) told; few = omega (arith, first.counted, ap (λ x. x.steps) same.trace, known.is, sum_by-set (λ k. k) cs n 0 0 below) })
+        subst (λ made. Supplied out work made (Err failure) (1 + (1 + steps c)) (sum cs) all (looked c) (λ left. record { left = left; looked_up = looked c; fails = true })) (sym whole)
+        (record { answer = Err failure; rescans = refused failure; is = refl; covers = covers-then (covers-front all []) told; rests = λ left. record { left = refl; fails = refl; covers = covers-then (covers-front all []) told }; few = omega (arith, first.counted, ap (λ x. x.steps) same.trace, known.is, sum_by-set (λ k. k) cs n 0 0 below) })
 
-    all-supplied : (xs : List (List (Hidden P))) (cs : List ℕ) (r : Answer) (count : ℕ) (looks : List (List ℕ)) → xs ≡ expansions results → Waits provenance macros out work (call_with [] xs) [] r count looks → Replaced [] r count (sum cs) looks
-    all-supplied xs cs r count looks same (waits_none a g) =
-        subst (λ l. Supplied out work (replacement_of provenance (call_with [] l)) (after_these out a) (1 + 2 * (trace_rescan g).steps) (sum cs) all (trace_rescan g).looked_up) same
-        (record { answer = a; rescans = g; is = refl; few = omega arith; covers = covers-back all (trace_rescan g).looked_up })
+    all-supplied : (xs : List (List (Hidden P))) (cs : List ℕ) (r : Answer) (count : ℕ) (looks : List (List ℕ)) (uses : ℕ → Footprint) → xs ≡ expansions results
+        → Waits provenance macros out work (call_with [] xs) [] r count looks uses → Replaced [] r count (sum cs) looks uses
+    all-supplied xs cs r count looks uses same (waits_none a g) =
+        subst (λ l. Supplied out work (replacement_of provenance (call_with [] l)) (after_these out a) (1 + 2 * (trace_rescan g).steps) (sum cs) all (trace_rescan g).looked_up (λ left. footprint_from left (trace_rescan g).uses)) same
+        (record { answer = a; rescans = g; is = refl; few = omega arith; covers = covers-back all (trace_rescan g).looked_up; rests = λ left. rest-behind all (footprint_from left (trace_rescan g).uses) })
 
-    one-supplied : (n : ℕ) (ps : List ℕ) (xs : List (List (Hidden P))) (cs : List ℕ) (r : Answer) (count : ℕ) (looks : List (List ℕ))
-        → ((c : Completes provenance macros (expanding out work (call_with ps xs) n (scanning [] (argument arguments n))) r) → Replaced (n ∷ ps) r (1 + steps c) (sum cs) (looked c))
-        → Waits provenance macros out work (call_with (n ∷ ps) xs) ((n, argument arguments n) ∷ map (λ n. (n, argument arguments n)) ps) r count looks → Replaced (n ∷ ps) r count (sum cs) looks
-    one-supplied n ps xs cs r count looks by (waits_for first others q c) = by c
+    one-supplied : (n : ℕ) (ps : List ℕ) (xs : List (List (Hidden P))) (cs : List ℕ) (r : Answer) (count : ℕ) (looks : List (List ℕ)) (uses : ℕ → Footprint)
+        → ((c : Completes provenance macros (expanding out work (call_with ps xs) n (scanning [] (argument arguments n))) r) → Replaced (n ∷ ps) r (1 + steps c) (sum cs) (looked c) (using c))
+        → Waits provenance macros out work (call_with (n ∷ ps) xs) ((n, argument arguments n) ∷ map (λ n. (n, argument arguments n)) ps) r count looks uses → Replaced (n ∷ ps) r count (sum cs) looks uses
+    one-supplied n ps xs cs r count looks uses by (waits_for first others q c) = by c
 
     pub supplied : (ps : List ℕ) (xs : List (List (Hidden P))) (cs : List ℕ) (r : Answer) → AreApart ps → length cs ≡ length results
-        → AreKnown arguments results ps cs all → IsFilled ps xs → (c : Completes provenance macros (waiting out work (call_with ps xs)) r) → Replaced ps r (steps c) (sum cs) (looked c)
+        → AreKnown arguments results ps cs all → IsFilled ps xs → (c : Completes provenance macros (waiting out work (call_with ps xs)) r) → Replaced ps r (steps c) (sum cs) (looked c) (using c)
     supplied [] xs cs r once long known filled c =
-        all-supplied xs cs r (steps c) (looked c) (ext_get_or [] xs (expansions results) (filled.0 ∙ sym (length-map results list_or_empty)) (λ i below. filled.1 i refl)) (waits c)
+        all-supplied xs cs r (steps c) (looked c) (using c) (ext_get_or [] xs (expansions results) (filled.0 ∙ sym (length-map results list_or_empty)) (λ i below. filled.1 i refl)) (waits c)
     supplied (n ∷ ps) xs cs r once long known filled c =
         let here : is_among (n ∷ ps) n ≡ true = among-first n n ps refl in
-        one-supplied n ps xs cs r (steps c) (looked c)
+        one-supplied n ps xs cs r (steps c) (looked c) (using c)
         (argued n ps xs cs r (known.below n here) (known.at n here)
         (λ list is d. supplied ps (set xs n list) (set cs n 0) r once.1 (length-set cs n 0 ∙ long) (known-later arguments results n ps cs all once.0 known)
         (filled-later n ps xs list (omega (arith, known.below n here, long)) is filled) d))

@@ -10,7 +10,7 @@ use Rattle.c11_macros.specs.Macros.{Definition, Form, Item, Macros, function_lik
 use Rattle.c11_macros.specs.Results.{result_and_then, result_map}
 use Rattle.c11_macros.specs.Substitution as substitution
 use Rattle.c11_macros.specs.Substitution.{Part, Piece, Slot, all_glued, argument, argument_pieces, begins_paste, expansion_of, filled, filled_by, for_parameter, for_paste, glued, hidden_by, hiding, is_text_kind, joined, literal_of, neither, operator, or_placemarker, parts, pasted_as, piece, pieces_of, placemarker, quoted_spelling, slot_of, slots, spellings, spellings_after, stringized, substituted, tokens_of, wants, with_space}
-use Rattle.c11_macros.specs.Trace.{taking, trace, trace_each, trace_rescan}
+use Rattle.c11_macros.specs.Trace.{looked_up_at, trace, trace_each, trace_rescan}
 use Rattle.c11_tokens.specs.Relex.{relexed}
 use Rattle.sc_expand.specs.Moved.{IsKept, moved, moved_answer, moved_failure}
 use Rattle.sc_model.specs.declared.cause.Cause.TheVariants.{BadStringize}
@@ -374,11 +374,11 @@ module _ {P Q : Type 0} (f : P → Q) where
         expands-moved empty = record { by = empty; named = refl }
         expands-moved (stay {t} {rest} {r} is d) =
             let e = expands-moved d in
-            subst (λ a. ExpandsBy (moved f t ∷ all rest) a ((taking t).looked_up ++ (trace d).looked_up)) (with_first-moved t r)
-            (record { by = stay (case_of-moved macros t rest ∙ ap moved_case is) e.by; named = ap (λ names. (taking t).looked_up ++ names) e.named })
+            subst (λ a. ExpandsBy (moved f t ∷ all rest) a (looked_up_at t ++ (trace d).looked_up)) (with_first-moved t r)
+            (record { by = stay (case_of-moved macros t rest ∙ ap moved_case is) e.by; named = ap (λ names. looked_up_at t ++ names) e.named })
         expands-moved (object {t} {rest} {r} d is g) =
             let h = subst (λ made. RescansBy made (all rest) (moved_answer f r) (trace_rescan g).looked_up) (sym (object_result-moved d t)) (rescans-moved g) in
-            record { by = object d (case_of-moved macros t rest ∙ ap moved_case is) h.by; named = ap (λ names. (taking t).looked_up ++ names) h.named }
+            record { by = object d (case_of-moved macros t rest ∙ ap moved_case is) h.by; named = ap (λ names. looked_up_at t ++ names) h.named }
         expands-moved (unterminated {t} {rest} is) = record { by = unterminated (case_of-moved macros t rest ∙ ap moved_case is); named = refl }
         expands-moved (miscounted {t} {rest} is) = record { by = miscounted (case_of-moved macros t rest ∙ ap moved_case is); named = refl }
         expands-moved (call {t} {rest} {r} d arguments close after results is each g) =
@@ -386,7 +386,7 @@ module _ {P Q : Type 0} (f : P → Q) where
             let h = subst (λ made. RescansBy made (all after) (moved_answer f r) (trace_rescan g).looked_up) (sym (call_result-moved d t arguments close results)) (rescans-moved g) in
             record {
               by = call d (map all arguments) (moved f close) (all after) (map (moved_answer f) results) (case_of-moved macros t rest ∙ ap moved_case is) every.by h.by;
-              named = λ i. ((taking t).looked_up ++ []) ++ (every.named i ++ h.named i);
+              named = λ i. (looked_up_at t ++ []) ++ (every.named i ++ h.named i);
             }
 
         each-moved : {asks : List (Option (List (Hidden P)))} {rs : List (Result (List (Hidden P)) (Failure P))} (each : Each one macros asks rs) → EachBy (map (option_map all) asks) (map (moved_answer f) rs) (trace_each each).looked_up

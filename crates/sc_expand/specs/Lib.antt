@@ -17,3 +17,4 @@ pub mod Moved
 pub mod OneLine
 pub mod Unchanged
 pub mod Alike
+pub mod FootprintSteps

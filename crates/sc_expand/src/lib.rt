@@ -22,4 +22,5 @@ pub use expanding::expand;
 pub use laws::{
     expansion_commutes_with_maps_of_places, expansion_stays_on_one_line,
     steps_depend_on_the_names_looked_up, steps_end, steps_give_the_expansion,
+    steps_take_the_footprint,
 };
