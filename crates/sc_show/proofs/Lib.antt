@@ -2,7 +2,6 @@ pub mod ConflictLines
 pub mod LinesChoices
 pub mod MergeFaults
 pub mod MergeOrdering
-pub mod OneIntroduction
 pub mod OneShownTree
 pub mod OneTreeText
 pub mod Pieces

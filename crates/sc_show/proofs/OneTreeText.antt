@@ -15,10 +15,9 @@ use Rattle.sc_text.specs.Text.{Condition, TextLine, fault_line, end_line, Printe
 use Rattle.sc_text.proofs.LayoutReading.{faults_read, Holds}
 use Rattle.sc_text.proofs.ListLemmas.{All-front, All-back, AllZip-append}
 use Rattle.sc_text.proofs.OneAnswer.{IsSamePair, pairs_from_projections}
-use Rattle.sc_text.proofs.OneLayout.{Fits, AgreeBelow, IsSameFile, IsSameNeed, IsKnown-Introduces}
+use Rattle.sc_text.proofs.OneLayout.{Fits, AgreeBelow, IsSameFile, IsSameNeed, IsKnown-Introduces, one_introduction}
 use Rattle.sc_show.specs.TreeLayout.{part_number, tree_needs, LaysOutTree, done, shows, IsTreeTextOf, IsSameBranch, IsSamePart, IsSameTreeAnswer}
 use Rattle.sc_show.specs.TreeText.{Part, leaf_part, node_part, choice_part, TreeAnswer, TreeLine, common_line, leaf_line, node_line, choice_line, root_line, tree_line_text, common_lines, part_of}
-use Rattle.sc_show.proofs.OneIntroduction.{one_introduction}
 use Rattle.sc_show.proofs.TreeResults.{text_read, text_faults, text_faults_hold, text_faults_shown}
 use Rattle.sc_show.proofs.TreeLines.{common_lines-append, common_lines-map}
 use Rattle.sc_show.proofs.TreeReading.{body_read}

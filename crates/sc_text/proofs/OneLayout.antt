@@ -72,11 +72,11 @@ known-Gives (file_numbered u) (next_file n name) below = elim (cases_lt u n.file
 
 -- ---- the same lines, with the same numbers
 
-record AreOneIntroduction (space : Space) (conditions others : List Condition) (files names : List (List ℕ)) (us vs : List Need) (xs ys : List TextLine) (m k : Counts) : Type 0 where
-  needed : us ≡ vs
-  lines : xs ≡ ys
-  counts : m ≡ k
-  agree : AgreeBelow space conditions others files names m
+pub record AreOneIntroduction (space : Space) (conditions others : List Condition) (files names : List (List ℕ)) (us vs : List Need) (xs ys : List TextLine) (m k : Counts) : Type 0 where
+  pub needed : us ≡ vs
+  pub lines : xs ≡ ys
+  pub counts : m ≡ k
+  pub agree : AgreeBelow space conditions others files names m
 
 module _ (space : Space) (conditions others : List Condition) (files names : List (List ℕ)) (canonical : IsCanonical (sets_of space conditions)) (canonical_too : IsCanonical (sets_of space others)) (one : IsOneToOne files) (one_too : IsOneToOne names) where
   abbrev Same : Need → Need → Type 0
@@ -136,7 +136,7 @@ module _ (space : Space) (conditions others : List Condition) (files names : Lis
   same_given (next_condition n variable options) (next_file l label) positive positive_too fits fits_too same = absurd same
   same_given (next_file n name) (next_condition l variable options) positive positive_too fits fits_too same = absurd same
 
-  one_introduction : {n l m k : Counts} {us vs : List Need} {xs ys : List TextLine} → Introduces n us xs m → Introduces l vs ys k → n ≡ l → AgreeBelow space conditions others files names n
+  pub one_introduction : {n l m k : Counts} {us vs : List Need} {xs ys : List TextLine} → Introduces n us xs m → Introduces l vs ys k → n ≡ l → AgreeBelow space conditions others files names n
       → AllZip Same us vs → All (Fits space conditions files) xs → All (Fits space others names) ys → AreOneIntroduction space conditions others files names us vs xs ys m k
   one_introduction (nothing n) (nothing l) start agree same fits fits_too = record { needed = refl; lines = refl; counts = start; agree = agree }
   one_introduction (nothing n) (known l k v vs ys stands rest) start agree same fits fits_too = absurd same
