@@ -1,10 +1,11 @@
 -- Configurations that have the same of a call have the same of what replaces it, and of its
 -- argument as it is entered and left.
-use Rattle.std.proofs.Common.{◌≡◌, ℕ, ◌&&◌, ◌++◌, ◌∷◌, [], List, All, Some, map, refl, sym, ap, subst, ◌∙◌, if◌then◌else◌}
-use Rattle.std.proofs.lemmas.List.Elements.{All-append, All-cons, All-head, All-map, All-nil, All-pop, All-push, All-set, All-tail}
+use Rattle.std.proofs.Common.{◌≡◌, ℕ, suc, ◌-◌, ◌&&◌, ◌++◌, ◌∷◌, [], List, All, Some, drop, length, length-append, map, slice_get, take, inl, inr, refl, sym, ap, subst, arith, ◌∙◌, if◌then◌else◌}
+use Rattle.sc_base.proofs.Growth.{push_cases}
+use Rattle.std.proofs.lemmas.List.Elements.{All-append, All-cons, All-head, All-map, All-nil, All-push, All-set, All-tail}
 use Rattle.sc_base.specs.declared.id.Cond.{Cond}
-use Rattle.sc_expand.proofs.AlikeLemmas.{All-both, AreAlike-Keeps, IsAlikeCall-Keeps, alike-of}
-use Rattle.sc_expand.specs.Alike.{AreAlikeRefusals, IsAlikeCall, IsAlikeEnclosing, IsAlikeExpansion}
+use Rattle.sc_expand.proofs.AlikeLemmas.{All-both, AreAlike-Keeps, IsAlikeCall-Keeps, alike-of, enclosing-last, enclosing-others, of-all}
+use Rattle.sc_expand.specs.Alike.{AreAlikeRefusals, IsAlikeCall, IsAlikeEnclosing, IsAlikeExpansion, IsAlikeFrame, Others, no_others, others_at}
 use Rattle.sc_expand.specs.declared.call.Call.{Call}
 use Rattle.sc_expand.specs.declared.call.Wanted.{Wanted}
 use Rattle.sc_expand.specs.declared.expansion.Expansion.{Expansion}
@@ -66,39 +67,53 @@ alike-narrowed {old} {new} keeps {c} {d} p q {files} live call later held meanin
   expanded = subst (λ lists. All (AreAlike new c d) lists.items) (sym expanded) (IsAlikeCall-Keeps {old = old} keeps p q call held alike).expanded;
 }
 
-module _ (s : Sets) (c d : List ℕ) (e after : Expansion) where
+module _ (s : Sets) (c d : List ℕ) (others : Others) (e after : Expansion) where
   -- an argument is entered
   pub alike-enter : (call : Call) (w : Wanted) → after.refusals ≡ e.refusals → after.below.items ≡ e.below.items ++ record { frame = e.top; call = call; parameter = w.parameter } ∷ []
       → after.top.work ≡ map (λ (t : Hidden). (call.cond, t)) w.tokens.items → after.top.out ≡ [] → after.top.calls.items ≡ []
-      → IsAlikeCall s c d call → IsAlikeExpansion s c d e → IsAlikeExpansion s c d after
+      → IsAlikeCall s c d call → IsAlikeExpansion s c d others e → IsAlikeExpansion s c d others after
   alike-enter call w refusals below work out calls call_alike alike =
       let o : Enclosing = record { frame = e.top; call = call; parameter = w.parameter } in
+      let above : length after.below.items ≡ suc (length e.below.items) = ap length below ∙ long o e.below.items in
       record {
-        refusals = subst (AreAlikeRefusals s c d 0) (sym refusals) alike.refusals;
-        top = record {
-          work = subst (AreAlike s c d) (sym work) (All-map (Same {T = Hidden} s c d) (λ (t : Hidden). (call.cond, t)) w.tokens.items (λ k t within. call_alike.cond));
+        refusals = subst (AreAlikeRefusals s c d others.faults) (sym refusals) alike.refusals;
+        top = subst (λ n. IsAlikeFrame s c d (others_at others n) after.top) (sym above) (record {
+          work = of-all s c d after.top.work (subst (AreAlike s c d) (sym work) (All-map (Same {T = Hidden} s c d) (λ (t : Hidden). (call.cond, t)) w.tokens.items (λ k t within. call_alike.cond)));
           out = subst (AreAlike s c d) (sym out) (All-nil (Same {T = Hidden} s c d));
           calls = subst (All (IsAlikeCall s c d)) (sym calls) (All-nil (IsAlikeCall s c d));
-        };
-        below = subst (All (IsAlikeEnclosing s c d)) (sym below) (All-push (IsAlikeEnclosing s c d) e.below.items o alike.below (record { frame = alike.top; call = call_alike }));
+        });
+        below = λ n k is. elim (push_cases e.below.items o n k (sym (ap (λ l. slice_get l n) below) ∙ is)) [
+          | inl before ↦ alike.below n k before
+          | inr last ↦
+              subst (λ (x : Enclosing). IsAlikeEnclosing s c d (others_at others n) x) last.1
+              (subst (λ m. IsAlikeEnclosing s c d (others_at others m) o) (sym last.0) (record { frame = alike.top; call = call_alike }))
+        ];
       }
+    where
+      long : (o : Enclosing) (below : List Enclosing) → length (below ++ o ∷ []) ≡ suc (length below)
+      long o below = omega (arith, length-append below (o ∷ []))
 
   -- an argument is left, and its call waits again
   pub alike-leave : (below : List Enclosing) (o : Enclosing) → e.below.items ≡ below ++ o ∷ [] → after.below.items ≡ below → after.refusals ≡ e.refusals
-      → after.top.work ≡ o.frame.work → after.top.out ≡ o.frame.out → IsResumed o e.top.out after.top.calls.items → IsAlikeExpansion s c d e → IsAlikeExpansion s c d after
+      → after.top.work ≡ o.frame.work → after.top.out ≡ o.frame.out → IsResumed o e.top.out after.top.calls.items → IsAlikeExpansion s c d others e → IsAlikeExpansion s c d others after
   alike-leave below o were are refusals work out resumed alike =
-      let popped = All-pop (IsAlikeEnclosing s c d) e.below.items below (Some o) were alike.below in
-      let enclosing : IsAlikeEnclosing s c d o = popped.1 in
+      let enclosing = enclosing-last {others = others} e below o were alike in
+      let above : length e.below.items ≡ suc (length below) = ap length were ∙ long o below in
+      let top : IsAlikeFrame s c d no_others e.top = subst (λ n. IsAlikeFrame s c d (others_at others n) e.top) above alike.top in
       let call : IsAlikeCall s c d resumed.call = record {
         cond = subst (λ (k : Cond). IsAlike s c d k) (sym resumed.cond) enclosing.call.cond;
-        expanded = subst (All (AreAlike s c d)) (sym resumed.expanded) (All-set (AreAlike s c d) o.call.expanded.items o.parameter e.top.out alike.top.out enclosing.call.expanded);
+        expanded = subst (All (AreAlike s c d)) (sym resumed.expanded) (All-set (AreAlike s c d) o.call.expanded.items o.parameter e.top.out top.out enclosing.call.expanded);
       } in
+      let here = others_at others (length below) in
       record {
-        refusals = subst (AreAlikeRefusals s c d 0) (sym refusals) alike.refusals;
-        top = record {
-          work = subst (AreAlike s c d) (sym work) enclosing.frame.work;
-          out = subst (AreAlike s c d) (sym out) enclosing.frame.out;
+        refusals = subst (AreAlikeRefusals s c d others.faults) (sym refusals) alike.refusals;
+        top = subst (λ (l : List Enclosing). IsAlikeFrame s c d (others_at others (length l)) after.top) (sym are) (record {
+          work = subst (λ l. AreAlike s c d (take (length l - here.behind) l)) (sym work) enclosing.frame.work;
+          out = subst (λ l. AreAlike s c d (drop here.out l)) (sym out) enclosing.frame.out;
           calls = subst (All (IsAlikeCall s c d)) (sym resumed.is) (All-push (IsAlikeCall s c d) o.frame.calls.items resumed.call enclosing.frame.calls call);
-        };
-        below = subst (All (IsAlikeEnclosing s c d)) (sym are) popped.0;
+        });
+        below = subst (λ l. (n : ℕ) (k : Enclosing) → slice_get l n ≡ Some k → IsAlikeEnclosing s c d (others_at others n) k) (sym are) (enclosing-others {others = others} e below o were alike);
       }
+    where
+      long : (o : Enclosing) (below : List Enclosing) → length (below ++ o ∷ []) ≡ suc (length below)
+      long o below = omega (arith, length-append below (o ∷ []))

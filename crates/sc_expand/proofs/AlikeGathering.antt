@@ -21,7 +21,7 @@ use Rattle.sc_expand.specs.Seen.{AreHeld, Grows, Stores, seen_at, stores}
 use Rattle.sc_base.specs.declared.place.Place.{Place}
 use Rattle.sc_guarded.specs.Items.{items_at}
 use Rattle.sc_hoist.specs.Alike.{AreAlike, IsAlike}
-use Rattle.sc_hoist.specs.Calls.{call_end, call_length, spelled_at}
+use Rattle.sc_hoist.specs.Calls.{call_end, call_end_at, call_length, call_places, spelled_at}
 use Rattle.sc_hoist.specs.Places.{places_from}
 use Rattle.sc_model.specs.Sets.{IsCond, IsConfig, Keeps, Sets}
 use Rattle.sc_subst.proofs.Later.{text_later}
@@ -105,21 +105,29 @@ same-call {s} {names} {c} {d} list alike =
     let from = conds-behind s s c d list list each in
     record { ends = ap call_end spelled; places = λ i. 0 ∷ take (call_length (spelled i)) (from i) }
 
--- The call stays while the stores grow and the list changes at other configurations.
+-- The call of a configuration stays while the stores grow and the list changes at others.
+module _ {old new : Stores} {files : ℕ} (before after : List (Cond × Hidden)) (grows : Grows old new) (held : AreHeld old files before)
+    (tokens : map (λ (item : Cond × Hidden). item.1) after ≡ map (λ (item : Cond × Hidden). item.1) before) where
+  spelled-later : (c : List ℕ) → has_each new.sets after c ≡ has_each old.sets before c → spelled_at new.sets new.names (drop 1 (tokens_in after)) c ≡ spelled_at old.sets old.names (drop 1 (tokens_in before)) c
+  spelled-later c each = spelled-behind-each new.sets old.sets c c old.names new.names after before tokens (λ k x h. text_later _ (held.held k x h).held.token.spelling grows.names) each
+
+  pub each-end : (c : List ℕ) → has_each new.sets after c ≡ has_each old.sets before c → call_end_at new.sets new.names (tokens_in after) 0 c ≡ call_end_at old.sets old.names (tokens_in before) 0 c
+  each-end c each = ap call_end (spelled-later c each)
+
+  pub each-places : (c : List ℕ) → has_each new.sets after c ≡ has_each old.sets before c → call_places new.sets new.names (tokens_in after) 0 c ≡ call_places old.sets old.names (tokens_in before) 0 c
+  each-places c each =
+      let spelled = spelled-later c each in
+      let places = conds-behind new.sets old.sets c c after before each in
+      λ i. 0 ∷ take (call_length (spelled i)) (places i)
+
 pub each-same-call : {old new : Stores} {files : ℕ} {c d : List ℕ} (before after : List (Cond × Hidden)) → Grows old new → AreHeld old files before
     → map (λ (item : Cond × Hidden). item.1) after ≡ map (λ (item : Cond × Hidden). item.1) before
     → has_each new.sets after c ≡ has_each old.sets before c → has_each new.sets after d ≡ has_each old.sets before d
     → IsSameCall old.sets old.names c d before → IsSameCall new.sets new.names c d after
-each-same-call {old} {new} {files} {c} {d} before after grows held tokens at_c at_d same =
-    let texts : All (λ (item : Cond × Hidden). TextOf old.names new.names item.1) before = λ k x h. text_later _ (held.held k x h).held.token.spelling grows.names in
-    let one = spelled-behind-each new.sets old.sets c c old.names new.names after before tokens texts at_c in
-    let two = spelled-behind-each new.sets old.sets d d old.names new.names after before tokens texts at_d in
-    let places_c = conds-behind new.sets old.sets c c after before at_c in
-    let places_d = conds-behind new.sets old.sets d d after before at_d in
-    record {
-      ends = ap call_end one ∙ (same.ends ∙ sym (ap call_end two));
-      places = (λ i. 0 ∷ take (call_length (one i)) (places_c i)) ∙ (same.places ∙ sym (λ i. 0 ∷ take (call_length (two i)) (places_d i)));
-    }
+each-same-call {c = c} {d = d} before after grows held tokens at_c at_d same = record {
+  ends = each-end before after grows held tokens c at_c ∙ (same.ends ∙ sym (each-end before after grows held tokens d at_d));
+  places = each-places before after grows held tokens c at_c ∙ (same.places ∙ sym (each-places before after grows held tokens d at_d));
+}
 
 -- ---- configurations are refused
 

@@ -1,10 +1,12 @@
 -- Configurations that have the same keep it while the store of conditions grows.
-use Rattle.std.proofs.Common.{◌≡◌, ◌≤◌, ◌++◌, ◌∷◌, ℕ, zero, suc, Bool, List, [], All, drop, get_or, length, take, sym, subst, ◌∙◌}
-use Rattle.std.proofs.lemmas.List.{take_all}
-use Rattle.std.proofs.lemmas.List.Elements.{All-drop, All-nil, All-push, All-take}
+use Rattle.std.proofs.Common.{◌≡◌, ◌≤◌, ◌++◌, ◌∷◌, ◌-◌, ℕ, zero, suc, Bool, List, [], All, Some, drop, get_or, length, slice_get, take, inl, inr, refl, sym, ap, subst, arith, ◌∙◌}
+use Rattle.std.proofs.lemmas.Bool.{cases_lt}
+use Rattle.std.proofs.lemmas.List.{take-take, take_all}
+use Rattle.std.proofs.lemmas.List.Elements.{All-cons, All-drop, All-head, All-nil, All-push, All-tail, All-take}
+use Rattle.std.proofs.lemmas.Option.{get_or_from_slice_get, slice_get_within}
 use Rattle.sc_base.specs.declared.fault.Fault.{Fault}
 use Rattle.sc_base.specs.declared.id.Cond.{Cond}
-use Rattle.sc_expand.specs.Alike.{AreAlikeRefusals, IsAlikeCall, IsAlikeEnclosing, IsAlikeExpansion, IsAlikeFrame, IsAlikeIn, Span}
+use Rattle.sc_expand.specs.Alike.{AreAlikeRefusals, IsAlikeCall, IsAlikeEnclosing, IsAlikeExpansion, IsAlikeFrame, IsAlikeIn, Others, Span, no_others, others_at}
 use Rattle.sc_hoist.specs.Alike.{AreAlike, AreAlikeFaults, IsAlike}
 use Rattle.sc_expand.specs.declared.call.Call.{Call}
 use Rattle.sc_expand.specs.declared.expansion.Expansion.{Expansion}
@@ -13,12 +15,17 @@ use Rattle.sc_expand.specs.declared.frame.Frame.{Frame}
 use Rattle.sc_expand.specs.declared.refusals.Refusals.{Refusals}
 use Rattle.sc_expand.specs.Machine.{IsHeldExpansion}
 use Rattle.sc_expand.specs.Seen.{AreHeld, IsHeldCall, IsHeldEnclosing, IsHeldFrame, IsHeldRefusals, Stores}
+use Rattle.sc_model.proofs.ListLemmas.{slice_get-front, slice_get-seam}
 use Rattle.sc_model.specs.Sets.{Denotes, IsCond, IsConfig, Keeps, Sets}
 use Rattle.sc_subst.specs.declared.hidden.Hidden.{Hidden}
 
 -- what holds where both others do
 pub All-both : {A : Type 0} (P Q R : A → Type 0) → ((x : A) → P x → Q x → R x) → (xs : List A) → All P xs → All Q xs → All R xs
 All-both P Q R both xs p q = λ k d below. both (get_or xs k d) (p k d below) (q k d below)
+
+-- what holds of all holds of the one that stands there
+pub All-at : {A : Type 0} (P : A → Type 0) (xs : List A) (i : ℕ) (x : A) → slice_get xs i ≡ Some x → All P xs → P x
+All-at P xs i x is all = subst P (get_or_from_slice_get xs i x x is) (all i x (slice_get_within xs i x is))
 
 -- ---- a condition that is made of others
 
@@ -50,21 +57,24 @@ module _ {old : Stores} {new : Sets} (keeps : Keeps old.sets new) {c d : List �
     expanded = All-both (AreHeld old files) (AreAlike old.sets c d) (AreAlike new c d) (λ list made same. AreAlike-Keeps keeps p q list made.own same) call.expanded.items held.expanded alike.expanded;
   }
 
-  pub IsAlikeFrame-Keeps : (frame : Frame) → IsHeldFrame old files frame → IsAlikeFrame old.sets c d frame → IsAlikeFrame new c d frame
-  IsAlikeFrame-Keeps frame held alike = record {
-    work = AreAlike-Keeps keeps p q frame.work held.work.own alike.work;
-    out = AreAlike-Keeps keeps p q frame.out held.out.own alike.out;
-    calls = All-both (IsHeldCall old files) (IsAlikeCall old.sets c d) (IsAlikeCall new c d) (λ call made same. IsAlikeCall-Keeps call made same) frame.calls.items held.calls alike.calls;
-  }
+  pub IsAlikeFrame-Keeps : (others : Others) (frame : Frame) → IsHeldFrame old files frame → IsAlikeFrame old.sets c d others frame → IsAlikeFrame new c d others frame
+  IsAlikeFrame-Keeps others frame held alike =
+      let Own : Cond × Hidden → Type 0 = λ item. IsCond old.sets item.0.0 in
+      let n = length frame.work - others.behind in
+      record {
+        work = AreAlike-Keeps keeps p q (take n frame.work) (All-take Own n frame.work held.work.own) alike.work;
+        out = AreAlike-Keeps keeps p q (drop others.out frame.out) (All-drop Own others.out frame.out held.out.own) alike.out;
+        calls = All-both (IsHeldCall old files) (IsAlikeCall old.sets c d) (IsAlikeCall new c d) (λ call made same. IsAlikeCall-Keeps call made same) frame.calls.items held.calls alike.calls;
+      }
 
-  pub IsAlikeEnclosing-Keeps : (o : Enclosing) → IsHeldEnclosing old files o → IsAlikeEnclosing old.sets c d o → IsAlikeEnclosing new c d o
-  IsAlikeEnclosing-Keeps o held alike = record { frame = IsAlikeFrame-Keeps o.frame held.frame alike.frame; call = IsAlikeCall-Keeps o.call held.call alike.call }
+  pub IsAlikeEnclosing-Keeps : (others : Others) (o : Enclosing) → IsHeldEnclosing old files o → IsAlikeEnclosing old.sets c d others o → IsAlikeEnclosing new c d others o
+  IsAlikeEnclosing-Keeps others o held alike = record { frame = IsAlikeFrame-Keeps others o.frame held.frame alike.frame; call = IsAlikeCall-Keeps o.call held.call alike.call }
 
-  pub IsAlikeExpansion-Keeps : (e : Expansion) → IsHeldExpansion old files e → IsAlikeExpansion old.sets c d e → IsAlikeExpansion new c d e
-  IsAlikeExpansion-Keeps e held alike = record {
-    refusals = AreAlikeRefusals-Keeps keeps p q 0 e.refusals held.refusals alike.refusals;
-    top = IsAlikeFrame-Keeps e.top held.top alike.top;
-    below = All-both (IsHeldEnclosing old files) (IsAlikeEnclosing old.sets c d) (IsAlikeEnclosing new c d) (λ o made same. IsAlikeEnclosing-Keeps o made same) e.below.items held.below alike.below;
+  pub IsAlikeExpansion-Keeps : (others : Others) (e : Expansion) → IsHeldExpansion old files e → IsAlikeExpansion old.sets c d others e → IsAlikeExpansion new c d others e
+  IsAlikeExpansion-Keeps others e held alike = record {
+    refusals = AreAlikeRefusals-Keeps keeps p q others.faults e.refusals held.refusals alike.refusals;
+    top = IsAlikeFrame-Keeps (others_at others (length e.below.items)) e.top held.top alike.top;
+    below = λ n o is. IsAlikeEnclosing-Keeps (others_at others n) o (All-at (IsHeldEnclosing old files) e.below.items n o is held.below) (alike.below n o is);
   }
 
   pub IsAlikeIn-Keeps : (span : Span) (e : Expansion) → IsHeldExpansion old files e → IsAlikeIn old.sets c d span e → IsAlikeIn new c d span e
@@ -75,29 +85,52 @@ module _ {old : Stores} {new : Sets} (keeps : Keeps old.sets new) {c d : List �
     calls = All-both (IsHeldCall old files) (IsAlikeCall old.sets c d) (IsAlikeCall new c d) (λ call made same. IsAlikeCall-Keeps call made same) e.top.calls.items held.top.calls alike.calls;
   }
 
--- ---- the whole of a list is its longest span
+-- ---- all that is looked at is the longest span
 
-pub in-whole : {s : Sets} {c d : List ℕ} (span : Span) (e : Expansion) → IsAlikeExpansion s c d e → IsAlikeIn s c d span e
-in-whole {s} {c} {d} span e alike = record {
-  refusals = record { live = alike.refusals.live; faults = All-drop (λ (f : Fault). IsAlike s c d f.cond) span.faults e.refusals.faults.items alike.refusals.faults };
-  work = All-take (λ (item : Cond × Hidden). IsAlike s c d item.0) span.work e.top.work alike.top.work;
-  out = All-drop (λ (item : Cond × Hidden). IsAlike s c d item.0) span.out e.top.out alike.top.out;
-  calls = alike.top.calls;
-}
+abbrev pub whole : Others → Expansion → Span
+whole others e =
+    let here = others_at others (length e.below.items) in
+    record { work = length e.top.work - here.behind; out = here.out; faults = others.faults }
 
-abbrev pub whole : Expansion → Span
-whole e = record { work = length e.top.work; out = 0; faults = 0 }
+pub in-whole : {s : Sets} {c d : List ℕ} (others : Others) (e : Expansion) → IsAlikeExpansion s c d others e → IsAlikeIn s c d (whole others e) e
+in-whole others e alike = record { refusals = alike.refusals; work = alike.top.work; out = alike.top.out; calls = alike.top.calls }
 
-pub whole-in : {s : Sets} {c d : List ℕ} (span : Span) (e : Expansion) → length e.top.work ≤ span.work → span.out ≡ 0 → span.faults ≡ 0 → IsAlikeIn s c d span e → All (IsAlikeEnclosing s c d) e.below.items → IsAlikeExpansion s c d e
-whole-in {s} {c} {d} span e all none no_faults alike below = record {
-  refusals = record { live = alike.refusals.live; faults = subst (λ n. AreAlikeFaults s c d (drop n e.refusals.faults.items)) no_faults alike.refusals.faults };
-  top = record {
-    work = subst (AreAlike s c d) (take_all span.work e.top.work all) alike.work;
-    out = subst (λ n. AreAlike s c d (drop n e.top.out)) none alike.out;
-    calls = alike.calls;
-  };
-  below = below;
-}
+-- the span of as many tokens or more
+pub whole-in : {s : Sets} {c d : List ℕ} (others : Others) (span : Span) (e : Expansion) → (whole others e).work ≤ span.work → span.out ≡ (whole others e).out → span.faults ≡ others.faults → IsAlikeIn s c d span e
+    → ((n : ℕ) (o : Enclosing) → slice_get e.below.items n ≡ Some o → IsAlikeEnclosing s c d (others_at others n) o) → IsAlikeExpansion s c d others e
+whole-in {s} {c} {d} others span e all out faults alike below =
+    let n = (whole others e).work in
+    record {
+      refusals = record { live = alike.refusals.live; faults = subst (λ k. AreAlikeFaults s c d (drop k e.refusals.faults.items)) faults alike.refusals.faults };
+      top = record {
+        work = subst (AreAlike s c d) (take-take n span.work e.top.work all) (All-take (λ (item : Cond × Hidden). IsAlike s c d item.0) n (take span.work e.top.work) alike.work);
+        out = subst (λ k. AreAlike s c d (drop k e.top.out)) out alike.out;
+        calls = alike.calls;
+      };
+      below = below;
+    }
+
+-- ---- the lists below
+
+module _ {s : Sets} {c d : List ℕ} {others : Others} (e : Expansion) (below : List Enclosing) (o : Enclosing) (are : e.below.items ≡ below ++ o ∷ []) (alike : IsAlikeExpansion s c d others e) where
+  pub enclosing-last : IsAlikeEnclosing s c d (others_at others (length below)) o
+  enclosing-last = alike.below (length below) o (ap (λ l. slice_get l (length below)) are ∙ slice_get-seam below o [])
+
+  pub enclosing-others : (n : ℕ) (k : Enclosing) → slice_get below n ≡ Some k → IsAlikeEnclosing s c d (others_at others n) k
+  enclosing-others n k is = alike.below n k (ap (λ l. slice_get l n) are ∙ (slice_get-front below (o ∷ []) n (slice_get_within below n k is) ∙ is))
+
+-- ---- where there are no others
+
+pub others-none : (n : ℕ) → others_at no_others n ≡ no_others
+others-none zero = refl
+others-none (suc n) = refl
+
+module _ {T : Type 0} (s : Sets) (c d : List ℕ) (list : List (Cond × T)) where
+  pub of-all : AreAlike s c d list → AreAlike s c d (take (length list - 0) list)
+  of-all alike = All-take (λ (item : Cond × T). IsAlike s c d item.0) (length list - 0) list alike
+
+  pub all-of : AreAlike s c d (take (length list - 0) list) → AreAlike s c d list
+  all-of alike = subst (AreAlike s c d) (take_all (length list - 0) list (omega arith)) alike
 
 -- ---- one more behind so many others
 
@@ -105,3 +138,30 @@ pub All-drop-push : {A : Type 0} (P : A → Type 0) (n : ℕ) (xs : List A) (x :
 All-drop-push P zero xs x all is = All-push P xs x all is
 All-drop-push P (suc n) [] x all is = All-drop P n [] (All-nil P)
 All-drop-push P (suc n) (y ∷ ys) x all is = All-drop-push P n ys x all is
+
+-- ---- all but so many at the end
+
+module _ {A : Type 0} (P : A → Type 0) (n : ℕ) where
+  pub All-but-tail : (x : A) (xs : List A) → All P (take (length (x ∷ xs) - n) (x ∷ xs)) → All P (take (length xs - n) xs)
+  All-but-tail x xs all = elim (cases_lt (length xs) n) [
+    | inl few ↦
+        let none : length xs - n ≡ 0 = omega (arith, few) in
+        subst (λ k. All P (take k xs)) (sym none) (All-nil P)
+    | inr many ↦
+        let one : length (x ∷ xs) - n ≡ suc (length xs - n) = omega (arith, many) in
+        All-tail P x (take (length xs - n) xs) (subst (λ k. All P (take k (x ∷ xs))) one all)
+  ]
+
+  -- others before them
+  pub All-but-put : (xs ys : List A) → All P xs → All P (take (length ys - n) ys) → All P (take (length (xs ++ ys) - n) (xs ++ ys))
+  All-but-put [] ys first rest = rest
+  All-but-put (x ∷ xs) ys first rest =
+      let later = All-but-put xs ys (All-tail P x xs first) rest in
+      elim (cases_lt (length (xs ++ ys)) n) [
+        | inl few ↦
+            let none : length (x ∷ (xs ++ ys)) - n ≡ 0 = omega (arith, few) in
+            subst (λ k. All P (take k (x ∷ (xs ++ ys)))) (sym none) (All-nil P)
+        | inr many ↦
+            let one : length (x ∷ (xs ++ ys)) - n ≡ suc (length (xs ++ ys) - n) = omega (arith, many) in
+            subst (λ k. All P (take k (x ∷ (xs ++ ys)))) (sym one) (All-cons P x (take (length (xs ++ ys) - n) (xs ++ ys)) (All-head P x xs first) later)
+      ]

@@ -1,38 +1,58 @@
 -- Configurations that are alike stay so through the turns of an expansion, where what one of them looks
 -- up is defined alike for both.
-use Rattle.std.proofs.Common.{◌≡◌, ℕ, Bool, true, List, [], ◌∷◌, All, Some, drop, length, map, slice_get, inl, inr, refl, sym, ap, subst, ◌∙◌, if◌then◌else◌}
+use Rattle.std.proofs.Common.{◌≡◌, ℕ, ◌<◌, Bool, true, List, [], ◌∷◌, Some, drop, length, map, slice_get, inl, inr, sym, ap, subst, ◌∙◌, if◌then◌else◌}
+use Rattle.std.proofs.lemmas.Option.{slice_get_within}
 use Rattle.c11_macros.specs.Expansion.{IsWithin}
 use Rattle.c11_macros.specs.Hidden as model
 use Rattle.c11_macros.specs.Hidden.{Provenance}
 use Rattle.c11_macros.specs.Macros.{Macros}
 use Rattle.sc_base.specs.declared.id.Cond.{Cond}
 use Rattle.sc_base.specs.declared.place.Place.{Place}
+use Rattle.sc_expand.proofs.AlikeGathering.{same-call}
+use Rattle.sc_expand.proofs.AlikeLemmas.{all-of, others-none}
 use Rattle.sc_expand.proofs.MachineLemmas.{pending_at, progress-step, stands-cases, state-top}
 use Rattle.sc_expand.proofs.PlainAgreement.{AgreesFrom, agrees-move, agrees-name, agrees-start, agrees-under}
 use Rattle.sc_expand.proofs.PlainCompletes.{ends, scanned}
 use Rattle.sc_expand.proofs.PlainTurns.{under}
 use Rattle.sc_expand.proofs.Rests.{first-is}
 use Rattle.sc_expand.proofs.RunLemmas.{IsRunning, rests-at, running-stands, start-state, turned-at}
-use Rattle.sc_expand.specs.Alike.{DefineAlike, DefineNextAlike, IsAlikeExpansion}
+use Rattle.sc_expand.specs.Alike.{DefineAlike, DefineNextAlike, IsAlikeExpansion, IsAlikeFrame, IsFirstIn, IsSameCall, Others, no_others}
 use Rattle.sc_expand.specs.declared.expansion.Expansion.{Expansion}
 use Rattle.sc_expand.specs.declared.frame.Enclosing.{Enclosing}
 use Rattle.sc_expand.specs.Machine.{IsHeldExpansion, Progress, Stands, state_in}
 use Rattle.sc_expand.specs.Plain.{State, scanning}
 use Rattle.sc_expand.specs.Running.{IsRested, IsTurned, IsUntouched}
-use Rattle.sc_expand.specs.Seen.{Grows, Stores, calls_at, provenance_of, seen_at, state_by, state_of, view_at}
+use Rattle.sc_expand.specs.Seen.{Grows, Stores, calls_at, provenance_of, seen_at, state_by, view_at}
 use Rattle.sc_expand.specs.Turn.{At}
 use Rattle.sc_guarded.specs.Items.{items_at}
+use Rattle.sc_hoist.specs.Alike.{AreAlike}
 use Rattle.sc_model.proofs.SetLemmas.{IsConfig-Keeps}
-use Rattle.sc_model.specs.Sets.{IsConfig}
+use Rattle.sc_model.specs.Sets.{IsConfig, Sets}
 use Rattle.sc_subst.specs.declared.hidden.Hidden.{Hidden}
 use Rattle.sc_subst.specs.Seen.{seen_hidden}
 
 -- a configuration that has the first token has it before the others
-seen-first : (st : Stores) (c : List ℕ) (work : List (Cond × Hidden)) (item : Cond × Hidden) → slice_get work 0 ≡ Some item → st.sets.has item.0.0 c ≡ true
+pub seen-first : (st : Stores) (c : List ℕ) (work : List (Cond × Hidden)) (item : Cond × Hidden) → slice_get work 0 ≡ Some item → st.sets.has item.0.0 c ≡ true
     → seen_at st work c ≡ seen_hidden st.names st.hides item.1 ∷ seen_at st (drop 1 work) c
 seen-first st c work item first has =
     ap (λ l. seen_at st l c) (first-is work item first)
     ∙ ap (λ b. map (seen_hidden st.names st.hides) (if b then item.1 ∷ items_at st.sets (drop 1 work) c else items_at st.sets (drop 1 work) c)) has
+
+-- ---- where all is alike
+
+whole-top : {s : Sets} {c d : List ℕ} (e : Expansion) → IsAlikeExpansion s c d no_others e → AreAlike s c d e.top.work
+whole-top {s} {c} {d} e alike = all-of s c d e.top.work (subst (λ o. IsAlikeFrame s c d o e.top) (others-none (length e.below.items)) alike.top).work
+
+-- the first tokens are called alike, or neither is
+whole-call : {s : Sets} {names : List (List ℕ)} {c d : List ℕ} (e : Expansion) → IsAlikeExpansion s c d no_others e → IsSameCall s names c d e.top.work
+whole-call e alike = same-call e.top.work (whole-top e alike)
+
+first-of-all : (e : Expansion) → IsFirstIn no_others e
+first-of-all e = record {
+  is = λ item first empty. subst (λ (o : Others). o.behind < length e.top.work) (sym (others-none (length e.below.items))) (slice_get_within e.top.work 0 item first);
+}
+
+-- ---- what is looked up next
 
 module _ (provenance : Provenance Place) (macros other : Macros) (names : List (List ℕ)) (within : IsWithin names macros) where
   abbrev Agrees : State Place → Type 0
@@ -73,12 +93,12 @@ module _ (provenance : Provenance Place) (macros other : Macros) (names : List (
 module _ (files : List (List ℕ)) (macros : List ℕ → Macros) (names : List (List ℕ)) (within : (c : List ℕ) → IsWithin names (macros c)) where
   -- both have the same, and what the one still looks up is defined alike for both
   pub record AreAlikeNow (now : Stores) (e : Expansion) (c d : List ℕ) : Type 0 where
-    pub alike : IsAlikeExpansion now.sets c d e
+    pub alike : IsAlikeExpansion now.sets c d no_others e
     pub agrees : now.sets.has e.refusals.live.0 c ≡ true → AgreesFrom (provenance_of files) (macros c) (macros d) names (within c) (state_in now e.below.items (view_at now e.top c) c)
 
   -- so it is where they began alike
   pub record StayAlike (old now : Stores) (was e : Expansion) : Type 0 where
-    pub at : (c d : List ℕ) → IsConfig old.sets.arities c → IsConfig old.sets.arities d → DefineAlike (provenance_of files) (macros c) (macros d) (seen_at old was.top.work c) → IsAlikeExpansion old.sets c d was
+    pub at : (c d : List ℕ) → IsConfig old.sets.arities c → IsConfig old.sets.arities d → DefineAlike (provenance_of files) (macros c) (macros d) (seen_at old was.top.work c) → IsAlikeExpansion old.sets c d no_others was
         → AreAlikeNow now e c d
 
   pub alike-start : (old : Stores) (was : Expansion) → IsHeldExpansion old (length files) was → IsUntouched was → StayAlike old old was was
@@ -100,7 +120,7 @@ module _ (files : List (List ℕ)) (macros : List ℕ → Macros) (names : List 
       at = λ c d p q defines alike.
           let a = stay.at c d p q defines alike in
           record {
-            alike = rested.alike (length files) c d r.held (IsConfig-Keeps grows.sets p) (IsConfig-Keeps grows.sets q) a.alike;
+            alike = rested.alike (length files) c d no_others r.held (IsConfig-Keeps grows.sets p) (IsConfig-Keeps grows.sets q) a.alike;
             agrees = agrees-progress (provenance_of files) (macros c) (macros d) names (within c) now new c e.below.items after.below.items (rests-at grows r names within began new after rested c p) (running-stands grows r c p) a.agrees;
           };
     }
@@ -111,8 +131,9 @@ module _ (files : List (List ℕ)) (macros : List ℕ → Macros) (names : List 
           let a = stay.at c d p q defines alike in
           let next = agrees-next (provenance_of files) (macros c) (macros d) names (within c) now c e (running-stands grows r c p) a.agrees in
           record {
-            alike = turned.alike c d (IsConfig-Keeps grows.sets p) (IsConfig-Keeps grows.sets q)
-                (subst (λ m. DefineNextAlike now m (other d) c e) (sym (same c p)) (subst (λ m. DefineNextAlike now (macros c) m c e) (sym (same d q)) next)) a.alike;
+            alike = turned.alike c d no_others (IsConfig-Keeps grows.sets p) (IsConfig-Keeps grows.sets q)
+                (subst (λ m. DefineNextAlike now m (other d) c e) (sym (same c p)) (subst (λ m. DefineNextAlike now (macros c) m c e) (sym (same d q)) next))
+                (record { same = λ takes. whole-call e a.alike }) (first-of-all e) a.alike;
             agrees = agrees-progress (provenance_of files) (macros c) (macros d) names (within c) now new c e.below.items after.below.items (turned-at grows r names within began new after other same turned c p) (running-stands grows r c p) a.agrees;
           };
     }

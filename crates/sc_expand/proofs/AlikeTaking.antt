@@ -1,31 +1,44 @@
 -- What taking a token comes to at two configurations that have the same.
-use Rattle.std.proofs.Common.{◌≡◌, ◌∙◌, ℕ, suc, ◌+◌, ◌<◌, ◌≤◌, Bool, true, false, List, [], ◌∷◌, ◌++◌, All, Option, Some, Global, map, drop, take, length, get_or, refl, sym, ap, subst, arith, if◌then◌else◌}
+use Rattle.std.proofs.Common.{◌≡◌, ◌∙◌, ℕ, suc, ◌+◌, ◌-◌, ◌<◌, ◌≤◌, ◌&&◌, Bool, true, false, List, [], ◌∷◌, ◌++◌, All, Option, None, Some, Global, map, drop, take, length, get_or, refl, sym, ap, subst, arith, if◌then◌else◌}
 use Rattle.std.proofs.lemmas.List.{length-map, take_more}
-use Rattle.std.proofs.lemmas.List.Elements.{All-append, All-cons, All-drop, All-head, All-map, All-nil}
+use Rattle.std.proofs.lemmas.List.Elements.{All-append, All-cons, All-head, All-map, All-nil}
+use Rattle.std.proofs.lemmas.Option.{slice_get_within}
 use Rattle.std.specs.declared.rc.Rc.{Rc}
-use Rattle.std.specs.Prelude.{slice_get}
+use Rattle.std.specs.Prelude.{IfSome, slice_get}
+use Rattle.c11_macros.specs.Defines.{is_function_like}
+use Rattle.c11_macros.specs.Expansion.{is_looked_up}
+use Rattle.sc_base.proofs.Growth.{Extends-refl}
 use Rattle.sc_base.specs.declared.id.Cond.{Cond}
+use Rattle.sc_base.specs.declared.id.Name.{Name}
 use Rattle.sc_expand.proofs.AlikeGathering.{each-same-call}
-use Rattle.sc_expand.proofs.AlikeLemmas.{IsAlike-Keeps}
+use Rattle.sc_expand.proofs.AlikeLemmas.{All-but-put, All-but-tail, All-drop-push, IsAlike-Keeps, whole}
+use Rattle.sc_expand.proofs.SeenLemmas.{macros_at-Grows}
 use Rattle.sc_expand.proofs.TakingSteps.{none-before}
-use Rattle.sc_expand.proofs.TakingTurns.{first-of}
+use Rattle.sc_expand.proofs.TakingTurns.{both_true}
 use Rattle.sc_expand.proofs.UnchangedLemmas.{All-before, All-behind}
-use Rattle.sc_expand.specs.Alike.{AreAlikeRefusals, IsAlikeCall, IsAlikeEnclosing, IsAlikeExpansion, IsAlikeIn, IsAlikeTaken, IsSameCall, Span}
+use Rattle.sc_expand.specs.Alike.{AreAlikeRefusals, IsAlikeCall, IsAlikeEnclosing, IsAlikeExpansion, IsAlikeFrame, IsAlikeIn, IsAlikeTaken, IsFunctionLike, IsSameCall, Others, Span, TakesName, others_at}
 use Rattle.sc_expand.specs.Having.{has_each}
-use Rattle.sc_expand.specs.Seen.{AreHeld, Grows, Stores}
-use Rattle.sc_expand.specs.Taking.{AreTaken}
+use Rattle.sc_expand.specs.Seen.{AreHeld, Grows, Stores, stores}
+use Rattle.sc_expand.specs.Taking.{AreTaken, IsFunction, TakesPart}
 use Rattle.sc_expand.specs.Unchanged as unchanged
 use Rattle.sc_expand.specs.Unchanged.{IsPushed}
 use Rattle.sc_expand.specs.declared.expansion.Expansion.{Expansion}
+use Rattle.sc_expand.specs.declared.frame.Enclosing.{Enclosing}
 use Rattle.sc_expand.specs.declared.taking.Taken.{Taken}
 use Rattle.sc_guarded.proofs.ItemLemmas.{items_at-take}
 use Rattle.sc_guarded.specs.Items.{items_at}
 use Rattle.sc_hoist.specs.Alike.{AreAlike, IsAlike}
 use Rattle.sc_macro.specs.declared.definition.Definition.{Definition}
-use Rattle.sc_model.proofs.SetLemmas.{IsConfig-Keeps}
-use Rattle.sc_model.specs.Growth.{IsOneToOne}
-use Rattle.sc_model.specs.Sets.{Sets, IsCond, IsConfig}
+use Rattle.sc_macro.specs.Seen.{IsHeldDefinition, text_of}
+use Rattle.sc_model.proofs.ListLemmas.{slice_get-front, slice_get-seam}
+use Rattle.sc_model.proofs.SetLemmas.{IsConfig-Keeps, IsConfig-kept}
+use Rattle.sc_model.specs.Growth.{Extends, IsOneToOne}
+use Rattle.sc_model.specs.Sets.{Sets, Denotes, IsCond, IsConfig, Keeps}
 use Rattle.sc_subst.specs.declared.hidden.Hidden.{Hidden}
+use Rattle.sc_subst.specs.Seen.{seen_hidden}
+use Rattle.sc_table.proofs.Growth.{seen_definition-Extends}
+use Rattle.sc_table.specs.declared.table.MacroTable.{MacroTable}
+use Rattle.sc_table.specs.Table.{IsTable, macros_at}
 
 -- ---- tokens that are put
 
@@ -37,15 +50,20 @@ module _ (s : Sets) (c d : List ℕ) where
   pub alike-append : {T : Type 0} (xs ys : List (Cond × T)) → AreAlike s c d xs → AreAlike s c d ys → AreAlike s c d (xs ++ ys)
   alike-append {T} xs ys one other = All-append (λ (item : Cond × T). IsAlike s c d item.0) xs ys one other
 
-  pub alike-pushed : {cond : Cond} {token : Hidden} {before after : List (Cond × Hidden)} → IsPushed s cond token before after → IsAlike s c d cond → AreAlike s c d before → AreAlike s c d after
-  alike-pushed {cond} {token} {before} {after} (unchanged.pushed some is) same alike =
-      let P : Cond × Hidden → Type 0 = λ item. IsAlike s c d item.0 in
-      subst (AreAlike s c d) (sym is) (alike-append before ((cond, token) ∷ []) alike (All-cons P (cond, token) [] same (All-nil P)))
-  alike-pushed {cond} {token} {before} {after} (unchanged.absent none is) same alike = subst (AreAlike s c d) (sym is) alike
+  -- one token more, behind so many others
+  pub pushed-behind : (n : ℕ) {cond : Cond} {token : Hidden} {before after : List (Cond × Hidden)} → IsPushed s cond token before after → IsAlike s c d cond → AreAlike s c d (drop n before) → AreAlike s c d (drop n after)
+  pushed-behind n {cond} {token} {before} {after} (unchanged.pushed some is) same alike =
+      subst (λ l. AreAlike s c d (drop n l)) (sym is) (All-drop-push (λ (item : Cond × Hidden). IsAlike s c d item.0) n before (cond, token) alike same)
+  pushed-behind n {cond} {token} {before} {after} (unchanged.absent none is) same alike = subst (λ l. AreAlike s c d (drop n l)) (sym is) alike
 
-  -- the first token of a list
-  pub alike-first : (list : List (Cond × Hidden)) (item : Cond × Hidden) → slice_get list 0 ≡ Some item → AreAlike s c d list → IsAlike s c d item.0
-  alike-first list item first alike = All-head (λ (item : Cond × Hidden). IsAlike s c d item.0) item (drop 1 list) (subst (AreAlike s c d) (first-of list item first) alike)
+  -- the first token of a list, where it is not one of so many at the end
+  pub alike-first : (n : ℕ) (list : List (Cond × Hidden)) (item : Cond × Hidden) → slice_get list 0 ≡ Some item → n < length list → AreAlike s c d (take (length list - n) list) → IsAlike s c d item.0
+  alike-first n [] item first many alike = absurd (cc)
+  alike-first n (x ∷ xs) item first many alike =
+      let Same : Cond × Hidden → Type 0 = λ item. IsAlike s c d item.0 in
+      let same : x ≡ item = cc in
+      let some : length (x ∷ xs) - n ≡ suc (length xs - n) = omega (arith, many) in
+      subst Same same (All-head Same x (take (length xs - n) xs) (subst (λ k. All Same (take k (x ∷ xs))) some alike))
 
 -- ---- one part more
 
@@ -54,11 +72,39 @@ none-more [] true x is = absurd (cc)
 none-more [] false x is = (refl, refl)
 none-more (y ∷ ys) b x is = absurd (cc)
 
+pub function-earlier : {names more : List (List ℕ)} → Extends names more → (o : Option (Rc Definition Global)) → IfSome o (λ shared. IsHeldDefinition names shared.value) → IsFunction more o → IsFunction names o
+function-earlier grows None held is = is
+function-earlier grows (Some shared) held is = ap (λ d. is_function_like d.form) (sym (seen_definition-Extends grows shared.value held)) ∙ is
+
 module _ {files : List (List ℕ)} {old mid : Stores} {was now : Expansion} {before after : Taken} {head : Hidden} (parts : List (Cond × Option (Rc Definition Global))) (i : ℕ) (part : Cond × Option (Rc Definition Global))
     (within : i < length parts) (is : part ≡ get_or parts i part) (grows : Grows old mid) (own : IsCond old.sets part.0.0) (done : AreTaken files old mid was now before after head (take i parts)) where
+  one-more : take (i + 1) parts ≡ take i parts ++ part ∷ []
+  one-more = take_more parts i part within ∙ ap (λ x. take i parts ++ x ∷ []) (sym is)
+
   -- a configuration of none of the parts is of none before the last, and not of the last
   none-last : (c : List ℕ) → items_at old.sets (take (i + 1) parts) c ≡ [] → (items_at old.sets (take i parts) c ≡ []) × (old.sets.has part.0.0 c ≡ false)
   none-last c none = none-more (items_at old.sets (take i parts) c) (old.sets.has part.0.0 c) part.1 (sym (items_at-take old.sets parts i part c within is) ∙ none)
+
+  -- a name that is taken by a part before the last, or by the last
+  takes-before : (c : List ℕ) → TakesPart old.sets old.names (take i parts) c → TakesPart old.sets old.names (take (i + 1) parts) c
+  takes-before c takes = record {
+    part = takes.part;
+    among = (
+      takes.among.0,
+      ap (λ l. slice_get l takes.among.0) one-more
+          ∙ (slice_get-front (take i parts) (part ∷ []) takes.among.0 (slice_get_within (take i parts) takes.among.0 takes.part takes.among.1) ∙ takes.among.1),
+    );
+    has = takes.has;
+    function = takes.function;
+  }
+
+  takes-last : (c : List ℕ) → old.sets.has part.0.0 c ≡ true → IsFunction old.names part.1 → TakesPart old.sets old.names (take (i + 1) parts) c
+  takes-last c has function = record {
+    part = part;
+    among = (length (take i parts), ap (λ l. slice_get l (length (take i parts))) one-more ∙ slice_get-seam (take i parts) part []);
+    has = has;
+    function = function;
+  }
 
   pub part-each : (new : Stores) (next : Expansion) → ((c : List ℕ) → IsConfig mid.sets.arities c → mid.sets.has part.0.0 c ≡ false → has_each new.sets next.top.work c ≡ has_each mid.sets now.top.work c)
       → (c : List ℕ) → IsConfig old.sets.arities c → items_at old.sets (take (i + 1) parts) c ≡ [] → has_each new.sets next.top.work c ≡ has_each old.sets was.top.work c
@@ -67,23 +113,24 @@ module _ {files : List (List ℕ)} {old mid : Stores} {was now : Expansion} {bef
       each c (IsConfig-Keeps grows.sets listed) (grows.sets.at part.0.0 c own listed ∙ split.1) ∙ done.others_each c listed split.0
 
   pub part-alike : (new : Stores) (next : Expansion) (later : Taken) (counted : ℕ) → AreHeld old counted was.top.work → map (λ (item : Cond × Hidden). item.1) now.top.work ≡ map (λ (item : Cond × Hidden). item.1) was.top.work
-      → ((c : List ℕ) → IsConfig old.sets.arities c → length (items_at old.sets parts c) ≤ 1)
-      → ((c d : List ℕ) (span : Span) → IsConfig mid.sets.arities c → IsConfig mid.sets.arities d → IsAlike mid.sets c d part.0 → (mid.sets.has part.0.0 c ≡ true → IsSameCall mid.sets mid.names c d now.top.work)
+      → IfSome part.1 (λ shared. IsHeldDefinition old.names shared.value) → ((c : List ℕ) → IsConfig old.sets.arities c → length (items_at old.sets parts c) ≤ 1)
+      → ((c d : List ℕ) (span : Span) → IsConfig mid.sets.arities c → IsConfig mid.sets.arities d → IsAlike mid.sets c d part.0
+      → (mid.sets.has part.0.0 c ≡ true → IsFunction mid.names part.1 → IsSameCall mid.sets mid.names c d now.top.work)
       → IsAlikeTaken mid.sets c d after → IsAlikeIn mid.sets c d span now → IsAlikeIn new.sets c d span next × IsAlikeTaken new.sets c d later)
       → (c d : List ℕ) (span : Span) → IsConfig old.sets.arities c → IsConfig old.sets.arities d → AreAlike old.sets c d (take (i + 1) parts)
-      → ((items_at old.sets (take (i + 1) parts) c ≡ [] → ⊥) → IsSameCall old.sets old.names c d was.top.work) → IsAlikeTaken old.sets c d before
+      → (TakesPart old.sets old.names (take (i + 1) parts) c → IsSameCall old.sets old.names c d was.top.work) → IsAlikeTaken old.sets c d before
       → IsAlikeIn old.sets c d span was → IsAlikeIn new.sets c d span next × IsAlikeTaken new.sets c d later
-  part-alike new next later counted held tokens one step c d span p q alike called taken start =
+  part-alike new next later counted held tokens definition one step c d span p q alike called taken start =
       let P : Cond × Option (Rc Definition Global) → Type 0 = λ item. IsAlike old.sets c d item.0 in
-      let all = subst (All P) (take_more parts i part within ∙ ap (λ x. take i parts ++ x ∷ []) (sym is)) alike in
+      let all = subst (All P) one-more alike in
       let last = All-head P part [] (All-behind P (take i parts) (part ∷ []) all) in
-      let so_far = done.alike c d span p q (All-before P (take i parts) (part ∷ []) all) (λ some. called (λ none. some (none-last c none).0)) taken start in
+      let so_far = done.alike c d span p q (All-before P (take i parts) (part ∷ []) all) (λ takes. called (takes-before c takes)) taken start in
       step c d span (IsConfig-Keeps grows.sets p) (IsConfig-Keeps grows.sets q) (IsAlike-Keeps grows.sets p q own last)
-      (λ has.
+      (λ has function.
       let here = sym (grows.sets.at part.0.0 c own p) ∙ has in
       let none_c = (none-before old.sets parts i part c within is here (one c p)).0 in
       let none_d = (none-before old.sets parts i part d within is (sym last ∙ here) (one d q)).0 in
-      each-same-call was.top.work now.top.work grows held tokens (done.others_each c p none_c) (done.others_each d q none_d) (called (λ none. let no = sym here ∙ (none-last c none).1 in absurd (cc))))
+      each-same-call was.top.work now.top.work grows held tokens (done.others_each c p none_c) (done.others_each d q none_d) (called (takes-last c here (function-earlier grows.names part.1 definition function))))
       so_far.1 so_far.0
 
 -- ---- what a look-up gives
@@ -132,21 +179,46 @@ same-defined false true m n is same = absurd (cc)
 
 -- ---- the token is put out
 
-pub put-alike : (s : Sets) (c d : List ℕ) (now next : Expansion) (taken : Taken) (token : Hidden) → next.refusals ≡ now.refusals → next.below ≡ now.below → next.top.calls ≡ now.top.calls
-    → next.top.work ≡ taken.made.items ++ drop 1 now.top.work → IsPushed s taken.stays token now.top.out next.top.out → IsAlikeTaken s c d taken → IsAlikeExpansion s c d now → IsAlikeExpansion s c d next
-put-alike s c d now next taken token refusals below calls work out made alike = record {
-  refusals = subst (AreAlikeRefusals s c d 0) (sym refusals) alike.refusals;
-  top = record {
-    work = subst (AreAlike s c d) (sym work) (alike-append s c d taken.made.items (drop 1 now.top.work) made.made (All-drop (λ (item : Cond × Hidden). IsAlike s c d item.0) 1 now.top.work alike.top.work));
-    out = alike-pushed s c d out made.stays alike.top.out;
-    calls = subst (λ l. All (IsAlikeCall s c d) l.items) (sym calls) alike.top.calls;
-  };
-  below = subst (λ l. All (IsAlikeEnclosing s c d) l.items) (sym below) alike.below;
-}
+pub put-alike : (s : Sets) (c d : List ℕ) (others : Others) (now next : Expansion) (taken : Taken) (token : Hidden) → next.refusals ≡ now.refusals → next.below ≡ now.below → next.top.calls ≡ now.top.calls
+    → next.top.work ≡ taken.made.items ++ drop 1 now.top.work → IsPushed s taken.stays token now.top.out next.top.out → IsAlikeTaken s c d taken → IsAlikeExpansion s c d others now → IsAlikeExpansion s c d others next
+put-alike s c d others now next taken token refusals below calls work out made alike =
+    let Same : Cond × Hidden → Type 0 = λ item. IsAlike s c d item.0 in
+    let here = others_at others (length now.below.items) in
+    record {
+      refusals = subst (AreAlikeRefusals s c d others.faults) (sym refusals) alike.refusals;
+      top = subst (λ b. IsAlikeFrame s c d (others_at others (length b.items)) next.top) (sym below) (record {
+        work = subst (λ l. AreAlike s c d (take (length l - here.behind) l)) (sym work) (All-but-put Same here.behind taken.made.items (drop 1 now.top.work) made.made (but-first Same here.behind now.top.work alike.top.work));
+        out = pushed-behind s c d here.out out made.stays alike.top.out;
+        calls = subst (λ l. All (IsAlikeCall s c d) l.items) (sym calls) alike.top.calls;
+      });
+      below = subst (λ b. (n : ℕ) (o : Enclosing) → slice_get b.items n ≡ Some o → IsAlikeEnclosing s c d (others_at others n) o) (sym below) alike.below;
+    }
+  where
+    but-first : (P : Cond × Hidden → Type 0) (n : ℕ) (xs : List (Cond × Hidden)) → All P (take (length xs - n) xs) → All P (take (length (drop 1 xs) - n) (drop 1 xs))
+    but-first P n [] all = all
+    but-first P n (x ∷ xs) all = All-but-tail P n x xs all
 
 -- as many tokens as before
-pub as-long : (before after : List (Cond × Hidden)) → map (λ (item : Cond × Hidden). item.1) after ≡ map (λ (item : Cond × Hidden). item.1) before → length after ≤ length before
-as-long before after tokens =
-    let f : Cond × Hidden → Hidden = λ item. item.1 in
-    let same = sym (length-map after f) ∙ (ap length tokens ∙ length-map before f) in
-    omega (arith, same)
+pub same-long : (before after : List (Cond × Hidden)) → map (λ (item : Cond × Hidden). item.1) after ≡ map (λ (item : Cond × Hidden). item.1) before → length after ≡ length before
+same-long before after tokens = sym (length-map after (λ item. item.1)) ∙ (ap length tokens ∙ length-map before (λ item. item.1))
+
+pub whole-same : (others : Others) (was now : Expansion) → now.below ≡ was.below → length now.top.work ≡ length was.top.work → whole others now ≡ whole others was
+whole-same others was now below long = λ i. (let here = others_at others (length (below i).items) in record { work = long i - here.behind; out = here.out; faults = others.faults })
+
+-- ---- the name of a function-like macro
+
+pub takes-name : {s0 s1 : Sets} {n : List (List ℕ)} {h : List (List Name)} {table : MacroTable} → Keeps s0 s1 → IsTable s0 n table → (was : Expansion) (item : Cond × Hidden) (cond : Cond)
+    → slice_get was.top.work 0 ≡ Some item → was.top.calls.items ≡ [] → Denotes s1 cond.0 (λ c. s0.has item.0.0 c && s0.has was.refusals.live.0 c) → (c : List ℕ) → IsConfig s1.arities c → s1.has cond.0 c ≡ true
+    → is_looked_up (seen_hidden n h item.1) ≡ true → IsFunctionLike (macros_at s1 n table c (text_of n item.1.token.spelling)) → TakesName (stores s0 n h) (macros_at s0 n table c) was c
+takes-name {s0} {s1} {n} {h} {table} keeps is_table was item cond first calls meets c listed has looked like =
+    let grew : Grows (stores s0 n h) (stores s1 n h) = record { sets = keeps; names = Extends-refl n; hides = Extends-refl h } in
+    let both = both_true (s0.has item.0.0 c) (s0.has was.refusals.live.0 c) (sym (meets.at c listed) ∙ has) in
+    record {
+      item = item;
+      first = first;
+      calls = calls;
+      has = both.0;
+      live = both.1;
+      looked_up = looked;
+      function = subst IsFunctionLike (macros_at-Grows grew is_table c (text_of n item.1.token.spelling) (IsConfig-kept keeps listed)) like;
+    }

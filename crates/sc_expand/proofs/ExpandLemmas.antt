@@ -1,5 +1,5 @@
 -- A list as it is given, and what the loop leaves of it, as what it expands to at each configuration.
-use Rattle.std.proofs.Common.{◌≡◌, ℕ, ◌<◌, Bool, true, false, true≢false, List, [], ◌∷◌, All, drop, map, Ok, Err, refl, sym, ap, subst, ◌∙◌, if◌then◌else◌}
+use Rattle.std.proofs.Common.{◌≡◌, ℕ, ◌<◌, Bool, true, false, true≢false, List, [], ◌∷◌, All, Some, drop, length, map, slice_get, Ok, Err, refl, sym, ap, subst, ◌∙◌, if◌then◌else◌}
 use Rattle.std.proofs.lemmas.List.Elements.{All-cons, All-head, All-nil, All-tail}
 use Rattle.c11_macros.specs.Expansion.{Expands}
 use Rattle.c11_macros.specs.Macros.{Macros}
@@ -9,9 +9,11 @@ use Rattle.sc_base.specs.declared.id.Name.{Name}
 use Rattle.sc_base.specs.declared.token.Token.{Token}
 use Rattle.sc_base.specs.Seen.{IsHeld, seen}
 use Rattle.sc_expand.proofs.Ending.{bared}
+use Rattle.sc_expand.proofs.AlikeLemmas.{of-all, others-none}
 use Rattle.sc_expand.proofs.SeenLemmas.{AreHeld-nil}
 use Rattle.sc_expand.proofs.TextLemmas.{begun, expanded-fault, expanded-list, seen_hidden-begun, text-defines}
-use Rattle.sc_expand.specs.Alike.{DefineAlike, DefineTextAlike, IsAlikeCall, IsAlikeEnclosing, IsAlikeExpansion}
+use Rattle.sc_expand.specs.Alike.{DefineAlike, DefineTextAlike, IsAlikeCall, IsAlikeExpansion, IsAlikeFrame, no_others, others_at}
+use Rattle.sc_expand.specs.declared.frame.Enclosing.{Enclosing}
 use Rattle.sc_expand.specs.Answers.{IsEmpty, IsExpanded, IsHeldAnswer}
 use Rattle.sc_expand.specs.declared.expansion.Expansion.{Expansion}
 use Rattle.sc_expand.specs.Machine.{IsHeldExpansion}
@@ -160,23 +162,27 @@ source-defines s names files c one other e list tokens unhidden defines =
     subst (DefineAlike (provenance_of files) one other) (sym source) (text-defines names files one other (items_at s list c) defines)
 
 pub started-alike : (s : Sets) (c d : List ℕ) (e : Expansion) (list : List (Cond × Token)) (live : Cond) → IsUntouched e → e.refusals.live ≡ live → map bared e.top.work ≡ list
-    → IsAlike s c d live → AreAlike s c d list → IsAlikeExpansion s c d e
+    → IsAlike s c d live → AreAlike s c d list → IsAlikeExpansion s c d no_others e
 started-alike s c d e list live fresh live_is tokens both same = record {
   refusals = record {
     live = subst (IsAlike s c d) (sym live_is) both;
     faults = subst (λ fs. AreAlikeFaults s c d (drop 0 fs)) (sym fresh.faults) (All-nil (λ (f : Fault). IsAlike s c d f.cond));
   };
-  top = record {
-    work = All-given (λ (x : Cond × Token). IsAlike s c d x.0) e.top.work (subst (AreAlike s c d) (sym tokens) same);
+  top = subst (λ (bs : List Enclosing). IsAlikeFrame s c d (others_at no_others (length bs)) e.top) (sym fresh.below) (record {
+    work = of-all s c d e.top.work (All-given (λ (x : Cond × Token). IsAlike s c d x.0) e.top.work (subst (AreAlike s c d) (sym tokens) same));
     out = subst (AreAlike s c d) (sym fresh.out) (All-nil (λ (x : Cond × Hidden). IsAlike s c d x.0));
     calls = subst (All (IsAlikeCall s c d)) (sym fresh.calls) (All-nil (IsAlikeCall s c d));
-  };
-  below = subst (All (IsAlikeEnclosing s c d)) (sym fresh.below) (All-nil (IsAlikeEnclosing s c d));
+  });
+  below = λ n o is. absurd (none-at n (sym (ap (λ l. slice_get l n) fresh.below) ∙ is));
 }
+  where
+    none-at : {o : Enclosing} (n : ℕ) → slice_get [] n ≡ Some o → ⊥
+    none-at n is = cc
 
-pub answer-alike : (s : Sets) (c d : List ℕ) (after : Expansion) (answer : Expanded) → answer.list ≡ map bared after.top.out → answer.faults ≡ after.refusals.faults → IsAlikeExpansion s c d after
+pub answer-alike : (s : Sets) (c d : List ℕ) (after : Expansion) (answer : Expanded) → answer.list ≡ map bared after.top.out → answer.faults ≡ after.refusals.faults → IsAlikeExpansion s c d no_others after
     → AreAlike s c d answer.list × AreAlikeFaults s c d answer.faults.items
-answer-alike s c d after answer list_is faults_are alike = (
-  subst (AreAlike s c d) (sym list_is) (All-bared (λ (x : Cond × Token). IsAlike s c d x.0) (λ x. IsAlike s c d x.0) (λ x same. same) after.top.out alike.top.out),
-  subst (λ v. AreAlikeFaults s c d v.items) (sym faults_are) alike.refusals.faults,
-)
+answer-alike s c d after answer list_is faults_are alike =
+    let out : AreAlike s c d after.top.out = (subst (λ o. IsAlikeFrame s c d o after.top) (others-none (length after.below.items)) alike.top).out in (
+      subst (AreAlike s c d) (sym list_is) (All-bared (λ (x : Cond × Token). IsAlike s c d x.0) (λ x. IsAlike s c d x.0) (λ x same. same) after.top.out out),
+      subst (λ v. AreAlikeFaults s c d v.items) (sym faults_are) alike.refusals.faults,
+    )

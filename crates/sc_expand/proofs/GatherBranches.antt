@@ -13,11 +13,12 @@ use Rattle.sc_expand.proofs.AlikeGathering.{each-behind, places-same}
 use Rattle.sc_expand.proofs.AlikeLemmas.{IsAlike-Keeps}
 use Rattle.sc_expand.proofs.BeginningLemmas.{same_conds}
 use Rattle.sc_expand.proofs.GatherPlaces.{spelled-behind}
+use Rattle.sc_expand.proofs.LastLemmas.{last-each, last-earlier, last-later}
 use Rattle.sc_expand.proofs.TakingSteps.{seen-first}
 use Rattle.sc_expand.specs.Called.{AreGathered, IsBranch, IsCalled, IsMacro}
 use Rattle.sc_expand.specs.declared.expansion.Expansion.{Expansion}
 use Rattle.sc_expand.specs.Gather.{Gathers}
-use Rattle.sc_expand.specs.Having.{has_each, tokens_in}
+use Rattle.sc_expand.specs.Having.{HasLast, has_each, tokens_in}
 use Rattle.sc_expand.specs.Machine.{at}
 use Rattle.sc_expand.specs.Seen.{Grows, Stores, seen_at}
 use Rattle.sc_expand.specs.Taking.{has_first}
@@ -186,6 +187,10 @@ module _ {old mid : Stores} (grows : Grows old mid) (form : declared_form.Form) 
             let two = done.others c listed parts.0 in
             (one.0 ∙ two.0, one.1 ∙ two.1)
 
+        rest-next : (had : Bool) → old.sets.has b.cond.0 c ≡ had → HasLast old.sets st.sets e0.top.work e2.top.work c
+        rest-next true has = last-earlier (done.others c listed (none-earlier old.sets bs i b c within is_next has (one c listed))).1 (more.rest c later)
+        rest-next false has = last-later (done.rest c listed) (more.others c later (one-list false has)).1
+
       pub gathered-more : AreGathered old st e0 e2 form items head (take (i + 1) bs)
       gathered-more = record {
         gathers = λ c place provenance macros d rest listed lists work is. gathers-next c listed (old.sets.has b.cond.0 c) refl place provenance macros d rest lists work is;
@@ -201,6 +206,7 @@ module _ {old mid : Stores} (grows : Grows old mid) (form : declared_form.Form) 
             let next = IsAlike-Keeps grows.sets at_c at_d own last in
             more.alike c d span (later c at_c) (later d at_d) (All-cons (λ (x : Branch). IsAlike mid.sets c d x.cond) b [] next (All-nil (λ (x : Branch). IsAlike mid.sets c d x.cond)))
             (done.alike c d span at_c at_d before was);
+        rest = λ c listed. rest-next c listed (old.sets.has b.cond.0 c) refl;
       }
 
 -- no call was taken out yet
@@ -210,6 +216,7 @@ gathered-none st e form items head = record {
   first = λ c place listed lists. absurd (none place lists);
   others = λ c listed lists. (refl, refl);
   alike = λ c d span at_c at_d same was. was;
+  rest = λ c listed. last-each refl;
 }
   where
     none : (place : List ℕ) → (let nothing : List (List ℕ) = [] in nothing) ≡ place ∷ [] → ⊥

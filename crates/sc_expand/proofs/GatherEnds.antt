@@ -1,5 +1,5 @@
 -- What taking the calls of a name out comes to, by how each configuration's call goes on.
-use Rattle.std.proofs.Common.{◌≡◌, ℕ, ◌&&◌, ◌||◌, Bool, true, false, List, [], ◌∷◌, ◌++◌, All, map, Some, IsTrue, refl, sym, ap, subst, ◌∙◌, true≢false, if◌then◌else◌}
+use Rattle.std.proofs.Common.{◌≡◌, ℕ, ◌<◌, ◌&&◌, ◌||◌, Bool, true, false, List, [], ◌∷◌, ◌++◌, All, get_or, length, map, Some, IsTrue, refl, sym, ap, subst, ◌∙◌, true≢false, arith, if◌then◌else◌}
 use Rattle.c11_macros.specs.Defines.{is_function_like}
 use Rattle.c11_macros.specs.Expansion.{is_looked_up}
 use Rattle.c11_macros.specs.Hidden as model
@@ -9,11 +9,14 @@ use Rattle.sc_base.specs.declared.id.Cond.{Cond}
 use Rattle.sc_base.specs.declared.place.Place.{Place}
 use Rattle.sc_base.specs.declared.stop.Stop.{Stop}
 use Rattle.sc_base.specs.declared.stop.Stop.TheVariants.{BranchesFull, ReadFault, OutOfMemory}
+use Rattle.sc_expand.proofs.AlikeGathering.{each-same-call}
 use Rattle.sc_expand.proofs.GatherBranches.{first-of-each}
 use Rattle.sc_expand.proofs.GatherCases.{case-still, case-uncalled-alone, case-uncalled-bare, spellings}
 use Rattle.sc_expand.proofs.GatherPlaces.{spelled-behind}
 use Rattle.sc_expand.proofs.GatherTaking.{function-form, rest-is}
 use Rattle.sc_expand.proofs.TakingSteps.{state-scanning}
+use Rattle.sc_expand.proofs.WorkListLemmas.{has_each-Keeps}
+use Rattle.sc_expand.specs.Alike.{IsSameCall}
 use Rattle.sc_expand.specs.Called.{AreGathered, IsMacro}
 use Rattle.sc_expand.specs.declared.expansion.Expansion.{Expansion}
 use Rattle.sc_expand.specs.Gather as gathers
@@ -21,12 +24,12 @@ use Rattle.sc_expand.specs.Gather.{Gathers}
 use Rattle.sc_expand.specs.Having.{has_each, tokens_in}
 use Rattle.sc_expand.specs.Machine.{at}
 use Rattle.sc_expand.specs.Plain.{Fails, open_call}
-use Rattle.sc_expand.specs.Seen.{Stores, seen_at}
-use Rattle.sc_expand.specs.Stops.{StopsBy}
+use Rattle.sc_expand.specs.Seen.{AreHeld, Grows, Stores, seen_at, stores}
+use Rattle.sc_expand.specs.CallStops.{StopsAt}
 use Rattle.sc_expand.specs.Taking.{has_first}
 use Rattle.sc_expand.specs.Turn.{At}
 use Rattle.sc_hoist.specs.Branches.{Refuses, lists_at}
-use Rattle.sc_hoist.specs.Calls.{CallEnd, alone, bare, call_end, call_end_at, closed, is_end, still}
+use Rattle.sc_hoist.specs.Calls.{CallEnd, alone, bare, call_end, call_end_at, call_places, closed, is_end, still}
 use Rattle.sc_hoist.specs.declared.branch.Branch.{Branch}
 use Rattle.sc_macro.specs.declared.definition.Item as declared_item
 use Rattle.sc_macro.specs.declared.form.Form as declared_form
@@ -38,26 +41,11 @@ use Rattle.sc_macro.specs.Seen.{IsHeldDefinition, IsHeldItem, seen_definition, s
 use Rattle.sc_model.specs.Growth.{Extends}
 use Rattle.sc_subst.proofs.Turns.{form_later}
 use Rattle.sc_model.specs.declared.cause.Cause.TheVariants.{UnterminatedCall}
-use Rattle.sc_model.specs.Sets.{Sets, IsConfig}
+use Rattle.sc_model.proofs.SetLemmas.{IsConfig-kept}
+use Rattle.sc_model.specs.Sets.{Denotes, IsConfig, Keeps, Sets}
 use Rattle.sc_subst.proofs.Later.{hidden_later, text_later}
 use Rattle.sc_subst.specs.declared.hidden.Hidden.{Hidden}
 use Rattle.sc_subst.specs.Seen.{IsHeldHidden, seen_hidden}
-
--- ---- why there is no answer
-
--- different lists of places are those of different configurations
-pub stops-by : (s : Sets) (arities : List ℕ) (cond : ℕ) (list : List ℕ → List ℕ) (limit : ℕ) (stop : Stop) → s.arities ≡ arities → Refuses s cond list limit stop → StopsBy arities limit stop
-stops-by s arities cond list limit (BranchesFull count) same is = (
-  is.0,
-  record {
-    configs = is.1.configs;
-    many = is.1.many;
-    listed = subst (λ n. All (IsConfig n) is.1.configs) same is.1.listed;
-    apart = λ i j d before within e. is.1.apart i j d before within (ap list e);
-  },
-)
-stops-by s arities cond list limit ReadFault same is = is
-stops-by s arities cond list limit OutOfMemory same is = tt
 
 pub end-is : (one two : CallEnd) → is_end one two ≡ true → two ≡ one
 end-is closed closed is = refl
@@ -81,6 +69,37 @@ pub both : (a b : Bool) → (a && b) ≡ true → (a ≡ true) × (b ≡ true)
 both true true is = (refl, refl)
 both true false is = absurd (cc)
 both false b is = absurd (cc)
+
+-- ---- why there is no answer
+
+-- different lists of places are those of different calls
+pub stops-at : {s t : Sets} {names : List (List ℕ)} {hides : List (List Name)} {files : ℕ} (cond : ℕ) {closes : ℕ} (list : List (Cond × Hidden)) (limit : ℕ) (stop : Stop) → Keeps s t → AreHeld (stores s names hides) files list
+    → Denotes t closes (λ c. s.has cond c && is_end closed (call_end_at s names (tokens_in list) 0 c)) → Refuses t closes (λ c. call_places t names (tokens_in list) 0 c) limit stop
+    → StopsAt s names (λ c. s.has cond c ≡ true) list limit stop
+stops-at {s} {t} {names} {hides} {files} cond {closes} list limit (BranchesFull count) keeps held told is =
+    let end : List ℕ → CallEnd = λ c. call_end_at s names (tokens_in list) 0 c in
+    let grows : Grows (stores s names hides) (stores t names hides) = record { sets = keeps; names = Extends-refl names; hides = Extends-refl hides } in
+    let listed : All (IsConfig s.arities) is.1.configs = λ k d h. IsConfig-kept keeps (is.1.listed k d h) in
+    let parts : All (λ c. (s.has cond c ≡ true) × (end c ≡ closed)) is.1.configs = λ k d h. (
+    let c = get_or is.1.configs k d in
+    let two = both (s.has cond c) (is_end closed (end c)) (sym (told.at c (is.1.listed k d h)) ∙ is.1.has k d h) in
+    (two.0, end-is closed (end c) two.1)) in (
+      is.0,
+      record {
+        configs = is.1.configs;
+        many = is.1.many;
+        listed = listed;
+        take = λ k d h. (parts k d h).0;
+        ends = λ k d h. (parts k d h).1;
+        apart = λ i j d before within e.
+            let early : i < length is.1.configs = omega (arith, before, within) in
+            let same : IsSameCall s names (get_or is.1.configs i d) (get_or is.1.configs j d) list = record { ends = (parts i d early).1 ∙ sym (parts j d within).1; places = e } in
+            let later : IsSameCall t names (get_or is.1.configs i d) (get_or is.1.configs j d) list = each-same-call list list grows held refl (has_each-Keeps list _ keeps held.own (listed i d early)) (has_each-Keeps list _ keeps held.own (listed j d within)) same in
+            is.1.apart i j d before within later.places;
+      },
+    )
+stops-at cond list limit ReadFault keeps held told is = is
+stops-at cond list limit OutOfMemory keeps held told is = tt
 
 -- ---- one configuration
 

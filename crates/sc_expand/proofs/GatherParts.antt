@@ -13,12 +13,13 @@ use Rattle.sc_expand.proofs.AlikeLemmas.{IsAlike-Keeps, IsAlikeIn-Keeps}
 use Rattle.sc_expand.proofs.GatherBranches.{called-later, spelled-same}
 use Rattle.sc_expand.proofs.GatherEnds.{Ending, both, end-behind, end-is, ended-first, ended-gathers, ended-other, macro-is}
 use Rattle.sc_expand.proofs.GatherSteps.{refused-failures, refused-live, refused-other}
+use Rattle.sc_expand.proofs.LastLemmas.{last-earlier, last-later}
 use Rattle.sc_expand.proofs.SeenLemmas.{Grows-trans, IsHeldExpansion-Grows, at-Grows}
 use Rattle.sc_expand.proofs.TakingSteps.{has_first-Keeps}
 use Rattle.sc_expand.proofs.WorkListLemmas.{has_each-Keeps}
 use Rattle.sc_expand.specs.Called.{AreGathered, IsBranch, IsCalled}
 use Rattle.sc_expand.specs.Alike.{AreAlikeRefusals, IsAlikeIn, IsSameCall, Span}
-use Rattle.sc_expand.specs.Having.{has_each, tokens_in}
+use Rattle.sc_expand.specs.Having.{HasLast, has_each, tokens_in}
 use Rattle.sc_expand.specs.Gather.{Gathers}
 use Rattle.sc_expand.specs.declared.expansion.Expansion.{Expansion}
 use Rattle.sc_expand.specs.declared.refusals.Refusals.{Refusals}
@@ -295,6 +296,7 @@ pub record IsGathered (s0 s5 : Sets) (names last : List (List ℕ)) (files : Lis
   pub first : (c : List ℕ) → IsConfig s0.arities c → s0.has cond c ≡ true → s5.has e4.refusals.live.0 c ≡ true → has_first s5 e4.top.work c ≡ s5.has uncalled c
   pub alike : (c d : List ℕ) (span : Span) → IsConfig s0.arities c → IsConfig s0.arities d → s0.has cond c ≡ s0.has cond d → (s0.has cond c ≡ true → IsSameCall s0 names c d e0.top.work)
       → IsAlikeIn s0 c d span e0 → IsAlikeIn s5 c d span e4 × (s5.has uncalled c ≡ s5.has uncalled d)
+  pub rest : (c : List ℕ) → IsConfig s0.arities c → HasLast s0 s5 e0.top.work e4.top.work c
 
 module _ {s0 s1 s2 s3 : Sets} {names later : List (List ℕ)} {e : Expansion} {r : Refusals} {cond closes stays_open : ℕ} {branches : List Branch} (files : List (List ℕ)) (head : Hidden)
     (parts : Parted s0 s1 s2 s3 names later (length files) e r cond closes stays_open branches (failure_at UnterminatedCall (seen_hidden names e.sets head)))
@@ -342,4 +344,5 @@ module _ {s0 s1 s2 s3 : Sets} {names later : List (List ℕ)} {e : Expansion} {r
           IsAlikeIn-Keeps fifth c4 d4 span e4 held4 kept,
           uncalled_is.at c (IsConfig-Keeps fifth c4) ∙ ((λ i. bares i || alones i) ∙ sym (uncalled_is.at d (IsConfig-Keeps fifth d4))),
         );
+    rest = λ c listed. (let it = ended c listed (s0.has cond c) refl in last-earlier it.each (last-later (done.rest c (parted-config parts c listed)) it.last_each));
   }

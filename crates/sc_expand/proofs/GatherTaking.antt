@@ -14,6 +14,7 @@ use Rattle.sc_base.specs.declared.id.Name.{Name}
 use Rattle.sc_base.specs.declared.place.Place.{Place}
 use Rattle.sc_expand.proofs.AlikeLemmas.{IsAlike-Keeps}
 use Rattle.sc_expand.proofs.GatherCases.{case-closed}
+use Rattle.sc_expand.proofs.LastLemmas.{last-later}
 use Rattle.sc_expand.proofs.SeenLemmas.{IsHeldExpansion-Grows, at-Grows}
 use Rattle.sc_expand.proofs.TakingSteps.{has_first-Keeps, seen-first, state-scanning}
 use Rattle.sc_expand.proofs.WorkListLemmas.{has_each-Keeps}
@@ -23,7 +24,7 @@ use Rattle.sc_expand.specs.Called.{AreGathered, Begins, IsBranch, IsCall, IsMacr
 use Rattle.sc_expand.specs.declared.expansion.Expansion.{Expansion}
 use Rattle.sc_expand.specs.Gather as gathers
 use Rattle.sc_expand.specs.Gather.{Gathers}
-use Rattle.sc_expand.specs.Having.{has_each}
+use Rattle.sc_expand.specs.Having.{HasLast, has_each}
 use Rattle.sc_expand.specs.Machine.{IsHeldExpansion, at, with_call}
 use Rattle.sc_expand.specs.Plain.{Fails, bad_stringize, gathered, miscounted}
 use Rattle.sc_expand.specs.Seen.{AreHeld, Grows, IsHeldEnclosing, IsHeldFrame, IsHeldRefusals, Stores, failures_at, seen_at, stores, view_at}
@@ -140,6 +141,7 @@ pub record HasLeft (s0 s1 : Sets) (names : List (List ℕ)) (e0 e1 : Expansion) 
   pub others : (c : List ℕ) → IsConfig s0.arities c → s0.has branch.cond.0 c ≡ false
       → (seen_at (stores s1 names e1.sets) e1.top.work c ≡ seen_at (stores s0 names e0.sets) e0.top.work c) × (has_each s1 e1.top.work c ≡ has_each s0 e0.top.work c)
   pub first : (c : List ℕ) → IsConfig s0.arities c → s0.has branch.cond.0 c ≡ true → has_first s1 e1.top.work c ≡ false
+  pub rest : (c : List ℕ) → IsConfig s0.arities c → HasLast s0 s1 e0.top.work e1.top.work c
   pub alike : (c d : List ℕ) (span : Span) → IsConfig s0.arities c → IsConfig s0.arities d → IsAlike s0 c d branch.cond → IsAlikeIn s0 c d span e0 → IsAlikeIn s1 c d span e1
 
 pub left-by : (s0 s1 : Sets) (names : List (List ℕ)) (e0 e1 : Expansion) (branch : Branch) (between : List Hidden) (close : Hidden) → Keeps s0 s1 → e1.sets ≡ e0.sets → e1.top ≡ record e0.top { work = e1.top.work }
@@ -149,9 +151,10 @@ pub left-by : (s0 s1 : Sets) (names : List (List ℕ)) (e0 e1 : Expansion) (bran
     → ((c : List ℕ) → IsConfig s0.arities c → s0.has branch.cond.0 c ≡ false
     → (seen_at (stores s1 names e1.sets) e1.top.work c ≡ seen_at (stores s0 names e0.sets) e0.top.work c) × (has_each s1 e1.top.work c ≡ has_each s0 e0.top.work c))
     → ((c : List ℕ) → IsConfig s0.arities c → s0.has branch.cond.0 c ≡ true → has_first s1 e1.top.work c ≡ false)
+    → ((c : List ℕ) → IsConfig s0.arities c → HasLast s0 s1 e0.top.work e1.top.work c)
     → ((c d : List ℕ) (span : Span) → IsConfig s0.arities c → IsConfig s0.arities d → IsAlike s0 c d branch.cond → IsAlikeIn s0 c d span e0 → IsAlikeIn s1 c d span e1) → HasLeft s0 s1 names e0 e1 branch between close
-left-by s0 s1 names e0 e1 branch between close keeps sets top refusals below call others first alike =
-    record { keeps = keeps; sets = sets; top = top; refusals = refusals; below = below; call = call; others = others; first = first; alike = alike }
+left-by s0 s1 names e0 e1 branch between close keeps sets top refusals below call others first rest alike =
+    record { keeps = keeps; sets = sets; top = top; refusals = refusals; below = below; call = call; others = others; first = first; rest = rest; alike = alike }
 
 module _ {s0 s1 : Sets} {names : List (List ℕ)} {e0 e1 : Expansion} {branch : Branch} {between : List Hidden} {close : Hidden} (left : HasLeft s0 s1 names e0 e1 branch between close)
     (files : ℕ) (held : IsHeldExpansion (stores s0 names e0.sets) files e0) where
@@ -220,6 +223,9 @@ module _ {s0 s1 : Sets} {names : List (List ℕ)} {e0 e1 : Expansion} {branch : 
             ap (λ l. has_each s2 l c) same ∙ (has_each-Keeps e1.top.work c grows.sets here.own listed1 ∙ (left.others c listed lacks).1),
           )
 
+      gathered-rest : (c : List ℕ) → IsConfig s0.arities c → HasLast s0 s2 e0.top.work e2.top.work c
+      gathered-rest c listed = last-later (left.rest c listed) (ap (λ l. has_each s2 l c) same ∙ has_each-Keeps e1.top.work c grows.sets here.own (IsConfig-Keeps left.keeps listed))
+
       gathered-alike : (c d : List ℕ) (span : Span) → IsConfig s0.arities c → IsConfig s0.arities d → All (λ b. IsAlike s0 c d b.cond) (branch ∷ []) → IsAlikeIn s0 c d span e0 → IsAlikeIn s2 c d span e2
       gathered-alike c d span at_c at_d branches was =
           let same = All-head (λ (b : Branch). IsAlike s0 c d b.cond) branch [] branches in
@@ -248,6 +254,7 @@ module _ {s0 s1 : Sets} {names : List (List ℕ)} {e0 e1 : Expansion} {branch : 
         first = gathered-first;
         others = gathered-others;
         alike = gathered-alike;
+        rest = gathered-rest;
       }
 
       pub misfit-gathered : fit ≡ None → ((c : List ℕ) → IsConfig s1.arities c → s1.has branch.cond.0 c ≡ true → (at new e2 c).live ≡ false)
@@ -265,4 +272,5 @@ module _ {s0 s1 : Sets} {names : List (List ℕ)} {e0 e1 : Expansion} {branch : 
         first = gathered-first;
         others = gathered-others;
         alike = gathered-alike;
+        rest = gathered-rest;
       }

@@ -16,6 +16,7 @@ pub mod PlainAgreement
 pub mod PlainFootprint
 pub mod Parting
 pub mod WorkListLemmas
+pub mod LastLemmas
 pub mod SeenLemmas
 pub mod BeginningLemmas
 pub mod FillingLemmas
@@ -28,8 +29,11 @@ pub mod MachineLeaves
 pub mod Placing
 pub mod TakingLemmas
 pub mod TakingSteps
+pub mod StopsLemmas
+pub mod TakenLemmas
 pub mod PlainPlaces
 pub mod Dropping
+pub mod BottomLemmas
 pub mod Rests
 pub mod Turning
 pub mod RunLemmas
@@ -54,3 +58,16 @@ pub mod PuttingOut
 pub mod UnchangedLemmas
 pub mod UnchangedTaking
 pub mod UnchangedAnswers
+pub mod Behind
+pub mod Phases
+pub mod FootprintLemmas
+pub mod FootprintPlaces
+pub mod PlainEnds
+pub mod PhaseLists
+pub mod PhaseStarts
+pub mod PhaseMoves
+pub mod PhaseStops
+pub mod SpanCalls
+pub mod PhaseTurns
+pub mod PhaseCalls
+pub mod PhaseAlike

@@ -3,25 +3,21 @@ use Rattle.std.proofs.Common.{◌≡◌, ℕ, zero, suc, ◌==◌, ◌&&◌, ◌
 use Rattle.std.proofs.lemmas.List.{length-map, map-append}
 use Rattle.std.proofs.Math.ListN.{get_or-map}
 use Rattle.std.specs.Option.{option_map}
-use Rattle.c11_macros.specs.Call.{Call, Role, opening, closing, comma, other, apart, arguments_for, call_of, call_step, counts, filled_up, given, is_nothing, onto, onto_argument, role_of}
+use Rattle.c11_macros.proofs.Agreement.{EachBy, RescansBy}
+use Rattle.c11_macros.specs.Call.{Call, Role, opening, closing, comma, other, apart, arguments_for, behind_call, call_of, call_step, counts, filled_up, given, is_nothing, onto, onto_argument, rest_or, role_of}
 use Rattle.c11_macros.specs.Expansion.{Case, stays, replaced, unclosed, misfit, called, asked, call_case, call_result, case_of, defined_case, fitted_case, form_case, is_looked_up, list_of, looked_up_case, object_result, with_first, Expands, empty, stay, object, unterminated, miscounted, call, Each, none, passed, expanded, Rescans, on, refused}
 use Rattle.c11_macros.specs.Hidden.{Failure, Hidden, HideSet, Provenance, failure_at, meet, no_names, with_name}
 use Rattle.c11_macros.specs.Macros.{Definition, Form, Item, Macros, function_like, list_at, object_like}
 use Rattle.c11_macros.specs.Results.{result_and_then, result_map}
 use Rattle.c11_macros.specs.Substitution as substitution
 use Rattle.c11_macros.specs.Substitution.{Part, Piece, Slot, all_glued, argument, argument_pieces, begins_paste, expansion_of, filled, filled_by, for_parameter, for_paste, glued, hidden_by, hiding, is_text_kind, joined, literal_of, neither, operator, or_placemarker, parts, pasted_as, piece, pieces_of, placemarker, quoted_spelling, slot_of, slots, spellings, spellings_after, stringized, substituted, tokens_of, wants, with_space}
-use Rattle.c11_macros.specs.Trace.{looked_up_at, trace, trace_each, trace_rescan}
+use Rattle.c11_macros.specs.Trace.{ExpandsBy, after_step, both, failing, looked_up_at, looks_up, stands, takes, taking, taking_call, trace, trace_each, trace_rescan}
 use Rattle.c11_tokens.specs.Relex.{relexed}
 use Rattle.sc_expand.specs.Moved.{IsKept, moved, moved_answer, moved_failure}
 use Rattle.sc_model.specs.declared.cause.Cause.TheVariants.{BadStringize}
 use Rattle.sc_model.specs.declared.kind.Kind.{Kind}
 use Rattle.sc_model.specs.declared.kind.Kind.TheVariants.{Text}
 use Rattle.sc_model.specs.Bytes.{same_bytes}
-
--- by something that looks up these names
-pub record LooksUp (A : Type 0) (names_of : A → List (List ℕ)) (names : List (List ℕ)) : Type 0 where
-  pub by : A
-  pub named : names_of by ≡ names
 
 -- ---- steps of which each may fail
 
@@ -309,6 +305,22 @@ module _ {P Q : Type 0} (f : P → Q) where
   with_first-moved t (Ok ts) = refl
   with_first-moved t (Err failure) = refl
 
+  -- ---- what was used
+
+  taking-moved : (t : Hidden P) (rest : List (Hidden P)) → taking (moved f t) (all rest) ≡ taking t rest
+  taking-moved t rest = ap (λ n. record { steps = 1; looked_up = looked_up_at t; uses = stands (suc n) ∷ looks_up (looked_up_at t) ∷ [] }) (length-map rest (moved f))
+
+  taking_call-moved : (after : List (Hidden P)) → taking_call (all after) ≡ taking_call after
+  taking_call-moved after = ap (λ n. record { steps = 0; looked_up = []; uses = takes n ∷ [] }) (length-map after (moved f))
+
+  rest_or-moved : (ts : List (Hidden P)) (o : Option (Call P)) → rest_or (all ts) (option_map moved_call o) ≡ all (rest_or ts o)
+  rest_or-moved ts None = refl
+  rest_or-moved ts (Some found) = refl
+
+  behind_call-moved : (ts : List (Hidden P)) → behind_call (all ts) ≡ all (behind_call ts)
+  behind_call-moved [] = refl
+  behind_call-moved (t ∷ ts) = ap (rest_or (all ts)) (call_of-moved zero zero ts) ∙ rest_or-moved ts (call_of zero zero ts)
+
   -- ---- replacements and expansions
 
   module _ {one : Provenance P} {two : Provenance Q} (kept : IsKept one two f) where
@@ -359,46 +371,42 @@ module _ {P Q : Type 0} (f : P → Q) where
         ∙ asked-moved d.form (list_of one d t) 0 arguments
 
     module _ (macros : Macros) where
-      abbrev pub ExpandsBy : List (Hidden Q) → Result (List (Hidden Q)) (Failure Q) → List (List ℕ) → Type 0
-      ExpandsBy ts r = LooksUp (Expands two macros ts r) (λ d. (trace d).looked_up)
-
-      abbrev EachBy : List (Option (List (Hidden Q))) → List (Result (List (Hidden Q)) (Failure Q)) → List (List ℕ) → Type 0
-      EachBy asks rs = LooksUp (Each two macros asks rs) (λ each. (trace_each each).looked_up)
-
-      abbrev RescansBy : Result (List (Hidden Q)) (Failure Q) → List (Hidden Q) → Result (List (Hidden Q)) (Failure Q) → List (List ℕ) → Type 0
-      RescansBy made rest r = LooksUp (Rescans two macros made rest r) (λ g. (trace_rescan g).looked_up)
-
       mutual
-        -- what a list expands to is mapped with the list, and the same names are looked up
-        pub expands-moved : {ts : List (Hidden P)} {r : Result (List (Hidden P)) (Failure P)} (d : Expands one macros ts r) → ExpandsBy (map (moved f) ts) (moved_answer f r) (trace d).looked_up
-        expands-moved empty = record { by = empty; named = refl }
+        -- what a list expands to is mapped with the list, and its trace is the same
+        pub expands-moved : {ts : List (Hidden P)} {r : Result (List (Hidden P)) (Failure P)} (d : Expands one macros ts r) → ExpandsBy two macros (map (moved f) ts) (moved_answer f r) (trace d)
+        expands-moved empty = record { expands = empty; by = refl }
         expands-moved (stay {t} {rest} {r} is d) =
             let e = expands-moved d in
-            subst (λ a. ExpandsBy (moved f t ∷ all rest) a (looked_up_at t ++ (trace d).looked_up)) (with_first-moved t r)
-            (record { by = stay (case_of-moved macros t rest ∙ ap moved_case is) e.by; named = ap (λ names. looked_up_at t ++ names) e.named })
+            subst (λ a. ExpandsBy two macros (moved f t ∷ all rest) a (both (taking t rest) (trace d))) (with_first-moved t r)
+            (record { expands = stay (case_of-moved macros t rest ∙ ap moved_case is) e.expands; by = λ i. both (taking-moved t rest i) (e.by i) })
         expands-moved (object {t} {rest} {r} d is g) =
-            let h = subst (λ made. RescansBy made (all rest) (moved_answer f r) (trace_rescan g).looked_up) (sym (object_result-moved d t)) (rescans-moved g) in
-            record { by = object d (case_of-moved macros t rest ∙ ap moved_case is) h.by; named = ap (λ names. looked_up_at t ++ names) h.named }
-        expands-moved (unterminated {t} {rest} is) = record { by = unterminated (case_of-moved macros t rest ∙ ap moved_case is); named = refl }
-        expands-moved (miscounted {t} {rest} is) = record { by = miscounted (case_of-moved macros t rest ∙ ap moved_case is); named = refl }
+            let h = subst (λ made. RescansBy two macros made (all rest) (moved_answer f r) (trace_rescan g)) (sym (object_result-moved d t)) (rescans-moved g) in
+            record { expands = object d (case_of-moved macros t rest ∙ ap moved_case is) h.goes; by = λ i. both (taking-moved t rest i) (h.by i) }
+        expands-moved (unterminated {t} {rest} is) = record { expands = unterminated (case_of-moved macros t rest ∙ ap moved_case is); by = λ i. both (taking-moved t rest i) failing }
+        expands-moved (miscounted {t} {rest} is) = record {
+          expands = miscounted (case_of-moved macros t rest ∙ ap moved_case is);
+          by =
+              let behind = ap taking_call (behind_call-moved rest) ∙ taking_call-moved (behind_call rest) in
+              λ i. both (taking-moved t rest i) (both (behind i) failing);
+        }
         expands-moved (call {t} {rest} {r} d arguments close after results is each g) =
-            let every = subst (λ asks. EachBy asks (map (moved_answer f) results) (trace_each each).looked_up) (sym (asked_of-moved d t arguments)) (each-moved each) in
-            let h = subst (λ made. RescansBy made (all after) (moved_answer f r) (trace_rescan g).looked_up) (sym (call_result-moved d t arguments close results)) (rescans-moved g) in
+            let every = subst (λ asks. EachBy two macros asks (map (moved_answer f) results) (trace_each each)) (sym (asked_of-moved d t arguments)) (each-moved each) in
+            let h = subst (λ made. RescansBy two macros made (all after) (moved_answer f r) (trace_rescan g)) (sym (call_result-moved d t arguments close results)) (rescans-moved g) in
             record {
-              by = call d (map all arguments) (moved f close) (all after) (map (moved_answer f) results) (case_of-moved macros t rest ∙ ap moved_case is) every.by h.by;
-              named = λ i. (looked_up_at t ++ []) ++ (every.named i ++ h.named i);
+              expands = call d (map all arguments) (moved f close) (all after) (map (moved_answer f) results) (case_of-moved macros t rest ∙ ap moved_case is) every.each h.goes;
+              by = λ i. both (both (taking-moved t rest i) (taking_call-moved after i)) (both (every.by i) (h.by i));
             }
 
-        each-moved : {asks : List (Option (List (Hidden P)))} {rs : List (Result (List (Hidden P)) (Failure P))} (each : Each one macros asks rs) → EachBy (map (option_map all) asks) (map (moved_answer f) rs) (trace_each each).looked_up
-        each-moved none = record { by = none; named = refl }
-        each-moved (passed others) = let more = each-moved others in record { by = passed more.by; named = more.named }
+        each-moved : {asks : List (Option (List (Hidden P)))} {rs : List (Result (List (Hidden P)) (Failure P))} (each : Each one macros asks rs) → EachBy two macros (map (option_map all) asks) (map (moved_answer f) rs) (trace_each each)
+        each-moved none = record { each = none; by = refl }
+        each-moved (passed others) = let more = each-moved others in record { each = passed more.each; by = more.by }
         each-moved (expanded first others) =
             let e = expands-moved first in
             let more = each-moved others in
-            record { by = expanded e.by more.by; named = λ i. e.named i ++ more.named i }
+            record { each = expanded e.expands more.each; by = λ i. both (after_step (e.by i)) (more.by i) }
 
-        rescans-moved : {made : Result (List (Hidden P)) (Failure P)} {rest : List (Hidden P)} {r : Result (List (Hidden P)) (Failure P)} (g : Rescans one macros made rest r) → RescansBy (moved_answer f made) (all rest) (moved_answer f r) (trace_rescan g).looked_up
+        rescans-moved : {made : Result (List (Hidden P)) (Failure P)} {rest : List (Hidden P)} {r : Result (List (Hidden P)) (Failure P)} (g : Rescans one macros made rest r) → RescansBy two macros (moved_answer f made) (all rest) (moved_answer f r) (trace_rescan g)
         rescans-moved (on {body} {rest} {r} d) =
-            let e = subst (λ ts. ExpandsBy ts (moved_answer f r) (trace d).looked_up) (map-append (moved f) body rest) (expands-moved d) in
-            record { by = on e.by; named = e.named }
-        rescans-moved (refused failure) = record { by = refused (moved_failure f failure); named = refl }
+            let e = subst (λ ts. ExpandsBy two macros ts (moved_answer f r) (trace d)) (map-append (moved f) body rest) (expands-moved d) in
+            record { goes = on e.expands; by = e.by }
+        rescans-moved (refused failure) = record { goes = refused (moved_failure f failure); by = refl }

@@ -1,19 +1,20 @@
 -- What drops out of the frame on top, with all that is next for refused configurations alone, and what
 -- does not: no configuration that was not refused moves.
-use Rattle.std.proofs.Common.{◌≡◌, ℕ, ◌<◌, ◌-◌, ◌&&◌, Bool, true, false, true≢false, List, [], ◌∷◌, ◌++◌, All, drop, length, map, length-append, append-nil, Option, Some, None, slice_get, sum_by, refl, sym, ap, subst, ◌∙◌, arith, if◌then◌else◌}
-use Rattle.std.proofs.lemmas.List.Elements.{All-pop, All-tail}
+use Rattle.std.proofs.Common.{◌≡◌, ℕ, ◌<◌, ◌-◌, ◌&&◌, Bool, true, false, true≢false, List, [], ◌∷◌, ◌++◌, All, drop, length, map, take, length-append, append-nil, Option, Some, None, slice_get, sum_by, refl, sym, ap, subst, ◌∙◌, arith, if◌then◌else◌}
+use Rattle.std.proofs.lemmas.List.Elements.{All-pop}
 use Rattle.std.proofs.lemmas.List.Sums.{sum_by-append}
-use Rattle.std.proofs.lemmas.Option.{get_or_from_slice_get, slice_get_within}
 use Rattle.c11_macros.specs.Hidden.{Provenance}
 use Rattle.c11_macros.specs.Macros.{Macros}
 use Rattle.sc_base.specs.declared.id.Cond.{Cond}
 use Rattle.sc_base.specs.declared.place.Place.{Place}
-use Rattle.sc_expand.proofs.AlikeLemmas.{IsAlikeExpansion-Keeps}
+use Rattle.sc_expand.proofs.AlikeLemmas.{All-at, All-but-tail, IsAlikeExpansion-Keeps, enclosing-last, enclosing-others}
+use Rattle.sc_expand.proofs.BottomLemmas.{behind-Keeps, behind-other, bottom-held, bottom-less, bottom-same}
 use Rattle.sc_expand.proofs.MachineCalls.{calls_at-append, leave-other}
 use Rattle.sc_expand.proofs.MachineLemmas.{Stands-Grows, state_in-Grows}
 use Rattle.sc_expand.proofs.SeenLemmas.{AreHeld-tail, IsHeldExpansion-Grows, at-Grows}
 use Rattle.sc_expand.proofs.UnchangedLemmas.{drops-first, drops-nothing, drops-then, never-empty, not-both}
-use Rattle.sc_expand.specs.Alike.{AreAlikeRefusals, IsAlikeCall, IsAlikeEnclosing, IsAlikeFrame}
+use Rattle.sc_expand.specs.Alike.{AreAlikeRefusals, IsAlikeCall, IsAlikeEnclosing, IsAlikeFrame, others_at}
+use Rattle.sc_expand.specs.Having.{behind_at}
 use Rattle.sc_expand.specs.declared.call.Call.{Call}
 use Rattle.sc_expand.specs.declared.expansion.Expansion.{Expansion}
 use Rattle.sc_expand.specs.declared.frame.Enclosing.{Enclosing}
@@ -21,7 +22,7 @@ use Rattle.sc_expand.specs.declared.frame.Frame.{Frame}
 use Rattle.sc_expand.specs.Machine.{IsHeldExpansion, Progress, Stands, at, fails, gone, rests, state_in, steps}
 use Rattle.sc_expand.specs.Plain.{Fails, Moves}
 use Rattle.sc_expand.specs.Running as running
-use Rattle.sc_expand.specs.Running.{IsDropped, IsReady, IsRested, frame_weight, last_of, next_by, next_of, put_by, put_out, weight}
+use Rattle.sc_expand.specs.Running.{IsDropped, IsReady, IsRested, bottom, bottom_by, frame_weight, last_of, next_by, next_of, put_by, put_out, weight}
 use Rattle.sc_expand.specs.Seen.{AreHeld, Grows, IsHeldCall, IsHeldEnclosing, IsHeldFrame, IsHeldRefusals, Stores, calls_at, failures_at, seen_at, view_at, waiting_at}
 use Rattle.sc_expand.specs.Turn.{At}
 use Rattle.sc_guarded.specs.Items.{items_at}
@@ -54,11 +55,8 @@ next-argument e below o none empty is =
     ∙ (ap (λ (ts : List (Cond × Hidden)). next_by None (slice_get ts 0) (last_of e.below.items)) empty
     ∙ (ap (λ es. next_by None None (last_of es)) is ∙ ap (λ r. next_by None None r) (last-is below o)))
 
-some-same : {A : Type 0} {x y : A} → Some x ≡ Some y → x ≡ y
+pub some-same : {A : Type 0} {x y : A} → Some x ≡ Some y → x ≡ y
 some-same is = cc
-
-pub All-here : {A : Type 0} (P : A → Type 0) (xs : List A) (i : ℕ) (x : A) → slice_get xs i ≡ Some x → All P xs → P x
-All-here P xs i x is all = subst P (get_or_from_slice_get xs i x x is) (all i x (slice_get_within xs i x is))
 
 -- ---- what was put out
 
@@ -106,7 +104,8 @@ module _ {old new : Stores} (grows : Grows old new) (e : Expansion) where
           sym (ap (λ v. state_in new e.below.items v c) view ∙ state_in-Grows grows files c listed e.below.items (view_at old e.top c) held.below),
         ));
     drops = λ files held uncalled. drops-nothing old.sets e uncalled;
-    alike = λ files c d held p q alike. IsAlikeExpansion-Keeps grows.sets p q e held alike;
+    alike = λ files c d others held p q alike. IsAlikeExpansion-Keeps grows.sets p q others e held alike;
+    rest = λ files c held p live. behind-Keeps grows.sets p (bottom e).work (bottom-held e held);
   }
 
 -- ---- what is next drops out, and only refused configurations have it
@@ -134,6 +133,11 @@ module _ (st : Stores) (e after : Expansion) (refusals : after.refusals ≡ e.re
     ap (λ v. state_in st e.below.items v c) (sym view) ∙ ap (λ bs. state_in st bs (view_at st after.top c) c) (sym (ap (λ b. b.items) below)),
   )
 
+  -- the list on top is the one below all others, or another is
+  behind-top : (c : List ℕ) (below : List Enclosing) (t u : Frame) → behind_at st.sets u.work c ≡ behind_at st.sets t.work c → behind_at st.sets (bottom_by below u).work c ≡ behind_at st.sets (bottom_by below t).work c
+  behind-top c [] t u same = same
+  behind-top c (b ∷ bs) t u same = refl
+
   -- the first token, also where calls wait
   pub rested-token : (item : Cond × Hidden) → ((c : List ℕ) → IsConfig st.sets.arities c → st.sets.has item.0.0 c ≡ true → st.sets.has e.refusals.live.0 c ≡ true → ⊥)
       → e.top.work ≡ item ∷ after.top.work → after.top.calls.items ≡ e.top.calls.items → after.top.out ≡ e.top.out → after.below ≡ e.below → IsRested st st e after
@@ -158,15 +162,21 @@ module _ (st : Stores) (e after : Expansion) (refusals : after.refusals ≡ e.re
         let third = ap (λ l. calls_at st l c) calls in
         λ i. record { out = first i; work = fewer i; calls = third i }));
     drops = λ files held uncalled. drops-first st.sets e after item never work calls out below uncalled;
-    alike = λ files c d held p q alike. record {
-      refusals = subst (AreAlikeRefusals st.sets c d 0) (sym refusals) alike.refusals;
-      top = record {
-        work = All-tail (λ (item : Cond × Hidden). IsAlike st.sets c d item.0) item after.top.work (subst (AreAlike st.sets c d) work alike.top.work);
-        out = subst (AreAlike st.sets c d) (sym out) alike.top.out;
-        calls = subst (All (IsAlikeCall st.sets c d)) (sym calls) alike.top.calls;
-      };
-      below = subst (λ b. All (IsAlikeEnclosing st.sets c d) b.items) (sym below) alike.below;
-    };
+    alike = λ files c d others held p q alike.
+        let here = others_at others (length e.below.items) in
+        let Same : Cond × Hidden → Type 0 = λ item. IsAlike st.sets c d item.0 in
+        record {
+          refusals = subst (AreAlikeRefusals st.sets c d others.faults) (sym refusals) alike.refusals;
+          top = subst (λ b. IsAlikeFrame st.sets c d (others_at others (length b.items)) after.top) (sym below) (record {
+            work = All-but-tail Same here.behind item after.top.work (subst (λ l. AreAlike st.sets c d (take (length l - here.behind) l)) work alike.top.work);
+            out = subst (λ l. AreAlike st.sets c d (drop here.out l)) (sym out) alike.top.out;
+            calls = subst (All (IsAlikeCall st.sets c d)) (sym calls) alike.top.calls;
+          });
+          below = subst (λ b. (n : ℕ) (o : Enclosing) → slice_get b.items n ≡ Some o → IsAlikeEnclosing st.sets c d (others_at others n) o) (sym below) alike.below;
+        };
+    rest = λ files c held p live.
+        ap (λ b. behind_at st.sets (bottom_by b.items after.top).work c) below
+        ∙ behind-top c e.below.items e.top after.top (behind-other st.sets c item e.top.work after.top.work work (absent (st.sets.has item.0.0 c) (λ has. never c p has live)));
   }
 
   pub rested-dropped : ((cond : Cond) → next_of e ≡ Some cond → (c : List ℕ) → IsConfig st.sets.arities c → st.sets.has cond.0 c ≡ true → st.sets.has e.refusals.live.0 c ≡ true → ⊥)
@@ -193,15 +203,18 @@ module _ (st : Stores) (e after : Expansion) (refusals : after.refusals ≡ e.re
         let second = ap (λ l. seen_at st l c) work in
         λ i. record { out = first i; work = second i; calls = fewer i }));
     drops = λ files held uncalled. absurd (never-empty after.top.calls.items k (sym calls ∙ uncalled.calls));
-    alike = λ files c d held p q alike. record {
-      refusals = subst (AreAlikeRefusals st.sets c d 0) (sym refusals) alike.refusals;
-      top = record {
-        work = subst (AreAlike st.sets c d) (sym work) alike.top.work;
-        out = subst (AreAlike st.sets c d) (sym out) alike.top.out;
-        calls = (All-pop (IsAlikeCall st.sets c d) e.top.calls.items after.top.calls.items (Some k) calls alike.top.calls).0;
-      };
-      below = subst (λ b. All (IsAlikeEnclosing st.sets c d) b.items) (sym below) alike.below;
-    };
+    alike = λ files c d others held p q alike.
+        let here = others_at others (length e.below.items) in
+        record {
+          refusals = subst (AreAlikeRefusals st.sets c d others.faults) (sym refusals) alike.refusals;
+          top = subst (λ b. IsAlikeFrame st.sets c d (others_at others (length b.items)) after.top) (sym below) (record {
+            work = subst (λ l. AreAlike st.sets c d (take (length l - here.behind) l)) (sym work) alike.top.work;
+            out = subst (λ l. AreAlike st.sets c d (drop here.out l)) (sym out) alike.top.out;
+            calls = (All-pop (IsAlikeCall st.sets c d) e.top.calls.items after.top.calls.items (Some k) calls alike.top.calls).0;
+          });
+          below = subst (λ b. (n : ℕ) (o : Enclosing) → slice_get b.items n ≡ Some o → IsAlikeEnclosing st.sets c d (others_at others n) o) (sym below) alike.below;
+        };
+    rest = λ files c held p live. ap (λ l. behind_at st.sets l c) (ap (λ b. (bottom_by b.items after.top).work) below ∙ bottom-same e.below.items after.top e.top work);
   }
   rested-dropped never (running.token item none later work out below) =
       rested-token item (λ c listed has live. never item.0 (next-token e item after.top.work none work) c listed has live) work (later ∙ sym none) out below
@@ -223,13 +236,15 @@ module _ (st : Stores) (e after : Expansion) (refusals : after.refusals ≡ e.re
           ap (λ bs. state_in st bs (view_at st e.top c) c) below ∙ (r.1 ∙ ap (λ t. state_in st after.below.items (view_at st t c) c) (sym top)),
         ));
     drops = λ files held uncalled. absurd (never-empty after.below.items o (sym below ∙ uncalled.below));
-    alike = λ files c d held p q alike.
-        let popped = All-pop (IsAlikeEnclosing st.sets c d) e.below.items after.below.items (Some o) below alike.below in
+    alike = λ files c d others held p q alike.
+        let last = enclosing-last {others = others} e after.below.items o below alike in
         record {
-          refusals = subst (AreAlikeRefusals st.sets c d 0) (sym refusals) alike.refusals;
-          top = subst (IsAlikeFrame st.sets c d) (sym top) popped.1.frame;
-          below = popped.0;
+          refusals = subst (AreAlikeRefusals st.sets c d others.faults) (sym refusals) alike.refusals;
+          top = subst (IsAlikeFrame st.sets c d (others_at others (length after.below.items))) (sym top) last.frame;
+          below = enclosing-others {others = others} e after.below.items o below alike;
         };
+    rest = λ files c held p live.
+        ap (λ l. behind_at st.sets l c) (ap (λ t. (bottom_by after.below.items t).work) top ∙ (sym (ap (λ f. f.work) (bottom-less after.below.items o e.top)) ∙ sym (ap (λ bs. (bottom_by bs e.top).work) below)));
   }
 
 -- ---- one after the other
@@ -245,7 +260,10 @@ rested-then {old} {mid} {new} {one} {two} {three} grows a b = record {
   drops = λ files held uncalled.
       let first = a.drops files held uncalled in
       drops-then old.sets mid.sets one two three grows.sets held.refusals.live held.top.work.own a.refusals first (b.drops files (a.held files held) first.uncalled);
-  alike = λ files c d held p q alike. b.alike files c d (a.held files held) (IsConfig-Keeps grows.sets p) (IsConfig-Keeps grows.sets q) (a.alike files c d held p q alike);
+  alike = λ files c d others held p q alike. b.alike files c d others (a.held files held) (IsConfig-Keeps grows.sets p) (IsConfig-Keeps grows.sets q) (a.alike files c d others held p q alike);
+  rest = λ files c held p live.
+      let still : mid.sets.has two.refusals.live.0 c ≡ true = ap (λ r. mid.sets.has r.live.0 c) a.refusals ∙ (grows.sets.at one.refusals.live.0 c held.refusals.live p ∙ live) in
+      b.rest files c (a.held files held) (IsConfig-Keeps grows.sets p) still ∙ a.rest files c held p live;
 }
 
 -- ---- it grows lighter
@@ -265,9 +283,9 @@ module _ {st : Stores} {files : ℕ} (e : Expansion) (held : IsHeldExpansion st 
   next-own cond is = by (last_of e.top.calls.items) (slice_get e.top.work 0) (last_of e.below.items) refl refl refl is
     where
       by : (call : Option Call) (first : Option (Cond × Hidden)) (o : Option Enclosing) → last_of e.top.calls.items ≡ call → slice_get e.top.work 0 ≡ first → last_of e.below.items ≡ o → next_by call first o ≡ Some cond → IsCond st.sets cond.0
-      by (Some k) first o here work below is = subst (λ (x : Cond). IsCond st.sets x.0) (some-same is) (All-here (IsHeldCall st files) e.top.calls.items (length e.top.calls.items - 1) k here held.top.calls).own
-      by None (Some item) o here work below is = subst (λ (x : Cond). IsCond st.sets x.0) (some-same is) (All-here (λ (item : Cond × Hidden). IsCond st.sets item.0.0) e.top.work 0 item work held.top.work.own)
-      by None None (Some o) here work below is = subst (λ (x : Cond). IsCond st.sets x.0) (some-same is) (All-here (IsHeldEnclosing st files) e.below.items (length e.below.items - 1) o below held.below).call.own
+      by (Some k) first o here work below is = subst (λ (x : Cond). IsCond st.sets x.0) (some-same is) (All-at (IsHeldCall st files) e.top.calls.items (length e.top.calls.items - 1) k here held.top.calls).own
+      by None (Some item) o here work below is = subst (λ (x : Cond). IsCond st.sets x.0) (some-same is) (All-at (λ (item : Cond × Hidden). IsCond st.sets item.0.0) e.top.work 0 item work held.top.work.own)
+      by None None (Some o) here work below is = subst (λ (x : Cond). IsCond st.sets x.0) (some-same is) (All-at (IsHeldEnclosing st files) e.below.items (length e.below.items - 1) o below held.below).call.own
       by None None None here work below is = absurd (cc)
 
 module _ {old new : Sets} (keeps : Keeps old new) (e : Expansion) (next met : Cond) (is : next_of e ≡ Some next) (own : IsCond old next.0) (live_own : IsCond old e.refusals.live.0)

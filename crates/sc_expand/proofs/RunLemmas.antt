@@ -94,8 +94,9 @@ module _ {files : List (List ℕ)} {macros : List ℕ → Macros} {old now : Sto
   pub running-stands : (c : List ℕ) → IsConfig old.sets.arities c → now.sets.has e.refusals.live.0 c ≡ true → Stands now c e.below.items (view_at now e.top c)
   running-stands c listed live = told-stands (r.told c listed) live
 
-  fewer : (c : List ℕ) → IsConfig old.sets.arities c → old.sets.has was.refusals.live.0 c ≡ false → now.sets.has e.refusals.live.0 c ≡ false
-  fewer c listed refused = told-refused refused (r.told c listed)
+  -- one that was refused at first is so still
+  pub running-fewer : (c : List ℕ) → IsConfig old.sets.arities c → old.sets.has was.refusals.live.0 c ≡ false → now.sets.has e.refusals.live.0 c ≡ false
+  running-fewer c listed refused = told-refused refused (r.told c listed)
 
   -- each stands in one frame
   pub running-is : IsExpansion now (length files) e
@@ -119,7 +120,7 @@ module _ {files : List (List ℕ)} {macros : List ℕ → Macros} {old now : Sto
       }
 
       pub running-later : IsHeldExpansion new (length files) after → PutsOut now new e.refusals.live.0 (put_out e) (put_out after) → (LooksUpNone old.sets old.names macros was → Passes new.sets was after) → IsRunning files macros old new was after
-      running-later held out passes = record { held = held; told = told-later; out = puts-then grows fewer r.out out; passes = passes }
+      running-later held out passes = record { held = held; told = told-later; out = puts-then grows running-fewer r.out out; passes = passes }
 
       pub running-le : steps_in old.sets.arities files macros names within new after ≤ steps_in old.sets.arities files macros names within now e
       running-le = turn-le old.sets.arities (provenance_of files) macros names within (λ c. now.sets.has e.refusals.live.0 c) (λ c. new.sets.has after.refusals.live.0 c)

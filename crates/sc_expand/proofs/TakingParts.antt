@@ -1,9 +1,10 @@
 -- One part more of what a look-up gives is taken.
-use Rattle.std.proofs.Common.{◌≡◌, ◌∙◌, ◌∷◌, ◌++◌, ℕ, ◌+◌, ◌<◌, ◌≤◌, Bool, true, false, List, [], Option, Some, None, ap, refl, sym, subst, length, take, get_or, map, append-nil, arith, if◌then◌else◌}
+use Rattle.std.proofs.Common.{◌≡◌, ◌∙◌, ◌∷◌, ◌++◌, ℕ, zero, suc, ◌+◌, ◌<◌, ◌≤◌, Bool, true, false, List, [], Option, Some, None, ap, refl, sym, subst, length, take, get_or, map, append-nil, arith, if◌then◌else◌}
 use Rattle.std.proofs.Common.{Global}
 use Rattle.std.proofs.lemmas.List.{take_more}
+use Rattle.std.proofs.lemmas.Option.{slice_get-map}
 use Rattle.std.specs.Option.{option_map}
-use Rattle.std.specs.Prelude.{IfSome}
+use Rattle.std.specs.Prelude.{IfSome, slice_get}
 use Rattle.std.specs.declared.rc.Rc.{Rc}
 use Rattle.c11_macros.specs.Hidden.{Hidden}
 use Rattle.c11_macros.specs.Macros.{Macros}
@@ -12,12 +13,13 @@ use Rattle.sc_base.specs.declared.id.Cond.{Cond}
 use Rattle.sc_base.specs.declared.place.Place.{Place}
 use Rattle.sc_expand.proofs.AlikeTaking.{part-alike, part-each}
 use Rattle.sc_expand.proofs.SeenLemmas.{at-Grows, seen_hidden-Grows}
+use Rattle.sc_expand.proofs.TakenLemmas.{taken-each, taken-earlier, taken-later}
 use Rattle.sc_expand.proofs.TakingSteps.{has_first-Keeps, none-before, same-step}
-use Rattle.sc_expand.specs.Alike.{IsAlikeIn, IsAlikeTaken, IsSameCall, Span}
+use Rattle.sc_expand.specs.Alike.{IsAlikeIn, IsAlikeTaken, IsFunctionLike, IsSameCall, Span}
 use Rattle.sc_expand.specs.Having.{has_each}
 use Rattle.sc_expand.specs.Machine.{IsHeldExpansion, at}
 use Rattle.sc_expand.specs.Seen.{AreHeld, Grows, IsHeldToken, Stores, provenance_of, seen_at}
-use Rattle.sc_expand.specs.Taking.{AreTaken, Comes, Step, step_at, untaken}
+use Rattle.sc_expand.specs.Taking.{AreTaken, Comes, HasTaken, IsFunction, Step, TakesPart, step_at, untaken}
 use Rattle.sc_expand.specs.Turn.{At}
 use Rattle.sc_expand.specs.declared.expansion.Expansion.{Expansion}
 use Rattle.sc_expand.specs.declared.taking.Taken.{Taken}
@@ -46,6 +48,10 @@ with-next : (s : Sets) (parts : List (Cond × Option (Rc Definition Global))) (i
 with-next s parts i part c within is =
     ap (λ l. items_at s l c) (take_more parts i part within ∙ ap (λ p. take i parts ++ p ∷ []) (sym is)) ∙ items_at-append s (take i parts) (part ∷ []) c
 
+pub none-found : {A B : Type 0} (f : A → B) (xs : List A) → map f xs ≡ [] → xs ≡ []
+none-found f [] is = refl
+none-found f (x ∷ xs) is = cc
+
 module _ (files : List (List ℕ)) (old mid new : Stores) (was now next : Expansion) (before after later : Taken) (head : declared.Hidden) (parts : List (Cond × Option (Rc Definition Global))) (i : ℕ) (part : Cond × Option (Rc Definition Global)) where
   abbrev Taken_by : (b : Bool) → (c : List ℕ) (macros : Macros) (rest : List (Hidden Place)) → Type 0
   Taken_by b c macros rest = map (seen_by old.names) (items_at old.sets (take i parts) c ++ (if b then part.1 ∷ [] else [])) ≡ macros (text_of old.names head.token.spelling) ∷ []
@@ -57,15 +63,18 @@ module _ (files : List (List ℕ)) (old mid new : Stores) (was now next : Expans
       → ((c : List ℕ) → IsConfig mid.sets.arities c → mid.sets.has part.0.0 c ≡ false → step_at new next later c ≡ step_at mid now after c)
       → AreHeld old counted was.top.work → map (λ (item : Cond × declared.Hidden). item.1) now.top.work ≡ map (λ (item : Cond × declared.Hidden). item.1) was.top.work
       → ((c : List ℕ) → IsConfig mid.sets.arities c → mid.sets.has part.0.0 c ≡ false → has_each new.sets next.top.work c ≡ has_each mid.sets now.top.work c)
-      → ((c d : List ℕ) (span : Span) → IsConfig mid.sets.arities c → IsConfig mid.sets.arities d → IsAlike mid.sets c d part.0 → (mid.sets.has part.0.0 c ≡ true → IsSameCall mid.sets mid.names c d now.top.work)
+      → ((c d : List ℕ) (span : Span) → IsConfig mid.sets.arities c → IsConfig mid.sets.arities d → IsAlike mid.sets c d part.0
+      → (mid.sets.has part.0.0 c ≡ true → IsFunction mid.names part.1 → IsSameCall mid.sets mid.names c d now.top.work)
       → IsAlikeTaken mid.sets c d after → IsAlikeIn mid.sets c d span now → IsAlikeIn new.sets c d span next × IsAlikeTaken new.sets c d later)
+      → ((c : List ℕ) → IsConfig mid.sets.arities c → HasTaken mid.sets new.sets now.top.work next.top.work later.made.items c)
       → AreTaken files old new was next before later head (take (i + 1) parts)
-  part-taken counted within is grows held own definition one done comes others work tokens each alike = record {
+  part-taken counted within is grows held own definition one done comes others work tokens each alike rest = record {
     comes = λ c macros rest listed work found.
         came c macros rest listed work (old.sets.has part.0.0 c) refl (ap (map (seen_by old.names)) (sym (with-next old.sets parts i part c within is)) ∙ found);
     others = λ c listed none. left c listed (old.sets.has part.0.0 c) refl (sym (with-next old.sets parts i part c within is) ∙ none);
     others_each = part-each parts i part within is grows own done new next each;
-    alike = part-alike parts i part within is grows own done new next later counted work tokens one alike;
+    alike = part-alike parts i part within is grows own done new next later counted work tokens definition one alike;
+    rest = λ c listed. left-by c listed (old.sets.has part.0.0 c) refl;
   }
     where
       t : Hidden Place
@@ -100,19 +109,60 @@ module _ (files : List (List ℕ)) (old mid new : Stores) (was now next : Expans
       left c listed false elsewhere none =
           others c (IsConfig-Keeps grows.sets listed) (has c listed false elsewhere) ∙ done.others c listed (sym (append-nil (items_at old.sets (take i parts) c)) ∙ none)
 
--- ---- what a look-up gives
+      left-by : (c : List ℕ) → IsConfig old.sets.arities c → (b : Bool) → old.sets.has part.0.0 c ≡ b → HasTaken old.sets new.sets was.top.work next.top.work later.made.items c
+      left-by c listed true here =
+          let none = none-before old.sets parts i part c within is here (one c listed) in
+          taken-earlier (done.others_each c listed none.0) (rest c (IsConfig-Keeps grows.sets listed))
+      left-by c listed false elsewhere =
+          let listed1 = IsConfig-Keeps grows.sets listed in
+          let elsewhere1 = has c listed false elsewhere in
+          let made : seen_at new later.made.items c ≡ seen_at mid after.made.items c = ap (λ (s : Step). s.made) (others c listed1 elsewhere1) in
+          taken-later (done.rest c listed) (each c listed1 elsewhere1)
+          (λ none. none-found (seen_hidden new.names new.hides) (items_at new.sets later.made.items c) (made ∙ ap (map (seen_hidden mid.names mid.hides)) none))
 
-pub none-found : {A B : Type 0} (f : A → B) (xs : List A) → map f xs ≡ [] → xs ≡ []
-none-found f [] is = refl
-none-found f (x ∷ xs) is = cc
+-- ---- what a look-up gives
 
 pub one-found : {A B : Type 0} (f : A → B) (xs : List A) (b : Bool) (y : B) → map f xs ≡ (if b then y ∷ [] else []) → length xs ≡ 1 → b ≡ true
 one-found f xs true y is one = refl
 one-found f xs false y is one = let none = none-found f xs is in absurd (omega (arith, one, ap length none))
 
-pub some-found : {A B : Type 0} (f : A → B) (xs : List A) (b : Bool) (y : B) → map f xs ≡ (if b then y ∷ [] else []) → (xs ≡ [] → ⊥) → b ≡ true
-some-found f xs true y is some = refl
-some-found f xs false y is some = absurd (some (none-found f xs is))
+found-item : {T : Type 0} (s : Sets) (xs : List (Cond × T)) (n : ℕ) (x : Cond × T) (c : List ℕ) → slice_get xs n ≡ Some x → s.has x.0.0 c ≡ true → (k : ℕ) × (slice_get (items_at s xs c) k ≡ Some x.1)
+found-item s [] n x c at has = absurd (cc)
+found-item s (y ∷ ys) zero x c at has =
+    let same : y ≡ x = cc in
+    (0, ap (λ b. slice_get (if b then y.1 ∷ items_at s ys c else items_at s ys c) 0) (ap (λ z. s.has z.0.0 c) same ∙ has) ∙ ap (λ z. Some z.1) same)
+found-item {T} s (y ∷ ys) (suc n) x c at has = by (s.has y.0.0 c) (found-item s ys n x c at has)
+  where
+    by : (b : Bool) → (k : ℕ) × (slice_get (items_at s ys c) k ≡ Some x.1) → (k : ℕ) × (slice_get (if b then y.1 ∷ items_at s ys c else items_at s ys c) k ≡ Some x.1)
+    by true found = (suc found.0, found.1)
+    by false found = found
+
+-- a part that defines a function-like macro is what a look-up gives
+pub found-function : (s : Sets) (names : List (List ℕ)) (parts : List (Cond × Option (Rc Definition Global))) (c : List ℕ) (b : Bool) (m : Option model.Definition)
+    → map (seen_by names) (items_at s parts c) ≡ (if b then m ∷ [] else []) → TakesPart s names parts c → (b ≡ true) × IsFunctionLike m
+found-function s names parts c b m is takes =
+    let found = found-item s parts takes.among.0 takes.part c takes.among.1 takes.has in
+    let at = sym (ap (λ l. slice_get l found.0) is) ∙ (slice_get-map (seen_by names) (items_at s parts c) found.0 ∙ ap (option_map (seen_by names)) found.1) in
+    by b found.0 at
+  where
+    like : (o : Option (Rc Definition Global)) → IsFunction names o → IsFunctionLike (seen_by names o)
+    like None is = is
+    like (Some shared) is = is
+
+    by : (b : Bool) (k : ℕ) → slice_get (if b then m ∷ [] else []) k ≡ Some (seen_by names takes.part.1) → (b ≡ true) × IsFunctionLike m
+    by true zero at = (let same : seen_by names takes.part.1 ≡ m = cc in (refl, subst IsFunctionLike same (like takes.part.1 takes.function)))
+    by true (suc k) at = absurd (cc)
+    by false k at = absurd (cc)
+
+-- no part was taken yet
+pub none-taken : (files : List (List ℕ)) (st : Stores) (e : Expansion) (taken : Taken) (head : declared.Hidden) → AreTaken files st st e e taken taken head []
+none-taken files st e taken head = record {
+  comes = λ c macros rest listed work found. absurd (cc);
+  others = λ c listed none. refl;
+  others_each = λ c listed none. refl;
+  alike = λ c d span p q alike called made start. (start, made);
+  rest = λ c listed. taken-each refl;
+}
 
 -- the stores grew, and nothing is known of the token still
 pub still-untaken : {old new : Stores} {files : ℕ} → Grows old new → (e : Expansion) (taken : Taken) → IsHeldExpansion old files e → Denotes old.sets taken.stays.0 (λ c. false) → taken.made.items ≡ []

@@ -5,7 +5,7 @@ use Rattle.c11_macros.specs.Hidden as model
 use Rattle.c11_macros.specs.Hidden.{Failure, no_names}
 use Rattle.c11_macros.specs.Macros.{Macros}
 use Rattle.c11_macros.specs.Text.{TextExpands, fault_of, place_alone, text_of_answer, token_of, unhidden}
-use Rattle.c11_macros.specs.Trace.{Agree}
+use Rattle.c11_macros.specs.Trace.{Agree, Trace}
 use Rattle.sc_base.specs.declared.fault.Fault as base_fault
 use Rattle.sc_base.specs.declared.id.Name.{Name}
 use Rattle.sc_base.specs.declared.place.Place.{Place}
@@ -33,10 +33,10 @@ pub seen_hidden-begun : (names : List (List ℕ)) (hides : List (List Name)) (h 
 seen_hidden-begun names hides h none = ap (λ set. record (begun names h.token) { hide = texts_in names set }) none
 
 -- the place of a token of a text is what the table of file names tells of what is kept of it
-places-kept : (files : List (List ℕ)) → IsKept (provenance_of files) place_alone (seen_place files)
+pub places-kept : (files : List (List ℕ)) → IsKept (provenance_of files) place_alone (seen_place files)
 places-kept files = record { place = λ p. refl; mark = λ p. refl }
 
-unhidden-begun : (names files : List (List ℕ)) (tokens : List base_token.Token) → map (moved (seen_place files)) (map (begun names) tokens) ≡ map unhidden (map (seen names files) tokens)
+pub unhidden-begun : (names files : List (List ℕ)) (tokens : List base_token.Token) → map (moved (seen_place files)) (map (begun names) tokens) ≡ map unhidden (map (seen names files) tokens)
 unhidden-begun names files [] = refl
 unhidden-begun names files (t ∷ ts) = ap (λ us. unhidden (seen names files t) ∷ us) (unhidden-begun names files ts)
 
@@ -47,7 +47,7 @@ text-expands names files macros tokens r d = record {
   answer = moved_answer (seen_place files) r;
   expands =
       subst (λ ts. Expands place_alone macros ts (moved_answer (seen_place files) r)) (unhidden-begun names files tokens)
-      (expands-moved (seen_place files) (places-kept files) macros d).by;
+      (expands-moved (seen_place files) (places-kept files) macros d).expands;
   is = refl;
 }
 
@@ -57,7 +57,7 @@ text-defines names files one other tokens defines = record {
   agree = λ r d.
       let e = expands-moved (seen_place files) (places-kept files) one d in
       let same = subst (DefineAlike place_alone one other) (sym (unhidden-begun names files tokens)) defines in
-      subst (Agree one other) e.named (same.agree (moved_answer (seen_place files) r) e.by);
+      subst (λ (x : Trace). Agree one other x.looked_up) e.by (same.agree (moved_answer (seen_place files) r) e.expands);
 }
 
 -- the tokens that were put out, without their hide sets

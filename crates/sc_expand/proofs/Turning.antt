@@ -1,5 +1,5 @@
 -- A turn of the loop, by what it takes.
-use Rattle.std.proofs.Common.{◌≡◌, inl, inr, ℕ, ◌≤◌, Bool, true, false, true≢false, List, [], ◌∷◌, ◌++◌, All, length, append-nil, Option, Some, None, option_to_list, slice_get, refl, sym, ap, subst, ◌∙◌, arith, if◌then◌else◌}
+use Rattle.std.proofs.Common.{◌≡◌, inl, inr, ℕ, suc, ◌≤◌, Bool, true, false, true≢false, List, [], ◌∷◌, ◌++◌, All, length, append-nil, Option, Some, None, option_to_list, slice_get, refl, sym, ap, subst, ◌∙◌, arith, if◌then◌else◌}
 use Rattle.std.proofs.lemmas.List.Elements.{All-head, All-pop}
 use Rattle.std.specs.Global.{Vec}
 use Rattle.c11_macros.specs.Hidden.{Provenance}
@@ -11,16 +11,19 @@ use Rattle.sc_expand.proofs.Dropping.{IsNone}
 use Rattle.sc_expand.proofs.MachineCalls.{calls_at-append, last-alone}
 use Rattle.sc_expand.proofs.MachineLeaves.{left-held, left-progress}
 use Rattle.sc_expand.proofs.MachineLemmas.{stands-cases, turn-progress}
-use Rattle.sc_expand.proofs.Rests.{next-argument, next-call, put-less, put-same}
-use Rattle.sc_expand.proofs.SeenLemmas.{seen_at-Grows}
+use Rattle.sc_expand.proofs.BottomLemmas.{bottom-held, bottom-less, bottom-same, more-none}
+use Rattle.sc_expand.proofs.Rests.{next-argument, next-call, put-less, put-same, some-same}
+use Rattle.sc_expand.proofs.SeenLemmas.{Grows-refl, seen_at-Grows}
 use Rattle.sc_expand.proofs.UnchangedLemmas.{never-empty}
-use Rattle.sc_expand.specs.Alike.{DefineNextAlike, IsAlikeCall, IsAlikeEnclosing, IsAlikeExpansion}
+use Rattle.sc_expand.specs.Alike.{CallNextAlike, DefineNextAlike, IsAlikeCall, IsAlikeEnclosing, IsAlikeExpansion, IsAlikeFrame, IsFirstIn, Others, TakesName, others_at}
 use Rattle.sc_expand.specs.declared.call.Call.{Call}
 use Rattle.sc_expand.specs.declared.expansion.Expansion.{Expansion}
 use Rattle.sc_expand.specs.declared.frame.Enclosing.{Enclosing}
 use Rattle.sc_expand.specs.declared.frame.Frame.{Frame}
 use Rattle.sc_expand.specs.Machine.{IsExpansion, IsHeldExpansion, IsResumed, Progress, Stands, at, at_call, rests, state_in, with_call}
-use Rattle.sc_expand.specs.Running.{IsReady, IsTurned, PutsOut, last_of, next_by, next_of, put_by, put_out}
+use Rattle.sc_expand.specs.Having.{HasLast, HasMore}
+use Rattle.sc_expand.specs.Running as running
+use Rattle.sc_expand.specs.Running.{IsAsLong, IsReady, IsTurned, PutsOut, Rest, bottom, bottom_by, last_of, next_by, next_of, put_by, put_out}
 use Rattle.sc_expand.specs.Seen.{AreHeld, Grows, IsHeldCall, IsHeldEnclosing, IsHeldFrame, Stores, View, calls_at, provenance_of, view_at, waiting_at}
 use Rattle.sc_expand.specs.Turn.{Turn}
 use Rattle.sc_expand.specs.Unchanged as unchanged
@@ -67,6 +70,15 @@ module _ {old new : Stores} (grows : Grows old new) {files : ℕ} (live : ℕ) w
 pub next-first : (e : Expansion) (item : Cond × Hidden) → e.top.calls.items ≡ [] → slice_get e.top.work 0 ≡ Some item → next_of e ≡ Some item.0
 next-first e item none first =
     ap (λ (ks : List Call). next_by (last_of ks) (slice_get e.top.work 0) (last_of e.below.items)) none ∙ ap (λ r. next_by None r (last_of e.below.items)) first
+
+-- nothing is next
+next-none : (e : Expansion) → e.top.calls.items ≡ [] → e.top.work ≡ [] → e.below.items ≡ [] → next_of e ≡ None
+next-none e none empty less =
+    ap (λ (ks : List Call). next_by (last_of ks) (slice_get e.top.work 0) (last_of e.below.items)) none
+    ∙ (ap (λ (ts : List (Cond × Hidden)). next_by None (slice_get ts 0) (last_of e.below.items)) empty ∙ ap (λ (es : List Enclosing). next_by None None (last_of es)) less)
+
+not-some-none : {A : Type 0} {x : A} → None ≡ Some x → ⊥
+not-some-none is = cc
 
 module _ (st : Stores) (c : List ℕ) where
   few-calls : {below : List Enclosing} {v : View} → Stands st c below v → length v.calls ≤ 1
@@ -123,8 +135,8 @@ module _ {st : Stores} {files : ℕ} (e : Expansion) (held : IsHeldExpansion st 
 
 -- ---- what two configurations have alike
 
-module _ {s : Sets} {c d : List ℕ} (e : Expansion) (alike : IsAlikeExpansion s c d e) (calls : Vec Call) where
-  popped-alike : (r : Option Call) → e.top.calls.items ≡ calls.items ++ option_to_list r → IsAlikeExpansion s c d (with_calls e calls)
+module _ {s : Sets} {c d : List ℕ} {others : Others} (e : Expansion) (alike : IsAlikeExpansion s c d others e) (calls : Vec Call) where
+  popped-alike : (r : Option Call) → e.top.calls.items ≡ calls.items ++ option_to_list r → IsAlikeExpansion s c d others (with_calls e calls)
   popped-alike r popped = record {
     refusals = alike.refusals;
     top = record { work = alike.top.work; out = alike.top.out; calls = (All-pop (IsAlikeCall s c d) e.top.calls.items calls.items r popped alike.top.calls).0 };
@@ -135,16 +147,70 @@ module _ {s : Sets} {c d : List ℕ} (e : Expansion) (alike : IsAlikeExpansion s
   call-alike call popped = (All-pop (IsAlikeCall s c d) e.top.calls.items calls.items (Some call) popped alike.top.calls).1
 
   -- there is no call
-  none-alike : IsNone Call e.top.calls.items calls.items → IsAlikeExpansion s c d (with_calls e calls)
+  none-alike : IsNone Call e.top.calls.items calls.items → IsAlikeExpansion s c d others (with_calls e calls)
   none-alike none = popped-alike None (none.before ∙ ap (λ (ks : List Call). ks ++ []) (sym none.after))
 
   -- and no list below
-  alone-alike : (below : Vec Enclosing) → IsNone Call e.top.calls.items calls.items → IsNone Enclosing e.below.items below.items → IsAlikeExpansion s c d (with_below e calls below)
-  alone-alike below none less = record {
-    refusals = alike.refusals;
-    top = (none-alike none).top;
-    below = subst (All (IsAlikeEnclosing s c d)) (less.before ∙ sym less.after) alike.below;
-  }
+  alone-alike : (below : Vec Enclosing) → IsNone Call e.top.calls.items calls.items → IsNone Enclosing e.below.items below.items → IsAlikeExpansion s c d others (with_below e calls below)
+  alone-alike below none less =
+      let lists : e.below.items ≡ below.items = less.before ∙ sym less.after in
+      record {
+        refusals = alike.refusals;
+        top = subst (λ (l : List Enclosing). IsAlikeFrame s c d (others_at others (length l)) (with_calls e calls).top) lists (none-alike none).top;
+        below = subst (λ l. (n : ℕ) (o : Enclosing) → slice_get l n ≡ Some o → IsAlikeEnclosing s c d (others_at others n) o) lists alike.below;
+      }
+
+-- what the next turn takes, where no call was popped
+module _ {st : Stores} {macros : Macros} {c : List ℕ} (e : Expansion) (calls : Vec Call) (none : IsNone Call e.top.calls.items calls.items) where
+  pub takes-name : TakesName st macros (with_calls e calls) c → TakesName st macros e c
+  takes-name takes = record { item = takes.item; first = takes.first; calls = none.before; has = takes.has; live = takes.live; looked_up = takes.looked_up; function = takes.function }
+
+  defines-next : {other : Macros} → DefineNextAlike st macros other c e → DefineNextAlike st macros other c (with_calls e calls)
+  defines-next defines = record { same = λ item first empty has live looks. defines.same item first none.before has live looks }
+
+  calls-next : {d : List ℕ} → CallNextAlike st macros c d e → CallNextAlike st macros c d (with_calls e calls)
+  calls-next call = record { same = λ takes. call.same (takes-name takes) }
+
+first-next : {others : Others} (e : Expansion) (calls : Vec Call) → IsNone Call e.top.calls.items calls.items → IsFirstIn others e → IsFirstIn others (with_calls e calls)
+first-next e calls none inside = record { is = λ item first empty. inside.is item first none.before }
+
+-- ---- the list below all others
+
+-- it stays as the first token of the list on top is taken, or is that list
+module _ {old new : Stores} (grows : Grows old new) (e after : Expansion) (same : after.below ≡ e.below) (none : e.top.calls.items ≡ []) (item : Cond × Hidden) (first : slice_get e.top.work 0 ≡ Some item) where
+  rest-taken : {files : ℕ} {c : List ℕ} → IsHeldExpansion old files e → IsConfig old.sets.arities c → HasLast old.sets new.sets e.top.work after.top.work c → Rest old new e after c
+  rest-taken {files} {c} held p last = by e.below.items refl
+    where
+      by : (bs : List Enclosing) → e.below.items ≡ bs → Rest old new e after c
+      by [] is =
+          let was : (bottom e).work ≡ e.top.work = ap (λ l. (bottom_by l e.top).work) is in
+          let now : (bottom after).work ≡ after.top.work = ap (λ b. (bottom_by b.items after.top).work) same ∙ ap (λ l. (bottom_by l after.top).work) is in
+          running.took item is none first (subst (λ l. HasLast old.sets new.sets l (bottom after).work c) (sym was) (subst (λ l. HasLast old.sets new.sets e.top.work l c) (sym now) last))
+      by (b ∷ bs) is =
+          let was : (bottom e).work ≡ b.frame.work = ap (λ l. (bottom_by l e.top).work) is in
+          let now : (bottom after).work ≡ b.frame.work = ap (λ b. (bottom_by b.items after.top).work) same ∙ ap (λ l. (bottom_by l after.top).work) is in
+          running.put (more-none grows.sets p (bottom e).work (bottom after).work (bottom-held e held) (now ∙ sym was))
+
+  long-taken : length e.top.work ≤ suc (length after.top.work) → IsAsLong e after
+  long-taken long = by e.below.items refl
+    where
+      by : (bs : List Enclosing) → e.below.items ≡ bs → IsAsLong e after
+      by [] is =
+          let was : (bottom e).work ≡ e.top.work = ap (λ l. (bottom_by l e.top).work) is in
+          let now : (bottom after).work ≡ after.top.work = ap (λ b. (bottom_by b.items after.top).work) same ∙ ap (λ l. (bottom_by l after.top).work) is in
+          running.but_first item is none first (omega (arith, long, ap length was, ap length now))
+      by (b ∷ bs) is =
+          let was : (bottom e).work ≡ b.frame.work = ap (λ l. (bottom_by l e.top).work) is in
+          let now : (bottom after).work ≡ b.frame.work = ap (λ b. (bottom_by b.items after.top).work) same ∙ ap (λ l. (bottom_by l after.top).work) is in
+          running.all (omega (arith, ap length was, ap length now))
+
+-- it is as it was
+module _ (st : Stores) (e after : Expansion) (same : (bottom after).work ≡ (bottom e).work) where
+  rest-same : {files : ℕ} {c : List ℕ} → IsHeldExpansion st files e → IsConfig st.sets.arities c → Rest st st e after c
+  rest-same held p = running.put (more-none (Grows-refl st).sets p (bottom e).work (bottom after).work (bottom-held e held) same)
+
+  long-same : IsAsLong e after
+  long-same = running.all (omega (arith, ap length same))
 
 -- ---- turns
 
@@ -153,36 +219,50 @@ module _ {old new : Stores} (grows : Grows old new) (files : List (List ℕ)) (m
   prov = provenance_of files
 
   -- a turn of the configurations that have what is next
-  next-turn : (next : Cond) → next_of e ≡ Some next → IsReady old.sets e → (IsUncalled e → LooksUpNone old.sets old.names macros e → Passes new.sets e after)
-      → ((c d : List ℕ) → IsConfig old.sets.arities c → IsConfig old.sets.arities d → DefineNextAlike old (macros c) (macros d) c e → IsAlikeExpansion old.sets c d e → IsAlikeExpansion new.sets c d after)
+  next-turn : (next : Cond) → next_of e ≡ Some next → IsReady old.sets e → IsAsLong e after → ((c : List ℕ) → IsConfig old.sets.arities c → Rest old new e after c)
+      → (IsUncalled e → LooksUpNone old.sets old.names macros e → Passes new.sets e after)
+      → ((c d : List ℕ) (others : Others) → IsConfig old.sets.arities c → IsConfig old.sets.arities d → DefineNextAlike old (macros c) (macros d) c e → CallNextAlike old (macros c) c d e → IsFirstIn others e
+      → IsAlikeExpansion old.sets c d others e → IsAlikeExpansion new.sets c d others after)
       → ((c : List ℕ) → IsConfig old.sets.arities c → Progress (provenance_of files) (macros c) old new c e.below.items after.below.items (at old e c) (at new after c) (old.sets.has next.0 c)) → IsTurned files macros old new e after true
-  next-turn next here ready passes alike progress = record {
+  next-turn next here ready long rest passes alike progress = record {
     takes = λ c. old.sets.has next.0 c;
     progress = progress;
+    long = long;
+    which = λ cond is c. ap (λ (k : Cond). old.sets.has k.0 c) (some-same (sym here ∙ is));
     some = λ went. ready.some next here;
     ended = λ not. absurd (true≢false not);
     passes = passes;
     alike = alike;
+    rest = rest;
   }
 
   pub called-turn : (calls : Vec Call) (call : Call) → e.top.calls.items ≡ calls.items ++ call ∷ [] → IsReady old.sets e
-      → ((c d : List ℕ) → IsConfig old.sets.arities c → IsConfig old.sets.arities d → IsAlikeCall old.sets c d call → IsAlikeExpansion old.sets c d (with_calls e calls) → IsAlikeExpansion new.sets c d after)
+      → length (bottom (with_calls e calls)).work ≤ length (bottom after).work → ((c : List ℕ) → IsConfig old.sets.arities c → HasMore old.sets new.sets (bottom (with_calls e calls)).work (bottom after).work c)
+      → ((c d : List ℕ) (others : Others) → IsConfig old.sets.arities c → IsConfig old.sets.arities d → IsAlikeCall old.sets c d call → IsAlikeExpansion old.sets c d others (with_calls e calls) → IsAlikeExpansion new.sets c d others after)
       → ((c : List ℕ) → IsConfig old.sets.arities c → Progress (provenance_of files) (macros c) old new c e.below.items after.below.items (at_call old (with_calls e calls) call c) (at new after c) (old.sets.has call.cond.0 c))
       → IsTurned files macros old new e after true
-  called-turn calls call popped ready alike progress = next-turn call.cond (next-call e calls.items call popped) ready
+  called-turn calls call popped ready long rest alike progress =
+      let whole : (bottom (with_calls e calls)).work ≡ (bottom e).work = bottom-same e.below.items (with_calls e calls).top e.top refl in
+      next-turn call.cond (next-call e calls.items call popped) ready
+      (running.all (omega (arith, long, ap length whole)))
+      (λ c listed. running.put (subst (λ l. HasMore old.sets new.sets l (bottom after).work c) whole (rest c listed)))
       (λ uncalled none. absurd (never-empty calls.items call (sym popped ∙ uncalled.calls)))
-      (λ c d p q defines same. alike c d p q (call-alike e same calls call popped) (popped-alike e same calls (Some call) popped))
+      (λ c d others p q defines same inside both. alike c d others p q (call-alike e both calls call popped) (popped-alike e both calls (Some call) popped))
       (λ c listed. subst (λ a. Progress (provenance_of files) (macros c) old new c e.below.items after.below.items a (at new after c) (old.sets.has call.cond.0 c)) (at_call-popped old c e calls call popped) (progress c listed))
 
   pub taken-turn : (calls : Vec Call) → IsNone Call e.top.calls.items calls.items → (item : Cond × Hidden) → slice_get e.top.work 0 ≡ Some item → after.below ≡ e.below → IsReady old.sets e
+      → length e.top.work ≤ suc (length after.top.work) → ((c : List ℕ) → IsConfig old.sets.arities c → HasLast old.sets new.sets e.top.work after.top.work c)
       → (IsUncalled (with_calls e calls) → LooksUpNone old.sets old.names macros (with_calls e calls) → Passes new.sets (with_calls e calls) after)
-      → ((c d : List ℕ) → IsConfig old.sets.arities c → IsConfig old.sets.arities d → DefineNextAlike old (macros c) (macros d) c (with_calls e calls) → IsAlikeExpansion old.sets c d (with_calls e calls) → IsAlikeExpansion new.sets c d after)
+      → ((c d : List ℕ) (others : Others) → IsConfig old.sets.arities c → IsConfig old.sets.arities d → DefineNextAlike old (macros c) (macros d) c (with_calls e calls) → CallNextAlike old (macros c) c d (with_calls e calls)
+      → IsFirstIn others (with_calls e calls) → IsAlikeExpansion old.sets c d others (with_calls e calls) → IsAlikeExpansion new.sets c d others after)
       → ((c : List ℕ) → IsConfig old.sets.arities c → Turn (provenance_of files) (macros c) (at old (with_calls e calls) c) (at new after c) (old.sets.has item.0.0 c)) → IsTurned files macros old new e after true
-  taken-turn calls none item first below ready passes alike turns = next-turn item.0 (next-first e item none.before first) ready
+  taken-turn calls none item first below ready long rest passes alike turns = next-turn item.0 (next-first e item none.before first) ready
+      (long-taken grows e after below none.before item first long)
+      (λ c listed. rest-taken grows e after below none.before item first is.held listed (rest c listed))
       (λ uncalled looks.
       let p = passes (record { below = uncalled.below; calls = none.after }) looks in
       record { passed = p.passed; put = p.put; work = p.work; out = p.out; restricted = p.restricted; refusals = p.refusals; uncalled = p.uncalled })
-      (λ c d p q defines same. alike c d p q (record { same = λ item first empty has live looks. defines.same item first none.before has live looks }) (none-alike e same calls none))
+      (λ c d others p q defines same inside both. alike c d others p q (defines-next e calls none defines) (calls-next e calls none same) (first-next e calls none inside) (none-alike e both calls none))
       (λ c listed.
       let progress = turn-progress (provenance_of files) (macros c) grows (length files) c listed e.below.items is.held.below (turns c listed) in
       subst (λ b. Progress (provenance_of files) (macros c) old new c e.below.items b.items (at old e c) (at new after c) (old.sets.has item.0.0 c)) (sym below)
@@ -190,6 +270,11 @@ module _ {old new : Stores} (grows : Grows old new) (files : List (List ℕ)) (m
 
 -- a finished argument is left
 module _ (st : Stores) (files : List (List ℕ)) (macros : List ℕ → Macros) (e after : Expansion) (is : IsExpansion st (length files) e) where
+  left-bottom : (below : Vec Enclosing) (o : Enclosing) → e.below.items ≡ below.items ++ o ∷ [] → after.top.work ≡ o.frame.work → after.below ≡ below → (bottom after).work ≡ (bottom e).work
+  left-bottom below o less work later =
+      ap (λ b. (bottom_by b.items after.top).work) later
+      ∙ (bottom-same below.items after.top o.frame work ∙ (sym (ap (λ f. f.work) (bottom-less below.items o e.top)) ∙ sym (ap (λ bs. (bottom_by bs e.top).work) less)))
+
   pub left-turn : (below : Vec Enclosing) (o : Enclosing) → e.top.calls.items ≡ [] → e.top.work ≡ [] → e.below.items ≡ below.items ++ o ∷ [] → IsReady st.sets e
       → IsResumed o e.top.out after.top.calls.items → after.top.work ≡ o.frame.work → after.top.out ≡ o.frame.out → after.refusals ≡ e.refusals → after.below ≡ below → IsTurned files macros st st e after true
   left-turn below o none empty less ready resumed work out refusals later = record {
@@ -198,10 +283,13 @@ module _ (st : Stores) (files : List (List ℕ)) (macros : List ℕ → Macros) 
         subst (λ b. Progress (provenance_of files) (macros c) st st c e.below.items b.items (at st e c) (at st after c) (st.sets.has o.call.cond.0 c)) (sym later)
         (subst (λ bs. Progress (provenance_of files) (macros c) st st c bs below.items (at st e c) (at st after c) (st.sets.has o.call.cond.0 c)) (sym less)
         (left-progress (provenance_of files) (macros c) st c below.items o e after resumed work out refusals empty none));
+    long = long-same st e after (left-bottom below o less work later);
+    which = λ cond is c. ap (λ (k : Cond). st.sets.has k.0 c) (some-same (sym (next-argument e below.items o none empty less) ∙ is));
     some = λ went. ready.some o.call.cond (next-argument e below.items o none empty less);
     ended = λ not. absurd (true≢false not);
     passes = λ uncalled looks. absurd (never-empty below.items o (sym less ∙ uncalled.below));
-    alike = λ c d p q defines alike. alike-leave st.sets c d e after below.items o less (ap (λ b. b.items) later) refusals work out resumed alike;
+    alike = λ c d others p q defines same inside alike. alike-leave st.sets c d others e after below.items o less (ap (λ b. b.items) later) refusals work out resumed alike;
+    rest = λ c listed. rest-same st e after (left-bottom below o less work later) is.held listed;
   }
 
   pub left-still : (calls : Vec Call) (r : Option Call) (below : Vec Enclosing) (o : Enclosing) → e.top.calls.items ≡ calls.items ++ option_to_list r → e.top.work ≡ [] → IsNone Call e.top.calls.items calls.items → e.below.items ≡ below.items ++ o ∷ []
@@ -213,6 +301,9 @@ module _ (st : Stores) (files : List (List ℕ)) (macros : List ℕ → Macros) 
   pub left-out : (below : Vec Enclosing) (o : Enclosing) → e.below.items ≡ below.items ++ o ∷ [] → after.top.out ≡ o.frame.out → after.below ≡ below → put_out after ≡ put_out e
   left-out below o less out later =
       ap (λ b. put_by b.items after.top) later ∙ (put-same below.items after.top o.frame out ∙ (sym (put-less below.items o e.top) ∙ sym (ap (λ bs. put_by bs e.top) less)))
+
+  alone-bottom : (calls : Vec Call) (below : Vec Enclosing) → IsNone Enclosing e.below.items below.items → (bottom (with_below e calls below)).work ≡ (bottom e).work
+  alone-bottom calls below less = ap (λ bs. (bottom_by bs (with_calls e calls).top).work) (less.after ∙ sym less.before) ∙ bottom-same e.below.items (with_calls e calls).top e.top refl
 
   -- nothing was left
   pub no-turn : (calls : Vec Call) (below : Vec Enclosing) → IsNone Call e.top.calls.items calls.items → e.top.work ≡ [] → IsNone Enclosing e.below.items below.items → IsTurned files macros st st e (with_below e calls below) false
@@ -226,6 +317,8 @@ module _ (st : Stores) (files : List (List ℕ)) (macros : List ℕ → Macros) 
           subst (λ bs. Stands st c bs (view_at st (record e.top { calls = calls }) c)) (sym lists) (subst (Stands st c e.below.items) (sym view) stands),
           ap (λ v. state_in st e.below.items v c) (sym view) ∙ ap (λ bs. state_in st bs (view_at st (record e.top { calls = calls }) c) c) (sym lists),
         ));
+    long = long-same st e (with_below e calls below) (alone-bottom calls below less);
+    which = λ cond is c. absurd (not-some-none (sym (next-none e none.before empty less.before) ∙ is));
     some = λ went. absurd (true≢false (sym went));
     ended = λ went. record { below = less.after; work = empty; calls = none.after };
     passes = λ uncalled looks. record {
@@ -237,7 +330,8 @@ module _ (st : Stores) (files : List (List ℕ)) (macros : List ℕ → Macros) 
       refusals = refl;
       uncalled = record { below = less.after; calls = none.after };
     };
-    alike = λ c d p q defines alike. alone-alike e alike calls below none less;
+    alike = λ c d others p q defines same inside alike. alone-alike e alike calls below none less;
+    rest = λ c listed. rest-same st e (with_below e calls below) (alone-bottom calls below less) is.held listed;
   }
 
   pub no-out : (calls : Vec Call) (below : Vec Enclosing) → IsNone Enclosing e.below.items below.items → put_out (with_below e calls below) ≡ put_out e

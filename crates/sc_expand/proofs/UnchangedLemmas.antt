@@ -1,9 +1,8 @@
 -- What is left of a list in which no name is defined, turn by turn.
-use Rattle.std.proofs.Common.{◌≡◌, ℕ, ◌<◌, ◌&&◌, Bool, true, false, true≢false, List, [], ◌∷◌, ◌++◌, All, drop, length, length-append, get_or, zero, suc, map, append_assoc, append-nil, Option, Some, None, refl, sym, ap, subst, ◌∙◌, arith, if◌then◌else◌}
+use Rattle.std.proofs.Common.{◌≡◌, ℕ, ◌&&◌, Bool, true, false, List, [], ◌∷◌, ◌++◌, All, get_or, map, append_assoc, append-nil, refl, sym, ap, subst, ◌∙◌}
 use Rattle.std.proofs.lemmas.List.Elements.{All-append, All-cons, All-head, All-nil, All-tail}
 use Rattle.c11_macros.specs.Macros.{Macros}
 use Rattle.sc_base.specs.declared.id.Cond.{Cond}
-use Rattle.sc_base.specs.declared.token.Token.{Token}
 use Rattle.sc_base.specs.Seen.{text_at}
 use Rattle.sc_expand.proofs.Ending.{bared}
 use Rattle.sc_expand.specs.declared.expansion.Expansion.{Expansion}
@@ -11,9 +10,8 @@ use Rattle.sc_expand.specs.Machine.{IsHeldExpansion}
 use Rattle.sc_expand.specs.Seen.{Grows, IsHeldToken, Stores}
 use Rattle.sc_expand.specs.Unchanged as unchanged
 use Rattle.sc_expand.specs.Unchanged.{DefinesNone, Drops, IsPushed, IsRestricted, IsUncalled, IsUndefined, LooksUpNone, Passes, empty}
-use Rattle.sc_guarded.specs.Items.{items_at}
 use Rattle.sc_model.proofs.SetLemmas.{IsConfig-Keeps, IsConfig-kept}
-use Rattle.sc_model.specs.Sets.{Sets, Denotes, IsCond, IsConfig, IsNever, Keeps}
+use Rattle.sc_model.specs.Sets.{Sets, IsCond, IsConfig, Keeps}
 use Rattle.sc_subst.proofs.Later.{text_later}
 use Rattle.sc_subst.specs.declared.hidden.Hidden.{Hidden}
 

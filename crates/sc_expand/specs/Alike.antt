@@ -1,9 +1,10 @@
 -- Configurations that have the same of what is expanded: both have each part of it, or neither.
-use Rattle.std.specs.Prelude.{◌≡◌, ℕ, true, List, [], All, Result, Some, drop, map, slice_get, take}
+use Rattle.std.specs.Prelude.{◌≡◌, ℕ, zero, suc, ◌-◌, ◌<◌, IsTrue, true, List, [], All, Option, None, Result, Some, drop, length, map, slice_get, take}
+use Rattle.c11_macros.specs.Defines.{is_function_like}
 use Rattle.c11_macros.specs.Expansion.{Expands, is_looked_up}
 use Rattle.c11_macros.specs.Hidden as model
 use Rattle.c11_macros.specs.Hidden.{Failure, Provenance}
-use Rattle.c11_macros.specs.Macros.{Macros}
+use Rattle.c11_macros.specs.Macros.{Definition, Macros}
 use Rattle.c11_macros.specs.Text.{place_alone, unhidden}
 use Rattle.c11_macros.specs.Trace.{Agree, trace}
 use Rattle.sc_base.specs.declared.id.Cond.{Cond}
@@ -61,25 +62,63 @@ pub record IsSameCall (s : Sets) (names : List (List ℕ)) (c d : List ℕ) (lis
 
 -- ---- all of an expansion
 
-pub record IsAlikeFrame (s : Sets) (c d : List ℕ) (frame : Frame) : Type 0 where
-  pub work : AreAlike s c d frame.work
-  pub out : AreAlike s c d frame.out
+-- What is not looked at: so many tokens at the end of the whole list, the first tokens that were
+-- put out, and the first faults.
+pub record Others : Type 0 where
+  pub behind : ℕ
+  pub out : ℕ
+  pub faults : ℕ
+
+abbrev pub no_others : Others
+no_others = record { behind = 0; out = 0; faults = 0 }
+
+-- those of the list under which so many others lie
+abbrev pub others_at : Others → ℕ → Others
+others_at others zero = others
+others_at others (suc n) = no_others
+
+pub record IsAlikeFrame (s : Sets) (c d : List ℕ) (others : Others) (frame : Frame) : Type 0 where
+  pub work : AreAlike s c d (take (length frame.work - others.behind) frame.work)
+  pub out : AreAlike s c d (drop others.out frame.out)
   pub calls : All (IsAlikeCall s c d) frame.calls.items
 
-pub record IsAlikeEnclosing (s : Sets) (c d : List ℕ) (o : Enclosing) : Type 0 where
-  pub frame : IsAlikeFrame s c d o.frame
+pub record IsAlikeEnclosing (s : Sets) (c d : List ℕ) (others : Others) (o : Enclosing) : Type 0 where
+  pub frame : IsAlikeFrame s c d others o.frame
   pub call : IsAlikeCall s c d o.call
 
-pub record IsAlikeExpansion (s : Sets) (c d : List ℕ) (e : Expansion) : Type 0 where
-  pub refusals : AreAlikeRefusals s c d 0 e.refusals
-  pub top : IsAlikeFrame s c d e.top
-  pub below : All (IsAlikeEnclosing s c d) e.below.items
+pub record IsAlikeExpansion (s : Sets) (c d : List ℕ) (others : Others) (e : Expansion) : Type 0 where
+  pub refusals : AreAlikeRefusals s c d others.faults e.refusals
+  pub top : IsAlikeFrame s c d (others_at others (length e.below.items)) e.top
+  pub below : (n : ℕ) (o : Enclosing) → slice_get e.below.items n ≡ Some o → IsAlikeEnclosing s c d (others_at others n) o
+
+-- a token that the next turn takes is not one of those at the end
+pub record IsFirstIn (others : Others) (e : Expansion) : Type 0 where
+  pub is : (item : Cond × Hidden) → slice_get e.top.work 0 ≡ Some item → e.top.calls.items ≡ [] → (others_at others (length e.below.items)).behind < length e.top.work
 
 -- The tables define the name alike that the next turn looks up, if it looks one up for the
 -- configuration: that of the first token, where no call waits.
 pub record DefineNextAlike (st : Stores) (one other : Macros) (c : List ℕ) (e : Expansion) : Type 0 where
   pub same : (item : Cond × Hidden) → slice_get e.top.work 0 ≡ Some item → e.top.calls.items ≡ [] → st.sets.has item.0.0 c ≡ true → st.sets.has e.refusals.live.0 c ≡ true
       → is_looked_up (seen_hidden st.names st.hides item.1) ≡ true → one (text_of st.names item.1.token.spelling) ≡ other (text_of st.names item.1.token.spelling)
+
+-- a function-like macro's definition
+abbrev pub IsFunctionLike : Option Definition → Type 0
+IsFunctionLike None = ⊥
+IsFunctionLike (Some d) = IsTrue (is_function_like d.form)
+
+-- the next turn takes the name of a function-like macro for the configuration
+pub record TakesName (st : Stores) (macros : Macros) (e : Expansion) (c : List ℕ) : Type 0 where
+  pub item : Cond × Hidden
+  pub first : slice_get e.top.work 0 ≡ Some item
+  pub calls : e.top.calls.items ≡ []
+  pub has : st.sets.has item.0.0 c ≡ true
+  pub live : st.sets.has e.refusals.live.0 c ≡ true
+  pub looked_up : is_looked_up (seen_hidden st.names st.hides item.1) ≡ true
+  pub function : IsFunctionLike (macros (text_of st.names item.1.token.spelling))
+
+-- where the next turn takes such a name both call it by the same tokens, or neither does
+pub record CallNextAlike (st : Stores) (macros : Macros) (c d : List ℕ) (e : Expansion) : Type 0 where
+  pub same : TakesName st macros e c → IsSameCall st.sets st.names c d e.top.work
 
 -- ---- whole lists
 

@@ -11,7 +11,7 @@ use Rattle.sc_expand.specs.declared.expansion.Expansion.{Expansion}
 use Rattle.sc_expand.specs.Gather.{Gathers}
 use Rattle.sc_expand.specs.Alike.{IsAlikeIn, Span}
 use Rattle.sc_hoist.specs.Alike.{IsAlike}
-use Rattle.sc_expand.specs.Having.{has_each, tokens_in}
+use Rattle.sc_expand.specs.Having.{HasLast, has_each, tokens_in}
 use Rattle.sc_expand.specs.Machine.{at, with_call}
 use Rattle.sc_expand.specs.Plain.{IsTemplate, gathered}
 use Rattle.sc_expand.specs.Seen.{Stores, calls_at}
@@ -85,3 +85,4 @@ pub record AreGathered (old st : Stores) (was now : Expansion) (form : declared_
       → (at st now c ≡ at old was c) × (has_each st.sets now.top.work c ≡ has_each old.sets was.top.work c)
   pub alike : (c d : List ℕ) (span : Span) → IsConfig old.sets.arities c → IsConfig old.sets.arities d → All (λ branch. IsAlike old.sets c d branch.cond) branches
       → IsAlikeIn old.sets c d span was → IsAlikeIn st.sets c d span now
+  pub rest : (c : List ℕ) → IsConfig old.sets.arities c → HasLast old.sets st.sets was.top.work now.top.work c

@@ -18,3 +18,5 @@ pub mod OneLine
 pub mod Unchanged
 pub mod Alike
 pub mod FootprintSteps
+pub mod Footprints
+pub mod CallStops

@@ -1,5 +1,5 @@
 -- The turns of an expansion, from the first to the last.
-use Rattle.std.specs.Prelude.{◌≡◌, ℕ, ◌+◌, ◌-◌, ◌++◌, Bool, true, false, List, [], ◌∷◌, All, Option, Some, None, Ok, Err, length, slice_get, sum_by}
+use Rattle.std.specs.Prelude.{◌≡◌, ℕ, ◌+◌, ◌-◌, ◌++◌, Bool, true, false, List, [], ◌∷◌, All, Option, Some, None, Ok, Err, length, slice_get, sum_by, ◌≤◌, suc}
 use Rattle.c11_macros.specs.Expansion.{Expands}
 use Rattle.c11_macros.specs.Hidden as model
 use Rattle.c11_macros.specs.Hidden.{Failure, Provenance}
@@ -10,7 +10,8 @@ use Rattle.sc_expand.specs.declared.call.Call.{Call}
 use Rattle.sc_expand.specs.declared.expansion.Expansion.{Expansion}
 use Rattle.sc_expand.specs.declared.frame.Enclosing.{Enclosing}
 use Rattle.sc_expand.specs.declared.frame.Frame.{Frame}
-use Rattle.sc_expand.specs.Alike.{DefineNextAlike, IsAlikeExpansion}
+use Rattle.sc_expand.specs.Alike.{CallNextAlike, DefineNextAlike, IsAlikeExpansion, IsFirstIn, Others}
+use Rattle.sc_expand.specs.Having.{HasLast, HasMore, behind_at}
 use Rattle.sc_expand.specs.Machine.{IsHeldExpansion, Progress, at}
 use Rattle.sc_expand.specs.Seen.{Stores, provenance_of, seen_at}
 use Rattle.sc_expand.specs.Unchanged.{Drops, IsUncalled, LooksUpNone, Passes}
@@ -52,10 +53,17 @@ pub data IsDropped (e after : Expansion) : Type 0 where
 
 -- ---- what was put out
 
--- what the list below all others was expanded to
+-- the list below all others
+abbrev pub bottom_by : List Enclosing → Frame → Frame
+bottom_by [] top = top
+bottom_by (e ∷ es) top = e.frame
+
+abbrev pub bottom : Expansion → Frame
+bottom e = bottom_by e.below.items e.top
+
+-- what it was expanded to
 abbrev pub put_by : List Enclosing → Frame → List (Cond × Hidden)
-put_by [] top = top.out
-put_by (e ∷ es) top = e.frame.out
+put_by below top = (bottom_by below top).out
 
 abbrev pub put_out : Expansion → List (Cond × Hidden)
 put_out e = put_by e.below.items e.top
@@ -76,8 +84,10 @@ pub record IsRested (old new : Stores) (e after : Expansion) : Type 0 where
   pub progress : (files : ℕ) (provenance : Provenance Place) (macros : Macros) (c : List ℕ) → IsHeldExpansion old files e → IsConfig old.sets.arities c
       → Progress provenance macros old new c e.below.items after.below.items (at old e c) (at new after c) false
   pub drops : (files : ℕ) → IsHeldExpansion old files e → IsUncalled e → Drops old.sets e after
-  pub alike : (files : ℕ) (c d : List ℕ) → IsHeldExpansion old files e → IsConfig old.sets.arities c → IsConfig old.sets.arities d
-      → IsAlikeExpansion old.sets c d e → IsAlikeExpansion new.sets c d after
+  pub alike : (files : ℕ) (c d : List ℕ) (others : Others) → IsHeldExpansion old files e → IsConfig old.sets.arities c → IsConfig old.sets.arities d
+      → IsAlikeExpansion old.sets c d others e → IsAlikeExpansion new.sets c d others after
+  pub rest : (files : ℕ) (c : List ℕ) → IsHeldExpansion old files e → IsConfig old.sets.arities c → old.sets.has e.refusals.live.0 c ≡ true
+      → behind_at new.sets (bottom after).work c ≡ behind_at old.sets (bottom e).work c
 
 -- nothing is left to be expanded
 pub record HasEnded (e : Expansion) : Type 0 where
@@ -85,16 +95,31 @@ pub record HasEnded (e : Expansion) : Type 0 where
   pub work : e.top.work ≡ []
   pub calls : e.top.calls.items ≡ []
 
+-- The list below all others has more before it, or its first token was taken.
+pub data Rest (old new : Stores) (e after : Expansion) (c : List ℕ) : Type 0 where
+  put : HasMore old.sets new.sets (bottom e).work (bottom after).work c → Rest old new e after c
+  took : (item : Cond × Hidden) → e.below.items ≡ [] → e.top.calls.items ≡ [] → slice_get e.top.work 0 ≡ Some item
+      → HasLast old.sets new.sets (bottom e).work (bottom after).work c → Rest old new e after c
+
+-- The list below all others is no shorter, but for its first token where that was taken.
+pub data IsAsLong (e after : Expansion) : Type 0 where
+  all : length (bottom e).work ≤ length (bottom after).work → IsAsLong e after
+  but_first : (item : Cond × Hidden) → e.below.items ≡ [] → e.top.calls.items ≡ [] → slice_get e.top.work 0 ≡ Some item
+      → length (bottom e).work ≤ suc (length (bottom after).work) → IsAsLong e after
+
 -- What a turn does at each configuration. There was one if some configuration took part that was not refused.
 pub record IsTurned (files : List (List ℕ)) (macros : List ℕ → Macros) (old new : Stores) (e after : Expansion) (went : Bool) : Type 0 where
   pub takes : List ℕ → Bool
   pub progress : (c : List ℕ) → IsConfig old.sets.arities c
       → Progress (provenance_of files) (macros c) old new c e.below.items after.below.items (at old e c) (at new after c) (takes c)
+  pub long : IsAsLong e after
+  pub which : (cond : Cond) → next_of e ≡ Some cond → (c : List ℕ) → takes c ≡ old.sets.has cond.0 c
   pub some : went ≡ true → ((c : List ℕ) → IsConfig old.sets.arities c → takes c ≡ true → old.sets.has e.refusals.live.0 c ≡ true → ⊥) → ⊥
   pub ended : went ≡ false → HasEnded after
   pub passes : IsUncalled e → LooksUpNone old.sets old.names macros e → Passes new.sets e after
-  pub alike : (c d : List ℕ) → IsConfig old.sets.arities c → IsConfig old.sets.arities d → DefineNextAlike old (macros c) (macros d) c e
-      → IsAlikeExpansion old.sets c d e → IsAlikeExpansion new.sets c d after
+  pub alike : (c d : List ℕ) (others : Others) → IsConfig old.sets.arities c → IsConfig old.sets.arities d → DefineNextAlike old (macros c) (macros d) c e
+      → CallNextAlike old (macros c) c d e → IsFirstIn others e → IsAlikeExpansion old.sets c d others e → IsAlikeExpansion new.sets c d others after
+  pub rest : (c : List ℕ) → IsConfig old.sets.arities c → Rest old new e after c
 
 -- ---- whole runs
 

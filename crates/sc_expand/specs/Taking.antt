@@ -1,5 +1,6 @@
 -- What taking the first token of a list comes to at a configuration.
-use Rattle.std.specs.Prelude.{◌≡◌, Bool, true, false, ℕ, List, [], ◌∷◌, ◌++◌, map, Option, Result, Ok, Err}
+use Rattle.std.specs.Prelude.{◌≡◌, ◌⊎◌, IsTrue, Bool, true, false, ℕ, List, [], ◌∷◌, ◌++◌, map, Option, None, Some, Result, Ok, Err, slice_get}
+use Rattle.c11_macros.specs.Defines.{is_function_like}
 use Rattle.std.specs.Option.{option_map}
 use Rattle.std.specs.declared.rc.Rc.{Rc}
 use Rattle.std.proofs.Common.{Global}
@@ -19,7 +20,7 @@ use Rattle.sc_expand.specs.declared.taking.Taken.{Taken}
 use Rattle.sc_expand.specs.Alike.{IsAlikeIn, IsAlikeTaken, IsSameCall, Span}
 use Rattle.sc_hoist.specs.Alike.{AreAlike}
 use Rattle.sc_expand.specs.Gather.{without_call}
-use Rattle.sc_expand.specs.Having.{has_each}
+use Rattle.sc_expand.specs.Having.{HasLast, has_each}
 use Rattle.sc_expand.specs.Machine.{at}
 use Rattle.sc_expand.specs.Plain.{Fails, IsTemplate, gathered}
 use Rattle.sc_expand.specs.Seen.{AreHeld, Stores, provenance_of, seen_at, state_of}
@@ -75,6 +76,23 @@ pub data Replaces (r : Result (List (model.Hidden Place)) (Failure Place)) (a b 
   put_in : (body : List (model.Hidden Place)) → r ≡ Ok body → b ≡ a → after ≡ before ++ body → Replaces r a b before after
   refused : (failure : Failure Place) → r ≡ Err failure → b.live ≡ false → b.failures ≡ a.failures ++ failure ∷ [] → Replaces r a b before after
 
+-- the definition of a function-like macro
+abbrev pub IsFunction : List (List ℕ) → Option (Rc declared.Definition Global) → Type 0
+IsFunction names None = ⊥
+IsFunction names (Some shared) = IsTrue (is_function_like (seen_definition names shared.value).form)
+
+-- the configuration has a part that defines a function-like macro
+pub record TakesPart (s : Sets) (names : List (List ℕ)) (parts : List (Cond × Option (Rc declared.Definition Global))) (c : List ℕ) : Type 0 where
+  pub part : Cond × Option (Rc declared.Definition Global)
+  pub among : (n : ℕ) × (slice_get parts n ≡ Some part)
+  pub has : s.has part.0.0 c ≡ true
+  pub function : IsFunction names part.1
+
+-- The configuration has lost its first items, and none where others are made of the name.
+pub record HasTaken (old new : Sets) (before after put : List (Cond × Hidden)) (c : List ℕ) : Type 0 where
+  pub rest : HasLast old new before after c
+  pub made : (items_at new put c ≡ []) ⊎ (has_each new after c ≡ has_each old before c)
+
 -- Of the parts of a look-up these were taken: a configuration of one of them has come to something, and each other is as it was.
 pub record AreTaken (files : List (List ℕ)) (old st : Stores) (was now : Expansion) (before after : Taken) (head : Hidden) (parts : List (Cond × Option (Rc declared.Definition Global))) : Type 0 where
   pub comes : (c : List ℕ) (macros : Macros) (rest : List (model.Hidden Place)) → IsConfig old.sets.arities c → (at old was c).view.work ≡ seen_hidden old.names old.hides head ∷ rest
@@ -83,5 +101,6 @@ pub record AreTaken (files : List (List ℕ)) (old st : Stores) (was now : Expan
   pub others : (c : List ℕ) → IsConfig old.sets.arities c → items_at old.sets parts c ≡ [] → step_at st now after c ≡ step_at old was before c
   pub others_each : (c : List ℕ) → IsConfig old.sets.arities c → items_at old.sets parts c ≡ [] → has_each st.sets now.top.work c ≡ has_each old.sets was.top.work c
   pub alike : (c d : List ℕ) (span : Span) → IsConfig old.sets.arities c → IsConfig old.sets.arities d → AreAlike old.sets c d parts
-      → ((items_at old.sets parts c ≡ [] → ⊥) → IsSameCall old.sets old.names c d was.top.work) → IsAlikeTaken old.sets c d before
+      → (TakesPart old.sets old.names parts c → IsSameCall old.sets old.names c d was.top.work) → IsAlikeTaken old.sets c d before
       → IsAlikeIn old.sets c d span was → IsAlikeIn st.sets c d span now × IsAlikeTaken st.sets c d after
+  pub rest : (c : List ℕ) → IsConfig old.sets.arities c → HasTaken old.sets st.sets was.top.work now.top.work after.made.items c

@@ -1,5 +1,5 @@
 -- Lists in which no name is defined, which keep their tokens.
-use Rattle.std.specs.Prelude.{◌≡◌, ℕ, ◌&&◌, ◌++◌, Bool, true, false, List, [], ◌∷◌, All, None}
+use Rattle.std.specs.Prelude.{◌≡◌, ℕ, ◌&&◌, ◌++◌, true, false, List, [], ◌∷◌, All, None}
 use Rattle.c11_macros.specs.Macros.{Macros}
 use Rattle.c11_tokens.specs.Lex.{is_identifier_kind}
 use Rattle.sc_base.specs.declared.id.Cond.{Cond}

@@ -9,7 +9,7 @@ ghost use Rattle.sc_base.specs.declared.id.Name as declared_name;
 ghost use Rattle.sc_base.specs.declared.place.Place as declared_place;
 ghost use Rattle.sc_hoist.specs.Alike.{AreAlike, IsAlike};
 ghost use Rattle.sc_expand.specs.Beginning.{Begins, IsRefused, IsTemplateOf, token_at, tokens_of, with_argument};
-ghost use Rattle.sc_expand.specs.Having.{has_each};
+ghost use Rattle.sc_expand.specs.Having.{HasLast, has_each};
 ghost use Rattle.sc_expand.specs.Seen.{IsHeldCall, IsHeldTemplate, IsHeldToken, Stores, seen_at, seen_wanted, stores};
 ghost use Rattle.sc_expand.specs.Taking.{has_first};
 ghost use Rattle.sc_guarded.specs.Items.{items_at};
@@ -200,6 +200,7 @@ pub fn take_out<C: Conditions>(
         → has_each (C.sets conds.new) list.new c ≡ has_each (C.sets conds.old) list.old c) }
     ensures first { OnOk result ((c : List ℕ) → IsConfig (C.sets conds.old).arities c → (C.sets conds.old).has cond.0 c ≡ true → 0 < count
         → has_first (C.sets conds.new) list.new c ≡ false) }
+    ensures rest { OnOk result ((c : List ℕ) → IsConfig (C.sets conds.old).arities c → HasLast (C.sets conds.old) (C.sets conds.new) list.old list.new c) }
     ensures own { OnOk result (All (λ item. IsCond (C.sets conds.new) item.0.0) list.new) }
     ensures alike { OnOk result ((c d : List ℕ) (first : ℕ) → IsConfig (C.sets conds.old).arities c → IsConfig (C.sets conds.old).arities d → IsAlike (C.sets conds.old) c d cond
         → AreAlike (C.sets conds.old) c d (take first list.old) → AreAlike (C.sets conds.new) c d (take first list.new)) }

@@ -1,11 +1,12 @@
 //! Macro expansion of a list of tokens that differ by configuration.
 ghost use Rattle.std.specs.Prelude.{◌≡◌, ℕ, ◌<◌, [], List, All, true, false, length, map, IfErr, IfOk};
+ghost use Rattle.c11_macros.specs.Text.{place_alone, unhidden};
 ghost use Rattle.sc_base.specs.Seen.{IsHeld, seen};
 ghost use Rattle.sc_expand.specs.Alike.{DefineTextAlike};
 ghost use Rattle.sc_hoist.specs.Alike.{AreAlike, AreAlikeFaults};
 ghost use Rattle.sc_expand.specs.Answers.{IsEmpty, IsExpanded, IsHeldAnswer};
+ghost use Rattle.sc_expand.specs.Footprints.{StopsAtName};
 ghost use Rattle.sc_expand.specs.Running.{IsUntouched};
-ghost use Rattle.sc_expand.specs.Stops.{StopsBy};
 ghost use Rattle.sc_expand.specs.Unchanged.{DefinesNone, IsRestricted};
 ghost use Rattle.sc_guarded.specs.Items.{items_at};
 ghost use Rattle.sc_model.specs.Growth.{Extends};
@@ -49,7 +50,7 @@ pub fn expand<C: Conditions>(
     ensures some { IfOk result (λ e. All (λ item. IsNever (C.sets conds.new) item.0.0 → ⊥) e.list) }
     ensures unchanged { IfOk result (λ e. DefinesNone (C.sets conds.old) names.old (macros_at (C.sets conds.old) names.old table.now) live.0 list.now
         → IsRestricted (C.sets conds.new) live.0 list.now e.list × (e.faults.items ≡ [])) }
-    ensures stops { IfErr result (StopsBy (C.sets conds.old).arities limit) }
+    ensures stops { IfErr result (StopsAtName (λ t. unhidden (seen names.old files.now t)) place_alone (macros_at (C.sets conds.old) names.old table.now) (C.sets conds.old) live.0 list.now limit) }
     ensures alike { IfOk result (λ e. (c d : List ℕ) → IsConfig (C.sets conds.old).arities c → IsConfig (C.sets conds.old).arities d → (C.sets conds.old).has live.0 c ≡ true → (C.sets conds.old).has live.0 d ≡ true → AreAlike (C.sets conds.old) c d list.now
         → DefineTextAlike (macros_at (C.sets conds.old) names.old table.now c) (macros_at (C.sets conds.old) names.old table.now d) (map (seen names.old files.now) (items_at (C.sets conds.old) list.now c))
         → AreAlike (C.sets conds.new) c d e.list × AreAlikeFaults (C.sets conds.new) c d e.faults.items) }

@@ -12,9 +12,9 @@ ghost use Rattle.sc_expand.specs.Called.{AreGathered, Begins, IsBranch, IsCall};
 ghost use Rattle.sc_expand.specs.Gather.{Gathers};
 ghost use Rattle.sc_hoist.specs.Branches.{lists_at};
 ghost use Rattle.sc_expand.specs.Machine.{IsHeldExpansion, at};
-ghost use Rattle.sc_expand.specs.Having.{has_each};
+ghost use Rattle.sc_expand.specs.Having.{HasLast, has_each};
 ghost use Rattle.sc_expand.specs.Seen.{AreHeld, IsHeldToken, provenance_of, seen_at, stores};
-ghost use Rattle.sc_expand.specs.Stops.{StopsBy};
+ghost use Rattle.sc_expand.specs.CallStops.{StopsAt};
 ghost use Rattle.sc_expand.specs.Taking.{has_first};
 ghost use Rattle.sc_macro.specs.Seen.{IsHeldDefinition, IsHeldForm, IsHeldItem, seen_definition, seen_form, seen_item, text_of};
 ghost use Rattle.sc_model.specs.Growth.{Extends};
@@ -72,7 +72,8 @@ impl Expansion {
             → (C.sets conds.new).has self.new.refusals.live.0 c ≡ true → has_first (C.sets conds.new) self.new.top.work c ≡ (C.sets conds.new).has uncalled.0 c) }
         ensures first_others { OnOk result ((c : List ℕ) → IsConfig (C.sets conds.old).arities c → (C.sets conds.old).has cond.0 c ≡ false
             → has_first (C.sets conds.new) self.new.top.work c ≡ has_first (C.sets conds.old) self.old.top.work c) }
-        ensures stops { IfErr result (StopsBy (C.sets conds.old).arities limit) }
+        ensures rest { OnOk result ((c : List ℕ) → IsConfig (C.sets conds.old).arities c → HasLast (C.sets conds.old) (C.sets conds.new) self.old.top.work self.new.top.work c) }
+        ensures stops { IfErr result (StopsAt (C.sets conds.old) names.old (λ c. (C.sets conds.old).has cond.0 c ≡ true) self.old.top.work limit) }
         ensures alike { IfOk result (λ uncalled. (c d : List ℕ) (span : Span) → IsConfig (C.sets conds.old).arities c → IsConfig (C.sets conds.old).arities d
             → IsAlike (C.sets conds.old) c d cond → ((C.sets conds.old).has cond.0 c ≡ true → IsSameCall (C.sets conds.old) names.old c d self.old.top.work)
             → IsAlikeIn (C.sets conds.old) c d span self.old → IsAlikeIn (C.sets conds.new) c d span self.new × IsAlike (C.sets conds.new) c d uncalled) }
@@ -211,6 +212,7 @@ impl Expansion {
         ensures refusals { OnOk result (self.new.refusals ≡ self.old.refusals) }
         ensures below { OnOk result (self.new.below ≡ self.old.below) }
         ensures tokens { OnOk result (map (λ item. item.1) self.new.top.work ≡ map (λ item. item.1) self.old.top.work) }
+        ensures rest { OnOk result ((c : List ℕ) → IsConfig (C.sets conds.old).arities c → HasLast (C.sets conds.old) (C.sets conds.new) self.old.top.work self.new.top.work c) }
         ensures alike { OnOk result ((c d : List ℕ) (span : Span) → IsConfig (C.sets conds.old).arities c → IsConfig (C.sets conds.old).arities d → IsAlike (C.sets conds.old) c d branch.now.cond
             → IsAlikeIn (C.sets conds.old) c d span self.old → IsAlikeIn (C.sets conds.new) c d span self.new) }
 

@@ -1,14 +1,16 @@
 //! The loop of an expansion.
 ghost use Rattle.std.specs.Prelude.{◌≡◌, ◌<◌, ℕ, List, Some, length, true, IfErr, IfOk, IsSome, OnOk};
 ghost use Rattle.std.specs.Bool.{OnFalse, OnTrue};
-ghost use Rattle.sc_expand.specs.Alike.{DefineAlike, IsAlikeExpansion};
+ghost use Rattle.sc_expand.specs.Alike.{DefineAlike, IsAlikeExpansion, TakesName, no_others};
+ghost use Rattle.sc_expand.specs.Footprints.{StopsAtName};
 ghost use Rattle.sc_expand.specs.Machine.{IsExpansion, IsHeldExpansion};
 ghost use Rattle.sc_expand.specs.Running.{IsDone, IsDropped, IsReady, IsRested, IsTurned, IsUntouched, PutsOut, next_of, put_out, weight};
 ghost use Rattle.sc_expand.specs.Seen.{failures_at, provenance_of, seen_at, stores};
-ghost use Rattle.sc_expand.specs.Stops.{StopsBy};
+ghost use Rattle.sc_expand.specs.CallStops.{StopsAt};
 ghost use Rattle.sc_expand.specs.Unchanged.{IsRestricted, LooksUpNone};
 ghost use Rattle.sc_model.specs.Growth.{Extends};
 ghost use Rattle.sc_model.specs.Sets.{IsConfig, Keeps};
+ghost use Rattle.sc_subst.specs.Seen.{seen_hidden};
 ghost use Rattle.sc_table.specs.Table.{IsTable, macros_at};
 
 use crate::expansion::Expansion;
@@ -37,10 +39,11 @@ impl Expansion {
         ensures out { OnOk result (PutsOut (stores (C.sets conds.old) names.old self.old.sets) (stores (C.sets conds.new) names.new self.new.sets) self.old.refusals.live.0 self.old.top.out self.new.top.out) }
         ensures unchanged { OnOk result (LooksUpNone (C.sets conds.old) names.old (macros_at (C.sets conds.old) names.old table.now) self.old
             → IsRestricted (C.sets conds.new) self.old.refusals.live.0 self.old.top.work self.new.top.out × (self.new.refusals ≡ self.old.refusals)) }
-        ensures stops { IfErr result (StopsBy (C.sets conds.old).arities limit) }
+        ensures stops { IfErr result (StopsAtName (seen_hidden names.old self.old.sets) (provenance_of files.now) (macros_at (C.sets conds.old) names.old table.now) (C.sets conds.old)
+            self.old.refusals.live.0 self.old.top.work limit) }
         ensures alike { OnOk result ((c d : List ℕ) → IsConfig (C.sets conds.old).arities c → IsConfig (C.sets conds.old).arities d → (C.sets conds.old).has self.old.refusals.live.0 c ≡ true
             → DefineAlike (provenance_of files.now) (macros_at (C.sets conds.old) names.old table.now c) (macros_at (C.sets conds.old) names.old table.now d) (seen_at (stores (C.sets conds.old) names.old self.old.sets) self.old.top.work c)
-            → IsAlikeExpansion (C.sets conds.old) c d self.old → IsAlikeExpansion (C.sets conds.new) c d self.new) }
+            → IsAlikeExpansion (C.sets conds.old) c d no_others self.old → IsAlikeExpansion (C.sets conds.new) c d no_others self.new) }
 
         // at every outcome
         ensures keeps { Keeps (C.sets conds.old) (C.sets conds.new) }
@@ -72,7 +75,7 @@ impl Expansion {
         ensures turned { IfOk result (IsTurned files.now (macros_at (C.sets conds.old) names.old table.now)
             (stores (C.sets conds.old) names.old self.old.sets) (stores (C.sets conds.new) names.new self.new.sets) self.old self.new) }
         ensures out { OnOk result (PutsOut (stores (C.sets conds.old) names.old self.old.sets) (stores (C.sets conds.new) names.new self.new.sets) self.old.refusals.live.0 (put_out self.old) (put_out self.new)) }
-        ensures stops { IfErr result (StopsBy (C.sets conds.old).arities limit) }
+        ensures stops { IfErr result (StopsAt (C.sets conds.old) names.old (λ c. TakesName (stores (C.sets conds.old) names.old self.old.sets) (macros_at (C.sets conds.old) names.old table.now c) self.old c) self.old.top.work limit) }
 
         // at every outcome
         ensures keeps { Keeps (C.sets conds.old) (C.sets conds.new) }

@@ -1,4 +1,4 @@
-ghost use Rattle.std.specs.Prelude.{◌≡◌, ℕ, ◌<◌, ◌≤◌, ◌++◌, ◌∷◌, [], List, All, true, false, None, Some, Ok, Err, length, drop, map, slice_get, IfErr, IfOk, IfSome, OnOk, if◌then◌else◌};
+ghost use Rattle.std.specs.Prelude.{◌≡◌, ℕ, suc, ◌<◌, ◌≤◌, ◌++◌, ◌∷◌, [], List, All, true, false, None, Some, Ok, Err, length, drop, map, slice_get, IfErr, IfOk, IfSome, OnOk, if◌then◌else◌, IsTrue};
 ghost use Rattle.std.specs.Option.{option_map};
 ghost use Rattle.c11_macros.specs.Defines.{is_function_like};
 ghost use Rattle.c11_macros.specs.Expansion as expansion;
@@ -9,14 +9,14 @@ ghost use Rattle.c11_macros.specs.Macros.{Macros};
 ghost use Rattle.sc_base.specs.declared.id.Name as declared_name;
 ghost use Rattle.sc_base.specs.declared.place.Place.{Place};
 ghost use Rattle.sc_base.specs.declared.stop.Stop.TheVariants as declared_stop;
-ghost use Rattle.sc_expand.specs.Alike.{DefineNextAlike, IsAlikeExpansion, IsAlikeIn, IsAlikeTaken, IsSameCall, Span};
+ghost use Rattle.sc_expand.specs.Alike.{CallNextAlike, DefineNextAlike, IsAlikeExpansion, IsAlikeIn, IsAlikeTaken, IsFirstIn, IsFunctionLike, IsSameCall, Others, Span, TakesName};
 ghost use Rattle.sc_hoist.specs.Alike.{AreAlike, IsAlike};
-ghost use Rattle.sc_expand.specs.Having.{has_each};
+ghost use Rattle.sc_expand.specs.Having.{HasLast, has_each};
 ghost use Rattle.sc_expand.specs.Machine.{IsHeldExpansion, at};
 ghost use Rattle.sc_expand.specs.Running.{PutsOut};
 ghost use Rattle.sc_expand.specs.Seen.{AreHeld, IsHeldToken, provenance_of, seen_at, stores};
-ghost use Rattle.sc_expand.specs.Stops.{StopsBy};
-ghost use Rattle.sc_expand.specs.Taking.{Comes, IsBegun, IsHeldTaken, Replaces, step_at, untaken};
+ghost use Rattle.sc_expand.specs.CallStops.{StopsAt};
+ghost use Rattle.sc_expand.specs.Taking.{Comes, HasTaken, IsBegun, IsFunction, IsHeldTaken, Replaces, TakesPart, step_at, untaken};
 ghost use Rattle.sc_expand.specs.Turn.{Turn};
 ghost use Rattle.sc_expand.specs.Unchanged.{IsPushed, IsUncalled, IsUndefined, LooksUpNone, Passes};
 ghost use Rattle.sc_guarded.specs.Items.{items_at};
@@ -69,10 +69,13 @@ impl Expansion {
         ensures out { OnOk result (PutsOut (stores (C.sets conds.old) names.old self.old.sets) (stores (C.sets conds.new) names.new self.new.sets) self.old.refusals.live.0 self.old.top.out self.new.top.out) }
         ensures passes { OnOk result (IsUncalled self.old → LooksUpNone (C.sets conds.old) names.old (macros_at (C.sets conds.old) names.old table.now) self.old
             → Passes (C.sets conds.new) self.old self.new) }
-        ensures stops { IfErr result (StopsBy (C.sets conds.old).arities limit) }
-        ensures alike { OnOk result ((c d : List ℕ) → IsConfig (C.sets conds.old).arities c → IsConfig (C.sets conds.old).arities d
+        ensures long { OnOk result (length self.old.top.work ≤ suc (length self.new.top.work)) }
+        ensures rest { OnOk result ((c : List ℕ) → IsConfig (C.sets conds.old).arities c → HasLast (C.sets conds.old) (C.sets conds.new) self.old.top.work self.new.top.work c) }
+        ensures stops { IfErr result (StopsAt (C.sets conds.old) names.old (λ c. TakesName (stores (C.sets conds.old) names.old self.old.sets) (macros_at (C.sets conds.old) names.old table.now c) self.old c) self.old.top.work limit) }
+        ensures alike { OnOk result ((c d : List ℕ) (others : Others) → IsConfig (C.sets conds.old).arities c → IsConfig (C.sets conds.old).arities d
             → DefineNextAlike (stores (C.sets conds.old) names.old self.old.sets) (macros_at (C.sets conds.old) names.old table.now c) (macros_at (C.sets conds.old) names.old table.now d) c self.old
-            → IsAlikeExpansion (C.sets conds.old) c d self.old → IsAlikeExpansion (C.sets conds.new) c d self.new) }
+            → CallNextAlike (stores (C.sets conds.old) names.old self.old.sets) (macros_at (C.sets conds.old) names.old table.now c) c d self.old → IsFirstIn others self.old
+            → IsAlikeExpansion (C.sets conds.old) c d others self.old → IsAlikeExpansion (C.sets conds.new) c d others self.new) }
 
         // at every outcome
         ensures keeps { Keeps (C.sets conds.old) (C.sets conds.new) }
@@ -118,9 +121,11 @@ impl Expansion {
         ensures undefined { IfOk result (λ taken. ((c : List ℕ) → IsConfig (C.sets conds.old).arities c → (C.sets conds.old).has cond.0 c ≡ true
             → IsUndefined names.old (macros_at (C.sets conds.old) names.old table.now c) token.token)
             → (self.new ≡ self.old) × (taken.made.items ≡ [])) }
-        ensures stops { IfErr result (StopsBy (C.sets conds.old).arities limit) }
+        ensures rest { IfOk result (λ taken. (c : List ℕ) → IsConfig (C.sets conds.old).arities c → HasTaken (C.sets conds.old) (C.sets conds.new) self.old.top.work self.new.top.work taken.made.items c) }
+        ensures stops { IfErr result (StopsAt (C.sets conds.old) names.old (λ c. ((C.sets conds.old).has cond.0 c ≡ true) × (expansion.is_looked_up (seen_hidden names.old self.old.sets token) ≡ true) × IsFunctionLike (macros_at (C.sets conds.old) names.old table.now c (text_of names.old token.token.spelling))) self.old.top.work limit) }
         ensures alike { IfOk result (λ taken. (c d : List ℕ) (span : Span) → IsConfig (C.sets conds.old).arities c → IsConfig (C.sets conds.old).arities d
-            → IsAlike (C.sets conds.old) c d cond → ((C.sets conds.old).has cond.0 c ≡ true → IsSameCall (C.sets conds.old) names.old c d self.old.top.work)
+            → IsAlike (C.sets conds.old) c d cond → ((C.sets conds.old).has cond.0 c ≡ true → expansion.is_looked_up (seen_hidden names.old self.old.sets token) ≡ true → IsFunctionLike (macros_at (C.sets conds.old) names.old table.now c (text_of names.old token.token.spelling))
+            → IsSameCall (C.sets conds.old) names.old c d self.old.top.work)
             → ((C.sets conds.old).has cond.0 c ≡ true → expansion.is_looked_up (seen_hidden names.old self.old.sets token) ≡ true
             → macros_at (C.sets conds.old) names.old table.now c (text_of names.old token.token.spelling) ≡ macros_at (C.sets conds.old) names.old table.now d (text_of names.old token.token.spelling))
             → IsAlikeIn (C.sets conds.old) c d span self.old → IsAlikeIn (C.sets conds.new) c d span self.new × IsAlikeTaken (C.sets conds.new) c d taken) }
@@ -173,9 +178,11 @@ impl Expansion {
         ensures undefined { IfOk result (λ taken. ((c : List ℕ) → IsConfig (C.sets conds.old).arities c → (C.sets conds.old).has cond.0 c ≡ true
             → IsUndefined names.old (macros_at (C.sets conds.old) names.old table.now c) head.token)
             → (self.new ≡ self.old) × (taken.made.items ≡ [])) }
-        ensures stops { IfErr result (StopsBy (C.sets conds.old).arities limit) }
+        ensures rest { IfOk result (λ taken. (c : List ℕ) → IsConfig (C.sets conds.old).arities c → HasTaken (C.sets conds.old) (C.sets conds.new) self.old.top.work self.new.top.work taken.made.items c) }
+        ensures stops { IfErr result (StopsAt (C.sets conds.old) names.old (λ c. ((C.sets conds.old).has cond.0 c ≡ true) × IsFunctionLike (macros_at (C.sets conds.old) names.old table.now c (text_of names.old head.token.spelling))) self.old.top.work limit) }
         ensures alike { IfOk result (λ taken. (c d : List ℕ) (span : Span) → IsConfig (C.sets conds.old).arities c → IsConfig (C.sets conds.old).arities d
-            → IsAlike (C.sets conds.old) c d cond → ((C.sets conds.old).has cond.0 c ≡ true → IsSameCall (C.sets conds.old) names.old c d self.old.top.work)
+            → IsAlike (C.sets conds.old) c d cond → ((C.sets conds.old).has cond.0 c ≡ true → IsFunctionLike (macros_at (C.sets conds.old) names.old table.now c (text_of names.old head.token.spelling))
+            → IsSameCall (C.sets conds.old) names.old c d self.old.top.work)
             → ((C.sets conds.old).has cond.0 c ≡ true → macros_at (C.sets conds.old) names.old table.now c (text_of names.old head.token.spelling)
             ≡ macros_at (C.sets conds.old) names.old table.now d (text_of names.old head.token.spelling))
             → IsAlikeIn (C.sets conds.old) c d span self.old → IsAlikeIn (C.sets conds.new) c d span self.new × IsAlikeTaken (C.sets conds.new) c d taken) }
@@ -257,9 +264,10 @@ impl Expansion {
         ensures others { OnOk result ((c : List ℕ) → IsConfig (C.sets conds.old).arities c → items_at (C.sets conds.old) parts.now c ≡ []
             → step_at (stores (C.sets conds.new) names.new self.new.sets) self.new taken.new c ≡ step_at (stores (C.sets conds.old) names.old self.old.sets) self.old taken.old c) }
         ensures undefined { OnOk result (All (λ part. part.1 ≡ None) parts.now → (self.new ≡ self.old) × (taken.new.made ≡ taken.old.made)) }
-        ensures stops { IfErr result (StopsBy (C.sets conds.old).arities limit) }
+        ensures rest { OnOk result ((c : List ℕ) → IsConfig (C.sets conds.old).arities c → HasTaken (C.sets conds.old) (C.sets conds.new) self.old.top.work self.new.top.work taken.new.made.items c) }
+        ensures stops { IfErr result (StopsAt (C.sets conds.old) names.old (λ c. TakesPart (C.sets conds.old) names.old parts.now c) self.old.top.work limit) }
         ensures alike { OnOk result ((c d : List ℕ) (span : Span) → IsConfig (C.sets conds.old).arities c → IsConfig (C.sets conds.old).arities d
-            → AreAlike (C.sets conds.old) c d parts.now → ((items_at (C.sets conds.old) parts.now c ≡ [] → ⊥) → IsSameCall (C.sets conds.old) names.old c d self.old.top.work) → IsAlikeTaken (C.sets conds.old) c d taken.old
+            → AreAlike (C.sets conds.old) c d parts.now → (TakesPart (C.sets conds.old) names.old parts.now c → IsSameCall (C.sets conds.old) names.old c d self.old.top.work) → IsAlikeTaken (C.sets conds.old) c d taken.old
             → IsAlikeIn (C.sets conds.old) c d span self.old → IsAlikeIn (C.sets conds.new) c d span self.new × IsAlikeTaken (C.sets conds.new) c d taken.new) }
 
         // at every outcome
@@ -307,9 +315,10 @@ impl Expansion {
         ensures others { OnOk result ((c : List ℕ) → IsConfig (C.sets conds.old).arities c → (C.sets conds.old).has cond.0 c ≡ false
             → step_at (stores (C.sets conds.new) names.new self.new.sets) self.new taken.new c ≡ step_at (stores (C.sets conds.old) names.old self.old.sets) self.old taken.old c) }
         ensures undefined { OnOk result (definition.now ≡ None → (self.new ≡ self.old) × (taken.new.made ≡ taken.old.made)) }
-        ensures stops { IfErr result (StopsBy (C.sets conds.old).arities limit) }
+        ensures rest { OnOk result ((c : List ℕ) → IsConfig (C.sets conds.old).arities c → HasTaken (C.sets conds.old) (C.sets conds.new) self.old.top.work self.new.top.work taken.new.made.items c) }
+        ensures stops { IfErr result (StopsAt (C.sets conds.old) names.old (λ c. ((C.sets conds.old).has cond.0 c ≡ true) × IsFunction names.old definition.now) self.old.top.work limit) }
         ensures alike { OnOk result ((c d : List ℕ) (span : Span) → IsConfig (C.sets conds.old).arities c → IsConfig (C.sets conds.old).arities d
-            → IsAlike (C.sets conds.old) c d cond → ((C.sets conds.old).has cond.0 c ≡ true → IsSameCall (C.sets conds.old) names.old c d self.old.top.work) → IsAlikeTaken (C.sets conds.old) c d taken.old
+            → IsAlike (C.sets conds.old) c d cond → ((C.sets conds.old).has cond.0 c ≡ true → IsFunction names.old definition.now → IsSameCall (C.sets conds.old) names.old c d self.old.top.work) → IsAlikeTaken (C.sets conds.old) c d taken.old
             → IsAlikeIn (C.sets conds.old) c d span self.old → IsAlikeIn (C.sets conds.new) c d span self.new × IsAlikeTaken (C.sets conds.new) c d taken.new) }
         ensures others_each { OnOk result ((c : List ℕ) → IsConfig (C.sets conds.old).arities c → (C.sets conds.old).has cond.0 c ≡ false
             → has_each (C.sets conds.new) self.new.top.work c ≡ has_each (C.sets conds.old) self.old.top.work c) }
@@ -363,9 +372,10 @@ impl Expansion {
             (at (stores (C.sets conds.old) names.old self.old.sets) self.old c) (step_at (stores (C.sets conds.new) names.new self.new.sets) self.new taken.new c)) }
         ensures others { OnOk result ((c : List ℕ) → IsConfig (C.sets conds.old).arities c → (C.sets conds.old).has cond.0 c ≡ false
             → step_at (stores (C.sets conds.new) names.new self.new.sets) self.new taken.new c ≡ step_at (stores (C.sets conds.old) names.old self.old.sets) self.old taken.old c) }
-        ensures stops { IfErr result (StopsBy (C.sets conds.old).arities limit) }
+        ensures rest { OnOk result ((c : List ℕ) → IsConfig (C.sets conds.old).arities c → HasTaken (C.sets conds.old) (C.sets conds.new) self.old.top.work self.new.top.work taken.new.made.items c) }
+        ensures stops { IfErr result (StopsAt (C.sets conds.old) names.old (λ c. ((C.sets conds.old).has cond.0 c ≡ true) × IsTrue (is_function_like (seen_definition names.old definition.now).form)) self.old.top.work limit) }
         ensures alike { OnOk result ((c d : List ℕ) (span : Span) → IsConfig (C.sets conds.old).arities c → IsConfig (C.sets conds.old).arities d
-            → IsAlike (C.sets conds.old) c d cond → ((C.sets conds.old).has cond.0 c ≡ true → IsSameCall (C.sets conds.old) names.old c d self.old.top.work) → IsAlikeTaken (C.sets conds.old) c d taken.old
+            → IsAlike (C.sets conds.old) c d cond → ((C.sets conds.old).has cond.0 c ≡ true → IsTrue (is_function_like (seen_definition names.old definition.now).form) → IsSameCall (C.sets conds.old) names.old c d self.old.top.work) → IsAlikeTaken (C.sets conds.old) c d taken.old
             → IsAlikeIn (C.sets conds.old) c d span self.old → IsAlikeIn (C.sets conds.new) c d span self.new × IsAlikeTaken (C.sets conds.new) c d taken.new) }
         ensures others_each { OnOk result ((c : List ℕ) → IsConfig (C.sets conds.old).arities c → (C.sets conds.old).has cond.0 c ≡ false
             → has_each (C.sets conds.new) self.new.top.work c ≡ has_each (C.sets conds.old) self.old.top.work c) }

@@ -1,9 +1,10 @@
 //! The turns of an expansion at a call that waits: an argument is entered, or left.
-ghost use Rattle.std.specs.Prelude.{◌≡◌, ℕ, ◌++◌, ◌∷◌, [], List, true, map, slice_set, IfOk, OnOk};
+ghost use Rattle.std.specs.Prelude.{◌≡◌, ℕ, ◌++◌, ◌∷◌, [], List, true, map, slice_set, IfOk, OnOk, ◌≤◌, length};
 ghost use Rattle.c11_macros.specs.Macros.{Macros};
-ghost use Rattle.sc_expand.specs.Alike.{IsAlikeCall, IsAlikeExpansion};
+ghost use Rattle.sc_expand.specs.Alike.{IsAlikeCall, IsAlikeExpansion, Others};
+ghost use Rattle.sc_expand.specs.Having.{HasMore};
 ghost use Rattle.sc_expand.specs.Machine.{IsHeldExpansion, IsResumed, Progress, at, at_call};
-ghost use Rattle.sc_expand.specs.Running.{put_out};
+ghost use Rattle.sc_expand.specs.Running.{bottom, put_out};
 ghost use Rattle.sc_expand.specs.Seen.{IsHeldCall, calls_at, provenance_of, stores};
 ghost use Rattle.sc_expand.specs.Turn.{Turn};
 ghost use Rattle.sc_model.specs.Growth.{Extends};
@@ -86,8 +87,10 @@ impl Expansion {
         ensures turns { OnOk result ((files : List (List ℕ)) (macros : Macros) (c : List ℕ) → IsConfig (C.sets conds.old).arities c
             → Turn (provenance_of files) macros (at_call (stores (C.sets conds.old) names.now self.old.sets) self.old call c)
             (at (stores (C.sets conds.new) names.now self.new.sets) self.new c) ((C.sets conds.old).has call.cond.0 c)) }
-        ensures alike { OnOk result ((c d : List ℕ) → IsConfig (C.sets conds.old).arities c → IsConfig (C.sets conds.old).arities d → IsAlikeCall (C.sets conds.old) c d call
-            → IsAlikeExpansion (C.sets conds.old) c d self.old → IsAlikeExpansion (C.sets conds.new) c d self.new) }
+        ensures alike { OnOk result ((c d : List ℕ) (others : Others) → IsConfig (C.sets conds.old).arities c → IsConfig (C.sets conds.old).arities d → IsAlikeCall (C.sets conds.old) c d call
+            → IsAlikeExpansion (C.sets conds.old) c d others self.old → IsAlikeExpansion (C.sets conds.new) c d others self.new) }
+        ensures rest { OnOk result ((c : List ℕ) → IsConfig (C.sets conds.old).arities c → HasMore (C.sets conds.old) (C.sets conds.new) (bottom self.old).work (bottom self.new).work c) }
+        ensures long { OnOk result (length (bottom self.old).work ≤ length (bottom self.new).work) }
 
         // at every outcome
         ensures keeps { Keeps (C.sets conds.old) (C.sets conds.new) }
@@ -127,8 +130,10 @@ impl Expansion {
             (at_call (stores (C.sets conds.old) names.now self.old.sets) self.old call c)
             (at (stores (C.sets conds.new) names.now self.new.sets) self.new c) ((C.sets conds.old).has call.cond.0 c)) }
         ensures out { OnOk result (put_out self.new ≡ put_out self.old) }
-        ensures alike { OnOk result ((c d : List ℕ) → IsConfig (C.sets conds.old).arities c → IsConfig (C.sets conds.old).arities d → IsAlikeCall (C.sets conds.old) c d call
-            → IsAlikeExpansion (C.sets conds.old) c d self.old → IsAlikeExpansion (C.sets conds.new) c d self.new) }
+        ensures alike { OnOk result ((c d : List ℕ) (others : Others) → IsConfig (C.sets conds.old).arities c → IsConfig (C.sets conds.old).arities d → IsAlikeCall (C.sets conds.old) c d call
+            → IsAlikeExpansion (C.sets conds.old) c d others self.old → IsAlikeExpansion (C.sets conds.new) c d others self.new) }
+        ensures long { OnOk result (length (bottom self.old).work ≤ length (bottom self.new).work) }
+        ensures rest { OnOk result ((c : List ℕ) → IsConfig (C.sets conds.old).arities c → HasMore (C.sets conds.old) (C.sets conds.new) (bottom self.old).work (bottom self.new).work c) }
 
         // at every outcome
         ensures keeps { Keeps (C.sets conds.old) (C.sets conds.new) }

@@ -1,6 +1,7 @@
-use Rattle.std.proofs.Common.{ap, length, sym, ◌∙◌}
+use Rattle.std.proofs.Common.{rules, ap, length, sym, ◌∙◌}
 use Rattle.sc_base.specs.declared.id.Cond.{Cond}
 use Rattle.sc_expand.proofs.ExpandLemmas.{answer-alike, answer-held, answer-some, done-empty, done-expanded, source-defines, started-alike, started-held}
+use Rattle.sc_expand.proofs.FootprintPlaces.{given-stops}
 use Rattle.sc_expand.proofs.UnchangedAnswers.{answer-unchanged, looks-given}
 use Rattle.sc_expand.specs.Seen.{stores}
 use Rattle.sc_table.proofs.Growth.{macros_at-Extends, macros_at-Keeps, IsTable-Extends, IsTable-Keeps}
@@ -75,3 +76,12 @@ returns-in_err-expanded-clause-table g c = IsTable-Extends c.run.ensures.names (
 
 pub returns-in_err-expanded-clause-still : goal.returns-in_err-expanded-clause-still
 returns-in_err-expanded-clause-still g c = λ config text listed. macros_at-Extends c.run.ensures.names (IsTable-Keeps c.run.ensures.keeps c.requires.table) config text ∙ macros_at-Keeps {names = c.args.names.now} c.run.ensures.keeps c.requires.table config text listed
+
+pub returns-in_err-run-clause-stops : goal.returns-in_err-run-clause-stops
+returns-in_err-run-clause-stops g c =
+    let s = g.C.Conditions.sets c.args.conds.now in
+    let e = c.in_ok-expansion.ensures in
+    let began = c.in_ok-expansion.expansion in
+    let stops = given-stops s c.args.names.now c.args.files.now began.sets (macros_at s c.args.names.now c.args.table.now) began.refusals.live c.args.live began.top.work c.args.list.now c.args.limit c.in_err-run.field-0.0
+    e.live e.tokens e.unhidden c.in_err-run.ensures.stops in
+    search (rules, stops)

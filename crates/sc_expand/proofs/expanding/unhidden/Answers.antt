@@ -3,7 +3,7 @@ use Rattle.sc_base.specs.declared.id.Cond.{Cond}
 use Rattle.sc_base.specs.declared.token.Token.{Token}
 use Rattle.sc_base.specs.Seen.{IsHeld}
 use Rattle.sc_expand.proofs.Ending.{All-later, begun-next}
-use Rattle.sc_expand.proofs.Rests.{All-here}
+use Rattle.sc_expand.proofs.AlikeLemmas.{All-at}
 use Rattle.sc_subst.specs.declared.hidden.Hidden.{Hidden}
 use Rattle.sc_subst.specs.Hides.{set_at}
 use Rattle.sc_subst.specs.Seen.{IsHeldHidden}
@@ -17,6 +17,6 @@ loop-index-preserved c =
       tokens = begun-next items c.push.new.self.items c.args.list.now c.loop-index.index cond c.item.result.1.now c.new.result i.tokens c.item.ensures c.new.ensures.token c.in_ok-push.ensures.items;
       unhidden = All-later (λ (item : Cond × Hidden). set_at c.args.sets.now item.1.hide.0 ≡ []) items c.push.new.self.items (cond, c.new.result) i.unhidden c.new.ensures.none c.in_ok-push.ensures.items;
       held = λ names all.
-          let here = All-here (λ (item : Cond × Token). IsHeld names item.1) c.args.list.now c.loop-index.index (cond, c.item.result.1.now) c.item.ensures all in
+          let here = All-at (λ (item : Cond × Token). IsHeld names item.1) c.args.list.now c.loop-index.index (cond, c.item.result.1.now) c.item.ensures all in
           All-later (λ (item : Cond × Hidden). IsHeldHidden names c.args.sets.now item.1) items c.push.new.self.items (cond, c.new.result) (i.held names all) (c.new.ensures.own names here) c.in_ok-push.ensures.items;
     }

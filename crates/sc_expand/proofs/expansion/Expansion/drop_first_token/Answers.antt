@@ -1,7 +1,8 @@
 use Rattle.std.proofs.Common.{◌∷◌, ap, refl, sym, ◌∙◌}
 use Rattle.sc_base.proofs.Growth.{Extends-refl}
 use Rattle.sc_base.specs.declared.id.Cond.{Cond}
-use Rattle.sc_expand.proofs.Rests.{All-here, first-is, never-at, rested-Grows, rested-then, rested-token}
+use Rattle.sc_expand.proofs.AlikeLemmas.{All-at}
+use Rattle.sc_expand.proofs.Rests.{first-is, never-at, rested-Grows, rested-then, rested-token}
 use Rattle.sc_expand.proofs.SeenLemmas.{Grows-refl}
 use Rattle.sc_expand.specs.declared.expansion.Expansion.{Expansion}
 use Rattle.sc_expand.specs.Seen.{Grows, stores}
@@ -15,7 +16,7 @@ returns-in-None-clause-rested g c = λ names. rested-Grows (Grows-refl (stores (
 
 pub apply_and-requires-clause-a_own : goal.apply_and-requires-clause-a_own
 apply_and-requires-clause-a_own g c =
-    All-here (λ (item : Cond × Hidden). IsCond (g.C.Conditions.sets c.args.conds.now) item.0.0) c.args.self.now.top.work 0 c.in-Some.first (sym c.first.ensures ∙ c.in-Some.is) c.requires.held.1.1.top.work.own
+    All-at (λ (item : Cond × Hidden). IsCond (g.C.Conditions.sets c.args.conds.now) item.0.0) c.args.self.now.top.work 0 c.in-Some.first (sym c.first.ensures ∙ c.in-Some.is) c.requires.held.1.1.top.work.own
 
 pub returns-then-not-is_never-clause-rested : goal.returns-then-not-is_never-clause-rested
 returns-then-not-is_never-clause-rested g c = λ names.
@@ -34,7 +35,7 @@ returns-clause-rested g c = λ names.
     let held = c.requires.held.1.1 in
     let item : Cond × Hidden = c.in-Some.first in
     let is = sym c.first.ensures ∙ c.in-Some.is in
-    let own = All-here (λ (item : Cond × Hidden). IsCond was item.0.0) e.top.work 0 item is held.top.work.own in
+    let own = All-at (λ (item : Cond × Hidden). IsCond was item.0.0) e.top.work 0 item is held.top.work.own in
     let both = c.in_ok-cond.ensures.meaning (was.has item.0.0) (was.has e.refusals.live.0) (Denotes-self was item.0.0 own) (Denotes-self was e.refusals.live.0 held.refusals.live) in
     let never = never-at c.apply_and.ensures.keeps item.0 e.refusals.live c.in_ok-cond.cond own held.refusals.live both (c.is_never.ensures.0 c.if-not-is_never.false) in
     let after : Expansion = record e { top = record e.top { work = c.drop_first.new.self } } in

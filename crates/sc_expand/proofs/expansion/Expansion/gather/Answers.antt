@@ -1,4 +1,3 @@
-use Rattle.sc_expand.specs.Having.{tokens_in}
 use Rattle.std.proofs.Common.{◌<◌, length}
 use Rattle.std.proofs.lemmas.List.Elements.{All-map}
 use Rattle.std.proofs.lemmas.Result.{err_from_is_err_and}
@@ -7,12 +6,11 @@ use Rattle.sc_base.proofs.Growth.{Extends-refl}
 use Rattle.sc_base.specs.declared.id.Cond.{Cond}
 use Rattle.sc_base.specs.declared.token.Token.{Token}
 use Rattle.sc_expand.proofs.GatherBranches.{first-of-each}
-use Rattle.sc_expand.proofs.GatherEnds.{stops-by}
+use Rattle.sc_expand.proofs.GatherEnds.{stops-at}
 use Rattle.sc_expand.proofs.GatherParts.{are-branches, is-gathered, one-at-most, parted-by, parted-held}
 use Rattle.sc_expand.proofs.GatherTaking.{head-held}
 use Rattle.sc_expand.proofs.SeenLemmas.{IsHeldExpansion-Grows}
 use Rattle.sc_expand.specs.Seen.{Grows, IsHeldToken, stores}
-use Rattle.sc_hoist.specs.Calls.{call_places}
 use Rattle.sc_model.proofs.SetLemmas.{Keeps-trans}
 use Rattle.sc_model.specs.declared.cause.Cause.TheVariants.{UnterminatedCall}
 use Rattle.sc_model.specs.Sets.{IsCond}
@@ -44,10 +42,8 @@ closed_calls-requires-clause-held g c =
 
 pub returns-in_err-branches-clause-stops : goal.returns-in_err-branches-clause-stops
 returns-in_err-branches-clause-stops g c =
-    let s0 = g.C.Conditions.sets c.args.conds.now in
-    let s1 = g.C.Conditions.sets c.find_calls.new.conds in
     let p = err_from_is_err_and c.from_residual-in_err-branches.result c.from_residual-in_err-branches.ensures.1 in
-    rw (p.1, p.2) (stops-by s1 s0.arities c.in_ok-found.found.ends.closed.0 (λ d. call_places s1 c.args.names.now (tokens_in c.args.self.now.top.work) 0 d) c.args.limit _ c.find_calls.ensures.keeps.arities c.in_err-branches.ensures.refused)
+    rw (p.1, p.2) (stops-at c.args.cond.0 c.args.self.now.top.work c.args.limit _ c.find_calls.ensures.keeps c.requires.held.top.work c.in_ok-found.ensures.closed c.in_err-branches.ensures.refused)
 
 pub returns-in_err-branches-clause-keeps : goal.returns-in_err-branches-clause-keeps
 returns-in_err-branches-clause-keeps g c = Keeps-trans c.find_calls.ensures.keeps c.closed_calls.ensures.keeps
@@ -288,3 +284,26 @@ returns-clause-alike g c =
     c.requires.function c.requires.stands c.requires.calls s4 s5 c.gather_calls.new.names c.gather_calls.new.self ends.bare.0 ends.alone.0 c.in_ok-uncalled.uncalled.0 c.gather_calls.ensures.keeps c.apply_or.ensures.keeps
     held4 c.in_ok-found.ensures.bare c.in_ok-found.ensures.alone c.in_ok-uncalled.ensures.meaning c.in_ok-gather_calls.ensures.gathered in
     all.alike
+
+pub returns-clause-rest : goal.returns-clause-rest
+returns-clause-rest g c =
+    let s0 = g.C.Conditions.sets c.args.conds.now in
+    let s1 = g.C.Conditions.sets c.find_calls.new.conds in
+    let s2 = g.C.Conditions.sets c.closed_calls.new.conds in
+    let s3 = g.C.Conditions.sets c.refuse.new.conds in
+    let n = c.args.names.now in
+    let e0 = c.args.self.now in
+    let files = length c.args.files.now in
+    let ends = c.in_ok-found.found.ends in
+    let parts = parted-by s0 s1 s2 s3 n c.items_at.new.names files e0 c.refuse.new.self c.args.cond.0 ends.closed.0 ends.still.0 c.in_ok-branches.branches.items c.deref.result.now
+    (failure_at UnterminatedCall (seen_hidden n e0.sets c.args.head)) c.deref.ensures.value c.find_calls.ensures.keeps c.closed_calls.ensures.keeps c.refuse.ensures.keeps c.items_at.ensures.names c.requires.held
+    c.in_ok-found.ensures.closed c.in_ok-found.ensures.still c.in_ok-branches.ensures.lists c.in_ok-branches.ensures.branches c.in_ok-refuse.ensures.live c.in_ok-refuse.ensures.failures
+    c.in_ok-branches.ensures.agree c.in_ok-refuse.ensures.alike in
+    let head = head-held (IsHeldToken (stores s0 n e0.sets) files) e0.top.work c.args.head c.requires.held.top.work.held c.requires.head in
+    let s4 = g.C.Conditions.sets c.gather_calls.new.conds in
+    let s5 = g.C.Conditions.sets c.apply_or.new.self in
+    let held4 = c.in_ok-gather_calls.ensures.held files (parted-held parts (c.in_ok-refuse.ensures.held files head.file)) in
+    let all = is-gathered c.args.files.now c.args.head parts head.held c.args.definition.now c.deref-2.result.now _ c.requires.definition c.deref-2.ensures.value c.in_ok-items.ensures.own c.in_ok-items.ensures.is
+    c.requires.function c.requires.stands c.requires.calls s4 s5 c.gather_calls.new.names c.gather_calls.new.self ends.bare.0 ends.alone.0 c.in_ok-uncalled.uncalled.0 c.gather_calls.ensures.keeps c.apply_or.ensures.keeps
+    held4 c.in_ok-found.ensures.bare c.in_ok-found.ensures.alone c.in_ok-uncalled.ensures.meaning c.in_ok-gather_calls.ensures.gathered in
+    all.rest

@@ -33,6 +33,9 @@ arguments-requires g c =
     let rest = All-tail H c.in_ok-call.call.close c.in_ok-call.call.between.items (c.in_ok-call.ensures.own files c.requires.held.1.top.work) in
     subst (All Q) (sym c.deref.ensures.value) (λ k d h. (rest k d h).held.token.spelling)
 
+pub begin-requires-clause-cond_own : goal.begin-requires-clause-cond_own
+begin-requires-clause-cond_own g c = c.take_call.ensures.keeps.own _ c.requires.branch.own
+
 pub begin-requires-clause-held : goal.begin-requires-clause-held
 begin-requires-clause-held g c =
     let files = c.requires.held.0 in
@@ -45,7 +48,7 @@ begin-requires-clause-held g c =
     let between = c.in_ok-call.call.between.items in
     let close = c.in_ok-call.call.close in
     let told = c.in_ok-call.ensures in
-    let left = left-by s0 s1 n e0 e1 c.args.branch.now between close c.take_call.ensures.keeps c.take_call.ensures.sets told.top told.refusals told.below told.call told.others told.first told.alike in
+    let left = left-by s0 s1 n e0 e1 c.args.branch.now between close c.take_call.ensures.keeps c.take_call.ensures.sets told.top told.refusals told.below told.call told.others told.first told.rest told.alike in
     (files, left-held left files held (told.held files held.top.work))
 
 pub begin-requires-clause-head : goal.begin-requires-clause-head
@@ -89,7 +92,7 @@ returns-in-Some-clause-held g c = on-ok c.begin.result
     let between = c.in_ok-call.call.between.items in
     let close = c.in_ok-call.call.close in
     let told = c.in_ok-call.ensures in
-    let left = left-by s0 s1 n e0 e1 c.args.branch.now between close c.take_call.ensures.keeps c.take_call.ensures.sets told.top told.refusals told.below told.call told.others told.first told.alike in
+    let left = left-by s0 s1 n e0 e1 c.args.branch.now between close c.take_call.ensures.keeps c.take_call.ensures.sets told.top told.refusals told.below told.call told.others told.first told.rest told.alike in
     let H : Hidden → Type 0 = IsHeldToken (stores s0 n e0.sets) files in
     let own = told.own files held.top.work in
     let here = told.held files held.top.work in
@@ -121,7 +124,7 @@ returns-in-Some-clause-gathered g c = four-on-ok c.begin.result
     let between = c.in_ok-call.call.between.items in
     let close = c.in_ok-call.call.close in
     let told = c.in_ok-call.ensures in
-    let left = left-by s0 s1 n e0 e1 c.args.branch.now between close c.take_call.ensures.keeps c.take_call.ensures.sets told.top told.refusals told.below told.call told.others told.first told.alike in
+    let left = left-by s0 s1 n e0 e1 c.args.branch.now between close c.take_call.ensures.keeps c.take_call.ensures.sets told.top told.refusals told.below told.call told.others told.first told.rest told.alike in
     let H : Hidden → Type 0 = IsHeldToken (stores s0 n e0.sets) files in
     let own = told.own files held.top.work in
     let here = told.held files held.top.work in
@@ -146,6 +149,9 @@ returns-in-Some-clause-gathered g c = four-on-ok c.begin.result
 pub returns-in-Some-clause-keeps : goal.returns-in-Some-clause-keeps
 returns-in-Some-clause-keeps g c = Keeps-trans c.take_call.ensures.keeps c.begin.ensures.keeps
 
+pub refuse-requires-clause-own : goal.refuse-requires-clause-own
+refuse-requires-clause-own g c = c.take_call.ensures.keeps.own _ c.requires.branch.own
+
 pub returns-clause-held : goal.returns-clause-held
 returns-clause-held g c = on-ok c.refuse.result
     (λ refused files held.
@@ -157,7 +163,7 @@ returns-clause-held g c = on-ok c.refuse.result
     let between = c.in_ok-call.call.between.items in
     let close = c.in_ok-call.call.close in
     let told = c.in_ok-call.ensures in
-    let left = left-by s0 s1 n e0 e1 c.args.branch.now between close c.take_call.ensures.keeps c.take_call.ensures.sets told.top told.refusals told.below told.call told.others told.first told.alike in
+    let left = left-by s0 s1 n e0 e1 c.args.branch.now between close c.take_call.ensures.keeps c.take_call.ensures.sets told.top told.refusals told.below told.call told.others told.first told.rest told.alike in
     let H : Hidden → Type 0 = IsHeldToken (stores s0 n e0.sets) files in
     let own = told.own files held.top.work in
     let here = told.held files held.top.work in
@@ -181,7 +187,7 @@ returns-clause-gathered g c = three-on-ok c.refuse.result
     let between = c.in_ok-call.call.between.items in
     let close = c.in_ok-call.call.close in
     let told = c.in_ok-call.ensures in
-    let left = left-by s0 s1 n e0 e1 c.args.branch.now between close c.take_call.ensures.keeps c.take_call.ensures.sets told.top told.refusals told.below told.call told.others told.first told.alike in
+    let left = left-by s0 s1 n e0 e1 c.args.branch.now between close c.take_call.ensures.keeps c.take_call.ensures.sets told.top told.refusals told.below told.call told.others told.first told.rest told.alike in
     let here = told.held files held.top.work in
     let fits : (parameters : List (List ℕ)) (variadic : Bool) → seen_form n c.args.form.now ≡ function_like parameters variadic
     → seen_fit n e0.sets None ≡ arguments_for parameters variadic (parted (length parameters) 0 (seen_list n e0.sets between)) =

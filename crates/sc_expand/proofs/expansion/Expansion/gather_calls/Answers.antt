@@ -1,11 +1,23 @@
-use Rattle.std.proofs.Common.{◌∙◌, sym, subst}
-use Rattle.sc_expand.proofs.GatherBranches.{branch-later, gathered-more}
+use Rattle.std.proofs.Common.{◌∙◌, refl, sym, subst}
+use Rattle.sc_expand.proofs.GatherBranches.{branch-later, gathered-more, gathered-none}
 use Rattle.sc_expand.proofs.GatherTaking.{head-held}
-use Rattle.sc_expand.proofs.SeenLemmas.{Grows-trans}
+use Rattle.sc_expand.proofs.SeenLemmas.{Grows-refl, Grows-trans}
 use Rattle.sc_expand.specs.Called.{IsBranch}
 use Rattle.sc_expand.specs.Seen.{Grows, IsHeldToken, stores}
 use Rattle.sc_model.proofs.SetLemmas.{Keeps-trans}
 use Rattle.sc_expand.proofs.expansion.Expansion.gather_calls.Goals as goal
+
+pub loop-branch-init : goal.loop-branch-init
+loop-branch-init g c =
+    let st = stores (g.C.Conditions.sets c.args.conds.now) c.args.names.now c.args.self.now.sets in
+    record {
+      grows = Grows-refl st;
+      held = λ files held. held;
+      below = refl;
+      out = refl;
+      tokens = refl;
+      gathered = gathered-none st c.args.self.now c.args.form.now c.args.items.now c.args.head;
+    }
 
 pub gather_call-requires-clause-held : goal.gather_call-requires-clause-held
 gather_call-requires-clause-held g c = (c.requires.held.0, c.loop-branch.invariant.held c.requires.held.0 c.requires.held.1)

@@ -4,10 +4,12 @@ use Rattle.std.proofs.lemmas.List.Elements.{All-pop}
 use Rattle.sc_base.proofs.Growth.{Extends-refl}
 use Rattle.sc_expand.proofs.AlikeFilling.{alike-enter, alike-narrowed}
 use Rattle.sc_expand.proofs.AlikeLemmas.{IsAlikeExpansion-Keeps}
+use Rattle.sc_expand.proofs.BottomLemmas.{bottom-held, bottom-less, more-Keeps, more-none}
 use Rattle.sc_expand.proofs.MachineGoesOn.{entered-held, entered-progress, later-held, replaced-progress}
 use Rattle.sc_expand.proofs.SeenLemmas.{IsHeldCall-Grows, IsHeldExpansion-Grows, calls_at-Grows, failures_at-Grows, view_at-Grows, waiting_at-Grows}
 use Rattle.sc_expand.specs.declared.call.Wanted.{Wanted}
 use Rattle.sc_expand.specs.Machine.{IsHeldExpansion, Progress, at, at_call, with_call}
+use Rattle.sc_expand.specs.Running.{bottom, bottom_by}
 use Rattle.sc_expand.specs.Seen.{Grows, IsHeldToken, provenance_of, seen_wanted, stores, waiting_at}
 use Rattle.sc_model.proofs.SetLemmas.{Denotes-self, IsConfig-Keeps, IsConfig-kept, Keeps-trans}
 use Rattle.sc_expand.proofs.expansion.Expansion.go_on.Goals as goal
@@ -132,7 +134,7 @@ returns-in-None-clause-progress g c = on-both c.replace.result c.replace.ensures
     (sym (ap (λ l. l.items) below)) progress)
 
 pub returns-in-Some-clause-alike : goal.returns-in-Some-clause-alike
-returns-in-Some-clause-alike g c = on-four c.enter.result c.enter.ensures.below c.enter.ensures.work c.enter.ensures.out c.enter.ensures.calls (λ below work out calls. λ x y p q call_alike alike.
+returns-in-Some-clause-alike g c = on-four c.enter.result c.enter.ensures.below c.enter.ensures.work c.enter.ensures.out c.enter.ensures.calls (λ below work out calls. λ x y others p q call_alike alike.
     let was = g.C.Conditions.sets c.args.conds.now in
     let old = stores was c.args.names.now c.args.self.now.sets in
     let new = g.C.Conditions.sets c.apply_and.new.self in
@@ -142,10 +144,10 @@ returns-in-Some-clause-alike g c = on-four c.enter.result c.enter.ensures.below 
     let held_call = c.requires.held.1.1 in
     let both = c.in_ok-call.ensures.meaning (was.has c.args.call.cond.0) (was.has c.args.self.now.refusals.live.0) (Denotes-self was c.args.call.cond.0 held_call.own) (Denotes-self was c.args.self.now.refusals.live.0 held.refusals.live) in
     let narrowed = alike-narrowed {old = old} keeps p q c.args.self.now.refusals.live c.args.call later held_call both refl alike.refusals.live call_alike in
-    alike-enter new x y c.args.self.now c.enter.new.self later c.in-Some.wanted c.enter.ensures.refusals below work out calls narrowed (IsAlikeExpansion-Keeps {old = old} keeps p q c.args.self.now held alike))
+    alike-enter new x y others c.args.self.now c.enter.new.self later c.in-Some.wanted c.enter.ensures.refusals below work out calls narrowed (IsAlikeExpansion-Keeps {old = old} keeps p q others c.args.self.now held alike))
 
 pub returns-in-None-clause-alike : goal.returns-in-None-clause-alike
-returns-in-None-clause-alike g c = on-ok c.replace.result c.replace.ensures.alike (λ made. λ x y p q call_alike alike.
+returns-in-None-clause-alike g c = on-ok c.replace.result c.replace.ensures.alike (λ made. λ x y others p q call_alike alike.
     let was = g.C.Conditions.sets c.args.conds.now in
     let old = stores was c.args.names.now c.args.self.now.sets in
     let keeps = c.apply_and.ensures.keeps in
@@ -154,4 +156,19 @@ returns-in-None-clause-alike g c = on-ok c.replace.result c.replace.ensures.alik
     let held_call = c.requires.held.1.1 in
     let both = c.in_ok-call.ensures.meaning (was.has c.args.call.cond.0) (was.has c.args.self.now.refusals.live.0) (Denotes-self was c.args.call.cond.0 held_call.own) (Denotes-self was c.args.self.now.refusals.live.0 held.refusals.live) in
     let narrowed = alike-narrowed {old = old} keeps p q c.args.self.now.refusals.live c.args.call later held_call both refl alike.refusals.live call_alike in
-    made x y (IsConfig-Keeps keeps p) (IsConfig-Keeps keeps q) narrowed (IsAlikeExpansion-Keeps {old = old} keeps p q c.args.self.now held alike))
+    made x y others (IsConfig-Keeps keeps p) (IsConfig-Keeps keeps q) narrowed (IsAlikeExpansion-Keeps {old = old} keeps p q others c.args.self.now held alike))
+
+pub returns-in-Some-clause-rest : goal.returns-in-Some-clause-rest
+returns-in-Some-clause-rest g c = on-ok c.enter.result c.enter.ensures.below (λ below. λ config listed.
+    let e = c.args.self.now in
+    let after = c.enter.new.self in
+    let same = ap (λ bs. (bottom_by bs after.top).work) below ∙ ap (λ f. f.work) (bottom-less e.below.items (record { frame = e.top; call = record c.args.call { cond = c.in_ok-call.field-0; wanted = c.pop.new.self }; parameter = c.in-Some.wanted.parameter }) after.top) in
+    more-none c.apply_and.ensures.keeps listed (bottom e).work (bottom after).work (bottom-held e c.requires.held.1.0) same)
+
+pub returns-in-None-clause-rest : goal.returns-in-None-clause-rest
+returns-in-None-clause-rest g c = on-ok c.replace.result c.replace.ensures.rest (λ more. λ config listed.
+    let keeps = c.apply_and.ensures.keeps in
+    more-Keeps keeps listed (bottom c.args.self.now).work (bottom c.replace.new.self).work (bottom-held c.args.self.now c.requires.held.1.0) (more config (IsConfig-Keeps keeps listed)))
+
+pub returns-in-None-clause-long : goal.returns-in-None-clause-long
+returns-in-None-clause-long g c = c.replace.ensures.long

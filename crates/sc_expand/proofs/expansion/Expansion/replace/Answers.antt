@@ -1,11 +1,15 @@
-use Rattle.std.proofs.Common.{◌≡◌, ◌++◌, All, Result, Ok, Err, OnOk, map, refl, sym, ap, subst, ◌∙◌}
+use Rattle.std.proofs.Common.{◌≡◌, ◌-◌, ◌++◌, All, Result, Ok, Err, OnOk, arith, length, length-append, map, take, refl, sym, ap, subst, ◌∙◌}
 use Rattle.sc_base.proofs.Growth.{Extends-refl}
-use Rattle.sc_expand.proofs.AlikeFilling.{AreAlike-append}
-use Rattle.sc_expand.proofs.AlikeLemmas.{IsAlikeExpansion-Keeps}
+use Rattle.sc_base.specs.declared.id.Cond.{Cond}
+use Rattle.sc_expand.proofs.AlikeLemmas.{All-but-put, IsAlikeExpansion-Keeps}
+use Rattle.sc_expand.proofs.BottomLemmas.{bottom-held, bottom-long, more-bottom, more-none}
 use Rattle.sc_expand.proofs.MachineReplaces.{refused-turn, replaced-turn}
 use Rattle.sc_expand.proofs.SeenLemmas.{AreHeld-append, IsHeldExpansion-Grows}
+use Rattle.sc_expand.specs.Alike.{others_at}
+use Rattle.sc_expand.specs.Running.{bottom}
 use Rattle.sc_expand.specs.Seen.{AreHeld, Grows, IsHeldPartIn, IsHeldTemplate, seen_template, stores}
-use Rattle.sc_hoist.specs.Alike.{AreAlike}
+use Rattle.sc_hoist.specs.Alike.{AreAlike, IsAlike}
+use Rattle.sc_subst.specs.declared.hidden.Hidden.{Hidden}
 use Rattle.sc_subst.specs.Parts.{seen_part}
 use Rattle.sc_expand.proofs.expansion.Expansion.replace.Goals as goal
 
@@ -63,20 +67,46 @@ returns-clause-turns g c = on-both c.refuse.result c.refuse.ensures.live c.refus
     (λ has. c.requires.live config listed has) (λ has. c.requires.calls config listed has))
 
 pub returns-in-Parts-clause-alike : goal.returns-in-Parts-clause-alike
-returns-in-Parts-clause-alike g c = λ x y p q call_alike alike.
+returns-in-Parts-clause-alike g c = λ x y others p q call_alike alike.
     let old = stores (g.C.Conditions.sets c.args.conds.now) c.args.names.now c.args.self.now.sets in
     let new = g.C.Conditions.sets c.fill.new.conds in
-    let later = IsAlikeExpansion-Keeps {old = old} c.in_ok-made-in-Parts.ensures.keeps p q c.args.self.now c.requires.held.1.0 alike in
+    let later = IsAlikeExpansion-Keeps {old = old} c.in_ok-made-in-Parts.ensures.keeps p q others c.args.self.now c.requires.held.1.0 alike in
     let made = c.in_ok-made-in-Parts.ensures.alike x y p q call_alike in
+    let here = others_at others (length c.args.self.now.below.items) in
+    let Same : Cond × Hidden → Type 0 = λ item. IsAlike new x y item.0 in
     let work : c.put_first.new.self ≡ c.in_ok-made-in-Parts.made.items ++ c.args.self.now.top.work = c.in_ok-put_first-in-Parts.ensures ∙ ap (λ l. l ++ c.args.self.now.top.work) c.deref-in-Parts.ensures.value in
     record {
       refusals = later.refusals;
-      top = record { work = subst (AreAlike new x y) (sym work) (AreAlike-append new x y c.in_ok-made-in-Parts.made.items c.args.self.now.top.work made later.top.work); out = later.top.out; calls = later.top.calls };
+      top = record {
+        work = subst (λ l. AreAlike new x y (take (length l - here.behind) l)) (sym work) (All-but-put Same here.behind c.in_ok-made-in-Parts.made.items c.args.self.now.top.work made later.top.work);
+        out = later.top.out;
+        calls = later.top.calls;
+      };
       below = later.below;
     }
 
 pub returns-clause-alike : goal.returns-clause-alike
-returns-clause-alike g c = on-ok c.refuse.result c.refuse.ensures.alike (λ refused. λ x y p q call_alike alike.
+returns-clause-alike g c = on-ok c.refuse.result c.refuse.ensures.alike (λ refused. λ x y others p q call_alike alike.
     let old = stores (g.C.Conditions.sets c.args.conds.now) c.args.names.now c.args.self.now.sets in
-    let later = IsAlikeExpansion-Keeps {old = old} c.refuse.ensures.keeps p q c.args.self.now c.requires.held.1.0 alike in
-    record { refusals = refused x y 0 p q c.requires.held.1.0.refusals.own call_alike.cond alike.refusals; top = later.top; below = later.below })
+    let later = IsAlikeExpansion-Keeps {old = old} c.refuse.ensures.keeps p q others c.args.self.now c.requires.held.1.0 alike in
+    record { refusals = refused x y others.faults p q c.requires.held.1.0.refusals.own call_alike.cond alike.refusals; top = later.top; below = later.below })
+
+pub returns-in-Parts-clause-rest : goal.returns-in-Parts-clause-rest
+returns-in-Parts-clause-rest g c = λ config listed.
+    let e = c.args.self.now in
+    let work : c.put_first.new.self ≡ c.in_ok-made-in-Parts.made.items ++ e.top.work = c.in_ok-put_first-in-Parts.ensures ∙ ap (λ l. l ++ e.top.work) c.deref-in-Parts.ensures.value in
+    more-bottom c.in_ok-made-in-Parts.ensures.keeps listed e c.requires.held.1.0 (record e.top { work = c.put_first.new.self }) c.in_ok-made-in-Parts.made.items work
+
+pub returns-clause-rest : goal.returns-clause-rest
+returns-clause-rest g c = on-ok c.refuse.result c.refuse.ensures.live (λ live. λ config listed.
+    more-none c.refuse.ensures.keeps listed (bottom c.args.self.now).work (bottom c.args.self.now).work (bottom-held c.args.self.now c.requires.held.1.0) refl)
+
+pub returns-in-Parts-clause-long : goal.returns-in-Parts-clause-long
+returns-in-Parts-clause-long g c =
+    let e = c.args.self.now in
+    let made = c.in_ok-made-in-Parts.made.items in
+    let work : c.put_first.new.self ≡ made ++ e.top.work = c.in_ok-put_first-in-Parts.ensures ∙ ap (λ l. l ++ e.top.work) c.deref-in-Parts.ensures.value in
+    bottom-long e.below.items e.top (record e.top { work = c.put_first.new.self }) (omega (arith, ap length work, length-append made e.top.work))
+
+pub returns-clause-long : goal.returns-clause-long
+returns-clause-long g c = on-ok c.refuse.result c.refuse.ensures.live (λ live. omega arith)

@@ -1,11 +1,13 @@
-use Rattle.std.proofs.Common.{rules, ◌≡◌, ℕ, List, length, sym, subst, ◌∙◌}
+use Rattle.std.proofs.Common.{rules, ◌≡◌, ℕ, List, length, sym, subst}
 use Rattle.sc_base.proofs.Growth.{Extends-refl}
 use Rattle.sc_expand.proofs.AlikeRunning.{alike-rested, alike-start, alike-turned}
+use Rattle.sc_expand.proofs.PhaseStarts.{phase-ready, phase-rested, phase-start}
+use Rattle.sc_expand.proofs.PhaseStops.{turn-stops}
+use Rattle.sc_expand.proofs.PhaseTurns.{phase-turned}
 use Rattle.sc_expand.proofs.PlainTables.{entry_names, within-table}
 use Rattle.sc_expand.proofs.RunLemmas.{less-le, rested-le, running-done, running-is, running-out, running-rested, running-start, running-turned, running-unchanged, turned-less}
 use Rattle.sc_expand.proofs.SeenLemmas.{Grows-refl, Grows-trans, IsTable-Grows, macros_at-Grows}
 use Rattle.sc_expand.specs.Seen.{Grows, stores}
-use Rattle.sc_expand.specs.Stops.{StopsBy}
 use Rattle.sc_model.specs.Growth.{Extends}
 use Rattle.sc_model.specs.Sets.{IsConfig}
 use Rattle.sc_table.specs.Table.{macros_at}
@@ -18,6 +20,7 @@ loop-self-init g c =
       running = running-start c.args.files.now (macros_at (g.C.Conditions.sets c.args.conds.now) c.args.names.now c.args.table.now) old c.args.self.now c.requires.held c.requires.untouched;
       alike = alike-start c.args.files.now (macros_at (g.C.Conditions.sets c.args.conds.now) c.args.names.now c.args.table.now) (entry_names c.args.names.now c.args.table.now.entries.entries)
           (within-table (g.C.Conditions.sets c.args.conds.now) c.args.names.now c.args.table.now) old c.args.self.now c.requires.held c.requires.untouched;
+      phase = phase-start c.args.files.now (macros_at (g.C.Conditions.sets c.args.conds.now) c.args.names.now c.args.table.now) old c.args.self.now c.requires.held c.requires.untouched;
     }
 
 pub drop_refused-requires : goal.drop_refused-requires
@@ -85,9 +88,22 @@ turn-requires-clause-ready g c =
 pub returns-in_err-went-clause-stops : goal.returns-in_err-went-clause-stops
 returns-in_err-went-clause-stops g c =
     let i = c.loop-self.invariant in
-    let arities = c.drop_refused.ensures.keeps.arities ∙ i.grows.sets.arities in
-    let kept : StopsBy (g.C.Conditions.sets c.args.conds.now).arities c.args.limit c.in_err-went.field-0.0 = subst (λ a. StopsBy a c.args.limit c.in_err-went.field-0.0) arities c.in_err-went.ensures.stops in
-    search rules
+    let old = stores (g.C.Conditions.sets c.args.conds.now) c.args.names.now c.args.self.now.sets in
+    let loop = stores (g.C.Conditions.sets c.loop-self.conds) c.loop-self.names c.loop-self.self.sets in
+    let mid = stores (g.C.Conditions.sets c.drop_refused.new.conds) c.loop-self.names c.drop_refused.new.self.sets in
+    let hides = subst (λ h. Extends c.loop-self.self.sets h) (sym c.drop_refused.ensures.sets) (Extends-refl c.loop-self.self.sets) in
+    let more : Grows loop mid = record { sets = c.drop_refused.ensures.keeps; names = Extends-refl c.loop-self.names; hides = hides } in
+    let grows : Grows old mid = Grows-trans i.grows more in
+    let texts = entry_names c.args.names.now c.args.table.now.entries.entries in
+    let within = within-table (g.C.Conditions.sets c.args.conds.now) c.args.names.now c.args.table.now in
+    let macros = macros_at (g.C.Conditions.sets c.args.conds.now) c.args.names.now c.args.table.now in
+    let rested = c.in_ok-drop_refused.ensures.rested c.loop-self.names in
+    let r = running-rested i.grows i.running texts within c.requires.held mid c.drop_refused.new.self rested more in
+    let other = macros_at (g.C.Conditions.sets c.drop_refused.new.conds) c.loop-self.names c.args.table.now in
+    let same : (config : List ℕ) → IsConfig (g.C.Conditions.sets c.args.conds.now).arities config → other config ≡ macros config = λ config listed. λ k. λ text. macros_at-Grows grows c.requires.table config text listed k in
+    let at_name = phase-ready texts within grows r (phase-rested texts within i.grows i.running c.requires.held mid c.drop_refused.new.self i.phase rested) in
+    let stops = turn-stops texts within grows r c.requires.held at_name.0 at_name.1 other same c.args.limit c.in_err-went.field-0.0 c.in_err-went.ensures.stops in
+    search (rules, stops)
 
 pub returns-in_err-went-clause-keeps : goal.returns-in_err-went-clause-keeps
 returns-in_err-went-clause-keeps g c =
@@ -303,4 +319,10 @@ loop-self-preserved g c =
     let r_after = running-turned grows r texts within c.requires.held new c.turn.new.self other same turned later.sets c.in_ok-went.ensures.held c.in_ok-went.ensures.out in
     let still = alike-rested c.args.files.now macros texts within i.grows i.running c.requires.held i.alike mid c.drop_refused.new.self rested in
     let alike = alike-turned c.args.files.now macros texts within grows r c.requires.held still new c.turn.new.self other same turned in
-    record { grows = Grows-trans grows later; running = r_after; alike = alike }
+    let at_name = phase-ready texts within grows r (phase-rested texts within i.grows i.running c.requires.held mid c.drop_refused.new.self i.phase rested) in
+    record {
+      grows = Grows-trans grows later;
+      running = r_after;
+      alike = alike;
+      phase = phase-turned c.args.files.now macros texts within grows r c.requires.held at_name.0 at_name.1 new c.turn.new.self other same turned;
+    }

@@ -1,4 +1,5 @@
 use Rattle.sc_expand.proofs.AlikeRunning.{StayAlike}
+use Rattle.sc_expand.proofs.Phases.{Phase}
 use Rattle.sc_expand.proofs.PlainTables.{entry_names, within-table}
 use Rattle.sc_expand.proofs.RunLemmas.{IsRunning, steps_in}
 use Rattle.sc_expand.specs.Seen.{Grows, stores}
@@ -11,6 +12,8 @@ invariant-loop-self g l = record {
   running : IsRunning l.files (macros_at (g.C.Conditions.sets l.initial.conds) l.initial.names l.table)
       (stores (g.C.Conditions.sets l.initial.conds) l.initial.names l.initial.self.sets) (stores (g.C.Conditions.sets l.conds) l.names l.self.sets) l.initial.self l.self;
   alike : StayAlike l.files (macros_at (g.C.Conditions.sets l.initial.conds) l.initial.names l.table) (entry_names l.initial.names l.table.entries.entries) (within-table (g.C.Conditions.sets l.initial.conds) l.initial.names l.table)
+      (stores (g.C.Conditions.sets l.initial.conds) l.initial.names l.initial.self.sets) (stores (g.C.Conditions.sets l.conds) l.names l.self.sets) l.initial.self l.self;
+  phase : Phase l.files (macros_at (g.C.Conditions.sets l.initial.conds) l.initial.names l.table)
       (stores (g.C.Conditions.sets l.initial.conds) l.initial.names l.initial.self.sets) (stores (g.C.Conditions.sets l.conds) l.names l.self.sets) l.initial.self l.self;
 }
 

@@ -1,5 +1,7 @@
-use Rattle.std.proofs.Common.{◌≡◌, ◌∙◌, ◌++◌, All, List, ap, drop, length, sym, subst, ◌&&◌, refl}
+use Rattle.std.proofs.Common.{◌≡◌, ◌∙◌, ◌++◌, ◌≤◌, ℕ, suc, true, All, List, Some, ap, arith, drop, length, sym, subst, ◌&&◌, refl}
+use Rattle.std.proofs.lemmas.Result.{err_from_is_err_and}
 use Rattle.std.specs.Prelude.{slice_get}
+use Rattle.c11_macros.specs.Expansion.{is_looked_up}
 use Rattle.sc_base.proofs.Growth.{Extends-refl}
 use Rattle.sc_base.specs.declared.id.Cond.{Cond}
 use Rattle.sc_expand.proofs.PuttingOut.{some-Keeps}
@@ -15,11 +17,18 @@ use Rattle.sc_model.proofs.SetLemmas.{Denotes-self, IsConfig-Keeps, IsConfig-kep
 use Rattle.sc_model.specs.Sets.{IsNever, Keeps}
 use Rattle.sc_subst.specs.declared.hidden.Hidden.{Hidden}
 use Rattle.sc_table.specs.Table.{macros_at}
-use Rattle.sc_expand.proofs.AlikeGathering.{same-call}
-use Rattle.sc_expand.proofs.AlikeLemmas.{alike-of, in-whole, whole, whole-in, AreAlike-Keeps, IsAlikeExpansion-Keeps, IsAlikeIn-Keeps}
-use Rattle.sc_expand.proofs.AlikeTaking.{alike-first, as-long, put-alike}
-use Rattle.sc_expand.specs.Alike.{IsAlikeEnclosing}
+use Rattle.sc_expand.proofs.AlikeGathering.{each-same-call}
+use Rattle.sc_expand.proofs.AlikeLemmas.{alike-of, in-whole, whole, whole-in, IsAlikeExpansion-Keeps, IsAlikeIn-Keeps}
+use Rattle.sc_expand.proofs.AlikeTaking.{alike-first, put-alike, same-long, takes-name, whole-same}
+use Rattle.sc_expand.proofs.LastLemmas.{last-earlier}
+use Rattle.sc_expand.proofs.StopsLemmas.{stops-earlier}
+use Rattle.sc_expand.proofs.TakenLemmas.{long-put, taken-put}
+use Rattle.sc_expand.proofs.WorkListLemmas.{has_each-Keeps}
+use Rattle.sc_expand.specs.Alike.{IsAlikeEnclosing, IsFunctionLike, Span, TakesName, others_at}
+use Rattle.sc_expand.specs.declared.frame.Enclosing.{Enclosing}
+use Rattle.sc_expand.specs.Having.{HasLast}
 use Rattle.sc_macro.specs.Seen.{text_of}
+use Rattle.sc_subst.specs.Seen.{seen_hidden}
 use Rattle.sc_expand.proofs.expansion.Expansion.take.Goals as goal
 
 pub take_under-requires-clause-held : goal.take_under-requires-clause-held
@@ -162,8 +171,46 @@ returns-clause-passes g c = λ uncalled looks.
     (put.refusals ∙ ap (λ (e : Expansion). e.refusals) same.0) (put.below ∙ ap (λ (e : Expansion). e.below) same.0) (put.calls ∙ ap (λ (e : Expansion). e.top.calls) same.0)
     both (subst (λ (e : Expansion). IsPushed s2 taken.stays c.args.token e.top.out next.top.out) same.0 put.pushed)
 
+pub returns-in_err-taken-clause-stops : goal.returns-in_err-taken-clause-stops
+returns-in_err-taken-clause-stops g c =
+    let p = err_from_is_err_and c.from_residual-in_err-taken.result c.from_residual-in_err-taken.ensures.1 in
+    let s0 = g.C.Conditions.sets c.args.conds.now in
+    let s1 = g.C.Conditions.sets c.apply_and.new.self in
+    let n = c.args.names.now in
+    let h = c.args.self.now.sets in
+    let was = c.args.self.now in
+    let item : Cond × Hidden = (c.args.has, c.args.token) in
+    let keeps = c.apply_and.ensures.keeps in
+    let grew : Grows (stores s0 n h) (stores s1 n h) = record { sets = keeps; names = Extends-refl n; hides = Extends-refl h } in
+    let own = first-own (stores s0 n h) (length c.args.files.now) was.top.work item c.requires.first c.requires.held.top.work in
+    let meets = c.in_ok-cond.ensures.meaning _ _ (Denotes-self s0 c.args.has.0 own) (Denotes-self s0 was.refusals.live.0 c.requires.held.refusals.live) in
+    let Looked : List ℕ → Type 0 = λ x. (s1.has c.in_ok-cond.cond.0 x ≡ true) × (is_looked_up (seen_hidden n h c.args.token) ≡ true) × IsFunctionLike (macros_at s1 n c.args.table.now x (text_of n c.args.token.token.spelling)) in
+    let Named : List ℕ → Type 0 = λ x. TakesName (stores s0 n h) (macros_at s0 n c.args.table.now x) was x in
+    rw (p.1, p.2) (stops-earlier Looked Named was.top.work was.top.work c.args.limit _ grew c.requires.held.top.work refl
+    (λ x listed takes. (
+      takes-name keeps c.requires.table was item c.in_ok-cond.cond c.requires.first c.requires.calls meets x listed takes.0 takes.1 takes.2,
+      has_each-Keeps was.top.work x keeps c.requires.held.top.work.own (IsConfig-kept keeps listed),
+    )) c.in_err-taken.ensures.stops)
+
+pub returns-clause-long : goal.returns-clause-long
+returns-clause-long g c =
+    let was = c.args.self.now.top.work in
+    let now = c.take_under.new.self.top.work in
+    subst (λ l. length was ≤ suc (length l)) (sym c.in_ok-put_out.ensures.work) (long-put was now c.in_ok-taken.taken.made.items (same-long was now c.in_ok-taken.ensures.items))
+
+pub returns-clause-rest : goal.returns-clause-rest
+returns-clause-rest g c = λ x listed.
+    let s0 = g.C.Conditions.sets c.args.conds.now in
+    let s2 = g.C.Conditions.sets c.take_under.new.conds in
+    let was = c.args.self.now.top.work in
+    let now = c.take_under.new.self.top.work in
+    let keeps = c.apply_and.ensures.keeps in
+    subst (λ l. HasLast s0 s2 was l x) (sym c.in_ok-put_out.ensures.work)
+    (last-earlier (has_each-Keeps was x keeps c.requires.held.top.work.own listed)
+    (taken-put (c.in_ok-taken.ensures.rest x (IsConfig-Keeps keeps listed)) (same-long was now c.in_ok-taken.ensures.items)))
+
 pub returns-clause-alike : goal.returns-clause-alike
-returns-clause-alike g c = λ x y p q defined alike.
+returns-clause-alike g c = λ x y others p q defined called inside alike.
     let s0 = g.C.Conditions.sets c.args.conds.now in
     let s1 = g.C.Conditions.sets c.apply_and.new.self in
     let s2 = g.C.Conditions.sets c.take_under.new.conds in
@@ -171,6 +218,7 @@ returns-clause-alike g c = λ x y p q defined alike.
     let h = c.args.self.now.sets in
     let was = c.args.self.now in
     let now = c.take_under.new.self in
+    let work = was.top.work in
     let held = c.requires.held in
     let taken = c.in_ok-taken.ensures in
     let put = c.in_ok-put_out.ensures in
@@ -179,18 +227,23 @@ returns-clause-alike g c = λ x y p q defined alike.
     let p1 = IsConfig-Keeps first p in
     let q1 = IsConfig-Keeps first q in
     let grew : Grows (stores s0 n h) (stores s1 n h) = record { sets = first; names = Extends-refl n; hides = Extends-refl h } in
-    let own = first-own (stores s0 n h) (length c.args.files.now) was.top.work item c.requires.first held.top.work in
+    let own = first-own (stores s0 n h) (length c.args.files.now) work item c.requires.first held.top.work in
     let meets = c.in_ok-cond.ensures.meaning _ _ (Denotes-self s0 c.args.has.0 own) (Denotes-self s0 was.refusals.live.0 held.refusals.live) in
-    let has_alike = alike-first s0 x y was.top.work item c.requires.first alike.top.work in
+    let many = inside.is item c.requires.first c.requires.calls in
+    let has_alike = alike-first s0 x y (others_at others (length was.below.items)).behind work item c.requires.first many alike.top.work in
     let live_alike = alike.refusals.live in
     let text = text_of n c.args.token.token.spelling in
-    let span = whole was in
+    let span = whole others was in
     let came = taken.alike x y span p1 q1 (alike-of meets p1 q1 (λ i. has_alike i && live_alike i))
-    (λ has. same-call was.top.work (AreAlike-Keeps first p q was.top.work held.top.work.own alike.top.work))
+    (λ has looked like. each-same-call work work grew held.top.work refl (has_each-Keeps work x first held.top.work.own p) (has_each-Keeps work y first held.top.work.own q)
+    (called.same (takes-name first c.requires.table was item c.in_ok-cond.cond c.requires.first c.requires.calls meets x p1 has looked like)))
     (λ has looked.
     let both = both_true (s0.has c.args.has.0 x) (s0.has was.refusals.live.0 x) (sym (meets.at x p1) ∙ has) in
     macros_at-Grows grew c.requires.table x text p ∙ (defined.same item c.requires.first c.requires.calls both.0 both.1 looked ∙ sym (macros_at-Grows grew c.requires.table y text q)))
-    (IsAlikeIn-Keeps first p q span was held (in-whole span was alike)) in
-    let below = subst (λ l. All (IsAlikeEnclosing s2 x y) l.items) (sym taken.below) (IsAlikeExpansion-Keeps (Keeps-trans first c.take_under.ensures.keeps) p q was held alike).below in
-    put-alike s2 x y now c.put_out.new.self c.in_ok-taken.taken c.args.token put.refusals put.below put.calls put.work put.pushed came.1
-    (whole-in span now (as-long was.top.work now.top.work taken.items) refl refl came.0 below)
+    (IsAlikeIn-Keeps first p q span was held (in-whole others was alike)) in
+    let below = subst (λ l. (i : ℕ) (o : Enclosing) → slice_get l.items i ≡ Some o → IsAlikeEnclosing s2 x y (others_at others i) o) (sym taken.below)
+    (IsAlikeExpansion-Keeps (Keeps-trans first c.take_under.ensures.keeps) p q others was held alike).below in
+    let same = whole-same others was now taken.below (same-long work now.top.work taken.items) in
+    let few = ap (λ (s : Span). s.work) same in
+    put-alike s2 x y others now c.put_out.new.self c.in_ok-taken.taken c.args.token put.refusals put.below put.calls put.work put.pushed came.1
+    (whole-in others span now (omega (arith, few)) (ap (λ (s : Span). s.out) (sym same)) refl came.0 below)

@@ -1,4 +1,7 @@
-use Rattle.std.proofs.Common.{◌∙◌, ◌||◌, ap, sym}
+use Rattle.std.proofs.Common.{◌≡◌, ◌∙◌, ◌||◌, ℕ, true, List, IsTrue, inl, inr, ap, sym}
+use Rattle.std.proofs.lemmas.Bool.{cases_Bool}
+use Rattle.std.proofs.lemmas.Result.{err_from_is_err_and}
+use Rattle.c11_macros.specs.Defines.{is_function_like}
 use Rattle.sc_base.proofs.Growth.{Extends-refl}
 use Rattle.sc_expand.proofs.SeenLemmas.{AreHeld-Grows, IsHeldExpansion-Grows, at-Grows, seen_at-Grows}
 use Rattle.sc_expand.proofs.TakingLemmas.{or_false}
@@ -12,6 +15,12 @@ use Rattle.sc_subst.specs.Seen.{seen_hidden}
 use Rattle.sc_expand.proofs.AlikeLemmas.{alike-of, AreAlike-Keeps, IsAlike-Keeps, IsAlikeIn-Keeps}
 use Rattle.sc_expand.proofs.WorkListLemmas.{has_each-Keeps}
 use Rattle.sc_expand.specs.Having.{has_each}
+use Rattle.sc_expand.proofs.LastLemmas.{last-later}
+use Rattle.sc_expand.proofs.StopsLemmas.{stops-weaker}
+use Rattle.sc_expand.proofs.TakenLemmas.{taken-each}
+use Rattle.sc_expand.proofs.TakingParts.{none-found}
+use Rattle.sc_guarded.proofs.ItemLemmas.{items_at-Keeps}
+use Rattle.sc_guarded.specs.Items.{items_at}
 use Rattle.sc_expand.proofs.expansion.Expansion.take_defined.Goals as goal
 
 pub returns-in_err-taken-clause-keeps : goal.returns-in_err-taken-clause-keeps
@@ -106,7 +115,8 @@ returns-then-is_function_like-clause-alike g c = λ x y span p q same called tak
     let q1 = IsConfig-Keeps first q in
     let stays = c.args.taken.now.stays in
     let own = c.requires.taken.stays in
-    let came = c.in_ok-uncalled.ensures.alike x y span p q same called alike in
+    let function = sym (c.is_function_like.ensures c.args.names.now) ∙ c.if-is_function_like.true in
+    let came = c.in_ok-uncalled.ensures.alike x y span p q same (λ has. called has function) alike in
     let told = c.in_ok-taken.ensures.meaning _ _ (Denotes-self s1 stays.0 (first.own _ own)) (Denotes-self s1 c.in_ok-uncalled.uncalled.0 c.in_ok-uncalled.ensures.own) in
     let stayed = IsAlike-Keeps first p q own taken.stays in (
       IsAlikeIn-Keeps second p1 q1 span c.gather.new.self c.in_ok-uncalled.ensures.held came.0,
@@ -133,4 +143,37 @@ returns-clause-others_each g c = on-ok c.put_object.result
     (λ top x listed no.
     let work = c.args.self.now.top.work in
     ap (λ f. has_each (g.C.Conditions.sets c.put_object.new.conds) f.work x) top ∙ has_each-Keeps work x c.put_object.ensures.keeps c.requires.held.top.work.own listed)
+    c.put_object.ensures.top
+
+pub returns-in_err-uncalled-clause-stops : goal.returns-in_err-uncalled-clause-stops
+returns-in_err-uncalled-clause-stops g c =
+    let p = err_from_is_err_and c.from_residual.result c.from_residual.ensures.1 in
+    let s = g.C.Conditions.sets c.args.conds.now in
+    let n = c.args.names.now in
+    let Has : List ℕ → Type 0 = λ x. s.has c.args.cond.0 x ≡ true in
+    let Calls : List ℕ → Type 0 = λ x. (s.has c.args.cond.0 x ≡ true) × IsTrue (is_function_like (seen_definition n c.args.definition.now).form) in
+    rw (p.1, p.2) (stops-weaker s n Has Calls c.args.self.now.top.work c.args.limit _ (λ x listed has. (has, sym (c.is_function_like.ensures n) ∙ c.if-is_function_like.true)) c.in_err-uncalled.ensures.stops)
+
+pub returns-then-is_function_like-clause-rest : goal.returns-then-is_function_like-clause-rest
+returns-then-is_function_like-clause-rest g c = λ x listed.
+    let s0 = g.C.Conditions.sets c.args.conds.now in
+    let s1 = g.C.Conditions.sets c.gather.new.conds in
+    let s2 = g.C.Conditions.sets c.apply_or.new.self in
+    let n = c.args.names.now in
+    let made = c.args.taken.now.made.items in
+    let gathered = c.in_ok-uncalled.ensures in
+    let later = has_each-Keeps c.gather.new.self.top.work x c.apply_or.ensures.keeps gathered.held.top.work.own (IsConfig-Keeps c.gather.ensures.keeps listed) in
+    record {
+      rest = last-later (gathered.rest x listed) later;
+      made = elim (cases_Bool (s0.has c.args.cond.0 x)) [
+        | inl has ↦ inl (items_at-Keeps made x (Keeps-trans c.gather.ensures.keeps c.apply_or.ensures.keeps) c.requires.taken.made.own listed ∙ none-found (seen_hidden n c.args.self.now.sets) (items_at s0 made x) (c.requires.begun x listed has).made)
+        | inr lacks ↦ inr (later ∙ gathered.others_each x listed lacks)
+      ];
+    }
+
+pub returns-clause-rest : goal.returns-clause-rest
+returns-clause-rest g c = on-ok c.put_object.result
+    (λ top x listed.
+    let work = c.args.self.now.top.work in
+    taken-each (ap (λ f. has_each (g.C.Conditions.sets c.put_object.new.conds) f.work x) top ∙ has_each-Keeps work x c.put_object.ensures.keeps c.requires.held.top.work.own listed))
     c.put_object.ensures.top

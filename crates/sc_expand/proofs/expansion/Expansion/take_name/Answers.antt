@@ -1,4 +1,5 @@
-use Rattle.std.proofs.Common.{◌≡◌, ◌∙◌, ◌∷◌, ℕ, [], List, All, Global, None, Option, ap, map, not, subst, sym, if◌then◌else◌, refl}
+use Rattle.std.proofs.Common.{◌≡◌, ◌∙◌, ◌∷◌, ℕ, [], List, All, Global, None, Option, true, ap, map, not, subst, sym, if◌then◌else◌, refl}
+use Rattle.std.proofs.lemmas.Result.{err_from_is_err_and}
 use Rattle.std.specs.Global.{Vec}
 use Rattle.std.specs.declared.rc.Rc.{Rc}
 use Rattle.c11_macros.specs.Macros.{Definition}
@@ -6,11 +7,14 @@ use Rattle.c11_tokens.specs.Lex.{is_identifier_kind}
 use Rattle.sc_base.proofs.Growth.{Extends-refl}
 use Rattle.sc_base.specs.declared.id.Cond.{Cond}
 use Rattle.sc_expand.proofs.SeenLemmas.{IsHeldExpansion-Grows, at-Grows}
-use Rattle.sc_expand.proofs.TakingParts.{none-found, one-found, seen_by, still-untaken, some-found}
+use Rattle.sc_expand.proofs.StopsLemmas.{stops-earlier}
+use Rattle.sc_expand.proofs.TakenLemmas.{taken-earlier}
+use Rattle.sc_expand.proofs.TakingParts.{found-function, none-found, one-found, seen_by, still-untaken}
 use Rattle.sc_expand.proofs.TakingTurns.{both_true}
 use Rattle.sc_expand.proofs.UnchangedTaking.{found-none}
+use Rattle.sc_expand.specs.Alike.{IsFunctionLike}
 use Rattle.sc_expand.specs.Seen.{Grows, provenance_of, stores}
-use Rattle.sc_expand.specs.Taking.{Comes, IsBegun, step_at}
+use Rattle.sc_expand.specs.Taking.{Comes, IsBegun, TakesPart, step_at}
 use Rattle.sc_expand.specs.Turn.{At}
 use Rattle.sc_guarded.specs.Items.{items_at}
 use Rattle.sc_macro.specs.declared.definition.Definition as declared
@@ -108,7 +112,32 @@ returns-clause-alike g c = λ x y span p q same called defined alike.
     let found = found-alike (seen_by n) s1 parts x y c.in_ok-parts.ensures.differ (one ∙ (both ∙ sym (c.in_ok-parts.ensures.parts y q))) in
     let never = c.never.ensures.meaning in
     c.in_ok-take_parts.ensures.alike x y span (IsConfig-Keeps keeps p) (IsConfig-Keeps keeps q) (subst (AreAlike s1 x y) (sym c.deref.ensures.value) found)
-    (λ some. each-same-call work work grows c.requires.held.top.work refl (has_each-Keeps work x keeps own p) (has_each-Keeps work y keeps own q)
-    (called (some-found (seen_by n) (items_at s1 parts x) _ _ one (λ none. some (ap (λ l. items_at s1 l x) c.deref.ensures.value ∙ none)))))
+    (λ takes.
+    let function = found-function s1 n parts x _ _ one (subst (λ l. TakesPart s1 n l x) c.deref.ensures.value takes) in
+    each-same-call work work grows c.requires.held.top.work refl (has_each-Keeps work x keeps own p) (has_each-Keeps work y keeps own q) (called function.0 function.1))
     (record { stays = IsAlike-Keeps keeps p q never.own (alike-of never p q refl); made = subst (AreAlike s1 x y) (sym c.new.ensures.items) (All-nil (λ (item : Cond × Hidden). IsAlike s1 x y item.0)) })
     (IsAlikeIn-Keeps keeps p q span c.args.self.now c.requires.held alike)
+
+pub returns-clause-rest : goal.returns-clause-rest
+returns-clause-rest g c = λ x listed.
+    let keeps = c.lookup.ensures.keeps in
+    taken-earlier (has_each-Keeps c.args.self.now.top.work x keeps c.requires.held.top.work.own listed) (c.in_ok-take_parts.ensures.rest x (IsConfig-Keeps keeps listed))
+
+pub returns-in_err-take_parts-clause-stops : goal.returns-in_err-take_parts-clause-stops
+returns-in_err-take_parts-clause-stops g c =
+    let p = err_from_is_err_and c.from_residual-in_err-take_parts.result c.from_residual-in_err-take_parts.ensures.1 in
+    let s0 = g.C.Conditions.sets c.args.conds.now in
+    let s1 = g.C.Conditions.sets c.lookup.new.conds in
+    let n = c.args.names.now in
+    let h = c.args.self.now.sets in
+    let work = c.args.self.now.top.work in
+    let keeps = c.lookup.ensures.keeps in
+    let grows : Grows (stores s0 n h) (stores s1 n h) = record { sets = keeps; names = Extends-refl n; hides = Extends-refl h } in
+    let Part : List ℕ → Type 0 = λ x. TakesPart s1 n c.deref.result.now x in
+    let Like : List ℕ → Type 0 = λ x. (s0.has c.args.cond.0 x ≡ true) × IsFunctionLike (macros_at s0 n c.args.table.now x (text_of n c.args.head.token.spelling)) in
+    rw (p.1, p.2) (stops-earlier Part Like work work c.args.limit _ grows c.requires.held.top.work refl
+    (λ x listed takes.
+    let first = IsConfig-kept keeps listed in (
+      found-function s1 n c.in_ok-parts.parts.items x _ _ (c.in_ok-parts.ensures.parts x first) (subst (λ l. TakesPart s1 n l x) c.deref.ensures.value takes),
+      has_each-Keeps work x keeps c.requires.held.top.work.own first,
+    )) c.in_err-take_parts.ensures.stops)

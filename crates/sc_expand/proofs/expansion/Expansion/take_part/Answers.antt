@@ -1,4 +1,5 @@
-use Rattle.std.proofs.Common.{◌∙◌, ◌||◌, Some, ap, sym}
+use Rattle.std.proofs.Common.{◌≡◌, ◌∙◌, ◌||◌, ℕ, true, List, IsTrue, Some, ap, subst, sym}
+use Rattle.c11_macros.specs.Defines.{is_function_like}
 use Rattle.std.specs.Option.{option_map}
 use Rattle.sc_base.proofs.Growth.{Extends-refl}
 use Rattle.sc_expand.proofs.PlainCases.{case-undefined}
@@ -6,12 +7,15 @@ use Rattle.sc_expand.proofs.SeenLemmas.{IsHeldExpansion-Grows, at-Grows, seen_at
 use Rattle.sc_expand.proofs.TakingLemmas.{or_false, or_true}
 use Rattle.sc_expand.proofs.TakingSteps.{has_first-Keeps, on-ok, same-step}
 use Rattle.sc_expand.specs.Seen.{Grows, stores}
-use Rattle.sc_expand.specs.Taking.{kept}
+use Rattle.sc_expand.specs.Taking.{IsFunction, kept}
 use Rattle.sc_macro.specs.Seen.{seen_definition}
 use Rattle.sc_model.proofs.SetLemmas.{Denotes-self, IsConfig-Keeps}
 use Rattle.sc_subst.specs.Seen.{seen_hidden}
 use Rattle.sc_expand.proofs.AlikeLemmas.{alike-of, AreAlike-Keeps, IsAlikeIn-Keeps}
 use Rattle.sc_expand.proofs.WorkListLemmas.{has_each-Keeps}
+use Rattle.sc_expand.proofs.StopsLemmas.{stops-weaker}
+use Rattle.sc_expand.proofs.TakenLemmas.{taken-each}
+use Rattle.sc_subst.proofs.Store.{if_err}
 use Rattle.sc_expand.proofs.expansion.Expansion.take_part.Goals as goal
 
 pub returns-in_ok-taken-in-None-clause-held : goal.returns-in_ok-taken-in-None-clause-held
@@ -69,3 +73,24 @@ returns-in_ok-taken-in-None-clause-alike g c = λ x y span p q same called taken
 
 pub returns-in_ok-taken-in-None-clause-others_each : goal.returns-in_ok-taken-in-None-clause-others_each
 returns-in_ok-taken-in-None-clause-others_each g c = λ x listed no. has_each-Keeps c.args.self.now.top.work x c.apply_or.ensures.keeps c.requires.held.top.work.own listed
+
+pub returns-in_ok-taken-in-None-clause-rest : goal.returns-in_ok-taken-in-None-clause-rest
+returns-in_ok-taken-in-None-clause-rest g c = λ x listed. taken-each (has_each-Keeps c.args.self.now.top.work x c.apply_or.ensures.keeps c.requires.held.top.work.own listed)
+
+pub returns-in-Some-clause-alike : goal.returns-in-Some-clause-alike
+returns-in-Some-clause-alike g c = on-ok c.take_defined.result
+    (λ came x y span p q same called taken alike.
+    let n = c.args.names.now in
+    came x y span p q same (λ has like. called has (subst (IsFunction n) (sym c.in-Some.is) (ap (λ d. is_function_like (seen_definition n d).form) (sym c.deref.ensures) ∙ like))) taken alike)
+    c.take_defined.ensures.alike
+
+pub returns-in-Some-clause-stops : goal.returns-in-Some-clause-stops
+returns-in-Some-clause-stops g c = if_err _ _ c.take_defined.result
+    (λ stop is.
+    let s = g.C.Conditions.sets c.args.conds.now in
+    let n = c.args.names.now in
+    let One : List ℕ → Type 0 = λ x. (s.has c.args.cond.0 x ≡ true) × IsTrue (is_function_like (seen_definition n c.deref.result.now).form) in
+    let Part : List ℕ → Type 0 = λ x. (s.has c.args.cond.0 x ≡ true) × IsFunction n c.args.definition.now in
+    stops-weaker s n One Part c.args.self.now.top.work c.args.limit stop
+    (λ x listed takes. (takes.0, subst (IsFunction n) (sym c.in-Some.is) (ap (λ d. is_function_like (seen_definition n d).form) (sym c.deref.ensures) ∙ takes.1))) is)
+    c.take_defined.ensures.stops

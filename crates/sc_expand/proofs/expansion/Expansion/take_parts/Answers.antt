@@ -1,13 +1,16 @@
-use Rattle.std.proofs.Common.{◌≡◌, ◌∙◌, ap, length, map, take, true, sym, subst}
+use Rattle.std.proofs.Common.{◌≡◌, ◌∙◌, ℕ, List, Some, ap, length, map, take, true, refl, sym, subst}
 use Rattle.std.proofs.lemmas.List.{take_all}
-use Rattle.std.proofs.lemmas.Option.{IfSome_then}
+use Rattle.std.proofs.lemmas.Option.{IfSome_then, slice_get-get_or}
+use Rattle.std.proofs.lemmas.Result.{err_from_is_err_and}
 use Rattle.std.specs.Prelude.{IfSome, slice_get}
 use Rattle.c11_macros.specs.Expansion.{is_looked_up}
-use Rattle.sc_expand.proofs.SeenLemmas.{Grows-trans, seen_hidden-Grows, token-Grows}
-use Rattle.sc_expand.proofs.TakingParts.{part-taken, seen_by}
+use Rattle.sc_expand.proofs.AlikeTaking.{function-earlier}
+use Rattle.sc_expand.proofs.SeenLemmas.{Grows-refl, Grows-trans, seen_hidden-Grows, token-Grows}
+use Rattle.sc_expand.proofs.StopsLemmas.{stops-earlier}
+use Rattle.sc_expand.proofs.TakingParts.{none-taken, part-taken, seen_by}
 use Rattle.sc_expand.proofs.TakingSteps.{none-before}
 use Rattle.sc_expand.specs.Seen.{Grows, stores}
-use Rattle.sc_expand.specs.Taking.{IsBegun, step_at}
+use Rattle.sc_expand.specs.Taking.{IsBegun, IsFunction, TakesPart, step_at}
 use Rattle.sc_guarded.specs.Items.{items_at}
 use Rattle.sc_macro.specs.Seen.{IsHeldDefinition}
 use Rattle.sc_model.proofs.SetLemmas.{IsConfig-kept, Keeps-trans}
@@ -60,7 +63,7 @@ loop-part-preserved g c =
           (length c.args.files.now) c.loop-part-test.true c.part-item.is was.grows c.requires.head
           (subst (λ p. IsCond s0 p.0.0) (sym c.part-item.is) (c.requires.own c.loop-part.part-index c.part-item.result c.loop-part-test.true))
           (subst (λ p. IfSome p.1 (λ shared. IsHeldDefinition c.args.names.now shared.value)) (sym c.part-item.is) (c.requires.definitions c.loop-part.part-index c.part-item.result c.loop-part-test.true))
-          c.requires.one was.done ensures.comes ensures.others c.requires.held.top.work was.items ensures.others_each ensures.alike;
+          c.requires.one was.done ensures.comes ensures.others c.requires.held.top.work was.items ensures.others_each ensures.alike ensures.rest;
     }
 
 pub returns-clause-items : goal.returns-clause-items
@@ -85,4 +88,48 @@ pub returns-clause-alike : goal.returns-clause-alike
 returns-clause-alike g c = λ x y span p q alike called taken start.
     let s = g.C.Conditions.sets c.args.conds.now in
     let all : take c.loop-part.part-index c.args.parts.now ≡ c.args.parts.now = take_all c.loop-part.part-index c.args.parts.now c.loop-part-test.false in
-    c.loop-part.invariant.done.alike x y span p q (subst (AreAlike s x y) (sym all) alike) (λ some. called (λ none. some (ap (λ l. items_at s l x) all ∙ none))) taken start
+    c.loop-part.invariant.done.alike x y span p q (subst (AreAlike s x y) (sym all) alike) (λ takes. called (subst (λ l. TakesPart s c.args.names.now l x) all takes)) taken start
+
+pub loop-part-init : goal.loop-part-init
+loop-part-init g c =
+    let st = stores (g.C.Conditions.sets c.args.conds.now) c.args.names.now c.args.self.now.sets in
+    record {
+      grows = Grows-refl st;
+      held = c.requires.held;
+      taken = c.requires.taken;
+      below = refl;
+      out = refl;
+      items = refl;
+      undefined = λ none. (refl, refl);
+      done = none-taken c.args.files.now st c.args.self.now c.args.taken.now c.args.head;
+    }
+
+pub returns-clause-rest : goal.returns-clause-rest
+returns-clause-rest g c = c.loop-part.invariant.done.rest
+
+pub returns-in_err-take_part-clause-stops : goal.returns-in_err-take_part-clause-stops
+returns-in_err-take_part-clause-stops g c =
+    let p = err_from_is_err_and c.from_residual.result c.from_residual.ensures.1 in
+    let s = g.C.Conditions.sets c.args.conds.now in
+    let mid = g.C.Conditions.sets c.loop-part.conds in
+    let parts = c.args.parts.now in
+    let part = c.part-item.result in
+    let was = c.loop-part.invariant in
+    let within = c.loop-part-test.true in
+    let own : IsCond s part.0.0 = subst (λ p. IsCond s p.0.0) (sym c.part-item.is) (c.requires.own c.loop-part.part-index part within) in
+    let definition = subst (λ p. IfSome p.1 (λ shared. IsHeldDefinition c.args.names.now shared.value)) (sym c.part-item.is) (c.requires.definitions c.loop-part.part-index part within) in
+    let One : List ℕ → Type 0 = λ x. (mid.has part.0.0 x ≡ true) × IsFunction c.loop-part.names part.1 in
+    let All : List ℕ → Type 0 = λ x. TakesPart s c.args.names.now parts x in
+    rw (p.1, p.2) (stops-earlier One All c.args.self.now.top.work c.loop-part.self.top.work c.args.limit _ was.grows c.requires.held.top.work was.items
+    (λ x listed takes.
+    let first = IsConfig-kept was.grows.sets listed in
+    let here : s.has part.0.0 x ≡ true = sym (was.grows.sets.at part.0.0 x own first) ∙ takes.0 in
+    let none = none-before s parts c.loop-part.part-index part x within c.part-item.is here (c.requires.one x first) in (
+      record {
+        part = part;
+        among = (c.loop-part.part-index, slice_get-get_or parts c.loop-part.part-index part within ∙ ap (λ p. Some p) (sym c.part-item.is));
+        has = here;
+        function = function-earlier was.grows.names part.1 definition takes.1;
+      },
+      was.done.others_each x first none.0,
+    )) c.in_err-take_part.ensures.stops)

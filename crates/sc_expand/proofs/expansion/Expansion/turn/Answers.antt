@@ -30,7 +30,7 @@ returns-in-Some-clause-turned g c =
     let new = stores (g.C.Conditions.sets c.go_on.new.conds) c.args.names.now c.go_on.new.self.sets in
     let grows : Grows old new = record { sets = c.go_on.ensures.keeps; names = Extends-refl c.args.names.now; hides = c.go_on.ensures.sets } in
     let macros = macros_at (g.C.Conditions.sets c.args.conds.now) c.args.names.now c.args.table.now in
-    called-turn grows c.args.files.now macros c.args.self.now c.go_on.new.self c.requires.is c.pop.new.self c.in-Some.call c.in-Some.ensures.items c.requires.ready c.in_ok-go_on.ensures.alike
+    called-turn grows c.args.files.now macros c.args.self.now c.go_on.new.self c.requires.is c.pop.new.self c.in-Some.call c.in-Some.ensures.items c.requires.ready c.in_ok-go_on.ensures.long c.in_ok-go_on.ensures.rest c.in_ok-go_on.ensures.alike
     (λ config listed. c.in_ok-go_on.ensures.progress c.args.files.now (macros config) config listed)
 
 pub returns-in-Some-clause-out : goal.returns-in-Some-clause-out
@@ -65,7 +65,7 @@ returns-in-Some-first-clause-turned g c =
     let grows : Grows old new = record { sets = c.take.ensures.keeps; names = c.take.ensures.names; hides = c.take.ensures.sets } in
     let none = none-popped c.args.self.now.top.calls.items c.pop.new.self.items (vec_len c.args.self.now.top.calls) (vec_len c.pop.new.self) c.pop.result c.pop.ensures.items c.pop.ensures.rest c.pop.ensures.cases (not-some c.pop.result c.in_default.not-Some) in
     taken-turn grows c.args.files.now (macros_at (g.C.Conditions.sets c.args.conds.now) c.args.names.now c.args.table.now) c.args.self.now c.take.new.self c.requires.is c.pop.new.self none (c.in-Some-first.has, c.in-Some-first.token) (sym c.first.ensures ∙ c.in-Some-first.is)
-    c.in_ok-take.ensures.below c.requires.ready c.in_ok-take.ensures.passes c.in_ok-take.ensures.alike c.in_ok-take.ensures.turns
+    c.in_ok-take.ensures.below c.requires.ready c.in_ok-take.ensures.long c.in_ok-take.ensures.rest c.in_ok-take.ensures.passes c.in_ok-take.ensures.alike c.in_ok-take.ensures.turns
 
 pub returns-in-Some-first-clause-out : goal.returns-in-Some-first-clause-out
 returns-in-Some-first-clause-out g c =

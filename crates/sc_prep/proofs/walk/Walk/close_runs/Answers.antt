@@ -1,7 +1,9 @@
-use Rattle.std.proofs.Common.{◌∙◌, sym}
+use Rattle.std.proofs.Common.{◌∙◌, rules, sym}
+use Rattle.sc_expand.proofs.FootprintLemmas.{expand-stops}
 use Rattle.sc_model.proofs.SetLemmas.{Keeps-trans}
 use Rattle.sc_prep.proofs.CloseMoves.{closed-held, closed-plain, closes, closes-empty, closes-none, no-items}
 use Rattle.sc_prep.proofs.WalkMoves.{owns-kept}
+use Rattle.sc_table.specs.Table.{macros_at}
 use Rattle.sc_prep.proofs.walk.Walk.close_runs.Goals as goal
 
 pub put_out-requires-clause-owns : goal.put_out-requires-clause-owns
@@ -39,3 +41,10 @@ returns-clause-keeps g c = Keeps-trans c.in_ok-expanded.ensures.keeps c.in_ok-pu
 
 pub returns-in_err-put_out-clause-keeps : goal.returns-in_err-put_out-clause-keeps
 returns-in_err-put_out-clause-keeps g c = Keeps-trans c.in_ok-expanded.ensures.keeps c.in_err-put_out.ensures.keeps
+
+pub returns-in_err-expanded-clause-stops : goal.returns-in_err-expanded-clause-stops
+returns-in_err-expanded-clause-stops g c =
+    let s = g.C.Conditions.sets c.args.conds.now in
+    let w = c.args.self.now in
+    let stops = expand-stops s c.args.names.now c.args.files.now (macros_at s c.args.names.now w.table) w.acting.0 w.gathered c.args.limit c.in_err-expanded.field-0.0 c.in_err-expanded.ensures.stops in
+    search (rules, stops)

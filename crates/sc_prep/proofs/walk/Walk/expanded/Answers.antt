@@ -1,6 +1,7 @@
 use Rattle.std.proofs.Common.{List, rules, subst}
 use Rattle.sc_base.specs.declared.fault.Fault.{Fault}
 use Rattle.sc_base.specs.Seen.{seen}
+use Rattle.sc_expand.proofs.FootprintLemmas.{expand-stops}
 use Rattle.sc_expand.specs.Stops.{StopsBy}
 use Rattle.sc_guarded.specs.Items.{items_at}
 use Rattle.std.specs.Prelude.{◌&&◌, is_none, map}
@@ -12,6 +13,7 @@ use Rattle.sc_prep.proofs.StageRefusals.{refused-as-told, refused-each-held, ref
 use Rattle.sc_prep.proofs.WalkMoves.{owns-kept}
 use Rattle.sc_table.proofs.Growth.{IsTable-Keeps, macros_at-Keeps}
 use Rattle.sc_model.proofs.SetLemmas.{IsConfig-Keeps}
+use Rattle.sc_table.specs.Table.{macros_at}
 use Rattle.std.proofs.Common.{◌∙◌}
 use Rattle.sc_prep.proofs.walk.Walk.expanded.Goals as goal
 
@@ -29,8 +31,10 @@ expand-requires-clause-placed g c = λ k d h. (c.requires.placed k d h).file
 
 pub returns-in_err-expanded-clause-stops : goal.returns-in_err-expanded-clause-stops
 returns-in_err-expanded-clause-stops g c =
+    let mid = g.C.Conditions.sets c.apply_and.new.self in
+    let apart = expand-stops mid c.args.names.now c.args.files.now (macros_at mid c.args.names.now c.args.self.now.table) c.in_ok-live.live.0 c.args.list.now c.args.limit c.in_err-expanded.field-0.0 c.in_err-expanded.ensures.stops in
     let kept : StopsBy (g.C.Conditions.sets c.args.conds.now).arities c.args.limit c.in_err-expanded.field-0.0 =
-    subst (λ a. StopsBy a c.args.limit c.in_err-expanded.field-0.0) c.in_ok-live.ensures.keeps.arities c.in_err-expanded.ensures.stops in
+    subst (λ a. StopsBy a c.args.limit c.in_err-expanded.field-0.0) c.in_ok-live.ensures.keeps.arities apart in
     search rules
 
 pub returns-clause-expands : goal.returns-clause-expands

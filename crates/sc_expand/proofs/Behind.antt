@@ -1,0 +1,291 @@
+-- How many items of a list stand behind each that a configuration has.
+use Rattle.std.proofs.Common.{◌≡◌, ◌⊎◌, inl, inr, ℕ, zero, suc, ◌+◌, ◌-◌, ◌<◌, ◌≤◌, nat_le, nat_lt, Bool, true, false, List, [], ◌∷◌, ◌++◌, All, map, take, drop, length, refl, sym, ap, subst, ◌∙◌, arith, if◌then◌else◌}
+use Rattle.std.proofs.lemmas.Bool.{cases_lt, le-ltb, leb-false, leb-true, lt-ltb}
+use Rattle.std.proofs.lemmas.List.{drop_all, length-drop, take-map}
+use Rattle.std.proofs.lemmas.List.Elements.{All-cons, All-head, All-nil, All-tail, All-weaker}
+use Rattle.sc_base.specs.declared.id.Cond.{Cond}
+use Rattle.sc_expand.specs.Having.{HasLast, HasMore, behind_at}
+use Rattle.sc_guarded.specs.Items.{items_at}
+use Rattle.sc_hoist.specs.Alike.{AreAlike, IsAlike}
+use Rattle.sc_hoist.specs.Places.{places_from}
+use Rattle.sc_model.specs.Sets.{Sets}
+use Rattle.sc_subst.specs.declared.hidden.Hidden.{Hidden}
+
+-- the numbers of a list that are less
+abbrev pub below : ℕ → List ℕ → List ℕ
+below n [] = []
+below n (m ∷ ms) = if nat_lt m n then m ∷ below n ms else below n ms
+
+-- the first is less than n, and each than the one before it
+abbrev pub Fall : ℕ → List ℕ → Type 0
+Fall n [] = Unit {0}
+Fall n (m ∷ ms) = (m < n) × Fall m ms
+
+-- the last of the numbers, or n where there is none
+abbrev pub last_taken : ℕ → List ℕ → ℕ
+last_taken n [] = n
+last_taken n (m ∷ ms) = last_taken m ms
+
+-- ---- numbers that fall
+
+pub Fall-weaker : (n m : ℕ) (ns : List ℕ) → n ≤ m → Fall n ns → Fall m ns
+Fall-weaker n m [] le falls = tt
+Fall-weaker n m (k ∷ ks) le falls = (omega (arith, falls.0), falls.1)
+
+pub Fall-drop : (k n : ℕ) (ns : List ℕ) → Fall n ns → Fall n (drop k ns)
+Fall-drop zero n ns falls = falls
+Fall-drop (suc k) n [] falls = tt
+Fall-drop (suc k) n (m ∷ ms) falls = Fall-weaker m n (drop k ms) (omega (arith, falls.0)) (Fall-drop k m ms falls.1)
+
+pub below-has : (n m : ℕ) (ms : List ℕ) → m < n → below n (m ∷ ms) ≡ m ∷ below n ms
+below-has n m ms less = ap (λ (b : Bool). if b then m ∷ below n ms else below n ms) (lt-ltb m n less)
+
+pub below-not : (n m : ℕ) (ms : List ℕ) → n ≤ m → below n (m ∷ ms) ≡ below n ms
+below-not n m ms le = ap (λ (b : Bool). if b then m ∷ below n ms else below n ms) (le-ltb m n le)
+
+pub below-all : (n : ℕ) (ns : List ℕ) → Fall n ns → below n ns ≡ ns
+below-all n [] falls = refl
+below-all n (m ∷ ms) falls = below-has n m ms falls.0 ∙ ap (λ (l : List ℕ). m ∷ l) (below-all n ms (Fall-weaker m n ms (omega (arith, falls.0)) falls.1))
+
+-- what is left of the numbers is the last of those that are less, or all that is left
+below-drop : (n k : ℕ) (ms : List ℕ) → (g : ℕ) × (below n (drop k ms) ≡ drop g (below n ms))
+below-drop n zero ms = (0, refl)
+below-drop n (suc k) [] = (0, refl)
+below-drop n (suc k) (m ∷ ms) = by (nat_lt m n) (below-drop n k ms)
+  where
+    by : (b : Bool) → (g : ℕ) × (below n (drop k ms) ≡ drop g (below n ms)) → (g : ℕ) × (below n (drop k ms) ≡ drop g (if b then m ∷ below n ms else below n ms))
+    by true it = (suc it.0, it.1)
+    by false it = it
+
+below-left : (n k from : ℕ) (ms : List ℕ) → Fall from ms → (below n (drop k ms) ≡ below n ms) ⊎ (below n (drop k ms) ≡ drop k ms)
+below-left n zero from ms falls = inl refl
+below-left n (suc k) from [] falls = inl refl
+below-left n (suc k) from (m ∷ ms) falls = by (cases_lt m n) (below-left n k m ms falls.1)
+  where
+    by : (m < n) ⊎ (n ≤ m) → (below n (drop k ms) ≡ below n ms) ⊎ (below n (drop k ms) ≡ drop k ms) → (below n (drop k ms) ≡ below n (m ∷ ms)) ⊎ (below n (drop k ms) ≡ drop k ms)
+    by (inl less) it = inr (below-all n (drop k ms) (Fall-weaker m n (drop k ms) (omega arith) (Fall-drop k m ms falls.1)))
+    by (inr le) (inl same) = inl (same ∙ sym (below-not n m ms le))
+    by (inr le) (inr all) = inr all
+
+-- high numbers before the others
+below-high : (n high : ℕ) (made ms : List ℕ) → n < high → All (λ m. high ≤ suc m) made → below n (made ++ ms) ≡ below n ms
+below-high n high [] ms less above = refl
+below-high n high (m ∷ made) ms less above =
+    let F : ℕ → Type 0 = λ m. high ≤ suc m in
+    let first : high ≤ suc m = All-head F m made above in
+    below-not n m (made ++ ms) (omega arith) ∙ below-high n high made ms less (All-tail F m made above)
+
+last_taken-more : (n m k : ℕ) (ms : List ℕ) → suc k ≤ length ms → last_taken n (take (suc k) ms) ≡ last_taken m (take (suc k) ms)
+last_taken-more n m k [] long = absurd (omega arith)
+last_taken-more n m k (x ∷ ms) long = refl
+
+module _ {T : Type 0} (s : Sets) (c : List ℕ) where
+  -- a number for each item
+  pub length-behind : (list : List (Cond × T)) → length (behind_at s list c) ≡ length (items_at s list c)
+  length-behind [] = refl
+  length-behind (item ∷ items) = by (s.has item.0.0 c) (length-behind items)
+    where
+      by : (b : Bool) → length (behind_at s items c) ≡ length (items_at s items c)
+          → length (if b then length items ∷ behind_at s items c else behind_at s items c) ≡ length (if b then item.1 ∷ items_at s items c else items_at s items c)
+      by true e = ap suc e
+      by false e = e
+
+  pub behind-falls : (list : List (Cond × T)) → Fall (length list) (behind_at s list c)
+  behind-falls [] = tt
+  behind-falls (item ∷ items) = by (s.has item.0.0 c) (behind-falls items)
+    where
+      by : (b : Bool) → Fall (length items) (behind_at s items c) → Fall (suc (length items)) (if b then length items ∷ behind_at s items c else behind_at s items c)
+      by true falls = (omega arith, falls)
+      by false falls = Fall-weaker (length items) (suc (length items)) (behind_at s items c) (omega arith) falls
+
+  -- the numbers that are less are those of the end of the list
+  pub below-behind : (n : ℕ) (list : List (Cond × T)) → n ≤ length list → below n (behind_at s list c) ≡ behind_at s (drop (length list - n) list) c
+  below-behind n [] within = sym (ap (λ (l : List (Cond × T)). behind_at s l c) (drop_all (0 - n) [] (omega arith)))
+  below-behind n (item ∷ items) within = by (cases_lt n (suc (length items))) (below-behind n items)
+    where
+      last : (b : Bool) → n ≤ length items → below n (if b then length items ∷ behind_at s items c else behind_at s items c) ≡ below n (behind_at s items c)
+      last true le = below-not n (length items) (behind_at s items c) le
+      last false le = refl
+
+      by : (n < suc (length items)) ⊎ (suc (length items) ≤ n) → (n ≤ length items → below n (behind_at s items c) ≡ behind_at s (drop (length items - n) items) c)
+          → below n (behind_at s (item ∷ items) c) ≡ behind_at s (drop (suc (length items) - n) (item ∷ items)) c
+      by (inl less) rest =
+          let le : n ≤ length items = omega arith in
+          let count : suc (length items) - n ≡ suc (length items - n) = omega arith in
+          last (s.has item.0.0 c) le ∙ (rest le ∙ sym (ap (λ (k : ℕ). behind_at s (drop k (item ∷ items)) c) count))
+      by (inr le) rest =
+          let count : suc (length items) - n ≡ 0 = omega arith in
+          below-all n (behind_at s (item ∷ items) c) (Fall-weaker (suc (length items)) n (behind_at s (item ∷ items) c) le (behind-falls (item ∷ items)))
+          ∙ sym (ap (λ (k : ℕ). behind_at s (drop k (item ∷ items)) c) count)
+
+  pub below-items : (n : ℕ) (list : List (Cond × T)) → n ≤ length list → length (below n (behind_at s list c)) ≡ length (items_at s (drop (length list - n) list) c)
+  below-items n list within = ap length (below-behind n list within) ∙ length-behind (drop (length list - n) list)
+
+  -- the places of a list counted from its end
+  pub places-behind : (list : List (Cond × T)) (m : ℕ) → map (λ (i : ℕ). length list + m - (i + 1)) (places_from s m (map (λ (item : Cond × T). item.0) list) c) ≡ behind_at s list c
+  places-behind [] m = refl
+  places-behind (item ∷ items) m =
+      let count : suc (length items) + m ≡ length items + (m + 1) = omega arith in
+      by (s.has item.0.0 c) (ap (λ (t : ℕ). map (λ (i : ℕ). t - (i + 1)) (places_from s (m + 1) (map (λ (item : Cond × T). item.0) items) c)) count ∙ places-behind items (m + 1))
+    where
+      places : List ℕ
+      places = places_from s (m + 1) (map (λ (item : Cond × T). item.0) items) c
+
+      by : (b : Bool) → map (λ (i : ℕ). suc (length items) + m - (i + 1)) places ≡ behind_at s items c
+          → map (λ (i : ℕ). suc (length items) + m - (i + 1)) (if b then m ∷ places else places) ≡ (if b then length items ∷ behind_at s items c else behind_at s items c)
+      by true rest = let count : suc (length items) + m - (m + 1) ≡ length items = omega arith in ap (λ (k : ℕ). k ∷ map (λ (i : ℕ). suc (length items) + m - (i + 1)) places) count ∙ ap (λ (l : List ℕ). length items ∷ l) rest
+      by false rest = rest
+
+-- equal places are as far from the end
+pub same-behind : {T : Type 0} (s : Sets) (c d : List ℕ) (list : List (Cond × T)) (m k : ℕ) → take k (places_from s m (map (λ (item : Cond × T). item.0) list) c) ≡ take k (places_from s m (map (λ (item : Cond × T). item.0) list) d)
+    → take k (behind_at s list c) ≡ take k (behind_at s list d)
+same-behind {T} s c d list m k same = sym (at c) ∙ (ap (map f) same ∙ at d)
+  where
+    f : ℕ → ℕ
+    f i = length list + m - (i + 1)
+
+    at : (e : List ℕ) → map f (take k (places_from s m (map (λ (item : Cond × T). item.0) list) e)) ≡ take k (behind_at s list e)
+    at e = sym (take-map f k (places_from s m (map (λ (item : Cond × T). item.0) list) e)) ∙ ap (take k) (places-behind s e list m)
+
+-- ---- the first items of two configurations
+
+-- Both have the same items down to the last of so many: behind that one each has the rest of its
+-- own.
+pub record FirstAlike {T : Type 0} (s : Sets) (c d : List ℕ) (list : List (Cond × T)) (xs ys : List ℕ) (k b : ℕ) : Type 0 where
+  pub within : b ≤ length list
+  pub alike : AreAlike s c d (take (length list - b) list)
+  pub left : length (below b xs) ≡ length xs - k
+  pub left_other : length (below b ys) ≡ length ys - k
+
+no-first : (n k : ℕ) (ms ns : List ℕ) → Fall n ns → n ∷ ms ≡ take (suc k) ns → ⊥
+no-first n k ms [] falls same = absurd (cc)
+no-first n k ms (m ∷ ns) falls same = let first : n ≡ m = cc in omega (arith, falls.0)
+
+module _ {T : Type 0} (s : Sets) (c d : List ℕ) where
+  -- one item more in front
+  FirstAlike-more : (item : Cond × T) (items : List (Cond × T)) (xs ys : List ℕ) (k b : ℕ) → IsAlike s c d item.0 → FirstAlike s c d items xs ys k b
+      → ((zs : List ℕ) → length (below b (length items ∷ zs)) ≡ length (below b zs)) × (b ≤ length (item ∷ items)) × AreAlike s c d (take (length (item ∷ items) - b) (item ∷ items))
+  FirstAlike-more item items xs ys k b alike was =
+      let P : Cond × T → Type 0 = λ x. IsAlike s c d x.0 in
+      let count : suc (length items) - b ≡ suc (length items - b) = omega (arith, was.within) in (
+        λ zs. ap length (below-not b (length items) zs was.within),
+        omega (arith, was.within),
+        subst (λ (n : ℕ). AreAlike s c d (take n (item ∷ items))) (sym count) (All-cons P item (take (length items - b) items) alike was.alike),
+      )
+
+  pub alike-taken : (list : List (Cond × T)) (k : ℕ) → take k (behind_at s list c) ≡ take k (behind_at s list d) → k ≤ length (behind_at s list c) → k ≤ length (behind_at s list d)
+      → FirstAlike s c d list (behind_at s list c) (behind_at s list d) k (last_taken (length list) (take k (behind_at s list c)))
+  alike-taken list zero same long long_d =
+      let none : length list - length list ≡ 0 = omega arith in
+      record {
+        within = omega arith;
+        alike = subst (λ (n : ℕ). AreAlike s c d (take n list)) (sym none) (All-nil (λ (item : Cond × T). IsAlike s c d item.0));
+        left = let all = ap length (below-all (length list) (behind_at s list c) (behind-falls s c list)) in omega (arith, all);
+        left_other = let all = ap length (below-all (length list) (behind_at s list d) (behind-falls s d list)) in omega (arith, all);
+      }
+  alike-taken [] (suc k) same long long_d = absurd (omega arith)
+  alike-taken (item ∷ items) (suc k) same long long_d = by (s.has item.0.0 c) (s.has item.0.0 d) refl refl same long long_d (alike-taken items k) (alike-taken items (suc k))
+    where
+      of : Bool → List ℕ → List ℕ
+      of had ms = if had then length items ∷ ms else ms
+
+      xs : List ℕ
+      xs = behind_at s items c
+
+      ys : List ℕ
+      ys = behind_at s items d
+
+      Goes : ℕ → Type 0
+      Goes j = take j xs ≡ take j ys → j ≤ length xs → j ≤ length ys → FirstAlike s c d items xs ys j (last_taken (length items) (take j xs))
+
+      by : (p q : Bool) → s.has item.0.0 c ≡ p → s.has item.0.0 d ≡ q → take (suc k) (of p xs) ≡ take (suc k) (of q ys) → suc k ≤ length (of p xs) → suc k ≤ length (of q ys)
+          → Goes k → Goes (suc k) → FirstAlike s c d (item ∷ items) (of p xs) (of q ys) (suc k) (last_taken (suc (length items)) (take (suc k) (of p xs)))
+      by true true is is_d same long long_d one all =
+          let rest : take k xs ≡ take k ys = cc in
+          let it = one rest (omega arith) (omega arith) in
+          let more = FirstAlike-more item items xs ys k _ (is ∙ sym is_d) it in
+          record { within = more.1; alike = more.2; left = more.0 xs ∙ omega (arith, it.left); left_other = more.0 ys ∙ omega (arith, it.left_other) }
+      by true false is is_d same long long_d one all = absurd (no-first (length items) k (take k xs) ys (behind-falls s d items) same)
+      by false true is is_d same long long_d one all = absurd (no-first (length items) k (take k ys) xs (behind-falls s c items) (sym same))
+      by false false is is_d same long long_d one all =
+          let it = subst (λ (b : ℕ). FirstAlike s c d items xs ys (suc k) b) (last_taken-more (length items) (suc (length items)) k xs long) (all same long long_d) in
+          let more = FirstAlike-more item items xs ys (suc k) _ (is ∙ sym is_d) it in
+          record { within = more.1; alike = more.2; left = it.left; left_other = it.left_other }
+
+-- ---- the rest of an expansion
+
+least : (a b : ℕ) → ((if nat_le a b then a else b) ≤ a) × ((if nat_le a b then a else b) ≤ b)
+least a b = by (nat_le a b) refl
+  where
+    by : (t : Bool) → nat_le a b ≡ t → ((if t then a else b) ≤ a) × ((if t then a else b) ≤ b)
+    by true is = (omega arith, leb-true a b is)
+    by false is = (omega (arith, leb-false a b is), omega arith)
+
+-- only the first item has gone
+first-gone : {T : Type 0} (s : Sets) (c : List ℕ) (n gone : ℕ) (list : List (Cond × T)) → gone ≤ length (items_at s (take 1 list) c) → n < length list → below n (drop gone (behind_at s list c)) ≡ below n (behind_at s list c)
+first-gone s c n gone [] few far = absurd (omega arith)
+first-gone {T} s c n gone (x ∷ xs) few far = by gone (s.has x.0.0 c) few
+  where
+    by : (gone : ℕ) (b : Bool) → gone ≤ length (if b then x.1 ∷ items_at s [] c else items_at s [] c) → below n (drop gone (if b then length xs ∷ behind_at s xs c else behind_at s xs c)) ≡ below n (if b then length xs ∷ behind_at s xs c else behind_at s xs c)
+    by zero b few = refl
+    by (suc zero) true few = sym (below-not n (length xs) (behind_at s xs c) (omega (arith, far)))
+    by (suc (suc gone)) true few = absurd (omega (arith, few))
+    by (suc gone) false few = absurd (omega (arith, few))
+
+module _ {old new : Sets} {before after : List (Cond × Hidden)} {c : List ℕ} where
+  -- where other items stand before all, the rest is the same
+  pub more-last : HasMore old new before after c → HasLast old new before after c
+  more-last more = record {
+    made = more.made;
+    gone = 0;
+    is = more.is;
+    high = All-weaker (λ (n : ℕ). length before ≤ n) (λ n. length before ≤ suc n) (λ n above. omega arith) more.made more.high;
+    few = inr (omega arith);
+  }
+
+  pub more-same : HasMore old new before after c → (n : ℕ) → n ≤ length before → below n (behind_at new after c) ≡ below n (behind_at old before c)
+  more-same more n far =
+      ap (below n) more.is
+      ∙ below-high n (suc (length before)) more.made (behind_at old before c) (omega arith) (All-weaker (λ (n : ℕ). length before ≤ n) (λ n. suc (length before) ≤ suc n) (λ n above. omega arith) more.made more.high)
+
+  -- what the configuration has far behind is what it had there, or all that it has
+  pub last-cases : HasLast old new before after c → (n : ℕ) → n < length before
+      → (below n (behind_at new after c) ≡ below n (behind_at old before c)) ⊎ (below n (behind_at new after c) ≡ behind_at new after c)
+  last-cases last n far = by last.few
+    where
+      left : List ℕ
+      left = drop last.gone (behind_at old before c)
+
+      by : (last.made ≡ []) ⊎ (last.gone ≤ length (items_at old (take 1 before) c)) → (below n (behind_at new after c) ≡ below n (behind_at old before c)) ⊎ (below n (behind_at new after c) ≡ behind_at new after c)
+      by (inl none) = at (below-left n last.gone (length before) (behind_at old before c) (behind-falls old c before))
+        where
+          is : behind_at new after c ≡ left
+          is = last.is ∙ ap (λ (ms : List ℕ). ms ++ left) none
+
+          at : (below n left ≡ below n (behind_at old before c)) ⊎ (below n left ≡ left) → (below n (behind_at new after c) ≡ below n (behind_at old before c)) ⊎ (below n (behind_at new after c) ≡ behind_at new after c)
+          at (inl same) = inl (ap (below n) is ∙ same)
+          at (inr all) = inr (ap (below n) is ∙ (all ∙ sym is))
+      by (inr few) = inl (ap (below n) last.is ∙ (below-high n (length before) last.made left far last.high ∙ first-gone old c n last.gone before few far))
+
+  pub last-below : HasLast old new before after c → (n left : ℕ) → n < length before → left ≤ length (below n (behind_at old before c))
+      → (if nat_le (length (behind_at new after c)) left then length (behind_at new after c) else left) ≤ length (below n (behind_at new after c))
+  last-below last n left far many = by (last-cases last n far) (least (length (behind_at new after c)) left)
+    where
+      most : ℕ
+      most = if nat_le (length (behind_at new after c)) left then length (behind_at new after c) else left
+
+      by : (below n (behind_at new after c) ≡ below n (behind_at old before c)) ⊎ (below n (behind_at new after c) ≡ behind_at new after c) → (most ≤ length (behind_at new after c)) × (most ≤ left) → most ≤ length (below n (behind_at new after c))
+      by (inl same) low = let count = ap length same in omega (arith, count, low.1, many)
+      by (inr all) low = let count = ap length all in omega (arith, count, low.0)
+
+  pub last-suffix : HasLast old new before after c → (n : ℕ) → n < length before → (g : ℕ) × (below n (behind_at new after c) ≡ drop g (below n (behind_at old before c)))
+  last-suffix last n far =
+      let same = ap (below n) last.is ∙ below-high n (length before) last.made (drop last.gone (behind_at old before c)) far last.high in
+      let it = below-drop n last.gone (behind_at old before c) in
+      (it.0, same ∙ it.1)
+
+  pub last-fewer : HasLast old new before after c → (b : ℕ) → b < length before → length (below b (behind_at new after c)) ≤ length (below b (behind_at old before c))
+  last-fewer last b far =
+      let it = last-suffix last b far in
+      let count = ap length it.1 ∙ length-drop it.0 (below b (behind_at old before c)) in
+      omega (arith, count)

@@ -1,0 +1,152 @@
+-- The call of a name that stands first in the whole list, as the footprint tells it.
+use Rattle.std.proofs.Common.{◌≡◌, ◌⊎◌, inl, inr, ℕ, zero, suc, ◌+◌, ◌-◌, ◌<◌, ◌≤◌, nat_le, Bool, true, false, List, [], ◌∷◌, ◌++◌, drop, length, take, Option, Some, None, IsTrue, refl, ap, subst, ◌∙◌, arith, if◌then◌else◌}
+use Rattle.std.proofs.lemmas.Bool.{cases_lt, le-ltb, leb-true, lt-ltb}
+use Rattle.std.proofs.lemmas.List.{length-append}
+use Rattle.c11_macros.specs.Call.{arguments_for, behind_call, rest_or}
+use Rattle.c11_macros.specs.Defines.{is_function_like}
+use Rattle.c11_macros.specs.Expansion.{IsWithin, case_of, fitted_case, is_looked_up, stays, unclosed}
+use Rattle.c11_macros.specs.Footprint.{Footprint}
+use Rattle.c11_macros.specs.Hidden.{Hidden, Provenance}
+use Rattle.c11_macros.specs.Macros.{Definition, Form, Macros, function_like, object_like}
+use Rattle.c11_macros.specs.Trace.{Agree}
+use Rattle.sc_base.specs.declared.id.Cond.{Cond}
+use Rattle.sc_expand.proofs.Behind.{below, below-items}
+use Rattle.sc_expand.proofs.GatherCases.{Closed, case-closed, case-still, case-uncalled-alone, case-uncalled-bare, closed-call, spellings}
+use Rattle.sc_expand.proofs.PlainAgreement.{agrees-name, agrees-under}
+use Rattle.sc_expand.proofs.PlainFootprint.{UsesFrom, uses-call, uses-inside, uses-misfit, uses-names}
+use Rattle.sc_expand.proofs.PlainTurns.{Pending, under}
+use Rattle.sc_expand.specs.Alike.{IsFunctionLike}
+use Rattle.sc_expand.specs.Arguments.{parted}
+use Rattle.sc_expand.specs.FootprintSteps.{IsPending, lower_of}
+use Rattle.sc_expand.specs.Having.{behind_at}
+use Rattle.sc_expand.specs.Plain as plain
+use Rattle.sc_expand.specs.Plain.{Moves, State, scanning}
+use Rattle.sc_guarded.specs.Items.{items_at}
+use Rattle.sc_hoist.specs.Calls.{alone, bare, call_end, call_length, closed, still}
+use Rattle.sc_model.specs.Sets.{Sets}
+
+-- ---- the steps of one configuration
+
+-- the definition of a function-like macro
+pub record Defined (o : Option Definition) : Type 0 where
+  pub definition : Definition
+  pub is : o ≡ Some definition
+  pub parameters : List (List ℕ)
+  pub variadic : Bool
+  pub formed : definition.form ≡ function_like parameters variadic
+
+pub function-of : (o : Option Definition) → IsFunctionLike o → Defined o
+function-of None is = absurd is
+function-of (Some d) is = by d.form refl is
+  where
+    by : (f : Form) → d.form ≡ f → IsTrue (is_function_like f) → Defined (Some d)
+    by object_like formed is = absurd (cc)
+    by (function_like parameters variadic) formed is = record { definition = d; is = refl; parameters = parameters; variadic = variadic; formed = formed }
+
+module _ {P : Type 0} (provenance : Provenance P) (macros : Macros) where
+  stays-moves : (out rest : List (Hidden P)) (t : Hidden P) (s : State P) → case_of macros t rest ≡ stays → Moves provenance macros (scanning out (t ∷ rest)) s → s ≡ scanning (out ++ t ∷ []) rest
+  stays-moves out rest t _ case (plain.stay _ _ _ is) = refl
+  stays-moves out rest t _ case (plain.object _ _ body _ d is made) = absurd (cc)
+  stays-moves out rest t _ case (plain.gather _ _ after _ close d arguments template is stands) = absurd (cc)
+
+  unclosed-ends : (out rest : List (Hidden P)) (t : Hidden P) (s : State P) → case_of macros t rest ≡ unclosed → Moves provenance macros (scanning out (t ∷ rest)) s → ⊥
+  unclosed-ends out rest t _ case (plain.stay _ _ _ is) = cc
+  unclosed-ends out rest t _ case (plain.object _ _ body _ d is made) = cc
+  unclosed-ends out rest t _ case (plain.gather _ _ after _ close d arguments template is stands) = cc
+
+  module _ (names : List (List ℕ)) (within : IsWithin names macros) where
+    -- tables that agree on the names of the footprint define what is scanned first alike
+    pub uses-next : (ps : List (Pending P)) (out rest : List (Hidden P)) (t : Hidden P) (left : ℕ) (whole : Footprint) → IsPending (under ps (scanning out (t ∷ rest))) left
+        → UsesFrom provenance macros (under ps (scanning out (t ∷ rest))) left whole → (other : Macros) → Agree macros other whole.looked_up → is_looked_up t ≡ true → macros t.spelling ≡ other t.spelling
+    uses-next [] out rest t left whole pending uses other agree looks = uses-names provenance macros names within out rest t left whole (omega (arith, pending)) uses other agree looks
+    uses-next (p ∷ ps) out rest t left whole pending uses other agree looks =
+        let inner = uses-inside provenance macros names within p.out p.work p.call p.parameter (under ps (scanning out (t ∷ rest))) left whole uses other agree in
+        agrees-name provenance macros other names within out rest t (agrees-under provenance macros other names within ps (scanning out (t ∷ rest)) inner) looks
+
+    module _ (out rest : List (Hidden P)) (t : Hidden P) (d : Defined (macros t.spelling)) (looked : is_looked_up t ≡ true) where
+      -- a call takes its tokens, whether its arguments fit or not
+      pub closed-takes : (left : ℕ) (whole : Footprint) → left ≤ length rest → UsesFrom provenance macros (scanning out (t ∷ rest)) left whole → call_end (spellings rest) ≡ closed
+          → whole.left + call_length (spellings rest) ≤ length rest
+      closed-takes left whole fits uses ends =
+          let count : length rest ≡ suc (length it.between + suc (length it.after)) = ap length it.call.is ∙ ap suc (length-append it.between (it.close ∷ it.after)) in
+          omega (arith, count, few (arguments_for d.parameters d.variadic (parted (length d.parameters) 0 it.between)) case, it.long)
+        where
+          it : Closed rest
+          it = closed-call rest ends
+
+          case : case_of macros t rest ≡ fitted_case d.definition it.close it.after (arguments_for d.parameters d.variadic (parted (length d.parameters) 0 it.between))
+          case = case-closed macros t d.definition looked d.is d.parameters d.variadic d.formed rest it.between it.close it.after it.call
+
+          behind : behind_call rest ≡ it.after
+          behind =
+              let it_ends = it.call.ends 0 in
+              ap behind_call it.call.is ∙ (ap (rest_or (it.between ++ it.close ∷ it.after)) it_ends.is ∙ it_ends.rest)
+
+          few : (o : Option (List (List (Hidden P)))) → case_of macros t rest ≡ fitted_case d.definition it.close it.after o → whole.left ≤ length it.after
+          few None case = subst (λ (l : List (Hidden P)). whole.left ≤ length l) behind (uses-misfit provenance macros names within out rest t left whole fits uses case)
+          few (Some arguments) case = uses-call provenance macros names within out rest t left whole fits uses d.definition arguments it.close it.after case
+
+      -- one that no parenthesis closes makes no step
+      pub still-ends : (s : State P) → call_end (spellings rest) ≡ still → Moves provenance macros (scanning out (t ∷ rest)) s → ⊥
+      still-ends s ends = unclosed-ends out rest t s (case-still macros t d.definition looked d.is d.parameters d.variadic d.formed rest ends)
+
+      -- the name is put out where it is not called
+      pub bare-moves : (s : State P) → call_end (spellings rest) ≡ bare → Moves provenance macros (scanning out (t ∷ rest)) s → s ≡ scanning (out ++ t ∷ []) rest
+      bare-moves s ends = stays-moves out rest t s (case-uncalled-bare macros t d.definition looked d.is d.parameters d.variadic d.formed rest ends)
+
+      pub alone-moves : (s : State P) → call_end (spellings rest) ≡ alone → Moves provenance macros (scanning out (t ∷ rest)) s → s ≡ scanning (out ++ t ∷ []) rest
+      alone-moves s ends = stays-moves out rest t s (case-uncalled-alone macros t d.definition looked d.is d.parameters d.variadic d.formed rest ends)
+
+-- ---- what stands in a span
+
+pub lower-left : (n left : ℕ) → lower_of n left ≤ left
+lower-left n left = by (nat_le n left) refl
+  where
+    by : (b : Bool) → nat_le n left ≡ b → (if b then n else left) ≤ left
+    by true is = leb-true n left is
+    by false is = omega arith
+
+pub lower-same : (n left : ℕ) → n ≡ left → lower_of n left ≡ left
+lower-same n left same = by (nat_le n left)
+  where
+    by : (b : Bool) → (if b then n else left) ≡ left
+    by true = same
+    by false = refl
+
+-- fewer numbers are below a lower bound
+pub below-fewer : (a b : ℕ) (ms : List ℕ) → a ≤ b → length (below a ms) ≤ length (below b ms)
+below-fewer a b [] le = omega arith
+below-fewer a b (m ∷ ms) le = by (cases_lt m a) (cases_lt m b) (below-fewer a b ms le)
+  where
+    has : (n : ℕ) → m < n → length (below n (m ∷ ms)) ≡ suc (length (below n ms))
+    has n less = ap (λ (t : Bool). length (if t then m ∷ below n ms else below n ms)) (lt-ltb m n less)
+
+    lacks : (n : ℕ) → n ≤ m → length (below n (m ∷ ms)) ≡ length (below n ms)
+    lacks n high = ap (λ (t : Bool). length (if t then m ∷ below n ms else below n ms)) (le-ltb m n high)
+
+    by : (m < a) ⊎ (a ≤ m) → (m < b) ⊎ (b ≤ m) → length (below a ms) ≤ length (below b ms) → length (below a (m ∷ ms)) ≤ length (below b (m ∷ ms))
+    by (inl low) (inl less) fewer = omega (arith, has a low, has b less, fewer)
+    by (inl low) (inr more) fewer = absurd (omega arith)
+    by (inr high) (inl less) fewer = omega (arith, lacks a high, has b less, fewer)
+    by (inr high) (inr more) fewer = omega (arith, lacks a high, lacks b more, fewer)
+
+module _ {T : Type 0} (s : Sets) (c : List ℕ) where
+  pub items-parted : (n : ℕ) (list : List (Cond × T)) → length (items_at s (take n list) c) + length (items_at s (drop n list) c) ≡ length (items_at s list c)
+  items-parted zero list = omega arith
+  items-parted (suc n) [] = refl
+  items-parted (suc n) (x ∷ xs) = by (s.has x.0.0 c) (items-parted n xs)
+    where
+      by : (b : Bool) → length (items_at s (take n xs) c) + length (items_at s (drop n xs) c) ≡ length (items_at s xs c)
+          → length (if b then x.1 ∷ items_at s (take n xs) c else items_at s (take n xs) c) + length (items_at s (drop n xs) c) ≡ length (if b then x.1 ∷ items_at s xs c else items_at s xs c)
+      by true same = omega (arith, same)
+      by false same = same
+
+  -- what follows the first item stands in the span or behind it
+  pub span-count : (b : ℕ) (list : List (Cond × T)) → suc b ≤ length list
+      → length (items_at s (drop 1 (take (length list - b) list)) c) + length (below b (behind_at s list c)) ≡ length (items_at s (drop 1 list) c)
+  span-count b [] few = absurd (omega (arith, few))
+  span-count b (x ∷ xs) few =
+      let count : suc (length xs) - b ≡ suc (length xs - b) = omega (arith, few) in
+      let front = ap (λ (k : ℕ). length (items_at s (drop 1 (take k (x ∷ xs))) c)) count in
+      let behind = below-items s c b (x ∷ xs) (omega (arith, few)) ∙ ap (λ (k : ℕ). length (items_at s (drop k (x ∷ xs)) c)) count in
+      omega (arith, front, behind, items-parted (length xs - b) xs)

@@ -1,0 +1,150 @@
+-- What is left of a list: its last items, and those of them that a configuration has.
+use Rattle.std.proofs.Common.{◌≡◌, ◌⊎◌, inl, inr, ℕ, zero, suc, ◌+◌, ◌-◌, ◌<◌, ◌≤◌, nat_le, Bool, true, false, List, [], ◌∷◌, Some, map, take, drop, length, slice_get, refl, sym, ap, subst, ◌∙◌, arith, if◌then◌else◌}
+use Rattle.std.proofs.lemmas.Bool.{cases_lt, leb-false, leb-true}
+use Rattle.std.proofs.lemmas.List.{drop-drop, drop_all, drop_at, length-drop, length-map, take-append-drop}
+use Rattle.c11_macros.specs.Footprint.{Arrives, begins, footprint, goes_on}
+use Rattle.c11_macros.specs.Hidden as model
+use Rattle.c11_macros.specs.Hidden.{Provenance}
+use Rattle.c11_macros.specs.Macros.{Macros}
+use Rattle.sc_base.specs.declared.id.Cond.{Cond}
+use Rattle.sc_expand.proofs.Behind.{Fall, Fall-weaker, behind-falls, below, below-all, below-has, below-not, length-behind}
+use Rattle.sc_expand.proofs.SeenLemmas.{seen_at-append}
+use Rattle.sc_expand.specs.FootprintSteps.{lower_of}
+use Rattle.sc_expand.specs.Having.{behind_at}
+use Rattle.sc_expand.specs.Seen.{Stores, seen_at}
+use Rattle.sc_guarded.specs.Items.{items_at}
+use Rattle.sc_model.specs.Sets.{Sets}
+use Rattle.sc_subst.specs.declared.hidden.Hidden.{Hidden}
+use Rattle.sc_subst.specs.Seen.{seen_hidden}
+
+-- the less of two numbers
+pub lower-is : (n left : ℕ) → ((lower_of n left ≡ n) × (n ≤ left)) ⊎ ((lower_of n left ≡ left) × (left < n))
+lower-is n left = by (nat_le n left) refl
+  where
+    by : (b : Bool) → nat_le n left ≡ b → (((if b then n else left) ≡ n) × (n ≤ left)) ⊎ (((if b then n else left) ≡ left) × (left < n))
+    by true is = inl (refl, leb-true n left is)
+    by false is = inr (refl, leb-false n left is)
+
+pub lower-le : (n left : ℕ) → lower_of n left ≤ n
+lower-le n left = by (lower-is n left)
+  where
+    by : ((lower_of n left ≡ n) × (n ≤ left)) ⊎ ((lower_of n left ≡ left) × (left < n)) → lower_of n left ≤ n
+    by (inl low) = omega (arith, low.0)
+    by (inr high) = omega (arith, high.0, high.1)
+
+pub lower-less : (n left : ℕ) → n ≤ left → lower_of n left ≡ n
+lower-less n left le = by (lower-is n left)
+  where
+    by : ((lower_of n left ≡ n) × (n ≤ left)) ⊎ ((lower_of n left ≡ left) × (left < n)) → lower_of n left ≡ n
+    by (inl low) = low.0
+    by (inr high) = absurd (omega (arith, le, high.1))
+
+-- two bounds, or a third that is below both
+pub lower-least : (high n : ℕ) → (lower_of high n ≡ n) ⊎ ((high ≤ lower_of high n) × (high ≤ n))
+lower-least high n = by (lower-is high n)
+  where
+    by : ((lower_of high n ≡ high) × (high ≤ n)) ⊎ ((lower_of high n ≡ n) × (n < high)) → (lower_of high n ≡ n) ⊎ ((high ≤ lower_of high n) × (high ≤ n))
+    by (inl low) = inr (omega (arith, low.0), low.1)
+    by (inr less) = inl less.0
+
+pub lower-bounds : (bound high n : ℕ) → (lower_of bound (lower_of high n) ≡ lower_of bound n) ⊎ ((high ≤ lower_of bound (lower_of high n)) × (high ≤ lower_of bound n))
+lower-bounds bound high n = by (lower-is high n)
+  where
+    -- of the two bounds, where the third is below the second
+    both : high ≤ n → ((lower_of bound high ≡ bound) × (bound ≤ high)) ⊎ ((lower_of bound high ≡ high) × (high < bound)) → ((lower_of bound n ≡ bound) × (bound ≤ n)) ⊎ ((lower_of bound n ≡ n) × (n < bound))
+        → (lower_of bound high ≡ lower_of bound n) ⊎ ((high ≤ lower_of bound high) × (high ≤ lower_of bound n))
+    both le (inl low) (inl low_n) = inl (low.0 ∙ sym low_n.0)
+    both le (inl low) (inr high_n) = absurd (omega (arith, low.1, high_n.1))
+    both le (inr less) (inl low_n) = inr (omega (arith, less.0), omega (arith, less.1, low_n.0))
+    both le (inr less) (inr high_n) = inr (omega (arith, less.0), omega (arith, high_n.0))
+
+    by : ((lower_of high n ≡ high) × (high ≤ n)) ⊎ ((lower_of high n ≡ n) × (n < high)) → (lower_of bound (lower_of high n) ≡ lower_of bound n) ⊎ ((high ≤ lower_of bound (lower_of high n)) × (high ≤ lower_of bound n))
+    by (inl low) =
+        let G : ℕ → Type 0 = λ m. (lower_of bound m ≡ lower_of bound n) ⊎ ((high ≤ lower_of bound m) × (high ≤ lower_of bound n)) in
+        subst G (sym low.0) (both low.1 (lower-is bound high) (lower-is bound n))
+    by (inr less) = inl (ap (lower_of bound) less.0)
+
+-- the end of a list is told by its length
+pub same-drop : {A : Type 0} (a b : ℕ) (xs : List A) → length (drop a xs) ≡ length (drop b xs) → drop a xs ≡ drop b xs
+same-drop a b xs same = by (cases_lt a (length xs))
+  where
+    by : (a < length xs) ⊎ (length xs ≤ a) → drop a xs ≡ drop b xs
+    by (inl less) = let is : a ≡ b = omega (arith, same, length-drop a xs, length-drop b xs) in ap (λ n. drop n xs) is
+    by (inr le) =
+        let far : length xs ≤ b = omega (arith, same, length-drop a xs, length-drop b xs) in
+        drop_all a xs le ∙ sym (drop_all b xs far)
+
+-- two ends of one list that are as long
+pub same-end : {A : Type 0} (a b : ℕ) (xs ys zs : List A) → ys ≡ drop a xs → zs ≡ drop b xs → length ys ≡ length zs → ys ≡ zs
+same-end a b xs ys zs one other same = one ∙ (same-drop a b xs (sym (ap length one) ∙ (same ∙ ap length other)) ∙ sym other)
+
+pub slice-drop : {A : Type 0} (i : ℕ) (xs : List A) (y : A) (ys : List A) → drop i xs ≡ y ∷ ys → slice_get xs i ≡ Some y
+slice-drop zero [] y ys is = absurd (cc)
+slice-drop zero (x ∷ xs) y ys is = cc
+slice-drop (suc i) [] y ys is = absurd (cc)
+slice-drop (suc i) (x ∷ xs) y ys is = slice-drop i xs y ys is
+
+-- what a list comes to is the end of it
+pub arrives-end : {P : Type 0} {provenance : Provenance P} {macros : Macros} {ts us : List (model.Hidden P)} → Arrives provenance macros ts us → (g : ℕ) × (us ≡ drop g ts)
+arrives-end begins = (0, refl)
+arrives-end {ts = ts} (goes_on {t} {rest} a d not) =
+    let it = arrives-end a in
+    let more = length rest - (footprint d).left in
+    (it.0 + 1 + more, ap (λ l. drop more (drop 1 l)) it.1 ∙ (ap (drop more) (drop-drop 1 it.0 ts) ∙ drop-drop more (it.0 + 1) ts))
+
+-- ---- numbers that fall
+
+-- the numbers that are less, where all are
+pub below-same : (high a b : ℕ) (ns : List ℕ) → Fall high ns → (a ≡ b) ⊎ ((high ≤ a) × (high ≤ b)) → below a ns ≡ below b ns
+below-same high a b ns falls (inl is) = ap (λ n. below n ns) is
+below-same high a b ns falls (inr far) = below-all a ns (Fall-weaker high a ns far.0 falls) ∙ sym (below-all b ns (Fall-weaker high b ns far.1 falls))
+
+-- those from one of them on are the ones that are no more than it
+pub below-from : (high g m : ℕ) (ms ns : List ℕ) → Fall high ns → drop g ns ≡ m ∷ ms → (m < high) × (below (suc m) ns ≡ m ∷ ms) × (below m ns ≡ ms)
+below-from high zero m ms [] falls is = absurd (cc)
+below-from high zero m ms (n ∷ ns) falls is =
+    let first : n ≡ m = cc in
+    let rest : ns ≡ ms = cc in
+    let less : n < high = falls.0 in
+    let after : Fall m ns = subst (λ k. Fall k ns) first falls.1 in
+    let all : below m ns ≡ ns = below-all m ns after in
+    let more : below (suc m) ns ≡ ns = below-all (suc m) ns (Fall-weaker m (suc m) ns (omega arith) after) in
+    (omega arith, below-has (suc m) n ns (omega arith) ∙ (ap (λ l. n ∷ l) more ∙ (λ i. first i ∷ rest i)), below-not m n ns (omega arith) ∙ (all ∙ rest))
+below-from high (suc g) m ms [] falls is = absurd (cc)
+below-from high (suc g) m ms (n ∷ ns) falls is =
+    let it = below-from n g m ms ns falls.1 is in
+    let less : m < n = it.0 in
+    let high_is : n < high = falls.0 in
+    (omega arith, below-not (suc m) n ns (omega arith) ∙ it.1, below-not m n ns (omega arith) ∙ it.2)
+
+module _ {T : Type 0} (s : Sets) (c : List ℕ) where
+  -- the configuration has the first item, where its number is that of the first
+  pub first-had : (m : ℕ) (ms : List ℕ) (list : List (Cond × T)) → length list ≡ suc m → behind_at s list c ≡ m ∷ ms
+      → (item : Cond × T) × (rest : List (Cond × T)) × (list ≡ item ∷ rest) × (s.has item.0.0 c ≡ true) × (behind_at s rest c ≡ ms) × (length rest ≡ m)
+  first-had m ms [] long is = absurd (cc)
+  first-had m ms (item ∷ rest) long is = by (s.has item.0.0 c) refl is
+    where
+      by : (b : Bool) → s.has item.0.0 c ≡ b → (if b then length rest ∷ behind_at s rest c else behind_at s rest c) ≡ m ∷ ms
+          → (x : Cond × T) × (xs : List (Cond × T)) × (item ∷ rest ≡ x ∷ xs) × (s.has x.0.0 c ≡ true) × (behind_at s xs c ≡ ms) × (length xs ≡ m)
+      by true has is = (item, rest, refl, has, cc, omega (arith, long))
+      by false has is =
+          let falls : Fall (length rest) (m ∷ ms) = subst (Fall (length rest)) is (behind-falls s c rest) in
+          absurd (omega (arith, long, falls.0))
+
+-- a token for each number
+pub length-seen : (st : Stores) (list : List (Cond × Hidden)) (c : List ℕ) → length (seen_at st list c) ≡ length (behind_at st.sets list c)
+length-seen st list c = length-map (items_at st.sets list c) (seen_hidden st.names st.hides) ∙ sym (length-behind st.sets c list)
+
+-- of the end of a list a configuration has the end of what it has
+pub seen-drop : (st : Stores) (n : ℕ) (list : List (Cond × Hidden)) (c : List ℕ) → (g : ℕ) × (seen_at st (drop n list) c ≡ drop g (seen_at st list c))
+seen-drop st n list c =
+    let whole = sym (ap (λ l. seen_at st l c) (take-append-drop n list)) ∙ seen_at-append st (take n list) (drop n list) c in
+    let g = length (seen_at st (take n list) c) in
+    (g, sym (ap (drop g) whole ∙ drop_at (seen_at st (take n list) c) (seen_at st (drop n list) c) g refl))
+
+-- a configuration that has the first token has it before the others
+pub seen-name : (st : Stores) (list behind : List (Cond × Hidden)) (item : Cond × Hidden) (c : List ℕ) → list ≡ item ∷ behind → st.sets.has item.0.0 c ≡ true
+    → seen_at st list c ≡ seen_hidden st.names st.hides item.1 ∷ seen_at st behind c
+seen-name st list behind item c is has =
+    ap (λ (l : List (Cond × Hidden)). seen_at st l c) is
+    ∙ ap (λ (b : Bool). map (seen_hidden st.names st.hides) (if b then item.1 ∷ items_at st.sets behind c else items_at st.sets behind c)) has

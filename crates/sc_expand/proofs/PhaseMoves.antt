@@ -1,0 +1,447 @@
+-- A phase stays one through a turn: where the configurations stand, and which of its own items each
+-- has left.
+use Rattle.std.proofs.Common.{◌≡◌, ◌⊎◌, inl, inr, ℕ, suc, ◌+◌, ◌<◌, ◌≤◌, nat_le, nat_lt, Bool, true, false, true≢false, List, [], ◌∷◌, ◌++◌, drop, length, map, Some, None, slice_get, refl, sym, ap, subst, ◌∙◌, arith, if◌then◌else◌}
+use Rattle.std.proofs.lemmas.Bool.{leb-true}
+use Rattle.std.proofs.lemmas.List.{drop-drop, length-map}
+use Rattle.std.proofs.lemmas.List.Elements.{All-pop}
+use Rattle.c11_macros.specs.Expansion.{IsWithin}
+use Rattle.c11_macros.specs.Footprint.{Arrives, Footprint}
+use Rattle.c11_macros.specs.Hidden as model
+use Rattle.c11_macros.specs.Hidden.{Failure, Provenance}
+use Rattle.c11_macros.specs.Macros.{Macros}
+use Rattle.sc_base.specs.declared.id.Cond.{Cond}
+use Rattle.sc_base.specs.declared.place.Place.{Place}
+use Rattle.sc_expand.proofs.Behind.{below, below-not, last-below, last-fewer, last-suffix, length-behind, more-same}
+use Rattle.sc_expand.proofs.MachineCalls.{calls_at-append}
+use Rattle.sc_expand.proofs.MachineLemmas.{IsBelow, IsOnTop, alone, called_in, goes, progress-step, stands-cases, stops}
+use Rattle.sc_expand.proofs.Phases.{IsBetween, IsInside, IsReady, Phase, bound_of, end_of, last_at, print_of, state_now}
+use Rattle.sc_expand.proofs.PlainEnds.{move-ends}
+use Rattle.sc_expand.proofs.PlainFootprint.{UsesFrom, uses-less, uses-move}
+use Rattle.sc_expand.proofs.Rests.{first-is, next-argument, next-call, next-token}
+use Rattle.sc_expand.proofs.RunLemmas.{IsRunning, running-stands, turned-at}
+use Rattle.sc_expand.specs.declared.call.Call.{Call}
+use Rattle.sc_expand.specs.declared.expansion.Expansion.{Expansion}
+use Rattle.sc_expand.specs.declared.frame.Enclosing.{Enclosing}
+use Rattle.sc_expand.specs.FootprintSteps as steps
+use Rattle.sc_expand.specs.FootprintSteps.{IsPending, lower_of}
+use Rattle.sc_expand.specs.Having.{behind_at}
+use Rattle.sc_expand.specs.Machine.{IsAbsent, IsHeldExpansion, Progress, Stands, at, fails, gone, no_view, rests, state_in, steps as stepped}
+use Rattle.sc_expand.specs.Plain as plain
+use Rattle.sc_expand.specs.Plain.{Moves, State, Waiting, expanding, scanning, waiting}
+use Rattle.sc_expand.specs.Running.{HasEnded, IsAsLong, IsTurned, Rest, all, bottom, bottom_by, but_first, next_of, put, took}
+use Rattle.sc_expand.specs.Seen.{Grows, Stores, View, calls_at, provenance_of, seen_at, state_by, state_of, view_at, waiting_at}
+use Rattle.sc_expand.specs.Turn.{At}
+use Rattle.sc_guarded.specs.Items.{items_at}
+use Rattle.sc_model.proofs.SetLemmas.{IsConfig-Keeps}
+use Rattle.sc_model.specs.Sets.{IsConfig, Sets}
+use Rattle.sc_subst.specs.declared.hidden.Hidden.{Hidden}
+use Rattle.sc_subst.specs.Seen.{seen_hidden}
+
+-- ---- numbers
+
+lower-all : (n left : ℕ) → left ≤ n → lower_of n left ≡ left
+lower-all n left le = by (nat_le n left) refl
+  where
+    by : (b : Bool) → nat_le n left ≡ b → (if b then n else left) ≡ left
+    by true is = let more : n ≤ left = leb-true n left is in omega arith
+    by false is = refl
+
+-- not less than the lower of two, and not more than either
+lower-is : (n left m : ℕ) → lower_of n left ≤ m → m ≤ n → m ≤ left → m ≡ lower_of n left
+lower-is n left m low one other = by (nat_le n left) low
+  where
+    by : (b : Bool) → (if b then n else left) ≤ m → m ≡ (if b then n else left)
+    by true low = omega arith
+    by false low = omega arith
+
+lower-least : (n left : ℕ) → lower_of n left ≤ left
+lower-least n left = by (nat_le n left) refl
+  where
+    by : (b : Bool) → nat_le n left ≡ b → (if b then n else left) ≤ left
+    by true is = leb-true n left is
+    by false is = omega arith
+
+below-long : (n : ℕ) (ms : List ℕ) → length (below n ms) ≤ length ms
+below-long n [] = omega arith
+below-long n (m ∷ ms) = by (nat_lt m n) (below-long n ms)
+  where
+    by : (b : Bool) → length (below n ms) ≤ length ms → length (if b then m ∷ below n ms else below n ms) ≤ suc (length ms)
+    by true le = omega (arith, le)
+    by false le = omega (arith, le)
+
+-- ---- what a configuration has of lists
+
+pub length-seen : (st : Stores) (list : List (Cond × Hidden)) (c : List ℕ) → length (behind_at st.sets list c) ≡ length (seen_at st list c)
+length-seen st list c = length-behind st.sets c list ∙ sym (length-map (items_at st.sets list c) (seen_hidden st.names st.hides))
+
+-- the first item is not among the last n
+pub first-more : (s : Sets) (list : List (Cond × Hidden)) (item : Cond × Hidden) (c : List ℕ) (n : ℕ) → slice_get list 0 ≡ Some item → s.has item.0.0 c ≡ true → n < length list
+    → length (below n (behind_at s list c)) < length (behind_at s list c)
+first-more s [] item c n first has far = absurd (omega arith)
+first-more s (x ∷ xs) item c n first has far = by (s.has x.0.0 c) (ap (λ (y : Cond × Hidden). s.has y.0.0 c) same ∙ has)
+  where
+    same : x ≡ item
+    same = cc
+
+    by : (b : Bool) → b ≡ true → length (below n (if b then length xs ∷ behind_at s xs c else behind_at s xs c)) < length (if b then length xs ∷ behind_at s xs c else behind_at s xs c)
+    by true is = let count = ap length (below-not n (length xs) (behind_at s xs c) (omega (arith, far))) in omega (arith, count, below-long n (behind_at s xs c))
+    by false is = absurd (true≢false (sym is))
+
+-- what is still to be scanned of the whole list
+pub state-bottom : (st : Stores) (e : Expansion) (c : List ℕ) → steps.bottom (state_now st e c) ≡ seen_at st (bottom e).work c
+state-bottom st e c = by e.below.items
+  where
+    of : (out work : List (model.Hidden Place)) (ws : List (Waiting Place)) → steps.bottom (state_by out work ws) ≡ work
+    of out work [] = refl
+    of out work (w ∷ ws) = refl
+
+    by : (bs : List Enclosing) → steps.bottom (state_in st bs (view_at st e.top c) c) ≡ seen_at st (bottom_by bs e.top).work c
+    by [] = of (seen_at st e.top.out c) (seen_at st e.top.work c) (calls_at st e.top.calls.items c)
+    by (o ∷ os) = under (st.sets.has o.call.cond.0 c)
+      where
+        under : (b : Bool) → steps.bottom (if b then expanding (seen_at st o.frame.out c) (seen_at st o.frame.work c) (waiting_at st o.call c) o.parameter (state_in st os (view_at st e.top c) c) else state_of (view_at st o.frame c)) ≡ seen_at st o.frame.work c
+        under true = refl
+        under false = of (seen_at st o.frame.out c) (seen_at st o.frame.work c) (calls_at st o.frame.calls.items c)
+
+-- it has its own items among what is still to be scanned
+last-fits : (st : Stores) (e : Expansion) (n : ℕ) (c : List ℕ) → last_at st e n c ≤ length (steps.bottom (state_now st e c))
+last-fits st e n c = let count = ap length (state-bottom st e c) in omega (arith, count, length-seen st (bottom e).work c, below-long n (behind_at st.sets (bottom e).work c))
+
+-- ---- who takes part in a turn
+
+-- a call waits at the configuration
+abbrev pub Waits : State Place → Type 0
+Waits (scanning out work) = ⊥
+Waits (waiting out work w) = Unit {0}
+Waits (expanding out work w n s) = Unit {0}
+
+pub waits-pending : (s : State Place) (left : ℕ) → Waits s → IsPending s left
+waits-pending (scanning out work) left none = absurd none
+waits-pending (waiting out work w) left w' = tt
+waits-pending (expanding out work w n s) left w' = tt
+
+-- the next turn takes the first token of the whole list, and the configuration has it
+pub record HasFirst (st : Stores) (e : Expansion) (c : List ℕ) : Type 0 where
+  pub item : Cond × Hidden
+  pub below : e.below.items ≡ []
+  pub calls : e.top.calls.items ≡ []
+  pub first : slice_get e.top.work 0 ≡ Some item
+  pub has : st.sets.has item.0.0 c ≡ true
+
+-- nothing happens where nothing is left
+no-move : {provenance : Provenance Place} {macros : Macros} {s t : State Place} → Moves provenance macros s t → (out : List (model.Hidden Place)) → s ≡ scanning out [] → ⊥
+no-move (plain.stay out rest t is) o e = absurd (cc)
+no-move (plain.object out rest body t d is made) o e = absurd (cc)
+no-move (plain.gather out rest after t close d arguments template is makes) o e = absurd (cc)
+no-move (plain.enter out work list w n others is) o e = absurd (cc)
+no-move (plain.leave out work list w n) o e = absurd (cc)
+no-move (plain.replace out work body w is made) o e = absurd (cc)
+no-move (plain.inside out work w n m) o e = absurd (cc)
+
+ends-with : {A : Type 0} (xs : List A) → (xs ≡ []) ⊎ ((front : List A) × (last : A) × (xs ≡ front ++ last ∷ []))
+ends-with [] = inl refl
+ends-with {A} (x ∷ xs) = by (ends-with xs)
+  where
+    by : (xs ≡ []) ⊎ ((front : List A) × (last : A) × (xs ≡ front ++ last ∷ [])) → (x ∷ xs ≡ []) ⊎ ((front : List A) × (last : A) × (x ∷ xs ≡ front ++ last ∷ []))
+    by (inl none) = inr ([], x, ap (λ ys. x ∷ ys) none)
+    by (inr some) = inr (x ∷ some.0, some.1, ap (λ ys. x ∷ ys) some.2)
+
+ended-state : (st : Stores) (c : List ℕ) (e : Expansion) → HasEnded e → state_now st e c ≡ scanning (seen_at st e.top.out c) []
+ended-state st c e ended =
+    let calls : calls_at st e.top.calls.items c ≡ [] = ap (λ l. calls_at st l c) ended.calls in
+    let work : seen_at st e.top.work c ≡ [] = ap (λ l. seen_at st l c) ended.work in
+    let out = seen_at st e.top.out c in
+    ap (λ bs. state_in st bs (view_at st e.top c) c) ended.below ∙ (λ i. state_by out (work i) (calls i))
+
+never-last : {A : Type 0} (xs : List A) (x : A) → xs ++ x ∷ [] ≡ [] → ⊥
+never-last [] x none = absurd (cc)
+never-last (y ∷ ys) x none = absurd (cc)
+
+module _ (st : Stores) (c : List ℕ) where
+  -- the configuration has the last call
+  call-had : (calls front : List Call) (k : Call) → calls ≡ front ++ k ∷ [] → st.sets.has k.cond.0 c ≡ true → calls_at st calls c ≡ [] → ⊥
+  call-had calls front k is has none = by (st.sets.has k.cond.0 c) has (sym (ap (λ ks. calls_at st ks c) is ∙ calls_at-append st c front (k ∷ [])) ∙ none)
+    where
+      by : (b : Bool) → b ≡ true → calls_at st front c ++ (if b then waiting_at st k c ∷ [] else []) ≡ [] → ⊥
+      by true is none = never-last (calls_at st front c) (waiting_at st k c) none
+      by false is none = absurd (true≢false (sym is))
+
+  item-had : (list : List (Cond × Hidden)) (item : Cond × Hidden) (rest : List (Cond × Hidden)) → list ≡ item ∷ rest → st.sets.has item.0.0 c ≡ true → seen_at st list c ≡ [] → ⊥
+  item-had list item rest is has none = by (st.sets.has item.0.0 c) has (sym (ap (λ l. seen_at st l c) is) ∙ none)
+    where
+      by : (b : Bool) → b ≡ true → map (seen_hidden st.names st.hides) (if b then item.1 ∷ items_at st.sets rest c else items_at st.sets rest c) ≡ [] → ⊥
+      by true is none = absurd (cc)
+      by false is none = absurd (true≢false (sym is))
+
+  -- it stands in a list below, so not in the call of the last
+  below-none : {es : List Enclosing} → IsBelow st c es → es ≡ [] → ⊥
+  below-none (stops not few absent) none = absurd (cc)
+  below-none (goes has none b) is = absurd (cc)
+
+  below-last : {es : List Enclosing} → IsBelow st c es → (front : List Enclosing) (o : Enclosing) → es ≡ front ++ o ∷ [] → st.sets.has o.call.cond.0 c ≡ true → ⊥
+  below-last (stops {e} {es} not few absent) [] o is has = let same : e ≡ o = cc in true≢false (sym (ap (λ (x : Enclosing). st.sets.has x.call.cond.0 c) same ∙ has) ∙ not)
+  below-last (stops {e} {es} not few absent) (x ∷ front) o is has = let rest : es ≡ front ++ o ∷ [] = cc in true≢false (sym has ∙ (All-pop (IsAbsent st c) es front (Some o) rest absent).1.call)
+  below-last (goes {e} {es} has none b) [] o is has' = let rest : es ≡ [] = cc in below-none b rest
+  below-last (goes {e} {es} has none b) (x ∷ front) o is has' = let rest : es ≡ front ++ o ∷ [] = cc in below-last b front o rest has'
+
+  pub on-top : {es : List Enclosing} (v : View) → IsOnTop st c es → (es ≡ []) ⊎ Waits (state_in st es v c)
+  on-top v alone = inl refl
+  on-top v (called_in {e} {es} has none top) = inr (by (st.sets.has e.call.cond.0 c) has)
+    where
+      by : (b : Bool) → b ≡ true → Waits (if b then expanding (seen_at st e.frame.out c) (seen_at st e.frame.work c) (waiting_at st e.call c) e.parameter (state_in st es v c) else state_of (view_at st e.frame c))
+      by true is = tt
+      by false is = absurd (true≢false (sym is))
+
+  call-waits : (v : View) → (v.calls ≡ [] → ⊥) → Waits (state_of v)
+  call-waits v some = by v.calls some
+    where
+      by : (ws : List (Waiting Place)) → (ws ≡ [] → ⊥) → Waits (state_by v.out v.work ws)
+      by [] some = absurd (some refl)
+      by (w ∷ ws) some = tt
+
+  module _ (e : Expansion) (takes : Bool) (which : (cond : Cond) → next_of e ≡ Some cond → takes ≡ st.sets.has cond.0 c) (part : takes ≡ true) where
+    had : (cond : Cond) → next_of e ≡ Some cond → st.sets.has cond.0 c ≡ true
+    had cond next = sym (which cond next) ∙ part
+
+    -- who takes part has the first token of the whole list, or a call waits there
+    takes-cases : Stands st c e.below.items (view_at st e.top c) → (HasEnded e → ⊥) → HasFirst st e c ⊎ Waits (state_now st e c)
+    takes-cases stands goes_on = by (stands-cases st c stands)
+      where
+        first : e.below.items ≡ [] → e.top.calls.items ≡ [] → (work : List (Cond × Hidden)) → e.top.work ≡ work → HasFirst st e c ⊎ Waits (state_now st e c)
+        first one none [] empty = absurd (goes_on (record { below = one; work = empty; calls = none }))
+        first one none (item ∷ rest) is = inl (record {
+          item = item;
+          below = one;
+          calls = none;
+          first = ap (λ (l : List (Cond × Hidden)). slice_get l 0) is;
+          has = had item.0 (next-token e item rest none is);
+        })
+
+        top : e.below.items ≡ [] → (e.top.calls.items ≡ []) ⊎ ((front : List Call) × (k : Call) × (e.top.calls.items ≡ front ++ k ∷ [])) → HasFirst st e c ⊎ Waits (state_now st e c)
+        top one (inl none) = first one none e.top.work refl
+        top one (inr last) =
+            let some = call-had e.top.calls.items last.0 last.1 last.2 (had last.1.cond (next-call e last.0 last.1 last.2)) in
+            inr (subst (λ bs. Waits (state_in st bs (view_at st e.top c) c)) (sym one) (call-waits (view_at st e.top c) some))
+
+        last : IsBelow st c e.below.items → seen_at st e.top.work c ≡ [] → e.top.calls.items ≡ [] → (work : List (Cond × Hidden)) → e.top.work ≡ work
+            → (e.below.items ≡ []) ⊎ ((front : List Enclosing) × (o : Enclosing) × (e.below.items ≡ front ++ o ∷ [])) → ⊥
+        last b empty none (item ∷ rest) is x = item-had e.top.work item rest is (had item.0 (next-token e item rest none is)) empty
+        last b empty none [] is (inl x) = below-none b x
+        last b empty none [] is (inr x) = below-last b x.0 x.1 x.2 (had x.1.call.cond (next-argument e x.0 x.1 none is x.2))
+
+        inner : IsBelow st c e.below.items → calls_at st e.top.calls.items c ≡ [] → seen_at st e.top.work c ≡ []
+            → (e.top.calls.items ≡ []) ⊎ ((front : List Call) × (k : Call) × (e.top.calls.items ≡ front ++ k ∷ [])) → ⊥
+        inner b calls work (inr x) = call-had e.top.calls.items x.0 x.1 x.2 (had x.1.cond (next-call e x.0 x.1 x.2)) calls
+        inner b calls work (inl none) = last b work none e.top.work refl (ends-with e.below.items)
+
+        by : (IsOnTop st c e.below.items × (length (calls_at st e.top.calls.items c) ≤ 1)) ⊎ (IsBelow st c e.below.items × (view_at st e.top c ≡ no_view)) → HasFirst st e c ⊎ Waits (state_now st e c)
+        by (inl t) = elim (on-top (view_at st e.top c) t.0) [ inl one ↦ top one (ends-with e.top.calls.items) | inr waits ↦ inr waits ]
+        by (inr b) = absurd (inner b.0 (ap (λ v. v.calls) b.1) (ap (λ v. v.work) b.1) (ends-with e.top.calls.items))
+
+-- ---- its own items
+
+module _ {now new : Stores} {e after : Expansion} {c : List ℕ} (n : ℕ) (fits : n ≤ length (bottom e).work)
+    (far : (item : Cond × Hidden) → e.below.items ≡ [] → e.top.calls.items ≡ [] → slice_get e.top.work 0 ≡ Some item → n < length (bottom e).work) where
+  -- The configuration has the last of those that it had among the last m ..
+  rest-suffix : Rest now new e after c → (m : ℕ) → m ≤ n → (g : ℕ) × (below m (behind_at new.sets (bottom after).work c) ≡ drop g (below m (behind_at now.sets (bottom e).work c)))
+  rest-suffix (put more) m le = (0, more-same more m (omega arith))
+  rest-suffix (took item one none first last) m le = last-suffix last m (let less = far item one none first in omega (arith, less))
+
+  rest-fewer : Rest now new e after c → (m : ℕ) → m ≤ n → length (below m (behind_at new.sets (bottom after).work c)) ≤ length (below m (behind_at now.sets (bottom e).work c))
+  rest-fewer (put more) m le = let same = ap length (more-same more m (omega arith)) in omega (arith, same)
+  rest-fewer (took item one none first last) m le = last-fewer last m (let less = far item one none first in omega (arith, less))
+
+  -- .. and of the last n all, or all that it has left
+  rest-own : Rest now new e after c → last_at new after n c ≡ lower_of (length (seen_at new (bottom after).work c)) (last_at now e n c)
+  rest-own rest = lower-is (length (seen_at new (bottom after).work c)) (last_at now e n c) (last_at new after n c)
+      (subst (λ k. lower_of k (last_at now e n c) ≤ last_at new after n c) (length-seen new (bottom after).work c) (low rest))
+      (omega (arith, length-seen new (bottom after).work c, below-long n (behind_at new.sets (bottom after).work c)))
+      (rest-fewer rest n (omega arith))
+    where
+      low : Rest now new e after c → lower_of (length (behind_at new.sets (bottom after).work c)) (last_at now e n c) ≤ last_at new after n c
+      low (put more) = let same = ap length (more-same more n fits) in omega (arith, same, lower-least (length (behind_at new.sets (bottom after).work c)) (last_at now e n c))
+      low (took item one none first last) = last-below last n (last_at now e n c) (far item one none first) (omega arith)
+
+-- ---- through a turn
+
+still : {provenance : Provenance Place} {macros : Macros} {old new : Stores} {c : List ℕ} {bs later : List Enclosing} {a b : At} {takes : Bool} → takes ≡ false → Progress provenance macros old new c bs later a b takes
+    → b.live ≡ true → (a.live ≡ true → Stands old c bs a.view) → state_in old bs a.view c ≡ state_in new later b.view c
+still not (rests same failures stays) live stands = let was = sym same ∙ live in (stays was (stands was)).1
+still not (gone was ended failures) live stands = absurd (true≢false (sym live ∙ ended))
+still not (stepped was now failures move) live stands = absurd (true≢false not)
+still not (fails failure was ended failures f) live stands = absurd (true≢false not)
+
+module _ (files : List (List ℕ)) (macros : List ℕ → Macros) (names : List (List ℕ)) (within : (c : List ℕ) → IsWithin names (macros c))
+    {old now : Stores} {was e : Expansion} (grows : Grows old now) (r : IsRunning files macros old now was e) (began : IsHeldExpansion old (length files) was)
+    (phase : Phase files macros old now was e) (ready : IsReady files macros phase) where
+  never : (item : Cond × Hidden) → Some item ≡ None → ⊥
+  never item is = absurd (cc)
+
+  some-same : {x y : Cond} → Some x ≡ Some y → x ≡ y
+  some-same is = cc
+
+  -- the first token is not one of the last n
+  pub first-far : (item : Cond × Hidden) → e.below.items ≡ [] → e.top.calls.items ≡ [] → slice_get e.top.work 0 ≡ Some item → phase.n < length (bottom e).work
+  first-far item one none first =
+      let far = ready.below one none (λ empty. never item (sym first ∙ ap (λ (l : List (Cond × Hidden)). slice_get l 0) empty)) in
+      subst (λ bs. phase.n < length (bottom_by bs e.top).work) (sym one) (omega (arith, far))
+
+  -- who takes part in a turn has more left than its own items
+  pub takes-pending : (c : List ℕ) (takes : Bool) → ((cond : Cond) → next_of e ≡ Some cond → takes ≡ now.sets.has cond.0 c) → takes ≡ true → Stands now c e.below.items (view_at now e.top c)
+      → (HasEnded e → ⊥) → IsPending (state_now now e c) (last_at now e phase.n c)
+  takes-pending c takes which part stands goes_on = by (takes-cases now c e takes which part stands goes_on)
+    where
+      by : HasFirst now e c ⊎ Waits (state_now now e c) → IsPending (state_now now e c) (last_at now e phase.n c)
+      by (inr waits) = waits-pending (state_now now e c) (last_at now e phase.n c) waits
+      by (inl h) =
+          let none : calls_at now e.top.calls.items c ≡ [] = ap (λ l. calls_at now l c) h.calls in
+          let out = seen_at now e.top.out c in
+          let work = seen_at now e.top.work c in
+          let state : state_now now e c ≡ scanning out work = ap (λ bs. state_in now bs (view_at now e.top c) c) h.below ∙ (λ i. state_by out work (none i)) in
+          let same : (bottom e).work ≡ e.top.work = ap (λ bs. (bottom_by bs e.top).work) h.below in
+          let far = subst (λ (l : List (Cond × Hidden)). phase.n < length l) same (first-far h.item h.below h.calls h.first) in
+          let more = first-more now.sets e.top.work h.item c phase.n h.first h.has far in
+          let count = ap (λ (l : List (Cond × Hidden)). length (below phase.n (behind_at now.sets l c))) same in
+          subst (λ s. IsPending s (last_at now e phase.n c)) (sym state) (omega (arith, more, count, length-seen now e.top.work c))
+
+  -- and so has who has the first token, where no call waits
+  pub first-pending : (c : List ℕ) (item : Cond × Hidden) → slice_get e.top.work 0 ≡ Some item → e.top.calls.items ≡ [] → now.sets.has item.0.0 c ≡ true → Stands now c e.below.items (view_at now e.top c)
+      → IsPending (state_now now e c) (last_at now e phase.n c)
+  first-pending c item first none has stands = takes-pending c true which refl stands (λ ended. never item (sym first ∙ ap (λ (l : List (Cond × Hidden)). slice_get l 0) ended.work))
+    where
+      which : (cond : Cond) → next_of e ≡ Some cond → true ≡ now.sets.has cond.0 c
+      which cond next =
+          let same : item.0 ≡ cond = some-same (sym (next-token e item (drop 1 e.top.work) none (first-is e.top.work item first)) ∙ next) in
+          sym has ∙ ap (λ (x : Cond). now.sets.has x.0 c) same
+
+  module _ (new : Stores) (after : Expansion) (other : List ℕ → Macros) (same : (c : List ℕ) → IsConfig old.sets.arities c → other c ≡ macros c) {went : Bool} (turned : IsTurned files other now new e after went) where
+    pub moved-fits : phase.n ≤ length (bottom after).work
+    moved-fits = by turned.long
+      where
+        by : IsAsLong e after → phase.n ≤ length (bottom after).work
+        by (all le) = omega (arith, le, phase.fits)
+        by (but_first item one none first le) = let far = first-far item one none first in omega (arith, le, far)
+
+    -- what a configuration did that is still live
+    pub record HasMoved (c : List ℕ) : Type 0 where
+      pub live : now.sets.has e.refusals.live.0 c ≡ true
+      pub stands : Stands now c e.below.items (view_at now e.top c)
+      pub own : last_at new after phase.n c ≡ lower_of (length (steps.bottom (state_now new after c))) (last_at now e phase.n c)
+      pub step : (Moves (provenance_of files) (macros c) (state_now now e c) (state_now new after c) × IsPending (state_now now e c) (last_at now e phase.n c))
+          ⊎ ((state_now now e c ≡ state_now new after c) × (last_at now e phase.n c ≡ last_at new after phase.n c))
+
+    pub has-moved : (c : List ℕ) → IsConfig old.sets.arities c → new.sets.has after.refusals.live.0 c ≡ true → HasMoved c
+    has-moved c listed live =
+        let progress = turned-at grows r names within began new after other same turned c listed in
+        let stands = running-stands grows r c listed in
+        let s = progress-step (provenance_of files) (macros c) now new c e.below.items after.below.items progress live stands in
+        let own : last_at new after phase.n c ≡ lower_of (length (steps.bottom (state_now new after c))) (last_at now e phase.n c)
+        = rest-own phase.n phase.fits first-far (turned.rest c (IsConfig-Keeps grows.sets listed)) ∙ ap (λ l. lower_of (length l) (last_at now e phase.n c)) (sym (state-bottom new after c)) in
+        record {
+          live = s.0;
+          stands = stands s.0;
+          own = own;
+          step = by (turned.takes c) refl progress (s.1.moves) own (stands s.0);
+        }
+      where
+        by : (takes : Bool) → turned.takes c ≡ takes → Progress (provenance_of files) (macros c) now new c e.below.items after.below.items (at now e c) (at new after c) (turned.takes c)
+            → (turned.takes c ≡ true → Moves (provenance_of files) (macros c) (state_now now e c) (state_now new after c))
+            → last_at new after phase.n c ≡ lower_of (length (steps.bottom (state_now new after c))) (last_at now e phase.n c) → Stands now c e.below.items (view_at now e.top c)
+            → (Moves (provenance_of files) (macros c) (state_now now e c) (state_now new after c) × IsPending (state_now now e c) (last_at now e phase.n c))
+            ⊎ ((state_now now e c ≡ state_now new after c) × (last_at now e phase.n c ≡ last_at new after phase.n c))
+        by true is progress moves own stands =
+            let m = moves is in
+            inl (m, takes-pending c (turned.takes c) (λ cond next. turned.which cond next c) is stands (λ ended. no-move m (seen_at now e.top.out c) (ended-state now c e ended)))
+        by false is progress moves own stands =
+            let state = still is progress live (λ l. running-stands grows r c listed l) in
+            let count = ap (λ s. length (steps.bottom s)) state in
+            let fits : last_at now e phase.n c ≤ length (steps.bottom (state_now new after c)) = omega (arith, count, last-fits now e phase.n c) in
+            inr (state, sym (own ∙ lower-all (length (steps.bottom (state_now new after c))) (last_at now e phase.n c) fits))
+
+    -- who has nothing left but its own items gets nothing more
+    pub moved-pending : (c : List ℕ) → IsConfig old.sets.arities c → new.sets.has after.refusals.live.0 c ≡ true → IsPending (state_now new after c) (last_at new after phase.n c)
+        → (now.sets.has e.refusals.live.0 c ≡ true) × IsPending (state_now now e c) (last_at now e phase.n c)
+    moved-pending c listed live pending = let m = has-moved c listed live in (m.live, by m.step)
+      where
+        by : (Moves (provenance_of files) (macros c) (state_now now e c) (state_now new after c) × IsPending (state_now now e c) (last_at now e phase.n c))
+            ⊎ ((state_now now e c ≡ state_now new after c) × (last_at now e phase.n c ≡ last_at new after phase.n c)) → IsPending (state_now now e c) (last_at now e phase.n c)
+        by (inl m) = m.1
+        by (inr s) = subst (λ k. IsPending (state_now now e c) k) (sym s.1) (subst (λ s. IsPending s (last_at new after phase.n c)) (sym s.0) pending)
+
+    -- its own items are still the last that it had
+    pub moved-suffix : (c : List ℕ) → IsConfig old.sets.arities c → new.sets.has after.refusals.live.0 c ≡ true
+        → (g : ℕ) × (below phase.n (behind_at new.sets (bottom after).work c) ≡ drop g (behind_at old.sets was.top.work c))
+    moved-suffix c listed live =
+        let before = phase.suffix c listed (has-moved c listed live).live in
+        let now_is = rest-suffix phase.n phase.fits first-far (turned.rest c (IsConfig-Keeps grows.sets listed)) phase.n (omega arith) in
+        (before.0 + now_is.0, now_is.1 ∙ (ap (drop now_is.0) before.1 ∙ drop-drop now_is.0 before.0 (behind_at old.sets was.top.work c)))
+
+    -- Between names the configuration takes no part.
+    pub moved-between : (c : List ℕ) → IsConfig old.sets.arities c → phase.came c ≡ false → new.sets.has after.refusals.live.0 c ≡ true → IsBetween files macros old new was after phase.n c
+    moved-between c listed not live = let m = has-moved c listed live in by m (phase.between c listed not m.live) m.step
+      where
+        by : HasMoved c → IsBetween files macros old now was e phase.n c
+            → (Moves (provenance_of files) (macros c) (state_now now e c) (state_now new after c) × IsPending (state_now now e c) (last_at now e phase.n c))
+            ⊎ ((state_now now e c ≡ state_now new after c) × (last_at now e phase.n c ≡ last_at new after phase.n c)) → IsBetween files macros old new was after phase.n c
+        by m between (inl moved) =
+            let more : last_at now e phase.n c < length (seen_at now (bottom e).work c) = subst (λ s. IsPending s (last_at now e phase.n c)) between.is moved.1 in
+            absurd (omega (arith, more, between.all))
+        by m between (inr stays) =
+            let work : seen_at now (bottom e).work c ≡ seen_at new (bottom after).work c = sym (state-bottom now e c) ∙ (ap steps.bottom stays.0 ∙ state-bottom new after c) in
+            record {
+              out = between.out;
+              is = sym stays.0 ∙ (between.is ∙ ap (scanning between.out) work);
+              all = sym stays.1 ∙ (between.all ∙ ap length work);
+              arrives = subst (Arrives (provenance_of files) (macros c) (seen_at old was.top.work c)) work between.arrives;
+            }
+
+    -- What is left is still the rest of the name's expansion.
+    pub moved-inside : (c : List ℕ) (p : IsConfig old.sets.arities c) (k : phase.came c ≡ true) → new.sets.has after.refusals.live.0 c ≡ true
+        → IsInside files macros new after phase.n (bound_of (phase.come c p k)) (print_of (phase.come c p k)) c
+    moved-inside c listed k live = let m = has-moved c listed live in by m (phase.inside c listed k m.live) m.step
+      where
+        bound : ℕ
+        bound = bound_of (phase.come c listed k)
+
+        whole : Footprint
+        whole = print_of (phase.come c listed k)
+
+        by : HasMoved c → IsInside files macros now e phase.n bound whole c
+            → (Moves (provenance_of files) (macros c) (state_now now e c) (state_now new after c) × IsPending (state_now now e c) (last_at now e phase.n c))
+            ⊎ ((state_now now e c ≡ state_now new after c) × (last_at now e phase.n c ≡ last_at new after phase.n c)) → IsInside files macros new after phase.n bound whole c
+        by m inside step = record {
+          uses = uses step;
+          beyond =
+              let fewer = rest-fewer phase.n phase.fits first-far (turned.rest c (IsConfig-Keeps grows.sets listed)) (lower_of bound phase.n) (lower-least bound phase.n) in
+              omega (arith, fewer, inside.beyond);
+        }
+          where
+            uses : (Moves (provenance_of files) (macros c) (state_now now e c) (state_now new after c) × IsPending (state_now now e c) (last_at now e phase.n c))
+                ⊎ ((state_now now e c ≡ state_now new after c) × (last_at now e phase.n c ≡ last_at new after phase.n c)) → UsesFrom (provenance_of files) (macros c) (state_now new after c) (last_at new after phase.n c) whole
+            uses (inl moved) = subst (λ k. UsesFrom (provenance_of files) (macros c) (state_now new after c) k whole) (sym m.own)
+                (uses-move (provenance_of files) (macros c) names (within c) (state_now now e c) (state_now new after c) (last_at now e phase.n c) whole moved.0 moved.1 (last-fits now e phase.n c) inside.uses)
+            uses (inr stays) = subst (λ k. UsesFrom (provenance_of files) (macros c) (state_now new after c) k whole) stays.1
+                (subst (λ s. UsesFrom (provenance_of files) (macros c) s (last_at now e phase.n c) whole) stays.0 inside.uses)
+
+    -- The tokens that the name leaves are still the last that it had.
+    pub moved-own : (c : List ℕ) (p : IsConfig old.sets.arities c) (k : phase.came c ≡ true) → new.sets.has after.refusals.live.0 c ≡ true
+        → (g : ℕ) × (end_of (print_of (phase.come c p k)).left (seen_at new (bottom after).work c) ≡ drop g (seen_at old was.top.work c))
+    moved-own c listed k live =
+        let m = has-moved c listed live in
+        let before = phase.own c listed k m.live in
+        (before.0, by m (phase.inside c listed k m.live) (moved-inside c listed k live) m.step ∙ before.1)
+      where
+        left : ℕ
+        left = (print_of (phase.come c listed k)).left
+
+        by : HasMoved c → IsInside files macros now e phase.n (bound_of (phase.come c listed k)) (print_of (phase.come c listed k)) c
+            → IsInside files macros new after phase.n (bound_of (phase.come c listed k)) (print_of (phase.come c listed k)) c
+            → (Moves (provenance_of files) (macros c) (state_now now e c) (state_now new after c) × IsPending (state_now now e c) (last_at now e phase.n c))
+            ⊎ ((state_now now e c ≡ state_now new after c) × (last_at now e phase.n c ≡ last_at new after phase.n c))
+            → end_of left (seen_at new (bottom after).work c) ≡ end_of left (seen_at now (bottom e).work c)
+        by m inside later (inl moved) =
+            let less = uses-less (provenance_of files) (macros c) names (within c) (state_now now e c) (last_at now e phase.n c) (print_of (phase.come c listed k)) inside.uses in
+            let less_later = uses-less (provenance_of files) (macros c) names (within c) (state_now new after c) (last_at new after phase.n c) (print_of (phase.come c listed k)) later.uses in
+            ap (end_of left) (sym (state-bottom new after c))
+            ∙ (move-ends moved.0 (last_at now e phase.n c) left moved.1 (last-fits now e phase.n c) less (omega (arith, less_later, last-fits new after phase.n c)) ∙ ap (end_of left) (state-bottom now e c))
+        by m inside later (inr stays) = ap (end_of left) (sym (state-bottom new after c) ∙ (sym (ap steps.bottom stays.0) ∙ state-bottom now e c))
