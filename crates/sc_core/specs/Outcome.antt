@@ -76,7 +76,8 @@ pub record RefusesSpace (files : Files) (name line : List ℕ) : Type 0 where
   pub read : read_space bytes ≡ Err fault
   pub told : line ≡ space_line fault
 
--- the space file is held and read, the words that choose a configuration are refused, and the line tells the fault
+-- the space file is held and read, the words that choose a configuration are refused, and the line
+-- tells the fault
 pub record RefusesChoices (files : Files) (name : List ℕ) (choices : List (List ℕ)) (line : List ℕ) : Type 0 where
   pub space : Space
   pub fault : file.Fault
@@ -84,14 +85,16 @@ pub record RefusesChoices (files : Files) (name : List ℕ) (choices : List (Lis
   pub read : read_config space choices ≡ Err fault
   pub told : line ≡ space_line fault
 
--- the space file is held and read, its space has more configurations than branches, and the line tells how many these may be
+-- the space file is held and read, its space has more configurations than branches, and the line
+-- tells how many these may be
 pub record FillsBranches (files : Files) (name line : List ℕ) : Type 0 where
   pub space : Space
   pub has_space : HasSpace files name space
   pub many : HasConfigs (arities_of space) (space.branches + 1)
   pub told : line ≡ branches_line (space.branches + 1)
 
--- the space file is held and read, the main file has at some place more classes than branches, and the line tells how many these may be
+-- the space file is held and read, the main file has at some place more classes than branches, and
+-- the line tells how many these may be
 pub record FillsClasses (files : Files) (name main line : List ℕ) : Type 0 where
   pub space : Space
   pub has_space : HasSpace files name space
@@ -107,14 +110,15 @@ Tells false A = A → ⊥
 abbrev pub AcceptsAll : Space → Files → List ℕ → Type 0
 AcceptsAll space files main = (config : List ℕ) → IsListed space config → (ts : List Token) × Pre space files main config (Ok ts)
 
--- The answer is what ordinary preprocessing of the files gives at each configuration of the space, and it is told whether all
--- are accepted.
+-- The answer is what ordinary preprocessing of the files gives at each configuration of the space,
+-- and it is told whether all are accepted.
 pub record IsOrdinaryAnswer (space : Space) (files : Files) (main : List ℕ) (answer : Answer token_list) (accepted : Bool) : Type 0 where
   pub ordinary : (config : List ℕ) → IsListed space config → IsOrdinaryAt space files main answer config
   pub verdict : Tells accepted (AcceptsAll space files main)
 
--- The pieces are the lines of a text that keeps the rules of the format, and it has no fault exactly where it is told that
--- all configurations are accepted. Where the source tells what it holds, the answer is the ordinary one.
+-- The pieces are the lines of a text that keeps the rules of the format, and it has no fault
+-- exactly where it is told that all configurations are accepted. Where the source tells what it
+-- holds, the answer is the ordinary one.
 pub record IsTokensText (holds : Option Files) (name main : List ℕ) (pieces : List (List ℕ)) (accepted : Bool) : Type 0 where
   pub space : Space
   pub answer : Answer token_list
@@ -139,8 +143,8 @@ pub record IsTranslationAt (parser : Parser) (space : Space) (files : Files) (ma
 abbrev pub TranslatesAll : Parser → Space → Files → List ℕ → Type 0
 TranslatesAll parser space files main = (config : List ℕ) → IsListed space config → (tree : Tree) × Translates parser space files main config (Ok tree)
 
--- The answer is what ordinary translation of the files gives at each configuration of the space, and it is told whether all
--- are accepted.
+-- The answer is what ordinary translation of the files gives at each configuration of the space,
+-- and it is told whether all are accepted.
 pub record IsTranslationAnswer (space : Space) (files : Files) (main : List ℕ) (answer : TreeAnswer) (accepted : Bool) : Type 0 where
   pub parser : Parser
   pub is_c11 : IsC11Parser parser
@@ -151,8 +155,9 @@ pub record IsTranslationAnswer (space : Space) (files : Files) (main : List ℕ)
 abbrev pub HasNoFault : Space → TreeAnswer → Type 0
 HasNoFault space answer = (config : List ℕ) → IsListed space config → project answer.faults config ≡ []
 
--- The pieces are the lines of a text that keeps the rules of the format, and a configuration has a fault exactly where it is
--- told that not all are accepted. Where the source tells what it holds, the answer is the ordinary one.
+-- The pieces are the lines of a text that keeps the rules of the format, and a configuration has a
+-- fault exactly where it is told that not all are accepted. Where the source tells what it holds,
+-- the answer is the ordinary one.
 pub record IsParseText (holds : Option Files) (name main : List ℕ) (pieces : List (List ℕ)) (accepted : Bool) : Type 0 where
   pub space : Space
   pub answer : TreeAnswer
@@ -167,8 +172,8 @@ abbrev pub is_translated : Result Tree Fault → Bool
 is_translated (Ok tree) = true
 is_translated (Err fault) = false
 
--- The answer of one configuration is exactly what ordinary translation of the files gives at another of its space, and it is
--- told whether that is accepted.
+-- The answer of one configuration is exactly what ordinary translation of the files gives at
+-- another of its space, and it is told whether that is accepted.
 pub record IsProjectedAnswer (space : Space) (files : Files) (main config : List ℕ) (answer : TreeAnswer) (accepted : Bool) : Type 0 where
   pub parser : Parser
   pub is_c11 : IsC11Parser parser
@@ -178,7 +183,8 @@ pub record IsProjectedAnswer (space : Space) (files : Files) (main config : List
   pub exact : IsPlainAnswer answer (first_config space) (shown_result ordinary)
   pub verdict : accepted ≡ is_translated ordinary
 
--- The pieces are the lines of the text of a result, a tree or a fault, in the space that has the chosen configuration alone.
+-- The pieces are the lines of the text of a result, a tree or a fault, in the space that has the
+-- chosen configuration alone.
 pub record IsProjectText (holds : Option Files) (name main : List ℕ) (choices : List (List ℕ)) (pieces : List (List ℕ)) (accepted : Bool) : Type 0 where
   pub space : Space
   pub config : List ℕ
@@ -231,8 +237,8 @@ RefusesIn (parse space main) files line = RefusesSpace files space line
 RefusesIn (project_tree space main choices) files line = RefusesSpace files space line ⊎ RefusesChoices files space choices line
 RefusesIn conflicts files line = ⊥
 
--- There are more branches than the space allows, and the line tells how many these may be. For one configuration there never
--- are.
+-- There are more branches than the space allows, and the line tells how many these may be. For one
+-- configuration there never are.
 abbrev pub FillsIn : Asked → Files → List ℕ → Type 0
 FillsIn (tokens space main) files line = FillsBranches files space line
 FillsIn (parse space main) files line = FillsBranches files space line ⊎ FillsClasses files space main line
@@ -250,7 +256,8 @@ MayFill conflicts = ⊥
 abbrev pub HoldsIn : Asked → Option Files → (Files → Type 0) → Type 0
 HoldsIn asked holds P = OnSpace asked (λ space. Unit {0}) × ((files : Files) → holds ≡ Some files → P files)
 
--- Why there is no text of what is asked for. Status 5 is never that of one configuration, whatever the source tells.
+-- Why there is no text of what is asked for. Status 5 is never that of one configuration, whatever
+-- the source tells.
 abbrev pub FailsFor : Asked → Reading → RunError → Type 0
 FailsFor asked reading (error.Usage text) = ⊥
 FailsFor asked reading error.BadFile = ⊥
@@ -305,7 +312,8 @@ pub record EndsWithError (reading : Reading) (words : List (List ℕ)) (status :
   pub silent : out.new ≡ out.old
   pub told : WritesLine err (line_of error)
 
--- What a run does, by its status. The output gets the text alone, and the error output the line of a run without a whole text.
+-- What a run does, by its status. The output gets the text alone, and the error output the line of
+-- a run without a whole text.
 abbrev pub Outcome : Reading → List (List ℕ) → Writing → Writing → Status → Type 0
 Outcome reading words out err Accepted = Prints reading words out true × (err.new ≡ err.old)
 Outcome reading words out err Refused = Prints reading words out false × (err.new ≡ err.old)

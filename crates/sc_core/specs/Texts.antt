@@ -101,7 +101,8 @@ pub record AreTranslated (space : Space) (files : Files) (main : List ℕ) (w : 
   pub is_c11 : IsC11Parser parser
   pub each : (config : List ℕ) → IsListed space config → IsTranslated parser space files main w root faults config
 
--- Each configuration has its tree and no fault, or one fault. Where there is a root, some configuration has a tree.
+-- Each configuration has its tree and no fault, or one fault. Where there is a root, some
+-- configuration has a tree.
 pub record HasAnswers (w : Tables) (root : Option TreeId) (faults : List base.Fault) : Type 0 where
   pub each : (config : List ℕ) → IsConfig w.sets.arities config → (result : Result Tree Fault) × Stands w root faults config result
   pub some : (id : TreeId) → root ≡ Some id → (config : List ℕ) × (IsConfig w.sets.arities config × ((tree : Tree) × Stands w root faults config (Ok tree)))
@@ -119,13 +120,14 @@ pub record CanShowTree (s : Sets) (names files : List (List ℕ)) (p : ParsedFil
   pub apart : AreApart s p.faults.items
   pub paths : ArePlainPaths files
 
--- where there is a tree, the store is what is laid out of it at the configuration, with the other root
+-- where there is a tree, the store is what is laid out of it at the configuration, with the other
+-- root
 pub data IsLaid (w : Tables) (config : List ℕ) (trees : List Line) : Option TreeId → Option TreeId → Type 0 where
   no_tree : IsLaid w config trees None None
   tree_laid : (id root : TreeId) → LaysOut w.sets w.lines config id.0 0 trees root.0 → IsLaid w config trees (Some id) (Some root)
 
--- Another parsed file has the same faults, a tree where the first has one, which at every configuration is that of the first
--- at this one, and no choices. Its tree is laid out.
+-- Another parsed file has the same faults, a tree where the first has one, which at every
+-- configuration is that of the first at this one, and no choices. Its tree is laid out.
 pub record IsPlain (w : Tables) (config : List ℕ) (old p : ParsedFile) : Type 0 where
   pub faults : p.faults.items ≡ old.faults.items
   pub reads : (tree : Tree) → RootReads w config old.root tree → RootReads (record w { lines = p.trees }) config p.root tree

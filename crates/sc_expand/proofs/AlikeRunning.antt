@@ -1,5 +1,5 @@
--- Configurations that are alike stay so through the turns of an expansion, where what one of them looks
--- up is defined alike for both.
+-- Configurations that are alike stay so through the turns of an expansion, where what one of them
+-- looks up is defined alike for both.
 use Rattle.std.proofs.Common.{◌≡◌, ℕ, ◌<◌, Bool, true, List, [], ◌∷◌, Some, drop, length, map, slice_get, inl, inr, sym, ap, subst, ◌∙◌, if◌then◌else◌}
 use Rattle.std.proofs.lemmas.Option.{slice_get_within}
 use Rattle.c11_macros.specs.Expansion.{IsWithin}

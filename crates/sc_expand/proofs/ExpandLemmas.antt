@@ -1,4 +1,5 @@
--- A list as it is given, and what the loop leaves of it, as what it expands to at each configuration.
+-- A list as it is given, and what the loop leaves of it, as what it expands to at each
+-- configuration.
 use Rattle.std.proofs.Common.{◌≡◌, ℕ, ◌<◌, Bool, true, false, true≢false, List, [], ◌∷◌, All, Some, drop, length, map, slice_get, Ok, Err, refl, sym, ap, subst, ◌∙◌, if◌then◌else◌}
 use Rattle.std.proofs.lemmas.List.Elements.{All-cons, All-head, All-nil, All-tail}
 use Rattle.c11_macros.specs.Expansion.{Expands}

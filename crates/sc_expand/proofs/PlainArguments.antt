@@ -92,9 +92,9 @@ module _ {P : Type 0} (provenance : Provenance P) (macros : Macros) where
   told-rest : (all looks : List (List ℕ)) (whole part : Footprint) → Covers all looks → IsRestOf (with_names all whole) part → IsRestOf (with_names all whole) (with_names looks part)
   told-rest all looks whole part told rest = record { left = rest.left; fails = rest.fails; covers = covers-both (covers-then (covers-front all whole.looked_up) told) rest.covers }
 
-  -- A call's replacement is scanned with the rest, in so many steps after those of its arguments. All
-  -- names that are looked up are those of the arguments and of this scan. So it is where only so many
-  -- tokens of the rest are left.
+  -- A call's replacement is scanned with the rest, in so many steps after those of its arguments.
+  -- All names that are looked up are those of the arguments and of this scan. So it is where only
+  -- so many tokens of the rest are left.
   pub record Supplied (out work : List (Hidden P)) (made r : Answer) (count cost : ℕ) (all names : List (List ℕ)) (uses : ℕ → Footprint) : Type 0 where
     pub answer : Answer
     pub rescans : Rescans provenance macros made work answer

@@ -42,7 +42,8 @@ looked (asks out work w first others r some c) = looked c
 looked (resumes out work w n s list r c d) = looked c ++ looked d
 looked (refuses out work w n s failure c) = looked c
 
--- what is used until only so many tokens of the whole list are left, and nothing that replaced a name
+-- what is used until only so many tokens of the whole list are left, and nothing that replaced a
+-- name
 abbrev pub using : {P : Type 0} {provenance : Provenance P} {macros : Macros} {s : State P} {r : Result (List (Hidden P)) (Failure P)} → Completes provenance macros s r → ℕ → Footprint
 using (scans out work r d) left = footprint_from left (trace d).uses
 using (replaces out work w r none g) left = footprint_from left (trace_rescan g).uses

@@ -1,5 +1,5 @@
--- What drops out of the frame on top, with all that is next for refused configurations alone, and what
--- does not: no configuration that was not refused moves.
+-- What drops out of the frame on top, with all that is next for refused configurations alone, and
+-- what does not: no configuration that was not refused moves.
 use Rattle.std.proofs.Common.{◌≡◌, ℕ, ◌<◌, ◌-◌, ◌&&◌, Bool, true, false, true≢false, List, [], ◌∷◌, ◌++◌, All, drop, length, map, take, length-append, append-nil, Option, Some, None, slice_get, sum_by, refl, sym, ap, subst, ◌∙◌, arith, if◌then◌else◌}
 use Rattle.std.proofs.lemmas.List.Elements.{All-pop}
 use Rattle.std.proofs.lemmas.List.Sums.{sum_by-append}

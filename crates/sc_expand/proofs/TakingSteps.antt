@@ -65,7 +65,8 @@ module _ (provenance : Provenance Place) (macros : Macros) (t : Hidden Place) (r
 
 -- ---- the end of a turn
 
--- the name is no longer first: it is put out where it stays, and what replaces it is before what was left
+-- the name is no longer first: it is put out where it stays, and what replaces it is before what
+-- was left
 pub record Ends (t x : Hidden Place) (left : List (Hidden Place)) (s : Step) (b : At) : Type 0 where
   pub live : b.live ≡ s.at.live
   pub failures : b.failures ≡ s.at.failures

@@ -1,4 +1,5 @@
--- What a text expands to stands on one line, where its tokens and the macros' lists do; and which macros' lists do.
+-- What a text expands to stands on one line, where its tokens and the macros' lists do; and which
+-- macros' lists do.
 use Rattle.std.proofs.Common.{◌≡◌, ℕ, ◌&&◌, not, Bool, true, false, List, [], ◌∷◌, ◌++◌, All, IfOk, map, codes, decimal, Option, Some, None, Result, Ok, Err, refl, sym, ap, subst, ◌∙◌, slice_get, if◌then◌else◌}
 use Rattle.std.proofs.lemmas.Bool.{true_from_ne_false, true≢false}
 use Rattle.std.proofs.lemmas.List.Elements.{All-from_recursion, All-map, All-weaker, recursion_from_All}
@@ -197,7 +198,8 @@ passes-all {A} s test list some h =
     All-from_recursion (λ (item : Cond × A). test item.1 ≡ true) list
     (passes-every s test list (recursion_from_All (λ (item : Cond × A). IsNever s item.0.0 → ⊥) list some) (λ c listed. recursion_from_All (λ x. test x ≡ true) (items_at s list c) (h c listed)))
 
--- the tokens of a configuration that is not refused are spelled on one line, where what its text expands to is
+-- the tokens of a configuration that is not refused are spelled on one line, where what its text
+-- expands to is
 pub expanded-stays_on_one_line : (s : Sets) (names files : List (List ℕ)) (e : Expanded) (macros : Macros) (text : List Token) (c : List ℕ) → IsExpanded s names files e macros text c → faults_at s e.faults.items c ≡ []
     → ((output : List Token) → TextExpands macros text (Ok output) → All PlainToken output) → All (λ (t : base_token.Token). has_no_newline (text_at names t.spelling.0) ≡ true) (items_at s e.list c)
 expanded-stays_on_one_line s names files e macros text c expanded none plain = by expanded.answer expanded.expands expanded.stands

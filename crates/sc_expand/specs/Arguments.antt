@@ -11,7 +11,8 @@ seen_role is.Closing = closing
 seen_role is.Comma = comma
 seen_role is.Other = other
 
--- One token at a depth of inner parentheses, where so many commas may still part arguments. What follows is parted by go.
+-- One token at a depth of inner parentheses, where so many commas may still part arguments. What
+-- follows is parted by go.
 abbrev pub parting_step : {P : Type 0} → Role → ℕ → ℕ → Hidden P → (ℕ → ℕ → List (List (Hidden P))) → List (List (Hidden P))
 parting_step opening commas depth t go = onto_argument t (go commas (suc depth))
 parting_step closing commas zero t go = onto_argument t (go commas zero)

@@ -33,7 +33,8 @@ tokens_of w = (w.parameter, w.tokens.items)
 abbrev pub with_argument : List (List Hidden) → ℕ → ℕ × List Hidden
 with_argument raw n = (n, argument raw n)
 
--- whatever the arguments expand to, the template makes the replacement of a name at this place with them
+-- whatever the arguments expand to, the template makes the replacement of a name at this place with
+-- them
 pub record IsTemplateOf (names : List (List ℕ)) (sets : List (List Name)) (form : Form) (items : List Item) (arguments : List (List (model.Hidden Place))) (place : Place) (template : Template) : Type 0 where
   pub completes : (s : Sets) (head : model.Hidden Place) (results : List (Result (List (model.Hidden Place)) (Failure Place))) (provenance : Provenance Place) (hidden : HideSet) → head.place ≡ place
       → substituted provenance form items head arguments results hidden ≡ completed provenance head hidden (wanted_of form items) results (seen_template (stores s names sets) place template)

@@ -36,7 +36,8 @@ pub record EndsBefore {P : Type 0} (commas : ℕ) (ts after : List (model.Hidden
   pub is : call_of commas 0 ts ≡ Some call
   pub rest : call.rest ≡ after
 
--- these tokens are a parenthesis that opens a call, what stands between, the one that closes it, and what follows
+-- these tokens are a parenthesis that opens a call, what stands between, the one that closes it,
+-- and what follows
 pub record IsCall {P : Type 0} (ts between : List (model.Hidden P)) (close : model.Hidden P) (after : List (model.Hidden P)) : Type 0 where
   pub opener : model.Hidden P
   pub is : ts ≡ opener ∷ (between ++ close ∷ after)
@@ -45,7 +46,8 @@ pub record IsCall {P : Type 0} (ts between : List (model.Hidden P)) (close : mod
 
 -- ---- the configurations of a branch
 
--- a name stands first at the configuration and is called, the tokens of the call stand at these places, and no other call waits
+-- a name stands first at the configuration and is called, the tokens of the call stand at these
+-- places, and no other call waits
 pub record IsCalled (st : Stores) (e : Expansion) (places c : List ℕ) : Type 0 where
   pub stands : has_first st.sets e.top.work c ≡ true
   pub stand_at : places ≡ call_places st.sets st.names (tokens_in e.top.work) 0 c
@@ -61,7 +63,8 @@ pub record IsBranch (st : Stores) (e : Expansion) (branch : Branch) : Type 0 whe
 
 -- ---- what taking a call out does
 
--- the call of the name with these arguments begins to wait for them, or a # in the macro's list fails
+-- the call of the name with these arguments begins to wait for them, or a # in the macro's list
+-- fails
 pub data Begins (provenance : Provenance Place) (d : Definition) (t close : model.Hidden Place) (arguments : List (List (model.Hidden Place))) (a b : At) : Type 0 where
   waits : (template : Result (List (Slot Place)) (Failure Place)) → IsTemplate provenance d t arguments template
       → b ≡ record a { view = with_call a.view (gathered provenance d t arguments close template) } → Begins provenance d t close arguments a b
@@ -75,7 +78,8 @@ pub record IsMacro (st : Stores) (provenance : Provenance Place) (macros : Macro
   pub formed : d.form ≡ seen_form st.names form
   pub list : list_of provenance d (seen_hidden st.names st.hides head) ≡ map (seen_item st.names) items
 
--- the calls of these branches were taken out: a configuration of one of them made its step, and each other is as it was
+-- the calls of these branches were taken out: a configuration of one of them made its step, and
+-- each other is as it was
 pub record AreGathered (old st : Stores) (was now : Expansion) (form : declared_form.Form) (items : List declared_item.Item) (head : Hidden) (branches : List Branch) : Type 0 where
   pub gathers : (c place : List ℕ) (provenance : Provenance Place) (macros : Macros) (d : Definition) (rest : List (model.Hidden Place)) → IsConfig old.sets.arities c
       → lists_at old.sets branches c ≡ place ∷ [] → (at old was c).view.work ≡ seen_hidden old.names old.hides head ∷ rest → IsMacro old provenance macros form items head d

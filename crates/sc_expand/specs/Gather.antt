@@ -13,8 +13,8 @@ use Rattle.sc_expand.specs.Turn.{At}
 abbrev pub without_call : At → Waiting Place → List (Hidden Place) → At
 without_call a w after = record a { view = record a.view { work = after; calls = w ∷ [] } }
 
--- The name of a function-like macro stands first, with this behind it. It is no call, or is taken out as one, or is refused. The
--- last argument tells whether it is no call.
+-- The name of a function-like macro stands first, with this behind it. It is no call, or is taken
+-- out as one, or is refused. The last argument tells whether it is no call.
 pub data Gathers (provenance : Provenance Place) (macros : Macros) (t : Hidden Place) (rest : List (Hidden Place)) (a b : At) : Bool → Type 0 where
   uncalled : case_of macros t rest ≡ stays → b ≡ a → Gathers provenance macros t rest a b true
   taken_out : (d : Definition) (arguments : List (List (Hidden Place))) (close : Hidden Place) (after : List (Hidden Place)) (template : Result (List (Slot Place)) (Failure Place))

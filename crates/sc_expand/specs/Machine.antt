@@ -40,7 +40,8 @@ pub record IsAbsent (st : Stores) (c : List ℕ) (e : Enclosing) : Type 0 where
   pub view : view_at st e.frame c ≡ no_view
   pub call : st.sets.has e.call.cond.0 c ≡ false
 
--- The configuration has one call at most, in the frame where it stands, and nothing of the frames above it.
+-- The configuration has one call at most, in the frame where it stands, and nothing of the frames
+-- above it.
 pub data Stands (st : Stores) (c : List ℕ) : List Enclosing → View → Type 0 where
   on_top : {v : View} → length v.calls ≤ 1 → Stands st c [] v
   inside : {e : Enclosing} {es : List Enclosing} {v : View} → st.sets.has e.call.cond.0 c ≡ true → calls_at st e.frame.calls.items c ≡ [] → Stands st c es v → Stands st c (e ∷ es) v

@@ -1,8 +1,10 @@
--- What is kept of the places of an expansion's tokens, mapped to something else that is kept of them.
+-- What is kept of the places of an expansion's tokens, mapped to something else that is kept of
+-- them.
 use Rattle.std.specs.Prelude.{◌≡◌, List, map, Result, Ok, Err}
 use Rattle.c11_macros.specs.Hidden.{Failure, Hidden, Provenance}
 
--- the place and the mark of a token that a substitution put in are told as well by what it is mapped to
+-- the place and the mark of a token that a substitution put in are told as well by what it is
+-- mapped to
 pub record IsKept {P Q : Type 0} (one : Provenance P) (two : Provenance Q) (f : P → Q) : Type 0 where
   pub place : (p : P) → two.place (f p) ≡ one.place p
   pub mark : (p : P) → f (one.mark p) ≡ two.mark (f p)

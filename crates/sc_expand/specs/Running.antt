@@ -107,7 +107,8 @@ pub data IsAsLong (e after : Expansion) : Type 0 where
   but_first : (item : Cond × Hidden) → e.below.items ≡ [] → e.top.calls.items ≡ [] → slice_get e.top.work 0 ≡ Some item
       → length (bottom e).work ≤ suc (length (bottom after).work) → IsAsLong e after
 
--- What a turn does at each configuration. There was one if some configuration took part that was not refused.
+-- What a turn does at each configuration. There was one if some configuration took part that was
+-- not refused.
 pub record IsTurned (files : List (List ℕ)) (macros : List ℕ → Macros) (old new : Stores) (e after : Expansion) (went : Bool) : Type 0 where
   pub takes : List ℕ → Bool
   pub progress : (c : List ℕ) → IsConfig old.sets.arities c
@@ -130,7 +131,8 @@ pub record IsUntouched (e : Expansion) : Type 0 where
   pub calls : e.top.calls.items ≡ []
   pub faults : e.refusals.faults.items ≡ []
 
--- A configuration that takes part has what the list expands to, or its failure alone; another has no failure.
+-- A configuration that takes part has what the list expands to, or its failure alone; another has
+-- no failure.
 pub data IsDone (provenance : Provenance Place) (macros : Macros) (source out : List (model.Hidden Place)) (failures : List (Failure Place)) : Bool → Type 0 where
   unasked : failures ≡ [] → IsDone provenance macros source out failures false
   expanded : failures ≡ [] → Expands provenance macros source (Ok out) → IsDone provenance macros source out failures true

@@ -33,7 +33,8 @@ abbrev pub has_first : Sets → List (Cond × Hidden) → List ℕ → Bool
 has_first s [] c = false
 has_first s (item ∷ items) c = s.has item.0.0 c
 
--- the configuration, whether it has the first token still, whether the token stays, and what replaces it
+-- the configuration, whether it has the first token still, whether the token stays, and what
+-- replaces it
 pub record Step : Type 0 where
   pub at : At
   pub first : Bool
@@ -51,7 +52,8 @@ pub record IsHeldTaken (st : Stores) (files : ℕ) (taken : Taken) : Type 0 wher
   pub stays : IsCond st.sets taken.stays.0
   pub made : AreHeld st files taken.made.items
 
--- the token stands first at a configuration that takes part, no call waits, and nothing is known of the token yet
+-- the token stands first at a configuration that takes part, no call waits, and nothing is known of
+-- the token yet
 pub record IsBegun (t : model.Hidden Place) (a : Step) : Type 0 where
   pub live : a.at.live ≡ true
   pub rest : List (model.Hidden Place)
@@ -61,7 +63,8 @@ pub record IsBegun (t : model.Hidden Place) (a : Step) : Type 0 where
   pub stays : a.stays ≡ false
   pub made : a.made ≡ []
 
--- What taking the token comes to, with this behind it: it stays, is replaced, is taken out with its call, or is refused.
+-- What taking the token comes to, with this behind it: it stays, is replaced, is taken out with its
+-- call, or is refused.
 pub data Comes (provenance : Provenance Place) (macros : Macros) (t : model.Hidden Place) (rest : List (model.Hidden Place)) (a : At) (b : Step) : Type 0 where
   kept : case_of macros t rest ≡ stays → b ≡ record { at = a; first = true; stays = true; made = [] } → Comes provenance macros t rest a b
   put : (d : Definition) (body : List (model.Hidden Place)) → case_of macros t rest ≡ replaced d → object_result provenance d t ≡ Ok body
@@ -93,7 +96,8 @@ pub record HasTaken (old new : Sets) (before after put : List (Cond × Hidden)) 
   pub rest : HasLast old new before after c
   pub made : (items_at new put c ≡ []) ⊎ (has_each new after c ≡ has_each old before c)
 
--- Of the parts of a look-up these were taken: a configuration of one of them has come to something, and each other is as it was.
+-- Of the parts of a look-up these were taken: a configuration of one of them has come to something,
+-- and each other is as it was.
 pub record AreTaken (files : List (List ℕ)) (old st : Stores) (was now : Expansion) (before after : Taken) (head : Hidden) (parts : List (Cond × Option (Rc declared.Definition Global))) : Type 0 where
   pub comes : (c : List ℕ) (macros : Macros) (rest : List (model.Hidden Place)) → IsConfig old.sets.arities c → (at old was c).view.work ≡ seen_hidden old.names old.hides head ∷ rest
       → map (option_map (λ shared. seen_definition old.names shared.value)) (items_at old.sets parts c) ≡ macros (text_of old.names head.token.spelling) ∷ []

@@ -12,7 +12,8 @@ pub record At : Type 0 where
   pub view : View
   pub failures : List (Failure Place)
 
--- A configuration that takes part makes one step of the expansion or has its failure; another stays as it is.
+-- A configuration that takes part makes one step of the expansion or has its failure; another stays
+-- as it is.
 pub data Turn (provenance : Provenance Place) (macros : Macros) (a b : At) : Bool → Type 0 where
   passed : b.live ≡ a.live → b.failures ≡ a.failures → (a.live ≡ true → b.view ≡ a.view) → Turn provenance macros a b false
   over : {takes : Bool} → a.live ≡ false → b.live ≡ false → b.failures ≡ a.failures → Turn provenance macros a b takes

@@ -18,7 +18,8 @@ IsUndefined names macros t = is_identifier_kind t.kind ≡ true → macros (text
 pub record DefinesNone (s : Sets) (names : List (List ℕ)) (macros : List ℕ → Macros) (live : ℕ) (list : List (Cond × Token)) : Type 0 where
   pub none : (c : List ℕ) → IsConfig s.arities c → s.has live c ≡ true → All (IsUndefined names (macros c)) (items_at s list c)
 
--- The list under `live` alone: each element has the configurations of `live` that it had, and is left out where it had none.
+-- The list under `live` alone: each element has the configurations of `live` that it had, and is
+-- left out where it had none.
 pub data IsRestricted {T : Type 0} (s : Sets) (live : ℕ) : List (Cond × T) → List (Cond × T) → Type 0 where
   empty : IsRestricted s live [] []
   kept : (cond : Cond) (item : Cond × T) (list rest : List (Cond × T)) → Denotes s cond.0 (λ c. s.has item.0.0 c && s.has live c) → (IsNever s cond.0 → ⊥)
@@ -37,7 +38,8 @@ pub record IsUncalled (e : Expansion) : Type 0 where
 abbrev pub LooksUpNone : Sets → List (List ℕ) → (List ℕ → Macros) → Expansion → Type 0
 LooksUpNone s names macros e = All (λ item. (c : List ℕ) → IsConfig s.arities c → s.has item.0.0 c ≡ true → s.has e.refusals.live.0 c ≡ true → IsUndefined names (macros c) item.1.token) e.top.work
 
--- first tokens of the list that only refused configurations have are gone, and all else is as it was
+-- first tokens of the list that only refused configurations have are gone, and all else is as it
+-- was
 pub record Drops (s : Sets) (e after : Expansion) : Type 0 where
   pub dropped : List (Cond × Hidden)
   pub work : e.top.work ≡ dropped ++ after.top.work

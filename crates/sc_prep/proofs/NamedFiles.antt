@@ -323,7 +323,8 @@ tail-of : {A : Type 0} (Q : A → Type 0) (b : Bool) (x : A) (xs : List A) → E
 tail-of Q true x xs all = all.1
 tail-of Q false x xs all = all
 
--- what holds of each list that a configuration has holds of an alternative that has the configuration
+-- what holds of each list that a configuration has holds of an alternative that has the
+-- configuration
 in-tokens : (Q : List base.Token → Type 0) (s : Sets) (alternatives : List Alternative) (c : List ℕ) (k : ℕ) (d : Alternative) → Every Q (tokens_in s alternatives c) → k < length alternatives
     → s.has (get_or alternatives k d).cond.0 c ≡ true → Q (get_or alternatives k d).tokens.items
 in-tokens Q s [] c k d all within has = absurd (omega (arith, within))

@@ -404,7 +404,8 @@ changed_macros : (b : Bool) (s : State) (macros : Macros) (name : List ℕ) → 
 changed_macros true s macros name = refl
 changed_macros false s macros name = refl
 
--- Where the line does something, but for a part, the table has other macros behind it, elsewhere those from before.
+-- Where the line does something, but for a part, the table has other macros behind it, elsewhere
+-- those from before.
 pub changes-macros : (names : List (List ℕ)) {old new : Sets} (keeps : Keeps old new) (w : Walk) (owns : Owns old w) (table : MacroTable) (t : List ℕ → Bool) (becomes : Macros → Macros)
     → IsTable new names table
     → ((config : List ℕ) → IsConfig old.arities config → (macros : Macros) → ((name : List ℕ) → macros_at old names w.table config name ≡ macros name)
@@ -473,7 +474,8 @@ accepted-over macros d (Some was) same = by (same_definition was d.definition) r
     by true e = refl
     by false e = absurd (same (same_definition-false was d.definition e))
 
--- where a definition is refused, and else where the line does something, the machine goes as its line says
+-- where a definition is refused, and else where the line does something, the machine goes as its
+-- line says
 pub defines-as : (m : Machine) (l : Line) (macros : Macros) (d : Defined) (t : Bool) → (m.fault ≡ None → macros d.name ≡ m.state.macros d.name)
     → ((t ≡ true) ↔ ((acts m ≡ true) × IsOther d.definition (macros d.name)))
     → refusing_if t (acting_unless t m (λ s. with_macros s (with_macro s.macros d))) l Redefined ≡ changing m l (defined_as m.state.macros (Ok d))

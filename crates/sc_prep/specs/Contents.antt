@@ -50,8 +50,8 @@ pub data IsContent (names files : List (List ℕ)) (name : List ℕ) : Option (L
       → IsContent names files name (Some bytes) (Some (content.Refused cause place))
   nested : (bytes : List ℕ) (found : FileLines) → AreLinesOf names files name bytes found → IsContent names files name (Some bytes) (Some (content.Lines found))
 
--- the tables hold the tokens, which stand in this file as its end does, and their lines are told with
--- their branches
+-- the tables hold the tokens, which stand in this file as its end does, and their lines are told
+-- with their branches
 pub record AreHeldLines (names : List (List ℕ)) (files : ℕ) (file : FileId) (lines : FileLines) : Type 0 where
   pub placed : All (IsPlaced names files) lines.tokens.items
   pub inside : All (λ (t : base.Token). t.place.file ≡ file) lines.tokens.items

@@ -14,7 +14,8 @@ use Rattle.sc_prep.specs.Machine.{Machine}
 abbrev pub failed : Machine → Fault → Machine
 failed m fault = record m { fault = Some fault }
 
--- The text of a line becomes these tokens, each `defined` replaced, or the line is refused at its #.
+-- The text of a line becomes these tokens, each `defined` replaced, or the line is refused at its
+-- #.
 pub data ReplacesAt (text : List Token) (hash : Place) (asked : Bool) (m : Machine) (ts : List Token) : Machine → Type 0 where
   replacing_idle : asked ≡ false → ts ≡ [] → ReplacesAt text hash asked m ts m
   replacing_done : asked ≡ true → without_defined m.state.macros (map unhidden text) ≡ Ok (map unhidden ts) → ReplacesAt text hash asked m ts m

@@ -23,8 +23,8 @@ pub data IsSearched (held : Files) (files candidates : List (List ℕ)) : Option
   absent : search held candidates ≡ None → IsSearched held files candidates None
   present : (file : FileId) (f : File) → search held candidates ≡ Some f → slice_get files file.0 ≡ Some f.name → IsSearched held files candidates (Some file)
 
--- what is found of a configuration's headers, of which it has one at most: its file, or that none is
--- there
+-- what is found of a configuration's headers, of which it has one at most: its file, or that none
+-- is there
 pub data FindsAll (held : Files) (files : List (List ℕ)) (including : List ℕ) (directories : List (List ℕ)) : List Header → List FileId → Bool → Type 0 where
   none : FindsAll held files including directories [] [] false
   missing : (h : Header) → IsSearched held files (candidates (seen_header h) including directories) None → FindsAll held files including directories (h ∷ []) [] true

@@ -34,7 +34,8 @@ pub data Finds (x : Context) (l : Line) (files : List (List ℕ)) (m : Machine) 
       → m.state.depth < x.include_depth → hash_of l ≡ Some hash → search x.files (candidates header m.state.file x.include) ≡ Some f
       → slice_get files file.0 ≡ Some f.name → Finds x l files m (file ∷ []) m
 
--- The file of this name is entered at a depth, where the configuration is one of those that enter it.
+-- The file of this name is entered at a depth, where the configuration is one of those that enter
+-- it.
 pub data EntersAt (x : Context) (name : List ℕ) (depth : ℕ) (m : Machine) : Bool → Machine → Type 0 where
   elsewhere : EntersAt x name depth m false m
   inert : {has : Bool} → acts m ≡ false → EntersAt x name depth m has m

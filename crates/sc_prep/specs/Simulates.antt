@@ -122,8 +122,8 @@ pub record Leads (files names : List (List ℕ)) (old : Sets) (walk : Walk) (mor
   pub at : (config : List ℕ) (m : Machine) → IsConfig old.arities config → Simulates old names files walk config m → from m
       → Arrives new more more_files next config (does config m)
 
--- What holds between the lines of a walk: its conditions are those of the store, and the tables hold
--- the rest.
+-- What holds between the lines of a walk: its conditions are those of the store, and the tables
+-- hold the rest.
 pub record IsReady (s : Sets) (names files : List (List ℕ)) (holds : Option Files) (walk : Walk) (contents : Contents) : Type 0 where
   pub owns : Owns s walk
   pub table : IsTable s names walk.table

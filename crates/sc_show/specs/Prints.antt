@@ -44,8 +44,8 @@ pub record Agrees (s : Sets) (conditions : List Cond) (tests : List Condition) :
   pub long : length tests ≡ length conditions
   pub each : (n : ℕ) (cond : Cond) → slice_get conditions n ≡ Some cond → (c : List ℕ) → IsConfig s.arities c → condition_at tests n c ≡ s.has cond.0 c
 
--- These lines of the text so far, read from the first to the last, give the conditions and the files
--- their numbers.
+-- These lines of the text so far, read from the first to the last, give the conditions and the
+-- files their numbers.
 pub record Prints (space : Space) (s : Sets) (files : List (List ℕ)) (printer : Printer) (lines : List TextLine) : Type 0 where
   pub clear : list_all is_clear lines ≡ true
   pub reading : Reading token_list
