@@ -1,3 +1,4 @@
 pub mod Behind
+pub mod Footprints
 pub mod Lines
 pub mod Pre
