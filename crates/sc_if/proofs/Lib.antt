@@ -10,3 +10,4 @@ pub mod Stacks
 pub mod Pieces
 pub mod Replacements
 pub mod AlikeReplacing
+pub mod DifferentReplacing

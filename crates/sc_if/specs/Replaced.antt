@@ -1,5 +1,5 @@
 -- The line of an #if whose `defined` are replaced, under all configurations at once.
-use Rattle.std.specs.Prelude.{◌≡◌, ℕ, ◌<◌, List, [], ◌∷◌, ◌++◌, All, Result, Ok, Err, length, codes, if◌then◌else◌, is_some}
+use Rattle.std.specs.Prelude.{◌≡◌, ℕ, ◌<◌, List, [], ◌∷◌, ◌++◌, All, AllPairs, Result, Ok, Err, length, codes, if◌then◌else◌, is_some}
 use Rattle.c11_expressions.specs.Lines.{definedness, failure}
 use Rattle.c11_macros.specs.Hidden.{Failure, Hidden, no_names}
 use Rattle.c11_macros.specs.Macros.{Macros}
@@ -58,6 +58,11 @@ abbrev pub IsHeldPiece : List (List ℕ) → Piece → Type 0
 IsHeldPiece names (piece.Token t) = IsHeld names t
 IsHeldPiece names (piece.Defined t name) = IsHeld names t × IsHeld names name
 
+-- where its first token stands
+abbrev pub place_of : Piece → Place
+place_of (piece.Token t) = t.place
+place_of (piece.Defined t name) = t.place
+
 abbrev pub IsPlacedPiece : ℕ → Piece → Type 0
 IsPlacedPiece files (piece.Token t) = t.place.file.0 < files
 IsPlacedPiece files (piece.Defined t name) = t.place.file.0 < files
@@ -77,3 +82,11 @@ as_number t digit = record { kind = Number; name = digit; spelling = digit; spac
 abbrev pub token_for : Name → Name → Macros → List (List ℕ) → Piece → Token
 token_for one zero macros names (piece.Token t) = t
 token_for one zero macros names (piece.Defined t name) = as_number t (if is_some (macros (text_at names name.spelling.0)) then one else zero)
+
+-- One list has the items of another, and then some that stand at this place and are spelled
+-- differently.
+pub record Adds (names : List (List ℕ)) (place : Place) (list longer : List (Cond × Token)) : Type 0 where
+  pub more : List (Cond × Token)
+  pub is : longer ≡ list ++ more
+  pub here : All (λ item. item.1.place ≡ place) more
+  pub different : AllPairs (λ a b. text_at names a.1.spelling.0 ≡ text_at names b.1.spelling.0 → ⊥) more

@@ -1,12 +1,12 @@
 //! What the line of an `#if` consists of: tokens that stay, and each `defined` with its name.
-ghost use Rattle.std.specs.Prelude.{◌≡◌, ◌<◌, ℕ, ◌∷◌, List, true, All, Ok, Err, map, IfNone, IfOk, IfSome};
+ghost use Rattle.std.specs.Prelude.{◌≡◌, ◌<◌, ℕ, ◌∷◌, List, true, All, AllPairs, Ok, Err, map, IfNone, IfOk, IfSome};
 ghost use Rattle.c11_expressions.specs.Lines as lines;
 ghost use Rattle.c11_expressions.specs.Lines.{before, definedness, without_defined};
 ghost use Rattle.c11_macros.specs.Hidden.{Hidden};
 ghost use Rattle.c11_macros.specs.Macros.{Macros};
 ghost use Rattle.sc_base.specs.declared.place.Place as declared_place;
-ghost use Rattle.sc_base.specs.Seen.{IsHeld, text_at};
-ghost use Rattle.sc_if.specs.Replaced.{IsEnd, IsHeldPiece, IsPlacedPiece, seen_piece, unhidden};
+ghost use Rattle.sc_base.specs.Seen.{IsHeld, position_of, text_at};
+ghost use Rattle.sc_if.specs.Replaced.{IsEnd, IsHeldPiece, IsPlacedPiece, place_of, seen_piece, unhidden};
 ghost use Rattle.sc_model.specs.Bytes.{same_bytes};
 ghost use Rattle.sc_model.specs.declared.cause.Cause.TheVariants.{BadIf};
 
@@ -32,6 +32,8 @@ pub(crate) fn pieces(
     ensures some { IfOk result (λ read. IfSome read (λ pieces. (macros : Macros) → without_defined macros (map (unhidden names.now) line.now) ≡ Ok (map (seen_piece macros names.now) pieces.items))) }
     ensures held { IfOk result (λ read. IfSome read (λ pieces. All (IsHeldPiece names.now) pieces.items)) }
     ensures placed { IfOk result (λ read. IfSome read (λ pieces. (files : ℕ) → All (λ t. t.place.file.0 < files) line.now → All (IsPlacedPiece files) pieces.items)) }
+    ensures apart { IfOk result (λ read. IfSome read (λ pieces. AllPairs (λ t u. position_of t.place ≡ position_of u.place → ⊥) line.now
+        → AllPairs (λ p q. position_of (place_of p) ≡ position_of (place_of q) → ⊥) pieces.items)) }
     ensures none { IfOk result (λ read. IfNone read ((macros : Macros) → without_defined macros (map (unhidden names.now) line.now) ≡ Err BadIf)) }
 {
     let mut pieces = Vec::new(alloc);
@@ -55,6 +57,7 @@ fn first_piece<'a>(names: &Names, token: Token, behind: &'a [Token]) -> Option<(
     ensures some { IfSome result (λ read. (macros : Macros) → without_defined macros (map (unhidden names.now) (token ∷ behind.now)) ≡ before (seen_piece macros names.now read.0) (without_defined macros (map (unhidden names.now) read.1.now))) }
     ensures held { IfSome result (λ read. IsHeldPiece names.now read.0) }
     ensures part { IfSome result (λ read. IsEnd read.1.now behind.now) }
+    ensures place { IfSome result (λ read. place_of read.0 ≡ token.place) }
     ensures placed { IfSome result (λ read. (files : ℕ) → token.place.file.0 < files → IsPlacedPiece files read.0) }
     ensures none { IfNone result ((macros : Macros) → without_defined macros (map (unhidden names.now) (token ∷ behind.now)) ≡ Err BadIf) }
 {

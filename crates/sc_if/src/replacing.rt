@@ -1,11 +1,11 @@
 //! The `defined` of a line, replaced under all configurations at once (C11 6.10.1p1, p4).
-ghost use Rattle.std.specs.Prelude.{◌≡◌, ◌<◌, ◌++◌, ◌∷◌, [], ℕ, List, true, false, All, map, if◌then◌else◌, IfErr, IfOk, OnOk};
+ghost use Rattle.std.specs.Prelude.{◌≡◌, ◌<◌, ◌⊎◌, ◌++◌, ◌∷◌, [], ℕ, List, true, false, All, AllPairs, map, if◌then◌else◌, IfErr, IfOk, OnOk};
 ghost use Rattle.c11_expressions.specs.Lines.{without_defined};
 ghost use Rattle.sc_base.specs.declared.stop.Stop.TheVariants as stop;
-ghost use Rattle.sc_base.specs.Seen.{IsHeld};
+ghost use Rattle.sc_base.specs.Seen.{IsHeld, position_of, seen};
 ghost use Rattle.sc_guarded.specs.Items.{faults_at, items_at};
 ghost use Rattle.sc_hoist.specs.Alike.{AreAlike, AreAlikeFaults, IsAlike};
-ghost use Rattle.sc_if.specs.Replaced.{AreDigits, IsHeldList, IsHeldPiece, IsKeptTable, IsPlacedPiece, Stands, as_number, seen_failure, seen_piece, token_for, unhidden};
+ghost use Rattle.sc_if.specs.Replaced.{Adds, AreDigits, IsHeldList, IsHeldPiece, IsKeptTable, IsPlacedPiece, Stands, as_number, place_of, seen_failure, seen_piece, token_for, unhidden};
 ghost use Rattle.sc_model.specs.declared.cause.Cause.TheVariants.{BadIf};
 ghost use Rattle.sc_model.specs.Growth.{Extends};
 ghost use Rattle.sc_model.specs.Sets.{IsConfig, IsCond, Keeps};
@@ -50,6 +50,8 @@ pub fn replace_defined<C: Conditions>(
     ensures placed { IfOk result (λ e. (files : ℕ) → All (λ t. t.place.file.0 < files) line.now → All (λ item. item.1.place.file.0 < files) e.list) }
     ensures faults_own { IfOk result (λ e. All (λ f. IsCond (C.sets conds.new) f.cond.0) e.faults.items) }
     ensures faults_placed { IfOk result (λ e. All (λ f. f.place ≡ hash) e.faults.items) }
+    ensures different { IfOk result (λ e. (files : List (List ℕ)) → AllPairs (λ t u. position_of t.place ≡ position_of u.place → ⊥) line.now
+        → AllPairs (λ a b. seen names.new files a.1 ≡ seen names.new files b.1 → ⊥) e.list) }
     ensures memory { IfErr result (λ refusal. refusal ≡ stop.OutOfMemory) }
     ensures alike { IfOk result (λ e. (c d : List ℕ) → IsConfig (C.sets conds.old).arities c → IsConfig (C.sets conds.old).arities d → (C.sets conds.old).has live.0 c ≡ true → (C.sets conds.old).has live.0 d ≡ true
         → without_defined (macros_at (C.sets conds.old) names.old table.old c) (map (unhidden names.old) line.now) ≡ without_defined (macros_at (C.sets conds.old) names.old table.old d) (map (unhidden names.old) line.now)
@@ -121,6 +123,8 @@ fn replaced<C: Conditions>(
         → items_at (C.sets conds.new) list c
         ≡ (if (C.sets conds.old).has live.0 c then map (token_for digits.one digits.zero (macros_at (C.sets conds.old) names.now table.old c) names.now) pieces.now else [])) }
     ensures list { IfOk result (λ list. IsHeldList (C.sets conds.new) names.now list) }
+    ensures different { IfOk result (λ list. (files : List (List ℕ)) → AllPairs (λ p q. position_of (place_of p) ≡ position_of (place_of q) → ⊥) pieces.now
+        → AllPairs (λ a b. seen names.now files a.1 ≡ seen names.now files b.1 → ⊥) list) }
     ensures placed { IfOk result (λ list. (files : ℕ) → All (IsPlacedPiece files) pieces.now → All (λ item. item.1.place.file.0 < files) list) }
     ensures memory { IfErr result (λ refusal. refusal ≡ stop.OutOfMemory) }
     ensures alike { IfOk result (λ list. (c d : List ℕ) → IsConfig (C.sets conds.old).arities c → IsConfig (C.sets conds.old).arities d → IsAlike (C.sets conds.old) c d live
@@ -159,6 +163,7 @@ fn put<C: Conditions>(
         → items_at (C.sets conds.new) list.new c ≡ items_at (C.sets conds.old) list.old c
         ++ (if (C.sets conds.old).has live.0 c then token_for digits.one digits.zero (macros_at (C.sets conds.old) names.now table.old c) names.now piece ∷ [] else [])) }
     ensures list { OnOk result (IsHeldList (C.sets conds.new) names.now list.new) }
+    ensures adds { OnOk result (Adds names.now (place_of piece) list.old list.new) }
     ensures placed { OnOk result ((files : ℕ) → IsPlacedPiece files piece → All (λ item. item.1.place.file.0 < files) list.old → All (λ item. item.1.place.file.0 < files) list.new) }
     ensures memory { IfErr result (λ refusal. refusal ≡ stop.OutOfMemory) }
     ensures alike { OnOk result ((c d : List ℕ) → IsConfig (C.sets conds.old).arities c → IsConfig (C.sets conds.old).arities d → IsAlike (C.sets conds.old) c d live
@@ -196,6 +201,7 @@ fn put_number<C: Conditions>(
         → items_at (C.sets conds.new) list.new c ≡ items_at (C.sets conds.old) list.old c
         ++ (if (C.sets conds.old).has live.0 c then as_number token (if (C.sets conds.old).has defined.0 c then digits.one else digits.zero) ∷ [] else [])) }
     ensures list { OnOk result ((names : List (List ℕ)) → AreDigits names digits.one digits.zero → IsHeldList (C.sets conds.old) names list.old → IsHeldList (C.sets conds.new) names list.new) }
+    ensures adds { OnOk result ((names : List (List ℕ)) → AreDigits names digits.one digits.zero → Adds names token.place list.old list.new) }
     ensures placed { OnOk result ((files : ℕ) → token.place.file.0 < files → All (λ item. item.1.place.file.0 < files) list.old → All (λ item. item.1.place.file.0 < files) list.new) }
     ensures alike { OnOk result ((c d : List ℕ) → IsConfig (C.sets conds.old).arities c → IsConfig (C.sets conds.old).arities d → IsAlike (C.sets conds.old) c d live → ((C.sets conds.old).has live.0 c ≡ true → IsAlike (C.sets conds.old) c d defined)
         → AreAlike (C.sets conds.old) c d list.old → AreAlike (C.sets conds.new) c d list.new) }
@@ -235,6 +241,7 @@ fn push<C: Conditions>(
     ensures at { OnOk result ((c : List ℕ) → IsConfig (C.sets conds.now).arities c
         → items_at (C.sets conds.now) list.new c ≡ items_at (C.sets conds.now) list.old c ++ (if (C.sets conds.now).has cond.0 c then token ∷ [] else [])) }
     ensures list { OnOk result ((names : List (List ℕ)) → IsHeld names token → IsHeldList (C.sets conds.now) names list.old → IsHeldList (C.sets conds.now) names list.new) }
+    ensures adds { OnOk result ((list.new ≡ list.old) ⊎ (list.new ≡ list.old ++ (cond, token) ∷ [])) }
     ensures placed { OnOk result ((files : ℕ) → token.place.file.0 < files → All (λ item. item.1.place.file.0 < files) list.old → All (λ item. item.1.place.file.0 < files) list.new) }
     ensures alike { OnOk result ((c d : List ℕ) → IsAlike (C.sets conds.now) c d cond → AreAlike (C.sets conds.now) c d list.old → AreAlike (C.sets conds.now) c d list.new) }
 {

@@ -3,6 +3,8 @@ use Rattle.c11_expressions.specs.Lines.{without_defined}
 use Rattle.std.proofs.lemmas.List.Elements.{All-head, All-push, All-tail}
 use Rattle.sc_base.specs.declared.token.Token.{Token}
 use Rattle.sc_base.specs.Seen.{IsHeld}
+use Rattle.std.specs.Prelude.{AllPairs}
+use Rattle.sc_if.proofs.DifferentReplacing.{AreApart, IsElsewhere, apart-step}
 use Rattle.sc_if.proofs.Pieces.{All-end, IsEnd-step, after, reading-step}
 use Rattle.sc_if.specs.Replaced.{IsHeldPiece, IsPlacedPiece, seen_piece, unhidden}
 use Rattle.sc_if.proofs.piece.pieces.Goals as goal
@@ -34,6 +36,8 @@ loop-token-preserved c =
       reads = λ macros. reading-step macros names token piece was line rest behind left (c.loop-token.invariant.reads macros) is (c.in-Some-first_piece.ensures.some macros)
           ∙ ap (λ xs. after (map (seen_piece macros names) xs) (without_defined macros (map (unhidden names) left))) (sym pushed);
       held = subst (All (IsHeldPiece names)) (sym pushed) (All-push (IsHeldPiece names) was piece c.loop-token.invariant.held c.in-Some-first_piece.ensures.held);
+      apart = λ apart. subst (λ xs. AllPairs AreApart xs × All (IsElsewhere left) xs) (sym pushed)
+          (apart-step line rest behind left token piece was c.loop-token.invariant.part is c.in-Some-first_piece.ensures.part c.in-Some-first_piece.ensures.place apart (c.loop-token.invariant.apart apart));
       placed = λ files placed.
           let Placed : Token → Type 0 = λ t. t.place.file.0 < files in
           let here = All-head Placed token behind (subst (All Placed) is (All-end Placed rest line c.loop-token.invariant.part placed)) in

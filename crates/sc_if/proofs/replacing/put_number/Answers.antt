@@ -3,6 +3,7 @@ use Rattle.sc_base.specs.Seen.{IsHeld}
 use Rattle.sc_if.proofs.AlikeReplacing.{AreAlike-Keeps, both-same}
 use Rattle.sc_if.proofs.Replacements.{IsHeldList-Keeps, both-added, number-held}
 use Rattle.sc_model.proofs.SetLemmas.{Denotes-Keeps, Denotes-self, IsConfig-Keeps, Keeps-trans}
+use Rattle.sc_if.proofs.DifferentReplacing.{number-adds}
 use Rattle.sc_if.proofs.replacing.put_number.Goals as goal
 
 pub returns-in_err-push-2-clause-keeps : goal.returns-in_err-push-2-clause-keeps
@@ -54,3 +55,8 @@ returns-clause-alike g c = λ x y p q live_alike defined_alike list_alike.
     let no = c.in_ok-without.ensures.meaning _ _ (Denotes-Keeps (Keeps-trans one two) live) (c.in_ok-undefined.ensures.meaning _ (Denotes-Keeps one defined)) in
     c.in_ok-push-2.ensures.alike x y (no.at x here ∙ (both-same live_alike (λ is. ap not (defined_alike is)) ∙ sym (no.at y there)))
     (c.in_ok-push.ensures.alike x y (yes.at x here ∙ (both-same live_alike defined_alike ∙ sym (yes.at y there))) (AreAlike-Keeps keeps p q c.args.list.now c.requires.list list_alike))
+
+pub returns-clause-adds : goal.returns-clause-adds
+returns-clause-adds g c = λ names digits.
+    number-adds names c.args.digits.one c.args.digits.zero c.args.token c.number.result c.number-2.result c.in_ok-with.with c.in_ok-without.without c.args.list.now c.push.new.list c.push-2.new.list
+    digits c.number.ensures c.number-2.ensures c.in_ok-push.ensures.adds c.in_ok-push-2.ensures.adds

@@ -13,6 +13,9 @@ use Rattle.sc_if.specs.Replaced.{IsPlacedPiece, Stands, seen_failure, seen_piece
 use Rattle.sc_model.specs.declared.cause.Cause.TheVariants.{BadIf}
 use Rattle.sc_table.proofs.Growth.{IsTable-Extends, macros_at-Extends}
 use Rattle.sc_table.specs.Table.{macros_at}
+use Rattle.sc_base.specs.Seen.{seen}
+use Rattle.std.specs.Prelude.{AllPairs}
+use Rattle.sc_if.proofs.DifferentReplacing.{AreApart, no-pairs}
 use Rattle.sc_if.proofs.replacing.replace_defined.Goals as goal
 
 pub pieces-requires : goal.pieces-requires
@@ -123,3 +126,12 @@ returns-in_ok-refused-in-None-clause-alike g c = λ x y p q live_x live_y same.
       subst (AreAlike old x y) (sym c.in_ok-refused-in-None.ensures.list) (All-nil (λ (item : Cond × Token). IsAlike old x y item.0)),
       subst (All Same) (sym c.in_ok-refused-in-None.ensures.faults) (All-cons Same (record { cond = c.args.live; cause = BadIf; place = c.args.hash }) [] (live_x ∙ sym live_y) (All-nil Same)),
     )
+
+pub returns-in_ok-list-in-Some-clause-different : goal.returns-in_ok-list-in-Some-clause-different
+returns-in_ok-list-in-Some-clause-different g c = λ files apart.
+    let told = rw c.in-Some.is at c.in_ok-pieces.ensures.apart in
+    c.in_ok-list-in-Some.ensures.different files (subst (AllPairs AreApart) (sym c.deref.ensures.value) (told apart))
+
+pub returns-in_ok-refused-in-None-clause-different : goal.returns-in_ok-refused-in-None-clause-different
+returns-in_ok-refused-in-None-clause-different g c = λ files apart.
+    no-pairs (λ (a b : Cond × Token). seen c.intern_digits.new.names files a.1 ≡ seen c.intern_digits.new.names files b.1 → ⊥) c.in_ok-refused-in-None.field-0.list c.in_ok-refused-in-None.ensures.list

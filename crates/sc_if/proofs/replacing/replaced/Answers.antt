@@ -3,6 +3,7 @@ use Rattle.sc_if.proofs.AlikeReplacing.{IsAlike-Keeps, pieces-told}
 use Rattle.sc_if.proofs.Replacements.{loop-at, still-trans}
 use Rattle.sc_model.proofs.SetLemmas.{IsConfig-Keeps, Keeps-trans}
 use Rattle.sc_table.specs.Table.{macros_at}
+use Rattle.sc_if.proofs.DifferentReplacing.{different-step, stands-step}
 use Rattle.sc_if.proofs.replacing.replaced.Goals as goal
 
 pub returns-in_err-put-clause-keeps : goal.returns-in_err-put-clause-keeps
@@ -23,6 +24,8 @@ loop-piece-preserved g c =
       still = still-trans old mid new names c.args.table.now c.loop-piece.table c.put.new.table was.keeps was.still c.put.ensures.still;
       list = c.in_ok-put.ensures.list;
       placed = λ files placed. c.in_ok-put.ensures.placed files (placed _ _ c.loop-piece-test.true) (was.placed files placed);
+      stands = stands-step names pieces i _ c.loop-piece-test.true c.loop-piece.list c.put.new.list c.in_ok-put.ensures.adds was.stands;
+      different = λ files apart. different-step names pieces i _ c.loop-piece-test.true c.loop-piece.list c.put.new.list c.in_ok-put.ensures.adds was.stands files apart (was.different files apart);
       at = λ x listed. loop-at old mid new names c.args.table.now c.loop-piece.table c.args.digits.one c.args.digits.zero c.args.live pieces i _ c.loop-piece.list c.put.new.list x
           was.keeps was.still c.requires.live_own listed c.loop-piece-test.true (was.at x listed) (c.in_ok-put.ensures.at x (IsConfig-Keeps was.keeps listed));
       alike = λ x y p q live same.
