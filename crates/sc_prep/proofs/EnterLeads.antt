@@ -1,5 +1,5 @@
 -- What a walk that enters a file leads to at each configuration.
-use Rattle.std.proofs.Common.{◌≡◌, ℕ, ◌<◌, ◌&&◌, Bool, true, false, List, [], ◌∷◌, All, map, reverse, length, Option, Some, Result, Ok, Err, refl, sym, ap, ◌∙◌, subst}
+use Rattle.std.proofs.Common.{◌≡◌, ℕ, ◌<◌, ◌&&◌, Bool, true, false, List, [], ◌∷◌, All, map, reverse, length, Option, None, Some, Result, Ok, Err, refl, sym, ap, ◌∙◌, subst}
 use Rattle.std.proofs.lemmas.Bool.{and_parts}
 use Rattle.std.specs.Prelude.{slice_get}
 use Rattle.c11_directives.specs.Lines.{c11_directive_names, lines_of}
@@ -9,8 +9,8 @@ use Rattle.sc_base.specs.declared.fault.Fault as base
 use Rattle.sc_base.specs.declared.id.Cond.{Cond}
 use Rattle.sc_base.specs.declared.id.FileId.{FileId}
 use Rattle.sc_base.specs.declared.place.Place.{Place}
-use Rattle.sc_base.specs.Seen.{text_at}
-use Rattle.sc_guarded.specs.Items.{seen_fault}
+use Rattle.sc_base.specs.Seen.{seen, text_at}
+use Rattle.sc_guarded.specs.Items.{items_at, seen_fault}
 use Rattle.sc_lines.specs.Nests.{seen_lines}
 use Rattle.sc_model.proofs.SetLemmas.{IsConfig-Keeps, IsConfig-kept, Keeps-trans}
 use Rattle.sc_model.specs.declared.cause.Cause.{Cause}
@@ -18,18 +18,21 @@ use Rattle.sc_model.specs.Bytes.{has_no_newline}
 use Rattle.sc_model.specs.Fault.{Fault}
 use Rattle.sc_model.specs.Outside.{Files}
 use Rattle.sc_model.specs.Sets.{Sets, IsConfig, IsCond, IsNever, Denotes, Keeps}
-use Rattle.sc_model.specs.Token.{in_file}
-use Rattle.sc_prep.proofs.EnterMoves.{acts-unfaulty, arrived-at, begins-idle, begins-start, entering, idle, not-entered, refused-at, refused-here, refused-not, refuses-inside, resumes}
+use Rattle.sc_model.specs.Growth.{Extends}
+use Rattle.sc_model.specs.Token.{Token, in_file}
+use Rattle.sc_prep.proofs.BetweenRuns.{enters-run}
+use Rattle.sc_prep.proofs.EnterMoves.{acts-unfaulty, arrived-at, begins-idle, begins-start, entering, idle, not-entered, refused-at, refused-here, refused-not, refuses-inside, resumed, resumes}
 use Rattle.sc_prep.proofs.FileWalk.{LeftBy, covers-entered, covers-idle}
+use Rattle.sc_prep.proofs.NamedFiles.{simulates-later}
 use Rattle.sc_prep.proofs.WalkMoves.{owns-kept, sections-kept, simulates-kept}
 use Rattle.sc_prep.specs.Closes.{RefusesEach}
 use Rattle.sc_prep.specs.Contents.{Agrees, AreContents, AreHeldLines, AreLinesOf, IsContent, IsHeldContent, RefusesAll, content_at, nested, refused}
 use Rattle.sc_prep.specs.Entering.{Begins, Leaves}
 use Rattle.sc_prep.specs.Includes.{EntersAt, enters}
 use Rattle.sc_prep.specs.Machine.{Machine, acts, arriving, start}
-use Rattle.sc_prep.specs.Printable.{AllPass, IsPlainState, is_plain}
+use Rattle.sc_prep.specs.Printable.{AllPass, IsHeldWalk, IsPlainState, any_token, is_plain}
 use Rattle.sc_prep.specs.Simulates as simulates
-use Rattle.sc_prep.specs.Simulates.{Arrives, Covers, IsAtTop, Leads, Owns, OwnsSection, PlainEach, Simulates, section_at}
+use Rattle.sc_prep.specs.Simulates.{Arrives, Covers, IsAtTop, IsBetweenRuns, Leads, Owns, OwnsSection, PlainEach, Simulates, section_at}
 use Rattle.sc_prep.specs.declared.content.Content.{Content}
 use Rattle.sc_prep.specs.declared.content.Content.TheVariants as content
 use Rattle.sc_prep.specs.declared.content.Contents.{Contents}
@@ -70,13 +73,13 @@ module _ {old mid : Sets} {names : List (List ℕ)} {w : Walk} {within : Cond} (
   EntersFile x config m n = EntersAt x (text_at files entry.file.0) entry.depth m (old.has cond.0 config) n
 
   module _ (config : List ℕ) (m : Machine) (listed : IsConfig old.arities config) (at : Simulates old names files w config m) where
-    stays : Simulates mid names files w config m
+    pub stays : Simulates mid names files w config m
     stays = simulates-kept keeps w owns names files config m listed is at
 
     within-is : mid.has within.0 config ≡ (old.has cond.0 config && acts m)
     within-is = inside_is.at config (IsConfig-Keeps keeps listed) ∙ ap (λ b. old.has cond.0 config && b) at.acting
 
-    both-enter : mid.has within.0 config ≡ true → (old.has cond.0 config ≡ true) × (acts m ≡ true)
+    pub both-enter : mid.has within.0 config ≡ true → (old.has cond.0 config ≡ true) × (acts m ≡ true)
     both-enter here = and_parts (old.has cond.0 config) (acts m) (sym within-is ∙ here)
 
     enters-not : (x : Context) → mid.has within.0 config ≡ false → EntersFile x config m m
@@ -90,7 +93,7 @@ module _ {old mid : Sets} {names : List (List ℕ)} {w : Walk} {within : Cond} (
         (enters (file_with name bytes) e both.1 (sym named) (ap x.files named ∙ there) walks)
 
   -- no configuration enters it
-  pub leads-nowhere : (x : Context) → IsNever mid within.0 → Leads files names old w files names mid w (λ m. Unit {0}) (EntersFile x)
+  pub leads-nowhere : (x : Context) → IsNever mid within.0 → Leads files names old w files names mid w IsBetweenRuns (EntersFile x)
   leads-nowhere x never = record {
     at = λ config m listed at here.
         record { machine = m; done = enters-not config m listed at x (never.none config (IsConfig-Keeps keeps listed)); simulates = stays config m listed at };
@@ -120,7 +123,7 @@ module _ {old mid : Sets} {names : List (List ℕ)} {w : Walk} {within : Cond} (
       simulates = refused-not later names files w next fault refuses (owns-kept keeps w owns) (IsTable-Keeps keeps is) config (IsConfig-Keeps keeps listed) m (stays config m listed at) inside_is.own out;
     }
 
-    pub leads-refused : Leads files names old w files names new next (λ m. Unit {0}) (EntersFile x)
+    pub leads-refused : Leads files names old w files names new next IsBetweenRuns (EntersFile x)
     leads-refused = record { at = λ config m listed at here. refused-by config m listed at (mid.has within.0 config) refl }
 
   -- its lines are walked
@@ -139,7 +142,7 @@ module _ {old mid : Sets} {names : List (List ℕ)} {w : Walk} {within : Cond} (
     around-sections = subst (λ (a : Around). All (OwnsSection last) a.sections.items) (sym begins.around_is) kept.sections
 
     -- ---- at one configuration
-    module _ (walked_owns : Owns last walked) (walked_is : IsTable last more walked.table) (x : Context) (standard : x.standard ≡ c11) (lines : FileLines)
+    module _ (grows : Extends names more) (files_grow : Extends files more_files) (held : IsHeldWalk names (length files) any_token w) (walked_owns : Owns last walked) (walked_is : IsTable last more walked.table) (x : Context) (standard : x.standard ≡ c11) (lines : FileLines)
         (named : slice_get files entry.file.0 ≡ Some (text_at files entry.file.0)) (has : HasLines names files (text_at files entry.file.0) (x.files (text_at files entry.file.0)) lines)
         (walks : Leads files names mid begun more_files more last walked (IsAtTop files entry) (λ config m n. Covers x (seen_lines names files lines.tokens.items) m n)) where
       abbrev file : File
@@ -162,23 +165,32 @@ module _ {old mid : Sets} {names : List (List ℕ)} {w : Walk} {within : Cond} (
         abbrev first : State
         first = entering entry.depth (text_at files entry.file.0) m.state
 
-        -- the machine behind the file
-        goes-on : (n : Machine) → Simulates last more more_files walked config n
-            → Simulates new more more_files next config (record n { active = m.active; sections = m.sections; state = back m.state n.state })
-        goes-on n there =
-            resumes latest more more_files walked next around leaves walked_owns walked_is around-group around-sections config (IsConfig-Keeps whole listed) m n there
-            group-then sections-then
+        -- what was gathered around the file
+        waiting : m.fault ≡ None → map (seen more more_files) (items_at new around.gathered config) ≡ m.state.run
+        waiting none =
+            let all = Keeps-trans whole latest in
+            ap (λ (a : Around). map (seen more more_files) (items_at new a.gathered config)) begins.around_is
+            ∙ (simulates-later grows files_grow new w config m (IsTable-Keeps all is) held (simulates-kept all w owns names files config m listed is at)).run none
 
-        left-by : (n : Machine) → Simulates last more more_files walked config n → mid.has within.0 config ≡ true → (e : Result State Fault)
+        -- the machine behind the file
+        goes-on : (n : Machine) → Simulates last more more_files walked config n → (run : List Token) → (n.fault ≡ None → m.fault ≡ None) → m.state.run ≡ run
+            → Simulates new more more_files next config (resumed m n run)
+        goes-on n there run unfaulty is_run =
+            resumes latest more more_files walked next around leaves walked_owns walked_is around-group around-sections config (IsConfig-Keeps whole listed) m n there
+            group-then sections-then run (λ none. waiting (unfaulty none) ∙ is_run)
+
+        left-by : IsBetweenRuns m → (n : Machine) → Simulates last more more_files walked config n → mid.has within.0 config ≡ true → (e : Result State Fault)
             → Enters x file (record m.state { depth = entry.depth }) e → LeftBy e n → Arrives new more more_files next config (EntersFile x config m)
-        left-by n there here (Ok t) entered left =
+        left-by between n there here (Ok t) entered left =
             let both = both-enter config m listed at here in
+            let unrun : n.state.run ≡ [] = ap (λ (k : Machine). k.state.run) left ∙ enters-run entered in
             record {
               machine = arriving m (Ok (back m.state t));
               done = enters-file config m listed at x (text_at files entry.file.0) has.bytes refl has.is (Ok t) entered here;
-              simulates = subst (Simulates new more more_files next config) (arrived-at x (text_at files entry.file.0) entry.depth m n t both.1 left) (goes-on n there);
+              simulates = subst (Simulates new more more_files next config) (arrived-at x (text_at files entry.file.0) entry.depth m n t both.1 left)
+                  (goes-on n there n.state.run (λ none. acts-unfaulty m both.1) (between both.1 ∙ sym unrun));
             }
-        left-by n there here (Err fault) entered left =
+        left-by between n there here (Err fault) entered left =
             let both = both-enter config m listed at here in
             record {
               machine = arriving m (Err fault);
@@ -188,25 +200,25 @@ module _ {old mid : Sets} {names : List (List ℕ)} {w : Walk} {within : Cond} (
                   group-then sections-then fault left.fault_is);
             }
 
-        entered-by : (b : Bool) → mid.has within.0 config ≡ b → Arrives new more more_files next config (EntersFile x config m)
-        entered-by true here =
+        entered-by : IsBetweenRuns m → (b : Bool) → mid.has within.0 config ≡ b → Arrives new more more_files next config (EntersFile x config m)
+        entered-by between true here =
             let both = both-enter config m listed at here in
-            let begun_at = begins-start mid names files w begun within around config m begins (stays config m listed at) here both.1 entry.depth (text_at files entry.file.0) in
+            let begun_at = begins-start mid names files w begun within around config m begins (stays config m listed at) here both.1 between entry.depth (text_at files entry.file.0) in
             let after = walks.at config (start first) (IsConfig-Keeps keeps listed) begun_at (simulates.begins first refl (record { name = named; deep = refl })) in
             let entered = covers-entered x file (record m.state { depth = entry.depth }) has.are.lexemes has.are.group has.are.few has.are.lexed lines-are has.are.tree after.done in
-            left-by after.machine after.simulates here entered.end entered.enters entered.leaves
-        entered-by false out =
+            left-by between after.machine after.simulates here entered.end entered.enters entered.leaves
+        entered-by between false out =
             let after = walks.at config (idle m) (IsConfig-Keeps keeps listed) (begins-idle mid names files w begun within around config m begins (stays config m listed at) out) (simulates.idles refl refl) in
             let still : after.machine ≡ idle m = covers-idle (idle m) has.are.tree refl after.done in
             record {
               machine = m;
               done = enters-not config m listed at x out;
-              simulates = subst (λ (k : Machine). Simulates new more more_files next config (record k { active = m.active; sections = m.sections; state = back m.state k.state })) still
-                  (goes-on after.machine after.simulates);
+              simulates = subst (λ (k : Machine). Simulates new more more_files next config (resumed m k m.state.run)) still
+                  (goes-on after.machine after.simulates m.state.run (λ none. ap (λ (k : Machine). k.fault) (sym still) ∙ none) refl);
             }
 
-      pub leads-inside : Leads files names old w more_files more new next (λ m. Unit {0}) (EntersFile x)
-      leads-inside = record { at = λ config m listed at here. entered-by config m listed at (mid.has within.0 config) refl }
+      pub leads-inside : Leads files names old w more_files more new next IsBetweenRuns (EntersFile x)
+      leads-inside = record { at = λ config m listed at here. entered-by config m listed at here (mid.has within.0 config) refl }
 
     -- ---- what is put out in the file
 
@@ -217,26 +229,30 @@ module _ {old mid : Sets} {names : List (List ℕ)} {w : Walk} {within : Cond} (
     left-list = ap (λ (v : Walk). v.prepared.list) leaves.is
 
     pub begun-plain : slice_get files entry.file.0 ≡ Some (text_at files entry.file.0) → has_no_newline (text_at files entry.file.0) ≡ true
-        → PlainEach old names files w (λ m. Unit {0}) → PlainEach mid names files begun (IsAtTop files entry)
+        → PlainEach old names files w IsBetweenRuns → PlainEach mid names files begun (IsAtTop files entry)
     begun-plain named path plain = record {
       each = λ config listed.
           let was = IsConfig-kept keeps listed in
           let at = plain.each config was in
-          by config was at.0 at.1 at.3 (mid.has within.0 config) refl;
+          by config was at.0 at.1 at.2 at.3 (mid.has within.0 config) refl;
     }
       where
-        by : (config : List ℕ) → IsConfig old.arities config → (m : Machine) → Simulates old names files w config m → IsPlainState m.state → (b : Bool) → mid.has within.0 config ≡ b
+        by : (config : List ℕ) → IsConfig old.arities config → (m : Machine) → Simulates old names files w config m → IsBetweenRuns m → IsPlainState m.state → (b : Bool) → mid.has within.0 config ≡ b
             → (n : Machine) × Simulates mid names files begun config n × IsAtTop files entry n × IsPlainState n.state
-        by config was m at state true here =
+        by config was m at between state true here =
             let both = both-enter config m was at here in
             let first = entering entry.depth (text_at files entry.file.0) m.state in (
               start first,
-              begins-start mid names files w begun within around config m begins (stays config m was at) here both.1 entry.depth (text_at files entry.file.0),
+              begins-start mid names files w begun within around config m begins (stays config m was at) here both.1 between entry.depth (text_at files entry.file.0),
               simulates.begins first refl (record { name = named; deep = refl }),
               record { macros = state.macros; run = state.run; file = path },
             )
-        by config was m at state false out =
-            (idle m, begins-idle mid names files w begun within around config m begins (stays config m was at) out, simulates.idles refl refl, state)
+        by config was m at between state false out = (
+          idle m,
+          begins-idle mid names files w begun within around config m begins (stays config m was at) out,
+          simulates.idles refl refl,
+          record { macros = state.macros; run = tt; file = state.file },
+        )
 
     pub left-plain : (more_names : List (List ℕ)) → (AllPass (is_plain names) begun.prepared.list → AllPass (is_plain more_names) walked.prepared.list)
         → AllPass (is_plain names) w.prepared.list → AllPass (is_plain more_names) next.prepared.list

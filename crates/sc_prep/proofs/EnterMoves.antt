@@ -7,17 +7,19 @@ use Rattle.std.proofs.lemmas.List.{map-append}
 use Rattle.sc_base.specs.declared.fault.Fault as base
 use Rattle.sc_base.specs.declared.id.Cond.{Cond}
 use Rattle.sc_guarded.proofs.ItemLemmas.{faults_at-append}
-use Rattle.sc_guarded.specs.Items.{faults_at, seen_fault}
+use Rattle.sc_base.specs.Seen.{seen}
+use Rattle.sc_guarded.specs.Items.{faults_at, items_at, seen_fault}
 use Rattle.sc_model.proofs.SetLemmas.{IsConfig-Keeps}
 use Rattle.sc_model.specs.Fault.{Fault}
 use Rattle.sc_model.specs.Sets.{Sets, IsConfig, IsCond, Keeps}
+use Rattle.sc_model.specs.Token.{Token}
 use Rattle.sc_prep.proofs.Machine.{after}
 use Rattle.sc_prep.proofs.WalkMoves.{simulates-kept, sections-kept}
 use Rattle.sc_prep.specs.Closes.{RefusesEach, has_none, is_empty}
 use Rattle.sc_prep.specs.Entering.{Begins, Leaves}
 use Rattle.sc_prep.specs.Includes.{EntersAt, elsewhere, inert}
 use Rattle.sc_prep.specs.Machine.{Machine, acts, arriving, start}
-use Rattle.sc_prep.specs.Simulates.{Owns, OwnsSection, Simulates, section_at}
+use Rattle.sc_prep.specs.Simulates.{IsBetweenRuns, Owns, OwnsSection, Simulates, section_at}
 use Rattle.sc_prep.specs.declared.entering.Around.{Around}
 use Rattle.sc_prep.specs.declared.walk.Walk.{Walk}
 use Rattle.sc_table.specs.Table.{IsTable}
@@ -38,20 +40,24 @@ acts-unfaulty m e = by m.active m.fault e
     by true (Some f) e = cc
     by false (Some f) e = cc
 
--- the machine of a configuration that does not enter the file
+-- the machine of a configuration that does not enter the file, of which nothing was gathered
 abbrev pub idle : Machine → Machine
-idle m = record m { active = false; sections = [] }
+idle m = record m { active = false; sections = []; state = record m.state { run = [] } }
 
 -- the state with which a file is entered
 abbrev pub entering : ℕ → List ℕ → State → State
 entering depth name s = record s { depth = depth; file = name }
+
+-- the machine around a file, behind it
+abbrev pub resumed : Machine → Machine → List Token → Machine
+resumed m n run = record n { active = m.active; sections = m.sections; state = record (back m.state n.state) { run = run } }
 
 -- before the first line of the file
 module _ (s : Sets) (names files : List (List ℕ)) (w next : Walk) (within : Cond) (around : Around) (config : List ℕ) (m : Machine)
     (begins : Begins w within next around) (at : Simulates s names files w config m) where
   -- the walk that begins
   begun : Walk
-  begun = record w { group = within; acting = within; sections = next.sections }
+  begun = record w { group = within; acting = within; sections = next.sections; gathered = [] }
 
   none-open : map (section_at s config) (reverse next.sections.items) ≡ []
   none-open = ap (λ xs. map (section_at s config) (reverse xs)) begins.sections
@@ -62,19 +68,19 @@ module _ (s : Sets) (names files : List (List ℕ)) (w next : Walk) (within : Co
     acting = out;
     sections = none-open;
     prepared = record { live = at.prepared.live; output = at.prepared.output; fault = at.prepared.fault };
-    run = at.run;
+    run = λ none. refl;
     macros = at.macros;
   })
 
-  pub begins-start : s.has within.0 config ≡ true → acts m ≡ true → (depth : ℕ) (name : List ℕ) → Simulates s names files next config (start (entering depth name m.state))
-  begins-start here acting depth name =
+  pub begins-start : s.has within.0 config ≡ true → acts m ≡ true → IsBetweenRuns m → (depth : ℕ) (name : List ℕ) → Simulates s names files next config (start (entering depth name m.state))
+  begins-start here acting between depth name =
       let none = acts-unfaulty m acting in
       subst (λ (v : Walk). Simulates s names files v config (start (entering depth name m.state))) (sym begins.is) (record {
         active = here;
         acting = here;
         sections = none-open;
         prepared = record { live = at.prepared.live ∙ ap is_none none; output = λ _. at.prepared.output none; fault = at.prepared.fault ∙ ap option_to_list none };
-        run = λ _. at.run none;
+        run = λ _. sym (between acting);
         macros = λ _. at.macros none;
       })
 
@@ -95,14 +101,14 @@ module _ {old new : Sets} (keeps : Keeps old new) (names files : List (List ℕ)
     acting-now : new.has next.acting.0 config ≡ (m.active && is_none n.fault)
     acting-now = leaves.acting.at config (IsConfig-Keeps keeps listed) ∙ (ap (λ b. b && old.has w.prepared.live.0 config) group ∙ ap (λ b. m.active && b) at.prepared.live)
 
-    -- the machine goes on in the state around
-    pub resumes : Simulates new names files next config (record n { active = m.active; sections = m.sections; state = back m.state n.state })
-    resumes = subst (λ (v : Walk). Simulates new names files v config (record n { active = m.active; sections = m.sections; state = back m.state n.state })) (sym leaves.is) (record {
+    -- the machine goes on in the state around, with the run that was gathered there
+    pub resumes : (run : List Token) → (n.fault ≡ None → map (seen names files) (items_at new around.gathered config) ≡ run) → Simulates new names files next config (resumed m n run)
+    resumes run gathered = subst (λ (v : Walk). Simulates new names files v config (resumed m n run)) (sym leaves.is) (record {
       active = active-now;
       acting = acting-now;
       sections = sections-now;
       prepared = record { live = kept.prepared.live; output = kept.prepared.output; fault = kept.prepared.fault };
-      run = kept.run;
+      run = gathered;
       macros = kept.macros;
     })
 

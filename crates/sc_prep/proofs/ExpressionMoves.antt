@@ -55,7 +55,7 @@ stops-by s arities cond list limit (BranchesFull count) same is = (
 stops-by s arities cond list limit ReadFault same is = is
 stops-by s arities cond list limit OutOfMemory same is = tt
 
-right-none : {F : Type 0} (a : Bool) (f : Option F) → (a && is_none f) ≡ true → f ≡ None
+pub right-none : {F : Type 0} (a : Bool) (f : Option F) → (a && is_none f) ≡ true → f ≡ None
 right-none true None e = refl
 right-none true (Some x) e = absurd (cc)
 right-none false f e = absurd (cc)

@@ -4,7 +4,7 @@ use Rattle.std.proofs.lemmas.Bool.{and_parts, ne_eqb, not-true, not_from_false, 
 use Rattle.std.proofs.lemmas.List.Elements.{All-head, All-tail, All-weaker}
 use Rattle.std.proofs.lemmas.Option.{same_Some}
 use Rattle.std.specs.List.{AllByRecursion as Every, list_all}
-use Rattle.std.specs.Prelude.{is_none, nat_le, slice_get, unwrap_or}
+use Rattle.std.specs.Prelude.{nat_le, slice_get, unwrap_or}
 use Rattle.c11_directives.specs.Behind.{Says}
 use Rattle.c11_directives.specs.declared.directive.Directive.TheVariants as directive
 use Rattle.c11_directives.specs.Lines.{Line, c11_directive_names, hash_of, line_of}
@@ -26,6 +26,7 @@ use Rattle.sc_model.specs.Outside.{Files}
 use Rattle.sc_model.specs.Sets.{Sets, IsConfig, Keeps}
 use Rattle.sc_model.specs.Space.{Space}
 use Rattle.sc_model.specs.Token.{Token}
+use Rattle.sc_prep.proofs.BetweenRuns.{arriving-between, carries-run, closing-between, refused-acts}
 use Rattle.sc_prep.proofs.Contents.{agrees-back, tokens-later}
 use Rattle.sc_prep.proofs.InFile.{inside-as, whereabouts}
 use Rattle.sc_prep.proofs.LeadMoves.{contents-then, leads-then}
@@ -37,7 +38,7 @@ use Rattle.sc_prep.specs.Includes.{EntersAt, Finds}
 use Rattle.sc_prep.specs.Machine as machine
 use Rattle.sc_prep.specs.Machine.{Machine, CarriesOut, RunExpands, Takes, acts, arriving, carries, closing_run}
 use Rattle.sc_prep.specs.Printable.{AllPass, ArePlainPaths, IsPlaced, IsPlainState, IsPlainToken, is_plain}
-use Rattle.sc_prep.specs.Simulates.{Closed, IsContext, IsIn, Leads, PlainEach, Simulates}
+use Rattle.sc_prep.specs.Simulates.{Closed, IsBetweenRuns, IsContext, IsIn, Leads, PlainEach, Simulates}
 use Rattle.sc_prep.specs.declared.content.Contents.{Contents}
 use Rattle.sc_prep.specs.declared.content.FileLines.{FileLines}
 use Rattle.sc_prep.specs.declared.entry.Entry.{Entry}
@@ -141,19 +142,14 @@ closed-in {files} {entry} m k here closed = subst (IsIn files entry) (sym closed
     same true output = refl
     same false output = refl
 
-    dead : (a : Bool) (f : Option Fault) (fault : Fault) → (a && is_none (if a && is_none f then Some fault else f)) ≡ true → ⊥
-    dead true None fault e = cc
-    dead true (Some f) fault e = cc
-    dead false f fault e = cc
-
     by : (r : Result (List Token) Fault) → IsIn files entry (closing_run m r)
     by (Ok output) acting = inside-as (same (acts m) output) (here acting)
-    by (Err fault) acting = absurd (dead m.active m.fault fault acting)
+    by (Err fault) acting = absurd (refused-acts m.active m.fault fault acting)
 
 -- ---- the file of an #include
 
 -- a search finds what a file of the name holds
-searched : (held : Files) (names : List (List ℕ)) (f : File) → search held names ≡ Some f → held f.name ≡ Some f.bytes
+pub searched : (held : Files) (names : List (List ℕ)) (f : File) → search held names ≡ Some f → held f.name ≡ Some f.bytes
 searched held [] f e = absurd (cc)
 searched held (name ∷ names) f e = by (held name) refl e (searched held names f)
   where
@@ -224,6 +220,10 @@ module _ {x : Context} {l : Line} {files : List (List ℕ)} {depth : ℕ} (k : M
       waits file ts header hash f acting says names deep shallow hashed searching (Extends-keeps file.0 f.name named grows)
   stage-later grows (came e carried) = came e carried
 
+  pub stage-between : {left : List FileId} {n : Machine} → IsBetweenRuns k → Stage x l files depth k left n → IsBetweenRuns n
+  stage-between between (waits file ts header hash f acting says names deep shallow hashed searching named) = between
+  stage-between between (came e carried) = arriving-between k e (λ here. carries-run (carried here) (between here))
+
   stage-takes : {m : Machine} {n : Machine} {left : List FileId} (answer : Result (List Token) Fault) → k ≡ closing_run m answer → left ≡ [] → l.directive ≡ Some directive.Include
       → RunExpands m answer → Stage x l files depth k left n → Takes x m l n
   stage-takes {m} answer same none is expands (waits file ts header hash f acting says names deep shallow hashed searching named) = absurd (cc)
@@ -244,6 +244,10 @@ staged-then {m = m} file grows staged is entering = record {
   expands = staged.expands;
   stage = stage-later (closing_run m staged.answer) grows (stage-then (closing_run m staged.answer) file staged.stage is entering);
 }
+
+-- its run was closed
+pub staged-between : {x : Context} {l : Line} {files : List (List ℕ)} {depth : ℕ} {left : List FileId} {m n : Machine} → Staged x l files depth m left n → IsBetweenRuns n
+staged-between {m = m} staged = stage-between (closing_run m staged.answer) (closing-between m staged.answer) staged.stage
 
 pub staged-takes : {x : Context} {l : Line} {files : List (List ℕ)} {depth : ℕ} {left : List FileId} {m n : Machine} → l.directive ≡ Some directive.Include → left ≡ [] → Staged x l files depth m left n
     → Takes x m l n

@@ -17,16 +17,16 @@ use Rattle.sc_model.specs.Outside.{Files}
 use Rattle.sc_model.specs.Sets.{Sets, IsCond, IsConfig, Keeps}
 use Rattle.sc_model.specs.Space.{Space}
 use Rattle.sc_prep.proofs.CloseMoves.{plain-grown}
-use Rattle.sc_prep.proofs.Going.{Gone, Staged, closed-in, directories-plain, finds-staged, gone-then, line-later, line-plain, staged-plain, staged-takes, staged-then}
+use Rattle.sc_prep.proofs.Going.{Gone, Staged, closed-in, directories-plain, finds-staged, gone-then, line-later, line-plain, staged-between, staged-plain, staged-takes, staged-then}
 use Rattle.sc_prep.proofs.LeadMoves.{contents-stay, leads-as, leads-one}
 use Rattle.sc_prep.proofs.PlainRuns.{covers-plain, each-closes-plain}
 use Rattle.sc_prep.proofs.WalkLeads.{plain-later}
 use Rattle.sc_prep.specs.Contents.{Agrees, AreContents, KeepsContents, content_at}
 use Rattle.sc_prep.specs.Includes.{ArePartsOf, EntersAt, Finds, files_at}
 use Rattle.sc_prep.specs.Machine as machine
-use Rattle.sc_prep.specs.Machine.{Machine, Takes, acts}
+use Rattle.sc_prep.specs.Machine.{Machine, Takes}
 use Rattle.sc_prep.specs.Printable.{AllPass, ArePlaced, ArePlainPaths, ClosesPlain, IsPlaced, is_plain}
-use Rattle.sc_prep.specs.Simulates.{Closed, IsContext, IsIn, Leads, PlainEach, SimulatesOneOf}
+use Rattle.sc_prep.specs.Simulates.{Closed, IsBetweenRuns, IsContext, IsIn, Leads, PlainEach, SimulatesOneOf}
 use Rattle.sc_prep.specs.declared.content.Contents.{Contents}
 use Rattle.sc_prep.specs.declared.entry.Entry.{Entry}
 use Rattle.sc_prep.specs.declared.including.Part.{Part}
@@ -77,7 +77,7 @@ gone-closed {files = files} {contents = contents} {from = from} keeps names_grow
   paths = λ g x context agreed sound paths each. paths;
 }
 
-abbrev Spelled : List (List ℕ) → List base.Token → Type 0
+abbrev pub Spelled : List (List ℕ) → List base.Token → Type 0
 Spelled names line = All (λ (t : base.Token). is_plain names t ≡ true) line
 
 module _ {names files : List (List ℕ)} (entry : Entry) (line : List base.Token) (placed : All (IsPlaced names (length files)) line)
@@ -109,19 +109,19 @@ module _ {names files : List (List ℕ)} (entry : Entry) (line : List base.Token
       → Gone space a names files u one b mid mid_files v two (Spelled names line) (IsIn files entry)
       (λ x config m n. Staged x (seen_line names files line) mid_files entry.depth m (files_at b (drop i parts) config) n)
       → AreContents mid mid_files holds two → Keeps b c → Extends mid more → Extends mid_files more_files → KeepsContents two three
-      → ((x : Context) → IsContext space x → Agrees more more_files x.files three → Leads mid_files mid b v more_files more c w (λ m. Unit {0})
+      → ((x : Context) → IsContext space x → Agrees more more_files x.files three → Leads mid_files mid b v more_files more c w IsBetweenRuns
       (λ config m n. EntersAt x (text_at mid_files part.file.0) (entry.depth + 1) m (b.has part.cond.0 config) n))
-      → ((x : Context) → IsContext space x → Agrees more more_files x.files three → IsSound space → ArePlainPaths mid_files → PlainEach b mid mid_files v (λ m. Unit {0})
+      → ((x : Context) → IsContext space x → Agrees more more_files x.files three → IsSound space → ArePlainPaths mid_files → PlainEach b mid mid_files v IsBetweenRuns
       → AllPass (is_plain mid) v.prepared.list → AllPass (is_plain more) w.prepared.list)
-      → ((x : Context) → IsContext space x → Agrees more more_files x.files three → IsSound space → ArePlainPaths mid_files → PlainEach b mid mid_files v (λ m. Unit {0}) → ArePlainPaths more_files)
+      → ((x : Context) → IsContext space x → Agrees more more_files x.files three → IsSound space → ArePlainPaths mid_files → PlainEach b mid mid_files v IsBetweenRuns → ArePlainPaths more_files)
       → Gone space a names files u one c more more_files w three (Spelled names line) (IsIn files entry)
       (λ x config m n. Staged x (seen_line names files line) more_files entry.depth m (files_at c (drop (i + 1) parts) config) n)
   gone-entered {b = b} {c} {mid_files = mid_files} {more_files = more_files} parts i part one_is within own gone held keeps names_grow files_grow read enters plain paths =
-      gone-then {between = λ m. Unit {0}}
+      gone-then {between = IsBetweenRuns}
       {later = λ x config m n. EntersAt x (text_at mid_files part.file.0) (entry.depth + 1) m (b.has part.cond.0 config) n} gone held keeps names_grow files_grow read enters
       (λ g x context agreed sound mid_paths each list. plain x context agreed sound mid_paths each list)
       (λ g x context agreed sound mid_paths each. paths x context agreed sound mid_paths each)
-      (λ x config m n from staged. tt)
+      (λ x config m n from staged. staged-between staged)
       (λ g x context sound plain_paths config m n staged from state.
       staged-plain (directories-plain context sound) directive_is staged state (line-plain names files line placed plain_paths g))
       (λ x config m n o context listed from staged entered at.

@@ -23,7 +23,7 @@ use Rattle.sc_prep.specs.Contents.{AreContents, KeepsContents, content_at}
 use Rattle.sc_prep.specs.Entering.{Begins, Leaves}
 use Rattle.sc_prep.specs.Machine.{Machine}
 use Rattle.sc_prep.specs.Preprocesses.{Stops}
-use Rattle.sc_prep.specs.Printable.{IsHeldWalk, any_token}
+use Rattle.sc_prep.specs.Printable.{IsHeldWalk, IsPlaced, any_token}
 use Rattle.sc_prep.specs.Simulates.{IsReady, Leads, Owns, OwnsSection, Simulates, SimulatesOneOf}
 use Rattle.sc_prep.specs.declared.content.Content.{Content}
 use Rattle.sc_prep.specs.declared.content.Contents.{Contents}
@@ -52,19 +52,19 @@ module _ {old new : Sets} {names files : List (List ℕ)} {holds : Option Files}
   pub ready-kept : IsReady new names files holds w contents
   ready-kept = record { owns = owns-kept keeps w ready.owns; table = IsTable-Keeps keeps ready.table; held = ready.held; read = ready.read }
 
-  pub ready-left : {next : Walk} {around : Around} → Leaves old w around new next → IsCond old around.group.0 → All (OwnsSection old) around.sections.items
-      → IsReady new names files holds next contents
-  ready-left {next} {around} leaves group sections =
-      let owns = ready.owns in
-      let kept = owns-kept keeps w owns in
-      let back = owns-kept keeps (record w { group = around.group; sections = around.sections })
-      (record { group = group; acting = owns.acting; sections = sections; gathered = owns.gathered; prepared = owns.prepared }) in
-      subst (λ (v : Walk). IsReady new names files holds v contents) (sym leaves.is) (record {
-        owns = record { group = back.group; acting = leaves.acting.own; sections = back.sections; gathered = kept.gathered; prepared = kept.prepared };
+  -- behind a file that was entered from a walk which the store and the tables still hold
+  pub ready-left : {next from begun : Walk} {within : Cond} {around : Around} → Leaves old w around new next → Begins from within begun around → Owns old from
+      → IsHeldWalk names (length files) any_token from → IsReady new names files holds next contents
+  ready-left {next} {from} leaves begins owns held =
+      let back = owns-kept keeps from owns in
+      let kept = owns-kept keeps w ready.owns in
+      subst (λ (v : Walk). IsReady new names files holds v contents) (sym leaves.is)
+      (subst (λ (a : Around). IsReady new names files holds (record w { group = a.group; acting = next.acting; sections = a.sections; gathered = a.gathered }) contents) (sym begins.around_is) (record {
+        owns = record { group = back.group; acting = leaves.acting.own; sections = back.sections; gathered = back.gathered; prepared = kept.prepared };
         table = IsTable-Keeps keeps ready.table;
-        held = ready.held;
+        held = record { gathered = held.gathered; list = ready.held.list; passed = ready.held.passed; faults = ready.held.faults };
         read = ready.read;
-      })
+      }))
 
   pub ready-refused : {next : Walk} {fault : base.Fault} → RefusesEach old w (fault ∷ []) new next → IsCond old fault.cond.0 → fault.place.file.0 < length files
       → IsReady new names files holds next contents
@@ -95,11 +95,11 @@ ready-begun {s} {names} {files} {holds} {w} {next} {contents} begins own ready =
     group = own;
     acting = own;
     sections = subst (All (OwnsSection s)) (sym begins.sections) (All-nil (OwnsSection s));
-    gathered = ready.owns.gathered;
+    gathered = All-nil (λ item. IsCond s item.0.0);
     prepared = ready.owns.prepared;
   };
   table = ready.table;
-  held = ready.held;
+  held = record { gathered = All-nil (λ item. IsPlaced names (length files) item.1); list = ready.held.list; passed = ready.held.passed; faults = ready.held.faults };
   read = ready.read;
 })
 

@@ -142,7 +142,7 @@ pub lines-hashes : (names : DirectiveNames) (ls : List (List Token)) → HaveHas
 lines-hashes names [] = tt
 lines-hashes names (ts ∷ ls) = (line-hash names ts, lines-hashes names ls)
 
-hashes-parts : (xs ys : List Line) → HaveHashes (xs ++ ys) → HaveHashes xs × HaveHashes ys
+pub hashes-parts : (xs ys : List Line) → HaveHashes (xs ++ ys) → HaveHashes xs × HaveHashes ys
 hashes-parts [] ys have = (tt, have)
 hashes-parts (x ∷ xs) ys have = let parts = hashes-parts xs ys have.1 in ((have.0, parts.0), parts.1)
 
@@ -397,7 +397,7 @@ pub record EndsAs (walk : State → Result State Fault → Type 0) (s : State) (
   pub is : n ≡ after ss end fault
 
 -- the machine in a section that took no branch yet
-abbrev untaken : Bool → List (Bool × Bool) → State → Machine
+abbrev pub untaken : Bool → List (Bool × Bool) → State → Machine
 untaken active ss s = record { active = active; sections = (true, true) ∷ ss; state = s; fault = None }
 
 module _ (x : Context) where
@@ -410,10 +410,10 @@ module _ (x : Context) where
   FollowsBranches lines walk s = (active : Bool) (ss : List (Bool × Bool)) (n : Machine) → Runs x (untaken active ss s) lines n → EndsAs walk s ss n
 
   -- what the first line of a section that is taken says
-  record OpensTaken (l : Line) (s : State) (ss : List (Bool × Bool)) (n : Machine) : Type 0 where
-    says : Result Bool Fault
-    decides : Decides x s l says
-    opens : n ≡ opened_as (taking ss s) says
+  pub record OpensTaken (l : Line) (s : State) (ss : List (Bool × Bool)) (n : Machine) : Type 0 where
+    pub says : Result Bool Fault
+    pub decides : Decides x s l says
+    pub opens : n ≡ opened_as (taking ss s) says
 
   opens_by_name : (l : Line) (s : State) (ss : List (Bool × Bool)) (n : Machine) (test : List ℕ → Bool)
       → ((name : List ℕ) → operand_of l ≡ Some name → Decides x s l (Ok (test name)))
@@ -431,7 +431,7 @@ module _ (x : Context) where
     opens = steps ∙ ap (opened_by_name (taking ss s) l test) e;
   }
 
-  opens_taken_by : (l : Line) (s : State) → HasHash l → (c : Conditional) → conditional_of l ≡ Some c → is_opening c ≡ true
+  pub opens_taken_by : (l : Line) (s : State) → HasHash l → (c : Conditional) → conditional_of l ≡ Some c → is_opening c ≡ true
       → (ss : List (Bool × Bool)) {n : Machine} → Takes x (taking ss s) l n → OpensTaken l s ss n
   opens_taken_by l s has If named o ss taking_it =
       let does = takes_conditional named taking_it in
@@ -554,7 +554,7 @@ module _ (x : Context) where
   opened_follows l s none None e mild ss = record { end = with_text s l; fault = None; walks = text e; is = refl }
   opened_follows l s none (Some d) e mild ss = open_follows l s none d e mild ss
 
-  plain_takes : (l : Line) (s : State) → HasHash l → conditional_of l ≡ None → (ss : List (Bool × Bool)) {n : Machine} → Takes x (taking ss s) l n → EndsAs (Steps x l) s ss n
+  pub plain_takes : (l : Line) (s : State) → HasHash l → conditional_of l ≡ None → (ss : List (Bool × Bool)) {n : Machine} → Takes x (taking ss s) l n → EndsAs (Steps x l) s ss n
   plain_takes l s has none ss (takes r mild answers) = subst (EndsAs (Steps x l) s ss) (sym (step_is (taking ss s) l r none)) (opened_follows l s none l.directive refl mild ss)
   plain_takes l s has none ss (closes d r is barrier unsaid expands) = barrier_follows l s has none d is barrier unsaid ss r (expands refl)
   plain_takes l s has none ss (carries d r end is said expands does) = said_follows l s d is (said-barrier d said) ss r end (expands refl) does

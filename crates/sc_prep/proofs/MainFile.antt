@@ -5,11 +5,13 @@ use Rattle.std.proofs.lemmas.Bool.{both_ways}
 use Rattle.std.specs.Option.{option_to_list}
 use Rattle.std.specs.Prelude.{is_none, unwrap_or, slice_get}
 use Rattle.c11_directives.proofs.PreLaws.{pre-unique}
+use Rattle.c11_directives.specs.Footprints.{Has}
 use Rattle.c11_directives.specs.Pre.{Context, Includes, Pre, State, context_of, entered, file_with, found_or, initial_state}
 use Rattle.c11_macros.specs.Macros.{initial_macros}
 use Rattle.sc_base.specs.declared.fault.Fault as base
 use Rattle.sc_base.specs.declared.id.Cond.{Cond}
 use Rattle.sc_base.specs.declared.id.FileId.{FileId}
+use Rattle.sc_base.specs.declared.stop.Stop.{Stop}
 use Rattle.sc_base.specs.declared.token.Token.{Token}
 use Rattle.sc_base.specs.Interns as interns
 use Rattle.sc_base.specs.Interns.{Interns}
@@ -29,8 +31,9 @@ use Rattle.sc_model.specs.Token as plain
 use Rattle.sc_prep.proofs.EnterLeads.{HasRefusal, has-lines, has-refusal}
 use Rattle.sc_prep.proofs.EnterMoves.{refused-here}
 use Rattle.sc_prep.proofs.FileTokens.{all-shown, faults-few}
-use Rattle.sc_prep.proofs.MainWalk.{begins-as, entered-ordinary}
+use Rattle.sc_prep.proofs.MainWalk.{begins-as, entered-ordinary, finds-main}
 use Rattle.sc_prep.proofs.Plain.{initial-plain}
+use Rattle.sc_prep.proofs.Stopping.{stops-as}
 use Rattle.sc_prep.specs.Closes.{RefusesEach, has_none, is_empty}
 use Rattle.sc_prep.specs.Contents.{AreContents, IsContent, IsHeldContent, content_at, end_of_file, end_place}
 use Rattle.sc_prep.specs.declared.content.Content.{Content}
@@ -38,11 +41,12 @@ use Rattle.sc_prep.specs.declared.content.Content.TheVariants as content
 use Rattle.sc_prep.specs.declared.prepared.Prepared.{Prepared}
 use Rattle.sc_prep.specs.declared.content.Contents.{Contents}
 use Rattle.sc_prep.specs.declared.walk.Walk.{Walk}
+use Rattle.sc_prep.specs.Footprints.{Comes, ComesInside, StopsAtPlace}
 use Rattle.sc_prep.specs.Includes.{EntersAt}
 use Rattle.sc_prep.specs.Machine.{Machine, start}
 use Rattle.sc_prep.specs.Preprocesses.{IsOrdinary, IsRefused, OwnsList, is_accepted}
 use Rattle.sc_prep.specs.Printable.{AllPass, ArePlaced, ArePlainPaths, CanBeShown, any_token, is_plain}
-use Rattle.sc_prep.specs.Simulates.{IsBegun, IsContext, IsOutcomeOf, IsReady, Leads, Owns, PlainEach, Simulates}
+use Rattle.sc_prep.specs.Simulates.{IsBegun, IsBetweenRuns, IsContext, IsOutcomeOf, IsReady, Leads, Owns, PlainEach, Simulates}
 use Rattle.sc_space.specs.Sound.{IsSound}
 use Rattle.sc_table.proofs.Growth.{IsTable-Extends}
 use Rattle.sc_table.specs.declared.table.MacroTable.{MacroTable}
@@ -156,12 +160,12 @@ module _ {s : Sets} {space : Space} {names files : List (List ℕ)} {walk : Walk
   }
 
   -- each configuration starts with macros that are spelled on one line
-  pub plain-new : (main : List ℕ) → IsSound space → has_no_newline main ≡ true → PlainEach s names files walk (λ m. Unit {0})
+  pub plain-new : (main : List ℕ) → IsSound space → has_no_newline main ≡ true → PlainEach s names files walk IsBetweenRuns
   plain-new main sound plain = record {
     each = λ config listed. (
       start (initial_state space main config),
       fresh.starts main config listed,
-      tt,
+      λ acting. refl,
       record { macros = initial-plain space config sound.date_plain sound.time_plain; run = tt; file = plain },
     );
   }
@@ -216,12 +220,12 @@ module _ {s : Sets} {space : Space} {names files : List (List ℕ)} {walk : Walk
   -- the main file is entered
   module _ {x : Context} {next_sets : Sets} {more more_files : List (List ℕ)} {next : Walk} (keeps : Keeps s next_sets) (main : List ℕ) (file : FileId) (cond : Cond)
       (named : slice_get files file.0 ≡ Some main) (everywhere : (config : List ℕ) → IsConfig s.arities config → s.has cond.0 config ≡ true)
-      (leads : Leads files names s walk more_files more next_sets next (λ m. Unit {0}) (λ config m n. EntersAt x (text_at files file.0) 0 m (s.has cond.0 config) n)) where
+      (leads : Leads files names s walk more_files more next_sets next IsBetweenRuns (λ config m n. EntersAt x (text_at files file.0) 0 m (s.has cond.0 config) n)) where
     ends-entered : (config : List ℕ) → IsConfig s.arities config
         → (n : Machine) × EntersAt x main 0 (start (initial_state space main config)) true n × IsOutcomeOf next_sets more more_files next.prepared config n
     ends-entered config listed =
         let first = start (initial_state space main config) in
-        let end = leads.at config first listed (fresh.starts main config listed) tt in (
+        let end = leads.at config first listed (fresh.starts main config listed) (λ acting. refl) in (
           end.machine,
           subst (λ has. EntersAt x main 0 first has end.machine) (everywhere config listed)
               (subst (λ name. EntersAt x name 0 first (s.has cond.0 config) end.machine) (ap (λ (o : Option (List ℕ)). unwrap_or o []) named) end.done),
@@ -244,8 +248,17 @@ module _ {s : Sets} {space : Space} {names files : List (List ℕ)} {walk : Walk
 
   pub entered-is : {next_sets : Sets} {more more_files : List (List ℕ)} {next : Walk} (keeps : Keeps s next_sets) (main : List ℕ) (outside : Files) (file : FileId) (cond : Cond)
       (named : slice_get files file.0 ≡ Some main) (everywhere : (config : List ℕ) → IsConfig s.arities config → s.has cond.0 config ≡ true)
-      → Leads files names s walk more_files more next_sets next (λ m. Unit {0}) (λ config m n. EntersAt (context_of space outside) (text_at files file.0) 0 m (s.has cond.0 config) n)
+      → Leads files names s walk more_files more next_sets next IsBetweenRuns (λ config m n. EntersAt (context_of space outside) (text_at files file.0) 0 m (s.has cond.0 config) n)
       → (config : List ℕ) → IsConfig s.arities config → IsOrdinary next_sets more more_files next.prepared (Pre space outside main config) config
   entered-is {next_sets} {more} {more_files} {next} keeps main outside file cond named everywhere leads config listed =
       let end = ends-entered keeps main file cond named everywhere leads config listed in
       entered-ordinary next_sets more more_files next.prepared space outside main config end.1 end.2
+
+  -- each footprint to which the main file comes is one of the configuration
+  pub entered-stops : (main : List ℕ) (outside : Files) (file : FileId) (cond : Cond) → slice_get files file.0 ≡ Some main → (limit : ℕ) (stop : Stop)
+      → StopsAtPlace s.arities (Comes s names files walk IsBetweenRuns (λ config m f. (s.has cond.0 config ≡ true) × ComesInside (context_of space outside) (text_at files file.0) 0 m f)) limit stop
+      → StopsAtPlace s.arities (Has space outside main) limit stop
+  entered-stops main outside file cond named limit stop = stops-as limit stop (λ config f listed comes.
+      let first = start (initial_state space main config) in
+      let inside = subst (λ name. ComesInside (context_of space outside) name 0 first f) (ap (λ (o : Option (List ℕ)). unwrap_or o []) named) (comes first (fresh.starts main config listed) (λ acting. refl)).1 in
+      record { file = inside.file; found = finds-main outside main inside.file inside.named inside.there; has = inside.has })

@@ -1,6 +1,6 @@
 -- What walking the main file comes to.
 use Rattle.std.proofs.Common.{◌≡◌, ℕ, true, List, [], ◌∷◌, Some, None, Ok, Err, refl, sym, ap, ◌∙◌}
-use Rattle.c11_directives.specs.Pre.{File, file_with, found_or, Enters, Includes, missing, entered, context_of, initial_state, Pre}
+use Rattle.c11_directives.specs.Pre.{File, file_with, found_or, Enters, Includes, missing, entered, context_of, initial_state, search, Pre}
 use Rattle.c11_macros.specs.Macros.{initial_macros}
 use Rattle.sc_model.specs.declared.cause.Cause.TheVariants.{NotFound}
 use Rattle.sc_model.specs.Fault.{Fault, fault_at, first_place}
@@ -16,6 +16,10 @@ use Rattle.sc_prep.specs.Simulates.{IsBegun, IsOutcomeOf}
 use Rattle.sc_table.specs.declared.table.MacroTable.{MacroTable}
 use Rattle.sc_table.specs.Table.{IsTable, macros_at}
 use Rattle.sc_table.proofs.Growth.{macros_at-Extends}
+
+-- the main file is found
+pub finds-main : (outside : Files) (main : List ℕ) (f : File) → f.name ≡ main → outside main ≡ Some f.bytes → search outside (main ∷ []) ≡ Some f
+finds-main outside main f named there = ap (found_or None main) there ∙ ap (λ name. Some (file_with name f.bytes)) (sym named)
 
 module _ (s : Sets) (names files : List (List ℕ)) (p : Prepared) (space : Space) (outside : Files) (main config : List ℕ) where
   -- what stands at a configuration that is refused
@@ -34,7 +38,7 @@ module _ (s : Sets) (names files : List (List ℕ)) (p : Prepared) (space : Spac
 
   includes-main : (f : File) {r : _} → f.name ≡ main → outside main ≡ Some f.bytes → Enters (context_of space outside) f (initial_state space main config) r
       → Includes (context_of space outside) (main ∷ []) (first_place main) (initial_state space main config) r
-  includes-main f named there walks = entered f (ap (found_or None main) there ∙ ap (λ name. Some (file_with name f.bytes)) (sym named)) walks
+  includes-main f named there walks = entered f (finds-main outside main f named there) walks
 
   -- the main file was entered
   pub entered-ordinary : {n : Machine} → EntersAt (context_of space outside) main 0 (start (initial_state space main config)) true n → IsOutcomeOf s names files p config n

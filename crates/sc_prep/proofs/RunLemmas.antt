@@ -12,6 +12,8 @@ use Rattle.sc_guarded.specs.Items.{faults_at, items_at}
 use Rattle.sc_guarded.specs.declared.expanded.Expanded.{Expanded}
 use Rattle.sc_model.proofs.SetLemmas.{IsConfig-Keeps, IsConfig-kept, Denotes-Keeps}
 use Rattle.sc_model.specs.Sets.{Sets, IsConfig, IsCond, IsNever, Denotes, Keeps}
+use Rattle.sc_prep.proofs.ApartLemmas.{apart-without, tokens-push}
+use Rattle.sc_prep.specs.Apart.{StandApart, tokens_in}
 use Rattle.sc_prep.specs.Closes.{IsWithin, PutsOut, RefusesEach, has_none, is_empty}
 use Rattle.sc_prep.specs.Printable.{ArePlaced, IsPlaced}
 use Rattle.sc_prep.specs.declared.walk.Walk.{Walk}
@@ -31,6 +33,7 @@ within-later {first} {old} {new} {items} {kept} t before keeps was = record {
   some = λ k d h never. was.some k d h (never-back keeps _ (was.own k d h) never);
   at = λ c listed. items_at-Keeps kept c keeps was.own (IsConfig-Keeps before listed) ∙ was.at c listed;
   placed = was.placed;
+  apart = was.apart;
 }
 
 -- the same told of the store before
@@ -42,6 +45,7 @@ within-as {old} {mid} {new} {items} {kept} by t keeps own same was = record {
   at = λ c listed. was.at c (IsConfig-Keeps keeps listed)
       ∙ (ap (λ b. if b then items_at mid items c else []) (same c listed) ∙ ap (λ xs. if t c then xs else []) (items_at-Keeps items c keeps own listed));
   placed = was.placed;
+  apart = was.apart;
 }
 
 one_without : (t h : Bool) (x : Token) (xs : List Token) → (h && t) ≡ false → (if t then xs else []) ≡ (if t then xs ++ (if h then x ∷ [] else []) else [])
@@ -81,6 +85,7 @@ module _ {first old new : Sets} (before : Keeps first old) (keeps : Keeps old ne
             ∙ (one_without (first.has by.0 c) (first.has cond.0 c) x (items_at first items c) (sym (part_is.at c (listed_now listed)) ∙ never.none c (listed_now listed))
             ∙ ap (λ xs. if first.has by.0 c then xs else []) (sym (items_at-append first items ((cond, x) ∷ []) c)));
         placed = λ names files all. same.placed names files (front-placed names files all).0;
+        apart = λ rest all. same.apart rest (apart-without (tokens_in items) (x ∷ []) rest (subst StandApart (tokens-push items cond x rest) all));
       }
 
   -- an item that some have
@@ -99,6 +104,7 @@ module _ {first old new : Sets} (before : Keeps first old) (keeps : Keeps old ne
         placed = λ names files all.
             let parts = front-placed names files all in
             All-push (λ (item : Cond × Token). IsPlaced names files item.1) kept (part, x) (same.placed names files parts.0) parts.1;
+        apart = λ rest all. subst StandApart (sym (tokens-push kept part x rest)) (same.apart (x ∷ rest) (subst StandApart (tokens-push items cond x rest) all));
       }
 
 -- ---- refusals

@@ -64,7 +64,7 @@ and-twice true false = refl
 and-twice false b = refl
 
 module _ (names files : List (List ℕ)) (s : Sets) (w : Walk) (line : List Token) (list : List (Cond × Token)) (same : list ≡ under w.acting (drop 2 line)) where
-  text-at : (c : List ℕ) → map (seen names files) (items_at s list c) ≡ (if s.has w.acting.0 c then behind_name (seen_line names files line) else [])
+  pub text-at : (c : List ℕ) → map (seen names files) (items_at s list c) ≡ (if s.has w.acting.0 c then behind_name (seen_line names files line) else [])
   text-at c = ap (λ xs. map (seen names files) (items_at s xs c)) same ∙ (ap (map (seen names files)) (items_at-under s w.acting (drop 2 line) c) ∙ by (s.has w.acting.0 c))
     where
       by : (b : Bool) → map (seen names files) (if b then drop 2 line else []) ≡ (if b then behind_name (seen_line names files line) else [])

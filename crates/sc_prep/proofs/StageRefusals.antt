@@ -162,3 +162,7 @@ refused-each-held {more = more} files grows w next table faults refuses placed h
 pub refused-each-list : {mid new : Sets} (w next : Walk) (table : MacroTable) (faults : List base.Fault) → RefusesEach mid (record w { table = table }) faults new next
     → next.prepared.list ≡ w.prepared.list
 refused-each-list w next table faults refuses = ap (λ (v : Walk). v.prepared.list) refuses.same
+
+-- nor gathered
+pub refused-each-gathered : {mid new : Sets} (w next : Walk) (table : MacroTable) (faults : List base.Fault) → RefusesEach mid (record w { table = table }) faults new next → next.gathered ≡ w.gathered
+refused-each-gathered w next table faults refuses = ap (λ (v : Walk). v.gathered) refuses.same

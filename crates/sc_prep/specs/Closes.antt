@@ -7,6 +7,7 @@ use Rattle.sc_guarded.specs.Items.{faults_at, items_at}
 use Rattle.sc_guarded.specs.declared.expanded.Expanded.{Expanded}
 use Rattle.sc_model.specs.Sets.{Sets, IsConfig, IsCond, IsNever, Denotes}
 use Rattle.sc_prep.specs.declared.walk.Walk.{Walk}
+use Rattle.sc_prep.specs.Apart.{StandApart, tokens_in}
 use Rattle.sc_prep.specs.Printable.{ArePlaced}
 
 -- the list has the items of another in the configurations of a test, and none that has no
@@ -16,6 +17,7 @@ pub record IsWithin (old : Sets) (items : List (Cond × Token)) (test : List ℕ
   pub some : All (λ item. IsNever new item.0.0 → ⊥) kept
   pub at : (c : List ℕ) → IsConfig old.arities c → items_at new kept c ≡ (if test c then items_at old items c else [])
   pub placed : (names : List (List ℕ)) (files : ℕ) → ArePlaced names files items → ArePlaced names files kept
+  pub apart : (rest : List Token) → StandApart (tokens_in items ++ rest) → StandApart (tokens_in kept ++ rest)
 
 abbrev pub is_empty : List Fault → Bool
 is_empty [] = true

@@ -5,13 +5,14 @@ use Rattle.sc_model.specs.Sets.{Sets, Denotes}
 use Rattle.sc_prep.specs.declared.entering.Around.{Around}
 use Rattle.sc_prep.specs.declared.walk.Walk.{Walk}
 
--- these configurations go on before the first line of a file, and what is around it is kept
+-- These configurations go on before the first line of a file, of which nothing was gathered yet,
+-- and what is around it is kept.
 pub record Begins (walk : Walk) (entering : Cond) (next : Walk) (around : Around) : Type 0 where
-  pub is : next ≡ record walk { group = entering; acting = entering; sections = next.sections }
+  pub is : next ≡ record walk { group = entering; acting = entering; sections = next.sections; gathered = [] }
   pub sections : next.sections.items ≡ []
-  pub around_is : around ≡ record { group = walk.group; sections = walk.sections }
+  pub around_is : around ≡ record { group = walk.group; sections = walk.sections; gathered = walk.gathered }
 
 -- the configurations around a file go on where they stood, but for those that are refused
 pub record Leaves (old : Sets) (walk : Walk) (around : Around) (new : Sets) (next : Walk) : Type 0 where
-  pub is : next ≡ record walk { group = around.group; acting = next.acting; sections = around.sections }
+  pub is : next ≡ record walk { group = around.group; acting = next.acting; sections = around.sections; gathered = around.gathered }
   pub acting : Denotes new next.acting.0 (λ c. old.has around.group.0 c && old.has walk.prepared.live.0 c)

@@ -1,9 +1,11 @@
 pub mod Alternatives
+pub mod Apart
 pub mod Closes
 pub mod Contents
 pub mod Entering
 pub mod Expressions
 pub mod Finding
+pub mod Footprints
 pub mod Includes
 pub mod Machine
 pub mod Naming

@@ -115,6 +115,10 @@ pub data IsAtTop (files : List (List ℕ)) (entry : Entry) (m : Machine) : Type 
   begins : (first : State) → m ≡ start first → IsInside files entry first → IsAtTop files entry m
   idles : m.active ≡ false → m.sections ≡ [] → IsAtTop files entry m
 
+-- where the machine does something, its run was closed
+abbrev pub IsBetweenRuns : Machine → Type 0
+IsBetweenRuns m = acts m ≡ true → m.state.run ≡ []
+
 -- From one walk to the next, at each configuration whose machine is as this says, the machine does
 -- one of these. The tables of names of files and of texts may have grown.
 pub record Leads (files names : List (List ℕ)) (old : Sets) (walk : Walk) (more_files more : List (List ℕ)) (new : Sets) (next : Walk)

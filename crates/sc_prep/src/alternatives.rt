@@ -4,9 +4,11 @@ ghost use Rattle.sc_base.specs.declared.token.Token as base;
 ghost use Rattle.sc_base.specs.Seen.{IsHeld};
 ghost use Rattle.sc_expand.specs.Stops.{StopsBy};
 ghost use Rattle.sc_guarded.specs.Items.{items_at};
+ghost use Rattle.sc_hoist.specs.Places.{places_at};
 ghost use Rattle.sc_if.specs.Decided.{tokens_at};
 ghost use Rattle.sc_model.specs.Sets.{IsCond, IsConfig, IsNever, Keeps};
 ghost use Rattle.sc_prep.specs.Alternatives.{EachToken, OwnsEach, alternative_tokens, branch_tokens, tokens_in};
+ghost use Rattle.sc_prep.specs.Footprints.{StopsByLists};
 
 use sc_base::{Cond, OutOfMemory, Stop, Token};
 use sc_guarded::Guarded;
@@ -39,6 +41,7 @@ pub fn alternatives<C: Conditions>(
     ensures held { IfOk result (λ r. (names : List (List ℕ)) → All (λ item. IsHeld names item.1) list.now → EachToken (IsHeld names) r.items) }
     ensures passed { IfOk result (λ r. (test : base.Token → Bool) → All (λ item. test item.1 ≡ true) list.now → EachToken (λ t. test t ≡ true) r.items) }
     ensures stops { IfErr result (StopsBy (C.sets conds.old).arities limit) }
+    ensures lists { IfErr result (StopsByLists (C.sets conds.old).arities (λ c. (C.sets conds.old).has cond.0 c) (λ c. places_at (C.sets conds.old) list.now c) limit) }
 
     // at every outcome
     ensures keeps { Keeps (C.sets conds.old) (C.sets conds.new) }

@@ -1,15 +1,20 @@
 //! What the lines of `#include` and `#line` say behind the name of the directive.
-ghost use Rattle.std.specs.Prelude.{◌≡◌, ◌<◌, All, List, ℕ, Some, IfErr, IfOk, OnOk, drop, length, map};
+ghost use Rattle.std.specs.Prelude.{◌≡◌, ◌<◌, All, List, ℕ, Some, IfErr, IfOk, OnOk, drop, length, map, true};
 ghost use Rattle.c11_directives.specs.Behind.{begins_with_header};
 ghost use Rattle.c11_directives.specs.declared.directive.Directive.TheVariants as directive;
-ghost use Rattle.c11_directives.specs.Pre.{Context};
+ghost use Rattle.c11_directives.specs.declared.directive.Directive.{Directive};
+ghost use Rattle.c11_directives.specs.Footprints.{DirectiveHas, HasFootprints};
+ghost use Rattle.c11_directives.specs.Pre.{Context, is_said};
 ghost use Rattle.sc_expand.specs.Stops.{StopsBy};
 ghost use Rattle.sc_base.specs.Seen.{IsHeld, seen};
 ghost use Rattle.sc_guarded.specs.Items.{items_at};
 ghost use Rattle.sc_lines.specs.Nests.{seen_line};
 ghost use Rattle.sc_model.specs.Growth.{Extends};
 ghost use Rattle.sc_model.specs.Sets.{IsCond, Keeps};
-ghost use Rattle.sc_prep.specs.Machine.{Carried, SaysAt};
+ghost use Rattle.sc_hoist.specs.Places.{places_at};
+ghost use Rattle.sc_prep.specs.Apart.{StandApart};
+ghost use Rattle.sc_prep.specs.Footprints.{Comes, HaveLists, StopsAtPlace, any_machine};
+ghost use Rattle.sc_prep.specs.Machine.{Carried, SaysAt, acts};
 ghost use Rattle.sc_prep.specs.Printable.{ArePlaced, IsHeldWalk, IsPlaced, any_token};
 ghost use Rattle.sc_prep.specs.Simulates.{Owns, SimulatesOneOf};
 ghost use Rattle.sc_table.specs.Table.{IsTable};
@@ -47,6 +52,12 @@ impl Walk {
         ensures walk { OnOk result (IsHeldWalk names.new (length files.now) any_token self.new) }
         ensures list { OnOk result (self.new.prepared.list ≡ self.old.prepared.list) }
         ensures stops { IfErr result (StopsBy (C.sets conds.old).arities limit) }
+        ensures gathered { OnOk result (self.new.gathered ≡ self.old.gathered) }
+        ensures lists { IfOk result (λ list. (d : Directive) (count : ℕ) → (seen_line names.old files.now line.now).directive ≡ Some d → is_said d ≡ true → StandApart line.now
+            → HaveLists (C.sets conds.old).arities (λ c. (C.sets conds.new).has self.new.acting.0 c) (λ c. places_at (C.sets conds.new) list c) count
+            → HasFootprints (C.sets conds.old).arities (Comes (C.sets conds.old) names.old files.now self.old any_machine (λ config m f. (acts m ≡ true) × DirectiveHas m.state.macros (seen_line names.old files.now line.now) f)) count) }
+        ensures footprints { (d : Directive) → (seen_line names.old files.now line.now).directive ≡ Some d → is_said d ≡ true → StandApart line.now → IfErr result (StopsAtPlace (C.sets conds.old).arities
+            (Comes (C.sets conds.old) names.old files.now self.old any_machine (λ config m f. (acts m ≡ true) × DirectiveHas m.state.macros (seen_line names.old files.now line.now) f)) limit) }
 
         // at every outcome
         ensures keeps { Keeps (C.sets conds.old) (C.sets conds.new) }
@@ -81,6 +92,9 @@ impl Walk {
         ensures walk { OnOk result (IsHeldWalk names.new (length files.now) any_token self.new) }
         ensures list { OnOk result (self.new.prepared.list ≡ self.old.prepared.list) }
         ensures stops { IfErr result (StopsBy (C.sets conds.old).arities limit) }
+        ensures gathered { OnOk result (self.new.gathered ≡ self.old.gathered) }
+        ensures footprints { (d : Directive) → (seen_line names.old files.now line.now).directive ≡ Some d → is_said d ≡ true → StandApart line.now → IfErr result (StopsAtPlace (C.sets conds.old).arities
+            (Comes (C.sets conds.old) names.old files.now self.old any_machine (λ config m f. (acts m ≡ true) × DirectiveHas m.state.macros (seen_line names.old files.now line.now) f)) limit) }
 
         // at every outcome
         ensures keeps { Keeps (C.sets conds.old) (C.sets conds.new) }

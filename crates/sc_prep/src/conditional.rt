@@ -8,6 +8,8 @@ ghost use Rattle.sc_lines.specs.Nests.{seen_line};
 ghost use Rattle.sc_model.specs.Growth.{Extends};
 ghost use Rattle.sc_model.specs.Sets.{Keeps};
 ghost use Rattle.sc_prep.specs.Machine.{Decided, step};
+ghost use Rattle.sc_prep.specs.Apart.{StandApart};
+ghost use Rattle.sc_prep.specs.Footprints.{Comes, ComesAt, StopsAtPlace, any_machine};
 ghost use Rattle.sc_prep.specs.Printable.{IsHeldWalk, IsPlaced, any_token};
 ghost use Rattle.sc_prep.specs.Simulates.{Owns, SimulatesOneOf};
 ghost use Rattle.sc_table.specs.Table.{IsTable};
@@ -38,6 +40,9 @@ impl Walk {
         ensures walk { OnOk result (IsHeldWalk names.new (length files.now) any_token self.new) }
         ensures list { OnOk result (self.new.prepared.list ≡ self.old.prepared.list) }
         ensures stops { IfErr result (StopsBy (C.sets conds.old).arities limit) }
+        ensures gathered { OnOk result (self.new.gathered ≡ self.old.gathered) }
+        ensures footprints { (x : Context) → StandApart line.now → IfErr result (StopsAtPlace (C.sets conds.old).arities (Comes (C.sets conds.old) names.old files.now self.old any_machine
+            (λ config m f. ComesAt x m (seen_line names.old files.now line.now) f)) limit) }
 
         // at every outcome
         ensures keeps { Keeps (C.sets conds.old) (C.sets conds.new) }
@@ -69,6 +74,9 @@ impl Walk {
         ensures walk { OnOk result (IsHeldWalk names.new (length files.now) any_token self.new) }
         ensures list { OnOk result (self.new.prepared.list ≡ self.old.prepared.list) }
         ensures stops { IfErr result (StopsBy (C.sets conds.old).arities limit) }
+        ensures gathered { OnOk result (self.new.gathered ≡ self.old.gathered) }
+        ensures footprints { (x : Context) → StandApart line.now → IfErr result (StopsAtPlace (C.sets conds.old).arities (Comes (C.sets conds.old) names.old files.now self.old any_machine
+            (λ config m f. ComesAt x m (seen_line names.old files.now line.now) f)) limit) }
 
         // at every outcome
         ensures keeps { Keeps (C.sets conds.old) (C.sets conds.new) }

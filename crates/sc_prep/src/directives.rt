@@ -1,4 +1,4 @@
-ghost use Rattle.std.specs.Prelude.{◌≡◌, ℕ, ◌<◌, ◌&&◌, List, All, None, Some, Ok, true, false, length, OnOk, IfErr, IfOk, IfSome, if◌then◌else◌};
+ghost use Rattle.std.specs.Prelude.{◌≡◌, ℕ, ◌<◌, ◌&&◌, ◌++◌, List, All, None, Some, Ok, true, false, length, OnOk, IfErr, IfOk, IfSome, if◌then◌else◌};
 ghost use Rattle.std.specs.Option.{option_map};
 ghost use Rattle.sc_base.specs.Seen.{IsHeld, text_at};
 ghost use Rattle.sc_base.specs.declared.stop.Stop.TheVariants as stop;
@@ -13,6 +13,8 @@ ghost use Rattle.sc_macro.specs.Reads.{seen_defined};
 ghost use Rattle.sc_macro.specs.Seen.{IsHeldDefinition};
 ghost use Rattle.sc_expand.specs.Stops.{StopsBy};
 ghost use Rattle.sc_model.specs.Growth.{Extends};
+ghost use Rattle.sc_prep.specs.Apart.{GathersFrom, StandApart, tokens_in};
+ghost use Rattle.sc_prep.specs.Footprints.{Comes, ComesAt, StopsAtPlace, any_machine};
 ghost use Rattle.sc_prep.specs.Machine as machine;
 ghost use Rattle.sc_prep.specs.Machine.{Decided, Takes, acts, changed_by, changing, defined_as, ends_run, is_taken, plain_by, opened_by_name, refusing, opened};
 ghost use Rattle.sc_prep.specs.Simulates.{Owns, SimulatesOneOf, SimulatesStep};
@@ -53,6 +55,9 @@ impl Walk {
         ensures plain { OnOk result (ClosesPlain (C.sets conds.old) names.old files.now self.old → AllPass (is_plain names.old) self.old.prepared.list
             → AllPass (is_plain names.new) self.new.prepared.list) }
         ensures stops { IfErr result (StopsBy (C.sets conds.old).arities limit) }
+        ensures gathers { OnOk result (GathersFrom tokens.now self.old self.new) }
+        ensures footprints { (x : Context) → StandApart (tokens_in self.old.gathered ++ tokens.now) → IfErr result (StopsAtPlace (C.sets conds.old).arities (Comes (C.sets conds.old) names.old files.now self.old any_machine
+            (λ config m f. ComesAt x m (seen_line names.old files.now tokens.now) f)) limit) }
 
         // at every outcome
         ensures keeps { Keeps (C.sets conds.old) (C.sets conds.new) }
@@ -93,6 +98,9 @@ impl Walk {
         ensures plain { OnOk result (ClosesPlain (C.sets conds.old) names.old files.now self.old → AllPass (is_plain names.old) self.old.prepared.list
             → AllPass (is_plain names.new) self.new.prepared.list) }
         ensures stops { IfErr result (StopsBy (C.sets conds.old).arities limit) }
+        ensures gathers { OnOk result (GathersFrom line.now self.old self.new) }
+        ensures footprints { (x : Context) → StandApart (tokens_in self.old.gathered ++ line.now) → IfErr result (StopsAtPlace (C.sets conds.old).arities (Comes (C.sets conds.old) names.old files.now self.old any_machine
+            (λ config m f. ComesAt x m (seen_line names.old files.now line.now) f)) limit) }
 
         // at every outcome
         ensures keeps { Keeps (C.sets conds.old) (C.sets conds.new) }
@@ -128,6 +136,9 @@ impl Walk {
         ensures plain { OnOk result (ClosesPlain (C.sets conds.old) names.old files.now self.old → AllPass (is_plain names.old) self.old.prepared.list
             → AllPass (is_plain names.new) self.new.prepared.list) }
         ensures stops { IfErr result (StopsBy (C.sets conds.old).arities limit) }
+        ensures gathers { OnOk result (GathersFrom line.now self.old self.new) }
+        ensures footprints { (x : Context) → StandApart (tokens_in self.old.gathered ++ line.now) → IfErr result (StopsAtPlace (C.sets conds.old).arities (Comes (C.sets conds.old) names.old files.now self.old any_machine
+            (λ config m f. ComesAt x m (seen_line names.old files.now line.now) f)) limit) }
 
         // at every outcome
         ensures keeps { Keeps (C.sets conds.old) (C.sets conds.new) }
@@ -161,6 +172,9 @@ impl Walk {
         ensures walk { OnOk result (IsHeldWalk names.new (length files.now) any_token self.new) }
         ensures list { OnOk result (self.new.prepared.list ≡ self.old.prepared.list) }
         ensures stops { IfErr result (StopsBy (C.sets conds.old).arities limit) }
+        ensures gathered { OnOk result (self.new.gathered ≡ self.old.gathered) }
+        ensures footprints { (x : Context) → StandApart line.now → IfErr result (StopsAtPlace (C.sets conds.old).arities (Comes (C.sets conds.old) names.old files.now self.old any_machine
+            (λ config m f. ComesAt x m (seen_line names.old files.now line.now) f)) limit) }
 
         // at every outcome
         ensures keeps { Keeps (C.sets conds.old) (C.sets conds.new) }
@@ -189,6 +203,7 @@ impl Walk {
             (λ files config m. opened (refusing m (seen_line names files line.now) BadDirective) false)) }
         ensures list { OnOk result (self.new.prepared.list ≡ self.old.prepared.list) }
         ensures memory { IfErr result (λ s. s ≡ stop.OutOfMemory) }
+        ensures gathered { OnOk result (self.new.gathered ≡ self.old.gathered) }
         ensures keeps { Keeps (C.sets conds.old) (C.sets conds.new) }
     {
         self.refuse_all(conds, Cause::BadDirective, line)?;
@@ -215,6 +230,7 @@ impl Walk {
             (λ files config m. opened_by_name m (seen_line names.now files line.now) (is_taken m.state.macros wanted) (operand_of (seen_line names.now files line.now)))) }
         ensures list { OnOk result (self.new.prepared.list ≡ self.old.prepared.list) }
         ensures memory { IfErr result (λ s. s ≡ stop.OutOfMemory) }
+        ensures gathered { OnOk result (self.new.gathered ≡ self.old.gathered) }
         ensures keeps { Keeps (C.sets conds.old) (C.sets conds.new) }
     {
         match operand(names, line) {
@@ -240,6 +256,7 @@ impl Walk {
             (λ files config m. opened m (acts m && is_taken m.state.macros wanted (text_at names.now name.0)))) }
         ensures list { OnOk result (self.new.prepared.list ≡ self.old.prepared.list) }
         ensures memory { IfErr result (λ s. s ≡ stop.OutOfMemory) }
+        ensures gathered { OnOk result (self.new.gathered ≡ self.old.gathered) }
         ensures keeps { Keeps (C.sets conds.old) (C.sets conds.new) }
     {
         let taken = taken(conds, names, &mut self.table, name, wanted)?;
@@ -265,6 +282,7 @@ impl Walk {
         ensures printable { OnOk result (StaysHeld names.now line.now self.old self.new) }
         ensures moved { OnOk result (SimulatesStep names.now (C.sets conds.old) self.old (C.sets conds.new) self.new (λ files config m. plain_by m (seen_line names.now files line.now) directive)) }
         ensures memory { IfErr result (λ s. s ≡ stop.OutOfMemory) }
+        ensures gathers { OnOk result (GathersFrom line.now self.old self.new) }
         ensures keeps { Keeps (C.sets conds.old) (C.sets conds.new) }
     {
         match directive {
@@ -290,6 +308,7 @@ impl Walk {
         ensures printable { OnOk result ((names : List (List ℕ)) → StaysHeld names line.now self.old self.new) }
         ensures moved { OnOk result ((names : List (List ℕ)) → SimulatesStep names (C.sets conds.old) self.old (C.sets conds.new) self.new (λ files config m. plain_by m (seen_line names files line.now) (Some directive))) }
         ensures memory { IfErr result (λ s. s ≡ stop.OutOfMemory) }
+        ensures gathered { OnOk result (self.new.gathered ≡ self.old.gathered) }
         ensures keeps { Keeps (C.sets conds.old) (C.sets conds.new) }
     {
         match refusal(directive) {
@@ -315,6 +334,7 @@ impl Walk {
         ensures moved { OnOk result (SimulatesStep names.now (C.sets conds.old) self.old (C.sets conds.new) self.new
             (λ files config m. changing m (seen_line names.now files line.now) (changed_by m.state.macros (seen_line names.now files line.now) kind.Define))) }
         ensures memory { IfErr result (λ s. s ≡ stop.OutOfMemory) }
+        ensures gathered { OnOk result (self.new.gathered ≡ self.old.gathered) }
         ensures keeps { Keeps (C.sets conds.old) (C.sets conds.new) }
     {
         match read_define(alloc, names, line) {
@@ -341,6 +361,7 @@ impl Walk {
         ensures moved { OnOk result (SimulatesStep names.now (C.sets conds.old) self.old (C.sets conds.new) self.new
             (λ files config m. changing m (seen_line names.now files line.now) (defined_as m.state.macros (Ok (seen_defined names.now definition))))) }
         ensures memory { IfErr result (λ s. s ≡ stop.OutOfMemory) }
+        ensures gathered { OnOk result (self.new.gathered ≡ self.old.gathered) }
         ensures keeps { Keeps (C.sets conds.old) (C.sets conds.new) }
     {
         let refused = self.table.define(conds, names, definition, self.acting)?;
@@ -364,6 +385,7 @@ impl Walk {
         ensures moved { OnOk result (SimulatesStep names.now (C.sets conds.old) self.old (C.sets conds.new) self.new
             (λ files config m. changing m (seen_line names.now files line.now) (changed_by m.state.macros (seen_line names.now files line.now) kind.Undef))) }
         ensures memory { IfErr result (λ s. s ≡ stop.OutOfMemory) }
+        ensures gathered { OnOk result (self.new.gathered ≡ self.old.gathered) }
         ensures keeps { Keeps (C.sets conds.old) (C.sets conds.new) }
     {
         match operand(names, line) {
@@ -389,6 +411,7 @@ impl Walk {
         ensures moved { OnOk result (SimulatesStep names.now (C.sets conds.old) self.old (C.sets conds.new) self.new
             (λ files config m. changing m (seen_line names.now files line.now) (undefined m.state.macros (Some (text_at names.now name.0))))) }
         ensures memory { IfErr result (λ s. s ≡ stop.OutOfMemory) }
+        ensures gathered { OnOk result (self.new.gathered ≡ self.old.gathered) }
         ensures keeps { Keeps (C.sets conds.old) (C.sets conds.new) }
     {
         let refused = self.table.undef(conds, names, name, self.acting)?;

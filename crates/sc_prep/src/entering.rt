@@ -1,10 +1,11 @@
 //! Entering a file from the lines around its `#include`, and leaving it.
-ghost use Rattle.std.specs.Prelude.{◌≡◌, OnOk, List, ℕ};
+ghost use Rattle.std.specs.Prelude.{◌≡◌, IfOk, OnOk, List, ℕ};
 ghost use Rattle.sc_model.specs.Sets.{IsCond, Keeps};
 ghost use Rattle.sc_prep.specs.Entering.{Begins, Leaves};
 
 use crate::walk::{Section, Walk};
-use sc_base::{Cond, OutOfMemory};
+use sc_base::{Cond, OutOfMemory, Token};
+use sc_guarded::Guarded;
 use sc_presence::Conditions;
 use std::alloc::Global;
 use std::mem;
@@ -14,18 +15,26 @@ use std::mem;
 pub struct Around {
     pub group: Cond,
     pub sections: Vec<Section>,
+    /// The text of configurations that do not enter the file.
+    pub gathered: Guarded<Token>,
 }
 
 impl Walk {
     /// These configurations go on before the first line of a file.
-    pub fn begin_file(&mut self, alloc: Global, entering: Cond) -> Around
-        ensures { Begins self.old entering self.new result }
+    pub fn begin_file(&mut self, alloc: Global, entering: Cond) -> Result<Around, OutOfMemory>
+        ensures { IfOk result (λ around. Begins self.old entering self.new around) }
     {
+        let nothing = Guarded::new(alloc)?;
+        let gathered = mem::replace(&mut self.gathered, nothing);
         let sections = mem::replace(&mut self.sections, Vec::new(alloc));
         let group = self.group;
         self.group = entering;
         self.acting = entering;
-        Around { group, sections }
+        Ok(Around {
+            group,
+            sections,
+            gathered,
+        })
     }
 
     /// The walk goes on where it stood.
@@ -45,6 +54,7 @@ impl Walk {
         let acting = conds.apply_and(around.group, self.prepared.live)?;
         self.group = around.group;
         self.sections = around.sections;
+        self.gathered = around.gathered;
         self.acting = acting;
         Ok(())
     }

@@ -1,19 +1,28 @@
 //! The expression of a line under all configurations at once (C11 6.10.1).
-ghost use Rattle.std.specs.Prelude.{◌≡◌, ◌<◌, ◌∷◌, ◌&&◌, ◌⊎◌, All, List, ℕ, Some, IfErr, IfOk, OnOk, is_none, length, map};
+ghost use Rattle.std.specs.Prelude.{◌≡◌, ◌<◌, ◌∷◌, ◌&&◌, ◌⊎◌, All, List, ℕ, Some, IfErr, IfOk, OnOk, Result, is_none, length, map, true};
 ghost use Rattle.c11_directives.specs.declared.directive.Conditional.TheVariants as conditional;
+ghost use Rattle.c11_directives.specs.Footprints.{DirectiveHas, NameHas};
 ghost use Rattle.c11_directives.specs.Lines.{conditional_of};
 ghost use Rattle.c11_directives.specs.Pre.{Context};
+ghost use Rattle.c11_macros.specs.Text.{TextExpands};
 ghost use Rattle.sc_base.specs.declared.stop.Stop.TheVariants as stop;
 ghost use Rattle.sc_base.specs.Seen.{IsHeld, seen, seen_place};
+ghost use Rattle.sc_expand.specs.Alike.{DefineTextAlike};
 ghost use Rattle.sc_expand.specs.Stops.{StopsBy};
 ghost use Rattle.sc_guarded.specs.Items.{items_at};
+ghost use Rattle.sc_hoist.specs.Alike.{AreAlike};
+ghost use Rattle.sc_hoist.specs.Places.{places_at};
 ghost use Rattle.sc_lines.specs.Nests.{seen_line};
+ghost use Rattle.sc_model.specs.Fault.{Fault};
 ghost use Rattle.sc_model.specs.Growth.{Extends};
-ghost use Rattle.sc_model.specs.Sets.{IsCond, Keeps};
+ghost use Rattle.sc_model.specs.Sets.{IsCond, IsConfig, Keeps};
+ghost use Rattle.sc_model.specs.Token as model;
 ghost use Rattle.sc_prep.specs.Expressions.{DecidesAt, EvaluatesAt, ExpandsAt, ReplacesAt};
+ghost use Rattle.sc_prep.specs.Apart.{AreDifferent, StandApart};
+ghost use Rattle.sc_prep.specs.Footprints.{Comes, StopsAtPlace, StopsByLists, any_machine};
 ghost use Rattle.sc_prep.specs.Printable.{ArePlaced, IsHeldWalk, IsPlaced, any_token};
 ghost use Rattle.sc_prep.specs.Simulates.{Owns, SimulatesOneOf};
-ghost use Rattle.sc_table.specs.Table.{IsTable};
+ghost use Rattle.sc_table.specs.Table.{IsTable, macros_at};
 
 use crate::behind::behind_name;
 use crate::walk::Walk;
@@ -50,6 +59,9 @@ impl Walk {
         ensures walk { OnOk result (IsHeldWalk names.new (length files.now) any_token self.new) }
         ensures list { OnOk result (self.new.prepared.list ≡ self.old.prepared.list) }
         ensures stops { IfErr result (StopsBy (C.sets conds.old).arities limit) }
+        ensures gathered { OnOk result (self.new.gathered ≡ self.old.gathered) }
+        ensures footprints { StandApart line.now → IfErr result (StopsAtPlace (C.sets conds.old).arities (Comes (C.sets conds.old) names.old files.now self.old any_machine
+            (λ config m f. (((C.sets conds.old).has among.0 config && is_none m.fault) ≡ true) × DirectiveHas m.state.macros (seen_line names.old files.now line.now) f)) limit) }
 
         // at every outcome
         ensures keeps { Keeps (C.sets conds.old) (C.sets conds.new) }
@@ -91,6 +103,8 @@ impl Walk {
         ensures walk { OnOk result ((files : ℕ) → hash.file.0 < files → IsHeldWalk names.old files any_token self.old → IsHeldWalk names.new files any_token self.new) }
         ensures list { OnOk result (self.new.prepared.list ≡ self.old.prepared.list) }
         ensures memory { IfErr result (λ s. s ≡ stop.OutOfMemory) }
+        ensures gathered { OnOk result (self.new.gathered ≡ self.old.gathered) }
+        ensures different { IfOk result (λ list. (files : List (List ℕ)) → StandApart text.now → AreDifferent names.new files list) }
 
         // at every outcome
         ensures keeps { Keeps (C.sets conds.old) (C.sets conds.new) }
@@ -129,6 +143,16 @@ impl Walk {
         ensures walk { OnOk result (IsHeldWalk names.new (length files.now) any_token self.new) }
         ensures list { OnOk result (self.new.prepared.list ≡ self.old.prepared.list) }
         ensures stops { IfErr result (StopsBy (C.sets conds.old).arities limit) }
+        ensures gathered { OnOk result (self.new.gathered ≡ self.old.gathered) }
+        ensures answers { IfOk result (λ r. (c : List ℕ) → IsConfig (C.sets conds.old).arities c → ((C.sets conds.old).has among.0 c && (C.sets conds.old).has self.old.prepared.live.0 c) ≡ true
+            → (answer : Result (List model.Token) Fault) × TextExpands (macros_at (C.sets conds.old) names.old self.old.table c) (map (seen names.old files.now) (items_at (C.sets conds.old) list.now c)) answer) }
+        ensures alike { IfOk result (λ r. (c d : List ℕ) → IsConfig (C.sets conds.old).arities c → IsConfig (C.sets conds.old).arities d
+            → ((C.sets conds.old).has among.0 c && (C.sets conds.old).has self.old.prepared.live.0 c) ≡ true → ((C.sets conds.old).has among.0 d && (C.sets conds.old).has self.old.prepared.live.0 d) ≡ true
+            → AreAlike (C.sets conds.old) c d list.now
+            → DefineTextAlike (macros_at (C.sets conds.old) names.old self.old.table c) (macros_at (C.sets conds.old) names.old self.old.table d) (map (seen names.old files.now) (items_at (C.sets conds.old) list.now c))
+            → AreAlike (C.sets conds.new) c d r) }
+        ensures footprints { AreDifferent names.old files.now list.now → IfErr result (StopsAtPlace (C.sets conds.old).arities (Comes (C.sets conds.old) names.old files.now self.old any_machine
+            (λ config m f. (((C.sets conds.old).has among.0 config && is_none m.fault) ≡ true) × NameHas m.state.macros (map (seen names.old files.now) (items_at (C.sets conds.old) list.now config)) f)) limit) }
 
         // at every outcome
         ensures keeps { Keeps (C.sets conds.old) (C.sets conds.new) }
@@ -166,6 +190,8 @@ impl Walk {
         ensures walk { OnOk result ((files : ℕ) → hash.file.0 < files → IsHeldWalk names.now files any_token self.old → IsHeldWalk names.now files any_token self.new) }
         ensures list { OnOk result (self.new.prepared.list ≡ self.old.prepared.list) }
         ensures stops { IfErr result (StopsBy (C.sets conds.old).arities limit) }
+        ensures gathered { OnOk result (self.new.gathered ≡ self.old.gathered) }
+        ensures lists { IfErr result (StopsByLists (C.sets conds.old).arities (λ c. (C.sets conds.old).has among.0 c && (C.sets conds.old).has self.old.prepared.live.0 c) (λ c. places_at (C.sets conds.old) list.now c) limit) }
 
         // at every outcome
         ensures keeps { Keeps (C.sets conds.old) (C.sets conds.new) }

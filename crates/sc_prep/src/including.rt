@@ -1,6 +1,8 @@
 //! The files that an `#include` enters (C11 6.10.2).
 ghost use Rattle.std.specs.Prelude.{◌≡◌, ◌<◌, ◌≤◌, All, List, ℕ, IfErr, IfOk, OnOk, length, true, Some, slice_get};
-ghost use Rattle.c11_directives.specs.Pre.{Context};
+ghost use Rattle.c11_directives.specs.declared.directive.Directive.{Directive};
+ghost use Rattle.c11_directives.specs.Footprints.{DirectiveHas};
+ghost use Rattle.c11_directives.specs.Pre.{Context, is_said};
 ghost use Rattle.sc_base.specs.Seen.{text_at};
 ghost use Rattle.sc_expand.specs.Stops.{StopsBy};
 ghost use Rattle.sc_lines.specs.Nests.{seen_line};
@@ -9,7 +11,9 @@ ghost use Rattle.sc_model.specs.Sets.{IsCond, Keeps};
 ghost use Rattle.sc_model.specs.Space.{arities_of};
 ghost use Rattle.sc_prep.specs.Contents.{Agrees, KeepsContents};
 ghost use Rattle.sc_prep.specs.Includes.{ArePartsOf, Finds, files_at};
-ghost use Rattle.sc_prep.specs.Machine.{refusing_if};
+ghost use Rattle.sc_prep.specs.Apart.{StandApart};
+ghost use Rattle.sc_prep.specs.Footprints.{Comes, StopsAtPlace, any_machine};
+ghost use Rattle.sc_prep.specs.Machine.{acts, refusing_if};
 ghost use Rattle.sc_prep.specs.Naming.{ArePlainNames, NamesAt, headers_in};
 ghost use Rattle.sc_prep.specs.Preprocesses.{Stops};
 ghost use Rattle.sc_prep.specs.Printable.{ArePlainPaths, IsHeldWalk, IsPlaced, StaysHeld, any_token, is_plain};
@@ -70,6 +74,9 @@ impl Walk {
             → PlainEach (C.sets conds.old) names.old files.old self.old (IsIn files.old entry) → ArePlainPaths files.new) }
         ensures read { OnOk result (KeepsContents contents.old contents.new) }
         ensures stops { IfErr result (Stops (C.sets conds.old).arities (seen_space space.now).branches (S.faults src.old) (S.faults src.new)) }
+        ensures gathered { OnOk result (self.new.gathered ≡ self.old.gathered) }
+        ensures footprints { (d : Directive) → (seen_line names.old files.old line.now).directive ≡ Some d → is_said d ≡ true → StandApart line.now → IfErr result (StopsAtPlace (C.sets conds.old).arities
+            (Comes (C.sets conds.old) names.old files.old self.old any_machine (λ config m f. (acts m ≡ true) × DirectiveHas m.state.macros (seen_line names.old files.old line.now) f)) (seen_space space.now).branches) }
 
         // at every outcome
         ensures kept { S.holds src.new ≡ S.holds src.old }
@@ -124,6 +131,9 @@ impl Walk {
         ensures walk { OnOk result (IsHeldWalk names.new (length files.now) any_token self.new) }
         ensures list { OnOk result (self.new.prepared.list ≡ self.old.prepared.list) }
         ensures stops { IfErr result (StopsBy (C.sets conds.old).arities limit) }
+        ensures gathered { OnOk result (self.new.gathered ≡ self.old.gathered) }
+        ensures footprints { (d : Directive) → (seen_line names.old files.now line.now).directive ≡ Some d → is_said d ≡ true → StandApart line.now → IfErr result (StopsAtPlace (C.sets conds.old).arities
+            (Comes (C.sets conds.old) names.old files.now self.old any_machine (λ config m f. (acts m ≡ true) × DirectiveHas m.state.macros (seen_line names.old files.now line.now) f)) limit) }
 
         // at every outcome
         ensures keeps { Keeps (C.sets conds.old) (C.sets conds.new) }
@@ -152,6 +162,7 @@ impl Walk {
         ensures moved { OnOk result ((names : List (List ℕ)) → SimulatesStep names (C.sets conds.old) self.old (C.sets conds.new) self.new
             (λ files config m. refusing_if ((C.sets conds.old).has part.0 config) m (seen_line names files line.now) cause)) }
         ensures list { OnOk result (self.new.prepared.list ≡ self.old.prepared.list) }
+        ensures gathered { OnOk result (self.new.gathered ≡ self.old.gathered) }
         ensures keeps { Keeps (C.sets conds.old) (C.sets conds.new) }
     {
         let refused = conds.apply_and(part, self.acting)?;

@@ -1,5 +1,5 @@
 //! The walk of a file's lines, and of the files that they include.
-ghost use Rattle.std.specs.Prelude.{◌≡◌, ℕ, ◌<◌, ◌≤◌, [], List, All, length, OnOk, IfErr, Some, true};
+ghost use Rattle.std.specs.Prelude.{◌≡◌, ℕ, ◌<◌, ◌≤◌, ◌++◌, [], List, All, length, OnOk, IfErr, Some, true};
 ghost use Rattle.c11_directives.specs.Pre.{Context};
 ghost use Rattle.c11_directives.specs.declared.directive.Directive.TheVariants as kind;
 ghost use Rattle.sc_base.specs.Seen.{text_at};
@@ -8,11 +8,13 @@ ghost use Rattle.sc_lines.specs.Split.{directive_at};
 ghost use Rattle.sc_model.specs.Growth.{Extends};
 ghost use Rattle.sc_model.specs.Sets.{IsCond, Keeps};
 ghost use Rattle.sc_prep.specs.Contents.{Agrees, AreHeldLines, KeepsContents, content_at};
+ghost use Rattle.sc_prep.specs.Apart.{GathersFrom, StandApart, tokens_in};
+ghost use Rattle.sc_prep.specs.Footprints.{Comes, ComesAt, ComesInside, ComesOver, StopsAtPlace};
 ghost use Rattle.sc_prep.specs.Includes.{EntersAt};
 ghost use Rattle.sc_prep.specs.Machine.{Takes};
 ghost use Rattle.sc_prep.specs.Preprocesses.{Stops};
 ghost use Rattle.sc_prep.specs.Printable.{AllPass, ArePlainPaths, IsPlaced, is_plain};
-ghost use Rattle.sc_prep.specs.Simulates.{Covers, IsAtTop, IsContext, IsIn, IsReady, Leads, PlainEach};
+ghost use Rattle.sc_prep.specs.Simulates.{Covers, IsAtTop, IsBetweenRuns, IsContext, IsIn, IsReady, Leads, PlainEach};
 ghost use Rattle.sc_space.specs.Seen.{seen_space};
 ghost use Rattle.sc_space.specs.Sound.{IsSound};
 
@@ -60,6 +62,8 @@ impl Walk {
             → ArePlainPaths files.old → PlainEach (C.sets conds.old) names.old files.old self.old (IsAtTop files.old entry) → ArePlainPaths files.new) }
         ensures read { OnOk result (KeepsContents contents.old contents.new) }
         ensures stops { IfErr result (Stops (C.sets conds.old).arities (seen_space space.now).branches (S.faults src.old) (S.faults src.new)) }
+        ensures footprints { (x : Context) → IsContext (seen_space space.now) x → S.holds src.old ≡ Some x.files → self.old.gathered ≡ [] → StandApart file.now.tokens.items → IfErr result (StopsAtPlace (C.sets conds.old).arities
+            (Comes (C.sets conds.old) names.old files.old self.old (IsAtTop files.old entry) (λ config m f. ComesOver x (seen_lines names.old files.old file.now.tokens.items) m f)) (seen_space space.now).branches) }
 
         // at every outcome
         ensures kept { S.holds src.new ≡ S.holds src.old }
@@ -114,6 +118,9 @@ impl Walk {
             → ArePlainPaths files.old → PlainEach (C.sets conds.old) names.old files.old self.old (IsIn files.old entry) → ArePlainPaths files.new) }
         ensures read { OnOk result (KeepsContents contents.old contents.new) }
         ensures stops { IfErr result (Stops (C.sets conds.old).arities (seen_space space.now).branches (S.faults src.old) (S.faults src.new)) }
+        ensures gathers { OnOk result (GathersFrom tokens.now self.old self.new) }
+        ensures footprints { (x : Context) → IsContext (seen_space space.now) x → S.holds src.old ≡ Some x.files → StandApart (tokens_in self.old.gathered ++ tokens.now) → IfErr result (StopsAtPlace (C.sets conds.old).arities
+            (Comes (C.sets conds.old) names.old files.old self.old (IsIn files.old entry) (λ config m f. ComesAt x m (seen_line names.old files.old tokens.now) f)) (seen_space space.now).branches) }
 
         // at every outcome
         ensures kept { S.holds src.new ≡ S.holds src.old }
@@ -167,6 +174,9 @@ impl Walk {
             → ArePlainPaths files.old → PlainEach (C.sets conds.old) names.old files.old self.old (IsIn files.old entry) → ArePlainPaths files.new) }
         ensures read { OnOk result (KeepsContents contents.old contents.new) }
         ensures stops { IfErr result (Stops (C.sets conds.old).arities (seen_space space.now).branches (S.faults src.old) (S.faults src.new)) }
+        ensures gathers { OnOk result (GathersFrom line.now self.old self.new) }
+        ensures footprints { (x : Context) → IsContext (seen_space space.now) x → S.holds src.old ≡ Some x.files → StandApart (tokens_in self.old.gathered ++ line.now) → IfErr result (StopsAtPlace (C.sets conds.old).arities
+            (Comes (C.sets conds.old) names.old files.old self.old (IsIn files.old entry) (λ config m f. ComesAt x m (seen_line names.old files.old line.now) f)) (seen_space space.now).branches) }
 
         // at every outcome
         ensures kept { S.holds src.new ≡ S.holds src.old }
@@ -221,16 +231,19 @@ impl Walk {
         requires deep { entry.depth ≤ space.now.limits.include_depth }
         requires ready { IsReady (C.sets conds.old) names.old files.old (S.holds src.old) self.old contents.old }
         ensures enters { OnOk result ((x : Context) → IsContext (seen_space space.now) x → Agrees names.new files.new x.files contents.new
-            → Leads files.old names.old (C.sets conds.old) self.old files.new names.new (C.sets conds.new) self.new (λ m. Unit {0})
+            → Leads files.old names.old (C.sets conds.old) self.old files.new names.new (C.sets conds.new) self.new IsBetweenRuns
             (λ config m n. EntersAt x (text_at files.old entry.file.0) entry.depth m ((C.sets conds.old).has cond.0 config) n)) }
         ensures ready { OnOk result (IsReady (C.sets conds.new) names.new files.new (S.holds src.new) self.new contents.new) }
         ensures plain { OnOk result ((x : Context) → IsContext (seen_space space.now) x → Agrees names.new files.new x.files contents.new → IsSound (seen_space space.now)
-            → ArePlainPaths files.old → PlainEach (C.sets conds.old) names.old files.old self.old (λ m. Unit {0})
+            → ArePlainPaths files.old → PlainEach (C.sets conds.old) names.old files.old self.old IsBetweenRuns
             → AllPass (is_plain names.old) self.old.prepared.list → AllPass (is_plain names.new) self.new.prepared.list) }
         ensures paths { OnOk result ((x : Context) → IsContext (seen_space space.now) x → Agrees names.new files.new x.files contents.new → IsSound (seen_space space.now)
-            → ArePlainPaths files.old → PlainEach (C.sets conds.old) names.old files.old self.old (λ m. Unit {0}) → ArePlainPaths files.new) }
+            → ArePlainPaths files.old → PlainEach (C.sets conds.old) names.old files.old self.old IsBetweenRuns → ArePlainPaths files.new) }
         ensures read { OnOk result (KeepsContents contents.old contents.new) }
         ensures stops { IfErr result (Stops (C.sets conds.old).arities (seen_space space.now).branches (S.faults src.old) (S.faults src.new)) }
+        ensures gathered { OnOk result (self.new.gathered ≡ self.old.gathered) }
+        ensures footprints { (x : Context) → IsContext (seen_space space.now) x → S.holds src.old ≡ Some x.files → IfErr result (StopsAtPlace (C.sets conds.old).arities
+            (Comes (C.sets conds.old) names.old files.old self.old IsBetweenRuns (λ config m f. ((C.sets conds.old).has cond.0 config ≡ true) × ComesInside x (text_at files.old entry.file.0) entry.depth m f)) (seen_space space.now).branches) }
 
         // at every outcome
         ensures kept { S.holds src.new ≡ S.holds src.old }
@@ -245,7 +258,7 @@ impl Walk {
         }
         match content {
             Content::Lines(file) => {
-                let around = self.begin_file(alloc, inside);
+                let around = self.begin_file(alloc, inside)?;
                 self.walk_lines(
                     alloc, space, src, conds, names, files, contents, entry, file,
                 )?;

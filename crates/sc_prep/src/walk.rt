@@ -4,6 +4,7 @@ ghost use Rattle.sc_model.specs.Sets.{Sets, IsCond, IsNever, Denotes, Keeps, IsC
 ghost use Rattle.c11_directives.specs.Pre.{State, with_text};
 ghost use Rattle.sc_prep.specs.Machine.{Machine, acting, acts, opened, next_branch, ended, refusing, refusing_if, start};
 ghost use Rattle.sc_prep.specs.Simulates.{IsBegun, Owns, SimulatesStep, Simulates};
+ghost use Rattle.sc_prep.specs.Apart.{GathersFrom};
 ghost use Rattle.sc_prep.specs.Preprocesses.{OwnsList};
 ghost use Rattle.sc_lines.specs.Nests.{seen_line};
 ghost use Rattle.sc_prep.specs.Printable.{StaysHeld};
@@ -84,6 +85,7 @@ impl Walk {
         ensures list { OnOk result (self.new.prepared.list ≡ self.old.prepared.list) }
         ensures opened { OnOk result ((names : List (List ℕ)) (t : List ℕ → Bool) → Denotes (C.sets conds.old) test.0 t
             → SimulatesStep names (C.sets conds.old) self.old (C.sets conds.new) self.new (λ files config m. opened m (t config))) }
+        ensures gathered { OnOk result (self.new.gathered ≡ self.old.gathered) }
         ensures keeps { Keeps (C.sets conds.old) (C.sets conds.new) }
     {
         let others = conds.negate(test)?;
@@ -113,6 +115,7 @@ impl Walk {
         ensures moved { OnOk result ((names : List (List ℕ)) (t : List ℕ → Bool) → Denotes (C.sets conds.old) test.0 t
             → SimulatesStep names (C.sets conds.old) self.old (C.sets conds.new) self.new (λ files config m. next_branch m (t config) m.sections)) }
         ensures list { OnOk result (self.new.prepared.list ≡ self.old.prepared.list) }
+        ensures gathered { OnOk result (self.new.gathered ≡ self.old.gathered) }
         ensures keeps { Keeps (C.sets conds.old) (C.sets conds.new) }
     {
         let Some(section) = self.sections.pop() else {
@@ -150,6 +153,7 @@ impl Walk {
         ensures printable { OnOk result ((names : List (List ℕ)) (line : List base.Token) → StaysHeld names line self.old self.new) }
         ensures moved { OnOk result ((names : List (List ℕ)) → SimulatesStep names (C.sets conds.old) self.old (C.sets conds.new) self.new (λ files config m. ended m m.sections)) }
         ensures list { OnOk result (self.new.prepared.list ≡ self.old.prepared.list) }
+        ensures gathered { OnOk result (self.new.gathered ≡ self.old.gathered) }
         ensures keeps { Keeps (C.sets conds.old) (C.sets conds.new) }
     {
         let Some(section) = self.sections.pop() else {
@@ -178,6 +182,7 @@ impl Walk {
         ensures moved { OnOk result ((names : List (List ℕ)) (t : List ℕ → Bool) → Denotes (C.sets conds.old) part.0 (λ c. t c && (C.sets conds.old).has self.old.acting.0 c)
             → SimulatesStep names (C.sets conds.old) self.old (C.sets conds.new) self.new (λ files config m. refusing_if (t config) m (seen_line names files line.now) cause)) }
         ensures list { OnOk result (self.new.prepared.list ≡ self.old.prepared.list) }
+        ensures gathered { OnOk result (self.new.gathered ≡ self.old.gathered) }
         ensures keeps { Keeps (C.sets conds.old) (C.sets conds.new) }
     {
         if conds.is_never(part) {
@@ -204,6 +209,7 @@ impl Walk {
         ensures printable { OnOk result ((names : List (List ℕ)) → StaysHeld names line.now self.old self.new) }
         ensures moved { OnOk result ((names : List (List ℕ)) → SimulatesStep names (C.sets conds.old) self.old (C.sets conds.new) self.new (λ files config m. refusing m (seen_line names files line.now) cause)) }
         ensures list { OnOk result (self.new.prepared.list ≡ self.old.prepared.list) }
+        ensures gathered { OnOk result (self.new.gathered ≡ self.old.gathered) }
         ensures keeps { Keeps (C.sets conds.old) (C.sets conds.new) }
     {
         self.refuse(conds, self.acting, cause, line)
@@ -215,6 +221,7 @@ impl Walk {
         ensures printable { OnOk result ((names : List (List ℕ)) → StaysHeld names line.now self.old self.new) }
         ensures moved { OnOk result ((names : List (List ℕ)) → SimulatesStep names (C.sets conds.now) self.old (C.sets conds.now) self.new (λ files config m. acting m (λ state. with_text state (seen_line names files line.now)))) }
         ensures none { IsNever (C.sets conds.now) self.old.acting.0 → self.new ≡ self.old }
+        ensures gathers { OnOk result (GathersFrom line.now self.old self.new) }
     {
         if conds.is_never(self.acting) {
             return Ok(());

@@ -1,4 +1,4 @@
-use Rattle.std.proofs.Common.{◌≡◌, ◌<◌, All, length, map, sym, subst, true}
+use Rattle.std.proofs.Common.{◌≡◌, ◌<◌, All, List, length, map, sym, subst, true}
 use Rattle.std.proofs.lemmas.Result.{err_from_is_err_and}
 use Rattle.sc_base.specs.declared.id.Cond.{Cond}
 use Rattle.sc_base.specs.declared.token.Token.{Token}
@@ -7,7 +7,10 @@ use Rattle.sc_hoist.specs.declared.branch.Branch.{Branch}
 use Rattle.sc_model.specs.Sets.{IsCond}
 use Rattle.sc_prep.specs.Alternatives.{alternative_tokens, branch_tokens}
 use Rattle.sc_prep.proofs.BranchTokens.{alternatives-at, alternatives-each, alternatives-own, alternatives-some, bare-same, branches-below}
-use Rattle.sc_prep.proofs.Refusing.{stops-by}
+use Rattle.sc_prep.proofs.Refusing.{stops-by, stops-by-lists}
+use Rattle.sc_model.proofs.SetLemmas.{Denotes-self, Keeps-refl}
+use Rattle.sc_hoist.specs.Places.{places_at}
+use Rattle.sc_hoist.specs.Branches.{Refuses}
 use Rattle.sc_prep.proofs.alternatives.alternatives.Goals as goal
 
 pub lines-requires-clause-own : goal.lines-requires-clause-own
@@ -52,3 +55,10 @@ pub returns-clause-some : goal.returns-clause-some
 returns-clause-some g c =
     alternatives-some c.args.list.now c.args.cond.0 c.in_ok-branches.branches.items c.lines.ensures.keeps c.in_ok-branches.ensures.branches c.in_ok-branches.ensures.lists c.in_ok-alternatives.alternatives.items
     (subst (λ bs. map alternative_tokens c.in_ok-alternatives.alternatives.items ≡ map (branch_tokens c.args.list.now) bs) c.deref.ensures.value c.in_ok-alternatives.ensures)
+
+pub returns-in_err-branches-clause-lists : goal.returns-in_err-branches-clause-lists
+returns-in_err-branches-clause-lists g c =
+    let s = g.C.Conditions.sets c.args.conds.now in
+    let p = err_from_is_err_and c.from_residual.result c.from_residual.ensures.1 in
+    let own = subst (λ (l : List (Cond × Token)). Refuses s c.args.cond.0 (λ config. places_at s l config) c.args.limit c.in_err-branches.field-0.0) (bare-same c.args.list.now) c.in_err-branches.ensures.refused in
+    rw (p.1, p.2) (stops-by-lists (Keeps-refl s) (Denotes-self s c.args.cond.0 c.requires.cond_own) c.args.list.now c.requires.list_own c.args.limit _ own)

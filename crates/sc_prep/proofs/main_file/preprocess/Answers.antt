@@ -1,5 +1,6 @@
 use Rattle.std.proofs.Common.{◌∙◌, ◌<◌, ◌≡◌, ℕ, Global, List, Option, Some, ap, length, sym, subst}
 use Rattle.std.proofs.lemmas.Option.{none-some}
+use Rattle.std.proofs.lemmas.Result.{err_from_is_err_and}
 use Rattle.std.specs.Option.{option_map}
 use Rattle.std.specs.declared.rc.Rc.{Rc}
 use Rattle.c11_directives.specs.Pre.{Pre, context_of}
@@ -16,7 +17,7 @@ use Rattle.sc_prep.proofs.FindLemmas.{name-absent}
 use Rattle.sc_prep.proofs.main_file.preprocess.Goals as goal
 use Rattle.sc_prep.proofs.main_file.preprocess.Goals.{After-drop-walk-7}
 use Rattle.sc_prep.proofs.main_file.preprocess.Given.{Over}
-use Rattle.sc_prep.proofs.MainFile.{CanBeShown-end, IsOrdinary-end, begins-new, contents-new, end-inside, entered-is, entered-live, entered-shown, main-end, none-passed, paths-interned, plain-new, ready-new, refused-is, refused-live, refused-owns, refused-shown, space-context}
+use Rattle.sc_prep.proofs.MainFile.{CanBeShown-end, IsOrdinary-end, begins-new, contents-new, end-inside, entered-is, entered-live, entered-shown, entered-stops, main-end, none-passed, paths-interned, plain-new, ready-new, refused-is, refused-live, refused-owns, refused-shown, space-context}
 use Rattle.sc_prep.proofs.MainWalk.{missing-ordinary}
 use Rattle.sc_prep.specs.Contents.{end_place}
 use Rattle.sc_prep.specs.declared.content.Content.{Content}
@@ -169,3 +170,13 @@ returns-in_default-clause-live g c =
     let table = c.in_ok-table.ensures in
     let fresh = begins-new (seen_space c.args.space.now) c.intern.new.self c.requires.space walk.owns walk.empty walk.table table.table table.initial c.read.ensures.names walk.starts in
     refused-live fresh c.refuse_at.ensures.keeps c.args.main.now _ c.always-always.ensures.own c.always-always.ensures.meaning.at c.in_ok-refuse_at.ensures.refuses
+
+pub returns-in_err-enter-clause-footprints : goal.returns-in_err-enter-clause-footprints
+returns-in_err-enter-clause-footprints g c = λ outside holds.
+    let space = seen_space c.args.space.now in
+    let walk = c.in_ok-walk.ensures in
+    let table = c.in_ok-table.ensures in
+    let fresh = begins-new space c.intern.new.self c.requires.space walk.owns walk.empty walk.table table.table table.initial c.read.ensures.names walk.starts in
+    let stop = err_from_is_err_and c.from_residual-in_err-enter.result c.from_residual-in_err-enter.ensures.1 in
+    let full = c.in_err-enter.ensures.footprints (context_of space outside) (space-context space outside) (c.read.ensures.kept ∙ holds) in
+    rw (stop.1, stop.2) (entered-stops fresh c.args.main.now outside c.in_ok-file.file c.always-always.result c.in_ok-file.ensures.named space.branches c.in_err-enter.field-0.0 full)

@@ -1,4 +1,4 @@
-use Rattle.std.proofs.Common.{rules, OnOk, Result, Ok, Err, ◌≡◌, ◌∙◌, ℕ, ◌<◌, List, [], All, Some, refl, sym, ap, subst, arith, length}
+use Rattle.std.proofs.Common.{rules, OnOk, Result, Ok, Err, ◌≡◌, ◌∙◌, ℕ, ◌<◌, ◌++◌, List, [], All, Some, refl, sym, ap, subst, arith, length}
 use Rattle.std.proofs.lemmas.Result.{on_ok_weaker}
 use Rattle.c11_directives.specs.Pre.{context_of}
 use Rattle.sc_base.proofs.Growth.{Extends-refl, Extends-trans}
@@ -6,16 +6,21 @@ use Rattle.sc_lines.proofs.SeenLines.{directive-files}
 use Rattle.sc_base.specs.Seen.{text_at}
 use Rattle.sc_model.proofs.SetLemmas.{Denotes-self, Keeps-trans}
 use Rattle.sc_prep.proofs.Contents.{agrees-back}
-use Rattle.sc_prep.proofs.EnterLeads.{around-group, around-sections, begun-plain, held-lines, held-refusal, kept-lines, kept-refusal, leads-inside, leads-nowhere, leads-refused, left-plain, refused-list}
+use Rattle.sc_prep.proofs.EnterLeads.{begun-plain, held-lines, held-refusal, kept-lines, kept-refusal, leads-inside, leads-nowhere, leads-refused, left-plain, refused-list}
 use Rattle.sc_prep.proofs.LeadMoves.{content-named, contents-stay, leads-one, limit-stops, ready-moved, ready-begun, ready-kept, ready-left, ready-refused, stops-later}
-use Rattle.sc_prep.proofs.Going.{entry-within}
+use Rattle.sc_prep.proofs.Going.{entry-within, line-later}
 use Rattle.sc_prep.proofs.IncludeLeads.{gone-closed, gone-entered, gone-found, gone-taken, parts-later}
+use Rattle.sc_prep.proofs.ApartLemmas.{gathers-same, gathers-then}
+use Rattle.sc_prep.proofs.NamedFiles.{held-later}
+use Rattle.sc_prep.proofs.WalkMoves.{owns-kept}
+use Rattle.sc_prep.specs.Apart.{StandApart, tokens_in}
+use Rattle.sc_prep.specs.declared.walk.Walk.{Walk}
 use Rattle.sc_prep.proofs.LineSteps.{directive-long, lines-stand}
 use Rattle.sc_prep.proofs.Passing.{next-after}
 use Rattle.sc_prep.proofs.PlainRuns.{each-closes-plain, path-plain}
 use Rattle.sc_prep.proofs.WalkLeads.{gone-line, gone-nowhere, gone-over, line-directive, line-placed-now}
 use Rattle.sc_prep.specs.Machine as machine
-use Rattle.sc_prep.specs.Simulates.{IsIn, Leads}
+use Rattle.sc_prep.specs.Simulates.{IsBetweenRuns, IsIn, Leads}
 use Rattle.sc_space.specs.Seen.{seen_space}
 use Rattle.sc_prep.specs.Printable.{AllPass, is_plain}
 use Rattle.sc_base.proofs.Growth.{Extends-within}
@@ -32,6 +37,13 @@ use Rattle.sc_prep.specs.declared.entering.Around.{Around}
 use Rattle.sc_prep.specs.declared.including.Part.{Part}
 use Rattle.c11_directives.specs.declared.directive.Directive.TheVariants as kind
 use Rattle.std.proofs.lemmas.List.Elements.{All-get_or, All-weaker}
+use Rattle.c11_directives.specs.Lines as seen
+use Rattle.sc_prep.specs.Apart.{tokens_in}
+use Rattle.sc_prep.specs.declared.walk.Walk.{Walk}
+use Rattle.sc_prep.proofs.ApartLemmas.{apart-left, apart-right, lines-apart}
+use Rattle.sc_prep.proofs.FileStops.{comes-inside}
+use Rattle.sc_prep.proofs.Stopping.{answer-stops}
+use Rattle.sc_prep.proofs.WalkStops.{apart-first, apart-line, apart-next, end-stops, file-stops, line-stops, run-stops, said-stops, to_come}
 use Rattle.sc_prep.proofs.walk.Walk.+files.Goals as goal
 
 ok-both : {A E P Q R : Type 0} (r : Result A E) → (P → Q → R) → OnOk r P → OnOk r Q → OnOk r R
@@ -71,8 +83,8 @@ enter-walk_lines-requires g t c κs given = (
         (
           c.requires.deep,
           (
-            c.begin_file-around.ensures.sections,
-            ready-begun c.begin_file-around.ensures c.in_ok-inside.ensures.own (ready-kept c.in_ok-inside.ensures.keeps c.requires.ready),
+            c.in_ok-around-in-Lines.ensures.sections,
+            ready-begun c.in_ok-around-in-Lines.ensures c.in_ok-inside.ensures.own (ready-kept c.in_ok-inside.ensures.keeps c.requires.ready),
           ),
         ),
       ),
@@ -90,21 +102,21 @@ enter-returns-in_ok-end_file-in-Lines-clause-enters g t c = λ x context agrees.
     let held = agrees-back walked.names walked.files ready.read x.files walked.read agrees in
     leads-inside c.args.files.now c.args.cond c.args.entry c.in_ok-inside.ensures.keeps
     (c.in_ok-inside.ensures.meaning (old.has c.args.cond.0) (old.has w.acting.0) (Denotes-self old c.args.cond.0 c.requires.own) (Denotes-self old w.acting.0 ready.owns.acting))
-    ready.owns ready.table c.walk_lines.new.names c.walk_lines.new.files walked.keeps c.in_ok-end_file-in-Lines.ensures.keeps c.begin_file-around.ensures c.in_ok-end_file-in-Lines.ensures.leaves walked.ready.owns walked.ready.table x context.standard _ named
+    ready.owns ready.table c.walk_lines.new.names c.walk_lines.new.files walked.keeps c.in_ok-end_file-in-Lines.ensures.keeps c.in_ok-around-in-Lines.ensures c.in_ok-end_file-in-Lines.ensures.leaves walked.names walked.files ready.held walked.ready.owns walked.ready.table x context.standard _ named
     (kept-lines c.args.entry.file.0 _ held named c.requires.content c.in-Lines.is) (walked.covers x context agrees)
 
 pub enter-returns-in_ok-end_file-in-Lines-clause-ready : goal.enter-returns-in_ok-end_file-in-Lines-clause-ready
 enter-returns-in_ok-end_file-in-Lines-clause-ready g t c =
-    let old = g.C.Conditions.sets c.args.conds.now in
     let w = c.args.self.now in
     let walked = c.in_ok-walk_lines-in-Lines.ensures in
     let ready = c.requires.ready in
-    let inside = c.in_ok-inside.ensures.meaning (old.has c.args.cond.0) (old.has w.acting.0) (Denotes-self old c.args.cond.0 c.requires.own) (Denotes-self old w.acting.0 ready.owns.acting) in
     let end = c.in_ok-end_file-in-Lines.ensures in
-    let begins = c.begin_file-around.ensures in
-    ready-left end.keeps walked.ready end.leaves
-    (around-group c.args.files.now c.args.cond c.args.entry c.in_ok-inside.ensures.keeps inside ready.owns ready.table c.walk_lines.new.names c.walk_lines.new.files walked.keeps end.keeps begins end.leaves)
-    (around-sections c.args.files.now c.args.cond c.args.entry c.in_ok-inside.ensures.keeps inside ready.owns ready.table c.walk_lines.new.names c.walk_lines.new.files walked.keeps end.keeps begins end.leaves)
+    ready-left end.keeps walked.ready end.leaves c.in_ok-around-in-Lines.ensures (owns-kept (Keeps-trans c.in_ok-inside.ensures.keeps walked.keeps) w ready.owns) (held-later walked.names walked.files w ready.held)
+
+-- what was gathered around the file is there again
+pub enter-returns-in_ok-end_file-in-Lines-clause-gathered : goal.enter-returns-in_ok-end_file-in-Lines-clause-gathered
+enter-returns-in_ok-end_file-in-Lines-clause-gathered g t c =
+    ap (λ (v : Walk). v.gathered) c.in_ok-end_file-in-Lines.ensures.leaves.is ∙ ap (λ (a : Around). a.gathered) c.in_ok-around-in-Lines.ensures.around_is
 
 -- ---- whoever enters it is refused
 
@@ -135,7 +147,7 @@ enter-returns-in_ok-end_file-in-Lines-clause-plain g t c = λ x context agrees s
     let ready = c.requires.ready in
     let inside = c.in_ok-inside.ensures.meaning (old.has c.args.cond.0) (old.has w.acting.0) (Denotes-self old c.args.cond.0 c.requires.own) (Denotes-self old w.acting.0 ready.owns.acting) in
     let end = c.in_ok-end_file-in-Lines.ensures in
-    let begins = c.begin_file-around.ensures in
+    let begins = c.in_ok-around-in-Lines.ensures in
     let files = c.args.files.now in
     let more = c.walk_lines.new.names in
     let more_files = c.walk_lines.new.files in
@@ -153,7 +165,7 @@ enter-returns-in_ok-end_file-in-Lines-clause-paths g t c = λ x context agrees s
     let ready = c.requires.ready in
     let inside = c.in_ok-inside.ensures.meaning (old.has c.args.cond.0) (old.has w.acting.0) (Denotes-self old c.args.cond.0 c.requires.own) (Denotes-self old w.acting.0 ready.owns.acting) in
     let end = c.in_ok-end_file-in-Lines.ensures in
-    let begins = c.begin_file-around.ensures in
+    let begins = c.in_ok-around-in-Lines.ensures in
     let files = c.args.files.now in
     let more = c.walk_lines.new.names in
     let more_files = c.walk_lines.new.files in
@@ -165,6 +177,9 @@ enter-returns-in_ok-end_file-in-Lines-clause-paths g t c = λ x context agrees s
 pub enter-returns-in_ok-refuse_at-in-Refused-clause-plain : goal.enter-returns-in_ok-refuse_at-in-Refused-clause-plain
 enter-returns-in_ok-refuse_at-in-Refused-clause-plain g t c = λ x context agrees sound paths each list.
     subst (AllPass (is_plain c.args.names.now)) (sym (refused-list c.in_ok-refuse_at-in-Refused.ensures.refuses)) list
+
+pub enter-returns-in_ok-refuse_at-in-Refused-clause-gathered : goal.enter-returns-in_ok-refuse_at-in-Refused-clause-gathered
+enter-returns-in_ok-refuse_at-in-Refused-clause-gathered g t c = ap (λ (v : Walk). v.gathered) c.in_ok-refuse_at-in-Refused.ensures.refuses.same
 
 pub enter-returns-in_ok-refuse_at-in-Refused-clause-read : goal.enter-returns-in_ok-refuse_at-in-Refused-clause-read
 enter-returns-in_ok-refuse_at-in-Refused-clause-read g t c = contents-stay c.args.contents.now
@@ -211,6 +226,7 @@ pub walk_lines-loop-number-init : goal.walk_lines-loop-number-init
 walk_lines-loop-number-init g t c = record {
   ready = c.requires.ready;
   gone = gone-nowhere (λ x config m. machine.no_line);
+  apart = apart-first c.args.entry c.args.file.now c.requires.lines c.args.self.now;
   kept = refl;
   counted = omega arith;
 }
@@ -311,6 +327,7 @@ include_line-loop-part-init g t c =
           (ready-moved closed.names closed.closes closed.walk c.requires.ready).read closed.walk.list found.keeps found.names found.files found.read found.finds found.list found.paths;
       kept = found.kept;
       counted = found.counted;
+      gathers = gathers-then [] c.args.line.now c.args.self.now c.close_runs.new.self c.included.new.self closed.gathers (gathers-same c.args.line.now c.close_runs.new.self c.included.new.self found.gathered);
     }
 
 pub walk_lines-take_line-requires : goal.walk_lines-take_line-requires
@@ -383,6 +400,12 @@ walk_lines-loop-number-preserved g t c =
           (ap (λ ts. tokens_of ts line) c.deref.ensures.value ∙ ap (tokens_of lines.tokens.items) c.index-line.ensures)
           taken.keeps taken.names taken.files taken.read taken.takes taken.plain taken.paths c.next_line-number.result c.is_never.result
           (c.next_line-number.ensures (seen_lines names files lines.tokens.items) (stand files)) c.is_never.ensures.0;
+      apart = λ none apart.
+          apart-next c.args.entry lines c.requires.lines c.loop-number.number line (omega (arith, c.loop-number-test.true, c.len.ensures)) (tokens_of c.deref.result.now line)
+          (ap (λ ts. tokens_of ts line) c.deref.ensures.value ∙ ap (tokens_of lines.tokens.items) c.index-line.ensures)
+          c.loop-number.self (inv.apart none apart) c.take_line.new.self c.next_line-number.result
+          (next-after (seen_lines names files lines.tokens.items) c.loop-number.number c.next_line-number.result c.is_never.result (c.next_line-number.ensures (seen_lines names files lines.tokens.items) (stand files)))
+          taken.gathers;
       kept = taken.kept ∙ inv.kept;
       counted = omega (arith, inv.counted, taken.counted);
     }
@@ -434,11 +457,12 @@ include_line-loop-part-preserved g t c =
       parts = parts-later entered.keeps entered.read inv.parts;
       gone = gone-entered c.args.entry c.args.line.now c.requires.placed (directive-files c.args.names.now c.args.files.now c.args.line.now ∙ c.requires.directive) parts i c.part-item.result c.part-item.is within inv.parts.own
           inv.gone inv.ready.read entered.keeps entered.names entered.files entered.read
-          (λ x context agreed. subst (λ depth. Leads c.loop-part.files c.loop-part.names (g.C.Conditions.sets c.loop-part.conds) c.loop-part.self c.enter.new.files c.enter.new.names (g.C.Conditions.sets c.enter.new.conds) c.enter.new.self (λ m. Unit {0})
+          (λ x context agreed. subst (λ depth. Leads c.loop-part.files c.loop-part.names (g.C.Conditions.sets c.loop-part.conds) c.loop-part.self c.enter.new.files c.enter.new.names (g.C.Conditions.sets c.enter.new.conds) c.enter.new.self IsBetweenRuns
           (λ config m n. EntersAt x (text_at c.loop-part.files c.part-item.result.file.0) depth m ((g.C.Conditions.sets c.loop-part.conds).has c.part-item.result.cond.0 config) n)) c.deeper.ensures (entered.enters x context agreed))
           entered.plain entered.paths;
       kept = entered.kept ∙ inv.kept;
       counted = omega (arith, inv.counted, entered.counted);
+      gathers = λ rest apart. subst (λ list. StandApart (tokens_in list ++ rest)) (sym entered.gathered) (inv.gathers rest apart);
     }
 
 pub include_line-returns-clause-takes : goal.include_line-returns-clause-takes
@@ -469,6 +493,9 @@ include_line-returns-clause-names g t c = c.loop-part.invariant.gone.names_grow
 pub include_line-returns-clause-files : goal.include_line-returns-clause-files
 include_line-returns-clause-files g t c = c.loop-part.invariant.gone.files_grow
 
+pub include_line-returns-clause-gathers : goal.include_line-returns-clause-gathers
+include_line-returns-clause-gathers g t c = c.loop-part.invariant.gathers
+
 pub include_line-returns-clause-kept : goal.include_line-returns-clause-kept
 include_line-returns-clause-kept g t c = c.loop-part.invariant.kept
 
@@ -492,7 +519,7 @@ include_line-returns-in_err-enter-clause-counted g t c = omega (arith, c.loop-pa
 
 pub enter-end_file-requires-clause-group : goal.enter-end_file-requires-clause-group
 enter-end_file-requires-clause-group g t c =
-    subst (λ (a : Around). IsCond (g.C.Conditions.sets c.walk_lines.new.conds) a.group.0) (sym c.begin_file-around.ensures.around_is)
+    subst (λ (a : Around). IsCond (g.C.Conditions.sets c.walk_lines.new.conds) a.group.0) (sym c.in_ok-around-in-Lines.ensures.around_is)
     (c.in_ok-walk_lines-in-Lines.ensures.keeps.own c.args.self.now.group.0 (c.in_ok-inside.ensures.keeps.own c.args.self.now.group.0 c.requires.ready.owns.group))
 
 pub enter-returns-in_err-walk_lines-in-Lines-clause-keeps : goal.enter-returns-in_err-walk_lines-in-Lines-clause-keeps
@@ -522,3 +549,74 @@ include_line-returns-in_err-enter-clause-stops g t c =
 
 pub include_line-returns-in_err-parts-clause-keeps : goal.include_line-returns-in_err-parts-clause-keeps
 include_line-returns-in_err-parts-clause-keeps g t c = Keeps-trans c.in_ok-close_runs.ensures.keeps c.in_err-parts.ensures.keeps
+
+-- ---- where it stops for the footprints of one place
+
+pub take_line-returns-in_default-clause-footprints : goal.take_line-returns-in_default-clause-footprints
+take_line-returns-in_default-clause-footprints g t c = λ x context told apart.
+    answer-stops c.args.space.now.limits.branches c.local_line.result refl (λ config f listed comes. λ m at from. comes m at tt) (c.local_line.ensures.footprints x apart)
+
+pub walk_lines-returns-in_err-take_line-clause-footprints : goal.walk_lines-returns-in_err-take_line-clause-footprints
+walk_lines-returns-in_err-take_line-clause-footprints g t c = λ x context told none apart.
+    let lines = c.args.file.now in
+    let line = c.index-line.result.now in
+    let inv = c.loop-number.invariant in
+    let i = c.loop-number.number in
+    let below : i < length lines.lines.items = omega (arith, c.loop-number-test.true, c.len.ensures) in
+    let same = ap (λ ts. tokens_of ts line) c.deref.ensures.value ∙ ap (tokens_of lines.tokens.items) c.index-line.ensures in
+    let stops = c.in_err-take_line.ensures.footprints x context (inv.kept ∙ told)
+    (apart-line c.args.entry lines c.requires.lines i line below (tokens_of c.deref.result.now line) same c.loop-number.self (inv.apart none apart)) in
+    line-stops c.args.space.now.limits.branches c.from_residual.result c.args.entry lines c.requires.lines i inv.gone inv.ready.read x context (inv.kept ∙ told) line below (tokens_of c.deref.result.now line) same (search (rules, stops))
+
+pub walk_lines-returns-clause-footprints : goal.walk_lines-returns-clause-footprints
+walk_lines-returns-clause-footprints g t c = λ x context told none apart.
+    let inv = c.loop-number.invariant in
+    end-stops c.args.space.now.limits.branches c.close_runs.result c.args.entry c.args.file.now c.requires.lines c.loop-number.number inv.gone inv.ready.read x context (inv.kept ∙ told)
+    (omega (arith, c.loop-number-test.false, c.len.ensures)) (c.close_runs.ensures.footprints (apart-left _ (to_come c.args.file.now c.loop-number.number) (inv.apart none apart)))
+
+pub include_line-returns-in_err-close_runs-clause-footprints : goal.include_line-returns-in_err-close_runs-clause-footprints
+include_line-returns-in_err-close_runs-clause-footprints g t c = λ x context told apart.
+    let names = c.args.names.now in
+    let files = c.args.files.now in
+    let line = c.args.line.now in
+    let stops = c.in_err-close_runs.ensures.footprints (apart-left _ line apart) in
+    run-stops c.args.space.now.limits.branches c.from_residual.result names files c.args.entry line c.requires.placed (directive-files names files line ∙ c.requires.directive)
+    (g.C.Conditions.sets c.args.conds.now) c.args.self.now x (search (rules, stops))
+
+pub include_line-returns-in_err-parts-clause-footprints : goal.include_line-returns-in_err-parts-clause-footprints
+include_line-returns-in_err-parts-clause-footprints g t c = λ x context told apart.
+    let names = c.args.names.now in
+    let files = c.args.files.now in
+    let line = c.args.line.now in
+    let directed = directive-files names files line ∙ c.requires.directive in
+    let closed = c.in_ok-close_runs.ensures in
+    let stops = c.in_err-parts.ensures.footprints kind.Include (ap (λ (l : seen.Line). l.directive) (line-later closed.names (Extends-refl files) line c.requires.placed) ∙ directed) refl
+    (apart-right (tokens_in c.args.self.now.gathered) line apart) in
+    said-stops c.args.space.now.limits.branches c.from_residual-in_err-parts.result names files c.args.entry line c.requires.placed directed
+    (g.C.Conditions.sets c.args.conds.now) c.args.self.now x closed.keeps closed.names closed.closes (search (rules, stops))
+
+pub include_line-returns-in_err-enter-clause-footprints : goal.include_line-returns-in_err-enter-clause-footprints
+include_line-returns-in_err-enter-clause-footprints g t c = λ x context told apart.
+    let names = c.args.names.now in
+    let files = c.args.files.now in
+    let line = c.args.line.now in
+    let inv = c.loop-part.invariant in
+    let stops = c.in_err-enter.ensures.footprints x context (inv.kept ∙ told) in
+    file-stops c.args.space.now.limits.branches c.from_residual-in_err-enter.result names files c.args.entry line c.requires.placed (directive-files names files line ∙ c.requires.directive)
+    (g.C.Conditions.sets c.args.conds.now) c.args.self.now x c.deref-part-items.result.now c.loop-part.part-index c.part-item.result c.deeper.result c.part-item.is c.loop-part-test.true c.deeper.ensures
+    inv.gone inv.ready.read context (inv.kept ∙ told) (search (rules, stops))
+
+pub enter-returns-in_err-walk_lines-in-Lines-clause-footprints : goal.enter-returns-in_err-walk_lines-in-Lines-clause-footprints
+enter-returns-in_err-walk_lines-in-Lines-clause-footprints g t c = λ x context told.
+    let old = g.C.Conditions.sets c.args.conds.now in
+    let w = c.args.self.now in
+    let ready = c.requires.ready in
+    let keeps = c.in_ok-inside.ensures.keeps in
+    let begins = c.in_ok-around-in-Lines.ensures in
+    let named = content-named ready.read c.args.entry.file.0 c.requires.content in
+    let has = kept-lines c.args.entry.file.0 _ (ready.read.told x.files told) named c.requires.content c.in-Lines.is in
+    let stops = c.in_err-walk_lines-in-Lines.ensures.footprints x context told (ap (λ (v : Walk). v.gathered) begins.is) (lines-apart has.are) in
+    answer-stops c.args.space.now.limits.branches c.from_residual-in_err-walk_lines-in-Lines.result keeps.arities
+    (comes-inside c.args.files.now c.args.cond c.args.entry keeps
+    (c.in_ok-inside.ensures.meaning (old.has c.args.cond.0) (old.has w.acting.0) (Denotes-self old c.args.cond.0 c.requires.own) (Denotes-self old w.acting.0 ready.owns.acting))
+    ready.owns ready.table begins x context.standard c.in-Lines.file named has) (search (rules, stops))

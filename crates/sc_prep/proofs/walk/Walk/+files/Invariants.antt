@@ -1,6 +1,8 @@
-use Rattle.std.proofs.Common.{◌+◌, ◌-◌, ◌*◌, ◌≡◌, ◌≤◌, All, drop, length, take, true}
+use Rattle.std.proofs.Common.{◌+◌, ◌++◌, ◌-◌, ◌*◌, ◌≡◌, ◌≤◌, [], All, drop, length, take, true}
 use Rattle.sc_lines.specs.Nests.{seen_line, seen_lines}
 use Rattle.sc_prep.proofs.Going.{Gone, Staged}
+use Rattle.sc_prep.proofs.WalkStops.{to_come}
+use Rattle.sc_prep.specs.Apart.{GathersFrom, StandApart, tokens_in}
 use Rattle.sc_prep.specs.Includes.{ArePartsOf, files_at}
 use Rattle.sc_prep.specs.Machine.{Runs}
 use Rattle.sc_prep.specs.Printable.{is_plain}
@@ -21,12 +23,14 @@ decreases-take_line g l = 4 * (l.space.now.limits.include_depth - l.entry.depth)
 abbrev pub decreases-include_line : goal.decreases-include_line
 decreases-include_line g l = 4 * (l.space.now.limits.include_depth - l.entry.depth)
 
--- each machine ran over the lines before this one
+-- each machine ran over the lines before this one, and what was gathered stands apart from the tokens
+-- that are still to come
 abbrev pub invariant-walk_lines-loop-number : goal.invariant-walk_lines-loop-number
 invariant-walk_lines-loop-number g l = record {
   ready : IsReady (g.C.Conditions.sets l.conds) l.names l.files (g.S.Source.holds l.src) l.self l.contents;
   gone : Gone (seen_space l.space) (g.C.Conditions.sets l.fn.conds) l.fn.names l.fn.files l.fn.self l.fn.contents (g.C.Conditions.sets l.conds) l.names l.files l.self l.contents (Unit {0})
       (IsAtTop l.fn.files l.entry) (λ x config m n. Runs x m (take l.number (seen_lines l.fn.names l.fn.files l.file.tokens.items)) n);
+  apart : l.fn.self.gathered ≡ [] → StandApart l.file.tokens.items → StandApart (tokens_in l.self.gathered ++ to_come l.file l.number);
   kept : g.S.Source.holds l.src ≡ g.S.Source.holds l.fn.src;
   counted : g.S.Source.faults l.fn.src ≤ g.S.Source.faults l.src;
 }
@@ -44,4 +48,5 @@ invariant-include_line-loop-part g l = record {
       (λ x config m n. Staged x (seen_line l.fn.names l.fn.files l.line) l.files l.entry.depth m (files_at (g.C.Conditions.sets l.conds) (drop l.part-index l.part-items) config) n);
   kept : g.S.Source.holds l.src ≡ g.S.Source.holds l.fn.src;
   counted : g.S.Source.faults l.fn.src ≤ g.S.Source.faults l.src;
+  gathers : GathersFrom l.line l.fn.self l.self;
 }

@@ -1,4 +1,4 @@
-use Rattle.std.proofs.Common.{◌∙◌, refl, sym, ap, subst, Some, length}
+use Rattle.std.proofs.Common.{◌∙◌, refl, sym, ap, subst, Some, length, rules, []}
 use Rattle.std.proofs.lemmas.Result.{on_ok_weaker}
 use Rattle.std.specs.Prelude.{IfErr}
 use Rattle.c11_directives.specs.declared.directive.Directive.TheVariants as kind
@@ -9,6 +9,13 @@ use Rattle.sc_prep.specs.Printable.{AllPass, any_token, is_plain}
 use Rattle.sc_prep.proofs.CloseMoves.{placed-grown, plain-grown}
 use Rattle.sc_prep.proofs.LineSteps.{directive-long}
 use Rattle.sc_prep.proofs.TakeLine.{barrier-unconditional, memory-stops, stays-plain, takes-carried, takes-closed, unsaid}
+use Rattle.sc_lines.proofs.SeenLines.{directive-files}
+use Rattle.sc_lines.specs.Nests.{seen_line}
+use Rattle.sc_prep.specs.Apart.{tokens_in}
+use Rattle.sc_prep.specs.Footprints.{Comes, ComesAt, StopsAtPlace, any_machine}
+use Rattle.sc_prep.proofs.ApartLemmas.{apart-left, apart-right, gathers-same, gathers-then}
+use Rattle.sc_prep.proofs.DirectiveStops.{carried-stops, run-stops}
+use Rattle.sc_prep.proofs.Stopping.{memory-stops-nowhere}
 use Rattle.sc_prep.proofs.walk.Walk.barrier_line.Goals as goal
 
 pub number_line-requires-clause-placed : goal.number_line-requires-clause-placed
@@ -28,6 +35,12 @@ returns-in-Line-clause-takes g c = on_ok_weaker c.number_line.result (λ carries
     let closed = c.in_ok-close_runs.ensures in
     takes-carried c.args.files.now c.args.line.now kind.Line (ap Some (sym c.in-Line.is) ∙ c.requires.directive) refl closed.names (λ k d h. (c.requires.placed k d h).held) closed.keeps closed.closes x (carries x))
     c.number_line.ensures.carries
+
+pub returns-in-Line-clause-gathers : goal.returns-in-Line-clause-gathers
+returns-in-Line-clause-gathers g c =
+    on_ok_weaker c.number_line.result (λ same.
+    gathers-then [] c.args.line.now c.args.self.now c.close_runs.new.self c.number_line.new.self c.in_ok-close_runs.ensures.gathers
+    (gathers-same c.args.line.now c.close_runs.new.self c.number_line.new.self same)) c.number_line.ensures.gathered
 
 pub returns-in-Line-clause-plain : goal.returns-in-Line-clause-plain
 returns-in-Line-clause-plain g c = on_ok_weaker c.number_line.result (λ list plain was.
@@ -53,6 +66,10 @@ returns-in_default-clause-takes g c = on_ok_weaker c.plain_line.result (λ moved
     closed.names (λ k e h. (c.requires.placed k e h).held) closed.keeps closed.closes moved)
     c.plain_line.ensures.moved
 
+pub returns-in_default-clause-gathers : goal.returns-in_default-clause-gathers
+returns-in_default-clause-gathers g c =
+    on_ok_weaker c.plain_line.result (gathers-then [] c.args.line.now c.args.self.now c.close_runs.new.self c.plain_line.new.self c.in_ok-close_runs.ensures.gathers) c.plain_line.ensures.gathers
+
 pub returns-in_default-clause-walk : goal.returns-in_default-clause-walk
 returns-in_default-clause-walk g c = on_ok_weaker c.plain_line.result (λ stays.
     stays (length c.args.files.now) any_token (λ k d h. placed-grown c.in_ok-close_runs.ensures.names (length c.args.files.now) _ (c.requires.placed k d h)) c.in_ok-close_runs.ensures.walk)
@@ -70,3 +87,26 @@ returns-in_default-clause-stops g c = memory-stops _ c.args.limit c.plain_line.r
 
 pub returns-in_default-clause-keeps : goal.returns-in_default-clause-keeps
 returns-in_default-clause-keeps g c = Keeps-trans c.in_ok-close_runs.ensures.keeps c.plain_line.ensures.keeps
+
+pub returns-in_err-close_runs-clause-footprints : goal.returns-in_err-close_runs-clause-footprints
+returns-in_err-close_runs-clause-footprints g c = λ x apart.
+    let s = g.C.Conditions.sets c.args.conds.now in
+    let names = c.args.names.now in
+    let files = c.args.files.now in
+    let line = c.args.line.now in
+    let l = seen_line names files line in
+    let kept : StopsAtPlace s.arities (Comes s names files c.args.self.now any_machine (λ config m f. ComesAt x m l f)) c.args.limit c.in_err-close_runs.field-0.0 =
+    run-stops s names files c.args.self.now x l c.args.directive (directive-files names files line ∙ sym c.requires.directive) c.requires.barrier c.args.limit c.in_err-close_runs.field-0.0
+    (c.in_err-close_runs.ensures.footprints (apart-left (tokens_in c.args.self.now.gathered) line apart)) in
+    search rules
+
+pub returns-in-Line-clause-footprints : goal.returns-in-Line-clause-footprints
+returns-in-Line-clause-footprints g c = λ x apart.
+    let closed = c.in_ok-close_runs.ensures in
+    let line = c.args.line.now in
+    carried-stops c.args.files.now x line kind.Line (ap Some (sym c.in-Line.is) ∙ c.requires.directive) refl closed.names (λ k d h. (c.requires.placed k d h).held) closed.keeps closed.closes
+    c.args.limit c.number_line.result
+    (λ d directed says. c.number_line.ensures.footprints d directed says (apart-right (tokens_in c.args.self.now.gathered) line apart))
+
+pub returns-in_default-clause-footprints : goal.returns-in_default-clause-footprints
+returns-in_default-clause-footprints g c = λ x apart. memory-stops-nowhere _ _ c.args.limit c.plain_line.result c.plain_line.ensures.memory

@@ -7,6 +7,7 @@ use Rattle.sc_lines.proofs.SeenLines.{directive-files}
 use Rattle.sc_prep.specs.Printable.{any_token}
 use Rattle.sc_prep.proofs.TakeLine.{decides-unasked, memory-stops}
 use Rattle.sc_prep.proofs.LineSteps.{directive-long}
+use Rattle.sc_prep.proofs.Stopping.{memory-stops-nowhere}
 use Rattle.sc_prep.proofs.walk.Walk.conditional_line.Goals as goal
 
 pub if_section-requires-clause-line : goal.if_section-requires-clause-line
@@ -67,3 +68,9 @@ returns-in_ok-end_section-in-Endif-clause-decides g c =
 
 pub returns-in_ok-end_section-in-Endif-clause-walk : goal.returns-in_ok-end_section-in-Endif-clause-walk
 returns-in_ok-end_section-in-Endif-clause-walk g c = c.in_ok-end_section-in-Endif.ensures.printable c.args.names.now c.args.line.now (length c.args.files.now) any_token c.requires.placed c.requires.walk
+
+pub returns-in-Ifdef-clause-footprints : goal.returns-in-Ifdef-clause-footprints
+returns-in-Ifdef-clause-footprints g c = λ x apart. memory-stops-nowhere _ _ c.args.limit c.named_section.result c.named_section.ensures.memory
+
+pub returns-in-Ifndef-clause-footprints : goal.returns-in-Ifndef-clause-footprints
+returns-in-Ifndef-clause-footprints g c = λ x apart. memory-stops-nowhere _ _ c.args.limit c.named_section-in-Ifndef.result c.named_section-in-Ifndef.ensures.memory

@@ -2,8 +2,9 @@ use Rattle.std.proofs.Common.{ℕ, ◌≡◌, ◌⊎◌, inl, inr, List, Some, g
 use Rattle.std.proofs.lemmas.List.{drop-map}
 use Rattle.std.proofs.lemmas.List.Elements.{All-drop, All-get_or}
 use Rattle.std.proofs.lemmas.Result.{IfErr-weaker, IfOk-weaker, on_ok_weaker}
-use Rattle.std.specs.Prelude.{◌&&◌, All, false, is_none, map, ◌<◌}
+use Rattle.std.specs.Prelude.{◌&&◌, All, drop, false, is_none, map, true, ◌<◌}
 use Rattle.c11_directives.specs.Behind.{behind_name}
+use Rattle.c11_directives.specs.Footprints.{DirectiveHas}
 use Rattle.sc_base.specs.declared.token.Token.{Token}
 use Rattle.sc_base.specs.Seen.{IsHeld, seen}
 use Rattle.sc_expand.specs.Stops.{StopsBy}
@@ -14,9 +15,16 @@ use Rattle.sc_model.specs.declared.kind.Kind.TheVariants.{Identifier}
 use Rattle.sc_model.specs.Token as model
 use Rattle.c11_directives.specs.Lines.{conditional_of}
 use Rattle.c11_directives.specs.declared.directive.Conditional.TheVariants.{If, Elif}
+use Rattle.sc_base.specs.declared.id.Cond.{Cond}
+use Rattle.sc_model.specs.Sets.{Sets}
+use Rattle.sc_prep.specs.Apart.{StandApart}
+use Rattle.sc_prep.specs.declared.walk.Walk.{Walk}
 use Rattle.sc_prep.specs.Expressions.{ReplacesAt}
+use Rattle.sc_prep.specs.Footprints.{Comes, StopsAtPlace, any_machine}
 use Rattle.sc_prep.specs.Printable.{IsPlaced}
 use Rattle.sc_prep.specs.Simulates.{SimulatesOneOf}
+use Rattle.sc_prep.proofs.ApartLemmas.{apart-drop}
+use Rattle.sc_prep.proofs.DirectiveStops.{name-stops, text-stops}
 use Rattle.sc_prep.proofs.ExpressionMoves.{decides-by, decides-none}
 use Rattle.sc_prep.proofs.ExpressionSteps.{conditional-long, hash-line}
 use Rattle.sc_prep.proofs.WalkMoves.{owns-kept}
@@ -74,6 +82,17 @@ evaluated-requires-clause-table g c = c.in_ok-expanded.ensures.expands.table
 pub evaluated-requires-clause-among_own : goal.evaluated-requires-clause-among_own
 evaluated-requires-clause-among_own g c = c.in_ok-expanded.ensures.keeps.own _ (c.in_ok-replaced.ensures.keeps.own _ c.in_ok-live.ensures.own)
 
+-- what the replaced tokens stand behind is the name of the line
+replaces-behind : (files names : List (List ℕ)) (line : List Token) {more : List (List ℕ)} (s t : Sets) (w v : Walk) (behind : List Token) → behind ≡ drop 2 line → (live : Cond) (list : List (Cond × Token))
+    → SimulatesOneOf files names s w more t v (λ config m n. ReplacesAt (map (seen names files) behind) (seen names files (get_or line 0 no_token)).place (s.has live.0 config && is_none m.fault) m
+    (map (seen more files) (items_at t list config)) n)
+    → SimulatesOneOf files names s w more t v (λ config m n. ReplacesAt (behind_name (seen_line names files line)) (seen names files (get_or line 0 no_token)).place (s.has live.0 config && is_none m.fault) m
+    (map (seen more files) (items_at t list config)) n)
+replaces-behind files names line {more} s t w v behind is live list =
+    let hash = seen names files (get_or line 0 no_token) in
+    subst (λ ts. SimulatesOneOf files names s w more t v (λ config m n. ReplacesAt ts hash.place (s.has live.0 config && is_none m.fault) m (map (seen more files) (items_at t list config)) n))
+    (ap (map (seen names files)) is ∙ sym (drop-map (seen names files) 2 line))
+
 pub returns-in_err-replaced-clause-stops : goal.returns-in_err-replaced-clause-stops
 returns-in_err-replaced-clause-stops g c =
     let kept : StopsBy (g.C.Conditions.sets c.args.conds.now).arities c.args.limit c.in_err-replaced.field-0.0 =
@@ -115,13 +134,12 @@ returns-clause-decides g c =
     let l = seen_line names files line in
     let hash = seen names files (get_or line 0 no_token) in
     let live = c.in_ok-live.ensures.meaning (old.has c.args.among.0) (old.has w.prepared.live.0) (Denotes-self old c.args.among.0 c.requires.among_own) (Denotes-self old w.prepared.live.0 c.requires.owns.prepared.live) in
-    let is_behind : map (seen names files) c.behind_name-behind.result.now ≡ behind_name l = ap (map (seen names files)) c.behind_name-behind.ensures ∙ sym (drop-map (seen names files) 2 line) in
     let text : List ℕ → List model.Token = λ config. map (seen c.replaced.new.names files) (items_at s1 c.in_ok-replaced.replaced config) in
     let left : List ℕ → List model.Token = λ config. map (seen c.expanded.new.names files) (items_at s2 c.in_ok-expanded.expanded config) in
     IfOk-weaker c.evaluated.result _ _ (λ taken evaluates. λ x.
     decides-by files names k1 w c.requires.owns c.requires.table c.args.among c.in_ok-live.live live x l a.keeps b.keeps c.evaluated.ensures.keeps c.in_ok-live.ensures.own
     hash c.requires.line (hash-line names files line no_token (long names files line c.requires.line)) text left (s3.has taken.0)
-    (subst (λ ts. SimulatesOneOf files names s w c.replaced.new.names s1 c.replaced.new.self (λ config m n. ReplacesAt ts hash.place (s.has c.in_ok-live.live.0 config && is_none m.fault) m (text config) n)) is_behind (a.replaces files c.requires.walk))
+    (replaces-behind files names line s s1 w c.replaced.new.self c.behind_name-behind.result.now c.behind_name-behind.ensures c.in_ok-live.live c.in_ok-replaced.replaced (a.replaces files c.requires.walk))
     b.expands (evaluates files b.walk)) c.evaluated.ensures.evaluates
 
 pub returns-clause-walk : goal.returns-clause-walk
@@ -131,6 +149,9 @@ returns-clause-walk g c = on_ok_weaker c.evaluated.result (λ stays.
 
 pub returns-clause-list : goal.returns-clause-list
 returns-clause-list g c = on_ok_weaker c.evaluated.result (λ same. same ∙ (c.in_ok-expanded.ensures.list ∙ c.in_ok-replaced.ensures.list)) c.evaluated.ensures.list
+
+pub returns-clause-gathered : goal.returns-clause-gathered
+returns-clause-gathered g c = on_ok_weaker c.evaluated.result (λ same. same ∙ (c.in_ok-expanded.ensures.gathered ∙ c.in_ok-replaced.ensures.gathered)) c.evaluated.ensures.gathered
 
 pub returns-clause-stops : goal.returns-clause-stops
 returns-clause-stops g c =
@@ -145,3 +166,42 @@ returns-in_err-replaced-clause-keeps g c = Keeps-trans c.in_ok-live.ensures.keep
 
 pub expanded-requires-clause-among_own : goal.expanded-requires-clause-among_own
 expanded-requires-clause-among_own g c = c.in_ok-replaced.ensures.keeps.own _ c.in_ok-live.ensures.own
+
+pub returns-in_err-expanded-clause-footprints : goal.returns-in_err-expanded-clause-footprints
+returns-in_err-expanded-clause-footprints g c = λ apart.
+    let old = g.C.Conditions.sets c.args.conds.now in
+    let w = c.args.self.now in
+    let names = c.args.names.now in
+    let files = c.args.files.now in
+    let line = c.args.line.now in
+    let k1 = c.in_ok-live.ensures.keeps in
+    let a = c.in_ok-replaced.ensures in
+    let s = g.C.Conditions.sets c.apply_and.new.self in
+    let l = seen_line names files line in
+    let live = c.in_ok-live.ensures.meaning (old.has c.args.among.0) (old.has w.prepared.live.0) (Denotes-self old c.args.among.0 c.requires.among_own) (Denotes-self old w.prepared.live.0 c.requires.owns.prepared.live) in
+    let kept : StopsAtPlace old.arities (Comes old names files w any_machine (λ config m f. ((old.has c.args.among.0 config && is_none m.fault) ≡ true) × DirectiveHas m.state.macros l f)) c.args.limit c.in_err-expanded.field-0.0 =
+    name-stops files names k1 w c.requires.owns c.requires.table c.args.among c.in_ok-live.live live l (seen names files (get_or line 0 no_token)) c.requires.line a.keeps c.in_ok-replaced.replaced
+    (replaces-behind files names line s (g.C.Conditions.sets c.replaced.new.conds) w c.replaced.new.self c.behind_name-behind.result.now c.behind_name-behind.ensures c.in_ok-live.live c.in_ok-replaced.replaced (a.replaces files c.requires.walk))
+    c.args.limit c.in_err-expanded.field-0.0
+    (c.in_err-expanded.ensures.footprints (a.different files (subst StandApart (sym c.behind_name-behind.ensures) (apart-drop 2 line apart)))) in
+    search rules
+
+pub returns-clause-footprints : goal.returns-clause-footprints
+returns-clause-footprints g c = λ apart.
+    let old = g.C.Conditions.sets c.args.conds.now in
+    let w = c.args.self.now in
+    let names = c.args.names.now in
+    let files = c.args.files.now in
+    let line = c.args.line.now in
+    let k1 = c.in_ok-live.ensures.keeps in
+    let a = c.in_ok-replaced.ensures in
+    let b = c.in_ok-expanded.ensures in
+    let s = g.C.Conditions.sets c.apply_and.new.self in
+    let s2 = g.C.Conditions.sets c.expanded.new.conds in
+    let live = c.in_ok-live.ensures.meaning (old.has c.args.among.0) (old.has w.prepared.live.0) (Denotes-self old c.args.among.0 c.requires.among_own) (Denotes-self old w.prepared.live.0 c.requires.owns.prepared.live) in
+    IfErr-weaker c.evaluated.result _ _
+    (text-stops files names k1 w c.requires.owns c.requires.table c.args.among c.in_ok-live.live live (seen_line names files line) (seen names files (get_or line 0 no_token)) c.requires.line a.keeps c.in_ok-replaced.replaced
+    (replaces-behind files names line s (g.C.Conditions.sets c.replaced.new.conds) w c.replaced.new.self c.behind_name-behind.result.now c.behind_name-behind.ensures c.in_ok-live.live c.in_ok-replaced.replaced (a.replaces files c.requires.walk))
+    (hash-line names files line no_token (long names files line c.requires.line)) b.keeps c.in_ok-expanded.expanded (λ config. map (seen c.expanded.new.names files) (items_at s2 c.in_ok-expanded.expanded config))
+    a.own b.own (a.different files (subst StandApart (sym c.behind_name-behind.ensures) (apart-drop 2 line apart))) b.expands b.answers b.alike c.args.limit)
+    c.evaluated.ensures.lists

@@ -1,4 +1,4 @@
-use Rattle.std.proofs.Common.{inr, ◌∙◌, length}
+use Rattle.std.proofs.Common.{inr, ◌∙◌, length, rules}
 use Rattle.std.proofs.lemmas.List.Elements.{All-nil}
 use Rattle.sc_model.proofs.SetLemmas.{Keeps-trans, Denotes-self}
 use Rattle.sc_lines.specs.Nests.{seen_line}
@@ -6,6 +6,8 @@ use Rattle.sc_prep.specs.Printable.{IsPlaced}
 use Rattle.sc_prep.proofs.ExpressionMoves.{empty_context, section-goes_on}
 use Rattle.std.specs.Prelude.{[]}
 use Rattle.sc_prep.specs.Printable.{any_token}
+use Rattle.sc_prep.specs.Footprints.{Comes, ComesAt, StopsAtPlace, any_machine}
+use Rattle.sc_prep.proofs.DirectiveStops.{elif-stops}
 use Rattle.sc_prep.proofs.walk.Walk.elif_branch.Goals as goal
 
 pub decision-requires-clause-line : goal.decision-requires-clause-line
@@ -30,8 +32,20 @@ returns-clause-walk g c = c.in_ok-begin_branch.ensures.printable c.decision.new.
 pub returns-clause-list : goal.returns-clause-list
 returns-clause-list g c = c.in_ok-begin_branch.ensures.list ∙ c.in_ok-taken.ensures.list
 
+pub returns-clause-gathered : goal.returns-clause-gathered
+returns-clause-gathered g c = c.in_ok-begin_branch.ensures.gathered ∙ c.in_ok-taken.ensures.gathered
+
 pub returns-in_err-begin_branch-clause-keeps : goal.returns-in_err-begin_branch-clause-keeps
 returns-in_err-begin_branch-clause-keeps g c = Keeps-trans c.in_ok-taken.ensures.keeps c.in_err-begin_branch.ensures.keeps
 
 pub returns-clause-keeps : goal.returns-clause-keeps
 returns-clause-keeps g c = Keeps-trans c.in_ok-taken.ensures.keeps c.in_ok-begin_branch.ensures.keeps
+
+pub returns-in_err-taken-clause-footprints : goal.returns-in_err-taken-clause-footprints
+returns-in_err-taken-clause-footprints g c = λ x apart.
+    let s = g.C.Conditions.sets c.args.conds.now in
+    let l = seen_line c.args.names.now c.args.files.now c.args.line.now in
+    let kept : StopsAtPlace s.arities (Comes s c.args.names.now c.args.files.now c.args.self.now any_machine (λ config m f. ComesAt x m l f)) c.args.limit c.in_err-taken.field-0.0 =
+    elif-stops s c.args.names.now c.args.files.now c.args.self.now x l c.requires.line c.untaken-untaken.result (λ config m simulates. c.untaken-untaken.ensures.at s c.args.names.now c.args.files.now config m simulates)
+    c.args.limit c.in_err-taken.field-0.0 (c.in_err-taken.ensures.footprints apart) in
+    search rules

@@ -11,9 +11,11 @@ use Rattle.sc_model.proofs.SetLemmas.{Keeps-trans, Denotes-self}
 use Rattle.sc_prep.specs.Closes.{RefusesEach}
 use Rattle.sc_prep.specs.Expressions.{EvaluatesAt}
 use Rattle.sc_prep.proofs.ExpressionMoves.{evaluates-at, stops-by}
-use Rattle.sc_prep.proofs.StageRefusals.{refused-as-told, refused-each-held, refused-each-list}
+use Rattle.sc_prep.proofs.StageRefusals.{refused-as-told, refused-each-held, refused-each-list, refused-each-gathered}
 use Rattle.sc_prep.proofs.WalkMoves.{owns-kept}
 use Rattle.sc_table.proofs.Growth.{IsTable-Keeps, macros_at-Keeps}
+use Rattle.sc_prep.specs.Footprints.{StopsByLists}
+use Rattle.sc_prep.proofs.Refusing.{stops-by-lists}
 use Rattle.sc_prep.proofs.walk.Walk.evaluated.Goals as goal
 
 pub decide-requires-clause-own : goal.decide-requires-clause-own
@@ -58,6 +60,9 @@ returns-clause-walk g c = λ files there held.
 pub returns-clause-list : goal.returns-clause-list
 returns-clause-list g c = refused-each-list c.args.self.now c.refuse_each.new.self c.args.self.now.table _ c.in_ok-refuse_each.ensures.refuses
 
+pub returns-clause-gathered : goal.returns-clause-gathered
+returns-clause-gathered g c = refused-each-gathered c.args.self.now c.refuse_each.new.self c.args.self.now.table _ c.in_ok-refuse_each.ensures.refuses
+
 pub refuse_each-requires-clause-live : goal.refuse_each-requires-clause-live
 refuse_each-requires-clause-live g c = (owns-kept (Keeps-trans c.in_ok-live.ensures.keeps c.in_ok-decided.ensures.keeps) c.args.self.now c.requires.owns).prepared.live
 
@@ -69,3 +74,12 @@ returns-in_err-refuse_each-clause-keeps g c = Keeps-trans c.in_ok-live.ensures.k
 
 pub returns-clause-keeps : goal.returns-clause-keeps
 returns-clause-keeps g c = Keeps-trans c.in_ok-live.ensures.keeps (Keeps-trans c.in_ok-decided.ensures.keeps c.in_ok-refuse_each.ensures.keeps)
+
+pub returns-in_err-decided-clause-lists : goal.returns-in_err-decided-clause-lists
+returns-in_err-decided-clause-lists g c =
+    let old = g.C.Conditions.sets c.args.conds.now in
+    let w = c.args.self.now in
+    let live = c.in_ok-live.ensures.meaning (old.has c.args.among.0) (old.has w.prepared.live.0) (Denotes-self old c.args.among.0 c.requires.among_own) (Denotes-self old w.prepared.live.0 c.requires.owns.prepared.live) in
+    let kept : StopsByLists old.arities (λ config. old.has c.args.among.0 config && old.has w.prepared.live.0 config) (λ config. places_at old c.args.list.now config) c.args.limit c.in_err-decided.field-0.0 =
+    stops-by-lists c.in_ok-live.ensures.keeps live c.args.list.now c.requires.list_own c.args.limit c.in_err-decided.field-0.0 c.in_err-decided.ensures.refused in
+    search rules

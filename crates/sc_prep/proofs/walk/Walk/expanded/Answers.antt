@@ -9,12 +9,15 @@ use Rattle.sc_model.proofs.SetLemmas.{Keeps-trans, Denotes-self}
 use Rattle.sc_prep.specs.Closes.{RefusesEach}
 use Rattle.sc_prep.specs.Expressions.{ExpandsAt}
 use Rattle.sc_prep.proofs.ExpressionMoves.{expands-at}
-use Rattle.sc_prep.proofs.StageRefusals.{refused-as-told, refused-each-held, refused-each-list}
+use Rattle.sc_prep.proofs.NameStops.{list-stops}
+use Rattle.sc_prep.proofs.StageRefusals.{refused-as-told, refused-each-held, refused-each-list, refused-each-gathered}
 use Rattle.sc_prep.proofs.WalkMoves.{owns-kept}
 use Rattle.sc_table.proofs.Growth.{IsTable-Keeps, macros_at-Keeps}
 use Rattle.sc_model.proofs.SetLemmas.{IsConfig-Keeps}
 use Rattle.sc_table.specs.Table.{macros_at}
 use Rattle.std.proofs.Common.{◌∙◌}
+use Rattle.sc_prep.proofs.ExpandedBefore.{define-alike, text-expands}
+use Rattle.sc_if.proofs.AlikeReplacing.{AreAlike-Keeps}
 use Rattle.sc_prep.proofs.walk.Walk.expanded.Goals as goal
 
 pub expand-requires-clause-table : goal.expand-requires-clause-table
@@ -71,6 +74,9 @@ returns-clause-walk g c =
 pub returns-clause-list : goal.returns-clause-list
 returns-clause-list g c = refused-each-list c.args.self.now c.refuse_each.new.self c.args.self.now.table _ c.in_ok-refuse_each.ensures.refuses
 
+pub returns-clause-gathered : goal.returns-clause-gathered
+returns-clause-gathered g c = refused-each-gathered c.args.self.now c.refuse_each.new.self c.args.self.now.table _ c.in_ok-refuse_each.ensures.refuses
+
 pub refuse_each-requires-clause-live : goal.refuse_each-requires-clause-live
 refuse_each-requires-clause-live g c = (owns-kept (Keeps-trans c.in_ok-live.ensures.keeps c.in_ok-expanded.ensures.keeps) c.args.self.now c.requires.owns).prepared.live
 
@@ -82,3 +88,36 @@ returns-in_err-refuse_each-clause-keeps g c = Keeps-trans c.in_ok-live.ensures.k
 
 pub returns-clause-keeps : goal.returns-clause-keeps
 returns-clause-keeps g c = Keeps-trans c.in_ok-live.ensures.keeps (Keeps-trans c.in_ok-expanded.ensures.keeps c.in_ok-refuse_each.ensures.keeps)
+
+pub returns-in_err-expanded-clause-footprints : goal.returns-in_err-expanded-clause-footprints
+returns-in_err-expanded-clause-footprints g c = λ different.
+    let old = g.C.Conditions.sets c.args.conds.now in
+    let w = c.args.self.now in
+    let live = c.in_ok-live.ensures.meaning (old.has c.args.among.0) (old.has w.prepared.live.0) (Denotes-self old c.args.among.0 c.requires.among_own) (Denotes-self old w.prepared.live.0 c.requires.owns.prepared.live) in
+    let stops = list-stops c.args.names.now c.args.files.now c.in_ok-live.ensures.keeps w c.args.among c.in_ok-live.live live c.requires.table c.args.list.now c.requires.list_own c.args.limit c.in_err-expanded.field-0.0
+    c.in_err-expanded.ensures.stops different in
+    search (rules, stops)
+
+-- ---- what each configuration's list expands to, and what alike ones have of it
+
+pub returns-clause-answers : goal.returns-clause-answers
+returns-clause-answers g c = λ config listed asked.
+    let old = g.C.Conditions.sets c.args.conds.now in
+    let w = c.args.self.now in
+    let k1 = c.in_ok-live.ensures.keeps in
+    let live = c.in_ok-live.ensures.meaning (old.has c.args.among.0) (old.has w.prepared.live.0) (Denotes-self old c.args.among.0 c.requires.among_own) (Denotes-self old w.prepared.live.0 c.requires.owns.prepared.live) in
+    let now = IsConfig-Keeps k1 listed in
+    let x = c.in_ok-expanded.ensures.expands config now (live.at config now ∙ asked) in
+    (x.answer, text-expands k1 c.args.names.now c.args.files.now w.table c.requires.table c.args.list.now c.requires.list_own config listed x.answer x.expands)
+
+pub returns-clause-alike : goal.returns-clause-alike
+returns-clause-alike g c = λ one other here there one_asked other_asked list define.
+    let old = g.C.Conditions.sets c.args.conds.now in
+    let w = c.args.self.now in
+    let k1 = c.in_ok-live.ensures.keeps in
+    let live = c.in_ok-live.ensures.meaning (old.has c.args.among.0) (old.has w.prepared.live.0) (Denotes-self old c.args.among.0 c.requires.among_own) (Denotes-self old w.prepared.live.0 c.requires.owns.prepared.live) in
+    let p = IsConfig-Keeps k1 here in
+    let q = IsConfig-Keeps k1 there in
+    let made = c.in_ok-expanded.ensures.alike one other p q (live.at one p ∙ one_asked) (live.at other q ∙ other_asked) (AreAlike-Keeps k1 here there c.args.list.now c.requires.list_own list)
+    (define-alike k1 c.args.names.now c.args.files.now w.table c.requires.table c.args.list.now c.requires.list_own one other here there define) in
+    AreAlike-Keeps c.in_ok-refuse_each.ensures.keeps (IsConfig-Keeps c.in_ok-expanded.ensures.keeps p) (IsConfig-Keeps c.in_ok-expanded.ensures.keeps q) c.in_ok-expanded.expanded.list c.in_ok-expanded.ensures.held.own made.0

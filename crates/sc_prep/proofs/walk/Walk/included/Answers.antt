@@ -23,6 +23,8 @@ use Rattle.sc_prep.specs.Preprocesses.{ReadsNothing, Stops}
 use Rattle.sc_prep.specs.Printable.{ArePlainPaths, IsPlaced, any_token}
 use Rattle.sc_prep.specs.Simulates.{IsIn, Leads}
 use Rattle.sc_table.proofs.Growth.{IsTable-Extends, IsTable-Keeps}
+use Rattle.sc_prep.specs.Footprints.{StopsAtPlace}
+use Rattle.sc_prep.proofs.Stopping.{reading-stops-nowhere}
 use Rattle.sc_prep.proofs.walk.Walk.included.Goals as goal
 
 -- ---- the headers are named
@@ -80,6 +82,9 @@ returns-then-entry-space-clause-ready g c =
 
 pub returns-then-entry-space-clause-list : goal.returns-then-entry-space-clause-list
 returns-then-entry-space-clause-list g c = c.in_ok-refuse_all.ensures.list ∙ c.in_ok-named.ensures.list
+
+pub returns-then-entry-space-clause-gathered : goal.returns-then-entry-space-clause-gathered
+returns-then-entry-space-clause-gathered g c = c.in_ok-refuse_all.ensures.gathered ∙ c.in_ok-named.ensures.gathered
 
 pub returns-then-entry-space-clause-paths : goal.returns-then-entry-space-clause-paths
 returns-then-entry-space-clause-paths g c = λ sound plain paths each. paths
@@ -176,6 +181,9 @@ returns-clause-ready g c =
 pub returns-clause-list : goal.returns-clause-list
 returns-clause-list g c = c.in_ok-refuse_acting.ensures.list ∙ c.in_ok-named.ensures.list
 
+pub returns-clause-gathered : goal.returns-clause-gathered
+returns-clause-gathered g c = c.in_ok-refuse_acting.ensures.gathered ∙ c.in_ok-named.ensures.gathered
+
 pub returns-clause-paths : goal.returns-clause-paths
 returns-clause-paths g c = λ sound plain paths each.
     c.in_ok-found.ensures.paths (subst ArePlainPaths (sym (ap (map string_bytes) c.deref.ensures.value)) (sound-plain sound))
@@ -189,3 +197,9 @@ returns-clause-names g c = Extends-trans c.in_ok-named.ensures.names c.in_ok-fou
 
 pub returns-clause-keeps : goal.returns-clause-keeps
 returns-clause-keeps g c = Keeps-trans c.in_ok-named.ensures.keeps (Keeps-trans c.in_ok-found.ensures.keeps c.in_ok-refuse_acting.ensures.keeps)
+
+pub returns-in_err-found-clause-footprints : goal.returns-in_err-found-clause-footprints
+returns-in_err-found-clause-footprints g c = λ d directed says apart.
+    let old = g.S.Source.faults c.args.src.now in
+    let new = g.S.Source.faults c.find.new.src in
+    IfErr-weaker c.from_residual-in_err-found.result (ReadsNothing old new) (StopsAtPlace _ _ _) (reading-stops-nowhere _ _ _ old new) (search rules)

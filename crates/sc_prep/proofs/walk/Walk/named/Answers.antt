@@ -1,4 +1,4 @@
-use Rattle.std.proofs.Common.{◌≡◌, List, length, sym, subst, true, ◌∙◌, rules}
+use Rattle.std.proofs.Common.{◌≡◌, ◌+◌, List, length, sym, subst, true, ◌∙◌, rules}
 use Rattle.sc_base.specs.declared.token.Token.{Token}
 use Rattle.sc_base.specs.Seen.{IsHeld}
 use Rattle.sc_expand.specs.Stops.{StopsBy}
@@ -10,6 +10,11 @@ use Rattle.sc_prep.proofs.CloseMoves.{placed-grown}
 use Rattle.sc_prep.proofs.NamedFiles.{each-passes, has-hash, names-leads, said-each}
 use Rattle.sc_prep.proofs.WalkMoves.{owns-kept}
 use Rattle.sc_prep.specs.Printable.{any_token, is_plain}
+use Rattle.c11_directives.specs.Footprints.{DirectiveHas}
+use Rattle.sc_prep.specs.Footprints.{Comes, StopsAtPlace, any_machine}
+use Rattle.sc_prep.specs.Machine.{acts}
+use Rattle.sc_prep.proofs.DirectiveStops.{lists-stop}
+use Rattle.sc_lines.specs.Nests.{seen_line}
 use Rattle.sc_prep.proofs.walk.Walk.named.Goals as goal
 
 pub returns-clause-named : goal.returns-clause-named
@@ -85,3 +90,14 @@ returns-clause-walk g c =
 
 pub returns-clause-list : goal.returns-clause-list
 returns-clause-list g c = c.in_ok-refuse_acting.ensures.list ∙ c.in_ok-list.ensures.list
+
+pub returns-in_err-alternatives-clause-footprints : goal.returns-in_err-alternatives-clause-footprints
+returns-in_err-alternatives-clause-footprints g c = λ d directed says apart.
+    let s = g.C.Conditions.sets c.args.conds.now in
+    let l = seen_line c.args.names.now c.args.files.now c.args.line.now in
+    let kept : StopsAtPlace s.arities (Comes s c.args.names.now c.args.files.now c.args.self.now any_machine (λ config m f. (acts m ≡ true) × DirectiveHas m.state.macros l f)) c.args.limit c.in_err-alternatives.field-0.0 =
+    lists-stop c.args.limit c.in_err-alternatives.field-0.0 c.in_ok-list.ensures.keeps.arities (c.in_ok-list.ensures.lists d (c.args.limit + 1) directed says apart) c.in_err-alternatives.ensures.lists in
+    search rules
+
+pub returns-clause-gathered : goal.returns-clause-gathered
+returns-clause-gathered g c = c.in_ok-refuse_acting.ensures.gathered ∙ c.in_ok-list.ensures.gathered

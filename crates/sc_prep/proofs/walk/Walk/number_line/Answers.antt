@@ -1,4 +1,4 @@
-use Rattle.std.proofs.Common.{not, Bool, false, List, [], get_or, length, map, sym, subst, ◌∙◌, rules}
+use Rattle.std.proofs.Common.{◌≡◌, ◌+◌, not, Bool, false, true, List, [], get_or, length, map, sym, subst, ◌∙◌, rules}
 use Rattle.std.specs.List.{list_any}
 use Rattle.c11_directives.specs.Behind.{is_numbering}
 use Rattle.sc_base.specs.declared.token.Token.{Token}
@@ -14,6 +14,11 @@ use Rattle.sc_prep.proofs.ExpressionSteps.{hash-line}
 use Rattle.sc_prep.proofs.LineSteps.{line-grown}
 use Rattle.sc_prep.proofs.NumberMoves.{line-numbered}
 use Rattle.sc_prep.proofs.WalkMoves.{owns-kept}
+use Rattle.c11_directives.specs.Footprints.{DirectiveHas}
+use Rattle.sc_prep.specs.Footprints.{Comes, StopsAtPlace, any_machine}
+use Rattle.sc_prep.specs.Machine.{acts}
+use Rattle.sc_prep.proofs.DirectiveStops.{lists-stop}
+use Rattle.sc_lines.specs.Nests.{seen_line}
 use Rattle.sc_prep.proofs.walk.Walk.number_line.Goals as goal
 
 -- what stands past the last token
@@ -64,6 +69,9 @@ returns-clause-walk g c =
 pub returns-clause-list : goal.returns-clause-list
 returns-clause-list g c = c.in_ok-refuse.ensures.list ∙ c.in_ok-list.ensures.list
 
+pub returns-clause-gathered : goal.returns-clause-gathered
+returns-clause-gathered g c = c.in_ok-refuse.ensures.gathered ∙ c.in_ok-list.ensures.gathered
+
 pub returns-clause-carries : goal.returns-clause-carries
 returns-clause-carries g c =
     let names = c.args.names.now in
@@ -77,3 +85,11 @@ returns-clause-carries g c =
     line-numbered files names more c.in_ok-list.ensures.keeps c.in_ok-parts.ensures.keeps c.in_ok-others.ensures.keeps c.args.self.now c.said.new.self line c.in_ok-list.list
     c.in_ok-list.ensures.says c.in_ok-parts.parts.items c.in_ok-parts.ensures.at c.refuse.new.self c.in_ok-others.others.0 wrong (c.in_ok-refuse.ensures.moved more)
     (line-grown files c.in_ok-list.ensures.names line (λ k d h. (c.requires.placed k d h).held)) (seen names files (get_or line 0 no_token)) (hash-line names files line no_token c.requires.line)
+
+pub returns-in_err-parts-clause-footprints : goal.returns-in_err-parts-clause-footprints
+returns-in_err-parts-clause-footprints g c = λ d directed says apart.
+    let s = g.C.Conditions.sets c.args.conds.now in
+    let l = seen_line c.args.names.now c.args.files.now c.args.line.now in
+    let kept : StopsAtPlace s.arities (Comes s c.args.names.now c.args.files.now c.args.self.now any_machine (λ config m f. (acts m ≡ true) × DirectiveHas m.state.macros l f)) c.args.limit c.in_err-parts.field-0.0 =
+    lists-stop c.args.limit c.in_err-parts.field-0.0 c.in_ok-list.ensures.keeps.arities (c.in_ok-list.ensures.lists d (c.args.limit + 1) directed says apart) c.in_err-parts.ensures.lists in
+    search rules

@@ -6,6 +6,7 @@ use Rattle.c11_directives.specs.Pre.{with_text}
 use Rattle.sc_lines.specs.Nests.{seen_line}
 use Rattle.sc_prep.specs.Machine.{acting, changed_by, changing, plain_by}
 use Rattle.sc_prep.proofs.WalkMoves.{step-as}
+use Rattle.sc_prep.proofs.ApartLemmas.{gathers-same}
 use Rattle.sc_prep.proofs.walk.Walk.plain_line.Goals as goal
 
 pub returns-in_ok-put-in-None-clause-moved : goal.returns-in_ok-put-in-None-clause-moved
@@ -26,6 +27,9 @@ returns-in-Some-Define-clause-moved g c =
     (λ files config m _ _. ap (plain_by m (seen_line names files line)) (sym is)))
     c.define.ensures.moved
 
+pub returns-in-Some-Define-clause-gathers : goal.returns-in-Some-Define-clause-gathers
+returns-in-Some-Define-clause-gathers g c = on_ok_weaker c.define.result (gathers-same c.args.line.now c.args.self.now c.define.new.self) c.define.ensures.gathered
+
 pub returns-in-Some-Undef-clause-moved : goal.returns-in-Some-Undef-clause-moved
 returns-in-Some-Undef-clause-moved g c =
     let names = c.args.names.now in
@@ -37,6 +41,9 @@ returns-in-Some-Undef-clause-moved g c =
     (λ files config m _ _. ap (plain_by m (seen_line names files line)) (sym is)))
     c.undef.ensures.moved
 
+pub returns-in-Some-Undef-clause-gathers : goal.returns-in-Some-Undef-clause-gathers
+returns-in-Some-Undef-clause-gathers g c = on_ok_weaker c.undef.result (gathers-same c.args.line.now c.args.self.now c.undef.new.self) c.undef.ensures.gathered
+
 pub returns-in-Some-clause-moved : goal.returns-in-Some-clause-moved
 returns-in-Some-clause-moved g c = on_ok_weaker c.other_line.result (λ moved.
     let names = c.args.names.now in
@@ -44,6 +51,9 @@ returns-in-Some-clause-moved g c = on_ok_weaker c.other_line.result (λ moved.
     step-as (λ files config m. plain_by m (seen_line names files line) (Some c.in-Some.directive)) (λ files config m. plain_by m (seen_line names files line) c.args.directive)
     (λ files config m _ _. ap (plain_by m (seen_line names files line)) (sym c.in-Some.is)) (moved names))
     c.other_line.ensures.moved
+
+pub returns-in-Some-clause-gathers : goal.returns-in-Some-clause-gathers
+returns-in-Some-clause-gathers g c = on_ok_weaker c.other_line.result (gathers-same c.args.line.now c.args.self.now c.other_line.new.self) c.other_line.ensures.gathered
 
 pub returns-in-Some-clause-printable : goal.returns-in-Some-clause-printable
 returns-in-Some-clause-printable g c = on_ok_weaker c.other_line.result (λ printable. printable c.args.names.now) c.other_line.ensures.printable

@@ -1,4 +1,4 @@
-use Rattle.std.proofs.Common.{◌≡◌, ◌∙◌, ◌++◌, sym, ap, subst, length, take, arith}
+use Rattle.std.proofs.Common.{refl, ◌≡◌, ◌∙◌, ◌++◌, sym, ap, subst, length, take, arith}
 use Rattle.std.proofs.Math.Seq.{take-length}
 use Rattle.sc_prep.specs.declared.walk.Walk.{Walk}
 use Rattle.c11_directives.specs.Pre.{with_text}
@@ -6,6 +6,7 @@ use Rattle.sc_prep.specs.Machine.{acting}
 use Rattle.sc_prep.specs.Simulates.{SimulatesStep}
 use Rattle.sc_lines.specs.Nests.{seen_line}
 use Rattle.sc_prep.specs.Printable.{AreHeld, IsHeldWalk}
+use Rattle.sc_prep.proofs.ApartLemmas.{gathers-line, gathers-same}
 use Rattle.sc_prep.proofs.Held.{gathered-held}
 use Rattle.sc_prep.proofs.WalkMoves.{puts, puts-none}
 use Rattle.sc_guarded.proofs.ItemLemmas.{under}
@@ -31,3 +32,13 @@ returns-clause-printable g c = λ names files test all old.
 pub returns-then-is_never-clause-moved : goal.returns-then-is_never-clause-moved
 returns-then-is_never-clause-moved g c = λ names.
     puts-none names (g.C.Conditions.sets c.args.conds.now) c.args.self.now c.requires (c.is_never.ensures.0 c.if-is_never.true) c.args.line.now
+
+pub returns-then-is_never-clause-gathers : goal.returns-then-is_never-clause-gathers
+returns-then-is_never-clause-gathers g c = gathers-same c.args.line.now c.args.self.now c.args.self.now refl
+
+pub returns-clause-gathers : goal.returns-clause-gathers
+returns-clause-gathers g c =
+    let w = c.args.self.now in
+    let whole : c.loop-token.token-index ≡ length c.args.line.now = omega arith in
+    let taken = ap (λ n. take n c.args.line.now) whole ∙ take-length c.args.line.now in
+    gathers-line c.args.line.now w.acting w c.loop-token.self (ap (λ (next : Walk). next.gathered) c.loop-token.invariant ∙ ap (λ ts. w.gathered ++ under w.acting ts) taken)

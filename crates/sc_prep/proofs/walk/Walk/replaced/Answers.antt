@@ -11,7 +11,7 @@ use Rattle.sc_prep.specs.Expressions.{ReplacesAt}
 use Rattle.sc_prep.specs.Printable.{IsPlaced}
 use Rattle.sc_prep.specs.declared.walk.Walk.{Walk}
 use Rattle.sc_prep.proofs.ExpressionMoves.{replaces-at}
-use Rattle.sc_prep.proofs.StageRefusals.{refused-as-told, refused-each-held, refused-each-list}
+use Rattle.sc_prep.proofs.StageRefusals.{refused-as-told, refused-each-held, refused-each-list, refused-each-gathered}
 use Rattle.sc_prep.proofs.WalkMoves.{owns-kept}
 use Rattle.sc_table.proofs.Growth.{IsTable-Keeps, macros_at-Keeps}
 use Rattle.sc_prep.proofs.walk.Walk.replaced.Goals as goal
@@ -59,6 +59,9 @@ returns-clause-walk g c = λ files there held.
 
 pub returns-clause-list : goal.returns-clause-list
 returns-clause-list g c = refused-each-list c.args.self.now c.refuse_each.new.self c.replace_defined.new.table _ c.in_ok-refuse_each.ensures.refuses
+
+pub returns-clause-gathered : goal.returns-clause-gathered
+returns-clause-gathered g c = refused-each-gathered c.args.self.now c.refuse_each.new.self c.replace_defined.new.table _ c.in_ok-refuse_each.ensures.refuses
 
 pub refuse_each-requires-clause-live : goal.refuse_each-requires-clause-live
 refuse_each-requires-clause-live g c = (owns-kept (Keeps-trans c.in_ok-live.ensures.keeps c.in_ok-replaced.ensures.keeps) c.args.self.now c.requires.owns).prepared.live

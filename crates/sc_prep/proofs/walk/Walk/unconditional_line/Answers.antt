@@ -3,6 +3,7 @@ use Rattle.std.proofs.lemmas.Result.{on_ok_weaker}
 use Rattle.sc_prep.specs.Printable.{any_token}
 use Rattle.sc_prep.proofs.LineSteps.{directive-long}
 use Rattle.sc_prep.proofs.TakeLine.{barrier-found, barrier-missing, memory-stops, stays-plain, takes-plain}
+use Rattle.sc_prep.proofs.Stopping.{memory-stops-nowhere}
 use Rattle.sc_prep.proofs.walk.Walk.unconditional_line.Goals as goal
 
 pub barrier_line-requires-clause-directive : goal.barrier_line-requires-clause-directive
@@ -35,3 +36,6 @@ returns-in-None-clause-plain g c = on_ok_weaker c.plain_line.result (λ stays pl
 
 pub returns-in-None-clause-stops : goal.returns-in-None-clause-stops
 returns-in-None-clause-stops g c = memory-stops _ c.args.limit c.plain_line.result c.plain_line.ensures.memory
+
+pub returns-in-None-clause-footprints : goal.returns-in-None-clause-footprints
+returns-in-None-clause-footprints g c = λ x apart. memory-stops-nowhere _ _ c.args.limit c.plain_line.result c.plain_line.ensures.memory

@@ -1,0 +1,127 @@
+-- Tokens that stand apart, as lists of them are put together and taken apart.
+use Rattle.std.proofs.Common.{◌≡◌, ℕ, suc, ◌+◌, ◌-◌, Bool, List, [], ◌∷◌, ◌++◌, length, drop, take, get_or, map, append_assoc, refl, ap, sym, subst, ◌∙◌, arith}
+use Rattle.std.proofs.lemmas.List.{append-nil, get_or-append-add, get_or-map, get_or_append_left, length-append, length-map, map-append, take-append-drop}
+use Rattle.std.proofs.lemmas.List.Elements.{All-append, All-map}
+use Rattle.std.proofs.lemmas.List.Kept.{AllPairs-cons}
+use Rattle.std.specs.Prelude.{All, AllPairs, slice_range}
+use Rattle.sc_base.specs.declared.id.Cond.{Cond}
+use Rattle.sc_base.specs.declared.token.Token.{Token}
+use Rattle.sc_base.specs.Seen.{position_of, seen}
+use Rattle.sc_guarded.proofs.ItemLemmas.{under}
+use Rattle.sc_model.specs.Sets.{Sets}
+use Rattle.sc_model.specs.Token as model
+use Rattle.sc_model.specs.Token.{in_file}
+use Rattle.sc_prep.proofs.Positions.{lexed-apart}
+use Rattle.sc_prep.specs.Apart.{AreDifferent, GathersFrom, StandApart, tokens_in}
+use Rattle.sc_prep.specs.Closes.{IsWithin}
+use Rattle.sc_prep.specs.Contents.{AreLinesOf}
+use Rattle.sc_prep.specs.declared.content.FileLines.{FileLines}
+use Rattle.sc_prep.specs.declared.walk.Walk.{Walk}
+
+module _ {A : Type 0} (R : A → A → Type 0) where
+  pub pairs-head : (x : A) (xs : List A) → AllPairs R (x ∷ xs) → All (R x) xs
+  pairs-head x xs pairs = λ k d below. pairs 0 (suc k) d (omega arith) (omega (arith, below))
+
+  pub pairs-tail : (x : A) (xs : List A) → AllPairs R (x ∷ xs) → AllPairs R xs
+  pairs-tail x xs pairs = λ i j d low below. pairs (suc i) (suc j) d (omega (arith, low)) (omega (arith, below))
+
+  pub pairs-right : (xs ys : List A) → AllPairs R (xs ++ ys) → AllPairs R ys
+  pairs-right [] ys pairs = pairs
+  pairs-right (x ∷ xs) ys pairs = pairs-right xs ys (pairs-tail x (xs ++ ys) pairs)
+
+  all-left : (P : A → Type 0) (xs ys : List A) → All P (xs ++ ys) → All P xs
+  all-left P xs ys all = λ k d below. subst P (get_or_append_left xs ys d k below) (all k d (omega (arith, length-append xs ys, below)))
+
+  all-right : (P : A → Type 0) (xs ys : List A) → All P (xs ++ ys) → All P ys
+  all-right P xs ys all = λ k d below. subst P (get_or-append-add xs ys k d) (all (length xs + k) d (omega (arith, length-append xs ys, below)))
+
+  pub pairs-without : (xs ys zs : List A) → AllPairs R (xs ++ (ys ++ zs)) → AllPairs R (xs ++ zs)
+  pairs-without [] ys zs pairs = pairs-right ys zs pairs
+  pairs-without (x ∷ xs) ys zs pairs =
+      let first = pairs-head x (xs ++ (ys ++ zs)) pairs in
+      AllPairs-cons R x (xs ++ zs)
+      (All-append (R x) xs zs (all-left (R x) xs (ys ++ zs) first) (all-right (R x) ys zs (all-right (R x) xs (ys ++ zs) first)))
+      (pairs-without xs ys zs (pairs-tail x (xs ++ (ys ++ zs)) pairs))
+
+  pub pairs-left : (xs ys : List A) → AllPairs R (xs ++ ys) → AllPairs R xs
+  pairs-left xs ys pairs =
+      subst (AllPairs R) (append-nil xs) (pairs-without xs ys [] (subst (λ zs. AllPairs R (xs ++ zs)) (sym (append-nil ys)) pairs))
+
+  pub pairs-drop : (n : ℕ) (xs : List A) → AllPairs R xs → AllPairs R (drop n xs)
+  pairs-drop n xs pairs = pairs-right (take n xs) (drop n xs) (subst (AllPairs R) (sym (take-append-drop n xs)) pairs)
+
+  pub pairs-take : (n : ℕ) (xs : List A) → AllPairs R xs → AllPairs R (take n xs)
+  pairs-take n xs pairs = pairs-left (take n xs) (drop n xs) (subst (AllPairs R) (sym (take-append-drop n xs)) pairs)
+
+  module _ {B : Type 0} (f : B → A) where
+    pub pairs-map : (xs : List B) → AllPairs (λ x y. R (f x) (f y)) xs → AllPairs R (map f xs)
+    pairs-map [] pairs = λ i j d low below. absurd (omega (arith, below))
+    pairs-map (x ∷ xs) pairs =
+        AllPairs-cons R (f x) (map f xs) (All-map (R (f x)) f xs (λ k d below. pairs 0 (suc k) d (omega arith) (omega (arith, below))))
+        (pairs-map xs (λ i j d low below. pairs (suc i) (suc j) d (omega (arith, low)) (omega (arith, below))))
+
+    pub pairs-unmap : (xs : List B) → AllPairs R (map f xs) → AllPairs (λ x y. R (f x) (f y)) xs
+    pairs-unmap xs pairs = λ i j d low below.
+        subst (λ x. R x (f (get_or xs j d))) (get_or-map f xs i d (f d) (omega (arith, low, below)))
+        (subst (R (get_or (map f xs) i (f d))) (get_or-map f xs j d (f d) below) (pairs i j (f d) low (omega (arith, length-map xs f, below))))
+
+-- ---- tokens at different positions
+
+abbrev IsApart : Token → Token → Type 0
+IsApart t u = position_of t.place ≡ position_of u.place → ⊥
+
+pub apart-left : (xs ys : List Token) → StandApart (xs ++ ys) → StandApart xs
+apart-left xs ys apart = pairs-left IsApart xs ys apart
+
+pub apart-right : (xs ys : List Token) → StandApart (xs ++ ys) → StandApart ys
+apart-right xs ys apart = pairs-right IsApart xs ys apart
+
+pub apart-without : (xs ys zs : List Token) → StandApart (xs ++ (ys ++ zs)) → StandApart (xs ++ zs)
+apart-without xs ys zs apart = pairs-without IsApart xs ys zs apart
+
+pub apart-drop : (n : ℕ) (xs : List Token) → StandApart xs → StandApart (drop n xs)
+apart-drop n xs apart = pairs-drop IsApart n xs apart
+
+pub apart-take : (n : ℕ) (xs : List Token) → StandApart xs → StandApart (take n xs)
+apart-take n xs apart = pairs-take IsApart n xs apart
+
+pub apart-slice : (xs : List Token) (from to : ℕ) → StandApart xs → StandApart (slice_range xs from to)
+apart-slice xs from to apart = apart-take (to - from) (drop from xs) (apart-drop from xs apart)
+
+pub different : (names files : List (List ℕ)) (list : List (Cond × Token)) → StandApart (tokens_in list) → AreDifferent names files list
+different names files list apart = λ i j d low below same.
+    pairs-unmap IsApart (λ (item : Cond × Token). item.1) list apart i j d low below (ap (λ (t : model.Token). t.place.position) same)
+
+-- ---- what is gathered
+
+pub tokens-push : (items : List (Cond × Token)) (cond : Cond) (t : Token) (rest : List Token) → tokens_in (items ++ (cond, t) ∷ []) ++ rest ≡ tokens_in items ++ (t ∷ rest)
+tokens-push items cond t rest =
+    ap (λ ts. ts ++ rest) (map-append (λ (item : Cond × Token). item.1) items ((cond, t) ∷ [])) ∙ append_assoc (tokens_in items) (t ∷ []) rest
+
+pub gathers-then : (l k : List Token) (a b c : Walk) → GathersFrom l a b → GathersFrom k b c → GathersFrom (l ++ k) a c
+gathers-then l k a b c first second = λ rest apart.
+    second rest (first (k ++ rest) (subst (λ ts. StandApart (tokens_in a.gathered ++ ts)) (append_assoc l k rest) apart))
+
+pub gathers-same : (line : List Token) (a b : Walk) → b.gathered ≡ a.gathered → GathersFrom line a b
+gathers-same line a b same = λ rest apart. subst (λ list. StandApart (tokens_in list ++ rest)) (sym same) (apart-without (tokens_in a.gathered) line rest apart)
+
+-- a line that is gathered
+pub gathers-line : (line : List Token) (cond : Cond) (a b : Walk) → b.gathered ≡ a.gathered ++ under cond line → GathersFrom line a b
+gathers-line line cond a b is = λ rest apart.
+    let tokens = ap tokens_in is ∙ (map-append (λ (item : Cond × Token). item.1) a.gathered (under cond line) ∙ ap (λ ts. tokens_in a.gathered ++ ts) (tokens-under cond line)) in
+    subst (λ ts. StandApart (ts ++ rest)) (sym tokens) (subst StandApart (sym (append_assoc (tokens_in a.gathered) line rest)) apart)
+  where
+    tokens-under : (cond : Cond) (line : List Token) → tokens_in (under cond line) ≡ line
+    tokens-under cond [] = refl
+    tokens-under cond (t ∷ ts) = ap (λ xs. t ∷ xs) (tokens-under cond ts)
+
+-- only items of a list are left of it
+pub gathers-within : {old new : Sets} {t : List ℕ → Bool} (line : List Token) (a b : Walk) → IsWithin old a.gathered t new b.gathered → GathersFrom line a b
+gathers-within line a b within = λ rest apart. within.apart rest (apart-without (tokens_in a.gathered) line rest apart)
+
+-- ---- the tokens of a file
+
+pub lines-apart : {names files : List (List ℕ)} {name bytes : List ℕ} {found : FileLines} → AreLinesOf names files name bytes found → StandApart found.tokens.items
+lines-apart {names} {files} {name} {bytes} {found} are =
+    let R : model.Token → model.Token → Type 0 = λ t u. t.place.position ≡ u.place.position → ⊥ in
+    pairs-unmap R (seen names files) found.tokens.items (subst (AllPairs R) (sym are.tokens) (pairs-map R (in_file name) are.lexemes (lexed-apart bytes are.lexemes are.lexed)))

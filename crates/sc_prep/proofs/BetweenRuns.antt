@@ -1,0 +1,66 @@
+-- Where the run of a machine was closed.
+use Rattle.std.proofs.Common.{◌≡◌, ◌&&◌, Bool, true, false, List, [], Option, Some, None, Result, Ok, Err, if◌then◌else◌, refl, sym, ap, ◌∙◌, subst}
+use Rattle.std.specs.Prelude.{IfOk, ℕ, is_none}
+use Rattle.c11_directives.specs.declared.directive.Directive.{Directive}
+use Rattle.c11_directives.specs.Lines.{Line}
+use Rattle.c11_directives.specs.Pre.{Context, File, State, Carries, changed, not_changed, not_expanded, numbered, not_numbered, no_header, too_deep, included, Closes, closed, refused, Enters, too_large, unended, badly_nested, stopped_inside, walked, Includes, missing, entered, back, put_out}
+use Rattle.c11_macros.specs.Results.{result_map}
+use Rattle.sc_model.specs.Fault.{Fault}
+use Rattle.sc_model.specs.Token.{Place, Token}
+use Rattle.sc_prep.specs.Machine.{Machine, acts, arriving, closing_run}
+use Rattle.sc_prep.specs.Simulates.{Closed, IsBetweenRuns}
+
+-- ---- the run of a state
+
+abbrev pub LeavesNoRun : Result State Fault → Type 0
+LeavesNoRun r = IfOk r (λ s. s.run ≡ [])
+
+closes-run : {s : State} {r : Result State Fault} → Closes s r → LeavesNoRun r
+closes-run (closed output is) = refl
+closes-run (refused fault is) = tt
+
+-- the last run of a file is closed
+pub enters-run : {x : Context} {f : File} {s : State} {r : Result State Fault} → Enters x f s r → LeavesNoRun r
+enters-run (too_large much) = tt
+enters-run (unended position few lexed) = tt
+enters-run (badly_nested tokens place few lexed tree) = tt
+enters-run (stopped_inside tokens group fault few lexed tree walks) = tt
+enters-run (walked tokens group t few lexed tree walks closes) = closes-run closes
+
+includes-run : {x : Context} {names : List (List ℕ)} {asked : Place} {s : State} {r : Result State Fault} → Includes x names asked s r → LeavesNoRun r
+includes-run (missing none) = tt
+includes-run (entered f found enters) = enters-run enters
+
+back-run : (s : State) (r : Result State Fault) → LeavesNoRun r → LeavesNoRun (result_map (back s) r)
+back-run s (Ok t) is = is
+back-run s (Err fault) is = tt
+
+-- a directive gathers nothing
+pub carries-run : {x : Context} {l : Line} {s : State} {d : Directive} {r : Result State Fault} → Carries x l s d r → s.run ≡ [] → LeavesNoRun r
+carries-run (changed macros changes) none = none
+carries-run (not_changed cause fault changes at) none = tt
+carries-run (not_expanded fault is says) none = tt
+carries-run (numbered ts says is) none = none
+carries-run (not_numbered ts fault says is at) none = tt
+carries-run (no_header ts cause fault says is at) none = tt
+carries-run (too_deep ts header fault says is deep at) none = tt
+carries-run {s = s} (included {r = r} ts header hash says is deep at does) none = back-run s r (includes-run does)
+
+-- ---- the run of a machine
+
+-- a machine that was refused does nothing
+pub refused-acts : (active : Bool) (f : Option Fault) (fault : Fault) → (active && is_none (if active && is_none f then Some fault else f)) ≡ true → ⊥
+refused-acts true None fault e = cc
+refused-acts true (Some f) fault e = cc
+refused-acts false f fault e = cc
+
+pub closing-between : (m : Machine) (r : Result (List Token) Fault) → IsBetweenRuns (closing_run m r)
+closing-between m (Ok output) acting = ap (λ b. (if b then put_out m.state output else m.state).run) acting
+closing-between m (Err fault) acting = absurd (refused-acts m.active m.fault fault acting)
+
+pub closed-between : {m n : Machine} → Closed m n → IsBetweenRuns n
+closed-between {m} was = subst IsBetweenRuns (sym was.is) (closing-between m was.answer)
+
+pub arriving-between : (m : Machine) (r : Result State Fault) → (acts m ≡ true → LeavesNoRun r) → IsBetweenRuns (arriving m r)
+arriving-between m (Ok s) leaves acting = ap (λ b. (if b then s else m.state).run) acting ∙ leaves acting
+arriving-between m (Err fault) leaves acting = absurd (refused-acts m.active m.fault fault acting)

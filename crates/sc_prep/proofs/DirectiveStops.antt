@@ -1,0 +1,318 @@
+-- Why a directive stops: the footprints of which a stage tells are those of the machine before its
+-- line.
+use Rattle.std.proofs.Common.{◌≡◌, ℕ, ◌+◌, ◌&&◌, ◌⊎◌, Bool, true, false, All, List, [], ◌∷◌, drop, map, Some, None, Result, Ok, Err, refl, sym, ap, subst, ◌∙◌, if◌then◌else◌}
+use Rattle.std.proofs.lemmas.Bool.{and_from, and_parts, true≢false}
+use Rattle.std.specs.Prelude.{IfErr, IfOk, is_none}
+use Rattle.c11_directives.specs.Behind.{begins_with_header, behind_name}
+use Rattle.c11_directives.specs.declared.directive.Conditional.TheVariants.{If, Elif}
+use Rattle.c11_directives.specs.declared.directive.Directive.{Directive}
+use Rattle.c11_directives.specs.Footprints.{DirectiveHas, HasFootprints, NameHas, SourceFootprint, TextHas, expression, footprint_at, of_directive, of_header, of_line, of_name, of_run, said}
+use Rattle.c11_directives.specs.Lines.{Line, conditional_of, hash_of}
+use Rattle.c11_directives.specs.Pre.{Context, closed, is_barrier, is_said, put_out}
+use Rattle.c11_expressions.specs.Lines.{without_defined}
+use Rattle.c11_macros.specs.Text.{TextExpands, unhidden}
+use Rattle.sc_base.specs.declared.id.Cond.{Cond}
+use Rattle.sc_base.specs.declared.stop.Stop.{Stop}
+use Rattle.sc_base.specs.declared.stop.Stop.TheVariants.{BranchesFull, ReadFault, OutOfMemory}
+use Rattle.sc_base.specs.declared.token.Token as base
+use Rattle.sc_base.specs.Seen.{IsHeld, seen}
+use Rattle.sc_expand.specs.Alike.{DefineTextAlike}
+use Rattle.sc_guarded.proofs.ItemLemmas.{under}
+use Rattle.sc_guarded.specs.Items.{items_at}
+use Rattle.sc_hoist.specs.Alike.{AreAlike}
+use Rattle.sc_hoist.specs.Places.{places_at}
+use Rattle.sc_lines.proofs.SeenLines.{directive-files}
+use Rattle.sc_lines.specs.Nests.{seen_line}
+use Rattle.sc_lines.specs.Split.{directive_at}
+use Rattle.sc_model.proofs.SetLemmas.{IsConfig-Keeps}
+use Rattle.sc_model.specs.Fault.{Fault}
+use Rattle.sc_model.specs.Growth.{Extends}
+use Rattle.sc_model.specs.Sets.{Sets, Denotes, IsCond, IsConfig, Keeps}
+use Rattle.sc_model.specs.Token.{Place, Token}
+use Rattle.sc_prep.specs.Apart.{AreDifferent, StandApart, tokens_in}
+use Rattle.sc_prep.specs.declared.walk.Walk.{Walk}
+use Rattle.sc_prep.specs.Expressions.{ExpandsAt, ReplacesAt, expanding_done, expanding_fails, expanding_idle, replacing_done, replacing_fails, replacing_idle}
+use Rattle.sc_prep.specs.Footprints.{Comes, ComesAt, HaveLists, StopsAtPlace, StopsByLists, any_machine, decides, does}
+use Rattle.sc_prep.specs.Machine.{Machine, RunExpands, acts, asks_by, closing_run, next_branch}
+use Rattle.sc_prep.specs.Simulates.{Closed, Owns, Simulates, SimulatesOneOf}
+use Rattle.sc_prep.proofs.ApartLemmas.{apart-drop, different}
+use Rattle.sc_prep.proofs.ExpressionMoves.{asked-at, right-none}
+use Rattle.sc_prep.proofs.LineFootprints.{headers-footprints, lists-footprints}
+use Rattle.sc_prep.proofs.LineSteps.{line-grown}
+use Rattle.sc_prep.proofs.NameFootprints.{text-as}
+use Rattle.sc_prep.proofs.SaidMoves.{text-at}
+use Rattle.sc_prep.proofs.Stopping.{answer-stops, footprints-as, stops-as}
+use Rattle.sc_prep.proofs.VoidFootprints.{void-footprints}
+use Rattle.sc_prep.proofs.WalkMoves.{simulates-kept}
+use Rattle.sc_table.specs.Table.{IsTable, macros_at}
+
+-- a stage that stops for different lists stops at a place
+pub lists-stop : {mid arities other : List ℕ} {test : List ℕ → Bool} {list : List ℕ → List ℕ} {P : List ℕ → SourceFootprint → Type 0} (limit : ℕ) (stop : Stop) → mid ≡ arities
+    → (HaveLists arities test list (limit + 1) → HasFootprints other P (limit + 1)) → StopsByLists mid test list limit stop → StopsAtPlace other P limit stop
+lists-stop {test = test} {list = list} limit (BranchesFull count) same to h = to (subst (λ a. HaveLists a test list (limit + 1)) same h)
+lists-stop limit ReadFault same to h = tt
+lists-stop limit OutOfMemory same to h = tt
+
+-- what several clauses of an answer say together
+pub all-of : {X Y : Type 0} {A B C D E : X → Type 0} (r : Result X Y) → ((x : X) → A x → B x → C x → D x → E x) → IfOk r A → IfOk r B → IfOk r C → IfOk r D → IfOk r E
+all-of (Ok x) to a b c d = to x a b c d
+all-of (Err y) to a b c d = tt
+
+-- ---- at one configuration
+
+-- where the machine is not refused, an earlier stage left it as it was
+replaced-done : {text ts : List Token} {hash : Place} {asked : Bool} {m n : Machine} → asked ≡ true → n.fault ≡ None → ReplacesAt text hash asked m ts n
+    → (n ≡ m) × (without_defined m.state.macros (map unhidden text) ≡ Ok (map unhidden ts))
+replaced-done asks clean (replacing_idle quiet none) = let both = sym asks ∙ quiet in absurd (cc)
+replaced-done asks clean (replacing_done asked is) = (refl, is)
+replaced-done asks clean (replacing_fails cause asked is) = absurd (cc)
+
+expanded-done : {text ts : List Token} {asked : Bool} {m n : Machine} → n.fault ≡ None → ExpandsAt text asked m ts n → n ≡ m
+expanded-done clean (expanding_idle quiet none) = refl
+expanded-done clean (expanding_done asked is) = refl
+expanded-done clean (expanding_fails fault asked is) = absurd (cc)
+
+-- ---- the line of an expression
+
+module _ (files names : List (List ℕ)) {old s : Sets} (keeps : Keeps old s) (w : Walk) (owns : Owns old w) (is : IsTable old names w.table) (among live : Cond)
+    (live_is : Denotes s live.0 (λ c. old.has among.0 c && old.has w.prepared.live.0 c)) (l : Line) (hash : Token)
+    (conditional : (conditional_of l ≡ Some If) ⊎ (conditional_of l ≡ Some Elif)) {names1 : List (List ℕ)} {s1 : Sets} {w1 : Walk} (k1 : Keeps s s1) (list : List (Cond × base.Token))
+    (replaces : SimulatesOneOf files names s w names1 s1 w1
+    (λ c m n. ReplacesAt (behind_name l) hash.place (s.has live.0 c && is_none m.fault) m (map (seen names1 files) (items_at s1 list c)) n)) where
+  abbrev text_at : List ℕ → List Token
+  text_at c = map (seen names1 files) (items_at s1 list c)
+
+  -- each `defined` of the line was replaced, and the machine was asked
+  record IsReplaced (c : List ℕ) (m : Machine) : Type 0 where
+    simulates : Simulates s1 names1 files w1 c m
+    asked : (old.has among.0 c && is_none m.fault) ≡ true
+    text : without_defined m.state.macros (map unhidden (behind_name l)) ≡ Ok (map unhidden (text_at c))
+
+  replaced-before : (c : List ℕ) (m : Machine) → IsConfig old.arities c → Simulates old names files w c m
+      → ((n : Machine) → Simulates s1 names1 files w1 c n → (s1.has live.0 c && is_none n.fault) ≡ true) → IsReplaced c m
+  replaced-before c m listed simulates later =
+      let now = IsConfig-Keeps keeps listed in
+      let a = replaces.at c m now (simulates-kept keeps w owns names files c m listed is simulates) in
+      let on = and_parts (s1.has live.0 c) (is_none a.machine.fault) (later a.machine a.simulates) in
+      let has : s.has live.0 c ≡ true = sym (k1.at live.0 c live_is.own now) ∙ on.0 in
+      let asked : (old.has among.0 c && is_none m.fault) ≡ true = sym (asked-at keeps w among live live_is c m listed simulates) ∙ has in
+      let clean = (and_parts (old.has among.0 c) (is_none m.fault) asked).1 in
+      let done = replaced-done (and_from (s.has live.0 c) (is_none m.fault) has clean) (right-none true a.machine.fault on.1) a.done in
+      record { simulates = subst (Simulates s1 names1 files w1 c) done.0 a.simulates; asked = asked; text = done.1 }
+
+  abbrev Found : List ℕ → SourceFootprint → Type 0
+  Found = Comes old names files w any_machine (λ c m f. ((old.has among.0 c && is_none m.fault) ≡ true) × DirectiveHas m.state.macros l f)
+
+  -- a name of what is left
+  pub name-stops : (limit : ℕ) (stop : Stop)
+      → StopsAtPlace s1.arities (Comes s1 names1 files w1 any_machine (λ c m f. ((s1.has live.0 c && is_none m.fault) ≡ true) × NameHas m.state.macros (text_at c) f)) limit stop
+      → StopsAtPlace old.arities Found limit stop
+  name-stops limit stop stops =
+      stops-as limit stop
+      (λ c f listed has. λ m simulates _.
+      let a = replaced-before c m listed simulates (λ n at. (has n at tt).0) in
+      (a.asked, of_name (text_at c) (expression (text_at c) conditional a.text) (has m a.simulates tt).1))
+      (subst
+      (λ a. StopsAtPlace a (Comes s1 names1 files w1 any_machine (λ c m f. ((s1.has live.0 c && is_none m.fault) ≡ true) × NameHas m.state.macros (text_at c) f)) limit stop)
+      (k1.arities ∙ keeps.arities) stops)
+
+  -- or all of it
+  module _ (hashed : hash_of l ≡ Some hash) {names2 : List (List ℕ)} {s2 : Sets} {w2 : Walk} (k2 : Keeps s1 s2) (made : List (Cond × base.Token)) (left : List ℕ → List Token)
+      (own_list : All (λ (item : Cond × base.Token). IsCond s1 item.0.0) list) (own_made : All (λ (item : Cond × base.Token). IsCond s2 item.0.0) made) (different : AreDifferent names1 files list)
+      (expands : SimulatesOneOf files names1 s1 w1 names2 s2 w2 (λ c m n. ExpandsAt (text_at c) (s1.has live.0 c && is_none m.fault) m (left c) n))
+      (answers : (c : List ℕ) → IsConfig s1.arities c → (s1.has live.0 c && s1.has w1.prepared.live.0 c) ≡ true
+      → (answer : Result (List Token) Fault) × TextExpands (macros_at s1 names1 w1.table c) (text_at c) answer)
+      (alike : (c d : List ℕ) → IsConfig s1.arities c → IsConfig s1.arities d → (s1.has live.0 c && s1.has w1.prepared.live.0 c) ≡ true → (s1.has live.0 d && s1.has w1.prepared.live.0 d) ≡ true
+      → AreAlike s1 c d list → DefineTextAlike (macros_at s1 names1 w1.table c) (macros_at s1 names1 w1.table d) (text_at c) → AreAlike s2 c d made) where
+    abbrev before : List ℕ → Bool
+    before c = s1.has live.0 c && s1.has w1.prepared.live.0 c
+
+    abbrev behind : List ℕ → Bool
+    behind c = s2.has live.0 c && s2.has w2.prepared.live.0 c
+
+    -- a machine that was not refused behind the expansion was not before it
+    void : (c : List ℕ) → IsConfig old.arities c → behind c ≡ true → before c ≡ false → (f : SourceFootprint) → Found c f
+    void c listed on off f = λ m simulates _.
+        let now = IsConfig-Keeps keeps listed in
+        let now1 = IsConfig-Keeps k1 now in
+        let a = replaces.at c m now (simulates-kept keeps w owns names files c m listed is simulates) in
+        let b = expands.at c a.machine now1 a.simulates in
+        let parts = and_parts (s2.has live.0 c) (s2.has w2.prepared.live.0 c) on in
+        let clean = right-none true b.machine.fault (sym b.simulates.prepared.live ∙ parts.1) in
+        let same = expanded-done clean b.done in
+        let has = sym (k2.at live.0 c (k1.own live.0 live_is.own) now1) ∙ parts.0 in
+        let lives = a.simulates.prepared.live ∙ ap is_none (ap (λ (n : Machine). n.fault) (sym same) ∙ clean) in
+        absurd (true≢false (sym (and_from (s1.has live.0 c) (s1.has w1.prepared.live.0 c) has lives) ∙ off))
+
+    text-found : (c : List ℕ) (f : SourceFootprint) → IsConfig old.arities c → before c ≡ true → TextHas (macros_at s1 names1 w1.table c) (text_at c) hash.place f → Found c f
+    text-found c f listed on has = λ m simulates _.
+        let parts = and_parts (s1.has live.0 c) (s1.has w1.prepared.live.0 c) on in
+        let a = replaced-before c m listed simulates (λ n at. and_from (s1.has live.0 c) (is_none n.fault) parts.0 (sym at.prepared.live ∙ parts.1)) in
+        let clean = right-none true m.fault (and_parts (old.has among.0 c) (is_none m.fault) a.asked).1 in
+        (a.asked, of_line (text_at c) hash (expression (text_at c) conditional a.text) hashed (text-as (a.simulates.macros clean) has))
+
+    texts-found : (count : ℕ) → HaveLists s1.arities behind (λ c. places_at s2 made c) count → HasFootprints old.arities Found count
+    texts-found count lists =
+        subst (λ a. HasFootprints a Found count) first
+        (void-footprints s1.arities Found before behind (λ c. places_at s2 made c) count (λ c listed. void c (subst (λ a. IsConfig a c) first listed))
+        (λ n h. footprints-as (λ c f listed has. let on = (and_parts (behind c) (before c) has.0).1 in (on, text-found c f (subst (λ a. IsConfig a c) first listed) on has.1))
+        (lists-footprints s1 s2 names1 files (macros_at s1 names1 w1.table) list made (λ c. behind c && before c) hash.place n k2 own_list own_made different
+        (λ c d here there one other. alike c d here there (and_parts (behind c) (before c) one).1 (and_parts (behind d) (before d) other).1)
+        (λ c here one. answers c here (and_parts (behind c) (before c) one).1) h))
+        lists)
+      where
+        first : s1.arities ≡ old.arities
+        first = k1.arities ∙ keeps.arities
+
+    pub text-stops : (limit : ℕ) (stop : Stop) → StopsByLists s2.arities behind (λ c. places_at s2 made c) limit stop → StopsAtPlace old.arities Found limit stop
+    text-stops limit stop stops = lists-stop limit stop k2.arities (texts-found (limit + 1)) stops
+
+-- ---- a line that begins or goes on with a section
+
+pub if-stops : (s : Sets) (names files : List (List ℕ)) (w : Walk) (x : Context) (l : Line) → conditional_of l ≡ Some If → (limit : ℕ) (stop : Stop)
+    → StopsAtPlace s.arities (Comes s names files w any_machine (λ c m f. ((s.has w.acting.0 c && is_none m.fault) ≡ true) × DirectiveHas m.state.macros l f)) limit stop
+    → StopsAtPlace s.arities (Comes s names files w any_machine (λ c m f. ComesAt x m l f)) limit stop
+if-stops s names files w x l named limit stop = stops-as limit stop (λ c f listed has. λ m simulates _.
+    let it = has m simulates tt in
+    decides (ap (asks_by m) named ∙ (sym simulates.acting ∙ (and_parts (s.has w.acting.0 c) (is_none m.fault) it.0).0)) it.1)
+
+pub elif-stops : (s : Sets) (names files : List (List ℕ)) (w : Walk) (x : Context) (l : Line) → conditional_of l ≡ Some Elif → (among : Cond)
+    → ((c : List ℕ) (m : Machine) → Simulates s names files w c m → (s.has among.0 c && is_none m.fault) ≡ acts (next_branch m true m.sections)) → (limit : ℕ) (stop : Stop)
+    → StopsAtPlace s.arities (Comes s names files w any_machine (λ c m f. ((s.has among.0 c && is_none m.fault) ≡ true) × DirectiveHas m.state.macros l f)) limit stop
+    → StopsAtPlace s.arities (Comes s names files w any_machine (λ c m f. ComesAt x m l f)) limit stop
+elif-stops s names files w x l named among asked limit stop = stops-as limit stop (λ c f listed has. λ m simulates _.
+    let it = has m simulates tt in
+    decides (ap (asks_by m) named ∙ (sym (asked c m simulates) ∙ it.0)) it.1)
+
+-- ---- what a line says
+
+-- a directive has a first token
+hash-of : (names files : List (List ℕ)) (line : List base.Token) (d : Directive) → (seen_line names files line).directive ≡ Some d → (t : Token) × (hash_of (seen_line names files line) ≡ Some t)
+hash-of names files [] d directed = absurd (cc)
+hash-of names files (t ∷ ts) d directed = (seen names files t, refl)
+
+tokens-under : (cond : Cond) (ts : List base.Token) → tokens_in (under cond ts) ≡ ts
+tokens-under cond [] = refl
+tokens-under cond (t ∷ ts) = ap (λ us. t ∷ us) (tokens-under cond ts)
+
+-- the tokens behind the name stand apart
+pub behind-different : (names files : List (List ℕ)) (w : Walk) (line : List base.Token) (list : List (Cond × base.Token)) → list ≡ under w.acting (drop 2 line) → StandApart line → AreDifferent names files list
+behind-different names files w line list same apart =
+    different names files list (subst StandApart (sym (ap tokens_in same ∙ tokens-under w.acting (drop 2 line))) (apart-drop 2 line apart))
+
+module _ (names files : List (List ℕ)) (s : Sets) (w : Walk) (line : List base.Token) (list : List (Cond × base.Token)) (same : list ≡ under w.acting (drop 2 line)) (d : Directive)
+    (directed : (seen_line names files line).directive ≡ Some d) (says : is_said d ≡ true) where
+  abbrev this : Line
+  this = seen_line names files line
+
+  abbrev Said : List ℕ → SourceFootprint → Type 0
+  Said = Comes s names files w any_machine (λ c m f. (acts m ≡ true) × DirectiveHas m.state.macros this f)
+
+  abbrev behind_at : List ℕ → List Token
+  behind_at c = map (seen names files) (items_at s list c)
+
+  -- where the machine acts the list has what stands behind the name
+  all-behind : (c : List ℕ) → s.has w.acting.0 c ≡ true → behind_at c ≡ behind_name this
+  all-behind c has = text-at names files s w line list same c ∙ ap (λ b. if b then behind_name this else []) has
+
+  -- a name of it
+  pub name-said-stops : begins_with_header (behind_name this) ≡ false → (limit : ℕ) (stop : Stop)
+      → StopsAtPlace s.arities (Comes s names files w any_machine (λ c m f. ((s.has w.acting.0 c && is_none m.fault) ≡ true) × NameHas m.state.macros (behind_at c) f)) limit stop
+      → StopsAtPlace s.arities Said limit stop
+  name-said-stops other limit stop = stops-as limit stop (λ c f listed has. λ m simulates _.
+      let it = has m simulates tt in
+      let on = (and_parts (s.has w.acting.0 c) (is_none m.fault) it.0).0 in
+      (sym simulates.acting ∙ on, of_name (behind_name this) (said d directed says other) (subst (λ ts. NameHas m.state.macros ts f) (all-behind c on) it.1)))
+
+  module _ (apart : StandApart line) where
+    abbrev hash : Token
+    hash = (hash-of names files line d directed).0
+
+    hashed : hash_of this ≡ Some hash
+    hashed = (hash-of names files line d directed).1
+
+    -- the header name that stands there
+    pub header-stops : begins_with_header (behind_name this) ≡ true → (count : ℕ) → HaveLists s.arities (s.has w.acting.0) (λ c. places_at s list c) count → HasFootprints s.arities Said count
+    header-stops header count lists =
+        footprints-as (λ c f listed has. λ m simulates _. (sym simulates.acting ∙ has.0, of_header d hash directed says header hashed (has.1 ∙ ap (λ ts. footprint_at hash.place ts []) (all-behind c has.0))))
+        (headers-footprints s names files list (s.has w.acting.0) hash.place count (behind-different names files w line list same apart) lists)
+
+    -- or what it expands to
+    module _ (other : begins_with_header (behind_name this) ≡ false) {more : List (List ℕ)} {new : Sets} {next : Walk} (keeps : Keeps s new) (made : List (Cond × base.Token)) (left : List ℕ → List Token)
+        (own_list : All (λ (item : Cond × base.Token). IsCond s item.0.0) list) (own_made : All (λ (item : Cond × base.Token). IsCond new item.0.0) made)
+        (expands : SimulatesOneOf files names s w more new next (λ c m n. ExpandsAt (behind_at c) (s.has w.acting.0 c && is_none m.fault) m (left c) n))
+        (answers : (c : List ℕ) → IsConfig s.arities c → (s.has w.acting.0 c && s.has w.prepared.live.0 c) ≡ true
+        → (answer : Result (List Token) Fault) × TextExpands (macros_at s names w.table c) (behind_at c) answer)
+        (alike : (c d : List ℕ) → IsConfig s.arities c → IsConfig s.arities d → (s.has w.acting.0 c && s.has w.prepared.live.0 c) ≡ true → (s.has w.acting.0 d && s.has w.prepared.live.0 d) ≡ true
+        → AreAlike s c d list → DefineTextAlike (macros_at s names w.table c) (macros_at s names w.table d) (behind_at c) → AreAlike new c d made) where
+      abbrev lives : List ℕ → Bool
+      lives c = s.has w.acting.0 c && s.has w.prepared.live.0 c
+
+      void-said : (c : List ℕ) → IsConfig s.arities c → new.has next.acting.0 c ≡ true → lives c ≡ false → (f : SourceFootprint) → Said c f
+      void-said c listed on off f = λ m simulates _.
+          let a = expands.at c m listed simulates in
+          let parts = and_parts a.machine.active (is_none a.machine.fault) (sym a.simulates.acting ∙ on) in
+          let clean = right-none true a.machine.fault parts.1 in
+          let same = expanded-done clean a.done in
+          let acting = simulates.acting ∙ (ap acts (sym same) ∙ (sym a.simulates.acting ∙ on)) in
+          let live = simulates.prepared.live ∙ (ap (λ (n : Machine). is_none n.fault) (sym same) ∙ parts.1) in
+          absurd (true≢false (sym (and_from (s.has w.acting.0 c) (s.has w.prepared.live.0 c) acting live) ∙ off))
+
+      text-said : (c : List ℕ) (f : SourceFootprint) → lives c ≡ true → TextHas (macros_at s names w.table c) (behind_at c) hash.place f → Said c f
+      text-said c f on has = λ m simulates _.
+          let parts = and_parts (s.has w.acting.0 c) (s.has w.prepared.live.0 c) on in
+          let now = text-as (simulates.macros (right-none true m.fault (sym simulates.prepared.live ∙ parts.1))) has in (
+            sym simulates.acting ∙ parts.0,
+            of_line (behind_name this) hash (said d directed says other) hashed (subst (λ ts. TextHas m.state.macros ts hash.place f) (all-behind c parts.0) now),
+          )
+
+      pub said-stops : (count : ℕ) → HaveLists s.arities (new.has next.acting.0) (λ c. places_at new made c) count → HasFootprints s.arities Said count
+      said-stops count lists =
+          let on = new.has next.acting.0 in
+          void-footprints s.arities Said lives on (λ c. places_at new made c) count void-said
+          (λ n h. footprints-as (λ c f listed has. let live = (and_parts (on c) (lives c) has.0).1 in (live, text-said c f live has.1))
+          (lists-footprints s new names files (macros_at s names w.table) list made (λ c. on c && lives c) hash.place n keeps own_list own_made (behind-different names files w line list same apart)
+          (λ c d here there one two. alike c d here there (and_parts (on c) (lives c) one).1 (and_parts (on d) (lives d) two).1)
+          (λ c here one. answers c here (and_parts (on c) (lives c) one).1) h))
+          lists
+
+-- ---- a directive that ends the runs first
+
+-- what it comes to once its run was closed is what it comes to before
+pub closed-found : (x : Context) (l : Line) (d : Directive) → l.directive ≡ Some d → is_said d ≡ true → {m n : Machine} {f : SourceFootprint} → Closed m n → acts n ≡ true
+    → DirectiveHas n.state.macros l f → ComesAt x m l f
+closed-found x l d directed says {m} {n} {f} was acting has =
+    by was.answer was.expands (ap acts (sym was.is) ∙ acting) (subst (λ (k : Machine). DirectiveHas k.state.macros l f) was.is has)
+  where
+    refused-none : (fault : Fault) (b : Bool) → acts m ≡ b → (m.active && is_none (if b then Some fault else m.fault)) ≡ true → ⊥
+    refused-none fault true e h = true≢false (sym (and_parts m.active false h).1)
+    refused-none fault false e h = true≢false (sym h ∙ e)
+
+    by : (r : Result (List Token) Fault) → RunExpands m r → acts (closing_run m r) ≡ true → DirectiveHas (closing_run m r).state.macros l f → ComesAt x m l f
+    by (Ok output) expands on has =
+        let s = put_out m.state output in
+        does on (of_directive d s directed says (closed output (expands on)) (subst (λ macros. DirectiveHas macros l f) (ap (λ b. (if b then s else m.state).macros) on) has))
+    by (Err fault) expands on has = absurd (refused-none fault (acts m) refl on)
+
+-- a name in the run that a directive closes
+pub run-stops : (s : Sets) (names files : List (List ℕ)) (w : Walk) (x : Context) (l : Line) (d : Directive) → l.directive ≡ Some d → is_barrier d ≡ true → (limit : ℕ) (stop : Stop)
+    → StopsAtPlace s.arities (Comes s names files w any_machine (λ c m f. (acts m ≡ true) × NameHas m.state.macros m.state.run f)) limit stop
+    → StopsAtPlace s.arities (Comes s names files w any_machine (λ c m f. ComesAt x m l f)) limit stop
+run-stops s names files w x l d directed barrier limit stop = stops-as limit stop (λ c f listed has. λ m simulates _. let it = has m simulates tt in does it.0 (of_run d directed barrier it.1))
+
+-- what the directive says behind it
+pub carried-stops : {A : Type 0} {names more : List (List ℕ)} (files : List (List ℕ)) {old mid : Sets} {w v : Walk} (x : Context) (line : List base.Token) (d : Directive) → Some d ≡ directive_at names line
+    → is_said d ≡ true → Extends names more → All (IsHeld names) line → Keeps old mid → SimulatesOneOf files names old w more mid v (λ c m n. Closed m n) → (limit : ℕ) (r : Result A Stop)
+    → ((d : Directive) → (seen_line more files line).directive ≡ Some d → is_said d ≡ true → IfErr r (StopsAtPlace mid.arities
+    (Comes mid more files v any_machine (λ c m f. (acts m ≡ true) × DirectiveHas m.state.macros (seen_line more files line) f)) limit))
+    → IfErr r (StopsAtPlace old.arities (Comes old names files w any_machine (λ c m f. ComesAt x m (seen_line names files line) f)) limit)
+carried-stops {names = names} {more = more} files x line d at says grows held keeps closing limit r stops =
+    let l = seen_line names files line in
+    let grown = line-grown files grows line held in
+    let directed : l.directive ≡ Some d = directive-files names files line ∙ sym at in
+    answer-stops limit r keeps.arities
+    (λ c f listed has. λ m simulates _.
+    let a = closing.at c m listed simulates in
+    let it = has a.machine a.simulates tt in
+    closed-found x l d directed says a.done it.0 (subst (λ k. DirectiveHas a.machine.state.macros k f) grown it.1))
+    (stops d (ap (λ (k : Line). k.directive) grown ∙ directed) says)

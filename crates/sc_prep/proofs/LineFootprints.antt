@@ -1,0 +1,180 @@
+-- Configurations to which a line has different lists of tokens have different footprints at it.
+use Rattle.std.proofs.Common.{◌≡◌, ℕ, suc, ◌+◌, Bool, true, false, List, [], ◌∷◌, All, map, length, get_or, Option, Result, refl, sym, ap, subst, ◌∙◌, arith, if◌then◌else◌}
+use Rattle.std.proofs.lemmas.List.{get_or-map, length-map}
+use Rattle.std.proofs.lemmas.List.Elements.{All-cons, All-head, All-nil, All-tail, All-weaker}
+use Rattle.std.specs.Prelude.{AllPairs}
+use Rattle.c11_directives.specs.Footprints.{HasFootprints, SourceFootprint, TextHas, definitions_of, footprint_at}
+use Rattle.c11_macros.proofs.OneAnswer.{one}
+use Rattle.c11_macros.specs.Expansion.{Expands}
+use Rattle.c11_macros.specs.Hidden.{Failure, Hidden}
+use Rattle.c11_macros.specs.Macros.{Definition, Macros}
+use Rattle.c11_macros.specs.Text.{TextExpands, place_alone, unhidden}
+use Rattle.c11_macros.specs.Trace.{Agree, Trace, trace}
+use Rattle.sc_base.specs.declared.id.Cond.{Cond}
+use Rattle.sc_base.specs.declared.token.Token as base
+use Rattle.sc_base.specs.Seen.{seen}
+use Rattle.sc_expand.proofs.FootprintLemmas.{pairs-both}
+use Rattle.sc_expand.specs.Alike.{DefineTextAlike}
+use Rattle.sc_guarded.specs.Items.{items_at}
+use Rattle.sc_hoist.specs.Alike.{AreAlike, IsAlike}
+use Rattle.sc_hoist.specs.Places.{places_at, places_from}
+use Rattle.sc_model.specs.Fault.{Fault}
+use Rattle.sc_model.specs.Sets.{Sets, IsCond, IsConfig, Keeps}
+use Rattle.sc_model.specs.Token.{Place, Token}
+use Rattle.sc_prep.specs.Apart.{AreDifferent}
+use Rattle.sc_prep.specs.Footprints.{HaveLists}
+
+-- ---- lists of which each two items are so
+
+module _ {A : Type 0} (R : A → A → Type 0) (x : A) (xs : List A) (pairs : AllPairs R (x ∷ xs)) where
+  pairs-head : All (R x) xs
+  pairs-head = λ k d within. pairs 0 (suc k) d (omega arith) (omega (arith, within))
+
+  pairs-tail : AllPairs R xs
+  pairs-tail = λ i j d low within. pairs (suc i) (suc j) d (omega (arith, low)) (omega (arith, within))
+
+pairs-unmap : {A B : Type 0} (R : B → B → Type 0) (f : A → B) (xs : List A) → AllPairs R (map f xs) → AllPairs (λ x y. R (f x) (f y)) xs
+pairs-unmap R f xs pairs i j d low within =
+    let long = length-map xs f in
+    let first : get_or (map f xs) i (f d) ≡ f (get_or xs i d) = get_or-map f xs i d (f d) (omega (arith, low, within)) in
+    let second : get_or (map f xs) j (f d) ≡ f (get_or xs j d) = get_or-map f xs j d (f d) within in
+    subst (λ x. R x (f (get_or xs j d))) first (subst (R (get_or (map f xs) i (f d))) second (pairs i j (f d) low (omega (arith, long, within))))
+
+-- ---- where no two items are seen as one, the tokens tell which items there are
+
+module _ (s : Sets) (names files : List (List ℕ)) where
+  abbrev see : base.Token → Token
+  see t = seen names files t
+
+  abbrev IsOther : Cond × base.Token → Cond × base.Token → Type 0
+  IsOther a b = see a.1 ≡ see b.1 → ⊥
+
+  -- an item that is seen as none of a list stands in it nowhere
+  stands-nowhere : (c : List ℕ) (a : Cond × base.Token) (list : List (Cond × base.Token)) (more : List Token) → All (IsOther a) list → see a.1 ∷ more ≡ map see (items_at s list c) → ⊥
+  stands-nowhere c a [] more others same = cc
+  stands-nowhere c a (b ∷ list) more others same = by (stands-nowhere c a list more (All-tail (IsOther a) b list others)) (s.has b.0.0 c) same
+    where
+      by : (see a.1 ∷ more ≡ map see (items_at s list c) → ⊥) → (h : Bool) → see a.1 ∷ more ≡ map see (if h then b.1 ∷ items_at s list c else items_at s list c) → ⊥
+      by later true same =
+          let first : see a.1 ≡ see b.1 = cc in
+          All-head (IsOther a) b list others first
+      by later false same = later same
+
+  pub alike-seen : (c d : List ℕ) (list : List (Cond × base.Token)) → AreDifferent names files list → map see (items_at s list c) ≡ map see (items_at s list d) → AreAlike s c d list
+  alike-seen c d [] different same = All-nil (λ (item : Cond × base.Token). IsAlike s c d item.0)
+  alike-seen c d (a ∷ list) different same = by (alike-seen c d list (pairs-tail IsOther a list different)) (s.has a.0.0 c) (s.has a.0.0 d) refl refl same
+    where
+      Alike : Cond × base.Token → Type 0
+      Alike item = IsAlike s c d item.0
+
+      others : All (IsOther a) list
+      others = pairs-head IsOther a list different
+
+      by : (map see (items_at s list c) ≡ map see (items_at s list d) → AreAlike s c d list) → (h k : Bool) → s.has a.0.0 c ≡ h → s.has a.0.0 d ≡ k
+          → map see (if h then a.1 ∷ items_at s list c else items_at s list c) ≡ map see (if k then a.1 ∷ items_at s list d else items_at s list d) → All Alike (a ∷ list)
+      by later true true here there same =
+          let rest : map see (items_at s list c) ≡ map see (items_at s list d) = cc in
+          All-cons Alike a list (here ∙ sym there) (later rest)
+      by later true false here there same = absurd (stands-nowhere d a list (map see (items_at s list c)) others same)
+      by later false true here there same = absurd (stands-nowhere c a list (map see (items_at s list d)) others (sym same))
+      by later false false here there same = All-cons Alike a list (here ∙ sym there) (later same)
+
+-- and so in which places they stand
+places-alike : (s : Sets) (c d : List ℕ) (n : ℕ) (list : List (Cond × base.Token)) → AreAlike s c d list
+    → places_from s n (map (λ (item : Cond × base.Token). item.0) list) c ≡ places_from s n (map (λ (item : Cond × base.Token). item.0) list) d
+places-alike s c d n [] alike = refl
+places-alike s c d n (a ∷ list) alike =
+    let first : s.has a.0.0 c ≡ s.has a.0.0 d = All-head (λ (item : Cond × base.Token). IsAlike s c d item.0) a list alike in
+    let more = places-alike s c d (n + 1) list (All-tail (λ (item : Cond × base.Token). IsAlike s c d item.0) a list alike) in
+    λ i. if first i then n ∷ more i else more i
+
+-- ---- a footprint tells its tokens and definitions
+
+agree-same : (some other : Macros) (xs ys : List (List ℕ)) → definitions_of some xs ≡ definitions_of other ys → Agree some other xs
+agree-same some other [] ys same = tt
+agree-same some other (x ∷ xs) [] same = absurd (cc)
+agree-same some other (x ∷ xs) (y ∷ ys) same =
+    let first : ◌≡◌ {A = List ℕ × Option Definition} (x, some x) (y, other y) = cc in
+    let rest : definitions_of some xs ≡ definitions_of other ys = cc in
+    (ap (λ (p : List ℕ × Option Definition). p.1) first ∙ ap other (sym (ap (λ (p : List ℕ × Option Definition). p.0) first)), agree-same some other xs ys rest)
+
+define-alike : (some other : Macros) (text : List Token) (answer : Result (List (Hidden Place)) (Failure Place)) (expands : Expands place_alone some (map unhidden text) answer)
+    → Agree some other (trace expands).looked_up → DefineTextAlike some other text
+define-alike some other text answer expands agree = record { agree = λ r d. subst (Agree some other) (ap (λ (x : Trace). x.looked_up) (one expands r d).trace) agree }
+
+used-alike : {some other : Macros} {text more : List Token} {place : Place} {f g : SourceFootprint} → TextHas some text place f → TextHas other more place g → f ≡ g → (text ≡ more) × DefineTextAlike some other text
+used-alike {some} {other} {text} {more} {place} {f} {g} x y same =
+    let e : footprint_at place text (definitions_of some (trace x.expands).looked_up) ≡ footprint_at place more (definitions_of other (trace y.expands).looked_up) = sym x.is ∙ (same ∙ y.is) in (
+      ap (λ (f : SourceFootprint). f.tokens) e,
+      define-alike some other text x.answer x.expands (agree-same some other (trace x.expands).looked_up (trace y.expands).looked_up (ap (λ (f : SourceFootprint). f.definitions) e)),
+    )
+
+-- ---- different lists, where one footprint tells one list
+
+module _ {arities : List ℕ} {test : List ℕ → Bool} {list : List ℕ → List ℕ} {P : List ℕ → SourceFootprint → Type 0} (place : Place)
+    (has : (c : List ℕ) → IsConfig arities c → test c ≡ true → (f : SourceFootprint) × P c f) (here : (c : List ℕ) (f : SourceFootprint) → P c f → (f.chain ≡ []) × (f.place ≡ place))
+    (tells : (c d : List ℕ) (f g : SourceFootprint) → IsConfig arities c → IsConfig arities d → P c f → P d g → f ≡ g → list c ≡ list d) where
+  abbrev IsOne : List ℕ × SourceFootprint → Type 0
+  IsOne p = IsConfig arities p.0 × P p.0 p.1
+
+  record Found (configs : List (List ℕ)) : Type 0 where
+    footprints : List (List ℕ × SourceFootprint)
+    of : map (λ (p : List ℕ × SourceFootprint). p.0) footprints ≡ configs
+    each : All IsOne footprints
+
+  found : (configs : List (List ℕ)) → All (IsConfig arities) configs → All (λ c. test c ≡ true) configs → Found configs
+  found [] listed among = record { footprints = []; of = refl; each = All-nil IsOne }
+  found (c ∷ cs) listed among =
+      let first = All-head (IsConfig arities) c cs listed in
+      let f = has c first (All-head (λ c. test c ≡ true) c cs among) in
+      let rest = found cs (All-tail (IsConfig arities) c cs listed) (All-tail (λ c. test c ≡ true) c cs among) in
+      record { footprints = (c, f.0) ∷ rest.footprints; of = ap (λ l. c ∷ l) rest.of; each = All-cons IsOne (c, f.0) rest.footprints (first, f.1) rest.each }
+
+  pub lists-have : (count : ℕ) → HaveLists arities test list count → HasFootprints arities P count
+  lists-have count lists =
+      let f = found lists.configs lists.listed lists.among in
+      let config : List ℕ × SourceFootprint → List ℕ = λ p. p.0 in
+      let long = length-map f.footprints config in
+      let same = ap length f.of in
+      record {
+        chain = [];
+        place = place;
+        footprints = f.footprints;
+        many = omega (arith, lists.many, long, same);
+        listed = All-weaker IsOne (λ p. IsConfig arities p.0) (λ p is. is.0) f.footprints f.each;
+        each = All-weaker IsOne (λ p. P p.0 p.1) (λ p is. is.1) f.footprints f.each;
+        here = All-weaker IsOne (λ p. (p.1.chain ≡ []) × (p.1.place ≡ place)) (λ p is. here p.0 p.1 is.1) f.footprints f.each;
+        apart = pairs-both (λ p q. list p.0 ≡ list q.0 → ⊥) (λ p q. (p.0 ≡ q.0 → ⊥) × (p.1 ≡ q.1 → ⊥)) IsOne
+            (λ p q x y differ. (λ e. differ (ap list e), λ e. differ (tells p.0 q.0 p.1 q.1 x.0 y.0 x.1 y.1 e))) f.footprints f.each
+            (pairs-unmap (λ c d. list c ≡ list d → ⊥) config f.footprints (subst (AllPairs (λ c d. list c ≡ list d → ⊥)) (sym f.of) lists.apart));
+      }
+
+-- ---- the line
+
+-- what the text of a line expands to is listed differently
+pub lists-footprints : (s t : Sets) (names files : List (List ℕ)) (macros : List ℕ → Macros) (list made : List (Cond × base.Token)) (test : List ℕ → Bool) (place : Place) (count : ℕ) → Keeps s t
+    → All (λ (item : Cond × base.Token). IsCond s item.0.0) list → All (λ (item : Cond × base.Token). IsCond t item.0.0) made → AreDifferent names files list
+    → ((c d : List ℕ) → IsConfig s.arities c → IsConfig s.arities d → test c ≡ true → test d ≡ true → AreAlike s c d list → DefineTextAlike (macros c) (macros d) (map (seen names files) (items_at s list c)) → AreAlike t c d made)
+    → ((c : List ℕ) → IsConfig s.arities c → test c ≡ true → (answer : Result (List Token) Fault) × TextExpands (macros c) (map (seen names files) (items_at s list c)) answer)
+    → HaveLists s.arities test (λ c. places_at t made c) count
+    → HasFootprints s.arities (λ c f. (test c ≡ true) × TextHas (macros c) (map (seen names files) (items_at s list c)) place f) count
+lists-footprints s t names files macros list made test place count _ _ _ different alike answers lists =
+    let text : List ℕ → List Token = λ c. map (seen names files) (items_at s list c) in
+    lists-have place
+    (λ c listed among.
+    let x = (answers c listed among).1 in
+    (footprint_at place (text c) (definitions_of (macros c) (trace x.expands).looked_up), (among, record { answer = x.answer; expands = x.expands; is = refl })))
+    (λ c f is. (ap (λ (f : SourceFootprint). f.chain) is.1.is, ap (λ (f : SourceFootprint). f.place) is.1.is))
+    (λ c d f g one two x y same.
+    let used = used-alike x.1 y.1 same in
+    places-alike t c d 0 made (alike c d one two x.0 y.0 (alike-seen s names files c d list different used.0) used.1))
+    count lists
+
+-- a line that is not expanded
+pub headers-footprints : (s : Sets) (names files : List (List ℕ)) (list : List (Cond × base.Token)) (test : List ℕ → Bool) (place : Place) (count : ℕ) → AreDifferent names files list
+    → HaveLists s.arities test (λ c. places_at s list c) count
+    → HasFootprints s.arities (λ c f. (test c ≡ true) × (f ≡ footprint_at place (map (seen names files) (items_at s list c)) [])) count
+headers-footprints s names files list test place count different lists =
+    lists-have place (λ c listed among. (footprint_at place (map (seen names files) (items_at s list c)) [], (among, refl)))
+    (λ c f is. (ap (λ (f : SourceFootprint). f.chain) is.1, ap (λ (f : SourceFootprint). f.place) is.1))
+    (λ c d f g one two x y same. places-alike s c d 0 list (alike-seen s names files c d list different (ap (λ (f : SourceFootprint). f.tokens) (sym x.1 ∙ (same ∙ y.1))))) count lists

@@ -1,0 +1,219 @@
+-- Footprints of the names of a list, told by its tokens.
+use Rattle.std.proofs.Common.{◌≡◌, ℕ, zero, suc, ◌+◌, ◌-◌, ◌≤◌, Bool, true, false, List, [], ◌∷◌, All, AllPairs, Option, None, Some, Result, drop, length, map, slice_get, take, refl, sym, ap, subst, ◌∙◌, arith, if◌then◌else◌}
+use Rattle.std.proofs.lemmas.List.{length-map}
+use Rattle.std.proofs.lemmas.List.Elements.{All-cons, All-head, All-map, All-nil, All-tail, All-take}
+use Rattle.std.proofs.lemmas.List.Kept.{AllPairs-cons}
+use Rattle.std.proofs.lemmas.Simd.{map-map}
+use Rattle.std.proofs.Math.Seq.{take-nil}
+use Rattle.c11_directives.specs.Footprints as footprints
+use Rattle.c11_directives.specs.Footprints.{DirectiveHas, NameHas, SourceFootprint, TextHas, definitions_of, footprint_at}
+use Rattle.c11_directives.specs.Lines.{Line}
+use Rattle.c11_macros.specs.Expansion.{Expands}
+use Rattle.c11_macros.specs.Footprint.{Arrives, Footprint, footprint}
+use Rattle.c11_macros.specs.Hidden.{Failure, Hidden}
+use Rattle.c11_macros.specs.Macros.{Definition, Macros}
+use Rattle.c11_macros.specs.Text.{place_alone, unhidden}
+use Rattle.c11_macros.specs.Trace.{Agree}
+use Rattle.sc_base.specs.declared.id.Cond.{Cond}
+use Rattle.sc_base.specs.declared.stop.Stop.{Stop}
+use Rattle.sc_base.specs.declared.stop.Stop.TheVariants.{BranchesFull, ReadFault, OutOfMemory}
+use Rattle.sc_base.specs.declared.token.Token as base
+use Rattle.sc_base.specs.Seen.{seen}
+use Rattle.sc_expand.proofs.Behind.{length-behind}
+use Rattle.sc_expand.proofs.FootprintLemmas.{one-use}
+use Rattle.sc_expand.specs.Footprints.{HasFootprints, IsSameUse, StopsAtName, UsesAt, taken_behind}
+use Rattle.sc_expand.specs.Having.{behind_at}
+use Rattle.sc_guarded.specs.Items.{items_at}
+use Rattle.sc_model.specs.Fault.{first_place}
+use Rattle.sc_model.specs.Sets.{Sets, IsConfig}
+use Rattle.sc_model.specs.Token.{Place, Token}
+use Rattle.sc_prep.specs.Apart.{AreDifferent}
+use Rattle.sc_prep.specs.Footprints.{StopsAtPlace}
+use Rattle.sc_prep.proofs.ApartLemmas.{pairs-drop, pairs-head, pairs-tail}
+use Rattle.sc_prep.proofs.CloseMoves.{items_at-All}
+
+-- ---- tables that define all names alike give the same footprints
+
+pub name-as : {one other : Macros} {text : List Token} {f : SourceFootprint} → ((name : List ℕ) → one name ≡ other name) → NameHas one text f → NameHas other text f
+name-as {text = text} {f = f} same has = subst (λ macros. NameHas macros text f) (λ i. λ name. same name i) has
+
+pub text-as : {one other : Macros} {text : List Token} {place : Place} {f : SourceFootprint} → ((name : List ℕ) → one name ≡ other name) → TextHas one text place f → TextHas other text place f
+text-as {text = text} {place = place} {f = f} same has = subst (λ macros. TextHas macros text place f) (λ i. λ name. same name i) has
+
+pub directive-as : {one other : Macros} {line : Line} {f : SourceFootprint} → ((name : List ℕ) → one name ≡ other name) → DirectiveHas one line f → DirectiveHas other line f
+directive-as {line = line} {f = f} same has = subst (λ macros. DirectiveHas macros line f) (λ i. λ name. same name i) has
+
+-- ---- what is made of a list
+
+module _ {A B : Type 0} (P : A → Type 0) (f : (x : A) → P x → B) where
+  -- what is made of each element by what holds of it
+  abbrev pub made_of : (xs : List A) → All P xs → List B
+  made_of [] all = []
+  made_of (x ∷ xs) all = f x (All-head P x xs all) ∷ made_of xs (All-tail P x xs all)
+
+  pub made-length : (xs : List A) (all : All P xs) → length (made_of xs all) ≡ length xs
+  made-length [] all = refl
+  made-length (x ∷ xs) all = ap suc (made-length xs (All-tail P x xs all))
+
+  pub made-all : (R : A → Type 0) (Q : B → Type 0) → ((x : A) (p : P x) → R x → Q (f x p)) → (xs : List A) (all : All P xs) → All R xs → All Q (made_of xs all)
+  made-all R Q to [] all each = All-nil Q
+  made-all R Q to (x ∷ xs) all each =
+      let p = All-head P x xs all in
+      let rest = All-tail P x xs all in
+      All-cons Q (f x p) (made_of xs rest) (to x p (All-head R x xs each)) (made-all R Q to xs rest (All-tail R x xs each))
+
+  pub made-pairs : (R : A → A → Type 0) (Q : B → B → Type 0) → ((x y : A) (p : P x) (q : P y) → R x y → Q (f x p) (f y q)) → (xs : List A) (all : All P xs) → AllPairs R xs → AllPairs Q (made_of xs all)
+  made-pairs R Q to [] all related = λ i j d less within. absurd (omega (arith, within))
+  made-pairs R Q to (x ∷ xs) all related =
+      let p = All-head P x xs all in
+      let rest = All-tail P x xs all in
+      AllPairs-cons Q (f x p) (made_of xs rest) (made-all (R x) (Q (f x p)) (λ y q. to x y p q) xs rest (pairs-head R x xs related)) (made-pairs R Q to xs rest (pairs-tail R x xs related))
+
+-- ---- what a footprint tells
+
+-- equal definitions agree on the names that the one looked up
+pub same-definitions : (one other : Macros) (xs ys : List (List ℕ)) → definitions_of one xs ≡ definitions_of other ys → Agree one other xs
+same-definitions one other [] ys same = tt
+same-definitions one other (x ∷ xs) [] same = absurd (cc)
+same-definitions one other (x ∷ xs) (y ∷ ys) same =
+    let first : ◌≡◌ {A = List ℕ × Option Definition} (x, one x) (y, other y) = cc in
+    let rest : definitions_of one xs ≡ definitions_of other ys = cc in
+    (ap (λ p. p.1) first ∙ ap other (sym (ap (λ p. p.0) first)), same-definitions one other xs ys rest)
+
+module _ (s : Sets) (names files : List (List ℕ)) where
+  -- the first of different items is none of those that a configuration has of the others
+  not-later : (d : List ℕ) (item : Cond × base.Token) (items : List (Cond × base.Token)) → AreDifferent names files (item ∷ items) → (n : ℕ) (ts : List Token)
+      → seen names files item.1 ∷ ts ≡ take n (map (seen names files) (items_at s items d)) → ⊥
+  not-later d item items different n ts same =
+      let P : base.Token → Type 0 = λ t. seen names files item.1 ≡ seen names files t → ⊥ in
+      let Q : Token → Type 0 = λ t. seen names files item.1 ≡ t → ⊥ in
+      let R : Cond × base.Token → Cond × base.Token → Type 0 = λ a b. seen names files a.1 ≡ seen names files b.1 → ⊥ in
+      let has = items_at s items d in
+      let others = All-take Q n (map (seen names files) has) (All-map Q (seen names files) has (items_at-All P s items d (pairs-head R item items different))) in
+      All-head Q (seen names files item.1) ts (subst (All Q) (sym same) others) refl
+
+  -- the same first tokens of different items stand at the same places
+  same-taken : (c d : List ℕ) (list : List (Cond × base.Token)) → AreDifferent names files list → (m n : ℕ)
+      → take m (map (seen names files) (items_at s list c)) ≡ take n (map (seen names files) (items_at s list d)) → take m (behind_at s list c) ≡ take n (behind_at s list d)
+  same-taken c d [] different m n same = take-nil m ∙ sym (take-nil n)
+  same-taken c d (item ∷ items) different m n same =
+      let R : Cond × base.Token → Cond × base.Token → Type 0 = λ a b. seen names files a.1 ≡ seen names files b.1 → ⊥ in
+      by (s.has item.0.0 c) (s.has item.0.0 d) m n (same-taken c d items (pairs-tail R item items different)) same
+    where
+      had : Bool → List ℕ → List Token
+      had b e = map (seen names files) (if b then item.1 ∷ items_at s items e else items_at s items e)
+
+      left : Bool → List ℕ → List ℕ
+      left b e = if b then length items ∷ behind_at s items e else behind_at s items e
+
+      by : (p q : Bool) (m n : ℕ)
+          → ((m n : ℕ) → take m (map (seen names files) (items_at s items c)) ≡ take n (map (seen names files) (items_at s items d)) → take m (behind_at s items c) ≡ take n (behind_at s items d))
+          → take m (had p c) ≡ take n (had q d) → take m (left p c) ≡ take n (left q d)
+      by true true zero zero rest same = refl
+      by true true zero (suc n) rest same = absurd (cc)
+      by true true (suc m) zero rest same = absurd (cc)
+      by true true (suc m) (suc n) rest same = ap (λ l. length items ∷ l) (rest m n (ap (drop 1) same))
+      by true false zero n rest same = rest zero n same
+      by true false (suc m) n rest same = absurd (not-later d item items different n _ same)
+      by false true m zero rest same = rest m zero same
+      by false true m (suc n) rest same = absurd (not-later c item items different m _ (sym same))
+      by false false m n rest same = rest m n same
+
+-- where an item stands, if there is one
+abbrev place_of : (names files : List (List ℕ)) → Option (Cond × base.Token) → Place
+place_of names files None = first_place []
+place_of names files (Some item) = (seen names files item.1).place
+
+-- ---- the name at an index of a list
+
+record HasPrint (macros : Macros) (t : Hidden Place) (rest : List (Hidden Place)) (print : Footprint) : Type 0 where
+  answer : Result (List (Hidden Place)) (Failure Place)
+  expands : Expands place_alone macros (t ∷ rest) answer
+  is : footprint expands ≡ print
+
+module _ (s : Sets) (names files : List (List ℕ)) (macros : List ℕ → Macros) (list : List (Cond × base.Token)) (at : ℕ) where
+  abbrev looks : base.Token → Hidden Place
+  looks t = unhidden (seen names files t)
+
+  abbrev Uses : List ℕ → Type 0
+  Uses c = UsesAt looks place_alone (macros c) s list at c
+
+  abbrev items_behind : List ℕ → List base.Token
+  items_behind c = items_at s (drop (at + 1) list) c
+
+  abbrev behind : List ℕ → List Token
+  behind c = map (seen names files) (items_behind c)
+
+  abbrev print_by : List ℕ → Token → Footprint → SourceFootprint
+  print_by c name print = footprint_at name.place (name ∷ take (length (behind c) - print.left) (behind c)) (definitions_of (macros c) print.looked_up)
+
+  abbrev print_at : (c : List ℕ) → Uses c → SourceFootprint
+  print_at c x = print_by c (seen names files x.item.1) (footprint x.expands)
+
+  has-name : (c : List ℕ) (x : Uses c) → NameHas (macros c) (map (seen names files) (items_at s list c)) (print_at c x)
+  has-name c x =
+      let first = looks x.item.1 in
+      let rest : map looks (items_behind c) ≡ map unhidden (behind c) = sym (map-map unhidden (seen names files) (items_behind c)) in
+      let p = subst (λ (ts : List (Hidden Place)). HasPrint (macros c) first ts (footprint x.expands)) rest (record { answer = x.answer; expands = x.expands; is = refl }) in
+      record {
+        name = seen names files x.item.1;
+        behind = behind c;
+        answer = p.answer;
+        expands = p.expands;
+        arrives = subst (λ (ts : List (Hidden Place)). Arrives place_alone (macros c) ts (first ∷ map unhidden (behind c))) (sym (map-map unhidden (seen names files) (items_at s list c)))
+            (subst (λ (ts : List (Hidden Place)). Arrives place_alone (macros c) (map looks (items_at s list c)) (first ∷ ts)) rest x.arrives);
+        is = ap (print_by c (seen names files x.item.1)) (sym p.is);
+      }
+
+  -- so many items stand behind the name as tokens are seen there
+  taken-as : (c : List ℕ) (print : Footprint) → taken_behind s list at print c ≡ take (length (behind c) - print.left) (behind_at s (drop (at + 1) list) c)
+  taken-as c print =
+      ap (λ n. take (n - print.left) (behind_at s (drop (at + 1) list) c)) (length-behind s c (drop (at + 1) list) ∙ sym (length-map (items_behind c) (seen names files)))
+
+  module _ (different : AreDifferent names files list) where
+    same-print : (c d : List ℕ) (x : Uses c) (y : Uses d) → print_at c x ≡ print_at d y → IsSameUse looks place_alone macros s list at c d
+    same-print c d x y same =
+        let R : Cond × base.Token → Cond × base.Token → Type 0 = λ a b. seen names files a.1 ≡ seen names files b.1 → ⊥ in
+        let one = footprint x.expands in
+        let other = footprint y.expands in
+        record {
+          one = x;
+          other = y;
+          taken =
+              taken-as c one
+              ∙ (same-taken s names files c d (drop (at + 1) list) (pairs-drop R (at + 1) list different) (length (behind c) - one.left) (length (behind d) - other.left) (ap (λ f. drop 1 f.tokens) same)
+              ∙ sym (taken-as d other));
+          agree = same-definitions (macros c) (macros d) one.looked_up other.looked_up (ap (λ f. f.definitions) same);
+        }
+
+    -- configurations with different footprints of the name have them told by tokens
+    source-footprints : (cond count : ℕ) (configs : List (List ℕ)) → count ≤ length configs → All (IsConfig s.arities) configs → All (λ c. s.has cond c ≡ true) configs → All Uses configs
+        → AllPairs (λ c d. IsSameUse looks place_alone macros s list at c d → ⊥) configs
+        → footprints.HasFootprints s.arities (λ c f. (s.has cond c ≡ true) × NameHas (macros c) (map (seen names files) (items_at s list c)) f) count
+    source-footprints cond count configs many listed has come apart =
+        let make : (c : List ℕ) → Uses c → List ℕ × SourceFootprint = λ c x. (c, print_at c x) in
+        let place = place_of names files (slice_get list at) in
+        let Is : List ℕ × SourceFootprint → Type 0 = λ p. IsConfig s.arities p.0 in
+        let Has : List ℕ × SourceFootprint → Type 0 = λ p. (s.has cond p.0 ≡ true) × NameHas (macros p.0) (map (seen names files) (items_at s list p.0)) p.1 in
+        let Here : List ℕ × SourceFootprint → Type 0 = λ p. (p.1.chain ≡ []) × (p.1.place ≡ place) in
+        let Apart : List ℕ × SourceFootprint → List ℕ × SourceFootprint → Type 0 = λ p q. (p.0 ≡ q.0 → ⊥) × (p.1 ≡ q.1 → ⊥) in
+        record {
+          chain = [];
+          place = place;
+          footprints = made_of Uses make configs come;
+          many = subst (λ n. count ≤ n) (sym (made-length Uses make configs come)) many;
+          listed = made-all Uses make (IsConfig s.arities) Is (λ c x is. is) configs come listed;
+          each = made-all Uses make (λ c. s.has cond c ≡ true) Has (λ c x is. (is, has-name c x)) configs come has;
+          here = made-all Uses make (IsConfig s.arities) Here (λ c x is. (refl, sym (ap (place_of names files) x.is))) configs come listed;
+          apart = made-pairs Uses make (λ c d. IsSameUse looks place_alone macros s list at c d → ⊥) Apart
+              (λ c d x y other. (λ same. other (one-use looks place_alone x d same), λ same. other (same-print c d x y same))) configs come apart;
+        }
+
+pub name-footprints : (s : Sets) (names files : List (List ℕ)) (macros : List ℕ → Macros) (cond : ℕ) (list : List (Cond × base.Token)) (limit : ℕ) (stop : Stop) → AreDifferent names files list
+    → StopsAtName (λ t. unhidden (seen names files t)) place_alone macros s cond list limit stop
+    → StopsAtPlace s.arities (λ c f. (s.has cond c ≡ true) × NameHas (macros c) (map (seen names files) (items_at s list c)) f) limit stop
+name-footprints s names files macros cond list limit (BranchesFull count) different stops =
+    let h = stops.1 in
+    source-footprints s names files macros list h.at different cond (limit + 1) h.configs h.many h.listed h.has h.come h.apart
+name-footprints s names files macros cond list limit ReadFault different stops = tt
+name-footprints s names files macros cond list limit OutOfMemory different stops = tt

@@ -1,0 +1,51 @@
+-- Where the expansion of what a walk has stops, each configuration's machine comes to a footprint.
+use Rattle.std.proofs.Common.{◌≡◌, ℕ, ◌&&◌, true, List, All, map, sym, subst, ◌∙◌}
+use Rattle.std.specs.Prelude.{is_none}
+use Rattle.c11_directives.specs.Footprints.{NameHas, SourceFootprint}
+use Rattle.c11_macros.specs.Text.{place_alone, unhidden}
+use Rattle.sc_base.specs.declared.id.Cond.{Cond}
+use Rattle.sc_base.specs.declared.stop.Stop.{Stop}
+use Rattle.sc_base.specs.declared.token.Token as base
+use Rattle.sc_base.specs.Seen.{seen}
+use Rattle.sc_expand.specs.Footprints.{StopsAtName}
+use Rattle.sc_guarded.proofs.ItemLemmas.{items_at-Keeps}
+use Rattle.sc_guarded.specs.Items.{items_at}
+use Rattle.sc_model.specs.Sets.{Sets, Denotes, IsCond, Keeps}
+use Rattle.sc_table.proofs.Growth.{macros_at-Keeps}
+use Rattle.sc_table.specs.Table.{IsTable, macros_at}
+use Rattle.sc_prep.specs.Apart.{AreDifferent, StandApart, tokens_in}
+use Rattle.sc_prep.specs.declared.walk.Walk.{Walk}
+use Rattle.sc_prep.specs.Footprints.{Comes, StopsAtPlace, any_machine}
+use Rattle.sc_prep.specs.Machine.{acts}
+use Rattle.sc_prep.proofs.ApartLemmas.{different}
+use Rattle.sc_prep.proofs.ExpressionMoves.{asked-at, right-none}
+use Rattle.sc_prep.proofs.NameFootprints.{name-as, name-footprints}
+use Rattle.sc_prep.proofs.Stopping.{stops-as}
+
+-- that of the run of each that acts
+pub run-stops : (s : Sets) (names files : List (List ℕ)) (w : Walk) (limit : ℕ) (stop : Stop)
+    → StopsAtName (λ t. unhidden (seen names files t)) place_alone (macros_at s names w.table) s w.acting.0 w.gathered limit stop → StandApart (tokens_in w.gathered)
+    → StopsAtPlace s.arities (Comes s names files w any_machine (λ c m f. (acts m ≡ true) × NameHas m.state.macros m.state.run f)) limit stop
+run-stops s names files w limit stop stops apart =
+    stops-as limit stop
+    (λ c f listed has m simulates _.
+    let acting = sym simulates.acting ∙ has.0 in
+    let clean = right-none m.active m.fault acting in
+    (acting, subst (λ text. NameHas m.state.macros text f) (simulates.run clean) (name-as (simulates.macros clean) has.1)))
+    (name-footprints s names files (macros_at s names w.table) w.acting.0 w.gathered limit stop (different names files w.gathered apart) stops)
+
+-- that of a list for those of a condition that were not refused
+pub list-stops : {old s : Sets} (names files : List (List ℕ)) (keeps : Keeps old s) (w : Walk) (among live : Cond) → Denotes s live.0 (λ c. old.has among.0 c && old.has w.prepared.live.0 c) → IsTable old names w.table
+    → (list : List (Cond × base.Token)) → All (λ (item : Cond × base.Token). IsCond old item.0.0) list → (limit : ℕ) (stop : Stop)
+    → StopsAtName (λ t. unhidden (seen names files t)) place_alone (macros_at s names w.table) s live.0 list limit stop → AreDifferent names files list
+    → StopsAtPlace old.arities (Comes old names files w any_machine
+    (λ c m f. ((old.has among.0 c && is_none m.fault) ≡ true) × NameHas m.state.macros (map (seen names files) (items_at old list c)) f)) limit stop
+list-stops {old} {s} names files keeps w among live live_is is list own limit stop stops apart =
+    let Has : List ℕ → SourceFootprint → Type 0 = λ c f. (s.has live.0 c ≡ true) × NameHas (macros_at s names w.table c) (map (seen names files) (items_at s list c)) f in
+    stops-as limit stop
+    (λ c f listed has m simulates _.
+    let asked = sym (asked-at keeps w among live live_is c m listed simulates) ∙ has.0 in
+    let clean = right-none (old.has among.0 c) m.fault asked in
+    let defines = λ (name : List ℕ). macros_at-Keeps keeps is c name listed ∙ simulates.macros clean name in
+    (asked, subst (λ items. NameHas m.state.macros (map (seen names files) items) f) (items_at-Keeps list c keeps own listed) (name-as defines has.1)))
+    (subst (λ a. StopsAtPlace a Has limit stop) keeps.arities (name-footprints s names files (macros_at s names w.table) live.0 list limit stop apart stops))

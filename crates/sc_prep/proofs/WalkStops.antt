@@ -1,0 +1,195 @@
+-- What stops the walk of a file: footprints that its machines come to, where a later call stops.
+use Rattle.std.proofs.Common.{◌≡◌, ℕ, zero, suc, ◌+◌, ◌<◌, ◌≤◌, Bool, true, false, List, [], ◌∷◌, ◌++◌, All, drop, get_or, length, map, take, Option, Some, Result, Ok, Err, append_assoc, drop-cons, refl, sym, ap, ◌∙◌, subst, arith, if◌then◌else◌}
+use Rattle.std.specs.List.{flat_map}
+use Rattle.std.specs.Prelude.{IfErr}
+use Rattle.c11_directives.specs.declared.directive.Directive.TheVariants as directive
+use Rattle.c11_directives.specs.Footprints.{DirectiveHas, NameHas, SourceFootprint, included_at, of_run}
+use Rattle.c11_directives.specs.Lines.{Line, hash_of, onto_first}
+use Rattle.c11_directives.specs.Pre.{Context}
+use Rattle.c11_tokens.specs.Lex.{is_newline}
+use Rattle.sc_base.proofs.Growth.{Extends-refl}
+use Rattle.sc_base.specs.declared.id.FileId.{FileId}
+use Rattle.sc_base.specs.declared.stop.Stop.{Stop}
+use Rattle.sc_base.specs.declared.stop.Stop.TheVariants.{BranchesFull, ReadFault, OutOfMemory}
+use Rattle.sc_base.specs.declared.token.Token as base
+use Rattle.sc_base.specs.Seen.{text_at}
+use Rattle.sc_lines.proofs.SeenLines.{line-seen}
+use Rattle.sc_lines.specs.declared.line.Line as declared
+use Rattle.sc_lines.specs.Nests.{seen_line, seen_lines}
+use Rattle.sc_lines.specs.Split.{token_lines, tokens_of}
+use Rattle.sc_model.specs.Growth.{Extends}
+use Rattle.sc_model.specs.Outside.{Files}
+use Rattle.sc_model.specs.Sets.{Sets, IsConfig, Keeps}
+use Rattle.sc_model.specs.Space.{Space}
+use Rattle.sc_model.specs.Token.{Place, Token}
+use Rattle.sc_prep.proofs.ApartLemmas.{apart-left, apart-without}
+use Rattle.sc_prep.proofs.FileStops.{comes-at, comes-included, comes-said, comes-then, footprints-included}
+use Rattle.sc_prep.proofs.Going.{Gone, Staged, line-later, staged-between}
+use Rattle.sc_prep.proofs.IncludeLeads.{Spelled, files-next}
+use Rattle.sc_prep.proofs.InFile.{top-is-in}
+use Rattle.sc_prep.proofs.LeadMoves.{leads-one}
+use Rattle.sc_prep.proofs.LineSteps.{line-of_file, lines-all, lines-long}
+use Rattle.sc_prep.proofs.PlainRuns.{in-more}
+use Rattle.sc_prep.proofs.Stopping.{answer-stops}
+use Rattle.sc_prep.specs.Apart.{GathersFrom, StandApart, tokens_in}
+use Rattle.sc_prep.specs.Contents.{AreContents, AreHeldLines}
+use Rattle.sc_prep.specs.declared.content.Contents.{Contents}
+use Rattle.sc_prep.specs.declared.content.FileLines.{FileLines}
+use Rattle.sc_prep.specs.declared.entry.Entry.{Entry}
+use Rattle.sc_prep.specs.declared.including.Part.{Part}
+use Rattle.sc_prep.specs.declared.walk.Walk.{Walk}
+use Rattle.sc_prep.specs.Footprints.{Comes, ComesAt, ComesInside, ComesOver, StopsAtPlace, any_machine, at_end, does}
+use Rattle.sc_prep.specs.Includes.{files_at}
+use Rattle.sc_prep.specs.Machine.{Runs, acts}
+use Rattle.sc_prep.specs.Printable.{IsPlaced}
+use Rattle.sc_prep.specs.Simulates.{Closed, IsAtTop, IsBetweenRuns, IsContext, IsIn, SimulatesOneOf}
+
+-- ---- the tokens of a file that are still to come
+
+-- those of the lines from this number on
+abbrev pub to_come : FileLines → ℕ → List base.Token
+to_come file number = flat_map (tokens_of file.tokens.items) (drop number file.lines.items)
+
+joined-onto : (t : base.Token) (lines : List (List base.Token)) → flat_map (λ ts. ts) (onto_first t lines) ≡ t ∷ flat_map (λ ts. ts) lines
+joined-onto t [] = refl
+joined-onto t (line ∷ lines) = refl
+
+-- without the newlines
+joined-apart : (us ts : List base.Token) → StandApart (us ++ ts) → StandApart (us ++ flat_map (λ line. line) (token_lines ts))
+joined-apart us [] apart = apart
+joined-apart us (t ∷ ts) apart =
+    by (is_newline t.kind) (joined-apart us ts (apart-without us (t ∷ []) ts apart)) (joined-apart (us ++ t ∷ []) ts (subst StandApart (sym (append_assoc us (t ∷ []) ts)) apart))
+  where
+    by : (b : Bool) → StandApart (us ++ flat_map (λ line. line) (token_lines ts)) → StandApart ((us ++ t ∷ []) ++ flat_map (λ line. line) (token_lines ts))
+        → StandApart (us ++ flat_map (λ line. line) (if b then [] ∷ token_lines ts else onto_first t (token_lines ts)))
+    by true without with_it = without
+    by false without with_it = subst StandApart (append_assoc us (t ∷ []) _ ∙ ap (λ xs. us ++ xs) (sym (joined-onto t (token_lines ts)))) with_it
+
+joined-map : {A : Type 0} (f : A → List base.Token) (xs : List A) → flat_map (λ ts. ts) (map f xs) ≡ flat_map f xs
+joined-map f [] = refl
+joined-map f (x ∷ xs) = ap (λ ts. f x ++ ts) (joined-map f xs)
+
+module _ {A : Type 0} (f : A → List base.Token) (gs : List base.Token) where
+  fewer-apart : (xs : List A) (i j : ℕ) → i ≤ j → StandApart (gs ++ flat_map f (drop i xs)) → StandApart (gs ++ flat_map f (drop j xs))
+  fewer-apart [] zero zero up apart = apart
+  fewer-apart [] zero (suc j) up apart = apart
+  fewer-apart [] (suc i) zero up apart = apart
+  fewer-apart [] (suc i) (suc j) up apart = apart
+  fewer-apart (x ∷ xs) zero zero up apart = apart
+  fewer-apart (x ∷ xs) zero (suc j) up apart = fewer-apart xs zero j (omega arith) (apart-without gs (f x) (flat_map f xs) apart)
+  fewer-apart (x ∷ xs) (suc i) zero up apart = absurd (omega (arith, up))
+  fewer-apart (x ∷ xs) (suc i) (suc j) up apart = fewer-apart xs i j (omega (arith, up)) apart
+
+  first-apart : (xs : List A) (i : ℕ) (d : A) → i < length xs → StandApart (gs ++ flat_map f (drop i xs)) → StandApart (gs ++ (f (get_or xs i d) ++ flat_map f (drop (i + 1) xs)))
+  first-apart xs i d below apart =
+      let after : suc i ≡ i + 1 = omega arith in
+      subst (λ k. StandApart (gs ++ (f (get_or xs i d) ++ flat_map f (drop k xs)))) after (subst (λ ys. StandApart (gs ++ flat_map f ys)) (drop-cons xs i d below) apart)
+
+module _ {names : List (List ℕ)} {files : ℕ} (entry : Entry) (lines : FileLines) (own : AreHeldLines names files entry.file lines) where
+  -- nothing was gathered yet
+  pub apart-first : (walk : Walk) → walk.gathered ≡ [] → StandApart lines.tokens.items → StandApart (tokens_in walk.gathered ++ to_come lines 0)
+  apart-first walk none apart =
+      subst (λ list. StandApart (tokens_in list ++ to_come lines 0)) (sym none)
+      (subst StandApart (ap (flat_map (λ line. line)) (sym own.lines_are.tokens_are) ∙ joined-map (tokens_of lines.tokens.items) lines.lines.items) (joined-apart [] lines.tokens.items apart))
+
+  module _ (number : ℕ) (d : declared.Line) (below : number < length lines.lines.items) (spoken : List base.Token) (same : spoken ≡ tokens_of lines.tokens.items (get_or lines.lines.items number d))
+      (walk : Walk) (apart : StandApart (tokens_in walk.gathered ++ to_come lines number)) where
+    with-line : StandApart (tokens_in walk.gathered ++ (spoken ++ to_come lines (number + 1)))
+    with-line =
+        subst (λ line. StandApart (tokens_in walk.gathered ++ (line ++ to_come lines (number + 1)))) (sym same)
+        (first-apart (tokens_of lines.tokens.items) (tokens_in walk.gathered) lines.lines.items number d below apart)
+
+    pub apart-line : StandApart (tokens_in walk.gathered ++ spoken)
+    apart-line = apart-left (tokens_in walk.gathered ++ spoken) (to_come lines (number + 1)) (subst StandApart (sym (append_assoc (tokens_in walk.gathered) spoken _)) with-line)
+
+    -- behind the line, and those that are passed over
+    pub apart-next : (next : Walk) (following : ℕ) → number < following → GathersFrom spoken walk next → StandApart (tokens_in next.gathered ++ to_come lines following)
+    apart-next next following after gathers =
+        fewer-apart (tokens_of lines.tokens.items) (tokens_in next.gathered) lines.lines.items (number + 1) following (omega (arith, after)) (gathers (to_come lines (number + 1)) with-line)
+
+-- ---- the lines of a file
+
+module _ {A : Type 0} {space : Space} {a b : Sets} {names files mid mid_files : List (List ℕ)} {u v : Walk} {one two : Contents} {holds : Option Files} (limit : ℕ) (r : Result A Stop) (entry : Entry) (lines : FileLines)
+    (own : AreHeldLines names (length files) entry.file lines) (number : ℕ)
+    (gone : Gone space a names files u one b mid mid_files v two (Unit {0}) (IsAtTop files entry) (λ x config m n. Runs x m (take number (seen_lines names files lines.tokens.items)) n))
+    (held : AreContents mid mid_files holds two) (x : Context) (context : IsContext space x) (told : holds ≡ Some x.files) where
+  abbrev file_seen : List Line
+  file_seen = seen_lines names files lines.tokens.items
+
+  abbrev Over : List ℕ → SourceFootprint → Type 0
+  Over = Comes a names files u (IsAtTop files entry) (λ config m f. ComesOver x file_seen m f)
+
+  -- one of them stops
+  pub line-stops : (d : declared.Line) → number < length lines.lines.items → (spoken : List base.Token) → spoken ≡ tokens_of lines.tokens.items (get_or lines.lines.items number d)
+      → IfErr r (StopsAtPlace b.arities (Comes b mid mid_files v (IsIn mid_files entry) (λ config m f. ComesAt x m (seen_line mid mid_files spoken) f)) limit)
+      → IfErr r (StopsAtPlace a.arities Over limit)
+  line-stops d below spoken same =
+      let this = tokens_of lines.tokens.items (get_or lines.lines.items number d) in
+      let seen_same = ap (seen_line mid mid_files) same
+      ∙ (line-later gone.names_grow gone.files_grow this (line-of_file (IsPlaced names (length files)) lines.tokens.items (get_or lines.lines.items number d) own.placed)
+      ∙ sym (line-seen names files lines.tokens.items lines.lines.items own.lines_are number d below)) in
+      answer-stops limit r gone.keeps.arities
+      (λ config f listed comes. comes-then config (gone.leads x context (held.told x.files told)) (λ m n from ran. in-more n gone.files_grow (top-is-in from ran))
+      (λ m n from ran at. comes-at file_seen number (omega (arith, below, lines-long names lines.tokens.items lines.lines.items own.lines_are files)) ran (subst (λ l. ComesAt x n l f) seen_same at))
+      listed comes)
+
+  -- the run at the end stops
+  pub end-stops : length lines.lines.items ≤ number → IfErr r (StopsAtPlace b.arities (Comes b mid mid_files v any_machine (λ config m f. (acts m ≡ true) × NameHas m.state.macros m.state.run f)) limit)
+      → IfErr r (StopsAtPlace a.arities Over limit)
+  end-stops past =
+      answer-stops limit r gone.keeps.arities
+      (λ config f listed comes. comes-then config (gone.leads x context (held.told x.files told)) (λ m n from ran. tt)
+      (λ m n from ran at. at_end n (subst (λ ls. Runs x m ls n) (lines-all names files lines.tokens.items lines.lines.items own.lines_are number past) ran) at.0 at.1)
+      listed comes)
+
+-- ---- a line that includes files
+
+-- the # of a directive
+hash-at : (names files : List (List ℕ)) (line : List base.Token) → (seen_line names files line).directive ≡ Some directive.Include → (hash : Token) × (hash_of (seen_line names files line) ≡ Some hash)
+hash-at names files [] is = absurd (cc)
+hash-at names files (t ∷ ts) is = (_, refl)
+
+included-stops : {A : Type 0} {arities other : List ℕ} {P : List ℕ → SourceFootprint → Type 0} (Q : List ℕ → SourceFootprint → Type 0) (limit : ℕ) (r : Result A Stop) (place : Place) → other ≡ arities
+    → ((c : List ℕ) (f : SourceFootprint) → IsConfig arities c → P c f → Q c (included_at place f)) → IfErr r (StopsAtPlace other P limit) → IfErr r (StopsAtPlace arities Q limit)
+included-stops Q limit (Ok x) place same to h = tt
+included-stops {P = P} Q limit (Err (BranchesFull count)) place same to h = footprints-included place to (subst (λ a. StopsAtPlace a P limit (BranchesFull count)) same h)
+included-stops Q limit (Err ReadFault) place same to h = tt
+included-stops Q limit (Err OutOfMemory) place same to h = tt
+
+module _ {A : Type 0} (limit : ℕ) (r : Result A Stop) (names files : List (List ℕ)) (entry : Entry) (line : List base.Token) (placed : All (IsPlaced names (length files)) line)
+    (directive_is : (seen_line names files line).directive ≡ Some directive.Include) (a : Sets) (u : Walk) (x : Context) where
+  abbrev At : List ℕ → SourceFootprint → Type 0
+  At = Comes a names files u (IsIn files entry) (λ config m f. ComesAt x m (seen_line names files line) f)
+
+  -- the run before it stops
+  pub run-stops : IfErr r (StopsAtPlace a.arities (Comes a names files u any_machine (λ config m f. (acts m ≡ true) × NameHas m.state.macros m.state.run f)) limit) → IfErr r (StopsAtPlace a.arities At limit)
+  run-stops =
+      answer-stops limit r refl (λ config f listed comes. λ m at from. let it = comes m at tt in does it.0 (of_run directive.Include directive_is refl it.1))
+
+  -- what it says stops
+  pub said-stops : {b : Sets} {mid : List (List ℕ)} {v : Walk} → Keeps a b → Extends names mid → SimulatesOneOf files names a u mid b v (λ config m n. Closed m n)
+      → IfErr r (StopsAtPlace b.arities (Comes b mid files v any_machine (λ config m f. (acts m ≡ true) × DirectiveHas m.state.macros (seen_line mid files line) f)) limit)
+      → IfErr r (StopsAtPlace a.arities At limit)
+  said-stops keeps grows closes =
+      answer-stops limit r keeps.arities
+      (λ config f listed comes. comes-then config (leads-one (IsIn files entry) closes) (λ m n from was. tt)
+      (λ m n from was it. comes-said directive.Include directive_is refl was it.0 (subst (λ l. DirectiveHas n.state.macros l f) (line-later grows (Extends-refl files) line placed) it.1))
+      listed comes)
+
+  -- a file of it stops
+  pub file-stops : {space : Space} {b : Sets} {mid mid_files : List (List ℕ)} {v : Walk} {one two : Contents} {holds : Option Files} (parts : List Part) (i : ℕ) (part : Part) (depth : ℕ) → part ≡ get_or parts i part
+      → i < length parts → depth ≡ entry.depth + 1
+      → Gone space a names files u one b mid mid_files v two (Spelled names line) (IsIn files entry)
+      (λ x config m n. Staged x (seen_line names files line) mid_files entry.depth m (files_at b (drop i parts) config) n)
+      → AreContents mid mid_files holds two → IsContext space x → holds ≡ Some x.files
+      → IfErr r (StopsAtPlace b.arities (Comes b mid mid_files v IsBetweenRuns (λ config m f. (b.has part.cond.0 config ≡ true) × ComesInside x (text_at mid_files part.file.0) depth m f)) limit)
+      → IfErr r (StopsAtPlace a.arities At limit)
+  file-stops {b = b} {mid_files = mid_files} parts i part depth one_is below deep gone held context told =
+      let hash = hash-at names files line directive_is in
+      let left_at : List ℕ → Bool → List FileId = λ config has. if has then part.file ∷ files_at b (drop (suc i) parts) config else files_at b (drop (suc i) parts) config in
+      included-stops At limit r hash.0.place gone.keeps.arities
+      (λ config g listed comes. comes-then config (gone.leads x context (held.told x.files told)) (λ m n from staged. staged-between staged)
+      (λ m n from staged it.
+      let left = subst (λ (p : Part). files_at b (drop i parts) config ≡ (if b.has p.cond.0 config then p.file ∷ files_at b (drop (suc i) parts) config else files_at b (drop (suc i) parts) config)) (sym one_is) (files-next b config parts i part below) in
+      comes-included part.file hash.0 directive_is hash.1 staged (left ∙ ap (left_at config) it.0) (subst (λ d. ComesInside x (text_at mid_files part.file.0) d n g) deep it.1))
+      listed comes)
