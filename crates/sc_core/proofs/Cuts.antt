@@ -12,6 +12,7 @@ use Rattle.c11_macros.specs.Macros.{Definition, Macros, definition_of, definitio
 use Rattle.c11_parsing.specs.Classes.{HasMoreClasses, IsClass, Input}
 use Rattle.sc_core.specs.Cut.{cut_space, cut_variables, first_config}
 use Rattle.sc_core.specs.Ordinary.{HasManyClasses}
+use Rattle.sc_core.specs.Texts.{HasManyBranches}
 use Rattle.sc_expand.specs.Stops.{HasConfigs}
 use Rattle.sc_model.specs.declared.variable_option.VariableOption.{VariableOption}
 use Rattle.sc_model.specs.Bytes.{same_bytes}
@@ -276,8 +277,8 @@ module _ (arities only : List ℕ) (one : (c : List ℕ) → IsConfig arities c 
       has.distinct.different 0 1 only (omega arith) (omega arith) first.0 first.1 (subst (λ c. IsClass input has.place c first.0) (a_is ∙ sym b_is) first.1)
 
 pub never-fills : (space : Space) (holds : Option Files) (main : List ℕ) → ((c : List ℕ) → IsConfig (arities_of space) c → c ≡ first_config space) → IsSound space
-    → HasConfigs (arities_of space) (space.branches + 1) ⊎ HasManyClasses holds space main → ⊥
-never-fills space holds main one sound (inl many) = let least = sound.branches_least in one-few (arities_of space) (first_config space) one (space.branches + 1) (omega arith) many
+    → HasManyBranches holds space main ⊎ HasManyClasses holds space main → ⊥
+never-fills space holds main one sound (inl many) = let least = sound.branches_least in one-few (arities_of space) (first_config space) one (space.branches + 1) (omega arith) many.configs
 never-fills space holds main one sound (inr classes) = one-class (arities_of space) (first_config space) one classes.input space.branches classes.arities sound.branches_least classes.more
 
 replicate-first : (space : Space) (n : ℕ) → length space.variables ≡ n → replicate n 0 ≡ first_config space

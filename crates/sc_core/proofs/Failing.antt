@@ -7,10 +7,9 @@ use Rattle.sc_core.specs.declared.run_error.RunError.TheVariants as error
 use Rattle.sc_core.specs.Ordinary.{HasManyClasses}
 use Rattle.sc_core.specs.Outcome.{FailsFor, FailsWith, FillsBranches, FillsClasses, HasSpace, OnSpace, Reading, RefusesIn, RefusesSpace}
 use Rattle.sc_core.specs.RunError.{branches_line}
-use Rattle.sc_core.specs.Texts.{FailsInSpace, FailsToChoose}
-use Rattle.sc_expand.specs.Stops.{HasConfigs}
+use Rattle.sc_core.specs.Texts.{FailsInSpace, FailsToChoose, HasManyBranches}
 use Rattle.sc_model.specs.Outside.{Files, Rose}
-use Rattle.sc_model.specs.Space.{Space, arities_of}
+use Rattle.sc_model.specs.Space.{Space}
 
 -- ---- the space file gives no space
 
@@ -66,8 +65,8 @@ choice-fails reading name main choices space has error.OutOfMemory fails = tt
 -- ---- there are too many branches
 
 pub fills-parse : (holds : Option Files) (name main line : List ℕ) (space : Space) (files : Files) → holds ≡ Some files → HasSpace files name space → line ≡ branches_line (space.branches + 1)
-    → HasConfigs (arities_of space) (space.branches + 1) ⊎ HasManyClasses holds space main → FillsBranches files name line ⊎ FillsClasses files name main line
-fills-parse holds name main line space files is has told (inl many) = inl (record { space = space; has_space = has; many = many; told = told })
+    → HasManyBranches holds space main ⊎ HasManyClasses holds space main → FillsBranches files name main line ⊎ FillsClasses files name main line
+fills-parse holds name main line space files is has told (inl many) = inl (record { space = space; has_space = has; many = many.footprints files is; told = told })
 fills-parse holds name main line space files is has told (inr many) =
     inr (record { space = space; has_space = has; many = subst (λ (h : Option Files). HasManyClasses h space main) is many; told = told })
 

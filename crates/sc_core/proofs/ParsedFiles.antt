@@ -1,11 +1,12 @@
 -- What the parsing of a preprocessed file comes to.
-use Rattle.std.proofs.Common.{◌≡◌, ◌∙◌, ◌++◌, ℕ, suc, ◌<◌, ◌≤◌, Bool, true, false, List, [], ◌∷◌, All, length, map, get_or, slice_get, Option, Some, None, Result, Ok, Err, append-nil, arith, inr, refl, sym, ap, subst}
+use Rattle.std.proofs.Common.{◌≡◌, ◌∙◌, ◌++◌, ℕ, suc, ◌<◌, ◌≤◌, Bool, true, false, List, [], ◌∷◌, All, length, map, get_or, slice_get, Option, Some, None, Result, Ok, Err, append-nil, arith, inl, inr, refl, sym, ap, subst}
 use Rattle.std.proofs.lemmas.Bool.{false≢true}
 use Rattle.std.proofs.lemmas.List.{length-map}
 use Rattle.std.proofs.lemmas.List.Elements.{All-append, All-contains, All-weaker}
 use Rattle.std.proofs.lemmas.Option.{slice_get_within, slice_get-get_or}
 use Rattle.std.proofs.lemmas.Simd.{map-map}
-use Rattle.std.specs.Prelude.{if◌then◌else◌}
+use Rattle.std.specs.Prelude.{◌+◌, if◌then◌else◌}
+use Rattle.c11_directives.specs.Footprints.{Has, HasFootprints}
 use Rattle.c11_directives.specs.Pre.{Pre}
 use Rattle.c11_parsing.specs.Classes.{Input, project}
 use Rattle.c11_parsing.specs.LR.{LR}
@@ -23,6 +24,7 @@ use Rattle.sc_base.specs.Seen.{seen, seen_place}
 use Rattle.sc_core.proofs.Translating.{held-main}
 use Rattle.sc_core.specs.Ordinary.{IsC11Parser, IsFileInput, IsPreparedAt, Translates, not_prepared, parsed}
 use Rattle.sc_core.specs.Texts.{AreTranslated, HasAnswers, IsTranslated, Stands, StopsIn}
+use Rattle.sc_expand.specs.Stops.{HasConfigs}
 use Rattle.sc_fork.specs.Choices.{AddsLeaves}
 use Rattle.sc_fork.specs.Owns.{AreC11Tables, IsPlaceOf}
 use Rattle.sc_fork.specs.Parsers.{c11_parser}
@@ -46,8 +48,9 @@ use Rattle.sc_fork.specs.declared.event.Event.{Event}
 use Rattle.sc_prep.specs.Closes.{has_none, is_empty}
 use Rattle.sc_prep.specs.Contents.{end_of_file}
 use Rattle.sc_prep.specs.declared.prepared.Prepared.{Prepared}
+use Rattle.sc_prep.specs.Footprints.{StopsAtPlace}
 use Rattle.sc_prep.specs.Preprocesses as prep
-use Rattle.sc_prep.specs.Preprocesses.{IsOrdinary, OwnsList, is_accepted}
+use Rattle.sc_prep.specs.Preprocesses.{IsOrdinary, OwnsList, Stops, is_accepted}
 use Rattle.sc_prep.specs.Printable.{CanBeShown}
 use Rattle.sc_show.specs.TreeShows.{AreShowableLeaves, IsShowableLeaf}
 use Rattle.sc_tree.specs.Lines.{Line}
@@ -148,12 +151,25 @@ module _ (s : Sets) (names files : List (List ℕ)) (p : Prepared) (tables : cod
     pub file-input : IsFileInput space outside main input
     file-input = record { parser = c11-is are; each = prepared-at }
 
-  -- why there is no tree
+  -- why there is no tree of a file that was preprocessed
   pub stops-in : (space : Space) (main : List ℕ) (holds : Option Files) (before after : ℕ) → s.arities ≡ arities_of space
       → ((outside : Files) → holds ≡ Some outside → IsFileInput space outside main input) → (stop : Stop) → StopsFor input space.branches stop → StopsIn holds before after space main stop
   stops-in space main holds before after arities is (BranchesFull count) stops = (stops.0, inr (record { input = input; arities = arities; more = stops.1; is_input = is }))
   stops-in space main holds before after arities is ReadFault stops = absurd stops
   stops-in space main holds before after arities is OutOfMemory stops = tt
+
+-- why there is none, where preprocessing stops
+pub stops-before : (arities : List ℕ) (space : Space) (main : List ℕ) (holds : Option Files) (before after : ℕ) → arities ≡ arities_of space → (stop : Stop) → Stops arities space.branches before after stop
+    → ((outside : Files) → holds ≡ Some outside → StopsAtPlace arities (Has space outside main) space.branches stop) → StopsIn holds before after space main stop
+stops-before arities space main holds before after same (BranchesFull count) stops here = (
+  stops.0,
+  inl (record {
+    configs = subst (λ ns. HasConfigs ns (space.branches + 1)) same stops.1;
+    footprints = λ outside is. subst (λ ns. HasFootprints ns (Has space outside main) (space.branches + 1)) same (here outside is);
+  }),
+)
+stops-before arities space main holds before after same ReadFault stops here = stops
+stops-before arities space main holds before after same OutOfMemory stops here = tt
 
 -- ---- after parsing
 

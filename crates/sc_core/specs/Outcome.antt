@@ -10,7 +10,6 @@ use Rattle.sc_core.specs.declared.status.Status.TheVariants.{Accepted, Refused, 
 use Rattle.sc_core.specs.Cut.{cut_space, first_config}
 use Rattle.sc_core.specs.Ordinary.{HasManyClasses, IsC11Parser, Translates}
 use Rattle.sc_core.specs.RunError.{branches_line, line_of, status_of, space_line}
-use Rattle.sc_expand.specs.Stops.{HasConfigs}
 use Rattle.sc_grammar.specs.C11.{productions}
 use Rattle.sc_grammar.specs.declared.TheConstants.{TERMINALS, NONTERMINALS}
 use Rattle.lr_tables.specs.declared.grammar.Grammar.{Grammar}
@@ -18,6 +17,7 @@ use Rattle.lr_tables.specs.Grammar.{entries_of}
 use Rattle.sc_text.specs.Layout.{IsTextOf}
 use Rattle.sc_model.specs.Outside.{Files, Rose, Write, Writes, WritesPart, whole_write}
 use Rattle.sc_model.specs.Fault.{Fault}
+use Rattle.c11_directives.specs.Footprints.{Has, HasFootprints}
 use Rattle.c11_directives.specs.Pre.{Pre}
 use Rattle.sc_model.specs.Space.{Space, IsListed, arities_of}
 use Rattle.lr_tables.specs.Tables.{Tables, AreTables}
@@ -85,12 +85,13 @@ pub record RefusesChoices (files : Files) (name : List ℕ) (choices : List (Lis
   pub read : read_config space choices ≡ Err fault
   pub told : line ≡ space_line fault
 
--- the space file is held and read, its space has more configurations than branches, and the line
--- tells how many these may be
-pub record FillsBranches (files : Files) (name line : List ℕ) : Type 0 where
+-- The space file is held and read. At one macro name of the files that are preprocessed, or at one
+-- directive line, more configurations than branches have footprints that differ from each other,
+-- and the line tells how many these may be.
+pub record FillsBranches (files : Files) (name main line : List ℕ) : Type 0 where
   pub space : Space
   pub has_space : HasSpace files name space
-  pub many : HasConfigs (arities_of space) (space.branches + 1)
+  pub many : HasFootprints (arities_of space) (Has space files main) (space.branches + 1)
   pub told : line ≡ branches_line (space.branches + 1)
 
 -- the space file is held and read, the main file has at some place more classes than branches, and
@@ -240,8 +241,8 @@ RefusesIn conflicts files line = ⊥
 -- There are more branches than the space allows, and the line tells how many these may be. For one
 -- configuration there never are.
 abbrev pub FillsIn : Asked → Files → List ℕ → Type 0
-FillsIn (tokens space main) files line = FillsBranches files space line
-FillsIn (parse space main) files line = FillsBranches files space line ⊎ FillsClasses files space main line
+FillsIn (tokens space main) files line = FillsBranches files space main line
+FillsIn (parse space main) files line = FillsBranches files space main line ⊎ FillsClasses files space main line
 FillsIn (project_tree space main choices) files line = ⊥
 FillsIn conflicts files line = ⊥
 

@@ -1,5 +1,6 @@
 -- What the text of a command is, before it is written.
 use Rattle.std.specs.Prelude.{◌≡◌, false, ◌⊎◌, ◌<◌, ◌+◌, ℕ, not, List, [], ◌∷◌, length, map, All, IfSome, Option, Some, None, Result, Ok, Err}
+use Rattle.c11_directives.specs.Footprints.{Has, HasFootprints}
 use Rattle.c11_parsing.specs.Parser.{Parser}
 use Rattle.c11_parsing.specs.Trees.{Tree}
 use Rattle.sc_base.specs.declared.fault.Fault as base
@@ -157,9 +158,15 @@ pub record IsProjectAnswer (holds : Option Files) (name main : List ℕ) (choice
   pub lines : All IsLine (lines_of text)
   pub tree : IsProjectText holds name main choices (lines_of text) (not text.is_refused)
 
+-- There are more configurations than branches. Where the source tells what it holds, so many have
+-- different footprints at one name, or at one line.
+pub record HasManyBranches (holds : Option Files) (space : Space) (main : List ℕ) : Type 0 where
+  pub configs : HasConfigs (arities_of space) (space.branches + 1)
+  pub footprints : (files : Files) → holds ≡ Some files → HasFootprints (arities_of space) (Has space files main) (space.branches + 1)
+
 -- why a file in this space gives no tree
 abbrev pub StopsIn : Option Files → ℕ → ℕ → Space → List ℕ → Stop → Type 0
 StopsIn holds before after space main (BranchesFull count) =
-    (count ≡ space.branches + 1) × (HasConfigs (arities_of space) (space.branches + 1) ⊎ HasManyClasses holds space main)
+    (count ≡ space.branches + 1) × (HasManyBranches holds space main ⊎ HasManyClasses holds space main)
 StopsIn holds before after space main ReadFault = Rose before after
 StopsIn holds before after space main OutOfMemory = Unit {0}

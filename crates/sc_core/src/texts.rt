@@ -1,10 +1,13 @@
-ghost use Rattle.std.specs.Prelude.{◌≡◌, ◌≤◌, true, false, map, length, string_bytes, All, Some, IfOk, IfErr};
+ghost use Rattle.std.specs.Prelude.{◌≡◌, ◌≤◌, Some, true, false, map, length, string_bytes, All, IfOk, IfErr};
+ghost use Rattle.c11_directives.specs.Footprints.{Has};
 ghost use Rattle.sc_args.specs.Words.{is_file_name, tokens as asked_tokens};
 ghost use Rattle.sc_core.specs.Outcome.{IsConflictsText, FailsFor, FailsWith};
 ghost use Rattle.sc_core.specs.RunError as lines;
 ghost use Rattle.sc_fork.specs.Owns.{AreC11Tables};
+ghost use Rattle.sc_prep.specs.Footprints.{StopsAtPlace};
 ghost use Rattle.sc_prep.specs.Preprocesses.{Stops};
 ghost use Rattle.sc_core.specs.Texts.{TellsTokens, IsTokensAnswer, IsAnswer, lines_of};
+ghost use Rattle.sc_model.specs.Outside.{Files as Outside};
 ghost use Rattle.sc_model.specs.Sets.{IsCond, IsNever};
 ghost use Rattle.sc_model.specs.Space.{arities_of};
 ghost use Rattle.sc_model.specs.Bytes.{has_no_newline};
@@ -144,6 +147,7 @@ fn text_under<C: Conditions, S: Source>(
     ensures lines { IfOk result (λ text. All IsLine (lines_of text)) }
     ensures tokens { IfOk result (λ text. TellsTokens (S.holds src.old) (seen_space space.now) file.now text) }
     ensures stops { IfErr result (Stops (C.sets conds.old).arities (seen_space space.now).branches (S.faults src.old) (S.faults src.new)) }
+    ensures footprints { (outside : Outside) → S.holds src.old ≡ Some outside → IfErr result (StopsAtPlace (C.sets conds.old).arities (Has (seen_space space.now) outside file.now) (seen_space space.now).branches) }
 
     // at every outcome
     ensures kept { S.holds src.new ≡ S.holds src.old }

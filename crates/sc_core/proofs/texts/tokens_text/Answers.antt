@@ -1,11 +1,12 @@
 use Rattle.std.proofs.Common.{◌∙◌, ◌+◌, ap, refl, subst, List, ℕ}
 use Rattle.std.proofs.lemmas.Result.{err_from_is_err_and}
+use Rattle.c11_directives.specs.Footprints.{Has, HasFootprints}
 use Rattle.sc_args.specs.Words.{tokens}
 use Rattle.sc_core.proofs.Failing.{space-fails}
 use Rattle.sc_core.proofs.Telling.{name-plain}
 use Rattle.sc_core.proofs.texts.tokens_text.Goals as goal
 use Rattle.sc_core.specs.RunError.{branches_line}
-use Rattle.sc_expand.specs.Stops.{HasConfigs}
+use Rattle.sc_prep.specs.Footprints.{StopsAtPlace}
 use Rattle.sc_prep.specs.Preprocesses.{Stops}
 use Rattle.sc_space.specs.Seen.{seen_space}
 
@@ -44,7 +45,8 @@ returns-clause-error g c =
         λ files holds. record {
           space = space;
           has_space = c.in_ok-space.ensures.space files holds;
-          many = subst (λ (arities : List ℕ). HasConfigs arities (space.branches + 1)) c.in_ok-conds.ensures many.1;
+          many = subst (λ (arities : List ℕ). HasFootprints arities (Has space files c.args.file.now) (space.branches + 1)) c.in_ok-conds.ensures
+              (subst (StopsAtPlace _ (Has space files c.args.file.now) space.branches) c.in-Err-BranchesFull.field-0-is (c.in-Err-BranchesFull.ensures.footprints files (c.in_ok-space.ensures.kept ∙ holds)));
           told = c.in_ok-branches_line-in-Err-BranchesFull.ensures ∙ ap branches_line many.0;
         },
       ),

@@ -5,7 +5,7 @@ use Rattle.sc_base.specs.declared.fault.Fault as base
 use Rattle.sc_base.specs.declared.id.Cond.{Cond}
 use Rattle.sc_base.specs.declared.token.Token.{Token}
 use Rattle.sc_base.specs.Seen.{IsHeld}
-use Rattle.sc_core.proofs.ParsedFiles.{file-input, input, is-input, parsed-answers, parsed-apart, parsed-faults, parsed-leaves, parsed-translated, stops-in}
+use Rattle.sc_core.proofs.ParsedFiles.{file-input, input, is-input, parsed-answers, parsed-apart, parsed-faults, parsed-leaves, parsed-translated, stops-before, stops-in}
 use Rattle.sc_core.proofs.tree_texts.parsed.Goals as goal
 use Rattle.sc_core.proofs.tree_texts.parsed.Goals.{After-drop-prepared-2}
 use Rattle.sc_core.specs.Texts.{AreTranslated, HasAnswers}
@@ -22,6 +22,12 @@ parse-requires-clause-held g c =
     let list = c.in_ok-prepared.prepared.list in
     let shown = c.in_ok-prepared.ensures.shown c.requires.paths c.requires.plain in
     All-weaker (IsShowable (g.C.Conditions.sets c.preprocess.new.conds) c.preprocess.new.names c.preprocess.new.files) (λ (item : Cond × Token). IsHeld c.preprocess.new.names item.1) (λ item is. is.held) list shown.list
+
+pub returns-in_err-prepared-clause-stops : goal.returns-in_err-prepared-clause-stops
+returns-in_err-prepared-clause-stops g c =
+    let p = err_from_is_err_and c.from_residual.result c.from_residual.ensures.1 in
+    rw (p.1, p.2) (stops-before (g.C.Conditions.sets c.args.conds.now).arities (seen_space c.args.space.now) c.args.file.now (g.S.Source.holds c.args.src.now) _ _ c.requires.arities c.in_err-prepared.field-0.0
+    c.in_err-prepared.ensures.stops c.in_err-prepared.ensures.footprints)
 
 pub returns-in_err-parsed-clause-stops : goal.returns-in_err-parsed-clause-stops
 returns-in_err-parsed-clause-stops g c =
