@@ -70,7 +70,7 @@ alike-narrowed {old} {new} keeps {c} {d} p q {files} live call later held meanin
 module _ (s : Sets) (c d : List ℕ) (others : Others) (e after : Expansion) where
   -- an argument is entered
   pub alike-enter : (call : Call) (w : Wanted) → after.refusals ≡ e.refusals → after.below.items ≡ e.below.items ++ record { frame = e.top; call = call; parameter = w.parameter } ∷ []
-      → after.top.work ≡ map (λ (t : Hidden). (call.cond, t)) w.tokens.items → after.top.out ≡ [] → after.top.calls.items ≡ []
+      → after.top.work ≡ map (λ (t : Hidden). (call.cond, t)) w.tokens → after.top.out ≡ [] → after.top.calls.items ≡ []
       → IsAlikeCall s c d call → IsAlikeExpansion s c d others e → IsAlikeExpansion s c d others after
   alike-enter call w refusals below work out calls call_alike alike =
       let o : Enclosing = record { frame = e.top; call = call; parameter = w.parameter } in
@@ -78,7 +78,7 @@ module _ (s : Sets) (c d : List ℕ) (others : Others) (e after : Expansion) whe
       record {
         refusals = subst (AreAlikeRefusals s c d others.faults) (sym refusals) alike.refusals;
         top = subst (λ n. IsAlikeFrame s c d (others_at others n) after.top) (sym above) (record {
-          work = of-all s c d after.top.work (subst (AreAlike s c d) (sym work) (All-map (Same {T = Hidden} s c d) (λ (t : Hidden). (call.cond, t)) w.tokens.items (λ k t within. call_alike.cond)));
+          work = of-all s c d after.top.work (subst (AreAlike s c d) (sym work) (All-map (Same {T = Hidden} s c d) (λ (t : Hidden). (call.cond, t)) w.tokens (λ k t within. call_alike.cond)));
           out = subst (AreAlike s c d) (sym out) (All-nil (Same {T = Hidden} s c d));
           calls = subst (All (IsAlikeCall s c d)) (sym calls) (All-nil (IsAlikeCall s c d));
         });

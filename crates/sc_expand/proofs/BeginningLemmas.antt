@@ -1,10 +1,12 @@
 use Rattle.sc_expand.specs.Having.{tokens_in}
 -- What a template that was refused says, and lists of arguments.
-use Rattle.std.proofs.Common.{◌≡◌, ℕ, zero, suc, ◌+◌, ◌<◌, ◌++◌, Bool, true, false, not, if◌then◌else◌, Option, Some, None, Result, Ok, Err, refl, subst, sym, ap, ◌∙◌, List, [], ◌∷◌, map, reverse, length, take, drop, get_or, All, arith, Vec, Global}
-use Rattle.std.proofs.lemmas.List.{drop_more, length-drop, take-append-drop}
+use Rattle.std.proofs.Common.{◌≡◌, ℕ, zero, suc, ◌+◌, ◌-◌, ◌<◌, ◌≤◌, ◌++◌, Bool, true, false, not, if◌then◌else◌, Option, Some, None, Result, Ok, Err, refl, subst, sym, ap, ◌∙◌, List, [], ◌∷◌, map, reverse, length, take, drop, get_or, All, arith}
+use Rattle.std.proofs.lemmas.List.{drop_more, length-drop, length-map, map-id, take-append-drop}
+use Rattle.std.proofs.Math.ListN.{get_or-map}
+use Rattle.std.proofs.lemmas.Option.{slice_get-get_or}
 use Rattle.std.proofs.lemmas.Simd.{map-map}
 use Rattle.std.proofs.lemmas.List.Elements.{All-drop, All-head, All-tail, All-weaker}
-use Rattle.std.specs.Prelude.{codes, IfNone, IfOk, IfSome}
+use Rattle.std.specs.Prelude.{codes, slice_get, IfNone, IfOk, IfSome}
 use Rattle.c11_macros.specs.Hidden as model
 use Rattle.c11_macros.specs.Hidden.{Failure, HideSet, Provenance, failure_at, meet, with_name}
 use Rattle.c11_macros.specs.Call.{arguments_for, call_of}
@@ -194,13 +196,12 @@ module _ (first names : List (List ℕ)) (old mid sets : List (List Name)) (grow
   token_later : (s : Sets) (files : ℕ) (h : Hidden) → IsHeldToken (stores s first old) files h → IsHeldToken (stores s names sets) files h
   token_later s files h held = record { held = IsHeldHidden-Extends h held.held grows (Extends-trans before after); file = held.file }
 
-  pub tokens_later : (s : Sets) (files : ℕ) (raw : List (Vec Hidden Global)) → All (λ (a : Vec Hidden Global). All (IsHeldToken (stores s first old) files) a.items) raw
-      → All (λ (a : Vec Hidden Global). All (IsHeldToken (stores s names sets) files) a.items) raw
-  tokens_later s files raw held = All-weaker (λ (a : Vec Hidden Global). All (IsHeldToken (stores s first old) files) a.items) (λ a. All (IsHeldToken (stores s names sets) files) a.items)
-      (λ a own. All-weaker (IsHeldToken (stores s first old) files) (IsHeldToken (stores s names sets) files) (token_later s files) a.items own) raw held
+  pub tokens_later : (s : Sets) (files : ℕ) (raw : List (List Hidden)) → All (All (IsHeldToken (stores s first old) files)) raw → All (All (IsHeldToken (stores s names sets) files)) raw
+  tokens_later s files raw held = All-weaker (All (IsHeldToken (stores s first old) files)) (All (IsHeldToken (stores s names sets) files))
+      (λ a own. All-weaker (IsHeldToken (stores s first old) files) (IsHeldToken (stores s names sets) files) (token_later s files) a own) raw held
 
   pub held_call : (s : Sets) (files : ℕ) (call : Call) → IsCond s call.cond.0 → IsHeldToken (stores s first old) files call.head → IsHeldSet first mid call.hide.0
-      → IsHeldTemplate (stores s names sets) files call.template → All (λ (w : Wanted). All (IsHeldToken (stores s names sets) files) w.tokens.items) call.wanted.items
+      → IsHeldTemplate (stores s names sets) files call.template → All (λ (w : Wanted). All (IsHeldToken (stores s names sets) files) w.tokens) call.wanted.items
       → All (λ (list : List (Cond × Hidden)). list ≡ []) call.expanded.items → IsHeldCall (stores s names sets) files call
   held_call s files call own head set template wanted empty = record {
     own = own;
@@ -211,10 +212,9 @@ module _ (first names : List (List ℕ)) (old mid sets : List (List Name)) (grow
     expanded = held_expanded (stores s names sets) files call.expanded.items empty;
   }
 
-pub files_of : (st : Stores) (files : ℕ) (raw : List (Vec Hidden Global)) → All (λ (a : Vec Hidden Global). All (IsHeldToken st files) a.items) raw
-    → All (λ (a : Vec Hidden Global). All (λ (h : Hidden). h.token.place.file.0 < files) a.items) raw
-files_of st files raw held = All-weaker (λ (a : Vec Hidden Global). All (IsHeldToken st files) a.items) (λ a. All (λ h. h.token.place.file.0 < files) a.items)
-    (λ a own. All-weaker (IsHeldToken st files) (λ h. h.token.place.file.0 < files) (λ h held. held.file) a.items own) raw held
+pub files_of : (st : Stores) (files : ℕ) (raw : List (List Hidden)) → All (All (IsHeldToken st files)) raw → All (All (λ (h : Hidden). h.token.place.file.0 < files)) raw
+files_of st files raw held = All-weaker (All (IsHeldToken st files)) (All (λ h. h.token.place.file.0 < files))
+    (λ a own. All-weaker (IsHeldToken st files) (λ h. h.token.place.file.0 < files) (λ h held. held.file) a own) raw held
 
 -- ---- the call as one configuration has it
 
@@ -312,6 +312,42 @@ call_tokens s names list other c =
     ap (λ conds. token_at list other 0 ∷ map (token_at list other) (take k (places_from s 1 conds c))) (same_conds list)
     ∙ (ap (λ ts. token_at list other 0 ∷ ts) (map_of_take (token_at list other) k (places_from s 1 (map (λ (x : Cond × Hidden). x.0) (drop 1 list)) c))
     ∙ ap (λ ts. token_at list other 0 ∷ take k ts) (tokens_at_places s list other c 1))
+
+-- ---- places one after the other
+
+abbrev pub AreConsecutive : List ℕ → ℕ → Type 0
+AreConsecutive places first = (index place : ℕ) → slice_get places index ≡ Some place → place ≡ first + index
+
+pub consecutive_within : (bound first : ℕ) (places : List ℕ) → 0 < length places → AreConsecutive places first → All (λ place. place < bound) places → first + length places ≤ bound
+consecutive_within bound first places some run within =
+    let n = length places - 1 in
+    let low : n < length places = omega (arith, some) in
+    let last : get_or places n 0 ≡ first + n = run n (get_or places n 0) (slice_get-get_or places n 0 low) in
+    omega (arith, some, last, within n 0 low)
+
+consecutive_tokens : (list : List (Cond × Hidden)) (other : Cond × Hidden) (first : ℕ) (places : List ℕ) → AreConsecutive places first → first + length places ≤ length list
+    → take (length places) (drop first (map (λ (x : Cond × Hidden). x.1) list)) ≡ map (token_at list other) places
+consecutive_tokens list other first [] run within = refl
+consecutive_tokens list other first (p ∷ places) run within =
+    let tokens = map (λ (x : Cond × Hidden). x.1) list in
+    let place : p ≡ first = run 0 p refl ∙ omega arith in
+    let long : first < length tokens = omega (arith, within, length-map list (λ (x : Cond × Hidden). x.1)) in
+    let token : get_or tokens first other.1 ≡ token_at list other p = get_or-map (λ (x : Cond × Hidden). x.1) list first other ∙ ap (token_at list other) (sym place) in
+    let rest = consecutive_tokens list other (first + 1) places (λ index q is. run (suc index) q is ∙ omega arith) (omega (arith, within)) in
+    ap (take (suc (length places))) (drop_more tokens first other.1 long) ∙ (λ i. token i ∷ rest i)
+
+-- the tokens of a list that has all under one condition
+pub tokens_under : (cond : Cond) (tokens : List Hidden) (list : List (Cond × Hidden)) → list ≡ map (λ (t : Hidden). (cond, t)) tokens → tokens ≡ map (λ (x : Cond × Hidden). x.1) list
+tokens_under cond tokens list is =
+    sym (map-id tokens) ∙ (sym (map-map (λ (x : Cond × Hidden). x.1) (λ (t : Hidden). (cond, t)) tokens) ∙ ap (map (λ (x : Cond × Hidden). x.1)) (sym is))
+
+pub consecutive_shared : (cond : Cond) (tokens : List Hidden) (list : List (Cond × Hidden)) (other : Cond × Hidden) (first : ℕ) (places : List ℕ) → list ≡ map (λ (t : Hidden). (cond, t)) tokens
+    → AreConsecutive places first → first + length places ≤ length list → take ((first + length places) - first) (drop first tokens) ≡ map (token_at list other) places
+consecutive_shared cond tokens list other first places is run within =
+    let many : (first + length places) - first ≡ length places = omega arith in
+    ap (λ n. take n (drop first tokens)) many
+    ∙ (ap (λ l. take (length places) (drop first l)) (tokens_under cond tokens list is)
+    ∙ consecutive_tokens list other first places run within)
 
 behind_from : (s : Sets) (list : List (Cond × Hidden)) (c : List ℕ) (xs : List (Cond × Hidden)) (n k : ℕ) → drop n list ≡ xs → k < length (items_at s xs c)
     → items_at s (drop (get_or (places_from s n (map (λ (x : Cond × Hidden). x.0) xs) c) k 0 + 1) list) c ≡ drop (suc k) (items_at s xs c)

@@ -21,7 +21,7 @@ use Rattle.sc_model.proofs.SetLemmas.{IsConfig-Keeps, Keeps-refl, Keeps-trans}
 use Rattle.sc_model.specs.Sets.{Sets, IsConfig, IsCond, Keeps}
 use Rattle.sc_model.specs.Growth.{Extends}
 use Rattle.sc_subst.proofs.Later.{hidden_later}
-use Rattle.sc_subst.proofs.Tokens.{spaced_first}
+use Rattle.sc_subst.proofs.TokenLemmas.{spaced_first}
 use Rattle.sc_subst.specs.Parts.{filled_in, first_spaced, seen_part}
 use Rattle.sc_subst.specs.Seen.{IsHeldHidden, seen_hidden}
 use Rattle.sc_subst.specs.declared.hidden.Hidden.{Hidden}

@@ -1,5 +1,5 @@
 -- What is so of each token between the parentheses of a call is so of each token of its arguments.
-use Rattle.std.proofs.Common.{◌≡◌, ℕ, zero, suc, ◌<◌, ◌==◌, ◌&&◌, Bool, true, false, List, [], ◌∷◌, ◌++◌, All, map, length, Some, None, get_or, subst, Vec, Global, if◌then◌else◌}
+use Rattle.std.proofs.Common.{◌≡◌, ℕ, zero, suc, ◌<◌, ◌==◌, ◌&&◌, Bool, true, false, List, [], ◌∷◌, ◌++◌, All, map, length, Some, None, get_or, subst, if◌then◌else◌}
 use Rattle.std.proofs.lemmas.List.Elements.{All-append, All-cons, All-head, All-nil, All-tail}
 use Rattle.c11_macros.specs.Call.{Role, arguments_for, closing, comma, counts, filled_up, given, is_nothing, onto_argument, opening, other, role_of}
 use Rattle.c11_macros.specs.Hidden as model
@@ -71,17 +71,15 @@ all-to P f [] all = All-nil P
 all-to P f (x ∷ xs) all = All-cons P (f x) (map f xs) (All-head (λ x. P (f x)) x xs all) (all-to P f xs (All-tail (λ x. P (f x)) x xs all))
 
 -- the arguments stand in files that the table tells where the tokens of the call do
-pub arguments-held : (st : Stores) (files : ℕ) (between : List Hidden) (raw : List (Vec Hidden Global)) (parameters : List (List ℕ)) (variadic : Bool)
-    → arguments_for parameters variadic (parted (length parameters) 0 (seen_list st.names st.hides between)) ≡ Some (seen_arguments st.names st.hides (map (λ a. a.items) raw))
-    → All (IsHeldToken st files) between → All (λ a. All (IsHeldHidden st.names st.hides) a.items) raw → All (λ a. All (IsHeldToken st files) a.items) raw
+pub arguments-held : (st : Stores) (files : ℕ) (between : List Hidden) (raw : List (List Hidden)) (parameters : List (List ℕ)) (variadic : Bool)
+    → arguments_for parameters variadic (parted (length parameters) 0 (seen_list st.names st.hides between)) ≡ Some (seen_arguments st.names st.hides raw)
+    → All (IsHeldToken st files) between → All (All (IsHeldHidden st.names st.hides)) raw → All (All (IsHeldToken st files)) raw
 arguments-held st files between raw parameters variadic fits held own =
     let see = seen_hidden st.names st.hides in
     let F : model.Hidden Place → Type 0 = λ t. t.place.file.0 < files in
-    let G : Hidden → Type 0 = λ h. h.token.place.file.0 < files in
     let each : List Hidden → List (model.Hidden Place) = seen_list st.names st.hides in
-    let items : Vec Hidden Global → List Hidden = λ a. a.items in
     let here : All F (seen_list st.names st.hides between) = all-to F see between (λ k d h. (held k d h).file) in
-    let all : All (All F) (map each (map items raw)) = each-fitting F parameters variadic (parted (length parameters) 0 (seen_list st.names st.hides between)) (seen_arguments st.names st.hides (map items raw))
+    let all : All (All F) (map each raw) = each-fitting F parameters variadic (parted (length parameters) 0 (seen_list st.names st.hides between)) (seen_arguments st.names st.hides raw)
     (each-parted F (length parameters) 0 (seen_list st.names st.hides between) here) fits in
-    let back : All (λ (a : Vec Hidden Global). All F (each a.items)) raw = all-back (λ l. All F (each l)) items raw (all-back (All F) each (map items raw) all) in
-    λ k d h j x i. record { held = own k d h j x i; file = all-back F see (get_or raw k d).items (back k d h) j x i }
+    let back : All (λ (a : List Hidden). All F (each a)) raw = all-back (All F) each raw all in
+    λ k d h j x i. record { held = own k d h j x i; file = all-back F see (get_or raw k d) (back k d h) j x i }

@@ -16,6 +16,7 @@ pub mod PlainAgreement
 pub mod PlainFootprint
 pub mod Parting
 pub mod WorkListLemmas
+pub mod RestrictLemmas
 pub mod LastLemmas
 pub mod SeenLemmas
 pub mod BeginningLemmas
@@ -35,6 +36,7 @@ pub mod PlainPlaces
 pub mod Dropping
 pub mod BottomLemmas
 pub mod Rests
+pub mod RestLemmas
 pub mod Turning
 pub mod RunLemmas
 pub mod AlikeRunning

@@ -50,7 +50,7 @@ module _ (provenance : Provenance Place) (macros : Macros) {old new : Stores} (g
       (cond : new.sets.has later.cond.0 c ≡ (old.sets.has call.cond.0 c && old.sets.has e.refusals.live.0 c))
       (popped : call.wanted.items ≡ ws ++ w ∷ []) (is : waiting_at new later c ≡ without_first (waiting_at new call c) (map (seen_wanted new) (reverse ws)))
       (refusals : after.refusals ≡ e.refusals) (below : after.below.items ≡ e.below.items ++ record { frame = e.top; call = later; parameter = w.parameter } ∷ [])
-      (work : after.top.work ≡ map (λ (t : Hidden). (later.cond, t)) w.tokens.items) (out : after.top.out ≡ []) (calls : after.top.calls.items ≡ []) where
+      (work : after.top.work ≡ map (λ (t : Hidden). (later.cond, t)) w.tokens) (out : after.top.out ≡ []) (calls : after.top.calls.items ≡ []) where
     abbrev enclosing : Enclosing
     enclosing = record { frame = e.top; call = later; parameter = w.parameter }
 
@@ -63,10 +63,10 @@ module _ (provenance : Provenance Place) (macros : Macros) {old new : Stores} (g
     chosen : (b : Bool) (list : List Hidden) → new.sets.has later.cond.0 c ≡ b → seen_at new (map (λ (t : Hidden). (later.cond, t)) list) c ≡ map (seen_hidden new.names new.hides) (if b then list else [])
     chosen b list known = ap (map (seen_hidden new.names new.hides)) (items_at-under new.sets later.cond list c ∙ ap (λ h. if h then list else []) known)
 
-    top_is : (b : Bool) → new.sets.has later.cond.0 c ≡ b → view_at new after.top c ≡ argument_view [] (map (seen_hidden new.names new.hides) (if b then w.tokens.items else []))
+    top_is : (b : Bool) → new.sets.has later.cond.0 c ≡ b → view_at new after.top c ≡ argument_view [] (map (seen_hidden new.names new.hides) (if b then w.tokens else []))
     top_is b known =
         let first = ap (λ l. seen_at new l c) out in
-        let second = ap (λ l. seen_at new l c) work ∙ chosen b w.tokens.items known in
+        let second = ap (λ l. seen_at new l c) work ∙ chosen b w.tokens known in
         let third = ap (λ l. calls_at new l c) calls in
         λ i. record { out = first i; work = second i; calls = third i }
 
@@ -82,16 +82,16 @@ module _ (provenance : Provenance Place) (macros : Macros) {old new : Stores} (g
             let call_is = waiting_at-Grows grows c listed call held_call in
             let view : with_call (view_at new e.top c) (waiting_at new call c) ≡ with_call (view_at old e.top c) (waiting_at old call c) = λ i. with_call (top i) (call_is i) in
             let there = subst (Stands new c e.below.items) (sym view) (Stands-Grows grows files c listed held.below stands) in
-            let first : (waiting_at new call c).wanted ≡ (w.parameter, seen_list new.names new.hides w.tokens.items) ∷ map (seen_wanted new) (reverse ws) =
+            let first : (waiting_at new call c).wanted ≡ (w.parameter, seen_list new.names new.hides w.tokens) ∷ map (seen_wanted new) (reverse ws) =
             ap (λ l. map (seen_wanted new) (reverse l)) popped ∙ ap (map (seen_wanted new)) (reverse-append ws (w ∷ [])) in
-            let r = enter-called new c enclosing provenance macros e.below.items (waiting_at new call c) (seen_list new.names new.hides w.tokens.items) (map (seen_wanted new) (reverse ws)) narrowed first is there in
+            let r = enter-called new c enclosing provenance macros e.below.items (waiting_at new call c) (seen_list new.names new.hides w.tokens) (map (seen_wanted new) (reverse ws)) narrowed first is there in
             let was : state_in new e.below.items (with_call (view_at new e.top c) (waiting_at new call c)) c ≡ state_in old e.below.items (with_call (view_at old e.top c) (waiting_at old call c)) c =
             ap (λ v. state_in new e.below.items v c) view ∙ state_in-Grows grows files c listed e.below.items (with_call (view_at old e.top c) (waiting_at old call c)) held.below in
             let now = top_is true narrowed in (
-              subst (λ v. Stands new c after.below.items v) (sym now) (subst (λ l. Stands new c l (argument_view [] (seen_list new.names new.hides w.tokens.items))) (sym below) r.0),
+              subst (λ v. Stands new c after.below.items v) (sym now) (subst (λ l. Stands new c l (argument_view [] (seen_list new.names new.hides w.tokens))) (sym below) r.0),
               subst (λ v. Moves provenance macros (state_in old e.below.items (with_call (view_at old e.top c) (waiting_at old call c)) c) (state_in new after.below.items v c)) (sym now)
-                  (subst (λ l. Moves provenance macros (state_in old e.below.items (with_call (view_at old e.top c) (waiting_at old call c)) c) (state_in new l (argument_view [] (seen_list new.names new.hides w.tokens.items)) c)) (sym below)
-                  (subst (λ s. Moves provenance macros s (state_in new (e.below.items ++ enclosing ∷ []) (argument_view [] (seen_list new.names new.hides w.tokens.items)) c)) was r.1)),
+                  (subst (λ l. Moves provenance macros (state_in old e.below.items (with_call (view_at old e.top c) (waiting_at old call c)) c) (state_in new l (argument_view [] (seen_list new.names new.hides w.tokens)) c)) (sym below)
+                  (subst (λ s. Moves provenance macros s (state_in new (e.below.items ++ enclosing ∷ []) (argument_view [] (seen_list new.names new.hides w.tokens)) c)) was r.1)),
             ))
         by true false live absent = rests (same-live) same-failures (λ l stands.
             let narrowed : new.sets.has later.cond.0 c ≡ false = cond ∙ ap (λ h. h && old.sets.has e.refusals.live.0 c) absent in
@@ -124,17 +124,17 @@ later-held {st} {files} call later r held own popped head hide template expanded
   head = subst (IsHeldToken st files) (sym head) held.head;
   hide = subst (λ h. IsHeldSet st.names st.hides h) (sym (ap (λ (h : Hide). h.0) hide)) held.hide;
   template = subst (IsHeldTemplate st files) (sym template) held.template;
-  wanted = (All-pop (λ (w : Wanted). All (IsHeldToken st files) w.tokens.items) call.wanted.items later.wanted.items r popped held.wanted).0;
+  wanted = (All-pop (λ (w : Wanted). All (IsHeldToken st files) w.tokens) call.wanted.items later.wanted.items r popped held.wanted).0;
   expanded = subst (λ l. All (AreHeld st files) l) (sym (ap (λ v. v.items) expanded)) held.expanded;
 }
 
-pub entered-held : (st : Stores) (files : ℕ) (e after : Expansion) (later : Call) (w : Wanted) → IsHeldExpansion st files e → IsHeldCall st files later → All (IsHeldToken st files) w.tokens.items
+pub entered-held : (st : Stores) (files : ℕ) (e after : Expansion) (later : Call) (w : Wanted) → IsHeldExpansion st files e → IsHeldCall st files later → All (IsHeldToken st files) w.tokens
     → after.refusals ≡ e.refusals → after.below.items ≡ e.below.items ++ record { frame = e.top; call = later; parameter = w.parameter } ∷ []
-    → after.top.work ≡ map (λ (t : Hidden). (later.cond, t)) w.tokens.items → after.top.out ≡ [] → after.top.calls.items ≡ [] → IsHeldExpansion st files after
+    → after.top.work ≡ map (λ (t : Hidden). (later.cond, t)) w.tokens → after.top.out ≡ [] → after.top.calls.items ≡ [] → IsHeldExpansion st files after
 entered-held st files e after later w held held_call tokens refusals below work out calls = record {
   refusals = subst (IsHeldRefusals st.sets files) (sym refusals) held.refusals;
   top = record {
-    work = subst (AreHeld st files) (sym work) (under-held later.cond w.tokens.items held_call.own tokens);
+    work = subst (AreHeld st files) (sym work) (under-held later.cond w.tokens held_call.own tokens);
     out = subst (AreHeld st files) (sym out) (AreHeld-nil st files);
     calls = subst (All (IsHeldCall st files)) (sym calls) (All-nil (IsHeldCall st files));
   };

@@ -87,6 +87,6 @@ module _ (provenance : Provenance Place) (macros : Macros) (st : Stores) (c : Li
         head = subst (IsHeldToken st files) (sym resumed.head) enclosing.call.head;
         hide = subst (λ (h : Hide). IsHeldSet st.names st.hides h.0) (sym resumed.hide) enclosing.call.hide;
         template = subst (IsHeldTemplate st files) (sym resumed.template) enclosing.call.template;
-        wanted = subst (λ l. All (λ (w : Wanted). All (IsHeldToken st files) w.tokens.items) l.items) (sym resumed.wanted) enclosing.call.wanted;
+        wanted = subst (λ l. All (λ (w : Wanted). All (IsHeldToken st files) w.tokens) l.items) (sym resumed.wanted) enclosing.call.wanted;
         expanded = subst (All (AreHeld st files)) (sym resumed.expanded) (All-set (AreHeld st files) o.call.expanded.items o.parameter e.top.out held.top.out enclosing.call.expanded);
       }

@@ -1,10 +1,10 @@
 -- The tokens between the parentheses of a call, parted, are its arguments (C11 6.10.3p11).
-use Rattle.std.proofs.Common.{◌≡◌, ◌<◌, ℕ, zero, suc, ◌+◌, ◌-◌, List, [], ◌∷◌, ◌++◌, length, Option, Some, None, ap, sym, ◌∙◌, refl, arith, map, Vec, Global}
-use Rattle.std.proofs.lemmas.List.{length-append, append_assoc, append-nil, map-append}
+use Rattle.std.proofs.Common.{◌≡◌, ◌<◌, ℕ, zero, suc, ◌+◌, ◌-◌, List, [], ◌∷◌, ◌++◌, length, Option, Some, None, ap, sym, ◌∙◌, ◌≤◌, refl, arith, drop, slice_get, take}
+use Rattle.std.proofs.lemmas.List.{length-append, append_assoc, append-nil, drop-append-le, drop-take, drop_all, length-take, map-append, take_more}
+use Rattle.std.proofs.lemmas.Option.{get_or_from_slice_get, slice_get_within}
 use Rattle.c11_macros.specs.Call.{Call, call_of, call_step, onto, apart, Role, opening, closing, comma, other, role_of, onto_argument}
 use Rattle.c11_macros.specs.Hidden.{Hidden}
 use Rattle.sc_base.specs.declared.id.Name.{Name}
-use Rattle.sc_base.specs.declared.place.Place.{Place}
 use Rattle.sc_subst.specs.declared.hidden.Hidden as declared
 use Rattle.sc_subst.specs.Parts.{seen_arguments, seen_list}
 use Rattle.sc_subst.specs.Seen.{seen_hidden}
@@ -182,20 +182,28 @@ module _ {P : Type 0} where
       e ∙ (ap (λ ls. done ++ begun_with front ls) (step_onto (role_of t.spelling) c d t (λ c d. parted c d ts) apart_not)
       ∙ ap (λ ls. done ++ ls) (begun_with-onto front t (parted c (depth_behind (role_of t.spelling) d) ts)))
 
-  -- at the end that argument is the last
-  pub parted_end : (all done : List (List (Hidden P))) (front : List (Hidden P)) (c d : ℕ) → all ≡ done ++ begun_with front (parted c d []) → all ≡ done ++ front ∷ []
-  parted_end all done front c d e = e ∙ ap (λ l. done ++ l ∷ []) (append-nil front)
+module _ {A : Type 0} where
+  -- what stands from one index on, up to another
+  pub between-drop_take : (from to : ℕ) (xs : List A) → from ≤ to → take (to - from) (drop from xs) ≡ drop from (take to xs)
+  between-drop_take from to xs ordered =
+      let whole : from + (to - from) ≡ to = omega (arith, ordered) in
+      sym (drop-take from (to - from) xs) ∙ ap (λ n. drop from (take n xs)) whole
+
+  -- one item more
+  pub drop_take-more : (from index : ℕ) (xs : List A) (x : A) → from ≤ index → slice_get xs index ≡ Some x → drop from (take (index + 1) xs) ≡ drop from (take index xs) ++ x ∷ []
+  drop_take-more from index xs x ordered at =
+      let inside = slice_get_within xs index x at in
+      let long : from ≤ length (take index xs) = omega (arith, ordered, inside, length-take index xs) in
+      ap (drop from) (take_more xs index x inside ∙ ap (λ y. take index xs ++ y ∷ []) (get_or_from_slice_get xs index x x at)) ∙ drop-append-le from (take index xs) (x ∷ []) long
+
+  -- nothing stands from an index on, up to that index
+  pub drop_take-none : (index : ℕ) (xs : List A) → drop index (take index xs) ≡ []
+  drop_take-none index xs = drop_all index (take index xs) (omega (arith, length-take index xs))
 
 module _ (names : List (List ℕ)) (sets : List (List Name)) where
-  abbrev seen_vec : Vec declared.Hidden Global → List (Hidden Place)
-  seen_vec v = seen_list names sets v.items
-
   -- one argument more
-  pub seen_arguments-push : (made : List (Vec declared.Hidden Global)) (last : Vec declared.Hidden Global)
-      → seen_arguments names sets (map (λ a. a.items) (made ++ last ∷ [])) ≡ seen_arguments names sets (map (λ a. a.items) made) ++ seen_list names sets last.items ∷ []
-  seen_arguments-push made last =
-      let f : Vec declared.Hidden Global → List declared.Hidden = λ a. a.items in
-      ap (map (seen_list names sets)) (map-append f made (last ∷ [])) ∙ map-append (seen_list names sets) (map f made) (last.items ∷ [])
+  pub seen_arguments-push : (made : List (List declared.Hidden)) (last : List declared.Hidden) → seen_arguments names sets (made ++ last ∷ []) ≡ seen_arguments names sets made ++ seen_list names sets last ∷ []
+  seen_arguments-push made last = map-append (seen_list names sets) made (last ∷ [])
 
   -- one token more
   pub seen_list-push : (last : List declared.Hidden) (next : declared.Hidden) → seen_list names sets (last ++ next ∷ []) ≡ seen_list names sets last ++ seen_hidden names sets next ∷ []

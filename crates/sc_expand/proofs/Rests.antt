@@ -1,7 +1,7 @@
 -- What drops out of the frame on top, with all that is next for refused configurations alone, and
 -- what does not: no configuration that was not refused moves.
-use Rattle.std.proofs.Common.{◌≡◌, ℕ, ◌<◌, ◌-◌, ◌&&◌, Bool, true, false, true≢false, List, [], ◌∷◌, ◌++◌, All, drop, length, map, take, length-append, append-nil, Option, Some, None, slice_get, sum_by, refl, sym, ap, subst, ◌∙◌, arith, if◌then◌else◌}
-use Rattle.std.proofs.lemmas.List.Elements.{All-pop}
+use Rattle.std.proofs.Common.{◌≡◌, ℕ, zero, suc, ◌<◌, ◌-◌, ◌&&◌, Bool, true, false, true≢false, List, [], ◌∷◌, ◌++◌, All, drop, length, map, take, length-append, append-nil, Option, Some, None, slice_get, sum_by, refl, sym, ap, subst, ◌∙◌, arith, if◌then◌else◌}
+use Rattle.std.proofs.lemmas.List.Elements.{All-head, All-pop, All-tail}
 use Rattle.std.proofs.lemmas.List.Sums.{sum_by-append}
 use Rattle.c11_macros.specs.Hidden.{Provenance}
 use Rattle.c11_macros.specs.Macros.{Macros}
@@ -11,7 +11,7 @@ use Rattle.sc_expand.proofs.AlikeLemmas.{All-at, All-but-tail, IsAlikeExpansion-
 use Rattle.sc_expand.proofs.BottomLemmas.{behind-Keeps, behind-other, bottom-held, bottom-less, bottom-same}
 use Rattle.sc_expand.proofs.MachineCalls.{calls_at-append, leave-other}
 use Rattle.sc_expand.proofs.MachineLemmas.{Stands-Grows, state_in-Grows}
-use Rattle.sc_expand.proofs.SeenLemmas.{AreHeld-tail, IsHeldExpansion-Grows, at-Grows}
+use Rattle.sc_expand.proofs.SeenLemmas.{AreHeld-tail, Grows-refl, IsHeldExpansion-Grows, at-Grows}
 use Rattle.sc_expand.proofs.UnchangedLemmas.{drops-first, drops-nothing, drops-then, never-empty, not-both}
 use Rattle.sc_expand.specs.Alike.{AreAlikeRefusals, IsAlikeCall, IsAlikeEnclosing, IsAlikeFrame, others_at}
 use Rattle.sc_expand.specs.Having.{behind_at}
@@ -265,6 +265,21 @@ rested-then {old} {mid} {new} {one} {two} {three} grows a b = record {
       let still : mid.sets.has two.refusals.live.0 c ≡ true = ap (λ r. mid.sets.has r.live.0 c) a.refusals ∙ (grows.sets.at one.refusals.live.0 c held.refusals.live p ∙ live) in
       b.rest files c (a.held files held) (IsConfig-Keeps grows.sets p) still ∙ a.rest files c held p live;
 }
+
+abbrev with_work : Expansion → List (Cond × Hidden) → Expansion
+with_work e work = record e { top = record e.top { work = work } }
+
+-- first tokens that all stand under one condition
+module _ (st : Stores) (e : Expansion) (cond : Cond) (never : (c : List ℕ) → IsConfig st.sets.arities c → st.sets.has cond.0 c ≡ true → st.sets.has e.refusals.live.0 c ≡ true → ⊥) where
+  pub rested-tokens : (n : ℕ) (work : List (Cond × Hidden)) → All (λ (item : Cond × Hidden). item.0 ≡ cond) (take n work) → IsRested st st (with_work e work) (with_work e (drop n work))
+  rested-tokens zero work same = rested-Grows (Grows-refl st) (with_work e work)
+  rested-tokens (suc n) [] same = rested-Grows (Grows-refl st) (with_work e [])
+  rested-tokens (suc n) (item ∷ work) same =
+      let Same : Cond × Hidden → Type 0 = λ x. x.0 ≡ cond in
+      let is : item.0 ≡ cond = All-head Same item (take n work) same in
+      rested-then (Grows-refl st)
+      (rested-token st (with_work e (item ∷ work)) (with_work e work) refl refl item (λ c listed has. never c listed (subst (λ (x : Cond). st.sets.has x.0 c ≡ true) is has)) refl refl refl refl)
+      (rested-tokens n work (All-tail Same item (take n work) same))
 
 -- ---- it grows lighter
 

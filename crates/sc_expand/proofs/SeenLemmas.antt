@@ -96,8 +96,8 @@ module _ {old new : Stores} (grows : Grows old new) where
     head = token-Grows call.head held.head;
     hide = IsHeldSet-Extends call.hide.0 held.hide grows.names grows.hides;
     template = template-Grows files call.template held.template;
-    wanted = All-weaker (λ (w : Wanted). All (IsHeldToken old files) w.tokens.items) (λ w. All (IsHeldToken new files) w.tokens.items)
-        (λ w own. All-weaker (IsHeldToken old files) (IsHeldToken new files) (λ h own. token-Grows h own) w.tokens.items own) call.wanted.items held.wanted;
+    wanted = All-weaker (λ (w : Wanted). All (IsHeldToken old files) w.tokens) (λ w. All (IsHeldToken new files) w.tokens)
+        (λ w own. All-weaker (IsHeldToken old files) (IsHeldToken new files) (λ h own. token-Grows h own) w.tokens own) call.wanted.items held.wanted;
     expanded = All-weaker (AreHeld old files) (AreHeld new files) (λ list own. AreHeld-Grows list own) call.expanded.items held.expanded;
   }
 
@@ -145,8 +145,8 @@ module _ {old new : Stores} (grows : Grows old new) where
         by true false is same rest = absurd (cc)
         by false true is same rest = absurd (cc)
 
-    wanted-Grows : {files : ℕ} (w : Wanted) → All (IsHeldToken old files) w.tokens.items → seen_wanted new w ≡ seen_wanted old w
-    wanted-Grows {files} w held = ap (λ list. (w.parameter, list)) (same-map (IsHeldToken old files) (seen_hidden new.names new.hides) (seen_hidden old.names old.hides) (λ h own. seen_hidden-Grows h own) w.tokens.items held)
+    wanted-Grows : {files : ℕ} (w : Wanted) → All (IsHeldToken old files) w.tokens → seen_wanted new w ≡ seen_wanted old w
+    wanted-Grows {files} w held = ap (λ list. (w.parameter, list)) (same-map (IsHeldToken old files) (seen_hidden new.names new.hides) (seen_hidden old.names old.hides) (λ h own. seen_hidden-Grows h own) w.tokens held)
 
     seen_template-Grows : (files : ℕ) (place : Place) (template : Template) → IsHeldTemplate old files template → seen_template new place template ≡ seen_template old place template
     seen_template-Grows files place (Parts parts) held = ap (λ slots. Ok slots) (seen_parts-Grows files parts.items held)
@@ -156,8 +156,8 @@ module _ {old new : Stores} (grows : Grows old new) where
     waiting_at-Grows {files} call held =
         let head = seen_hidden-Grows call.head held.head in
         let template = seen_template-Grows files call.head.token.place call.template held.template in
-        let wanted = same-map (λ (w : Wanted). All (IsHeldToken old files) w.tokens.items) (seen_wanted new) (seen_wanted old) (λ w own. wanted-Grows w own) (reverse call.wanted.items)
-        (All-back (λ (w : Wanted). All (IsHeldToken old files) w.tokens.items) call.wanted.items held.wanted) in
+        let wanted = same-map (λ (w : Wanted). All (IsHeldToken old files) w.tokens) (seen_wanted new) (seen_wanted old) (λ w own. wanted-Grows w own) (reverse call.wanted.items)
+        (All-back (λ (w : Wanted). All (IsHeldToken old files) w.tokens) call.wanted.items held.wanted) in
         let expanded = same-map (AreHeld old files) (λ list. seen_at new list c) (λ list. seen_at old list c) (λ list own. seen_at-Grows list own) call.expanded.items held.expanded in
         let names = hide_later call.hide.0 held.hide grows.names grows.hides in
         record_same head template wanted expanded names

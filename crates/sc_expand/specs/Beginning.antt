@@ -28,7 +28,7 @@ token_at list other place = (slice_index_or list place other).1
 
 -- a parameter and its argument
 abbrev pub tokens_of : Wanted → ℕ × List Hidden
-tokens_of w = (w.parameter, w.tokens.items)
+tokens_of w = (w.parameter, w.tokens)
 
 abbrev pub with_argument : List (List Hidden) → ℕ → ℕ × List Hidden
 with_argument raw n = (n, argument raw n)

@@ -20,3 +20,4 @@ pub mod Alike
 pub mod FootprintSteps
 pub mod Footprints
 pub mod CallStops
+pub mod WorkLists

@@ -66,7 +66,7 @@ seen_template st place (Parts parts) = Ok (map (seen_part st.names st.hides) par
 seen_template st place (Refused cause) = Err (record { cause = cause; place = place })
 
 abbrev pub seen_wanted : Stores → Wanted → ℕ × List (model.Hidden Place)
-seen_wanted st w = (w.parameter, seen_list st.names st.hides w.tokens.items)
+seen_wanted st w = (w.parameter, seen_list st.names st.hides w.tokens)
 
 -- the call as it waits at a configuration; its next argument stands last
 abbrev pub waiting_at : Stores → Call → List ℕ → Waiting Place
@@ -96,7 +96,7 @@ pub record IsHeldCall (st : Stores) (files : ℕ) (call : Call) : Type 0 where
   pub head : IsHeldToken st files call.head
   pub hide : IsHeldSet st.names st.hides call.hide.0
   pub template : IsHeldTemplate st files call.template
-  pub wanted : All (λ w. All (IsHeldToken st files) w.tokens.items) call.wanted.items
+  pub wanted : All (λ w. All (IsHeldToken st files) w.tokens) call.wanted.items
   pub expanded : All (AreHeld st files) call.expanded.items
 
 -- ---- frames

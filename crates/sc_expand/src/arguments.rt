@@ -1,5 +1,5 @@
 //! The arguments of a call (C11 6.10.3p4, p10 to p12).
-ghost use Rattle.std.specs.Prelude.{◌≡◌, ℕ, zero, ◌+◌, ◌^◌, ◌<◌, ◌≤◌, ◌↔◌, ◌++◌, ◌∷◌, [], Bool, List, All, map, length, IsTrue, IfOk, IfSome, OnOk};
+ghost use Rattle.std.specs.Prelude.{◌≡◌, ℕ, zero, ◌+◌, ◌^◌, ◌<◌, ◌≤◌, ◌↔◌, ◌++◌, ◌∷◌, [], Bool, List, All, Some, length, slice_get, IsTrue, IfOk, IfSome, OnOk};
 ghost use Rattle.std.specs.Option.{option_map};
 ghost use Rattle.c11_macros.specs.Call as call;
 ghost use Rattle.c11_macros.specs.Call.{arguments_for};
@@ -10,14 +10,15 @@ ghost use Rattle.sc_base.specs.declared.place.Place as declared_place;
 ghost use Rattle.c11_macros.specs.Hidden as hidden;
 ghost use Rattle.sc_expand.specs.Arguments as model;
 ghost use Rattle.sc_expand.specs.Arguments.{IsParting, seen_role};
-ghost use Rattle.sc_expand.specs.Parting.{AreHeldIn, parted_with};
+ghost use Rattle.sc_expand.specs.Parting.{parted_with};
+ghost use Rattle.sc_subst.specs.declared.hidden.Hidden as declared_hidden;
 ghost use Rattle.sc_subst.specs.Parts.{seen_arguments, seen_list};
 ghost use Rattle.sc_subst.specs.Seen.{IsHeldHidden, seen_hidden};
 
 use crate::role::{Role, role_of};
 use sc_base::{Names, OutOfMemory};
 use sc_macro::Form;
-use sc_subst::Hidden;
+use sc_subst::Tokens;
 use std::alloc::Global;
 
 /// The arguments of a call of a function-like macro, by the tokens between its parentheses: one for
@@ -25,14 +26,14 @@ use std::alloc::Global;
 pub fn arguments(
     alloc: Global,
     names: &Names,
-    between: &[Hidden],
+    between: &Tokens,
     form: &Form,
-) -> Result<Option<Vec<Vec<Hidden>>>, OutOfMemory>
+) -> Result<Option<Vec<Tokens>>, OutOfMemory>
     requires { All (λ h. h.token.spelling.0 < length names.now) between.now }
     ensures is { IfOk result (λ fit. (sets : List (List declared_name.Name)) (parameters : List (List ℕ)) (variadic : Bool) → seen_form names.now form.now ≡ function_like parameters variadic
-        → option_map (λ made. seen_arguments names.now sets (map (λ a. a.items) made.items)) fit ≡ arguments_for parameters variadic (model.parted (length parameters) 0 (seen_list names.now sets between.now))) }
+        → option_map (λ made. seen_arguments names.now sets made.items) fit ≡ arguments_for parameters variadic (model.parted (length parameters) 0 (seen_list names.now sets between.now))) }
     ensures own { IfOk result (λ fit. (sets : List (List declared_name.Name)) → All (IsHeldHidden names.now sets) between.now
-        → IfSome fit (λ made. All (λ a. All (IsHeldHidden names.now sets) a.items) made.items)) }
+        → IfSome fit (λ made. All (All (IsHeldHidden names.now sets)) made.items)) }
 {
     match form {
         Form::Object => Ok(None),
@@ -50,22 +51,22 @@ pub fn arguments(
 /// The arguments for so many parameters, where so many are given. None need be given for `...`.
 fn fitted(
     alloc: Global,
-    given: Vec<Vec<Hidden>>,
+    given: Vec<Tokens>,
     parameters: usize,
     variadic: bool,
-) -> Result<Option<Vec<Vec<Hidden>>>, OutOfMemory>
+) -> Result<Option<Vec<Tokens>>, OutOfMemory>
     requires { parameters + 1 < 2 ^ 64 }
     ensures is { IfOk result (λ fit. (names : List (List ℕ)) (sets : List (List declared_name.Name)) (texts : List (List ℕ)) → length texts ≡ parameters
-        → option_map (λ made. seen_arguments names sets (map (λ a. a.items) made.items)) fit ≡ arguments_for texts variadic (seen_arguments names sets (map (λ a. a.items) given.items))) }
-    ensures own { IfOk result (λ fit. (names : List (List ℕ)) (sets : List (List declared_name.Name)) → All (λ a. All (IsHeldHidden names sets) a.items) given.items
-        → IfSome fit (λ made. All (λ a. All (IsHeldHidden names sets) a.items) made.items)) }
+        → option_map (λ made. seen_arguments names sets made.items) fit ≡ arguments_for texts variadic (seen_arguments names sets given.items)) }
+    ensures own { IfOk result (λ fit. (names : List (List ℕ)) (sets : List (List declared_name.Name)) → All (All (IsHeldHidden names sets)) given.items
+        → IfSome fit (λ made. All (All (IsHeldHidden names sets)) made.items)) }
 {
     if parameters == 0 && !variadic && is_nothing(&given) {
         return Ok(Some(Vec::new(alloc)));
     }
     if variadic && given.len() == parameters {
         let mut all = given;
-        all.push(Vec::new(alloc))?;
+        all.push(Tokens::of(alloc, Vec::new(alloc))?)?;
         return Ok(Some(all));
     }
     if given.len() == parameters || (variadic && given.len() == parameters + 1) {
@@ -75,11 +76,11 @@ fn fitted(
 }
 
 /// Whether nothing stands between the parentheses.
-fn is_nothing(given: &[Vec<Hidden>]) -> bool
-    ensures { (names : List (List ℕ)) (sets : List (List declared_name.Name)) → result ≡ call.is_nothing (seen_arguments names sets (map (λ a. a.items) given.now)) }
+fn is_nothing(given: &[Tokens]) -> bool
+    ensures { (names : List (List ℕ)) (sets : List (List declared_name.Name)) → result ≡ call.is_nothing (seen_arguments names sets given.now) }
 {
     match given {
-        [only] => only.is_empty(),
+        [only] => only.as_slice().is_empty(),
         _ => false,
     }
 }
@@ -87,9 +88,9 @@ fn is_nothing(given: &[Vec<Hidden>]) -> bool
 /// Tokens between the parentheses of a call, as far as they are parted.
 #[derive(Drop)]
 pub struct Parting {
-    pub arguments: Vec<Vec<Hidden>>,
-    /// The argument that the next token may belong to.
-    pub last: Vec<Hidden>,
+    pub arguments: Vec<Tokens>,
+    /// Where the argument begins that the next token may belong to.
+    pub begin: usize,
     /// How many commas may still part arguments.
     pub commas: usize,
     /// How many inner parentheses are open.
@@ -100,56 +101,65 @@ pub struct Parting {
 pub fn parted(
     alloc: Global,
     names: &Names,
-    between: &[Hidden],
+    between: &Tokens,
     commas: usize,
-) -> Result<Vec<Vec<Hidden>>, OutOfMemory>
+) -> Result<Vec<Tokens>, OutOfMemory>
     requires { All (λ h. h.token.spelling.0 < length names.now) between.now }
-    ensures is { IfOk result (λ made. (sets : List (List declared_name.Name)) → seen_arguments names.now sets (map (λ a. a.items) made.items) ≡ model.parted commas 0 (seen_list names.now sets between.now)) }
-    ensures own { IfOk result (λ made. (sets : List (List declared_name.Name)) → All (IsHeldHidden names.now sets) between.now → All (λ a. All (IsHeldHidden names.now sets) a.items) made.items) }
+    ensures is { IfOk result (λ made. (sets : List (List declared_name.Name)) → seen_arguments names.now sets made.items ≡ model.parted commas 0 (seen_list names.now sets between.now)) }
+    ensures own { IfOk result (λ made. (sets : List (List declared_name.Name)) → All (IsHeldHidden names.now sets) between.now → All (All (IsHeldHidden names.now sets)) made.items) }
 {
     let mut parting = Parting {
         arguments: Vec::new(alloc),
-        last: Vec::new(alloc),
+        begin: 0,
         commas,
         depth: 0,
     };
-    for hidden in between {
-        parting.take(alloc, names, *hidden)?;
+    for index in 0..between.len() {
+        parting.take(names, between, index)?;
     }
-    let arguments = parting.finish()?;
+    let arguments = parting.finish(between)?;
     Ok(arguments)
 }
 
 impl Parting {
-    /// The next token parts two arguments, or belongs to one.
-    fn take(&mut self, alloc: Global, names: &Names, next: Hidden) -> Result<(), OutOfMemory>
-        requires name { next.token.spelling.0 < length names.now }
+    /// The token of an index parts two arguments, or belongs to one.
+    fn take(&mut self, names: &Names, between: &Tokens, index: usize) -> Result<(), OutOfMemory>
+        requires index { index < length between.now }
+        requires begin { self.old.begin ≤ index }
+        requires names { All (λ h. h.token.spelling.0 < length names.now) between.now }
         requires deep { self.old.depth + 1 < 2 ^ 64 }
-        ensures is { OnOk result ((sets : List (List declared_name.Name)) (rest : List (hidden.Hidden declared_place.Place))
-            → parted_with names.now sets self.old (seen_hidden names.now sets next ∷ rest) ≡ parted_with names.now sets self.new rest) }
-        ensures own { OnOk result ((sets : List (List declared_name.Name)) → IsHeldHidden names.now sets next → AreHeldIn names.now sets self.old → AreHeldIn names.now sets self.new) }
+        ensures is { OnOk result ((sets : List (List declared_name.Name)) (next : declared_hidden.Hidden) (rest : List (hidden.Hidden declared_place.Place)) → slice_get between.now index ≡ Some next
+            → parted_with names.now sets between.now index self.old (seen_hidden names.now sets next ∷ rest) ≡ parted_with names.now sets between.now (index + 1) self.new rest) }
+        ensures own { OnOk result ((sets : List (List declared_name.Name)) → All (IsHeldHidden names.now sets) between.now
+            → All (All (IsHeldHidden names.now sets)) self.old.arguments.items → All (All (IsHeldHidden names.now sets)) self.new.arguments.items) }
+        ensures begin { OnOk result (self.new.begin ≤ index + 1) }
         ensures deep { OnOk result (self.new.depth ≤ self.old.depth + 1) }
     {
-        let role = role_of(names, next.token.spelling);
+        // so the next index fits its type
+        prove!(index < between.len());
+        let role = role_of(names, between.get(index).token.spelling);
         if parts(role, self.commas, self.depth) {
-            self.arguments
-                .push(std::mem::replace(&mut self.last, Vec::new(alloc)))?;
+            let argument = between.share(self.begin, index)?;
+            self.arguments.push(argument)?;
+            self.begin = index + 1;
             self.commas -= 1;
             Ok(())
         } else {
-            self.last.push(next)?;
             self.depth = depth_behind(role, self.depth);
             Ok(())
         }
     }
 
     /// The arguments, once all tokens were taken.
-    fn finish(self) -> Result<Vec<Vec<Hidden>>, OutOfMemory>
-        ensures is { IfOk result (λ made. (names : List (List ℕ)) (sets : List (List declared_name.Name)) → seen_arguments names sets (map (λ a. a.items) made.items) ≡ parted_with names sets self []) }
-        ensures own { IfOk result (λ made. (names : List (List ℕ)) (sets : List (List declared_name.Name)) → AreHeldIn names sets self → All (λ a. All (IsHeldHidden names sets) a.items) made.items) }
+    fn finish(self, between: &Tokens) -> Result<Vec<Tokens>, OutOfMemory>
+        requires { self.begin ≤ length between.now }
+        ensures is { IfOk result (λ made. (names : List (List ℕ)) (sets : List (List declared_name.Name)) → seen_arguments names sets made.items ≡ parted_with names sets between.now (length between.now) self []) }
+        ensures own { IfOk result (λ made. (names : List (List ℕ)) (sets : List (List declared_name.Name)) → All (IsHeldHidden names sets) between.now
+            → All (All (IsHeldHidden names sets)) self.arguments.items → All (All (IsHeldHidden names sets)) made.items) }
     {
+        let last = between.share(self.begin, between.len())?;
         let mut arguments = self.arguments;
-        arguments.push(self.last)?;
+        arguments.push(last)?;
         Ok(arguments)
     }
 }

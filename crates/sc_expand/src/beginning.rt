@@ -1,5 +1,5 @@
 //! How a call begins: what replaces it but for its arguments, and which of these are wanted.
-ghost use Rattle.std.specs.Prelude.{◌≡◌, ◌<◌, ◌≤◌, ℕ, ◌&&◌, ◌||◌, ◌++◌, ◌∷◌, [], Bool, true, false, List, Result, Ok, Err, All, map, drop, if◌then◌else◌, reverse, length, IfOk, IfSome, IfNone, OnOk, take};
+ghost use Rattle.std.specs.Prelude.{◌≡◌, ◌+◌, ◌<◌, ◌≤◌, ℕ, ◌&&◌, ◌||◌, ◌++◌, ◌∷◌, [], Bool, true, false, List, Result, Ok, Err, Some, All, map, drop, if◌then◌else◌, reverse, length, slice_get, IfOk, IfSome, IfNone, OnOk, take};
 ghost use Rattle.c11_macros.specs.Hidden as model;
 ghost use Rattle.c11_macros.specs.Hidden.{Failure, HideSet, Provenance, failure_at, meet, with_name};
 ghost use Rattle.c11_macros.specs.Expansion.{call_result, list_of};
@@ -29,7 +29,7 @@ use sc_base::{Cause, Cond, Names, OutOfMemory, Place};
 use sc_guarded::Guarded;
 use sc_macro::{Form, Item};
 use sc_presence::Conditions;
-use sc_subst::{Hidden, Hide, HideSets, SubstStop, expanded_parameters, template};
+use sc_subst::{Hidden, Hide, HideSets, SubstStop, Tokens, expanded_parameters, template};
 use std::alloc::Global;
 
 /// What replaces a call but for the arguments that are expanded alone, or `None` where a `#` of the
@@ -40,19 +40,19 @@ fn template_of(
     names: &mut Names,
     form: &Form,
     items: &[Item],
-    raw: &[Vec<Hidden>],
+    raw: &[Tokens],
     place: Place,
 ) -> Result<Option<Template>, OutOfMemory>
     requires form { IsHeldForm names.old form.now }
     requires items { All (IsHeldItem names.old) items.now }
-    requires raw { AreHeldArguments names.old sets.old (map (λ a. a.items) raw.now) }
+    requires raw { AreHeldArguments names.old sets.old raw.now }
     ensures some { IfOk result (λ made. IfSome made (λ template. Lasting names.new sets.new (λ names sets. IsTemplateOf names sets (seen_form names form.now) (map (seen_item names) items.now)
-        (seen_arguments names sets (map (λ a. a.items) raw.now)) place template))) }
-    ensures held { IfOk result (λ made. IfSome made (λ template. (s : Sets) (files : ℕ) → place.file.0 < files → All (λ a. All (λ h. h.token.place.file.0 < files) a.items) raw.now
+        (seen_arguments names sets raw.now) place template))) }
+    ensures held { IfOk result (λ made. IfSome made (λ template. (s : Sets) (files : ℕ) → place.file.0 < files → All (All (λ h. h.token.place.file.0 < files)) raw.now
         → IsHeldTemplate (stores s names.new sets.new) files template)) }
     ensures none { IfOk result (λ made. IfNone made (Lasting names.new sets.new (λ names sets. (head : model.Hidden declared_place.Place) (results : List (Result (List (model.Hidden declared_place.Place)) (Failure declared_place.Place)))
         (provenance : Provenance declared_place.Place) (hidden : HideSet) → head.place ≡ place
-        → substituted provenance (seen_form names form.now) (map (seen_item names) items.now) head (seen_arguments names sets (map (λ a. a.items) raw.now)) results hidden ≡ Err (failure_at BadStringize head)))) }
+        → substituted provenance (seen_form names form.now) (map (seen_item names) items.now) head (seen_arguments names sets raw.now) results hidden ≡ Err (failure_at BadStringize head)))) }
 
     // at every outcome
     ensures names { Extends names.old names.new }
@@ -109,12 +109,12 @@ fn wanted_of_list(
     names: &Names,
     form: &Form,
     items: &[Item],
-    raw: &[Vec<Hidden>],
+    raw: &[Tokens],
 ) -> Result<Vec<Wanted>, OutOfMemory>
     requires form { IsHeldForm names.now form.now }
     requires items { All (IsHeldItem names.now) items.now }
-    ensures is { IfOk result (λ made. map tokens_of (reverse made.items) ≡ map (with_argument (map (λ a. a.items) raw.now)) (wanted_of (seen_form names.now form.now) (map (seen_item names.now) items.now))) }
-    ensures own { IfOk result (λ made. (st : Stores) (files : ℕ) → All (λ a. All (IsHeldToken st files) a.items) raw.now → All (λ w. All (IsHeldToken st files) w.tokens.items) made.items) }
+    ensures is { IfOk result (λ made. map tokens_of (reverse made.items) ≡ map (with_argument raw.now) (wanted_of (seen_form names.now form.now) (map (seen_item names.now) items.now))) }
+    ensures own { IfOk result (λ made. (st : Stores) (files : ℕ) → All (All (IsHeldToken st files)) raw.now → All (λ w. All (IsHeldToken st files) w.tokens) made.items) }
 {
     let parameters = expanded_parameters(alloc, names, form, items)?;
     let wanted = wanted_arguments(alloc, &parameters, raw)?;
@@ -125,10 +125,10 @@ fn wanted_of_list(
 fn wanted_arguments(
     alloc: Global,
     wanted: &[usize],
-    raw: &[Vec<Hidden>],
+    raw: &[Tokens],
 ) -> Result<Vec<Wanted>, OutOfMemory>
-    ensures is { IfOk result (λ made. map tokens_of (reverse made.items) ≡ map (with_argument (map (λ a. a.items) raw.now)) wanted.now) }
-    ensures own { IfOk result (λ made. (st : Stores) (files : ℕ) → All (λ a. All (IsHeldToken st files) a.items) raw.now → All (λ w. All (IsHeldToken st files) w.tokens.items) made.items) }
+    ensures is { IfOk result (λ made. map tokens_of (reverse made.items) ≡ map (with_argument raw.now) wanted.now) }
+    ensures own { IfOk result (λ made. (st : Stores) (files : ℕ) → All (All (IsHeldToken st files)) raw.now → All (λ w. All (IsHeldToken st files) w.tokens) made.items) }
 {
     let mut made = Vec::new(alloc);
     for index in (0..wanted.len()).rev() {
@@ -140,19 +140,15 @@ fn wanted_arguments(
 }
 
 /// The argument for a parameter.
-fn argument_for(
-    alloc: Global,
-    parameter: usize,
-    raw: &[Vec<Hidden>],
-) -> Result<Vec<Hidden>, OutOfMemory>
-    ensures is { IfOk result (λ made. made.items ≡ argument (map (λ a. a.items) raw.now) parameter) }
-    ensures own { IfOk result (λ made. (st : Stores) (files : ℕ) → All (λ a. All (IsHeldToken st files) a.items) raw.now → All (IsHeldToken st files) made.items) }
+fn argument_for(alloc: Global, parameter: usize, raw: &[Tokens]) -> Result<Tokens, OutOfMemory>
+    ensures is { IfOk result (λ made. made ≡ argument raw.now parameter) }
+    ensures own { IfOk result (λ made. (st : Stores) (files : ℕ) → All (All (IsHeldToken st files)) raw.now → All (IsHeldToken st files) made) }
 {
     if parameter < raw.len() {
-        let list = Vec::from_slice(alloc, &raw[parameter])?;
-        return Ok(list);
+        let list = &raw[parameter];
+        return list.share(0, list.len());
     }
-    Ok(Vec::new(alloc))
+    Tokens::of(alloc, Vec::new(alloc))
 }
 
 /// A list without items for each argument.
@@ -167,12 +163,42 @@ fn unexpanded(alloc: Global, count: usize) -> Result<Vec<Guarded<Hidden>>, OutOf
     Ok(made)
 }
 
-/// The tokens at these indexes of a list.
-pub fn tokens_at(
+/// The tokens at these indexes of a list, which has them under a condition.
+pub fn between(
     alloc: Global,
     list: &WorkList,
+    cond: Cond,
     places: &[usize],
-) -> Result<Vec<Hidden>, OutOfMemory>
+) -> Result<Tokens, OutOfMemory>
+    requires { All (λ place. place < length list.now) places.now }
+    ensures { IfOk result (λ made. (other : declared_cond.Cond × declared_hidden.Hidden) → made ≡ map (token_at list.now other) places.now) }
+{
+    if let Some(tokens) = list.all_under(cond) {
+        if let [first, ..] = places
+            && are_consecutive(places, *first)
+        {
+            list.is_small();
+            return tokens.share(*first, *first + places.len());
+        }
+    }
+    let tokens = tokens_at(alloc, list, places)?;
+    Tokens::of(alloc, tokens)
+}
+
+/// Whether these are the indexes from the first on, one after the other.
+fn are_consecutive(places: &[usize], first: usize) -> bool
+    ensures { result ≡ true → (index place : ℕ) → slice_get places.now index ≡ Some place → place ≡ first + index }
+{
+    for index in 0..places.len() {
+        if places[index] < index || places[index] - index != first {
+            return false;
+        }
+    }
+    true
+}
+
+/// The tokens at these indexes of a list.
+fn tokens_at(alloc: Global, list: &WorkList, places: &[usize]) -> Result<Vec<Hidden>, OutOfMemory>
     requires { All (λ place. place < length list.now) places.now }
     ensures { IfOk result (λ made. (other : declared_cond.Cond × declared_hidden.Hidden) → made.items ≡ map (token_at list.now other) places.now) }
 {
@@ -225,19 +251,19 @@ pub fn begin_call(
     items: &[Item],
     head: Hidden,
     close: Hidden,
-    raw: &[Vec<Hidden>],
+    raw: &[Tokens],
 ) -> Result<Option<Call>, OutOfMemory>
     requires form { IsHeldForm names.old form.now }
     requires items { All (IsHeldItem names.old) items.now }
     requires head { IsHeldHidden names.old sets.old head }
     requires close { IsHeldHidden names.old sets.old close }
-    requires raw { AreHeldArguments names.old sets.old (map (λ a. a.items) raw.now) }
-    ensures some { IfOk result (λ made. IfSome made (λ call. Begins names.new sets.new (seen_form names.new form.now) (map (seen_item names.new) items.now) cond head close (map (λ a. a.items) raw.now) call)) }
+    requires raw { AreHeldArguments names.old sets.old raw.now }
+    ensures some { IfOk result (λ made. IfSome made (λ call. Begins names.new sets.new (seen_form names.new form.now) (map (seen_item names.new) items.now) cond head close raw.now call)) }
     ensures held { IfOk result (λ made. IfSome made (λ call. (s : Sets) (files : ℕ) → IsCond s cond.0 → IsHeldToken (stores s names.old sets.old) files head
-        → All (λ a. All (IsHeldToken (stores s names.old sets.old) files) a.items) raw.now → IsHeldCall (stores s names.new sets.new) files call)) }
+        → All (All (IsHeldToken (stores s names.old sets.old) files)) raw.now → IsHeldCall (stores s names.new sets.new) files call)) }
     ensures none { IfOk result (λ made. IfNone made ((at : model.Hidden declared_place.Place) (results : List (Result (List (model.Hidden declared_place.Place)) (Failure declared_place.Place)))
         (provenance : Provenance declared_place.Place) (hidden : HideSet) → at.place ≡ head.token.place
-        → substituted provenance (seen_form names.new form.now) (map (seen_item names.new) items.now) at (seen_arguments names.new sets.new (map (λ a. a.items) raw.now)) results hidden ≡ Err (failure_at BadStringize at))) }
+        → substituted provenance (seen_form names.new form.now) (map (seen_item names.new) items.now) at (seen_arguments names.new sets.new raw.now) results hidden ≡ Err (failure_at BadStringize at))) }
 
     // at every outcome
     ensures names { Extends names.old names.new }

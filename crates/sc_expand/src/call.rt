@@ -1,6 +1,6 @@
 use sc_base::{Cause, Cond};
 use sc_guarded::Guarded;
-use sc_subst::{Hidden, Hide, Part};
+use sc_subst::{Hidden, Hide, Part, Tokens};
 
 /// A call of a function-like macro that has left the list, in the configurations of a condition.
 /// Its arguments are expanded one after the other before it is replaced.
@@ -30,5 +30,5 @@ pub enum Template {
 #[derive(Drop)]
 pub struct Wanted {
     pub parameter: usize,
-    pub tokens: Vec<Hidden>,
+    pub tokens: Tokens,
 }

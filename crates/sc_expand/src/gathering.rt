@@ -23,13 +23,13 @@ ghost use Rattle.sc_subst.specs.Parts.{AreHeldArguments, seen_arguments, seen_li
 ghost use Rattle.sc_subst.specs.Seen.{IsHeldHidden, seen_hidden};
 
 use crate::arguments::arguments;
-use crate::beginning::{begin_call, take_out, tokens_at};
+use crate::beginning::{begin_call, between, take_out};
 use crate::expansion::Expansion;
 use sc_base::{Cause, Cond, Files, Names, OutOfMemory, Stop};
 use sc_hoist::{Branch, closed_calls, find_calls};
 use sc_macro::{Definition, Form, Item};
 use sc_presence::Conditions;
-use sc_subst::{Hidden, items_at};
+use sc_subst::{Hidden, Tokens, items_at};
 
 impl Expansion {
     /// Takes the calls of a function-like macro whose name stands first out of the list, a branch
@@ -103,7 +103,7 @@ impl Expansion {
 /// The tokens of a call behind its opening parenthesis.
 #[derive(Drop)]
 pub struct CallTokens {
-    pub between: Vec<Hidden>,
+    pub between: Tokens,
     pub close: Hidden,
 }
 
@@ -199,9 +199,9 @@ impl Expansion {
         requires held { (files : ℕ) × IsHeldExpansion (stores (C.sets conds.old) names.now self.old.sets) files self.old }
         requires branch { IsBranch (stores (C.sets conds.old) names.now self.old.sets) self.old branch.now }
         ensures call { IfOk result (λ call. (c : List ℕ) → IsConfig (C.sets conds.old).arities c → (C.sets conds.old).has branch.now.cond.0 c ≡ true
-            → IsCall (seen_at (stores (C.sets conds.old) names.now self.old.sets) (drop 1 self.old.top.work) c) (seen_list names.now self.old.sets call.between.items) (seen_hidden names.now self.old.sets call.close)
+            → IsCall (seen_at (stores (C.sets conds.old) names.now self.old.sets) (drop 1 self.old.top.work) c) (seen_list names.now self.old.sets call.between) (seen_hidden names.now self.old.sets call.close)
             (seen_at (stores (C.sets conds.new) names.now self.new.sets) self.new.top.work c)) }
-        ensures own { IfOk result (λ call. (files : ℕ) → AreHeld (stores (C.sets conds.old) names.now self.old.sets) files self.old.top.work → All (IsHeldToken (stores (C.sets conds.old) names.now self.old.sets) files) (call.close ∷ call.between.items)) }
+        ensures own { IfOk result (λ call. (files : ℕ) → AreHeld (stores (C.sets conds.old) names.now self.old.sets) files self.old.top.work → All (IsHeldToken (stores (C.sets conds.old) names.now self.old.sets) files) (call.close ∷ call.between)) }
         ensures held { OnOk result ((files : ℕ) → AreHeld (stores (C.sets conds.old) names.now self.old.sets) files self.old.top.work → AreHeld (stores (C.sets conds.new) names.now self.new.sets) files self.new.top.work) }
         ensures others { OnOk result ((c : List ℕ) → IsConfig (C.sets conds.old).arities c → (C.sets conds.old).has branch.now.cond.0 c ≡ false
             → (seen_at (stores (C.sets conds.new) names.now self.new.sets) self.new.top.work c ≡ seen_at (stores (C.sets conds.old) names.now self.old.sets) self.old.top.work c)
@@ -224,7 +224,12 @@ impl Expansion {
         self.top.work.is_small();
         let last = branch.places.len() - 1;
         let end = branch.places[last];
-        let between = tokens_at(self.alloc, &self.top.work, &branch.places[2..last])?;
+        let between = between(
+            self.alloc,
+            &self.top.work,
+            branch.cond,
+            &branch.places[2..last],
+        )?;
         let (_, close) = self.top.work.item(end);
         take_out(conds, &mut self.top.work, end + 1, branch.cond)?;
         Ok(CallTokens { between, close })
@@ -240,7 +245,7 @@ impl Expansion {
         items: &[Item],
         head: Hidden,
         close: Hidden,
-        raw: &[Vec<Hidden>],
+        raw: &[Tokens],
     ) -> Result<(), OutOfMemory>
         requires held { (files : ℕ) × IsHeldExpansion (stores (C.sets conds.old) names.old self.old.sets) files self.old }
         requires cond_own { IsCond (C.sets conds.old) cond.0 }
@@ -248,12 +253,12 @@ impl Expansion {
         requires items { All (IsHeldItem names.old) items.now }
         requires head { IsHeldHidden names.old self.old.sets head }
         requires close { IsHeldHidden names.old self.old.sets close }
-        requires raw { AreHeldArguments names.old self.old.sets (map (λ a. a.items) raw.now) }
+        requires raw { AreHeldArguments names.old self.old.sets raw.now }
         ensures held { OnOk result ((files : ℕ) → IsHeldExpansion (stores (C.sets conds.old) names.old self.old.sets) files self.old → IsHeldToken (stores (C.sets conds.old) names.old self.old.sets) files head
-            → All (λ a. All (IsHeldToken (stores (C.sets conds.old) names.old self.old.sets) files) a.items) raw.now → IsHeldExpansion (stores (C.sets conds.new) names.new self.new.sets) files self.new) }
+            → All (All (IsHeldToken (stores (C.sets conds.old) names.old self.old.sets) files)) raw.now → IsHeldExpansion (stores (C.sets conds.new) names.new self.new.sets) files self.new) }
         ensures begins { OnOk result ((c : List ℕ) (provenance : Provenance Place) (d : model_macros.Definition) → IsConfig (C.sets conds.old).arities c → (C.sets conds.old).has cond.0 c ≡ true
             → d.form ≡ seen_form names.new form.now → list_of provenance d (seen_hidden names.new self.new.sets head) ≡ map (seen_item names.new) items.now
-            → Begins provenance d (seen_hidden names.new self.new.sets head) (seen_hidden names.new self.new.sets close) (seen_arguments names.new self.new.sets (map (λ a. a.items) raw.now))
+            → Begins provenance d (seen_hidden names.new self.new.sets head) (seen_hidden names.new self.new.sets close) (seen_arguments names.new self.new.sets raw.now)
             (at (stores (C.sets conds.old) names.old self.old.sets) self.old c) (at (stores (C.sets conds.new) names.new self.new.sets) self.new c)) }
         ensures others { OnOk result ((c : List ℕ) → IsConfig (C.sets conds.old).arities c → (C.sets conds.old).has cond.0 c ≡ false
             → at (stores (C.sets conds.new) names.new self.new.sets) self.new c ≡ at (stores (C.sets conds.old) names.old self.old.sets) self.old c) }

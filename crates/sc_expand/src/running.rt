@@ -149,7 +149,7 @@ impl Expansion {
         if !conds.is_never(cond) {
             return Ok(false);
         }
-        self.top.work.drop_first();
+        self.top.work.drop_alike();
         Ok(true)
     }
 

@@ -18,7 +18,7 @@ use crate::work_list::WorkList;
 use sc_base::{Cond, Names, OutOfMemory};
 use sc_guarded::Guarded;
 use sc_presence::Conditions;
-use sc_subst::Hidden;
+use sc_subst::{Hidden, Tokens};
 use std::alloc::Global;
 use std::mem;
 
@@ -26,7 +26,7 @@ impl Expansion {
     /// An argument of a call that has left the list on top is expanded alone.
     pub fn enter(&mut self, call: Call, wanted: Wanted) -> Result<(), OutOfMemory>
         ensures below { OnOk result (self.new.below.items ≡ self.old.below.items ++ record { frame = self.old.top; call = call; parameter = wanted.parameter } ∷ []) }
-        ensures work { OnOk result (self.new.top.work ≡ map (λ token. (call.cond, token)) wanted.tokens.items) }
+        ensures work { OnOk result (self.new.top.work ≡ map (λ token. (call.cond, token)) wanted.tokens) }
         ensures out { OnOk result (self.new.top.out ≡ []) }
         ensures calls { OnOk result (self.new.top.calls.items ≡ []) }
 
@@ -34,12 +34,13 @@ impl Expansion {
         ensures refusals { self.new.refusals ≡ self.old.refusals }
         ensures sets { self.new.sets ≡ self.old.sets }
     {
-        let argument = argument_frame(self.alloc, call.cond, &wanted.tokens)?;
+        let Wanted { parameter, tokens } = wanted;
+        let argument = argument_frame(self.alloc, call.cond, tokens)?;
         let frame = mem::replace(&mut self.top, argument);
         self.below.push(Enclosing {
             frame,
             call,
-            parameter: wanted.parameter,
+            parameter,
         })?;
         Ok(())
     }
@@ -149,17 +150,13 @@ impl Expansion {
 }
 
 /// The frame of an argument, all tokens of which have the condition of its call.
-fn argument_frame(alloc: Global, cond: Cond, tokens: &[Hidden]) -> Result<Frame, OutOfMemory>
-    ensures work { IfOk result (λ frame. frame.work ≡ map (λ token. (cond, token)) tokens.now) }
+fn argument_frame(alloc: Global, cond: Cond, tokens: Tokens) -> Result<Frame, OutOfMemory>
+    ensures work { IfOk result (λ frame. frame.work ≡ map (λ token. (cond, token)) tokens) }
     ensures out { IfOk result (λ frame. frame.out ≡ []) }
     ensures calls { IfOk result (λ frame. frame.calls.items ≡ []) }
 {
-    let mut work = WorkList::new(alloc);
-    for token in tokens {
-        work.push(cond, *token)?;
-    }
     Ok(Frame {
-        work,
+        work: WorkList::of(alloc, cond, tokens),
         out: Guarded::new(alloc)?,
         calls: Vec::new(alloc),
     })

@@ -1,13 +1,14 @@
-ghost use Rattle.std.specs.Prelude.{◌≡◌, ℕ, ◌^◌, ◌<◌, ◌≤◌, ◌++◌, ◌∷◌, [], List, All, map, take, drop, length, slice_get, if◌then◌else◌, true, Some, OnOk};
+ghost use Rattle.std.specs.Prelude.{◌≡◌, ℕ, ◌^◌, ◌-◌, ◌<◌, ◌≤◌, ◌++◌, [], List, All, map, take, drop, length, slice_get, if◌then◌else◌, true, Some, IfSome, OnOk};
 ghost use Rattle.sc_hoist.specs.Alike.{AreAlike, IsAlike};
 ghost use Rattle.sc_expand.specs.Having.{has_each};
+ghost use Rattle.sc_expand.specs.WorkLists.{DropsAlike, items_of};
 ghost use Rattle.sc_guarded.specs.Items.{items_at};
 ghost use Rattle.sc_model.specs.Sets.{IsConfig, IsCond, Keeps};
 
 use sc_base::{Cond, OutOfMemory, Token};
 use sc_hoist::TokenList;
 use sc_presence::Conditions;
-use sc_subst::Hidden;
+use sc_subst::{Hidden, Tokens};
 use std::alloc::Global;
 use std::collections::VecDeque;
 use std::marker::Model;
@@ -16,34 +17,98 @@ use std::marker::Model;
 /// token, and what replaces a name is put in front, so the rest is never moved.
 #[derive(Drop)]
 pub struct WorkList {
-    tokens: VecDeque<(Cond, Hidden)>,
+    /// Tokens each of which has a condition of its own.
+    front: VecDeque<(Cond, Hidden)>,
+    rest: Rest,
 }
 
 impl Model for WorkList {
-    ghost use Rattle.std.specs.Prelude.{List};
+    ghost use Rattle.std.specs.Prelude.{◌++◌, List};
     ghost use Rattle.sc_base.specs.declared.id.Cond.{Cond};
+    ghost use Rattle.sc_expand.specs.WorkLists.{items_of};
     ghost use Rattle.sc_subst.specs.declared.hidden.Hidden.{Hidden};
 
     ghost Value = { List (Cond × Hidden) };
 
-    ghost view = { λ list. list.tokens.items };
+    ghost view = { λ list. list.front.items ++ items_of list.rest };
+}
+
+/// The last tokens of a list: those of an argument, which stand under one condition, but that some
+/// of the next ones were restricted.
+#[derive(Drop)]
+pub struct Rest {
+    pub tokens: Tokens,
+    pub cond: Cond,
+    /// So many of the next ones were restricted.
+    pub restricted: usize,
+    /// The condition of these.
+    pub by: Cond,
+}
+
+impl Rest {
+    /// The number of tokens.
+    fn len(&self) -> usize
+        ensures is { result ≡ length (items_of self.now) }
+        ensures small { result < 2 ^ 63 }
+    {
+        self.tokens.as_slice().len()
+    }
+
+    /// The token of an index, with its condition.
+    fn item(&self, index: usize) -> (Cond, Hidden)
+        requires { index < length (items_of self.now) }
+        ensures { slice_get (items_of self.now) index ≡ Some result }
+    {
+        let token = self.tokens.get(index);
+        if index < self.restricted {
+            return (self.by, token);
+        }
+        (self.cond, token)
+    }
+
+    /// Takes so many of the first tokens away.
+    fn drop_first(&mut self, count: usize)
+        requires { count ≤ length (items_of self.old) }
+        ensures is { items_of self.new ≡ drop count (items_of self.old) }
+        ensures cond { self.new.cond ≡ self.old.cond }
+        ensures restricted { self.new.restricted ≡ self.old.restricted - count }
+    {
+        self.tokens.drop_first(count);
+        self.restricted = self.restricted.saturating_sub(count);
+    }
 }
 
 impl WorkList {
-    /// A list without tokens, which keeps `alloc` for those that come.
-    pub fn new(alloc: Global) -> WorkList
-        ensures { result ≡ [] }
+    /// These tokens, all under one condition.
+    pub fn of(alloc: Global, cond: Cond, tokens: Tokens) -> WorkList
+        ensures { result ≡ map (λ t. (cond, t)) tokens }
     {
         WorkList {
-            tokens: VecDeque::new(alloc),
+            front: VecDeque::new(alloc),
+            rest: Rest {
+                tokens,
+                cond,
+                restricted: 0,
+                by: cond,
+            },
         }
+    }
+
+    /// The tokens, where it is known that all stand under this condition itself.
+    pub fn all_under(&self, cond: Cond) -> Option<&Tokens>
+        ensures { IfSome result (λ tokens. self.now ≡ map (λ t. (cond, t)) tokens.now) }
+    {
+        if self.front.is_empty() && self.rest.restricted == 0 && self.rest.cond == cond {
+            return Some(&self.rest.tokens);
+        }
+        None
     }
 
     /// The number of tokens.
     pub fn len(&self) -> usize
         ensures { result ≡ length self.now }
     {
-        self.tokens.len()
+        self.front.len() + self.rest.len()
     }
 
     /// A list has no more tokens than an index can tell.
@@ -58,14 +123,21 @@ impl WorkList {
         requires { index < length self.now }
         ensures { slice_get self.now index ≡ Some result }
     {
-        self.tokens[index]
+        let count = self.front.len();
+        if index < count {
+            return self.front[index];
+        }
+        self.rest.item(index - count)
     }
 
     /// The first token.
     pub fn first(&self) -> Option<(Cond, Hidden)>
         ensures { result ≡ slice_get self.now 0 }
     {
-        self.tokens.front().copied()
+        if self.len() == 0 {
+            return None;
+        }
+        Some(self.item(0))
     }
 
     /// Takes the first token away. A list that has become empty gives its memory back, since a
@@ -73,18 +145,25 @@ impl WorkList {
     pub fn drop_first(&mut self)
         ensures { self.new ≡ drop 1 self.old }
     {
-        let _ = self.tokens.pop_front();
-        if self.tokens.is_empty() {
-            self.tokens.shrink_to_fit();
+        if self.front.pop_front().is_some() {
+            if self.front.is_empty() {
+                self.front.shrink_to_fit();
+            }
+        } else if self.rest.len() > 0 {
+            self.rest.drop_first(1);
         }
     }
 
-    /// Puts a token behind the others.
-    pub fn push(&mut self, cond: Cond, token: Hidden) -> Result<(), OutOfMemory>
-        ensures { OnOk result (self.new ≡ self.old ++ (cond, token) ∷ []) }
+    /// Takes the first token away, and those behind it that were restricted with it.
+    pub fn drop_alike(&mut self)
+        ensures { DropsAlike self.old self.new }
     {
-        self.tokens.push_back((cond, token))?;
-        Ok(())
+        if self.front.is_empty() && self.rest.restricted > 0 {
+            let count = std::cmp::min(self.rest.restricted, self.rest.len());
+            self.rest.drop_first(count);
+        } else {
+            self.drop_first();
+        }
     }
 
     /// Puts tokens in front of the others.
@@ -92,7 +171,7 @@ impl WorkList {
         ensures { OnOk result (self.new ≡ tokens.now ++ self.old) }
     {
         for index in (0..tokens.len()).rev() {
-            self.tokens.push_front(tokens[index])?;
+            self.front.push_front(tokens[index])?;
         }
         Ok(())
     }
@@ -121,13 +200,37 @@ impl WorkList {
         ensures own { All (λ item. IsCond (C.sets conds.new) item.0.0) self.new }
         ensures keeps { Keeps (C.sets conds.old) (C.sets conds.new) }
     {
-        for index in 0..count {
-            let pair = self.tokens[index];
+        if count > self.front.len() {
+            settle(&mut self.front, &mut self.rest)?;
+        }
+        let first = std::cmp::min(count, self.front.len());
+        for index in 0..first {
+            let pair = self.front[index];
             let met = conds.apply_and(pair.0, by)?;
-            self.tokens[index] = (met, pair.1);
+            self.front[index] = (met, pair.1);
+        }
+        if count > first {
+            self.rest.by = conds.apply_and(self.rest.cond, by)?;
+            self.rest.restricted = count - first;
         }
         Ok(())
     }
+}
+
+/// Moves the tokens of a rest that were restricted to the end of the list in front of it.
+fn settle(front: &mut VecDeque<(Cond, Hidden)>, rest: &mut Rest) -> Result<(), OutOfMemory>
+    ensures restricted { OnOk result (rest.new.restricted ≡ 0) }
+
+    // at every outcome
+    ensures is { front.new.items ++ items_of rest.new ≡ front.old.items ++ items_of rest.old }
+    ensures cond { rest.new.cond ≡ rest.old.cond }
+{
+    while rest.restricted > 0 && rest.len() > 0 {
+        front.push_back(rest.item(0))?;
+        rest.drop_first(1);
+    }
+    rest.restricted = 0;
+    Ok(())
 }
 
 impl TokenList for WorkList {

@@ -6,8 +6,9 @@ pub mod Pasting
 pub mod Quoting
 pub mod RisingLaws
 pub mod Templates
-pub mod Tokens
+pub mod TokenLemmas
 pub mod Turns
 pub mod Wanted
 pub mod SeenLaws
 pub mod Store
+pub mod Shares

@@ -11,7 +11,7 @@ ghost use Rattle.sc_subst.specs.Seen.{IsHeldHidden, IsHeldSet, Lasting, hide_at,
 
 use crate::glue::spaced;
 use crate::slots::argument;
-use crate::{Hidden, Hide, HideSets, Part};
+use crate::{Hidden, Hide, HideSets, Part, Tokens};
 use sc_base::{Names, OutOfMemory};
 use std::alloc::{AllocError, Global};
 
@@ -19,12 +19,12 @@ use std::alloc::{AllocError, Global};
 fn tokens_in(
     alloc: Global,
     template: &[Part],
-    expanded: &[Vec<Hidden>],
+    expanded: &[Tokens],
 ) -> Result<Vec<Hidden>, AllocError>
     ensures is { IfOk result (λ made. (names : List (List ℕ)) (sets : List (List Name.Name)) → map (seen_hidden names sets) made.items
-        ≡ filled_in (seen_arguments names sets (map (λ a. a.items) expanded.now)) (map (seen_part names sets) template.now)) }
+        ≡ filled_in (seen_arguments names sets expanded.now) (map (seen_part names sets) template.now)) }
     ensures own { IfOk result (λ made. (names : List (List ℕ)) (sets : List (List Name.Name)) → All (IsHeldPart names sets) template.now
-        → AreHeldArguments names sets (map (λ a. a.items) expanded.now) → All (IsHeldHidden names sets) made.items) }
+        → AreHeldArguments names sets expanded.now → All (IsHeldHidden names sets) made.items) }
 {
     let mut made = Vec::new(alloc);
     for part in template {
@@ -33,11 +33,11 @@ fn tokens_in(
     Ok(made)
 }
 
-fn put(made: &mut Vec<Hidden>, part: &Part, expanded: &[Vec<Hidden>]) -> Result<(), AllocError>
+fn put(made: &mut Vec<Hidden>, part: &Part, expanded: &[Tokens]) -> Result<(), AllocError>
     ensures is { OnOk result ((names : List (List ℕ)) (sets : List (List Name.Name)) → map (seen_hidden names sets) made.new.items
-        ≡ map (seen_hidden names sets) made.old.items ++ filled_in (seen_arguments names sets (map (λ a. a.items) expanded.now)) (seen_part names sets part.now ∷ [])) }
+        ≡ map (seen_hidden names sets) made.old.items ++ filled_in (seen_arguments names sets expanded.now) (seen_part names sets part.now ∷ [])) }
     ensures own { OnOk result ((names : List (List ℕ)) (sets : List (List Name.Name)) → All (IsHeldHidden names sets) made.old.items → IsHeldPart names sets part.now
-        → AreHeldArguments names sets (map (λ a. a.items) expanded.now) → All (IsHeldHidden names sets) made.new.items) }
+        → AreHeldArguments names sets expanded.now → All (IsHeldHidden names sets) made.new.items) }
 {
     match *part {
         Part::Token(token) => {
@@ -130,16 +130,16 @@ pub fn fill(
     sets: &mut HideSets,
     names: &Names,
     template: &[Part],
-    expanded: &[Vec<Hidden>],
+    expanded: &[Tokens],
     space: bool,
     hide: Hide,
 ) -> Result<Vec<Hidden>, OutOfMemory>
     requires template { All (IsHeldPart names.now sets.old) template.now }
-    requires expanded { AreHeldArguments names.now sets.old (map (λ a. a.items) expanded.now) }
+    requires expanded { AreHeldArguments names.now sets.old expanded.now }
     requires hide { IsHeldSet names.now sets.old hide.0 }
     ensures is { IfOk result (λ made. Lasting names.now sets.new (λ names sets. (provenance : Provenance declared.Place) → ((p : declared.Place) → provenance.mark p ≡ p)
         → map (seen_hidden names sets) made.items ≡ hiding provenance (hide_at names sets hide.0)
-        (with_space space (filled_in (seen_arguments names sets (map (λ a. a.items) expanded.now)) (map (seen_part names sets) template.now))))) }
+        (with_space space (filled_in (seen_arguments names sets expanded.now) (map (seen_part names sets) template.now))))) }
     ensures own { IfOk result (λ made. All (IsHeldHidden names.now sets.new) made.items) }
 
     // at every outcome

@@ -14,7 +14,7 @@ ghost use Rattle.sc_subst.specs.Seen.{IsHeldHidden, Lasting, seen_hidden};
 ghost use Rattle.sc_subst.specs.Stops.{OnFault};
 
 use crate::slots::{Slot, argument};
-use crate::{Hidden, HideSets, Part, SubstStop, paste};
+use crate::{Hidden, HideSets, Part, SubstStop, Tokens, paste};
 use sc_base::{Names, Place, Token};
 use std::alloc::{AllocError, Global};
 
@@ -249,21 +249,21 @@ fn read(
     behind: bool,
     slot: &Slot,
     rest: &[Slot],
-    raw: &[Vec<Hidden>],
+    raw: &[Tokens],
 ) -> Result<Left, SubstStop>
     requires parts { All (IsHeldPart names.old sets.old) parts.old.items }
     requires left { IsHeldLeft names.old sets.old left }
     requires pasting { behind ≡ false → is_pasting left ≡ false }
     requires slot { IsHeldSlot names.old sets.old slot.now }
-    requires raw { AreHeldArguments names.old sets.old (map (λ a. a.items) raw.now) }
+    requires raw { AreHeldArguments names.old sets.old raw.now }
     ensures ok { IfOk result (λ next. Lasting names.new sets.new (λ names sets. (head : model.Hidden declared.Place) (expanded : List (List (model.Hidden declared.Place)))
-        → tokens_behind names sets head expanded parts.old.items left (pieces_in (seen_arguments names sets (map (λ a. a.items) raw.now)) expanded behind (map (seen_slot names sets) (slot.now ∷ rest.now)))
-        ≡ tokens_behind names sets head expanded parts.new.items next (pieces_in (seen_arguments names sets (map (λ a. a.items) raw.now)) expanded (is_paste_slot slot.now) (map (seen_slot names sets) rest.now)))) }
+        → tokens_behind names sets head expanded parts.old.items left (pieces_in (seen_arguments names sets raw.now) expanded behind (map (seen_slot names sets) (slot.now ∷ rest.now)))
+        ≡ tokens_behind names sets head expanded parts.new.items next (pieces_in (seen_arguments names sets raw.now) expanded (is_paste_slot slot.now) (map (seen_slot names sets) rest.now)))) }
     ensures left { IfOk result (IsHeldLeft names.new sets.new) }
     ensures parts { OnOk result (All (IsHeldPart names.new sets.new) parts.new.items) }
     ensures pasting { IfOk result (λ next. is_paste_slot slot.now ≡ false → is_pasting next ≡ false) }
     ensures err { IfErr result (λ stop. OnFault stop (λ cause. Lasting names.new sets.new (λ names sets. (head : model.Hidden declared.Place) (expanded : List (List (model.Hidden declared.Place)))
-        → tokens_behind names sets head expanded parts.old.items left (pieces_in (seen_arguments names sets (map (λ a. a.items) raw.now)) expanded behind (map (seen_slot names sets) (slot.now ∷ rest.now))) ≡ Err (failure_at cause head)))) }
+        → tokens_behind names sets head expanded parts.old.items left (pieces_in (seen_arguments names sets raw.now) expanded behind (map (seen_slot names sets) (slot.now ∷ rest.now))) ≡ Err (failure_at cause head)))) }
 
     // at every outcome
     ensures names { Extends names.old names.new }
@@ -296,15 +296,15 @@ pub fn glue(
     sets: &mut HideSets,
     names: &mut Names,
     slots: &[Slot],
-    raw: &[Vec<Hidden>],
+    raw: &[Tokens],
 ) -> Result<Vec<Part>, SubstStop>
     requires slots { All (IsHeldSlot names.old sets.old) slots.now }
-    requires raw { AreHeldArguments names.old sets.old (map (λ a. a.items) raw.now) }
+    requires raw { AreHeldArguments names.old sets.old raw.now }
     ensures ok { IfOk result (λ parts. Lasting names.new sets.new (λ names sets. (head : model.Hidden declared.Place) (expanded : List (List (model.Hidden declared.Place)))
-        → result_map tokens_of (all_glued head (pieces_in (seen_arguments names sets (map (λ a. a.items) raw.now)) expanded false (map (seen_slot names sets) slots.now))) ≡ Ok (filled_in expanded (map (seen_part names sets) parts.items)))) }
+        → result_map tokens_of (all_glued head (pieces_in (seen_arguments names sets raw.now) expanded false (map (seen_slot names sets) slots.now))) ≡ Ok (filled_in expanded (map (seen_part names sets) parts.items)))) }
     ensures own { IfOk result (λ parts. All (IsHeldPart names.new sets.new) parts.items) }
     ensures err { IfErr result (λ stop. OnFault stop (λ cause. Lasting names.new sets.new (λ names sets. (head : model.Hidden declared.Place) (expanded : List (List (model.Hidden declared.Place)))
-        → result_map tokens_of (all_glued head (pieces_in (seen_arguments names sets (map (λ a. a.items) raw.now)) expanded false (map (seen_slot names sets) slots.now))) ≡ Err (failure_at cause head)))) }
+        → result_map tokens_of (all_glued head (pieces_in (seen_arguments names sets raw.now) expanded false (map (seen_slot names sets) slots.now))) ≡ Err (failure_at cause head)))) }
 
     // at every outcome
     ensures names { Extends names.old names.new }

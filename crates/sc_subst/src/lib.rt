@@ -15,6 +15,7 @@ mod set_operation;
 mod slots;
 mod sorted;
 mod stop;
+mod tokens;
 
 pub use filling::{fill, hide_all};
 pub use hidden::{Hidden, Hide};
@@ -26,3 +27,4 @@ pub use part::Part;
 pub use parts::expanded_parameters;
 pub use replacement::{substitute, template};
 pub use stop::SubstStop;
+pub use tokens::Tokens;

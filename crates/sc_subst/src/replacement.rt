@@ -15,7 +15,7 @@ ghost use Rattle.sc_subst.specs.Stops.{OnFault, OnOperator};
 use crate::filling::fill;
 use crate::glue::glue;
 use crate::slots::slots;
-use crate::{Hidden, Hide, HideSets, Part, SubstStop};
+use crate::{Hidden, Hide, HideSets, Part, SubstStop, Tokens};
 use sc_base::{Names, Place, Token};
 use sc_macro::{Form, Item};
 use std::alloc::Global;
@@ -30,22 +30,22 @@ pub fn template(
     names: &mut Names,
     form: &Form,
     items: &[Item],
-    raw: &[Vec<Hidden>],
+    raw: &[Tokens],
     place: Place,
 ) -> Result<Vec<Part>, SubstStop>
     requires form { IsHeldForm names.old form.now }
     requires items { All (IsHeldItem names.old) items.now }
-    requires raw { AreHeldArguments names.old sets.old (map (λ a. a.items) raw.now) }
+    requires raw { AreHeldArguments names.old sets.old raw.now }
     ensures ok { IfOk result (λ parts. Lasting names.new sets.new (λ names sets. (head : model.Hidden declared.Place) (results : List (Result (List (model.Hidden declared.Place)) (Failure declared.Place)))
         (provenance : Provenance declared.Place) (hidden : HideSet) → head.place ≡ place
-        → substituted provenance (seen_form names form.now) (map (seen_item names) items.now) head (seen_arguments names sets (map (λ a. a.items) raw.now)) results hidden
+        → substituted provenance (seen_form names form.now) (map (seen_item names) items.now) head (seen_arguments names sets raw.now) results hidden
         ≡ completed provenance head hidden (wanted_of (seen_form names form.now) (map (seen_item names) items.now)) results (Ok (map (seen_part names sets) parts.items)))) }
     ensures wanted { IfOk result (λ parts. All (IsWantedPart (wanted_of (seen_form names.new form.now) (map (seen_item names.new) items.now))) parts.items) }
     ensures own { IfOk result (λ parts. All (IsHeldPart names.new sets.new) parts.items) }
     ensures err { IfErr result (λ stop. OnFault stop (λ cause. Lasting names.new sets.new (λ names sets. (head : model.Hidden declared.Place) (results : List (Result (List (model.Hidden declared.Place)) (Failure declared.Place)))
         (provenance : Provenance declared.Place) (hidden : HideSet) → head.place ≡ place → OnOperator cause
-        (substituted provenance (seen_form names form.now) (map (seen_item names) items.now) head (seen_arguments names sets (map (λ a. a.items) raw.now)) results hidden ≡ Err (failure_at BadStringize head))
-        (substituted provenance (seen_form names form.now) (map (seen_item names) items.now) head (seen_arguments names sets (map (λ a. a.items) raw.now)) results hidden
+        (substituted provenance (seen_form names form.now) (map (seen_item names) items.now) head (seen_arguments names sets raw.now) results hidden ≡ Err (failure_at BadStringize head))
+        (substituted provenance (seen_form names form.now) (map (seen_item names) items.now) head (seen_arguments names sets raw.now) results hidden
         ≡ completed provenance head hidden (wanted_of (seen_form names form.now) (map (seen_item names) items.now)) results (Err (failure_at BadPaste head)))))) }
 
     // at every outcome
@@ -66,26 +66,26 @@ pub fn substitute(
     names: &mut Names,
     form: &Form,
     items: &[Item],
-    raw: &[Vec<Hidden>],
-    expanded: &[Vec<Hidden>],
+    raw: &[Tokens],
+    expanded: &[Tokens],
     head: &Token,
     hide: Hide,
 ) -> Result<Vec<Hidden>, SubstStop>
     requires form { IsHeldForm names.old form.now }
     requires items { All (IsHeldItem names.old) items.now }
-    requires raw { AreHeldArguments names.old sets.old (map (λ a. a.items) raw.now) }
-    requires expanded { AreHeldArguments names.old sets.old (map (λ a. a.items) expanded.now) }
+    requires raw { AreHeldArguments names.old sets.old raw.now }
+    requires expanded { AreHeldArguments names.old sets.old expanded.now }
     requires hide { IsHeldSet names.old sets.old hide.0 }
     ensures ok { IfOk result (λ made. Lasting names.new sets.new (λ names sets. (at : model.Hidden declared.Place) (provenance : Provenance declared.Place)
         → at.place ≡ head.now.place → at.space ≡ head.now.space → ((p : declared.Place) → provenance.mark p ≡ p)
-        → substituted provenance (seen_form names form.now) (map (seen_item names) items.now) at (seen_arguments names sets (map (λ a. a.items) raw.now))
-        (map (λ ts. Ok ts) (seen_arguments names sets (map (λ a. a.items) expanded.now))) (hide_at names sets hide.0)
+        → substituted provenance (seen_form names form.now) (map (seen_item names) items.now) at (seen_arguments names sets raw.now)
+        (map (λ ts. Ok ts) (seen_arguments names sets expanded.now)) (hide_at names sets hide.0)
         ≡ Ok (map (seen_hidden names sets) made.items))) }
     ensures own { IfOk result (λ made. All (IsHeldHidden names.new sets.new) made.items) }
     ensures err { IfErr result (λ stop. OnFault stop (λ cause. Lasting names.new sets.new (λ names sets. (at : model.Hidden declared.Place) (provenance : Provenance declared.Place)
         → at.place ≡ head.now.place
-        → substituted provenance (seen_form names form.now) (map (seen_item names) items.now) at (seen_arguments names sets (map (λ a. a.items) raw.now))
-        (map (λ ts. Ok ts) (seen_arguments names sets (map (λ a. a.items) expanded.now))) (hide_at names sets hide.0)
+        → substituted provenance (seen_form names form.now) (map (seen_item names) items.now) at (seen_arguments names sets raw.now)
+        (map (λ ts. Ok ts) (seen_arguments names sets expanded.now)) (hide_at names sets hide.0)
         ≡ Err (failure_at cause at)))) }
 
     // at every outcome

@@ -13,7 +13,7 @@ ghost use Rattle.sc_subst.specs.Seen.{IsHeldHidden, Lasting, seen_hidden};
 ghost use Rattle.sc_subst.specs.Stops.{OnFault};
 
 use crate::parts::{ListPart, parts};
-use crate::{Hidden, HideSets, SubstStop, stringize};
+use crate::{Hidden, HideSets, SubstStop, Tokens, stringize};
 use sc_base::{Names, Place, Token};
 use sc_macro::{Form, Item};
 use std::alloc::Global;
@@ -27,8 +27,8 @@ pub enum Slot {
 }
 
 /// The argument of a parameter.
-pub fn argument(arguments: &[Vec<Hidden>], parameter: usize) -> &[Hidden]
-    ensures { result.now ≡ substitution.argument (map (λ a. a.items) arguments.now) parameter }
+pub fn argument(arguments: &[Tokens], parameter: usize) -> &[Hidden]
+    ensures { result.now ≡ substitution.argument arguments.now parameter }
 {
     match arguments.get(parameter) {
         Some(argument) => argument.as_slice(),
@@ -43,17 +43,17 @@ pub fn slots(
     names: &mut Names,
     form: &Form,
     items: &[Item],
-    raw: &[Vec<Hidden>],
+    raw: &[Tokens],
     place: Place,
 ) -> Result<Vec<Slot>, SubstStop>
     requires form { IsHeldForm names.old form.now }
     requires items { All (IsHeldItem names.old) items.now }
-    requires raw { AreHeldArguments names.old sets.now (map (λ a. a.items) raw.now) }
+    requires raw { AreHeldArguments names.old sets.now raw.now }
     ensures ok { IfOk result (λ made. Lasting names.new sets.now (λ names sets. (head : model.Hidden declared.Place) → head.place ≡ place
-        → slots head (seen_arguments names sets (map (λ a. a.items) raw.now)) (substitution.parts (seen_form names form.now) neither (map (seen_item names) items.now)) ≡ Ok (map (seen_slot names sets) made.items))) }
+        → slots head (seen_arguments names sets raw.now) (substitution.parts (seen_form names form.now) neither (map (seen_item names) items.now)) ≡ Ok (map (seen_slot names sets) made.items))) }
     ensures own { IfOk result (λ made. All (IsHeldSlot names.new sets.now) made.items) }
     ensures err { IfErr result (λ stop. OnFault stop (λ cause. Lasting names.new sets.now (λ names sets. (head : model.Hidden declared.Place) → head.place ≡ place
-        → slots head (seen_arguments names sets (map (λ a. a.items) raw.now)) (substitution.parts (seen_form names form.now) neither (map (seen_item names) items.now)) ≡ Err (failure_at cause head)))) }
+        → slots head (seen_arguments names sets raw.now) (substitution.parts (seen_form names form.now) neither (map (seen_item names) items.now)) ≡ Err (failure_at cause head)))) }
 
     // at every outcome
     ensures names { Extends names.old names.new }
@@ -67,16 +67,16 @@ fn slots_from(
     sets: &HideSets,
     names: &mut Names,
     parts: &[ListPart],
-    raw: &[Vec<Hidden>],
+    raw: &[Tokens],
     place: Place,
 ) -> Result<Vec<Slot>, SubstStop>
     requires parts { All (IsHeldListPart names.old) parts.now }
-    requires raw { AreHeldArguments names.old sets.now (map (λ a. a.items) raw.now) }
+    requires raw { AreHeldArguments names.old sets.now raw.now }
     ensures ok { IfOk result (λ made. Lasting names.new sets.now (λ names sets. (head : model.Hidden declared.Place) → head.place ≡ place
-        → slots head (seen_arguments names sets (map (λ a. a.items) raw.now)) (map (seen_list_part names) parts.now) ≡ Ok (map (seen_slot names sets) made.items))) }
+        → slots head (seen_arguments names sets raw.now) (map (seen_list_part names) parts.now) ≡ Ok (map (seen_slot names sets) made.items))) }
     ensures own { IfOk result (λ made. All (IsHeldSlot names.new sets.now) made.items) }
     ensures err { IfErr result (λ stop. OnFault stop (λ cause. Lasting names.new sets.now (λ names sets. (head : model.Hidden declared.Place) → head.place ≡ place
-        → slots head (seen_arguments names sets (map (λ a. a.items) raw.now)) (map (seen_list_part names) parts.now) ≡ Err (failure_at cause head)))) }
+        → slots head (seen_arguments names sets raw.now) (map (seen_list_part names) parts.now) ≡ Err (failure_at cause head)))) }
 
     // at every outcome
     ensures names { Extends names.old names.new }
@@ -96,16 +96,16 @@ fn slot_from(
     sets: &HideSets,
     names: &mut Names,
     part: &ListPart,
-    raw: &[Vec<Hidden>],
+    raw: &[Tokens],
     place: Place,
 ) -> Result<Slot, SubstStop>
     requires part { IsHeldListPart names.old part.now }
-    requires raw { AreHeldArguments names.old sets.now (map (λ a. a.items) raw.now) }
+    requires raw { AreHeldArguments names.old sets.now raw.now }
     ensures ok { IfOk result (λ slot. Lasting names.new sets.now (λ names sets. (head : model.Hidden declared.Place) → head.place ≡ place
-        → slot_of head (seen_arguments names sets (map (λ a. a.items) raw.now)) (seen_list_part names part.now) ≡ Ok (seen_slot names sets slot))) }
+        → slot_of head (seen_arguments names sets raw.now) (seen_list_part names part.now) ≡ Ok (seen_slot names sets slot))) }
     ensures own { IfOk result (IsHeldSlot names.new sets.now) }
     ensures err { IfErr result (λ stop. OnFault stop (λ cause. Lasting names.new sets.now (λ names sets. (head : model.Hidden declared.Place) → head.place ≡ place
-        → slot_of head (seen_arguments names sets (map (λ a. a.items) raw.now)) (seen_list_part names part.now) ≡ Err (failure_at cause head)))) }
+        → slot_of head (seen_arguments names sets raw.now) (seen_list_part names part.now) ≡ Err (failure_at cause head)))) }
 
     // at every outcome
     ensures names { Extends names.old names.new }

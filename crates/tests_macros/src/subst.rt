@@ -9,8 +9,8 @@ use sc_base::{FileId, Files, Kind, Name, Names, OutOfMemory, Place, Token};
 use sc_lex::{LexStop, tokens};
 use sc_macro::{Form, Item, Replacement, read_define};
 use sc_subst::{
-    Hidden, Hide, HideSets, SubstStop, expanded_parameters, hide_all, items_at, paste, stringize,
-    substitute,
+    Hidden, Hide, HideSets, SubstStop, Tokens, expanded_parameters, hide_all, items_at, paste,
+    stringize, substitute,
 };
 use std::alloc::Global;
 use std::mem;
@@ -300,13 +300,14 @@ fn arguments_of(
     sets: &HideSets,
     names: &Names,
     lines: &[Vec<Token>],
-) -> Result<Vec<Vec<Hidden>>, OutOfMemory>
+) -> Result<Vec<Tokens>, OutOfMemory>
     requires { All (λ line. All (IsHeld names.now) line.items) lines.now }
-    ensures { IfOk result (λ lists. AreHeldArguments names.now sets.now (map (λ list. list.items) lists.items)) }
+    ensures { IfOk result (λ lists. AreHeldArguments names.now sets.now lists.items) }
 {
     let mut lists = Vec::new(alloc);
     for line in lines {
-        lists.push(hidden_of(alloc, sets, names, line)?)?;
+        let list = hidden_of(alloc, sets, names, line)?;
+        lists.push(Tokens::of(alloc, list)?)?;
     }
     Ok(lists)
 }
@@ -340,12 +341,12 @@ fn replaced_with(
     names: &mut Names,
     form: &Form,
     items: &[Item],
-    arguments: &[Vec<Hidden>],
+    arguments: &[Tokens],
     head: &Token,
 ) -> Result<Vec<u8>, Fail>
     requires form { IsHeldForm names.old form.now }
     requires items { All (IsHeldItem names.old) items.now }
-    requires arguments { AreHeldArguments names.old sets.old (map (λ list. list.items) arguments.now) }
+    requires arguments { AreHeldArguments names.old sets.old arguments.now }
 {
     let hide = sets.empty();
     match substitute(

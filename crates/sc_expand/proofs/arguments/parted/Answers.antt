@@ -1,48 +1,46 @@
-use Rattle.std.proofs.Common.{◌∙◌, ◌+◌, ◌++◌, All, map, drop, sym, ap, subst, arith, Vec, Global}
-use Rattle.std.proofs.lemmas.List.{drop_more, drop_all}
+use Rattle.std.proofs.Common.{◌≡◌, ◌<◌, ◌∙◌, ◌+◌, ◌++◌, [], All, Some, arith, drop, get_or, length, slice_get, sym, ap, subst}
+use Rattle.std.proofs.lemmas.List.{drop_more}
 use Rattle.std.proofs.lemmas.List.Elements.{All-nil}
+use Rattle.std.proofs.lemmas.Option.{slice_get-get_or}
 use Rattle.sc_expand.proofs.Parting.{begun-parted}
 use Rattle.sc_expand.specs.Arguments.{begun_with}
 use Rattle.sc_expand.specs.Arguments as model
 use Rattle.sc_expand.specs.Parting.{parted_with}
+use Rattle.sc_subst.proofs.Quoting.{blank}
 use Rattle.sc_subst.specs.declared.hidden.Hidden.{Hidden}
 use Rattle.sc_subst.specs.Parts.{seen_arguments, seen_list}
 use Rattle.sc_subst.specs.Seen.{IsHeldHidden}
 use Rattle.sc_expand.proofs.arguments.parted.Goals as goal
 
-pub loop-hidden-init : goal.loop-hidden-init
-loop-hidden-init c =
+pub loop-index-init : goal.loop-index-init
+loop-index-init c =
     let names = c.args.names.now in
     record {
       is = λ sets.
-          let whole = model.parted c.args.commas 0 (seen_list names sets c.args.between.now) in
-          sym (ap (λ l. seen_arguments names sets (map (λ (a : Vec Hidden Global). a.items) l) ++ begun_with (seen_list names sets c.new-2.result.items) whole) c.new.ensures.items
-          ∙ (ap (λ l. begun_with (seen_list names sets l) whole) c.new-2.ensures.items ∙ begun-parted c.args.commas 0 (seen_list names sets c.args.between.now)));
-      own = λ sets held. record {
-        arguments = subst (All (λ (a : Vec Hidden Global). All (IsHeldHidden names sets) a.items)) (sym c.new.ensures.items) (All-nil (λ (a : Vec Hidden Global). All (IsHeldHidden names sets) a.items));
-        last = subst (All (IsHeldHidden names sets)) (sym c.new-2.ensures.items) (All-nil (IsHeldHidden names sets));
-      };
+          let seen = seen_list names sets c.args.between.now in
+          sym (ap (λ l. seen_arguments names sets l ++ begun_with [] (model.parted c.args.commas 0 seen)) c.new.ensures.items ∙ begun-parted c.args.commas 0 seen);
+      own = λ sets held. subst (All (All (IsHeldHidden names sets))) (sym c.new.ensures.items) (All-nil (All (IsHeldHidden names sets)));
+      begin = omega arith;
       deep = omega arith;
     }
 
-pub loop-hidden-preserved : goal.loop-hidden-preserved
-loop-hidden-preserved c =
+pub loop-index-preserved : goal.loop-index-preserved
+loop-index-preserved c =
     let names = c.args.names.now in
     let between = c.args.between.now in
-    let was = c.loop-hidden.invariant in
+    let index = c.loop-index.index in
+    let was = c.loop-index.invariant in
+    let inside : index < length between = omega (arith, c.loop-index-test.true, c.len-index-end.ensures) in
+    let next : Hidden = get_or between index blank in
+    let at : slice_get between index ≡ Some next = slice_get-get_or between index blank inside in
     record {
       is = λ sets. was.is sets
-          ∙ (ap (λ l. parted_with names sets c.loop-hidden.parting (seen_list names sets l)) (drop_more between c.loop-hidden.hidden-index _ c.loop-hidden-test.true)
-          ∙ c.in_ok-take.ensures.is sets (seen_list names sets (drop (c.loop-hidden.hidden-index + 1) between)));
-      own = λ sets held. c.in_ok-take.ensures.own sets (held c.loop-hidden.hidden-index _ c.loop-hidden-test.true) (was.own sets held);
+          ∙ (ap (λ l. parted_with names sets between index c.loop-index.parting (seen_list names sets l)) (drop_more between index blank inside)
+          ∙ c.in_ok-take.ensures.is sets next (seen_list names sets (drop (index + 1) between)) at);
+      own = λ sets held. c.in_ok-take.ensures.own sets held (was.own sets held);
+      begin = c.in_ok-take.ensures.begin;
       deep = omega (arith, was.deep, c.in_ok-take.ensures.deep);
     }
 
-pub returns-clause-is : goal.returns-clause-is
-returns-clause-is c = λ sets.
-    let names = c.args.names.now in
-    c.in_ok-arguments.ensures.is names sets
-    ∙ sym (c.loop-hidden.invariant.is sets ∙ ap (λ l. parted_with names sets c.loop-hidden.parting (seen_list names sets l)) (drop_all c.loop-hidden.hidden-index c.args.between.now c.loop-hidden-test.false))
-
 pub returns-clause-own : goal.returns-clause-own
-returns-clause-own c = λ sets held. c.in_ok-arguments.ensures.own c.args.names.now sets (c.loop-hidden.invariant.own sets held)
+returns-clause-own c = λ sets held. c.in_ok-arguments.ensures.own c.args.names.now sets held (c.loop-index.invariant.own sets held)

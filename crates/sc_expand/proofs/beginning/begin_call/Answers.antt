@@ -1,12 +1,10 @@
-use Rattle.std.proofs.Common.{◌∙◌, map, sym, Vec, Global}
-use Rattle.std.proofs.lemmas.List.{length-map}
+use Rattle.std.proofs.Common.{map}
 use Rattle.std.proofs.lemmas.List.Elements.{All-weaker}
 use Rattle.sc_base.proofs.Growth.{Extends-refl}
 use Rattle.sc_expand.proofs.BeginningLemmas.{begins, files_of, held_call, in_none, in_some, tokens_later}
 use Rattle.sc_expand.specs.declared.call.Call.{Call}
 use Rattle.sc_expand.specs.Seen.{stores}
 use Rattle.sc_macro.specs.Seen.{seen_form, seen_item}
-use Rattle.sc_subst.specs.declared.hidden.Hidden.{Hidden}
 use Rattle.sc_subst.specs.Seen.{IsHeldHidden}
 use Rattle.sc_subst.proofs.Later.{IsHeldHidden-Extends}
 use Rattle.sc_expand.proofs.beginning.begin_call.Goals as goal
@@ -23,11 +21,10 @@ pub returns-in_ok-expanded-in-Some-clause-some : goal.returns-in_ok-expanded-in-
 returns-in_ok-expanded-in-Some-clause-some c =
     let names = c.template_of.new.names in
     let call : Call = record { cond = c.args.cond; head = c.args.head; hide = c.in_ok-hide.hide; template = c.in-Some.template; wanted = c.in_ok-wanted-in-Some.wanted; expanded = c.in_ok-expanded-in-Some.expanded } in
-    let lists = λ (a : Vec Hidden Global). a.items in
     begins c.args.names.now names c.args.sets.now c.hide_of_call.new.sets c.template_of.new.sets c.template_of.ensures.names c.hide_of_call.ensures.sets c.template_of.ensures.sets
-    (seen_form names c.args.form.now) (map (seen_item names) c.args.items.now) c.args.close (map lists c.args.raw.now) call c.requires.head c.requires.close c.in_ok-hide.ensures.held c.in_ok-hide.ensures.is
+    (seen_form names c.args.form.now) (map (seen_item names) c.args.items.now) c.args.close c.args.raw.now call c.requires.head c.requires.close c.in_ok-hide.ensures.held c.in_ok-hide.ensures.is
     ((in_some _ c.in_ok-made.made c.in-Some.template c.in-Some.is c.in_ok-made.ensures.some).at _ _ (Extends-refl _) (Extends-refl _)) c.in_ok-wanted-in-Some.ensures.is
-    (c.in_ok-expanded-in-Some.ensures.len ∙ sym (length-map c.args.raw.now lists)) c.in_ok-expanded-in-Some.ensures.empty
+    c.in_ok-expanded-in-Some.ensures.len c.in_ok-expanded-in-Some.ensures.empty
 
 pub returns-in_ok-expanded-in-Some-clause-held : goal.returns-in_ok-expanded-in-Some-clause-held
 returns-in_ok-expanded-in-Some-clause-held c = λ s files own head raw.

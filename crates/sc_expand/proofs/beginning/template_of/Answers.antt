@@ -1,11 +1,9 @@
-use Rattle.std.proofs.Common.{All, map, ◌<◌, Vec, Global}
-use Rattle.std.proofs.lemmas.List.Elements.{All-map}
+use Rattle.std.proofs.Common.{map}
 use Rattle.sc_base.proofs.Growth.{Extends-refl}
 use Rattle.sc_expand.proofs.BeginningLemmas.{Fails, map_none, map_ok, map_some, refused_none, refused_some}
 use Rattle.sc_expand.proofs.Placing.{held-template}
 use Rattle.sc_expand.specs.Seen.{stores}
 use Rattle.sc_macro.specs.Seen.{seen_form, seen_item}
-use Rattle.sc_subst.specs.declared.hidden.Hidden.{Hidden}
 use Rattle.sc_subst.specs.Stops.{OnFault}
 use Rattle.sc_expand.proofs.beginning.template_of.Goals as goal
 
@@ -16,18 +14,17 @@ pub returns-in-Ok-clause-held : goal.returns-in-Ok-clause-held
 returns-in-Ok-clause-held c = λ s files here own.
     let names = c.template.new.names in
     let sets = c.template.new.sets in
-    let lists = λ (a : Vec Hidden Global). a.items in
-    held-template (stores s names sets) files (seen_form names c.args.form.now) (map (seen_item names) c.args.items.now) c.args.place (map lists c.args.raw.now) c.in-Ok.parts.items here
-    (All-map (All (λ (h : Hidden). h.token.place.file.0 < files)) lists c.args.raw.now own) c.in-Ok.ensures.own (c.in-Ok.ensures.ok.at names sets (Extends-refl names) (Extends-refl sets))
+    held-template (stores s names sets) files (seen_form names c.args.form.now) (map (seen_item names) c.args.items.now) c.args.place c.args.raw.now c.in-Ok.parts.items here
+    own c.in-Ok.ensures.own (c.in-Ok.ensures.ok.at names sets (Extends-refl names) (Extends-refl sets))
 
 pub returns-in-Err-clause-some : goal.returns-in-Err-clause-some
 returns-in-Err-clause-some c =
-    let raw = map (λ (a : Vec Hidden Global). a.items) c.args.raw.now in
+    let raw = c.args.raw.now in
     let err : OnFault c.in-Err.stop (Fails c.template.new.names c.template.new.sets c.args.form.now c.args.items.now raw c.args.place) = c.in-Err.ensures.err in
     map_ok c.refused.result (λ made. map_some made (λ template told. refused_some _ _ c.args.form.now c.args.items.now raw c.args.place c.in-Err.stop template err told)) c.refused.ensures.some
 
 pub returns-in-Err-clause-none : goal.returns-in-Err-clause-none
 returns-in-Err-clause-none c =
-    let raw = map (λ (a : Vec Hidden Global). a.items) c.args.raw.now in
+    let raw = c.args.raw.now in
     let err : OnFault c.in-Err.stop (Fails c.template.new.names c.template.new.sets c.args.form.now c.args.items.now raw c.args.place) = c.in-Err.ensures.err in
     map_ok c.refused.result (λ made. map_none made (λ is. refused_none _ _ c.args.form.now c.args.items.now raw c.args.place c.in-Err.stop err is)) c.refused.ensures.none

@@ -1,15 +1,14 @@
-use Rattle.std.proofs.Common.{◌≡◌, ◌∙◌, ◌+◌, ◌-◌, ◌<◌, ℕ, [], ◌∷◌, All, Vec, Global, arith, map, drop, get_or, length, reverse, sym, ap, subst}
+use Rattle.std.proofs.Common.{◌≡◌, ◌∙◌, ◌+◌, ◌-◌, ◌<◌, ℕ, [], ◌∷◌, All, arith, map, drop, get_or, length, reverse, sym, ap, subst}
 use Rattle.std.proofs.lemmas.List.{drop_more, reverse-append}
 use Rattle.std.proofs.lemmas.List.Elements.{All-push}
 use Rattle.sc_expand.specs.Beginning.{tokens_of, with_argument}
 use Rattle.sc_expand.specs.Seen.{IsHeldToken}
 use Rattle.sc_expand.specs.declared.call.Wanted.{Wanted}
-use Rattle.sc_subst.specs.declared.hidden.Hidden.{Hidden}
 use Rattle.sc_expand.proofs.beginning.wanted_arguments.Goals as goal
 
 pub loop-index-preserved : goal.loop-index-preserved
 loop-index-preserved c =
-    let raw = map (λ (a : Vec Hidden Global). a.items) c.args.raw.now in
+    let raw = c.args.raw.now in
     let wanted = c.args.wanted.now in
     let i = c.loop-index.index - 1 in
     let n = get_or wanted i 0 in
@@ -25,6 +24,6 @@ loop-index-preserved c =
           ∙ (ap (λ r. with_argument raw n ∷ r) c.loop-index.invariant.is
           ∙ ap (map (with_argument raw)) (sym rest))));
       own = λ st files held.
-          let P : Wanted → Type 0 = λ w. All (IsHeldToken st files) w.tokens.items in
+          let P : Wanted → Type 0 = λ w. All (IsHeldToken st files) w.tokens in
           subst (All P) (sym c.in_ok-push.ensures.items) (All-push P made value (c.loop-index.invariant.own st files held) (c.in_ok-tokens.ensures.own st files held));
     }

@@ -12,7 +12,7 @@ use Rattle.sc_guarded.specs.Items.{items_at}
 use Rattle.sc_hoist.specs.Alike.{AreAlike, IsAlike}
 use Rattle.sc_model.proofs.SetLemmas.{IsConfig-Keeps, Keeps-trans}
 use Rattle.sc_subst.proofs.Later.{hide_later}
-use Rattle.sc_subst.proofs.Tokens.{spaced_first}
+use Rattle.sc_subst.proofs.TokenLemmas.{spaced_first}
 use Rattle.sc_subst.specs.declared.hidden.Hidden.{Hidden}
 use Rattle.sc_subst.specs.Parts.{filled_in, seen_part}
 use Rattle.sc_subst.specs.Seen.{hide_at, seen_hidden}

@@ -3,7 +3,7 @@ use Rattle.std.specs.Prelude.{All}
 use Rattle.c11_macros.specs.Substitution.{hiding, with_space}
 use Rattle.sc_subst.specs.Seen.{IsHeldHidden, hide_at, seen_hidden}
 use Rattle.sc_subst.proofs.Store.{if_ok}
-use Rattle.sc_subst.proofs.Tokens.{held_first, spaced_first}
+use Rattle.sc_subst.proofs.TokenLemmas.{held_first, spaced_first}
 use Rattle.sc_subst.proofs.filling.fill.Goals as goal
 
 pub hide_all-requires-clause-tokens : goal.hide_all-requires-clause-tokens

@@ -9,7 +9,7 @@ use Rattle.sc_subst.specs.Seen.{IsHeldHidden, hide_at, seen_hidden}
 use Rattle.sc_subst.proofs.Gluing.{hiddens_later}
 use Rattle.sc_subst.proofs.Later.{IsHeldHidden-Extends, IsHeldSet-Extends}
 use Rattle.sc_subst.proofs.Quoting.{blank}
-use Rattle.sc_subst.proofs.Tokens.{hides_more, mapped_more}
+use Rattle.sc_subst.proofs.TokenLemmas.{hides_more, mapped_more}
 use Rattle.sc_subst.proofs.filling.hide_all.Goals as goal
 
 pub loop-token-preserved : goal.loop-token-preserved

@@ -1,6 +1,6 @@
 use Rattle.std.proofs.Common.{◌∙◌, sym}
 use Rattle.sc_subst.specs.Seen.{seen_hidden}
-use Rattle.sc_subst.proofs.Tokens.{held_put, put_none, put_some}
+use Rattle.sc_subst.proofs.TokenLemmas.{held_put, put_none, put_some}
 use Rattle.sc_subst.proofs.filling.put_argument.Goals as goal
 
 pub returns-then-is_empty-clause-is : goal.returns-then-is_empty-clause-is

@@ -8,7 +8,7 @@ use Rattle.sc_subst.proofs.filling.tokens_in.Given as goal
 -- what was made, and the parts that are left
 abbrev pub invariant-loop-part : goal.invariant-loop-part
 invariant-loop-part l = record {
-  is : (names : List (List ℕ)) (sets : List (List Name)) → map (seen_hidden names sets) l.made.items ++ filled_in (seen_arguments names sets (map (λ a. a.items) l.expanded)) (map (seen_part names sets) (drop l.part-index l.template))
-      ≡ filled_in (seen_arguments names sets (map (λ a. a.items) l.expanded)) (map (seen_part names sets) l.template);
-  own : (names : List (List ℕ)) (sets : List (List Name)) → All (IsHeldPart names sets) l.template → AreHeldArguments names sets (map (λ a. a.items) l.expanded) → All (IsHeldHidden names sets) l.made.items;
+  is : (names : List (List ℕ)) (sets : List (List Name)) → map (seen_hidden names sets) l.made.items ++ filled_in (seen_arguments names sets l.expanded) (map (seen_part names sets) (drop l.part-index l.template))
+      ≡ filled_in (seen_arguments names sets l.expanded) (map (seen_part names sets) l.template);
+  own : (names : List (List ℕ)) (sets : List (List Name)) → All (IsHeldPart names sets) l.template → AreHeldArguments names sets l.expanded → All (IsHeldHidden names sets) l.made.items;
 }

@@ -18,6 +18,6 @@ invariant-loop-i l = record {
   held : IsHeldLeft l.names l.sets l.left;
   pasting : l.behind ≡ false → is_pasting l.left ≡ false;
   is : Lasting l.names l.sets (λ names sets. (head : model.Hidden Place) (expanded : List (List (model.Hidden Place)))
-      → tokens_behind names sets head expanded [] left.Nothing (pieces_in (seen_arguments names sets (map (λ a. a.items) l.raw)) expanded false (map (seen_slot names sets) l.slots))
-      ≡ tokens_behind names sets head expanded l.parts.items l.left (pieces_in (seen_arguments names sets (map (λ a. a.items) l.raw)) expanded l.behind (map (seen_slot names sets) (drop l.i l.slots))));
+      → tokens_behind names sets head expanded [] left.Nothing (pieces_in (seen_arguments names sets l.raw) expanded false (map (seen_slot names sets) l.slots))
+      ≡ tokens_behind names sets head expanded l.parts.items l.left (pieces_in (seen_arguments names sets l.raw) expanded l.behind (map (seen_slot names sets) (drop l.i l.slots))));
 }

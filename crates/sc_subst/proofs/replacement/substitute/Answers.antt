@@ -15,14 +15,14 @@ use Rattle.sc_subst.proofs.replacement.substitute.Goals as goal
 pub fill-requires : goal.fill-requires
 fill-requires c = record {
   template = subst (All (IsHeldPart c.template.new.names c.template.new.sets)) (sym c.deref.ensures.value) c.in-Ok.ensures.own;
-  expanded = arguments_later (map (λ a. a.items) c.args.expanded.now) c.requires.expanded c.template.ensures.names c.template.ensures.sets;
+  expanded = arguments_later c.args.expanded.now c.requires.expanded c.template.ensures.names c.template.ensures.sets;
   hide = IsHeldSet-Extends c.args.hide.0 c.requires.hide c.template.ensures.names c.template.ensures.sets;
 }
 
 pub returns-in_ok-made-in-Ok-clause-ok : goal.returns-in_ok-made-in-Ok-clause-ok
 returns-in_ok-made-in-Ok-clause-ok c = record {
   at = λ n s en es head provenance at space mark.
-      let xs = seen_arguments n s (map (λ a. a.items) c.args.expanded.now) in
+      let xs = seen_arguments n s c.args.expanded.now in
       c.in-Ok.ensures.ok.at n s en (Extends-trans c.fill.ensures.sets es) head (map (λ ts. Ok ts) xs) provenance (hide_at n s c.args.hide.0) at
       ∙ (completed_ok provenance head (hide_at n s c.args.hide.0) (wanted_of (seen_form n c.args.form.now) (map (seen_item n) c.args.items.now)) xs (Ok (map (seen_part n s) c.in-Ok.parts.items))
       ∙ ap Ok (ap (λ b. hiding provenance (hide_at n s c.args.hide.0) (with_space b (filled_in xs (map (seen_part n s) c.in-Ok.parts.items)))) space
@@ -35,7 +35,7 @@ returns-in-Err-clause-err c =
     on_fault _ _ c.in-Err.stop
     (λ cause h. record {
       at = λ n s en es head provenance at.
-          let xs = seen_arguments n s (map (λ a. a.items) c.args.expanded.now) in
+          let xs = seen_arguments n s c.args.expanded.now in
           by_operator provenance head (hide_at n s c.args.hide.0) (wanted_of (seen_form n c.args.form.now) (map (seen_item n) c.args.items.now)) xs cause _
           (h.at n s en es head (map (λ ts. Ok ts) xs) provenance (hide_at n s c.args.hide.0) at);
     }) c.in-Err.ensures.err

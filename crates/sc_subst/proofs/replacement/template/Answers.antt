@@ -24,9 +24,9 @@ returns-in-Ok-clause-ok c =
     if_ok _ _ c.glue.result
     (λ result h. record {
       at = λ n s en es head results provenance hidden at.
-          in_halves provenance (seen_form n c.args.form.now) (map (seen_item n) c.args.items.now) head (seen_arguments n s (map (λ a. a.items) c.args.raw.now)) results hidden (map (seen_slot n s) c.in-Ok.slots.items)
+          in_halves provenance (seen_form n c.args.form.now) (map (seen_item n) c.args.items.now) head (seen_arguments n s c.args.raw.now) results hidden (map (seen_slot n s) c.in-Ok.slots.items)
           (Ok (map (seen_part n s) result.items)) (c.in-Ok.ensures.ok.at n s (Extends-trans c.glue.ensures.names en) (Extends-trans c.glue.ensures.sets es) head at)
-          (ap (λ ss. result_map tokens_of (all_glued head (pieces_in (seen_arguments n s (map (λ a. a.items) c.args.raw.now)) (expansions results) false (map (seen_slot n s) ss)))) (sym c.deref.ensures.value)
+          (ap (λ ss. result_map tokens_of (all_glued head (pieces_in (seen_arguments n s c.args.raw.now) (expansions results) false (map (seen_slot n s) ss)))) (sym c.deref.ensures.value)
           ∙ h.at n s en es head (expansions results));
     }) c.glue.ensures.ok
 
@@ -37,9 +37,9 @@ returns-in-Ok-clause-wanted c =
     let head : model.Hidden Place = record { kind = Identifier; spelling = []; space = false; place = c.args.place; hide = no_names } in
     if_ok _ _ c.glue.result
     (λ result h. parts_wanted n s (wanted_of (seen_form n c.args.form.now) (map (seen_item n) c.args.items.now)) result.items
-    (place_wanted head (seen_arguments n s (map (λ a. a.items) c.args.raw.now)) (parts (seen_form n c.args.form.now) neither (map (seen_item n) c.args.items.now)) (map (seen_slot n s) c.in-Ok.slots.items)
+    (place_wanted head (seen_arguments n s c.args.raw.now) (parts (seen_form n c.args.form.now) neither (map (seen_item n) c.args.items.now)) (map (seen_slot n s) c.in-Ok.slots.items)
     (c.in-Ok.ensures.ok.at n s c.glue.ensures.names c.glue.ensures.sets head refl) (map (seen_part n s) result.items)
-    (λ xs. ap (λ ss. result_map tokens_of (all_glued head (pieces_in (seen_arguments n s (map (λ a. a.items) c.args.raw.now)) xs false (map (seen_slot n s) ss)))) (sym c.deref.ensures.value)
+    (λ xs. ap (λ ss. result_map tokens_of (all_glued head (pieces_in (seen_arguments n s c.args.raw.now) xs false (map (seen_slot n s) ss)))) (sym c.deref.ensures.value)
     ∙ h.at n s (Extends-refl n) (Extends-refl s) head xs))) c.glue.ensures.ok
 
 pub returns-in-Ok-clause-err : goal.returns-in-Ok-clause-err
@@ -48,11 +48,11 @@ returns-in-Ok-clause-err c =
     (λ stop k. on_fault _ _ stop
     (λ cause h. record {
       at = λ n s en es head results provenance hidden at.
-          let raw = seen_arguments n s (map (λ a. a.items) c.args.raw.now) in
+          let raw = seen_arguments n s c.args.raw.now in
           let glued = ap (λ ss. result_map tokens_of (all_glued head (pieces_in raw (expansions results) false (map (seen_slot n s) ss)))) (sym c.deref.ensures.value) ∙ h.at n s en es head (expansions results) in
           let is = cause_of cause BadPaste head (glue_fails head (pieces_in raw (expansions results) false (map (seen_slot n s) c.in-Ok.slots.items)) (failure_at cause head) glued) in
           by_paste cause _ _ is
-          (in_halves provenance (seen_form n c.args.form.now) (map (seen_item n) c.args.items.now) head (seen_arguments n s (map (λ a. a.items) c.args.raw.now)) results hidden (map (seen_slot n s) c.in-Ok.slots.items)
+          (in_halves provenance (seen_form n c.args.form.now) (map (seen_item n) c.args.items.now) head (seen_arguments n s c.args.raw.now) results hidden (map (seen_slot n s) c.in-Ok.slots.items)
           (Err (failure_at BadPaste head)) (c.in-Ok.ensures.ok.at n s (Extends-trans c.glue.ensures.names en) (Extends-trans c.glue.ensures.sets es) head at)
           (glued ∙ ap (λ x. Err (failure_at x head)) is));
     }) k) c.glue.ensures.err
@@ -63,14 +63,14 @@ returns-in-Err-clause-err c =
     (λ cause h. record {
       at = λ n s en es head results provenance hidden at.
           let made = h.at n s en es head at in
-          let is = slots_fail head (seen_arguments n s (map (λ a. a.items) c.args.raw.now)) (parts (seen_form n c.args.form.now) neither (map (seen_item n) c.args.items.now)) (failure_at cause head) made in
+          let is = slots_fail head (seen_arguments n s c.args.raw.now) (parts (seen_form n c.args.form.now) neither (map (seen_item n) c.args.items.now)) (failure_at cause head) made in
           by_hash cause _ _ (cause_of cause BadStringize head is)
-          (refused provenance (seen_form n c.args.form.now) (map (seen_item n) c.args.items.now) head (seen_arguments n s (map (λ a. a.items) c.args.raw.now)) results hidden (failure_at BadStringize head)
+          (refused provenance (seen_form n c.args.form.now) (map (seen_item n) c.args.items.now) head (seen_arguments n s c.args.raw.now) results hidden (failure_at BadStringize head)
           (made ∙ ap Err is));
     }) c.in-Err.ensures.err
 
 pub glue-requires : goal.glue-requires
 glue-requires c = record {
   slots = subst (All (IsHeldSlot c.slots.new.names c.args.sets.now)) (sym c.deref.ensures.value) c.in-Ok.ensures.own;
-  raw = arguments_later (map (λ a. a.items) c.args.raw.now) c.requires.raw c.slots.ensures.names (Extends-refl c.args.sets.now);
+  raw = arguments_later c.args.raw.now c.requires.raw c.slots.ensures.names (Extends-refl c.args.sets.now);
 }

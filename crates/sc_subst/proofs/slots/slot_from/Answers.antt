@@ -13,13 +13,13 @@ returns-in-Token-clause-ok c =
 
 pub returns-in-Ok-clause-ok : goal.returns-in-Ok-clause-ok
 returns-in-Ok-clause-ok c =
-    rw c.in-Literal.is (literal_is c.in-Literal.parameter c.in-Literal.hash c.stringize.new.names c.args.sets.now (map (λ a. a.items) c.args.raw.now) c.args.place (λ n s head. Ok (seen_hidden n s c.in-Ok.literal))
+    rw c.in-Literal.is (literal_is c.in-Literal.parameter c.in-Literal.hash c.stringize.new.names c.args.sets.now c.args.raw.now c.args.place (λ n s head. Ok (seen_hidden n s c.in-Ok.literal))
     (subst (λ ts. Lasting c.stringize.new.names c.args.sets.now (λ n s. (head : model.Hidden Place) → head.place ≡ c.args.place → stringized head c.in-Literal.hash.space (map (seen_hidden n s) ts) ≡ Ok (seen_hidden n s c.in-Ok.literal)))
     c.argument.ensures c.in-Ok.ensures.ok))
 
 pub returns-in-Err-clause-err : goal.returns-in-Err-clause-err
 returns-in-Err-clause-err c =
     rw c.in-Literal.is (on_fault _ _ c.in-Err.stop
-    (λ cause h. literal_is c.in-Literal.parameter c.in-Literal.hash c.stringize.new.names c.args.sets.now (map (λ a. a.items) c.args.raw.now) c.args.place (λ n s head. Err (failure_at cause head))
+    (λ cause h. literal_is c.in-Literal.parameter c.in-Literal.hash c.stringize.new.names c.args.sets.now c.args.raw.now c.args.place (λ n s head. Err (failure_at cause head))
     (subst (λ ts. Lasting c.stringize.new.names c.args.sets.now (λ n s. (head : model.Hidden Place) → head.place ≡ c.args.place → stringized head c.in-Literal.hash.space (map (seen_hidden n s) ts) ≡ Err (failure_at cause head)))
     c.argument.ensures h)) c.in-Err.ensures.err)

@@ -18,7 +18,7 @@ returns-in-Err-clause-err c =
     on_fault _ _ c.in-Err.stop
     (λ cause h. record {
       at = λ n s en es head at.
-          let raw = seen_arguments n s (map (λ a. a.items) c.args.raw.now) in
+          let raw = seen_arguments n s c.args.raw.now in
           let i = c.loop-part.part-index in
           let ps = c.args.parts.now in
           fails _ (slots head raw (map (seen_list_part n) (drop i ps))) (map (seen_slot n s) c.loop-part.made.items) (failure_at cause head)
@@ -35,7 +35,7 @@ loop-part-preserved c = record {
       c.in-Ok.ensures.own);
   is = record {
     at = λ n s en es head at.
-        let raw = seen_arguments n s (map (λ a. a.items) c.args.raw.now) in
+        let raw = seen_arguments n s c.args.raw.now in
         let i = c.loop-part.part-index in
         let ps = c.args.parts.now in
         turned _ (slots head raw (map (seen_list_part n) (drop i ps))) (slots head raw (map (seen_list_part n) (drop (i + 1) ps))) (map (seen_slot n s) c.loop-part.made.items) (seen_slot n s c.in-Ok.slot ∷ [])
@@ -50,7 +50,7 @@ pub returns-clause-ok : goal.returns-clause-ok
 returns-clause-ok c = record {
   at = λ n s en es head at.
       c.loop-part.invariant.is.at n s en es head at
-      ∙ (ap (λ ps. result_map (λ ss. map (seen_slot n s) c.loop-part.made.items ++ ss) (slots head (seen_arguments n s (map (λ a. a.items) c.args.raw.now)) (map (seen_list_part n) ps)))
+      ∙ (ap (λ ps. result_map (λ ss. map (seen_slot n s) c.loop-part.made.items ++ ss) (slots head (seen_arguments n s c.args.raw.now) (map (seen_list_part n) ps)))
       (drop_all c.loop-part.part-index c.args.parts.now c.loop-part-test.false)
       ∙ ap Ok (append-nil (map (seen_slot n s) c.loop-part.made.items)));
 }
@@ -58,5 +58,5 @@ returns-clause-ok c = record {
 pub slot_from-requires : goal.slot_from-requires
 slot_from-requires c = record {
   part = list_part_held (get_or c.args.parts.now c.loop-part.part-index blank_part) (c.requires.parts c.loop-part.part-index blank_part c.loop-part-test.true) c.loop-part.invariant.grows;
-  raw = arguments_later (map (λ a. a.items) c.args.raw.now) c.requires.raw c.loop-part.invariant.grows (Extends-refl c.args.sets.now);
+  raw = arguments_later c.args.raw.now c.requires.raw c.loop-part.invariant.grows (Extends-refl c.args.sets.now);
 }

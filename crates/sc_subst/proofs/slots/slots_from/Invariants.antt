@@ -16,6 +16,6 @@ invariant-loop-part l = record {
   grows : Extends l.fn.names l.names;
   own : All (IsHeldSlot l.names l.sets) l.made.items;
   is : Lasting l.names l.sets (λ names sets. (head : model.Hidden Place) → head.place ≡ l.place
-      → slots head (seen_arguments names sets (map (λ a. a.items) l.raw)) (map (seen_list_part names) l.parts)
-      ≡ result_map (λ ss. map (seen_slot names sets) l.made.items ++ ss) (slots head (seen_arguments names sets (map (λ a. a.items) l.raw)) (map (seen_list_part names) (drop l.part-index l.parts))));
+      → slots head (seen_arguments names sets l.raw) (map (seen_list_part names) l.parts)
+      ≡ result_map (λ ss. map (seen_slot names sets) l.made.items ++ ss) (slots head (seen_arguments names sets l.raw) (map (seen_list_part names) (drop l.part-index l.parts))));
 }

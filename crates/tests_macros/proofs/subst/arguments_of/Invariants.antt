@@ -1,6 +1,5 @@
-use Rattle.std.proofs.Common.{map}
 use Rattle.sc_subst.specs.Parts.{AreHeldArguments}
 use Rattle.tests_macros.proofs.subst.arguments_of.Given as goal
 
 abbrev pub invariant-loop-line : goal.invariant-loop-line
-invariant-loop-line l = AreHeldArguments l.names l.sets (map (λ list. list.items) l.lists.items)
+invariant-loop-line l = AreHeldArguments l.names l.sets l.lists.items

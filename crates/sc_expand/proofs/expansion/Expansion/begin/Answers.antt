@@ -40,7 +40,7 @@ returns-in_ok-push-in-Some-clause-begins g c = λ x provenance d listed has form
     let grows : Grows (stores s c.args.names.now c.args.self.now.sets) (stores s n h) = record { sets = Keeps-refl s; names = c.begin_call.ensures.names; hides = c.begin_call.ensures.sets } in
     let call = c.in-Some.call in
     let items = map (seen_item n) c.args.items.now in
-    let raw = map (λ a. a.items) c.args.raw.now in
+    let raw = c.args.raw.now in
     let P : Form → Type 0 = λ f. beginning.Begins n h f items c.args.cond c.args.head c.args.close raw call in
     let begun = in_some _ c.in_ok-made.made call c.in-Some.is c.in_ok-made.ensures.some in
     let here = subst P (sym formed) begun in
@@ -77,7 +77,7 @@ returns-in-None-clause-begins g c = both-on-ok c.refuse.result
     record { sets = c.refuse.ensures.keeps; names = c.begin_call.ensures.names; hides = c.begin_call.ensures.sets } in
     let t = seen_hidden n h c.args.head in
     let close = seen_hidden n h c.args.close in
-    let raw = seen_arguments n h (map (λ a. a.items) c.args.raw.now) in
+    let raw = seen_arguments n h c.args.raw.now in
     let hidden = with_name (meet t.hide close.hide) t.spelling in
     let failure = failure_at BadStringize t in
     let none = in_none c.in_ok-made.made c.in-None.is c.in_ok-made.ensures.none in

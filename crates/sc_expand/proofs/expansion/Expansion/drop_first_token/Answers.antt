@@ -1,10 +1,10 @@
-use Rattle.std.proofs.Common.{◌∷◌, ap, refl, sym, ◌∙◌}
+use Rattle.std.proofs.Common.{subst, sym, ◌∙◌}
 use Rattle.sc_base.proofs.Growth.{Extends-refl}
 use Rattle.sc_base.specs.declared.id.Cond.{Cond}
 use Rattle.sc_expand.proofs.AlikeLemmas.{All-at}
-use Rattle.sc_expand.proofs.Rests.{first-is, never-at, rested-Grows, rested-then, rested-token}
+use Rattle.sc_expand.proofs.Rests.{never-at, rested-Grows, rested-then, rested-tokens}
 use Rattle.sc_expand.proofs.SeenLemmas.{Grows-refl}
-use Rattle.sc_expand.specs.declared.expansion.Expansion.{Expansion}
+use Rattle.sc_expand.specs.Running.{IsRested}
 use Rattle.sc_expand.specs.Seen.{Grows, stores}
 use Rattle.sc_model.proofs.SetLemmas.{Denotes-self}
 use Rattle.sc_model.specs.Sets.{IsCond}
@@ -38,6 +38,6 @@ returns-clause-rested g c = λ names.
     let own = All-at (λ (item : Cond × Hidden). IsCond was item.0.0) e.top.work 0 item is held.top.work.own in
     let both = c.in_ok-cond.ensures.meaning (was.has item.0.0) (was.has e.refusals.live.0) (Denotes-self was item.0.0 own) (Denotes-self was e.refusals.live.0 held.refusals.live) in
     let never = never-at c.apply_and.ensures.keeps item.0 e.refusals.live c.in_ok-cond.cond own held.refusals.live both (c.is_never.ensures.0 c.if-not-is_never.false) in
-    let after : Expansion = record e { top = record e.top { work = c.drop_first.new.self } } in
+    let drops = c.drop_alike.ensures in
     rested-then grows (rested-Grows grows e)
-    (rested-token mid e after refl refl item never (first-is e.top.work item is ∙ ap (λ l. item ∷ l) (sym c.drop_first.ensures)) refl refl refl)
+    (subst (λ work. IsRested mid mid e (record e { top = record e.top { work = work } })) (sym drops.is) (rested-tokens mid e item.0 never drops.count e.top.work (drops.alike item is)))

@@ -1,5 +1,5 @@
-use Rattle.std.proofs.Common.{◌≡◌, ℕ, ◌<◌, Bool, List, All, Some, None, length, map, refl, sym, ap, subst, ◌∙◌, Vec, Global}
-use Rattle.std.proofs.lemmas.List.Elements.{All-head, All-map, All-tail}
+use Rattle.std.proofs.Common.{◌≡◌, ℕ, Bool, List, All, Some, None, length, refl, sym, ap, subst, ◌∙◌}
+use Rattle.std.proofs.lemmas.List.Elements.{All-head, All-tail}
 use Rattle.std.specs.Option.{option_map}
 use Rattle.c11_macros.specs.Call.{arguments_for}
 use Rattle.c11_macros.specs.Hidden.{failure_at}
@@ -29,9 +29,8 @@ pub arguments-requires : goal.arguments-requires
 arguments-requires g c =
     let files = c.requires.held.0 in
     let H : Hidden → Type 0 = IsHeldToken (stores (g.C.Conditions.sets c.args.conds.now) c.args.names.now c.args.self.now.sets) files in
-    let Q : Hidden → Type 0 = λ h. h.token.spelling.0 < length c.args.names.now in
-    let rest = All-tail H c.in_ok-call.call.close c.in_ok-call.call.between.items (c.in_ok-call.ensures.own files c.requires.held.1.top.work) in
-    subst (All Q) (sym c.deref.ensures.value) (λ k d h. (rest k d h).held.token.spelling)
+    let rest = All-tail H c.in_ok-call.call.close c.in_ok-call.call.between (c.in_ok-call.ensures.own files c.requires.held.1.top.work) in
+    λ k d h. (rest k d h).held.token.spelling
 
 pub begin-requires-clause-cond_own : goal.begin-requires-clause-cond_own
 begin-requires-clause-cond_own g c = c.take_call.ensures.keeps.own _ c.requires.branch.own
@@ -45,7 +44,7 @@ begin-requires-clause-held g c =
     let n = c.args.names.now in
     let e0 = c.args.self.now in
     let e1 = c.take_call.new.self in
-    let between = c.in_ok-call.call.between.items in
+    let between = c.in_ok-call.call.between in
     let close = c.in_ok-call.call.close in
     let told = c.in_ok-call.ensures in
     let left = left-by s0 s1 n e0 e1 c.args.branch.now between close c.take_call.ensures.keeps c.take_call.ensures.sets told.top told.refusals told.below told.call told.others told.first told.rest told.alike in
@@ -64,7 +63,7 @@ pub begin-requires-clause-close : goal.begin-requires-clause-close
 begin-requires-clause-close g c =
     let files = c.requires.held.0 in
     let H : Hidden → Type 0 = IsHeldToken (stores (g.C.Conditions.sets c.args.conds.now) c.args.names.now c.args.self.now.sets) files in
-    let first = All-head H c.in_ok-call.call.close c.in_ok-call.call.between.items (c.in_ok-call.ensures.own files c.requires.held.1.top.work) in
+    let first = All-head H c.in_ok-call.call.close c.in_ok-call.call.between (c.in_ok-call.ensures.own files c.requires.held.1.top.work) in
     let P : List (List Name) → Type 0 = λ h. IsHeldHidden c.args.names.now h c.in_ok-call.call.close in
     subst P (sym c.take_call.ensures.sets) first.held
 
@@ -74,12 +73,12 @@ begin-requires-clause-raw g c =
     let h1 = c.take_call.new.self.sets in
     let files = c.requires.held.0 in
     let H : Hidden → Type 0 = IsHeldToken (stores (g.C.Conditions.sets c.args.conds.now) n c.args.self.now.sets) files in
-    let rest = All-tail H c.in_ok-call.call.close c.in_ok-call.call.between.items (c.in_ok-call.ensures.own files c.requires.held.1.top.work) in
-    let P : List (List Name) → Type 0 = λ h. All (IsHeldHidden n h) c.in_ok-call.call.between.items in
-    let between = subst (All (IsHeldHidden n h1)) (sym c.deref.ensures.value) (subst P (sym c.take_call.ensures.sets) (λ k d h. (rest k d h).held)) in
-    let V : List (Vec Hidden Global) → Type 0 = λ l. All (λ (a : Vec Hidden Global). All (IsHeldHidden n h1) a.items) l in
+    let rest = All-tail H c.in_ok-call.call.close c.in_ok-call.call.between (c.in_ok-call.ensures.own files c.requires.held.1.top.work) in
+    let P : List (List Name) → Type 0 = λ h. All (IsHeldHidden n h) c.in_ok-call.call.between in
+    let between = subst P (sym c.take_call.ensures.sets) (λ k d h. (rest k d h).held) in
+    let V : List (List Hidden) → Type 0 = All (All (IsHeldHidden n h1)) in
     let raw = in_some _ c.in_ok-fit.fit c.in-Some.raw c.in-Some.is (c.in_ok-fit.ensures.own h1 between) in
-    All-map (All (IsHeldHidden n h1)) (λ a. a.items) c.deref-in-Some.result.now (subst V (sym c.deref-in-Some.ensures.value) raw)
+    subst V (sym c.deref.ensures.value) raw
 
 pub returns-in-Some-clause-held : goal.returns-in-Some-clause-held
 returns-in-Some-clause-held g c = on-ok c.begin.result
@@ -89,7 +88,7 @@ returns-in-Some-clause-held g c = on-ok c.begin.result
     let n = c.args.names.now in
     let e0 = c.args.self.now in
     let e1 = c.take_call.new.self in
-    let between = c.in_ok-call.call.between.items in
+    let between = c.in_ok-call.call.between in
     let close = c.in_ok-call.call.close in
     let told = c.in_ok-call.ensures in
     let left = left-by s0 s1 n e0 e1 c.args.branch.now between close c.take_call.ensures.keeps c.take_call.ensures.sets told.top told.refusals told.below told.call told.others told.first told.rest told.alike in
@@ -97,18 +96,18 @@ returns-in-Some-clause-held g c = on-ok c.begin.result
     let own = told.own files held.top.work in
     let here = told.held files held.top.work in
     let head = head-held H e0.top.work c.args.head held.top.work.held c.requires.head in
-    let raw = map (λ (a : Vec Hidden Global). a.items) c.in-Some.raw.items in
+    let raw = c.in-Some.raw.items in
     let fits : (parameters : List (List ℕ)) (variadic : Bool) → seen_form n c.args.form.now ≡ function_like parameters variadic
     → seen_fit n e0.sets (Some raw) ≡ arguments_for parameters variadic (parted (length parameters) 0 (seen_list n e0.sets between)) =
-    λ parameters variadic is. sym (ap (option_map (λ made. seen_arguments n e0.sets (map (λ a. a.items) made.items))) c.in-Some.is)
-    ∙ (c.in_ok-fit.ensures.is e0.sets parameters variadic is ∙ ap (λ l. arguments_for parameters variadic (parted (length parameters) 0 (seen_list n e0.sets l))) c.deref.ensures.value) in
+    λ parameters variadic is. sym (ap (option_map (λ made. seen_arguments n e0.sets made.items)) c.in-Some.is)
+    ∙ c.in_ok-fit.ensures.is e0.sets parameters variadic is in
     let f = function-form (seen_form n c.args.form.now) c.requires.function in
     let rest = All-tail H close between own in
-    let hidden = in_some _ c.in_ok-fit.fit c.in-Some.raw c.in-Some.is (c.in_ok-fit.ensures.own e0.sets (subst (All (IsHeldHidden n e0.sets)) (sym c.deref.ensures.value) (λ k d h. (rest k d h).held))) in
+    let hidden = in_some _ c.in_ok-fit.fit c.in-Some.raw c.in-Some.is (c.in_ok-fit.ensures.own e0.sets (λ k d h. (rest k d h).held)) in
     let all = arguments-held (stores s0 n e0.sets) files between c.in-Some.raw.items f.parameters f.variadic (sym (fits f.parameters f.variadic f.is)) rest hidden in
     let grows = left-grows left files held in
-    let V : List (Vec Hidden Global) → Type 0 = λ l. All (λ (a : Vec Hidden Global). All (IsHeldToken (stores s1 n e1.sets) files) a.items) l in
-    begun files (left-held left files held here) (token-Grows grows c.args.head head) (subst V (sym c.deref-in-Some.ensures.value) (λ k d h j x i. token-Grows grows _ (all k d h j x i))))
+    let V : List (List Hidden) → Type 0 = All (All (IsHeldToken (stores s1 n e1.sets) files)) in
+    begun files (left-held left files held here) (token-Grows grows c.args.head head) (subst V (sym c.deref.ensures.value) (λ k d h j x i. token-Grows grows _ (all k d h j x i))))
     c.begin.ensures.held
 
 pub returns-in-Some-clause-gathered : goal.returns-in-Some-clause-gathered
@@ -121,7 +120,7 @@ returns-in-Some-clause-gathered g c = four-on-ok c.begin.result
     let n = c.args.names.now in
     let e0 = c.args.self.now in
     let e1 = c.take_call.new.self in
-    let between = c.in_ok-call.call.between.items in
+    let between = c.in_ok-call.call.between in
     let close = c.in_ok-call.call.close in
     let told = c.in_ok-call.ensures in
     let left = left-by s0 s1 n e0 e1 c.args.branch.now between close c.take_call.ensures.keeps c.take_call.ensures.sets told.top told.refusals told.below told.call told.others told.first told.rest told.alike in
@@ -129,21 +128,21 @@ returns-in-Some-clause-gathered g c = four-on-ok c.begin.result
     let own = told.own files held.top.work in
     let here = told.held files held.top.work in
     let head = head-held H e0.top.work c.args.head held.top.work.held c.requires.head in
-    let raw = map (λ (a : Vec Hidden Global). a.items) c.in-Some.raw.items in
+    let raw = c.in-Some.raw.items in
     let fits : (parameters : List (List ℕ)) (variadic : Bool) → seen_form n c.args.form.now ≡ function_like parameters variadic
     → seen_fit n e0.sets (Some raw) ≡ arguments_for parameters variadic (parted (length parameters) 0 (seen_list n e0.sets between)) =
-    λ parameters variadic is. sym (ap (option_map (λ made. seen_arguments n e0.sets (map (λ a. a.items) made.items))) c.in-Some.is)
-    ∙ (c.in_ok-fit.ensures.is e0.sets parameters variadic is ∙ ap (λ l. arguments_for parameters variadic (parted (length parameters) 0 (seen_list n e0.sets l))) c.deref.ensures.value) in
+    λ parameters variadic is. sym (ap (option_map (λ made. seen_arguments n e0.sets made.items)) c.in-Some.is)
+    ∙ c.in_ok-fit.ensures.is e0.sets parameters variadic is in
     let rest = All-tail H close between own in
-    let hidden = in_some _ c.in_ok-fit.fit c.in-Some.raw c.in-Some.is (c.in_ok-fit.ensures.own e0.sets (subst (All (IsHeldHidden n e0.sets)) (sym c.deref.ensures.value) (λ k d h. (rest k d h).held))) in
+    let hidden = in_some _ c.in_ok-fit.fit c.in-Some.raw c.in-Some.is (c.in_ok-fit.ensures.own e0.sets (λ k d h. (rest k d h).held)) in
     let s2 = g.C.Conditions.sets c.begin.new.conds in
     let n2 = c.begin.new.names in
     let e2 = c.begin.new.self in
     let grows : Grows (stores s1 n e1.sets) (stores s2 n2 e2.sets) = record { sets = c.begin.ensures.keeps; names = c.begin.ensures.names; hides = c.begin.ensures.sets } in
     begun-gathered left files held c.args.form.now c.args.items.now c.args.head c.requires.branch c.requires.function (Some raw) fits here n2 s2 e2 grows work others alike raw refl head.held
-    (All-head H close between own).held (All-map (All (IsHeldHidden n e0.sets)) (λ a. a.items) c.in-Some.raw.items hidden) c.requires.form c.requires.items
-    (λ x provenance d listed has formed list. subst (λ v. Begins provenance d (seen_hidden n2 e2.sets c.args.head) (seen_hidden n2 e2.sets close) (seen_arguments n2 e2.sets (map (λ a. a.items) v))
-    (at (stores s1 n e1.sets) e1 x) (at (stores s2 n2 e2.sets) e2 x)) c.deref-in-Some.ensures.value (begins x provenance d listed has formed list)))
+    (All-head H close between own).held hidden c.requires.form c.requires.items
+    (λ x provenance d listed has formed list. subst (λ v. Begins provenance d (seen_hidden n2 e2.sets c.args.head) (seen_hidden n2 e2.sets close) (seen_arguments n2 e2.sets v)
+    (at (stores s1 n e1.sets) e1 x) (at (stores s2 n2 e2.sets) e2 x)) c.deref.ensures.value (begins x provenance d listed has formed list)))
     c.begin.ensures.begins c.begin.ensures.others c.begin.ensures.work c.begin.ensures.alike
 
 pub returns-in-Some-clause-keeps : goal.returns-in-Some-clause-keeps
@@ -160,7 +159,7 @@ returns-clause-held g c = on-ok c.refuse.result
     let n = c.args.names.now in
     let e0 = c.args.self.now in
     let e1 = c.take_call.new.self in
-    let between = c.in_ok-call.call.between.items in
+    let between = c.in_ok-call.call.between in
     let close = c.in_ok-call.call.close in
     let told = c.in_ok-call.ensures in
     let left = left-by s0 s1 n e0 e1 c.args.branch.now between close c.take_call.ensures.keeps c.take_call.ensures.sets told.top told.refusals told.below told.call told.others told.first told.rest told.alike in
@@ -184,15 +183,15 @@ returns-clause-gathered g c = three-on-ok c.refuse.result
     let n = c.args.names.now in
     let e0 = c.args.self.now in
     let e1 = c.take_call.new.self in
-    let between = c.in_ok-call.call.between.items in
+    let between = c.in_ok-call.call.between in
     let close = c.in_ok-call.call.close in
     let told = c.in_ok-call.ensures in
     let left = left-by s0 s1 n e0 e1 c.args.branch.now between close c.take_call.ensures.keeps c.take_call.ensures.sets told.top told.refusals told.below told.call told.others told.first told.rest told.alike in
     let here = told.held files held.top.work in
     let fits : (parameters : List (List ℕ)) (variadic : Bool) → seen_form n c.args.form.now ≡ function_like parameters variadic
     → seen_fit n e0.sets None ≡ arguments_for parameters variadic (parted (length parameters) 0 (seen_list n e0.sets between)) =
-    λ parameters variadic is. sym (ap (option_map (λ made. seen_arguments n e0.sets (map (λ a. a.items) made.items))) c.in-None.is)
-    ∙ (c.in_ok-fit.ensures.is e0.sets parameters variadic is ∙ ap (λ l. arguments_for parameters variadic (parted (length parameters) 0 (seen_list n e0.sets l))) c.deref.ensures.value) in
+    λ parameters variadic is. sym (ap (option_map (λ made. seen_arguments n e0.sets made.items)) c.in-None.is)
+    ∙ c.in_ok-fit.ensures.is e0.sets parameters variadic is in
     let s2 = g.C.Conditions.sets c.refuse.new.conds in
     let grows : Grows (stores s1 n e1.sets) (stores s2 n e1.sets) = record { sets = c.refuse.ensures.keeps; names = Extends-refl n; hides = Extends-refl e1.sets } in
     let mid = left-held left files held here in

@@ -39,7 +39,7 @@ returns-in-Some-clause-held g c = on-four c.enter.result c.enter.ensures.below c
     let later = record c.args.call { cond = c.in_ok-call.field-0; wanted = c.pop.new.self } in
     let popped : c.args.call.wanted.items ≡ c.pop.new.self.items ++ option_to_list (Some c.in-Some.wanted) = c.in-Some.ensures.items in
     let narrow = later-held c.args.call later (Some c.in-Some.wanted) wide c.in_ok-call.ensures.own popped refl refl refl refl in
-    let P : Wanted → Type 0 = λ w. All (IsHeldToken mid files) w.tokens.items in
+    let P : Wanted → Type 0 = λ w. All (IsHeldToken mid files) w.tokens in
     let tokens : P c.in-Some.wanted = (All-pop P c.args.call.wanted.items c.pop.new.self.items (Some c.in-Some.wanted) popped wide.wanted).1 in
     subst (λ h. IsHeldExpansion (stores (g.C.Conditions.sets c.apply_and.new.self) c.args.names.now h) files c.enter.new.self) (sym c.enter.ensures.sets)
     (entered-held mid files c.args.self.now c.enter.new.self later c.in-Some.wanted (IsHeldExpansion-Grows grows c.args.self.now held) narrow tokens c.enter.ensures.refusals below work out calls))

@@ -9,18 +9,18 @@ use Rattle.sc_subst.specs.Seen.{seen_hidden}
 use Rattle.sc_expand.specs.Seen.{IsHeldToken, stores}
 use Rattle.sc_expand.proofs.expansion.Expansion.take_call.Goals as goal
 
-pub slice_bounds-tokens_at-count : goal.slice_bounds-tokens_at-count
-slice_bounds-tokens_at-count g c =
+pub slice_bounds-between-count : goal.slice_bounds-between-count
+slice_bounds-between-count g c =
     let three = places-three (stores (g.C.Conditions.sets c.args.conds.now) c.args.names.now c.args.self.now.sets) c.args.self.now c.args.branch.now c.requires.branch in
     omega (arith, three, c.len-last.ensures, c.deref.ensures.len, ap length c.deref.ensures.value)
 
-pub slice_bounds-tokens_at-start : goal.slice_bounds-tokens_at-start
-slice_bounds-tokens_at-start g c =
+pub slice_bounds-between-start : goal.slice_bounds-between-start
+slice_bounds-between-start g c =
     let three = places-three (stores (g.C.Conditions.sets c.args.conds.now) c.args.names.now c.args.self.now.sets) c.args.self.now c.args.branch.now c.requires.branch in
     omega (arith, three, c.len-last.ensures, c.deref.ensures.len, ap length c.deref.ensures.value)
 
-pub tokens_at-requires : goal.tokens_at-requires
-tokens_at-requires g c =
+pub between-requires : goal.between-requires
+between-requires g c =
     let P : ℕ → Type 0 = λ p. p < length c.args.self.now.top.work in
     let below = places-below (stores (g.C.Conditions.sets c.args.conds.now) c.args.names.now c.args.self.now.sets) c.args.self.now c.args.branch.now c.requires.branch in
     All-take P (c.len-last.result - 1 - 2) (drop 2 c.deref.result.now) (All-drop P 2 c.deref.result.now (subst (All P) (sym c.deref.ensures.value) below))
@@ -59,7 +59,7 @@ returns-clause-call g c = λ x listed has.
     let end = c.index-end.result.now in
     let counted = c.len-last.ensures ∙ (sym c.deref.ensures.len ∙ ap length c.deref.ensures.value) in
     let follows = c.in_ok-take_out.ensures.taken x listed ∙ ap (λ b. if b then items_at s (drop (end + 1) list) x else items_at s list x) has in
-    call-taken st list _ c.args.branch.now.places.items x c.in_ok-between.between.items c.item.result end c.len-last.result (branch-placed st c.args.self.now c.args.branch.now c.requires.branch x listed has)
+    call-taken st list _ c.args.branch.now.places.items x c.in_ok-between.between c.item.result end c.len-last.result (branch-placed st c.args.self.now c.args.branch.now c.requires.branch x listed has)
     counted c.index-end.ensures (λ other. c.in_ok-between.ensures other ∙ ap (λ l. map (token_at list other) (take (c.len-last.result - 1 - 2) (drop 2 l))) c.deref.ensures.value) c.item.ensures
     (ap (map (seen_hidden st.names st.hides)) follows)
 
@@ -72,7 +72,7 @@ returns-clause-own g c = λ files held.
     let below = places-below st c.args.self.now c.args.branch.now c.requires.branch in
     let places = take (c.len-last.result - 1 - 2) (drop 2 c.deref.result.now) in
     let all = All-take P (c.len-last.result - 1 - 2) (drop 2 c.deref.result.now) (All-drop P 2 c.deref.result.now (subst (All P) (sym c.deref.ensures.value) below)) in
-    All-cons H c.item.result.1 c.in_ok-between.between.items (held-at H list c.index-end.result.now c.item.result held.held c.item.ensures)
+    All-cons H c.item.result.1 c.in_ok-between.between (held-at H list c.index-end.result.now c.item.result held.held c.item.ensures)
     (subst (All H) (sym (c.in_ok-between.ensures c.item.result)) (held-tokens H list c.item.result places held.held all))
 
 pub returns-clause-held : goal.returns-clause-held

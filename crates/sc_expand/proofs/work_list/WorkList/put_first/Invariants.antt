@@ -2,4 +2,7 @@ use Rattle.std.proofs.Common.{◌≡◌, ◌++◌, drop}
 use Rattle.sc_expand.proofs.work_list.WorkList.put_first.Given as goal
 
 abbrev pub invariant-loop-index : goal.invariant-loop-index
-invariant-loop-index l = l.self-inside.tokens.items ≡ drop l.index l.tokens ++ l.initial.self-inside.tokens.items
+invariant-loop-index l = record {
+  front : l.self-inside.front.items ≡ drop l.index l.tokens ++ l.initial.self-inside.front.items;
+  rest : l.self-inside.rest ≡ l.initial.self-inside.rest;
+}

@@ -1,0 +1,142 @@
+-- Lists whose first items are restricted, of which the last items stand under one condition.
+use Rattle.std.proofs.Common.{◌≡◌, ◌<◌, ◌≤◌, Bool, true, false, if◌then◌else◌, ℕ, zero, suc, ◌+◌, ◌&&◌, List, [], ◌∷◌, ◌++◌, All, Some, map, take, drop, length, min, cond, Ordering, Less, Equal, Greater, set, get_or, slice_get, ap, sym, ◌∙◌, refl, subst, arith, add-zero, append_assoc}
+use Rattle.std.proofs.Math.Seq.{get_or-append_seam, set-append_seam}
+use Rattle.std.proofs.lemmas.List.{length-append, length-map, nil_from_length, take-append-drop}
+use Rattle.std.proofs.lemmas.List.Elements.{All-take}
+use Rattle.std.specs.Cmp.{ranks}
+use Rattle.std.specs.Ordering.{MatchOrdering, is_lt, nat_cmp, ord_min}
+use Rattle.sc_base.specs.declared.id.Cond.{Cond}
+use Rattle.sc_expand.proofs.WorkListLemmas.{Restricted, has_each-Keeps, restricted_alike, restricted_more}
+use Rattle.sc_expand.specs.WorkLists.{items_of}
+use Rattle.sc_expand.specs.declared.work_list.Rest.{Rest}
+use Rattle.sc_guarded.proofs.ItemLemmas.{items_at-Keeps}
+use Rattle.sc_hoist.specs.Alike.{AreAlike}
+use Rattle.sc_model.proofs.SetLemmas.{IsConfig-Keeps, IsConfig-kept, Keeps-refl, Keeps-trans}
+use Rattle.sc_model.specs.Sets.{Sets, IsConfig, IsCond, Denotes, Keeps}
+use Rattle.sc_subst.specs.declared.hidden.Hidden.{Hidden}
+
+-- the lesser number, by the order of numbers
+pub ord_min-min : (a b : ℕ) → ord_min nat_cmp a b ≡ min a b
+ord_min-min a b = by (nat_cmp b a) (ranks b a) where
+  by : (o : Ordering) → MatchOrdering o (b < a) (b ≡ a) (a < b) → cond (is_lt o) b a ≡ min a b
+  by Less below = omega arith
+  by Equal same = omega arith
+  by Greater above = omega arith
+
+-- without a restriction all stand under one condition
+pub items_of-unrestricted : (rest : Rest) → rest.restricted ≡ 0 → items_of rest ≡ map (λ t. (rest.cond, t)) rest.tokens
+items_of-unrestricted rest none = ap (λ n. map (λ t. (rest.by, t)) (take n rest.tokens) ++ map (λ t. (rest.cond, t)) (drop n rest.tokens)) none
+
+length-items_of : (rest : Rest) → length (items_of rest) ≡ length rest.tokens
+length-items_of rest =
+    let met : Hidden → Cond × Hidden = λ t. (rest.by, t) in
+    let others : Hidden → Cond × Hidden = λ t. (rest.cond, t) in
+    let next : List Hidden = take rest.restricted rest.tokens in
+    let behind : List Hidden = drop rest.restricted rest.tokens in
+    omega (arith, length-append (map met next) (map others behind), length-map next met, length-map behind others, length-append next behind, ap length (take-append-drop rest.restricted rest.tokens))
+
+-- where no token is left none was restricted
+pub items_of-empty : (rest : Rest) → length (items_of rest) ≡ 0 → items_of rest ≡ map (λ t. (rest.cond, t)) rest.tokens
+items_of-empty rest empty =
+    let all : Hidden → Cond × Hidden = λ t. (rest.cond, t) in
+    let none : length (map all rest.tokens) ≡ 0 = length-map rest.tokens all ∙ (sym (length-items_of rest) ∙ empty) in
+    nil_from_length (items_of rest) empty ∙ sym (nil_from_length (map all rest.tokens) none)
+
+module _ {T : Type 0} where
+  -- the first item behind a list is moved to its end
+  pub first_moved : (front items : List T) (x : T) → slice_get items 0 ≡ Some x → (front ++ x ∷ []) ++ drop 1 items ≡ front ++ items
+  first_moved front [] x is = absurd (cc)
+  first_moved front (y ∷ ys) x is =
+      let same : y ≡ x = cc in
+      append_assoc front (x ∷ []) ys ∙ ap (λ z. front ++ z ∷ ys) (sym same)
+
+  pub length-Restricted : {first now : Sets} {by n : ℕ} {before after : List (Cond × T)} → Restricted first now by n before after → length after ≡ length before
+  length-Restricted {before = before} {after = after} was =
+      let only : Cond × T → T = λ item. item.1 in
+      sym (length-map after only) ∙ (ap length was.items ∙ length-map before only)
+
+  pub AreAlike-Restricted : {first now : Sets} {by n : ℕ} {before after : List (Cond × T)} → Restricted first now by n before after → (c d : List ℕ) (m : ℕ) → IsConfig first.arities c → IsConfig first.arities d
+      → first.has by c ≡ first.has by d → AreAlike first c d (take m before) → AreAlike now c d (take m after)
+  AreAlike-Restricted {first} {now} {before = before} {after = after} was c d m at_c at_d same =
+      restricted_alike first now c d m before after (length-Restricted was) (λ k z within. was.alike c d k z at_c at_d same within)
+
+  none_has : (b : Bool) → ◌≡◌ {A = List T} [] (if b then [] else [])
+  none_has true = refl
+  none_has false = refl
+
+  pub restricted_none : (first : Sets) (by : ℕ) (items : List (Cond × T)) → All (λ (item : Cond × T). IsCond first item.0.0) items → Restricted first first by 0 items items
+  restricted_none first by items own = record {
+    keeps = Keeps-refl first;
+    items = refl;
+    rest = refl;
+    own = own;
+    at = λ c listed. none_has (first.has by c);
+    same = λ c listed has. refl;
+    alike = λ c d k z at_c at_d same low told. told;
+  }
+
+  -- what is so of the first items stays so where the conditions mean what they did
+  restricted_kept : (first old new : Sets) (by n : ℕ) (before after : List (Cond × T)) → Restricted first old by n before after → Keeps old new → Restricted first new by n before after
+  restricted_kept first old new by n before after was keeps = record {
+    keeps = Keeps-trans was.keeps keeps;
+    items = was.items;
+    rest = was.rest;
+    own = λ k d h. keeps.own _ (was.own k d h);
+    at = λ c listed. items_at-Keeps (take n after) c keeps (All-take (λ (item : Cond × T). IsCond old item.0.0) n after was.own) (IsConfig-Keeps was.keeps listed) ∙ was.at c listed;
+    same = λ c listed has. has_each-Keeps after c keeps was.own (IsConfig-Keeps was.keeps listed) ∙ was.same c listed has;
+    alike = λ c d k z at_c at_d same low told.
+        let own_k : IsCond old (get_or after k z).0.0 = was.own k z (omega (arith, low, length-Restricted was)) in
+        keeps.at _ c own_k (IsConfig-Keeps was.keeps at_c) ∙ (was.alike c d k z at_c at_d same low told ∙ sym (keeps.at _ d own_k (IsConfig-Keeps was.keeps at_d)));
+  }
+
+  -- so many of the tokens that stand under one condition are restricted at once
+  restricted_rest : (first now : Sets) (by k : ℕ) (before front : List (Cond × T)) (tokens : List T) (cond met : Cond)
+      → Restricted first now by (length front) before (front ++ map (λ t. (cond, t)) tokens) → k ≤ length tokens
+      → All (λ (item : Cond × T). IsCond first item.0.0) before → IsCond first by → Denotes now met.0 (λ c. now.has cond.0 c && now.has by c)
+      → Restricted first now by (length front + k) before (front ++ (map (λ t. (met, t)) (take k tokens) ++ map (λ t. (cond, t)) (drop k tokens)))
+  restricted_rest first now by zero before front tokens cond met was within own by_own told = subst (λ n. Restricted first now by n before (front ++ map (λ t. (cond, t)) tokens)) (sym (add-zero (length front))) was
+  restricted_rest first now by (suc k) before front [] cond met was within own by_own told = absurd (omega arith)
+  restricted_rest first now by (suc k) before front (t ∷ ts) cond met was within own by_own told =
+      let behind : List (Cond × T) = map (λ t. (cond, t)) ts in
+      let next : List (Cond × T) = front ++ (met, t) ∷ [] in
+      let long : length next ≡ length front + 1 = length-append front ((met, t) ∷ []) in
+      let low : length front < length (front ++ (cond, t) ∷ behind) = omega (arith, length-append front ((cond, t) ∷ behind)) in
+      let one : Restricted first now by (length front + 1) before (set (front ++ (cond, t) ∷ behind) (length front) (met, t)) =
+      restricted_more first now now by (length front) before (front ++ (cond, t) ∷ behind) (cond, t) met was low (sym (get_or-append_seam front (cond, t) behind (cond, t))) own by_own (Keeps-refl now) told.own told in
+      let set_one : set (front ++ (cond, t) ∷ behind) (length front) (met, t) ≡ next ++ behind = set-append_seam front (cond, t) behind (met, t) ∙ sym (append_assoc front ((met, t) ∷ []) behind) in
+      let here : Restricted first now by (length next) before (next ++ behind) = subst (λ n. Restricted first now by n before (next ++ behind)) (sym long) (subst (λ l. Restricted first now by (length front + 1) before l) set_one one) in
+      let more : List (Cond × T) = map (λ t. (met, t)) (take k ts) ++ map (λ t. (cond, t)) (drop k ts) in
+      let count : length next + k ≡ length front + suc k = omega arith in
+      subst (λ n. Restricted first now by n before (front ++ (met, t) ∷ more)) count (subst (λ l. Restricted first now by (length next + k) before l) (append_assoc front ((met, t) ∷ []) more)
+      (restricted_rest first now by k before next ts cond met here (omega arith) own by_own told))
+
+  own_mapped : (s : Sets) (cond : Cond) (front : List (Cond × T)) (tokens : List T) → length front < length (front ++ map (λ t. (cond, t)) tokens)
+      → All (λ (item : Cond × T). IsCond s item.0.0) (front ++ map (λ t. (cond, t)) tokens) → IsCond s cond.0
+  own_mapped s cond front [] within own = absurd (omega (arith, length-append front []))
+  own_mapped s cond front (t ∷ ts) within own =
+      subst (λ (item : Cond × T). IsCond s item.0.0) (get_or-append_seam front (cond, t) (map (λ t. (cond, t)) ts) (cond, t)) (own (length front) (cond, t) within)
+
+-- the condition of a rest is that of each of its tokens
+pub own_behind : (s : Sets) (front : List (Cond × Hidden)) (rest : Rest) → rest.restricted ≡ 0 → length front < length (front ++ items_of rest)
+    → All (λ item. IsCond s item.0.0) (front ++ items_of rest) → IsCond s rest.cond.0
+own_behind s front rest none within own =
+    let is : front ++ items_of rest ≡ front ++ map (λ t. (rest.cond, t)) rest.tokens = ap (λ l. front ++ l) (items_of-unrestricted rest none) in
+    own_mapped s rest.cond front rest.tokens (subst (λ (l : List (Cond × Hidden)). length front < length l) is within) (subst (λ (l : List (Cond × Hidden)). All (λ item. IsCond s item.0.0) l) is own)
+
+-- behind a list that is restricted, so many of the tokens of a rest are restricted at once
+pub restricted_behind : (first old new : Sets) (by k : ℕ) (before front : List (Cond × Hidden)) (rest : Rest) (met : Cond)
+    → Restricted first old by (length front) before (front ++ items_of rest) → rest.restricted ≡ 0 → k ≤ length (items_of rest) → All (λ item. IsCond first item.0.0) before → IsCond first by
+    → IsCond old rest.cond.0 → Keeps old new → Denotes new met.0 (λ c. old.has rest.cond.0 c && old.has by c)
+    → Restricted first new by (length front + k) before (front ++ items_of (record { tokens = rest.tokens; cond = rest.cond; restricted = k; by = met }))
+restricted_behind first old new by k before front rest met was none within own by_own cond_own keeps told =
+    let here : Restricted first old by (length front) before (front ++ map (λ t. (rest.cond, t)) rest.tokens) =
+    subst (λ l. Restricted first old by (length front) before (front ++ l)) (items_of-unrestricted rest none) was in
+    let kept = restricted_kept first old new by (length front) before _ here keeps in
+    let low : k ≤ length rest.tokens = subst (λ n. k ≤ n) (length-items_of rest) within in
+    let met_now : Denotes new met.0 (λ c. new.has rest.cond.0 c && new.has by c) = record {
+      own = told.own;
+      at = λ c listed.
+          let listed_old : IsConfig old.arities c = IsConfig-kept keeps listed in
+          told.at c listed ∙ (λ i. sym (keeps.at rest.cond.0 c cond_own listed_old) i && sym (keeps.at by c (was.keeps.own by by_own) listed_old) i);
+    } in
+    restricted_rest first new by k before front rest.tokens rest.cond met kept low own by_own met_now
