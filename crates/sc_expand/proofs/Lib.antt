@@ -15,6 +15,7 @@ pub mod PlainNames
 pub mod PlainAgreement
 pub mod PlainFootprint
 pub mod Parting
+pub mod PartingGroups
 pub mod WorkListLemmas
 pub mod RestrictLemmas
 pub mod LastLemmas
@@ -73,3 +74,4 @@ pub mod SpanCalls
 pub mod PhaseTurns
 pub mod PhaseCalls
 pub mod PhaseAlike
+pub mod FirstCallLemmas

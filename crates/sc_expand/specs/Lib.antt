@@ -21,3 +21,4 @@ pub mod FootprintSteps
 pub mod Footprints
 pub mod CallStops
 pub mod WorkLists
+pub mod FirstCalls

@@ -1,5 +1,5 @@
 //! The arguments of a call (C11 6.10.3p4, p10 to p12).
-ghost use Rattle.std.specs.Prelude.{◌≡◌, ℕ, zero, ◌+◌, ◌^◌, ◌<◌, ◌≤◌, ◌↔◌, ◌++◌, ◌∷◌, [], Bool, List, All, Some, length, slice_get, IsTrue, IfOk, IfSome, OnOk};
+ghost use Rattle.std.specs.Prelude.{◌≡◌, ℕ, zero, ◌+◌, ◌^◌, ◌<◌, ◌≤◌, ◌↔◌, ◌++◌, ◌∷◌, [], Bool, List, All, Some, drop, length, slice_get, IsTrue, IfOk, IfSome, OnOk};
 ghost use Rattle.std.specs.Option.{option_map};
 ghost use Rattle.c11_macros.specs.Call as call;
 ghost use Rattle.c11_macros.specs.Call.{arguments_for};
@@ -66,7 +66,7 @@ fn fitted(
     }
     if variadic && given.len() == parameters {
         let mut all = given;
-        all.push(Tokens::of(alloc, Vec::new(alloc))?)?;
+        all.push(Tokens::none(alloc)?)?;
         return Ok(Some(all));
     }
     if given.len() == parameters || (variadic && given.len() == parameters + 1) {
@@ -114,14 +114,43 @@ pub fn parted(
         commas,
         depth: 0,
     };
-    for index in 0..between.len() {
-        parting.take(names, between, index)?;
+    let mut index = 0;
+    while index < between.len() {
+        index = parting.go_on(names, between, index)?;
     }
     let arguments = parting.finish(between)?;
     Ok(arguments)
 }
 
 impl Parting {
+    /// Takes the token of an index, or all of a group that begins there, in which no comma parts
+    /// arguments. The answer is the index behind.
+    fn go_on(&mut self, names: &Names, between: &Tokens, index: usize) -> Result<usize, OutOfMemory>
+        requires index { index < length between.now }
+        requires begin { self.old.begin ≤ index }
+        requires names { All (λ h. h.token.spelling.0 < length names.now) between.now }
+        requires deep { self.old.depth + 1 < 2 ^ 64 }
+        ensures next { IfOk result (λ next. (index < next) × (next ≤ length between.now)) }
+        ensures is { IfOk result (λ next. (sets : List (List declared_name.Name))
+            → parted_with names.now sets between.now index self.old (seen_list names.now sets (drop index between.now)) ≡ parted_with names.now sets between.now next self.new (seen_list names.now sets (drop next between.now))) }
+        ensures own { OnOk result ((sets : List (List declared_name.Name)) → All (IsHeldHidden names.now sets) between.now
+            → All (All (IsHeldHidden names.now sets)) self.old.arguments.items → All (All (IsHeldHidden names.now sets)) self.new.arguments.items) }
+        ensures begin { IfOk result (λ next. self.new.begin ≤ next) }
+        ensures deep { OnOk result (self.new.depth ≤ self.old.depth + 1) }
+    {
+        // so an index behind fits its type
+        let len = between.len();
+        if self.depth == 0 {
+            if let Some(close) = between.closing(names, index) {
+                prove!(close < len);
+                return Ok(close + 1);
+            }
+        }
+        self.take(names, between, index)?;
+        prove!(index < len);
+        Ok(index + 1)
+    }
+
     /// The token of an index parts two arguments, or belongs to one.
     fn take(&mut self, names: &Names, between: &Tokens, index: usize) -> Result<(), OutOfMemory>
         requires index { index < length between.now }

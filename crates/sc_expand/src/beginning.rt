@@ -148,7 +148,7 @@ fn argument_for(alloc: Global, parameter: usize, raw: &[Tokens]) -> Result<Token
         let list = &raw[parameter];
         return list.share(0, list.len());
     }
-    Tokens::of(alloc, Vec::new(alloc))
+    Tokens::none(alloc)
 }
 
 /// A list without items for each argument.
@@ -166,11 +166,13 @@ fn unexpanded(alloc: Global, count: usize) -> Result<Vec<Guarded<Hidden>>, OutOf
 /// The tokens at these indexes of a list, which has them under a condition.
 pub fn between(
     alloc: Global,
+    names: &Names,
     list: &WorkList,
     cond: Cond,
     places: &[usize],
 ) -> Result<Tokens, OutOfMemory>
-    requires { All (λ place. place < length list.now) places.now }
+    requires places { All (λ place. place < length list.now) places.now }
+    requires names { All (λ item. item.1.token.spelling.0 < length names.now) list.now }
     ensures { IfOk result (λ made. (other : declared_cond.Cond × declared_hidden.Hidden) → made ≡ map (token_at list.now other) places.now) }
 {
     if let Some(tokens) = list.all_under(cond) {
@@ -182,7 +184,7 @@ pub fn between(
         }
     }
     let tokens = tokens_at(alloc, list, places)?;
-    Tokens::of(alloc, tokens)
+    Tokens::of(alloc, names, tokens)
 }
 
 /// Whether these are the indexes from the first on, one after the other.

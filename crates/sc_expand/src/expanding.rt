@@ -77,7 +77,7 @@ fn started(alloc: Global, list: &Guarded<Token>, live: Cond) -> Result<Expansion
 {
     let sets = HideSets::new(alloc)?;
     let items = unhidden(alloc, &sets, list)?;
-    let mut work = WorkList::of(alloc, live, Tokens::of(alloc, Vec::new(alloc))?);
+    let mut work = WorkList::of(alloc, live, Tokens::none(alloc)?);
     work.put_first(&items)?;
     Ok(Expansion {
         alloc,

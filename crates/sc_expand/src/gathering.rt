@@ -25,8 +25,9 @@ ghost use Rattle.sc_subst.specs.Seen.{IsHeldHidden, seen_hidden};
 use crate::arguments::arguments;
 use crate::beginning::{begin_call, between, take_out};
 use crate::expansion::Expansion;
+use crate::first_calls::first_calls;
 use sc_base::{Cause, Cond, Files, Names, OutOfMemory, Stop};
-use sc_hoist::{Branch, closed_calls, find_calls};
+use sc_hoist::{Branch, closed_calls};
 use sc_macro::{Definition, Form, Item};
 use sc_presence::Conditions;
 use sc_subst::{Hidden, Tokens, items_at};
@@ -88,7 +89,7 @@ impl Expansion {
         let place = head.token.place;
         let alloc = self.alloc;
         let work = &self.top.work;
-        let found = find_calls(alloc, conds, names, work, 0, cond)?;
+        let found = first_calls(alloc, conds, names, work, cond)?;
         let ends = found.ends;
         let branches = closed_calls(alloc, conds, names, work, 0, found, limit)?;
         self.refusals
@@ -220,12 +221,12 @@ impl Expansion {
         ensures keeps { Keeps (C.sets conds.old) (C.sets conds.new) }
         ensures sets { self.new.sets ≡ self.old.sets }
     {
-        let _ = names;
         self.top.work.is_small();
         let last = branch.places.len() - 1;
         let end = branch.places[last];
         let between = between(
             self.alloc,
+            names,
             &self.top.work,
             branch.cond,
             &branch.places[2..last],

@@ -8,6 +8,7 @@ mod call;
 mod expanding;
 mod expansion;
 mod filling;
+mod first_calls;
 mod frame;
 mod gathering;
 mod laws;

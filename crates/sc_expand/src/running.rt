@@ -131,7 +131,8 @@ impl Expansion {
         }
     }
 
-    /// Drops the first token if only refused configurations have it, and says whether it did.
+    /// Drops the first token if only refused configurations have it, with those that were
+    /// restricted with it, and says whether it did.
     fn drop_first_token<C: Conditions>(&mut self, conds: &mut C) -> Result<bool, OutOfMemory>
         requires held { (names : List (List ℕ)) × ((files : ℕ) × IsHeldExpansion (stores (C.sets conds.old) names self.old.sets) files self.old) }
         ensures rested { OnOk result ((names : List (List ℕ)) → IsRested (stores (C.sets conds.old) names self.old.sets) (stores (C.sets conds.new) names self.new.sets) self.old self.new) }

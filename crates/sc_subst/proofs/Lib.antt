@@ -1,4 +1,5 @@
 pub mod Gluing
+pub mod GroupParts
 pub mod Later
 pub mod Operating
 pub mod PartTurns
@@ -12,3 +13,4 @@ pub mod Wanted
 pub mod SeenLaws
 pub mod Store
 pub mod Shares
+pub mod GroupLemmas

@@ -7,3 +7,4 @@ pub mod Rising
 pub mod Seen
 pub mod Stops
 pub mod SetOperations
+pub mod Groups

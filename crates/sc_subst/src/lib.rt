@@ -3,6 +3,7 @@
 
 mod filling;
 mod glue;
+mod groups;
 mod hidden;
 mod hide_sets;
 mod lists;

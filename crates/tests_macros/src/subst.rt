@@ -307,7 +307,7 @@ fn arguments_of(
     let mut lists = Vec::new(alloc);
     for line in lines {
         let list = hidden_of(alloc, sets, names, line)?;
-        lists.push(Tokens::of(alloc, list)?)?;
+        lists.push(Tokens::of(alloc, names, list)?)?;
     }
     Ok(lists)
 }
@@ -406,5 +406,52 @@ fn substitute_replaces_calls_as_the_standard_does(rt: HostRuntime) -> Result<(),
     for (text, expected) in REPLACEMENTS {
         assert_eq!(rt; replaced(rt.alloc(), text)?.as_slice(), expected);
     }
+    Ok(())
+}
+
+/// What closes the first, the 40th and the 41st of 80 tokens, and, without the two at the ends,
+/// the first.
+fn closings(names: &Names, list: &Tokens) -> Result<[Option<usize>; 4], Fail>
+    requires { All (λ h. h.token.spelling.0 < length names.now) list.now }
+{
+    if list.len() != 80 {
+        return Err(Fail::new("not 80 tokens"));
+    }
+    let inner = list.share(1, 79)?;
+    Ok([
+        list.closing(names, 0),
+        list.closing(names, 39),
+        list.closing(names, 40),
+        inner.closing(names, 0),
+    ])
+}
+
+/// The tokens of a line in a shared list.
+fn shared_of(alloc: Global, names: &Names, line: &[Token]) -> Result<Tokens, OutOfMemory>
+    requires { All (IsHeld names.now) line.now }
+    ensures { IfOk result (λ list. All (λ h. h.token.spelling.0 < length names.now) list) }
+{
+    let sets = HideSets::new(alloc)?;
+    let list = hidden_of(alloc, &sets, names, line)?;
+    Tokens::of(alloc, names, list)
+}
+
+/// What `closings` answers for the tokens of a text.
+fn closings_in(alloc: Global, text: &[u8]) -> Result<[Option<usize>; 4], Fail> {
+    let mut names = Names::new(alloc)?;
+    let line = line_of(alloc, &mut names, text)?;
+    let list = shared_of(alloc, &names, &line)?;
+    closings(&names, &list)
+}
+
+/// 40 parentheses that open groups, and the 40 that close them.
+const NESTED: &[u8] =
+    b"(((((((((((((((((((((((((((((((((((((((())))))))))))))))))))))))))))))))))))))))";
+
+/// In a list that is long enough for its parentheses to be known, and in a part of it.
+#[test]
+fn closing_finds_the_parenthesis_that_belongs_to_another(rt: HostRuntime) -> Result<(), Fail> {
+    let found = closings_in(rt.alloc(), NESTED)?;
+    assert_eq!(rt; found, [Some(79), Some(40), None, Some(77)]);
     Ok(())
 }

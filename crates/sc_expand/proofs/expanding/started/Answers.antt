@@ -14,7 +14,7 @@ work_is c =
     let items = c.in_ok-items.items.items in
     c.work.view_is ∙ (c.in_ok-put_first.ensures
     ∙ (ap (λ l. l ++ c.of-work.result) c.deref.ensures.value
-    ∙ (ap (λ l. items ++ l) (c.of-work.ensures ∙ (ap (map under) (c.in_ok-of.ensures ∙ c.new-2.ensures.items))) ∙ append-nil items)))
+    ∙ (ap (λ l. items ++ l) (c.of-work.ensures ∙ ap (map under) c.in_ok-none.ensures) ∙ append-nil items)))
 
 pub returns-clause-unhidden : goal.returns-clause-unhidden
 returns-clause-unhidden c =

@@ -18,22 +18,22 @@ use Rattle.sc_subst.specs.declared.hidden.Hidden.{Hidden}
 use Rattle.sc_subst.specs.Seen.{seen_hidden}
 use Rattle.sc_expand.proofs.expansion.Expansion.gather.Goals as goal
 
-pub find_calls-requires-clause-own : goal.find_calls-requires-clause-own
-find_calls-requires-clause-own g c =
+pub first_calls-requires-clause-own : goal.first_calls-requires-clause-own
+first_calls-requires-clause-own g c =
     let s = g.C.Conditions.sets c.args.conds.now in
     let bare : Cond × Hidden → Cond × Token = λ item. (item.0, item.1.token) in
     All-map (λ item. IsCond s item.0.0) bare c.args.self.now.top.work c.requires.held.top.work.own
 
-pub find_calls-requires-clause-held : goal.find_calls-requires-clause-held
-find_calls-requires-clause-held g c =
+pub first_calls-requires-clause-held : goal.first_calls-requires-clause-held
+first_calls-requires-clause-held g c =
     let bare : Cond × Hidden → Cond × Token = λ item. (item.0, item.1.token) in
     All-map (λ item. item.1.spelling.0 < length c.args.names.now) bare c.args.self.now.top.work (λ k d h. (c.requires.held.top.work.held k d h).held.token.spelling)
 
 pub closed_calls-requires-clause-own : goal.closed_calls-requires-clause-own
 closed_calls-requires-clause-own g c =
-    let s = g.C.Conditions.sets c.find_calls.new.conds in
+    let s = g.C.Conditions.sets c.first_calls.new.conds in
     let bare : Cond × Hidden → Cond × Token = λ item. (item.0, item.1.token) in
-    All-map (λ item. IsCond s item.0.0) bare c.args.self.now.top.work (λ k d h. c.find_calls.ensures.keeps.own _ (c.requires.held.top.work.own k d h))
+    All-map (λ item. IsCond s item.0.0) bare c.args.self.now.top.work (λ k d h. c.first_calls.ensures.keeps.own _ (c.requires.held.top.work.own k d h))
 
 pub closed_calls-requires-clause-held : goal.closed_calls-requires-clause-held
 closed_calls-requires-clause-held g c =
@@ -43,13 +43,13 @@ closed_calls-requires-clause-held g c =
 pub returns-in_err-branches-clause-stops : goal.returns-in_err-branches-clause-stops
 returns-in_err-branches-clause-stops g c =
     let p = err_from_is_err_and c.from_residual-in_err-branches.result c.from_residual-in_err-branches.ensures.1 in
-    rw (p.1, p.2) (stops-at c.args.cond.0 c.args.self.now.top.work c.args.limit _ c.find_calls.ensures.keeps c.requires.held.top.work c.in_ok-found.ensures.closed c.in_err-branches.ensures.refused)
+    rw (p.1, p.2) (stops-at c.args.cond.0 c.args.self.now.top.work c.args.limit _ c.first_calls.ensures.keeps c.requires.held.top.work c.in_ok-found.ensures.closed c.in_err-branches.ensures.refused)
 
 pub returns-in_err-branches-clause-keeps : goal.returns-in_err-branches-clause-keeps
-returns-in_err-branches-clause-keeps g c = Keeps-trans c.find_calls.ensures.keeps c.closed_calls.ensures.keeps
+returns-in_err-branches-clause-keeps g c = Keeps-trans c.first_calls.ensures.keeps c.closed_calls.ensures.keeps
 
 pub returns-in_err-refuse-clause-keeps : goal.returns-in_err-refuse-clause-keeps
-returns-in_err-refuse-clause-keeps g c = Keeps-trans (Keeps-trans c.find_calls.ensures.keeps c.closed_calls.ensures.keeps) c.refuse.ensures.keeps
+returns-in_err-refuse-clause-keeps g c = Keeps-trans (Keeps-trans c.first_calls.ensures.keeps c.closed_calls.ensures.keeps) c.refuse.ensures.keeps
 
 pub items_at-requires-clause-file : goal.items_at-requires-clause-file
 items_at-requires-clause-file g c =
@@ -58,12 +58,12 @@ items_at-requires-clause-file g c =
     head.file
 
 pub returns-in_err-items-clause-keeps : goal.returns-in_err-items-clause-keeps
-returns-in_err-items-clause-keeps g c = Keeps-trans (Keeps-trans c.find_calls.ensures.keeps c.closed_calls.ensures.keeps) c.refuse.ensures.keeps
+returns-in_err-items-clause-keeps g c = Keeps-trans (Keeps-trans c.first_calls.ensures.keeps c.closed_calls.ensures.keeps) c.refuse.ensures.keeps
 
 pub gather_calls-requires-clause-held : goal.gather_calls-requires-clause-held
 gather_calls-requires-clause-held g c =
     let s0 = g.C.Conditions.sets c.args.conds.now in
-    let s1 = g.C.Conditions.sets c.find_calls.new.conds in
+    let s1 = g.C.Conditions.sets c.first_calls.new.conds in
     let s2 = g.C.Conditions.sets c.closed_calls.new.conds in
     let s3 = g.C.Conditions.sets c.refuse.new.conds in
     let n = c.args.names.now in
@@ -71,7 +71,7 @@ gather_calls-requires-clause-held g c =
     let files = length c.args.files.now in
     let ends = c.in_ok-found.found.ends in
     let parts = parted-by s0 s1 s2 s3 n c.items_at.new.names files e0 c.refuse.new.self c.args.cond.0 ends.closed.0 ends.still.0 c.in_ok-branches.branches.items c.deref.result.now
-    (failure_at UnterminatedCall (seen_hidden n e0.sets c.args.head)) c.deref.ensures.value c.find_calls.ensures.keeps c.closed_calls.ensures.keeps c.refuse.ensures.keeps c.items_at.ensures.names c.requires.held
+    (failure_at UnterminatedCall (seen_hidden n e0.sets c.args.head)) c.deref.ensures.value c.first_calls.ensures.keeps c.closed_calls.ensures.keeps c.refuse.ensures.keeps c.items_at.ensures.names c.requires.held
     c.in_ok-found.ensures.closed c.in_ok-found.ensures.still c.in_ok-branches.ensures.lists c.in_ok-branches.ensures.branches c.in_ok-refuse.ensures.live c.in_ok-refuse.ensures.failures
     c.in_ok-branches.ensures.agree c.in_ok-refuse.ensures.alike in
     let head = head-held (IsHeldToken (stores s0 n e0.sets) files) e0.top.work c.args.head c.requires.held.top.work.held c.requires.head in
@@ -80,7 +80,7 @@ gather_calls-requires-clause-held g c =
 pub gather_calls-requires-clause-branches : goal.gather_calls-requires-clause-branches
 gather_calls-requires-clause-branches g c =
     let s0 = g.C.Conditions.sets c.args.conds.now in
-    let s1 = g.C.Conditions.sets c.find_calls.new.conds in
+    let s1 = g.C.Conditions.sets c.first_calls.new.conds in
     let s2 = g.C.Conditions.sets c.closed_calls.new.conds in
     let s3 = g.C.Conditions.sets c.refuse.new.conds in
     let n = c.args.names.now in
@@ -88,7 +88,7 @@ gather_calls-requires-clause-branches g c =
     let files = length c.args.files.now in
     let ends = c.in_ok-found.found.ends in
     let parts = parted-by s0 s1 s2 s3 n c.items_at.new.names files e0 c.refuse.new.self c.args.cond.0 ends.closed.0 ends.still.0 c.in_ok-branches.branches.items c.deref.result.now
-    (failure_at UnterminatedCall (seen_hidden n e0.sets c.args.head)) c.deref.ensures.value c.find_calls.ensures.keeps c.closed_calls.ensures.keeps c.refuse.ensures.keeps c.items_at.ensures.names c.requires.held
+    (failure_at UnterminatedCall (seen_hidden n e0.sets c.args.head)) c.deref.ensures.value c.first_calls.ensures.keeps c.closed_calls.ensures.keeps c.refuse.ensures.keeps c.items_at.ensures.names c.requires.held
     c.in_ok-found.ensures.closed c.in_ok-found.ensures.still c.in_ok-branches.ensures.lists c.in_ok-branches.ensures.branches c.in_ok-refuse.ensures.live c.in_ok-refuse.ensures.failures
     c.in_ok-branches.ensures.agree c.in_ok-refuse.ensures.alike in
     are-branches parts c.requires.stands c.requires.live c.requires.calls
@@ -96,7 +96,7 @@ gather_calls-requires-clause-branches g c =
 pub gather_calls-requires-clause-one : goal.gather_calls-requires-clause-one
 gather_calls-requires-clause-one g c =
     let s0 = g.C.Conditions.sets c.args.conds.now in
-    let s1 = g.C.Conditions.sets c.find_calls.new.conds in
+    let s1 = g.C.Conditions.sets c.first_calls.new.conds in
     let s2 = g.C.Conditions.sets c.closed_calls.new.conds in
     let s3 = g.C.Conditions.sets c.refuse.new.conds in
     let n = c.args.names.now in
@@ -104,13 +104,13 @@ gather_calls-requires-clause-one g c =
     let files = length c.args.files.now in
     let ends = c.in_ok-found.found.ends in
     let parts = parted-by s0 s1 s2 s3 n c.items_at.new.names files e0 c.refuse.new.self c.args.cond.0 ends.closed.0 ends.still.0 c.in_ok-branches.branches.items c.deref.result.now
-    (failure_at UnterminatedCall (seen_hidden n e0.sets c.args.head)) c.deref.ensures.value c.find_calls.ensures.keeps c.closed_calls.ensures.keeps c.refuse.ensures.keeps c.items_at.ensures.names c.requires.held
+    (failure_at UnterminatedCall (seen_hidden n e0.sets c.args.head)) c.deref.ensures.value c.first_calls.ensures.keeps c.closed_calls.ensures.keeps c.refuse.ensures.keeps c.items_at.ensures.names c.requires.held
     c.in_ok-found.ensures.closed c.in_ok-found.ensures.still c.in_ok-branches.ensures.lists c.in_ok-branches.ensures.branches c.in_ok-refuse.ensures.live c.in_ok-refuse.ensures.failures
     c.in_ok-branches.ensures.agree c.in_ok-refuse.ensures.alike in
     one-at-most parts
 
 pub returns-in_err-gather_calls-clause-keeps : goal.returns-in_err-gather_calls-clause-keeps
-returns-in_err-gather_calls-clause-keeps g c = Keeps-trans (Keeps-trans (Keeps-trans c.find_calls.ensures.keeps c.closed_calls.ensures.keeps) c.refuse.ensures.keeps) c.gather_calls.ensures.keeps
+returns-in_err-gather_calls-clause-keeps g c = Keeps-trans (Keeps-trans (Keeps-trans c.first_calls.ensures.keeps c.closed_calls.ensures.keeps) c.refuse.ensures.keeps) c.gather_calls.ensures.keeps
 
 pub apply_or-requires-clause-a_own : goal.apply_or-requires-clause-a_own
 apply_or-requires-clause-a_own g c = (Keeps-trans (Keeps-trans c.closed_calls.ensures.keeps c.refuse.ensures.keeps) c.gather_calls.ensures.keeps).own _ c.in_ok-found.ensures.bare.own
@@ -119,15 +119,15 @@ pub apply_or-requires-clause-b_own : goal.apply_or-requires-clause-b_own
 apply_or-requires-clause-b_own g c = (Keeps-trans (Keeps-trans c.closed_calls.ensures.keeps c.refuse.ensures.keeps) c.gather_calls.ensures.keeps).own _ c.in_ok-found.ensures.alone.own
 
 pub returns-in_err-uncalled-clause-keeps : goal.returns-in_err-uncalled-clause-keeps
-returns-in_err-uncalled-clause-keeps g c = Keeps-trans (Keeps-trans (Keeps-trans (Keeps-trans c.find_calls.ensures.keeps c.closed_calls.ensures.keeps) c.refuse.ensures.keeps) c.gather_calls.ensures.keeps) c.apply_or.ensures.keeps
+returns-in_err-uncalled-clause-keeps g c = Keeps-trans (Keeps-trans (Keeps-trans (Keeps-trans c.first_calls.ensures.keeps c.closed_calls.ensures.keeps) c.refuse.ensures.keeps) c.gather_calls.ensures.keeps) c.apply_or.ensures.keeps
 
 pub returns-clause-keeps : goal.returns-clause-keeps
-returns-clause-keeps g c = Keeps-trans (Keeps-trans (Keeps-trans (Keeps-trans c.find_calls.ensures.keeps c.closed_calls.ensures.keeps) c.refuse.ensures.keeps) c.gather_calls.ensures.keeps) c.apply_or.ensures.keeps
+returns-clause-keeps g c = Keeps-trans (Keeps-trans (Keeps-trans (Keeps-trans c.first_calls.ensures.keeps c.closed_calls.ensures.keeps) c.refuse.ensures.keeps) c.gather_calls.ensures.keeps) c.apply_or.ensures.keeps
 
 pub returns-clause-held : goal.returns-clause-held
 returns-clause-held g c =
     let s0 = g.C.Conditions.sets c.args.conds.now in
-    let s1 = g.C.Conditions.sets c.find_calls.new.conds in
+    let s1 = g.C.Conditions.sets c.first_calls.new.conds in
     let s2 = g.C.Conditions.sets c.closed_calls.new.conds in
     let s3 = g.C.Conditions.sets c.refuse.new.conds in
     let n = c.args.names.now in
@@ -135,7 +135,7 @@ returns-clause-held g c =
     let files = length c.args.files.now in
     let ends = c.in_ok-found.found.ends in
     let parts = parted-by s0 s1 s2 s3 n c.items_at.new.names files e0 c.refuse.new.self c.args.cond.0 ends.closed.0 ends.still.0 c.in_ok-branches.branches.items c.deref.result.now
-    (failure_at UnterminatedCall (seen_hidden n e0.sets c.args.head)) c.deref.ensures.value c.find_calls.ensures.keeps c.closed_calls.ensures.keeps c.refuse.ensures.keeps c.items_at.ensures.names c.requires.held
+    (failure_at UnterminatedCall (seen_hidden n e0.sets c.args.head)) c.deref.ensures.value c.first_calls.ensures.keeps c.closed_calls.ensures.keeps c.refuse.ensures.keeps c.items_at.ensures.names c.requires.held
     c.in_ok-found.ensures.closed c.in_ok-found.ensures.still c.in_ok-branches.ensures.lists c.in_ok-branches.ensures.branches c.in_ok-refuse.ensures.live c.in_ok-refuse.ensures.failures
     c.in_ok-branches.ensures.agree c.in_ok-refuse.ensures.alike in
     let head = head-held (IsHeldToken (stores s0 n e0.sets) files) e0.top.work c.args.head c.requires.held.top.work.held c.requires.head in
@@ -150,7 +150,7 @@ returns-clause-held g c =
 pub returns-clause-gathers : goal.returns-clause-gathers
 returns-clause-gathers g c =
     let s0 = g.C.Conditions.sets c.args.conds.now in
-    let s1 = g.C.Conditions.sets c.find_calls.new.conds in
+    let s1 = g.C.Conditions.sets c.first_calls.new.conds in
     let s2 = g.C.Conditions.sets c.closed_calls.new.conds in
     let s3 = g.C.Conditions.sets c.refuse.new.conds in
     let n = c.args.names.now in
@@ -158,7 +158,7 @@ returns-clause-gathers g c =
     let files = length c.args.files.now in
     let ends = c.in_ok-found.found.ends in
     let parts = parted-by s0 s1 s2 s3 n c.items_at.new.names files e0 c.refuse.new.self c.args.cond.0 ends.closed.0 ends.still.0 c.in_ok-branches.branches.items c.deref.result.now
-    (failure_at UnterminatedCall (seen_hidden n e0.sets c.args.head)) c.deref.ensures.value c.find_calls.ensures.keeps c.closed_calls.ensures.keeps c.refuse.ensures.keeps c.items_at.ensures.names c.requires.held
+    (failure_at UnterminatedCall (seen_hidden n e0.sets c.args.head)) c.deref.ensures.value c.first_calls.ensures.keeps c.closed_calls.ensures.keeps c.refuse.ensures.keeps c.items_at.ensures.names c.requires.held
     c.in_ok-found.ensures.closed c.in_ok-found.ensures.still c.in_ok-branches.ensures.lists c.in_ok-branches.ensures.branches c.in_ok-refuse.ensures.live c.in_ok-refuse.ensures.failures
     c.in_ok-branches.ensures.agree c.in_ok-refuse.ensures.alike in
     let head = head-held (IsHeldToken (stores s0 n e0.sets) files) e0.top.work c.args.head c.requires.held.top.work.held c.requires.head in
@@ -173,7 +173,7 @@ returns-clause-gathers g c =
 pub returns-clause-others : goal.returns-clause-others
 returns-clause-others g c =
     let s0 = g.C.Conditions.sets c.args.conds.now in
-    let s1 = g.C.Conditions.sets c.find_calls.new.conds in
+    let s1 = g.C.Conditions.sets c.first_calls.new.conds in
     let s2 = g.C.Conditions.sets c.closed_calls.new.conds in
     let s3 = g.C.Conditions.sets c.refuse.new.conds in
     let n = c.args.names.now in
@@ -181,7 +181,7 @@ returns-clause-others g c =
     let files = length c.args.files.now in
     let ends = c.in_ok-found.found.ends in
     let parts = parted-by s0 s1 s2 s3 n c.items_at.new.names files e0 c.refuse.new.self c.args.cond.0 ends.closed.0 ends.still.0 c.in_ok-branches.branches.items c.deref.result.now
-    (failure_at UnterminatedCall (seen_hidden n e0.sets c.args.head)) c.deref.ensures.value c.find_calls.ensures.keeps c.closed_calls.ensures.keeps c.refuse.ensures.keeps c.items_at.ensures.names c.requires.held
+    (failure_at UnterminatedCall (seen_hidden n e0.sets c.args.head)) c.deref.ensures.value c.first_calls.ensures.keeps c.closed_calls.ensures.keeps c.refuse.ensures.keeps c.items_at.ensures.names c.requires.held
     c.in_ok-found.ensures.closed c.in_ok-found.ensures.still c.in_ok-branches.ensures.lists c.in_ok-branches.ensures.branches c.in_ok-refuse.ensures.live c.in_ok-refuse.ensures.failures
     c.in_ok-branches.ensures.agree c.in_ok-refuse.ensures.alike in
     let head = head-held (IsHeldToken (stores s0 n e0.sets) files) e0.top.work c.args.head c.requires.held.top.work.held c.requires.head in
@@ -196,7 +196,7 @@ returns-clause-others g c =
 pub returns-clause-first_others : goal.returns-clause-first_others
 returns-clause-first_others g c =
     let s0 = g.C.Conditions.sets c.args.conds.now in
-    let s1 = g.C.Conditions.sets c.find_calls.new.conds in
+    let s1 = g.C.Conditions.sets c.first_calls.new.conds in
     let s2 = g.C.Conditions.sets c.closed_calls.new.conds in
     let s3 = g.C.Conditions.sets c.refuse.new.conds in
     let n = c.args.names.now in
@@ -204,7 +204,7 @@ returns-clause-first_others g c =
     let files = length c.args.files.now in
     let ends = c.in_ok-found.found.ends in
     let parts = parted-by s0 s1 s2 s3 n c.items_at.new.names files e0 c.refuse.new.self c.args.cond.0 ends.closed.0 ends.still.0 c.in_ok-branches.branches.items c.deref.result.now
-    (failure_at UnterminatedCall (seen_hidden n e0.sets c.args.head)) c.deref.ensures.value c.find_calls.ensures.keeps c.closed_calls.ensures.keeps c.refuse.ensures.keeps c.items_at.ensures.names c.requires.held
+    (failure_at UnterminatedCall (seen_hidden n e0.sets c.args.head)) c.deref.ensures.value c.first_calls.ensures.keeps c.closed_calls.ensures.keeps c.refuse.ensures.keeps c.items_at.ensures.names c.requires.held
     c.in_ok-found.ensures.closed c.in_ok-found.ensures.still c.in_ok-branches.ensures.lists c.in_ok-branches.ensures.branches c.in_ok-refuse.ensures.live c.in_ok-refuse.ensures.failures
     c.in_ok-branches.ensures.agree c.in_ok-refuse.ensures.alike in
     let head = head-held (IsHeldToken (stores s0 n e0.sets) files) e0.top.work c.args.head c.requires.held.top.work.held c.requires.head in
@@ -219,7 +219,7 @@ returns-clause-first_others g c =
 pub returns-clause-first_called : goal.returns-clause-first_called
 returns-clause-first_called g c =
     let s0 = g.C.Conditions.sets c.args.conds.now in
-    let s1 = g.C.Conditions.sets c.find_calls.new.conds in
+    let s1 = g.C.Conditions.sets c.first_calls.new.conds in
     let s2 = g.C.Conditions.sets c.closed_calls.new.conds in
     let s3 = g.C.Conditions.sets c.refuse.new.conds in
     let n = c.args.names.now in
@@ -227,7 +227,7 @@ returns-clause-first_called g c =
     let files = length c.args.files.now in
     let ends = c.in_ok-found.found.ends in
     let parts = parted-by s0 s1 s2 s3 n c.items_at.new.names files e0 c.refuse.new.self c.args.cond.0 ends.closed.0 ends.still.0 c.in_ok-branches.branches.items c.deref.result.now
-    (failure_at UnterminatedCall (seen_hidden n e0.sets c.args.head)) c.deref.ensures.value c.find_calls.ensures.keeps c.closed_calls.ensures.keeps c.refuse.ensures.keeps c.items_at.ensures.names c.requires.held
+    (failure_at UnterminatedCall (seen_hidden n e0.sets c.args.head)) c.deref.ensures.value c.first_calls.ensures.keeps c.closed_calls.ensures.keeps c.refuse.ensures.keeps c.items_at.ensures.names c.requires.held
     c.in_ok-found.ensures.closed c.in_ok-found.ensures.still c.in_ok-branches.ensures.lists c.in_ok-branches.ensures.branches c.in_ok-refuse.ensures.live c.in_ok-refuse.ensures.failures
     c.in_ok-branches.ensures.agree c.in_ok-refuse.ensures.alike in
     let head = head-held (IsHeldToken (stores s0 n e0.sets) files) e0.top.work c.args.head c.requires.held.top.work.held c.requires.head in
@@ -242,7 +242,7 @@ returns-clause-first_called g c =
 pub returns-clause-others_each : goal.returns-clause-others_each
 returns-clause-others_each g c =
     let s0 = g.C.Conditions.sets c.args.conds.now in
-    let s1 = g.C.Conditions.sets c.find_calls.new.conds in
+    let s1 = g.C.Conditions.sets c.first_calls.new.conds in
     let s2 = g.C.Conditions.sets c.closed_calls.new.conds in
     let s3 = g.C.Conditions.sets c.refuse.new.conds in
     let n = c.args.names.now in
@@ -250,7 +250,7 @@ returns-clause-others_each g c =
     let files = length c.args.files.now in
     let ends = c.in_ok-found.found.ends in
     let parts = parted-by s0 s1 s2 s3 n c.items_at.new.names files e0 c.refuse.new.self c.args.cond.0 ends.closed.0 ends.still.0 c.in_ok-branches.branches.items c.deref.result.now
-    (failure_at UnterminatedCall (seen_hidden n e0.sets c.args.head)) c.deref.ensures.value c.find_calls.ensures.keeps c.closed_calls.ensures.keeps c.refuse.ensures.keeps c.items_at.ensures.names c.requires.held
+    (failure_at UnterminatedCall (seen_hidden n e0.sets c.args.head)) c.deref.ensures.value c.first_calls.ensures.keeps c.closed_calls.ensures.keeps c.refuse.ensures.keeps c.items_at.ensures.names c.requires.held
     c.in_ok-found.ensures.closed c.in_ok-found.ensures.still c.in_ok-branches.ensures.lists c.in_ok-branches.ensures.branches c.in_ok-refuse.ensures.live c.in_ok-refuse.ensures.failures
     c.in_ok-branches.ensures.agree c.in_ok-refuse.ensures.alike in
     let head = head-held (IsHeldToken (stores s0 n e0.sets) files) e0.top.work c.args.head c.requires.held.top.work.held c.requires.head in
@@ -265,7 +265,7 @@ returns-clause-others_each g c =
 pub returns-clause-alike : goal.returns-clause-alike
 returns-clause-alike g c =
     let s0 = g.C.Conditions.sets c.args.conds.now in
-    let s1 = g.C.Conditions.sets c.find_calls.new.conds in
+    let s1 = g.C.Conditions.sets c.first_calls.new.conds in
     let s2 = g.C.Conditions.sets c.closed_calls.new.conds in
     let s3 = g.C.Conditions.sets c.refuse.new.conds in
     let n = c.args.names.now in
@@ -273,7 +273,7 @@ returns-clause-alike g c =
     let files = length c.args.files.now in
     let ends = c.in_ok-found.found.ends in
     let parts = parted-by s0 s1 s2 s3 n c.items_at.new.names files e0 c.refuse.new.self c.args.cond.0 ends.closed.0 ends.still.0 c.in_ok-branches.branches.items c.deref.result.now
-    (failure_at UnterminatedCall (seen_hidden n e0.sets c.args.head)) c.deref.ensures.value c.find_calls.ensures.keeps c.closed_calls.ensures.keeps c.refuse.ensures.keeps c.items_at.ensures.names c.requires.held
+    (failure_at UnterminatedCall (seen_hidden n e0.sets c.args.head)) c.deref.ensures.value c.first_calls.ensures.keeps c.closed_calls.ensures.keeps c.refuse.ensures.keeps c.items_at.ensures.names c.requires.held
     c.in_ok-found.ensures.closed c.in_ok-found.ensures.still c.in_ok-branches.ensures.lists c.in_ok-branches.ensures.branches c.in_ok-refuse.ensures.live c.in_ok-refuse.ensures.failures
     c.in_ok-branches.ensures.agree c.in_ok-refuse.ensures.alike in
     let head = head-held (IsHeldToken (stores s0 n e0.sets) files) e0.top.work c.args.head c.requires.held.top.work.held c.requires.head in
@@ -288,7 +288,7 @@ returns-clause-alike g c =
 pub returns-clause-rest : goal.returns-clause-rest
 returns-clause-rest g c =
     let s0 = g.C.Conditions.sets c.args.conds.now in
-    let s1 = g.C.Conditions.sets c.find_calls.new.conds in
+    let s1 = g.C.Conditions.sets c.first_calls.new.conds in
     let s2 = g.C.Conditions.sets c.closed_calls.new.conds in
     let s3 = g.C.Conditions.sets c.refuse.new.conds in
     let n = c.args.names.now in
@@ -296,7 +296,7 @@ returns-clause-rest g c =
     let files = length c.args.files.now in
     let ends = c.in_ok-found.found.ends in
     let parts = parted-by s0 s1 s2 s3 n c.items_at.new.names files e0 c.refuse.new.self c.args.cond.0 ends.closed.0 ends.still.0 c.in_ok-branches.branches.items c.deref.result.now
-    (failure_at UnterminatedCall (seen_hidden n e0.sets c.args.head)) c.deref.ensures.value c.find_calls.ensures.keeps c.closed_calls.ensures.keeps c.refuse.ensures.keeps c.items_at.ensures.names c.requires.held
+    (failure_at UnterminatedCall (seen_hidden n e0.sets c.args.head)) c.deref.ensures.value c.first_calls.ensures.keeps c.closed_calls.ensures.keeps c.refuse.ensures.keeps c.items_at.ensures.names c.requires.held
     c.in_ok-found.ensures.closed c.in_ok-found.ensures.still c.in_ok-branches.ensures.lists c.in_ok-branches.ensures.branches c.in_ok-refuse.ensures.live c.in_ok-refuse.ensures.failures
     c.in_ok-branches.ensures.agree c.in_ok-refuse.ensures.alike in
     let head = head-held (IsHeldToken (stores s0 n e0.sets) files) e0.top.work c.args.head c.requires.held.top.work.held c.requires.head in

@@ -1,0 +1,20 @@
+use Rattle.std.proofs.Common.{◌∙◌, ◌+◌, ap, drop, get_or}
+use Rattle.std.proofs.lemmas.List.{drop_more}
+use Rattle.std.proofs.lemmas.Option.{slice_get-get_or}
+use Rattle.sc_expand.proofs.PartingGroups.{group_parted}
+use Rattle.sc_expand.specs.Parting.{parted_with}
+use Rattle.sc_subst.proofs.Quoting.{blank}
+use Rattle.sc_subst.specs.Parts.{seen_list}
+use Rattle.sc_expand.proofs.arguments.Parting.go_on.Goals as goal
+
+pub returns-in-Some-clause-is : goal.returns-in-Some-clause-is
+returns-in-Some-clause-is c = λ sets.
+    group_parted c.args.names.now sets c.args.between.now c.args.index c.in-Some.close c.args.self.now c.requires.begin c.requires.index c.if-self-eq0.true c.in-Some.ensures.1
+
+pub returns-clause-is : goal.returns-clause-is
+returns-clause-is c = λ sets.
+    let names = c.args.names.now in
+    let between = c.args.between.now in
+    let index = c.args.index in
+    ap (λ l. parted_with names sets between index c.args.self.now (seen_list names sets l)) (drop_more between index blank c.requires.index)
+    ∙ c.in_ok-take.ensures.is sets (get_or between index blank) (seen_list names sets (drop (index + 1) between)) (slice_get-get_or between index blank c.requires.index)
