@@ -127,7 +127,8 @@ decides-as-sole s l None r d q e = absurd d
 
 -- ---- what a directive makes of the macros
 
--- A relation of a directive to its answer is of one kind, so that only answers of that kind are compared.
+-- A relation of a directive to its answer is of one kind, so that only answers of that kind are
+-- compared.
 abbrev DefinedAs : Macros → Defined → Option Definition → Result Macros Cause → Type 0
 DefinedAs macros d None r = r ≡ Ok (with_macro macros d)
 DefinedAs macros d (Some other) r = ((other ≡ d.definition) × (r ≡ Ok (with_macro macros d))) ⊎ ((other ≡ d.definition → ⊥) × (r ≡ Err Redefined))

@@ -1,4 +1,5 @@
--- What a configuration uses of the source at one name or one line: its footprint there (6.10.1 to 6.10.4).
+-- What a configuration uses of the source at one name or one line: its footprint there (6.10.1 to
+-- 6.10.4).
 use Rattle.std.specs.Prelude.{◌≡◌, ℕ, ◌<◌, ◌-◌, ◌⊎◌, ◌≤◌, true, false, List, [], ◌∷◌, All, AllPairs, length, map, take, Option, Some, Result, Ok}
 use Rattle.c11_directives.specs.declared.directive.Conditional.TheVariants.{If, Elif}
 use Rattle.c11_directives.specs.declared.directive.Directive.{Directive}
@@ -40,7 +41,8 @@ included_at place f = record f { chain = place ∷ f.chain }
 abbrev pub definitions_of : Macros → List (List ℕ) → List (List ℕ × Option Definition)
 definitions_of macros names = map (λ name. (name, macros name)) names
 
--- The expansion of a text comes to a name, which has this footprint: it and what it takes behind it.
+-- The expansion of a text comes to a name, which has this footprint: it and what it takes behind
+-- it.
 pub record NameHas (macros : Macros) (text : List Token) (f : SourceFootprint) : Type 0 where
   pub name : Token
   pub behind : List Token

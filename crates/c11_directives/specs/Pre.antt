@@ -189,7 +189,8 @@ abbrev pub file_lines : Context → File → List Lexeme → List Line
 file_lines context file tokens = lines_of context.standard.directives (map (in_file file.name) tokens)
 
 mutual
-  -- What a line that is no conditional directive does. Every directive but the null one is a barrier.
+  -- What a line that is no conditional directive does. Every directive but the null one is a
+  -- barrier.
   pub data Steps (context : Context) : Line → State → Result State Fault → Type 0 where
     text : {line : Line} {s : State} → line.directive ≡ None → Steps context line s (Ok (with_text s line))
     null : {line : Line} {s : State} → line.directive ≡ Some directive.Null → Steps context line s (Ok s)
@@ -220,8 +221,8 @@ mutual
         → Includes context (candidates header s.file context.include) (place_in s hash) (deeper s) r
         → Carries context line s directive.Include (result_map (back s) r)
 
-  -- The walk of a group from a state, up to its end or its first fault. After a branch was taken, no
-  -- later one is decided.
+  -- The walk of a group from a state, up to its end or its first fault. After a branch was taken,
+  -- no later one is decided.
   pub data Walks (context : Context) : Group → State → Result State Fault → Type 0 where
     done : {s : State} → Walks context empty s (Ok s)
     line : {line : Line} {rest : Group} {s : State} {r : Result State Fault} (t : State)

@@ -1,4 +1,5 @@
--- Tables that define the names alike that an expansion looked up give it the same answer, by the same trace.
+-- Tables that define the names alike that an expansion looked up give it the same answer, by the
+-- same trace.
 use Rattle.std.proofs.Common.{◌≡◌, ℕ, Bool, true, false, List, [], ◌∷◌, ◌++◌, Option, Result, refl, sym, ap, ◌∙◌, if◌then◌else◌}
 use Rattle.c11_macros.specs.Call.{behind_call}
 use Rattle.c11_macros.specs.Expansion.{is_looked_up, looked_up_case, defined_case, case_of, Expands, empty, stay, object, unterminated, miscounted, call, Each, none, passed, expanded, Rescans, on, refused}

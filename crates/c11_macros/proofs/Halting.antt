@@ -1,7 +1,7 @@
 -- Every list has an expansion, where finitely many names are defined.
 --
--- A replacement hides one name more than what it came from, up to the tokens behind it. So the cuts of a list grow or the lowest that
--- changes sinks, and there are no more of them than names.
+-- A replacement hides one name more than what it came from, up to the tokens behind it. So the cuts
+-- of a list grow or the lowest that changes sinks, and there are no more of them than names.
 use Rattle.std.proofs.Common.{◌≡◌, ℕ, zero, suc, ◌<◌, ◌≤◌, ◌&&◌, ◌||◌, nat_le, Bool, true, false, List, [], ◌∷◌, ◌++◌, length, Option, Some, None, Result, Ok, Err, refl, sym, ap, ◌∙◌, subst, arith, if◌then◌else◌}
 use Rattle.std.proofs.lemmas.Bool.{leb-true, leb-false, true≢false}
 use Rattle.std.specs.List.{list_any}
@@ -116,7 +116,8 @@ module _ {P : Type 0} (provenance : Provenance P) (macros : Macros) (names : Lis
       by true first others = (first.0 ∷ others.0, expanded first.1 others.1)
       by false first others = (Ok [] ∷ others.0, passed others.1)
 
-  -- a replacement by a name that is new among the cuts that are kept, all of whose names the set has
+  -- a replacement by a name that is new among the cuts that are kept, all of whose names the set
+  -- has
   goes : (c : Cuts) (name : List ℕ) (set : HideSet) (made : Answer) (after : List (Hidden P)) → Sorted c → Below c → Above (length after) c → IsNew name (kept (length after) c)
       → set name ≡ true → HasAll set (kept (length after) c) → Covered set made → Row c after → (r : Answer) × Rescans provenance macros made after r
   goes c name set (Err failure) after sorted below above new own has cover row = (Err failure, refused failure)

@@ -1,4 +1,5 @@
--- Lists of tokens of which those far from the end hide names, and what a call and a replacement make of such a list.
+-- Lists of tokens of which those far from the end hide names, and what a call and a replacement
+-- make of such a list.
 use Rattle.std.proofs.Common.{◌≡◌, ℕ, zero, suc, ◌<◌, ◌≤◌, ◌&&◌, ◌||◌, ◌==◌, ◌+◌, not, nat_le, Bool, true, false, List, [], ◌∷◌, ◌++◌, length, map, codes, Option, Some, None, Result, Ok, Err, refl, sym, ap, ◌∙◌, subst, arith, if◌then◌else◌}
 use Rattle.std.proofs.lemmas.Bool.{leb-true, leb-false, and_parts, true≢false}
 use Rattle.c11_macros.specs.Call.{Call, Role, opening, closing, comma, other, role_of, onto_argument, onto, apart, call_step, call_of, counts, is_nothing, given, filled_up, arguments_for}
@@ -11,7 +12,8 @@ use Rattle.c11_tokens.specs.Lex.{is_identifier_kind}
 use Rattle.sc_model.proofs.ByteLemmas.{same_bytes-true}
 use Rattle.sc_model.specs.Bytes.{same_bytes}
 
--- A cut says that each token with at least so many tokens after it hides the name. The highest cut stands first.
+-- A cut says that each token with at least so many tokens after it hides the name. The highest cut
+-- stands first.
 pub data Cuts : Type 0 where
   uncut : Cuts
   cut : ℕ → List ℕ → Cuts → Cuts

@@ -1,4 +1,5 @@
--- The call of a function-like macro: what stands between its parentheses (C11 6.10.3p10 to p12, 6.10.3.1).
+-- The call of a function-like macro: what stands between its parentheses (C11 6.10.3p10 to p12,
+-- 6.10.3.1).
 use Rattle.std.specs.Prelude.{ℕ, zero, suc, ◌+◌, ◌==◌, ◌&&◌, ◌||◌, Bool, true, false, List, [], ◌∷◌, ◌++◌, length, codes, Option, Some, None, if◌then◌else◌}
 use Rattle.c11_macros.specs.Hidden.{Hidden}
 use Rattle.c11_macros.specs.Macros.{Form, object_like, function_like}
@@ -38,7 +39,8 @@ abbrev pub apart : {P : Type 0} → Option (Call P) → Option (Call P)
 apart None = None
 apart (Some call) = Some (record call { arguments = [] ∷ call.arguments })
 
--- One token of a call, at a depth of inner parentheses, where so many commas may still part arguments. What follows is read by go.
+-- One token of a call, at a depth of inner parentheses, where so many commas may still part
+-- arguments. What follows is read by go.
 abbrev pub call_step : {P : Type 0} → Role → ℕ → ℕ → Hidden P → List (Hidden P) → (ℕ → ℕ → Option (Call P)) → Option (Call P)
 call_step closing commas zero t ts go = Some (record { arguments = [] ∷ []; close = t; rest = ts })
 call_step closing commas (suc depth) t ts go = onto t (go commas depth)

@@ -28,7 +28,8 @@ pub record Head : Type 0 where
 abbrev pub is_parameter : List (List ℕ) → Token → Bool
 is_parameter before t = is_identifier_kind t.kind && not (is_spelled (codes "__VA_ARGS__") t) && not (list_any (same_bytes t.spelling) before)
 
--- Behind the opening parenthesis or a comma, after these parameters: one more and then a comma or the end, or ... and the end.
+-- Behind the opening parenthesis or a comma, after these parameters: one more and then a comma or
+-- the end, or ... and the end.
 abbrev pub parameters_after : List (List ℕ) → List Token → Option Head
 parameters_after before (t ∷ (u ∷ ts)) =
     if is_parameter before t && is_spelled (codes ",") u then parameters_after (before ++ t.spelling ∷ []) ts
@@ -99,8 +100,8 @@ abbrev pub define_by : Token → Option Head → Result Defined Cause
 define_by name None = Err BadDefine
 define_by name (Some head) = define name head.form (list_from head.rest)
 
--- What the tokens behind the word define say. Two definitions are the same where they are equal: of one form, with the same parameters,
--- spellings and white space (6.10.3p1, p2).
+-- What the tokens behind the word define say. Two definitions are the same where they are equal: of
+-- one form, with the same parameters, spellings and white space (6.10.3p1, p2).
 abbrev pub reads : List Token → Result Defined Cause
 reads [] = Err BadDefine
 reads (name ∷ rest) = if is_identifier_kind name.kind then define_by name (head_of rest) else Err BadDefine

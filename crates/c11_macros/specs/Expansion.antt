@@ -100,7 +100,8 @@ mutual
     expanded : {asks : List (Option (List (Hidden P)))} {rs : List (Result (List (Hidden P)) (Failure P))} {argument : List (Hidden P)} {r : Result (List (Hidden P)) (Failure P)}
         → Expands provenance macros argument r → Each provenance macros asks rs → Each provenance macros (Some argument ∷ asks) (r ∷ rs)
 
-  -- a replacement is scanned again together with the rest (6.10.3.4); its cause is the cause of the whole
+  -- a replacement is scanned again together with the rest (6.10.3.4); its cause is the cause of the
+  -- whole
   pub data Rescans {P : Type 0} (provenance : Provenance P) (macros : Macros) : Result (List (Hidden P)) (Failure P) → List (Hidden P) → Result (List (Hidden P)) (Failure P) → Type 0 where
     on : {body rest : List (Hidden P)} {r : Result (List (Hidden P)) (Failure P)} → Expands provenance macros (body ++ rest) r → Rescans provenance macros (Ok body) rest r
     refused : {rest : List (Hidden P)} (failure : Failure P) → Rescans provenance macros (Err failure) rest (Err failure)

@@ -1,4 +1,5 @@
--- The tokens of an expansion (Prosser): each has a hide set, the names of the macros that it came from.
+-- The tokens of an expansion (Prosser): each has a hide set, the names of the macros that it came
+-- from.
 use Rattle.std.specs.Prelude.{ℕ, ◌&&◌, ◌||◌, Bool, false, List}
 use Rattle.sc_model.specs.declared.cause.Cause.{Cause}
 use Rattle.sc_model.specs.declared.kind.Kind.{Kind}

@@ -1,4 +1,5 @@
--- What a macro's replacement list becomes (C11 6.10.3.1 to 6.10.3.3): four steps, each over the whole list.
+-- What a macro's replacement list becomes (C11 6.10.3.1 to 6.10.3.3): four steps, each over the
+-- whole list.
 use Rattle.std.specs.Prelude.{ℕ, zero, suc, ◌+◌, ◌==◌, ◌&&◌, ◌||◌, not, Bool, true, false, List, [], ◌∷◌, ◌++◌, map, length, codes, Option, Some, None, is_some, Result, Ok, Err, slice_index_or, if◌then◌else◌}
 use Rattle.c11_macros.specs.Results.{result_map, result_and_then}
 use Rattle.c11_macros.specs.Hidden.{Hidden, HideSet, Provenance, Failure, failure_at, no_names, union, meet}
@@ -27,8 +28,9 @@ argument arguments n = slice_index_or arguments n []
 
 -- ---- the parts of a list
 
--- What stands in a replacement list: a token of its own; a # with its parameter, and the white space of the # (6.10.3.2); a
--- parameter and its white space; a ## that joins its neighbours (6.10.3.3).
+-- What stands in a replacement list: a token of its own; a # with its parameter, and the white
+-- space of the # (6.10.3.2); a parameter and its white space; a ## that joins its neighbours
+-- (6.10.3.3).
 pub data Part : Type 0 where
   token : Item → Part
   literal : ℕ → Bool → Part
@@ -41,7 +43,8 @@ is_hash item = same_bytes (name_of item.spelling) (codes "#")
 abbrev pub is_paste : Item → Bool
 is_paste item = same_bytes (name_of item.spelling) (codes "##")
 
--- what stands before an item: a ##, a # that stringizes it, with the white space of the #, or neither
+-- what stands before an item: a ##, a # that stringizes it, with the white space of the #, or
+-- neither
 pub data Before : Type 0 where
   neither : Before
   after_paste : Before
@@ -61,7 +64,8 @@ operand_part before item None = token item
 operand_part (after_hash space) item (Some n) = literal n space
 operand_part before item (Some n) = parameter n item.space
 
--- The parts of a list. A ## behind an operator is its right operand; a # without a parameter, as in an object-like macro, is a token.
+-- The parts of a list. A ## behind an operator is its right operand; a # without a parameter, as in
+-- an object-like macro, is a token.
 abbrev pub parts : Form → Before → List Item → List Part
 parts form before [] = []
 parts form before (item ∷ items) =
@@ -121,7 +125,7 @@ abbrev pub slots : {P : Type 0} → Hidden P → List (List (Hidden P)) → List
 slots head raw [] = Ok []
 slots head raw (p ∷ ps) = result_and_then (λ s. result_map (λ rest. s ∷ rest) (slots head raw ps)) (slot_of head raw p)
 
--- ---- parameters replaced by their arguments: beside ## as they are, elsewhere as they expand alone (6.10.3.1)
+-- ---- parameters replaced by arguments: as they are beside ##, expanded elsewhere (6.10.3.1)
 
 pub data Piece (P : Type 0) : Type 0 where
   piece : Hidden P → Piece P
@@ -201,7 +205,8 @@ hidden_by provenance names t = record t { hide = union t.hide names; place = pro
 abbrev pub hiding : {P : Type 0} → Provenance P → HideSet → List (Hidden P) → List (Hidden P)
 hiding provenance names ts = map (hidden_by provenance names) ts
 
--- The replacement of a macro's name: its list of items, with these arguments as they are and as they expand.
+-- The replacement of a macro's name: its list of items, with these arguments as they are and as
+-- they expand.
 abbrev pub substituted : {P : Type 0} → Provenance P → Form → List Item → Hidden P → List (List (Hidden P)) → List (Result (List (Hidden P)) (Failure P)) → HideSet
     → Result (List (Hidden P)) (Failure P)
 substituted provenance form items head raw expanded names =

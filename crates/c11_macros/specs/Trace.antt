@@ -1,4 +1,5 @@
--- What an expansion used: the names that it looked up, the tokens that it took from its list, and its steps.
+-- What an expansion used: the names that it looked up, the tokens that it took from its list, and
+-- its steps.
 use Rattle.std.specs.Prelude.{◌≡◌, ℕ, suc, ◌+◌, List, [], ◌∷◌, ◌++◌, length, Option, Result, if◌then◌else◌}
 use Rattle.c11_macros.specs.Call.{behind_call}
 use Rattle.c11_macros.specs.Expansion.{is_looked_up, Expands, empty, stay, object, unterminated, miscounted, call, Each, none, passed, expanded, Rescans, on, refused}

@@ -18,7 +18,8 @@ pub fn name_has_one_footprint<P>()
         (d : Expands provenance macros (t ∷ rest) r) (e : Expands provenance macros (t ∷ rest) s) → footprint d ≡ footprint e }
 {}
 
-/// Tables that define the names alike that an expansion looked up give it the same answer, by the same trace.
+/// Tables that define the names alike that an expansion looked up give it the same answer, by the
+/// same trace.
 pub fn expansion_depends_on_the_names_looked_up<P>()
     ensures { (provenance : Provenance P) (one two : Macros) (ts : List (Hidden P)) (r : Result (List (Hidden P)) (Failure P))
         (d : Expands provenance one ts r) → Agree one two (trace d).looked_up → ExpandsBy provenance two ts r (trace d) }

@@ -8,7 +8,8 @@ use crate::texts::text_for;
 use sc_source::{Failed, Sink, Source};
 use std::alloc::Global;
 
-/// One run of the program: what the words ask for is written to `out`, or why there is nothing to `err`. The first word is the program's name.
+/// One run of the program: what the words ask for is written to `out`, or why there is nothing to
+/// `err`. The first word is the program's name.
 pub fn run<S: Source, K: Sink, E: Sink>(
     alloc: Global,
     words: &[String],

@@ -12,7 +12,8 @@ pub record IsChild (s : Sets) (n variable option child : ℕ) : Type 0 where
   pub later : DependsFrom s child (variable + 1)
   pub part : (c : List ℕ) → IsConfig s.arities c → s.has child c ≡ s.has n (slice_set c variable option)
 
--- the variable is the first on which the node depends, and the children are those for its options, in order
+-- the variable is the first on which the node depends, and the children are those for its options,
+-- in order
 pub record IsDecisionOf (s : Sets) (n variable : ℕ) (children : List ℕ) : Type 0 where
   pub top : IsTop s n variable
   pub wide : length children ≡ slice_index s.arities variable

@@ -11,7 +11,8 @@ pub record Branch : Type 0 where
 abbrev pub branch : ℕ → List ℕ → Branch
 branch variable children = record { variable = variable; children = children }
 
--- how many options each variable has, and the nodes: first the ends never and always, then those that decide by a variable
+-- how many options each variable has, and the nodes: first the ends never and always, then those
+-- that decide by a variable
 pub record Diagram : Type 0 where
   pub arities : List ℕ
   pub nodes : List Branch
@@ -38,7 +39,8 @@ abbrev pub walk : ℕ → Diagram → List ℕ → ℕ → ℕ
 walk zero d c n = n
 walk (suc steps) d c n = walk steps d c (next d c n)
 
--- a node has a configuration where its steps end at always; a child has a lower number, so n steps are enough
+-- a node has a configuration where its steps end at always; a child has a lower number, so n steps
+-- are enough
 abbrev pub sets_of : Diagram → Sets
 sets_of d = record {
   arities = d.arities;
@@ -46,7 +48,8 @@ sets_of d = record {
   has = λ n c. walk n d c n == 1;
 }
 
--- the node n decides by a variable, between children that decide by later ones and are not all the same
+-- the node n decides by a variable, between children that decide by later ones and are not all the
+-- same
 pub record IsDecision (d : Diagram) (n : ℕ) (b : Branch) : Type 0 where
   pub within : b.variable < length d.arities
   pub wide : length b.children ≡ slice_index d.arities b.variable

@@ -23,7 +23,8 @@ pub record AddsOnly (old new : Diagram) (r : ℕ) : Type 0 where
 pub record AddsBelow (old new : Diagram) (tops : List ℕ) : Type 0 where
   pub each : (n : ℕ) → length old.nodes ≤ n → n < length new.nodes → record { place : ℕ; within : place < length tops; reaches : Reaches new (slice_index tops place) n }
 
--- r stands for the choice of a child by a variable: it is the one child that there is, or the node with these children
+-- r stands for the choice of a child by a variable: it is the one child that there is, or the node
+-- with these children
 pub data IsChoice (d : Diagram) (r variable : ℕ) (children : List ℕ) : Type 0 where
   only : ((k : ℕ) → k < length children → slice_index children k ≡ r) → IsChoice d r variable children
   decides : slice_get d.nodes r ≡ Some (branch variable children) → IsChoice d r variable children

@@ -22,7 +22,7 @@ use Rattle.sc_expand.specs.declared.frame.Frame.{Frame}
 use Rattle.sc_expand.specs.Machine.{IsHeldExpansion, Progress, Stands, at, fails, gone, rests, state_in, steps}
 use Rattle.sc_expand.specs.Plain.{Fails, Moves}
 use Rattle.sc_expand.specs.Running as running
-use Rattle.sc_expand.specs.Running.{IsDropped, IsReady, IsRested, bottom, bottom_by, frame_weight, last_of, next_by, next_of, put_by, put_out, weight}
+use Rattle.sc_expand.specs.Running.{IsDropped, IsReady, IsRested, bottom, bottom_by, frame_weight, last_of, next_by, next_of, put_by, weight}
 use Rattle.sc_expand.specs.Seen.{AreHeld, Grows, IsHeldCall, IsHeldEnclosing, IsHeldFrame, IsHeldRefusals, Stores, calls_at, failures_at, seen_at, view_at, waiting_at}
 use Rattle.sc_expand.specs.Turn.{At}
 use Rattle.sc_guarded.specs.Items.{items_at}

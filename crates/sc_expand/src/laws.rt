@@ -36,9 +36,9 @@ pub fn steps_depend_on_the_names_looked_up<P>()
         → Leads provenance one (scanning [] list) s → Leads provenance two (scanning [] list) s }
 {}
 
-/// The steps from a name on, while more is to be scanned than they leave of the list behind it, take
-/// what its footprint says: where they come to what they leave, the footprint leaves as many tokens
-/// and has not failed, and where they fail it has.
+/// The steps from a name on, while more is to be scanned than they leave of the list behind it,
+/// take what its footprint says: where they come to what they leave, the footprint leaves as many
+/// tokens and has not failed, and where they fail it has.
 pub fn steps_take_the_footprint<P>()
     ensures ends { (provenance : Provenance P) (macros : Macros) (names : List (List ℕ)) → IsWithin names macros → (t : Hidden P) (rest : List (Hidden P)) (r : Result (List (Hidden P)) (Failure P))
         (d : Expands provenance macros (t ∷ rest) r) → (out work : List (Hidden P)) (left : ℕ) → LeadsUntil provenance macros (scanning [] (t ∷ rest)) (length rest) (scanning out work) left

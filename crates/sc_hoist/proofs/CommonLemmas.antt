@@ -17,7 +17,8 @@ use Rattle.sc_hoist.proofs.CallLemmas.{end_in-after, final_stays}
 use Rattle.sc_hoist.proofs.ItemLemmas.{taken_final}
 use Rattle.sc_model.specs.Sets.{Sets}
 
--- what is left to be read from a state at an index ends the call, and its items behind these places are those of the call
+-- what is left to be read from a state at an index ends the call, and its items behind these places
+-- are those of the call
 pub record Reads (s : Sets) (names : List (List ℕ)) (tokens : List (Cond × Token)) (at i : ℕ) (state : State) (places c : List ℕ) : Type 0 where
   pub ends : state_after s names (drop i tokens) c state ≡ state_after s names (drop (at + 1) tokens) c Alone
   pub placed : places ++ taken_from s names state i (drop i tokens) c ≡ at ∷ taken_from s names Alone (at + 1) (drop (at + 1) tokens) c

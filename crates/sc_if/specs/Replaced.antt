@@ -35,8 +35,8 @@ Stands hash (Err cause) items failures = (items ≡ []) × (failures ≡ failure
 abbrev pub IsKeptTable : Sets → Sets → List (List ℕ) → List (List ℕ) → MacroTable → MacroTable → Type 0
 IsKeptTable old new names later was table = (config text : List ℕ) → IsConfig old.arities config → macros_at new later table config text ≡ macros_at old names was config text
 
--- The store made the conditions of the items, each has a configuration, and the table of texts holds
--- the tokens.
+-- The store made the conditions of the items, each has a configuration, and the table of texts
+-- holds the tokens.
 pub record IsHeldList (s : Sets) (names : List (List ℕ)) (list : List (Cond × Token)) : Type 0 where
   pub own : All (λ item. IsCond s item.0.0) list
   pub some : All (λ item. IsNever s item.0.0 → ⊥) list

@@ -81,7 +81,8 @@ after_period base digits (b ∷ bs) = if b == 46 && (digits || has_digit base bs
 abbrev pub after_fraction : Base → List ℕ → Option (List ℕ)
 after_fraction base bs = after_period base (has_digit base bs) (after_digits base bs)
 
--- a floating constant without its prefix: the exponent part may be left out of a decimal fraction alone
+-- a floating constant without its prefix: the exponent part may be left out of a decimal fraction
+-- alone
 abbrev pub is_floating_in : Base → List ℕ → Option (List ℕ) → Bool
 is_floating_in base bs None = has_digit base bs && has_exponent base (after_digits base bs)
 is_floating_in Hexadecimal bs (Some rest) = has_exponent Hexadecimal rest

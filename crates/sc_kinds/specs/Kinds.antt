@@ -20,7 +20,8 @@ keyword = terminal_written 5 44
 abbrev pub punctuator : List ℕ → Option ℕ
 punctuator = terminal_written 49 46
 
--- An identifier that is no keyword is NAME first (0), a constant is CONSTANT (3), a string literal STRING (4).
+-- An identifier that is no keyword is NAME first (0), a constant is CONSTANT (3), a string literal
+-- STRING (4).
 unfoldable pub terminal_of : Kind → List ℕ → Option ℕ
 terminal_of Identifier spelling = Some (unwrap_or (keyword spelling) 0)
 terminal_of Number spelling = if is_integer spelling || is_floating spelling then Some 3 else None

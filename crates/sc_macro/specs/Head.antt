@@ -9,7 +9,8 @@ use Rattle.sc_macro.specs.declared.head.Turn.{Turn}
 use Rattle.sc_macro.specs.declared.head.Turn.TheVariants.{More, Last, Dots, Wrong}
 use Rattle.sc_macro.specs.Seen.{seen_form, IsHeldForm}
 
--- The form is that of the definition, and the tokens that follow it. So many tokens stand before these.
+-- The form is that of the definition, and the tokens that follow it. So many tokens stand before
+-- these.
 pub record IsHead (names : List (List ℕ)) (tokens : List declared.Token) (before : ℕ) (head : Head) (found : Option model.Head) : Type 0 where
   pub is : found ≡ Some (record { form = seen_form names head.form; rest = map (seen names []) (drop (head.length - before) tokens) })
   pub behind : before ≤ head.length

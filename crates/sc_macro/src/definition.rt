@@ -14,7 +14,8 @@ pub struct Definition {
     pub replacement: Replacement,
 }
 
-/// A replacement list: that of the definition, or one that the place of the macro's name tells (C11 6.10.8.1).
+/// A replacement list: that of the definition, or one that the place of the macro's name tells (C11
+/// 6.10.8.1).
 #[derive(Drop)]
 pub enum Replacement {
     Items(Vec<Item>),

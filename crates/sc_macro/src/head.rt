@@ -31,7 +31,8 @@ pub enum Turn {
     Wrong,
 }
 
-/// The form that the tokens behind a macro's name tell. A macro is function-like where `(` follows with no white space before it.
+/// The form that the tokens behind a macro's name tell. A macro is function-like where `(` follows
+/// with no white space before it.
 pub fn read_head(alloc: Global, names: &Names, line: &[Token]) -> Result<Option<Head>, OutOfMemory>
     requires { All (IsHeld names.now) line.now }
     ensures { IfOk result (λ head. Heads names.now line.now 0 head (model.head_of (map (seen names.now []) line.now))) }

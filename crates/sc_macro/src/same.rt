@@ -5,7 +5,8 @@ ghost use Rattle.sc_macro.specs.Seen.{IsHeldDefinition, IsHeldForm, IsHeldReplac
 use crate::{Definition, Form, Item, Replacement};
 use sc_base::Name;
 
-/// Whether two definitions are the same: of one form, with the same parameters, spellings and white space (C11 6.10.3p1, p2).
+/// Whether two definitions are the same: of one form, with the same parameters, spellings and white
+/// space (C11 6.10.3p1, p2).
 pub fn same_definition(a: &Definition, b: &Definition) -> bool
     ensures { (names : List (List ℕ)) → IsOneToOne names → IsHeldDefinition names a.now → IsHeldDefinition names b.now
         → (IsTrue result ↔ (seen_definition names a.now ≡ seen_definition names b.now)) }

@@ -1,8 +1,8 @@
 -- Conditions: sets of configurations, seen through the test whether they have one.
 use Rattle.std.specs.Prelude.{◌≡◌, ℕ, ◌*◌, ◌<◌, Bool, true, false, List, [], ◌∷◌, length, slice_index, slice_set}
 
--- How many options each variable has, how many conditions were made, and which configurations each has.
--- A configuration is a list with one option index for each variable.
+-- How many options each variable has, how many conditions were made, and which configurations each
+-- has. A configuration is a list with one option index for each variable.
 pub record Sets : Type 0 where
   pub arities : List ℕ
   pub count : ℕ

@@ -1,4 +1,5 @@
-/// What a token is (C11 6.4). `Newline` ends a logical line, and `Other` is a single byte that begins nothing else.
+/// What a token is (C11 6.4). `Newline` ends a logical line, and `Other` is a single byte that
+/// begins nothing else.
 #[derive(Clone, Copy, Debug, PartialEq, Eq)]
 pub enum Kind {
     Identifier,

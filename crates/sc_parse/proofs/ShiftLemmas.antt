@@ -77,8 +77,8 @@ classify-pieces source rows number j s _ has named (classifies _ i t pieces ther
 
 -- ---- from one to the next
 
--- The shift of the number made subparsers: those that are left, which are behind it, and those whose
--- kinds were shifted, whose numbers are put behind the first ones.
+-- The shift of the number made subparsers: those that are left, which are behind it, and those
+-- whose kinds were shifted, whose numbers are put behind the first ones.
 pub record IsShifting (old new : Sets) (lines added : List Line) (before after : Steps) (j number : ℕ) (first now left : List ℕ) : Type 0 where
   pub goes : GoesOn old new lines added (j + 1) before after
   pub taken : List ℕ

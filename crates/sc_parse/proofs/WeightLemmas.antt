@@ -572,7 +572,8 @@ none-left (x ∷ xs) none = absurd (omega (arith, none))
 
 -- ---- reductions of one weight
 
--- Of the heaviest subparsers some are taken: they are ready or were reduced. What is left is of their weight.
+-- Of the heaviest subparsers some are taken: they are ready or were reduced. What is left is of
+-- their weight.
 pub record HasTaken (old new : Sets) (lines added : List Line) (before after : Steps) (was_ready heaviest : List ℕ) (waited : List Entry) (ready left : List ℕ) (waiting : List Entry) : Type 0 where
   pub own : OwnsSteps new (length added) after
   pub branches : OwnsBranches new added

@@ -29,8 +29,8 @@ use std::alloc::Global;
 
 impl Walk {
     /// What a line says behind the name of its directive, in the configurations that act: a header
-    /// name as it stands, and else what the tokens expand to. The configurations in which that fails
-    /// are refused.
+    /// name as it stands, and else what the tokens expand to. The configurations in which that
+    /// fails are refused.
     #[tactic(auto, using(sc_model::proofs::SetLemmas::conditions))]
     pub fn said<C: Conditions>(
         &mut self,

@@ -34,8 +34,8 @@ use sc_presence::Conditions;
 use std::alloc::Global;
 
 impl Walk {
-    /// The configurations of `among` for which the expression of this line holds. Those for which it
-    /// fails are refused, and those refused before are not asked.
+    /// The configurations of `among` for which the expression of this line holds. Those for which
+    /// it fails are refused, and those refused before are not asked.
     #[tactic(auto, using(sc_model::proofs::SetLemmas::conditions))]
     pub fn decision<C: Conditions>(
         &mut self,
@@ -78,8 +78,8 @@ impl Walk {
         self.evaluated(alloc, conds, names, limit, &expanded, live, hash)
     }
 
-    /// These tokens with each `defined` replaced, in the configurations of `among`. Those in which it
-    /// has no name are refused at this place.
+    /// These tokens with each `defined` replaced, in the configurations of `among`. Those in which
+    /// it has no name are refused at this place.
     #[tactic(auto, using(sc_model::proofs::SetLemmas::conditions))]
     fn replaced<C: Conditions>(
         &mut self,

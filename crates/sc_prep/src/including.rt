@@ -44,8 +44,8 @@ pub struct Part {
 }
 
 impl Walk {
-    /// The files that an `#include` enters, each once, in the configurations that act; those in which
-    /// it names no header, is nested too deep, or finds no file are refused.
+    /// The files that an `#include` enters, each once, in the configurations that act; those in
+    /// which it names no header, is nested too deep, or finds no file are refused.
     #[tactic(auto, using(sc_model::proofs::SetLemmas::conditions))]
     pub fn included<C: Conditions, S: Source>(
         &mut self,

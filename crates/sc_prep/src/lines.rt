@@ -140,8 +140,8 @@ impl Walk {
         }
     }
 
-    /// An `#include` (C11 6.10.2). Each file that it finds is entered once, in the configurations that
-    /// find it.
+    /// An `#include` (C11 6.10.2). Each file that it finds is entered once, in the configurations
+    /// that find it.
     #[cycle(files)]
     #[tactic(auto, using(sc_model::proofs::SetLemmas::conditions))]
     fn include_line<C: Conditions, S: Source>(

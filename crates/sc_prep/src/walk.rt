@@ -134,7 +134,8 @@ impl Walk {
         Ok(())
     }
 
-    /// The configurations that take no branch of the innermost section yet, those refused among them.
+    /// The configurations that take no branch of the innermost section yet, those refused among
+    /// them.
     pub fn untaken(&self) -> Cond
         ensures own { (s : Sets) → Owns s self.now → IsCond s result.0 }
         ensures at { (s : Sets) (names files : List (List ℕ)) (config : List ℕ) (m : Machine) → Simulates s names files self.now config m

@@ -17,8 +17,8 @@ pub fn tree_text_has_one_answer()
     ensures { (space : Space) (p q : List (List ℕ)) (a b : TreeAnswer) → concat p ≡ concat q → ReadsTree space p a → ReadsTree space q b → a ≡ b }
 {}
 
-/// A tree's result has one text: two texts that keep the rules and read as the same parts and faults
-/// are one.
+/// A tree's result has one text: two texts that keep the rules and read as the same parts and
+/// faults are one.
 pub fn tree_result_has_one_text()
     ensures { (space : Space) (p q : List (List ℕ)) (a b : TreeAnswer) → IsTreeTextOf space p a → IsTreeTextOf space q b → IsSameTreeAnswer space a b → p ≡ q }
 {}

@@ -22,7 +22,8 @@ unfoldable pub directory_of : Data → Option (List ℕ)
 directory_of (string name) = if is_directory name then Some name else None
 directory_of _ = None
 
--- a printable character of ASCII that may stand in a string literal as it is (C11 6.4.5): no `"` and no `\`
+-- a printable character of ASCII that may stand in a string literal as it is (C11 6.4.5): no `"`
+-- and no `\`
 abbrev pub is_date_byte : ℕ → Bool
 is_date_byte b = is_between 32 126 b && not (b == 34) && not (b == 92)
 

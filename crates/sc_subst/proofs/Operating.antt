@@ -1,4 +1,5 @@
--- What a table of results says: each pair of it is one that was put in, and stays true as the store grows.
+-- What a table of results says: each pair of it is one that was put in, and stays true as the store
+-- grows.
 use Rattle.std.proofs.Common.{◌≡◌, zero, suc, ◌==◌, ◌&&◌, ◌||◌, Bool, true, false, List, [], ◌∷◌, Contains, ◌⊎◌, inl, inr, refl, sym, ◌∙◌, ap, subst, arith, if◌then◌else◌, Option, Some, None, Result, Ok, Err}
 use Rattle.std.specs.Prelude.{IfOk, IfErr, IfSome}
 use Rattle.std.specs.List.{list_any}

@@ -1,5 +1,5 @@
--- Substitution in two halves: a template, and what fills it, are the replacement of the definition, whatever the
--- arguments expand to.
+-- Substitution in two halves: a template, and what fills it, are the replacement of the definition,
+-- whatever the arguments expand to.
 use Rattle.std.proofs.Common.{◌≡◌, ℕ, zero, suc, ◌==◌, ◌||◌, not, Bool, true, false, List, [], ◌∷◌, ◌++◌, map, filter, Option, Some, None, Result, Ok, Err, if◌then◌else◌, inl, inr, refl, sym, ap, subst, ◌∙◌}
 use Rattle.std.specs.Prelude.{IfOk, IfErr}
 use Rattle.std.proofs.lemmas.Bool.{cases_Bool, eqb-true}

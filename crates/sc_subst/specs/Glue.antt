@@ -46,7 +46,8 @@ glued_behind names sets head left.Nothing ps = all_glued head ps
 glued_behind names sets head (left.Operand p) ps = glued head (seen_piece names sets p) ps
 glued_behind names sets head (left.Pasting p) ps = glued head (seen_piece names sets p) (substitution.operator ∷ ps)
 
--- the tokens of a template that is made so far, with these arguments, and those that the pieces make
+-- the tokens of a template that is made so far, with these arguments, and those that the pieces
+-- make
 abbrev pub tokens_behind : List (List ℕ) → List (List Name) → model.Hidden Place → List (List (model.Hidden Place)) → List Part → Left → List (substitution.Piece Place)
     → Result (List (model.Hidden Place)) (Failure Place)
 tokens_behind names sets head expanded parts before ps = result_map (λ qs. filled_in expanded (map (seen_part names sets) parts) ++ tokens_of qs) (glued_behind names sets head before ps)
@@ -59,7 +60,8 @@ abbrev pub is_paste_slot : Slot → Bool
 is_paste_slot slot.Paste = true
 is_paste_slot _ = false
 
--- the pieces of an argument, with the white space of its parameter: as it is beside ##, or as it expands
+-- the pieces of an argument, with the white space of its parameter: as it is beside ##, or as it
+-- expands
 abbrev pub argument_pieces : {P : Type 0} → List (List (model.Hidden P)) → List (List (model.Hidden P)) → Bool → ℕ → Bool → List (substitution.Piece P)
 argument_pieces raw expanded true n space = or_placemarker (with_space space (argument raw n))
 argument_pieces raw expanded false n space = pieces_of (with_space space (argument expanded n))

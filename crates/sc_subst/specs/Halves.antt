@@ -1,5 +1,5 @@
--- Substitution in two halves: a template, which asks nothing of what the arguments expand to, and the arguments, put in
--- where each of those that are wanted expands (C11 6.10.3.1).
+-- Substitution in two halves: a template, which asks nothing of what the arguments expand to, and
+-- the arguments, put in where each of those that are wanted expands (C11 6.10.3.1).
 use Rattle.std.specs.Prelude.{ℕ, ◌==◌, ◌||◌, not, Bool, true, false, List, [], ◌∷◌, map, filter, Contains, Option, Some, None, Result, Ok, Err, if◌then◌else◌}
 use Rattle.c11_macros.specs.Hidden.{Hidden, HideSet, Provenance, Failure}
 use Rattle.c11_macros.specs.Macros.{Form, Item}
@@ -23,7 +23,8 @@ abbrev pub each_once : List ℕ → List ℕ
 each_once [] = []
 each_once (n ∷ ns) = n ∷ filter (λ m. not (m == n)) (each_once ns)
 
--- the parameters whose arguments are expanded for this list, in the order of their first such places
+-- the parameters whose arguments are expanded for this list, in the order of their first such
+-- places
 abbrev pub wanted_of : Form → List Item → List ℕ
 wanted_of form items = each_once (wanted_places false (parts form neither items))
 
@@ -59,8 +60,8 @@ abbrev pub unless_failed : {A E : Type 0} → Option E → Result A E → Result
 unless_failed (Some e) r = Err e
 unless_failed None r = r
 
--- What becomes of a macro's name: the failure of an argument that is wanted, or else that of the template, or else the
--- template with its arguments put in.
+-- What becomes of a macro's name: the failure of an argument that is wanted, or else that of the
+-- template, or else the template with its arguments put in.
 abbrev pub completed : {P : Type 0} → Provenance P → Hidden P → HideSet → List ℕ → List (Result (List (Hidden P)) (Failure P)) → Result (List (Slot P)) (Failure P)
     → Result (List (Hidden P)) (Failure P)
 completed provenance head names wanted results template =

@@ -123,8 +123,9 @@ pub fn hide_all(
     Ok(made)
 }
 
-/// What a template makes, once its arguments were expanded: the first token has the white space of the macro's name, and
-/// all tokens hide these names. `expanded` has a list for each parameter, the one for `...` last.
+/// What a template makes, once its arguments were expanded: the first token has the white space of
+/// the macro's name, and all tokens hide these names. `expanded` has a list for each parameter, the
+/// one for `...` last.
 pub fn fill(
     alloc: Global,
     sets: &mut HideSets,

@@ -1,4 +1,5 @@
-//! A template: the tokens of a list are pasted at each `##`, before its other arguments are expanded.
+//! A template: the tokens of a list are pasted at each `##`, before its other arguments are
+//! expanded.
 ghost use Rattle.std.specs.Prelude.{◌≡◌, ℕ, ◌++◌, ◌∷◌, [], Bool, List, ◌||◌, true, false, Ok, Err, All, IfErr, IfOk, OnOk, map, not, length, ◌<◌};
 ghost use Rattle.c11_macros.specs.Hidden as model;
 ghost use Rattle.c11_macros.specs.Hidden.{failure_at};

@@ -14,8 +14,8 @@ use sc_macro::{Item, Replacement};
 use std::alloc::{AllocError, Global};
 use std::borrow::CowSlice;
 
-/// The list of a macro whose name stands at the place: that of the definition, as it is there, or the name of the file
-/// or the number of the line (C11 6.10.8.1).
+/// The list of a macro whose name stands at the place: that of the definition, as it is there, or
+/// the name of the file or the number of the line (C11 6.10.8.1).
 pub fn items_at<'a>(
     alloc: Global,
     names: &mut Names,

@@ -17,7 +17,8 @@ use sc_lex::{relex_one, token};
 use sc_macro::Item;
 use std::alloc::{AllocError, Global};
 
-/// The string literal that `#` makes of an argument (C11 6.10.3.2p2), where the macro's name stands.
+/// The string literal that `#` makes of an argument (C11 6.10.3.2p2), where the macro's name
+/// stands.
 pub fn stringize(
     alloc: Global,
     sets: &HideSets,

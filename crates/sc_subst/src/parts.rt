@@ -10,7 +10,8 @@ use sc_base::{Names, OutOfMemory};
 use sc_macro::{Form, Item};
 use std::alloc::{AllocError, Global};
 
-/// What stands in a list: a token of its own, a `#` with its parameter, a parameter, or a `##` that joins its neighbours.
+/// What stands in a list: a token of its own, a `#` with its parameter, a parameter, or a `##` that
+/// joins its neighbours.
 #[derive(Clone, Copy, Debug, PartialEq, Eq)]
 pub enum ListPart {
     Token(Item),
@@ -141,8 +142,9 @@ fn operand(names: &Names, form: &Form, before: Before, item: &Item) -> ListPart
     }
 }
 
-/// The parameters whose arguments are to be expanded: those with a place that is neither behind `#` nor beside `##`, each
-/// once, in the order of the first such place. No other argument is looked at as it expands.
+/// The parameters whose arguments are to be expanded: those with a place that is neither behind `#`
+/// nor beside `##`, each once, in the order of the first such place. No other argument is looked at
+/// as it expands.
 pub fn expanded_parameters(
     alloc: Global,
     names: &Names,

@@ -20,10 +20,11 @@ use sc_base::{Names, Place, Token};
 use sc_macro::{Form, Item};
 use std::alloc::Global;
 
-/// The template of a list that replaces a macro whose name stands at the place. `raw` has an argument for each parameter,
-/// the one for `...` last. Whatever the arguments that are wanted expand to, the template filled with them is the
-/// replacement, but for the white space of the first token and the names that all tokens hide; where one of them fails,
-/// its failure is. A fault of `#` comes before the failure of an argument, and a fault of `##` after it.
+/// The template of a list that replaces a macro whose name stands at the place. `raw` has an
+/// argument for each parameter, the one for `...` last. Whatever the arguments that are wanted
+/// expand to, the template filled with them is the replacement, but for the white space of the
+/// first token and the names that all tokens hide; where one of them fails, its failure is. A fault
+/// of `#` comes before the failure of an argument, and a fault of `##` after it.
 pub fn template(
     alloc: Global,
     sets: &mut HideSets,
@@ -58,8 +59,8 @@ pub fn template(
     }
 }
 
-/// What replaces a macro's name: its list, with the arguments as they are and as they expand. `raw` and `expanded` have a
-/// list for each parameter, the one for `...` last.
+/// What replaces a macro's name: its list, with the arguments as they are and as they expand. `raw`
+/// and `expanded` have a list for each parameter, the one for `...` last.
 pub fn substitute(
     alloc: Global,
     sets: &mut HideSets,

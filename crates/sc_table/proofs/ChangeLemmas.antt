@@ -1,4 +1,5 @@
--- A name that is defined once more: the part of the same definition is taken out, and put back with more configurations.
+-- A name that is defined once more: the part of the same definition is taken out, and put back with
+-- more configurations.
 use Rattle.std.proofs.Common.{◌≡◌, ℕ, suc, ◌+◌, ◌<◌, ◌≤◌, ◌&&◌, ◌||◌, not, Bool, true, false, List, [], ◌∷◌, ◌++◌, All, Contains, map, take, drop, length, length-append, get_or, slice_get, is_some, refl, ap, sym, subst, ◌∙◌, arith, if◌then◌else◌}
 use Rattle.std.proofs.Math.Seq.{drop-cons}
 use Rattle.std.proofs.lemmas.Bool.{true≢false, false≢true}

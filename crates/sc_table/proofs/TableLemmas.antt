@@ -190,7 +190,8 @@ module _ {s now : Sets} {names : List (List ℕ)} {old : MacroTable} (keeps : Ke
   pub IsStill-same : new.entries.entries ≡ old.entries.entries → IsStill s now names old new
   IsStill-same same = λ c text listed. ap (λ es. macros_in now names es c text) same ∙ macros_at-Keeps keeps is c text listed
 
-  -- where the new parts say this in some configurations and else what was said, the macros changed there alone
+  -- where the new parts say this in some configurations and else what was said, the macros changed
+  -- there alone
   pub Puts-changed : {name : Name} {parts : List Part} {c : List ℕ} (d : Option model.Definition) (b : Bool) → Puts now names old new name parts → IsConfig s.arities c
       → slice_get (map (seen_definition names) (items_at now parts c)) 0 ≡ (if b then d else macros_at s names old c (text_of names name)) → (text : List ℕ)
       → macros_at now names new c text ≡ (if b then update same_bytes (macros_at s names old c) (text_of names name) d text else macros_at s names old c text)

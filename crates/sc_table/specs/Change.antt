@@ -13,7 +13,8 @@ abbrev pub IsOther : Definition → Option Definition → Type 0
 IsOther this None = ⊥
 IsOther this (Some was) = was ≡ this → ⊥
 
--- This is defined where it is live and nothing else was defined. It is refused where it is live and something else was.
+-- This is defined where it is live and nothing else was defined. It is refused where it is live and
+-- something else was.
 pub record Redefines (this : Definition) (was : List Definition) (live refused : Bool) (now : List Definition) : Type 0 where
   pub refuses : (refused ≡ true) ↔ ((live ≡ true) × IsOther this (slice_get was 0))
   pub defines : now ≡ (if live && not refused then this ∷ [] else was)

@@ -20,8 +20,8 @@ const HASH: Place = Place {
 /// Where a line is refused, and why.
 type Refusal = Option<(Side, Cause)>;
 
-/// Expanded lines of `#if`, whose tokens behind white space stand in the chosen configurations only: where the line is live,
-/// where its group is taken, and where it is refused (C11 6.10.1).
+/// Expanded lines of `#if`, whose tokens behind white space stand in the chosen configurations
+/// only: where the line is live, where its group is taken, and where it is refused (C11 6.10.1).
 const DECISIONS: [(&[u8], Side, Side, Refusal); 18] = [
     (b"1", Side::Everywhere, Side::Everywhere, None),
     (b"0", Side::Everywhere, Side::Nowhere, None),

@@ -13,7 +13,8 @@ const OVERFLOW: Result<Value, IfStop> = Err(IfStop::Fault(Cause::IfOverflow));
 
 const SHIFT: Result<Value, IfStop> = Err(IfStop::Fault(Cause::IfShift));
 
-/// Expressions with their values (C11 6.10.1p4, 6.5, 6.6), in 64 bits, or with the cause of their refusal.
+/// Expressions with their values (C11 6.10.1p4, 6.5, 6.6), in 64 bits, or with the cause of their
+/// refusal.
 const EXPRESSIONS: [(&[u8], Result<Value, IfStop>); 67] = [
     (b"0", Ok(Value::Signed(0))),
     (b"42uL", Ok(Value::Unsigned(42))),

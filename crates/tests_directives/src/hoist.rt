@@ -126,7 +126,8 @@ fn checks_call_ends<C: Conditions>(
     Ok(())
 }
 
-/// `)` stands in one configuration only, and so the call of `f` ends later, or not at all, in the other.
+/// `)` stands in one configuration only, and so the call of `f` ends later, or not at all, in the
+/// other.
 #[test]
 fn branches_of_two_configurations(rt: HostRuntime) -> Result<(), Fail> {
     let alloc = rt.alloc();

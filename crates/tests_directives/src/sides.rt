@@ -48,7 +48,8 @@ pub fn guarded<C: Conditions>(
     Ok(list)
 }
 
-/// The configurations in which the variable has its second option, and those in which it has its first.
+/// The configurations in which the variable has its second option, and those in which it has its
+/// first.
 pub fn two_sides<C: Conditions>(conds: &mut C) -> Result<(Cond, Cond), OutOfMemory>
     requires { (C.sets conds.old).arities ≡ 2 ∷ [] }
     ensures chosen { IfOk result (λ sides. IsCond (C.sets conds.new) sides.0.0) }
@@ -59,7 +60,8 @@ pub fn two_sides<C: Conditions>(conds: &mut C) -> Result<(Cond, Cond), OutOfMemo
     Ok((chosen, others))
 }
 
-/// The condition of a side, where that of the chosen is the first and that of the others the second.
+/// The condition of a side, where that of the chosen is the first and that of the others the
+/// second.
 pub fn condition_of<C: Conditions>(conds: &C, sides: (Cond, Cond), side: Side) -> Cond
     requires chosen { IsCond (C.sets conds.now) sides.0.0 }
     requires others { IsCond (C.sets conds.now) sides.1.0 }

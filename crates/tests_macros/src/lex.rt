@@ -5,9 +5,10 @@ use sc_lex::{LexStop, end, tokens};
 use std::alloc::Global;
 use std::test::Fail;
 
-/// What a file holds, and its tokens: kind, a tilde where space stands before, place, spelling, and a name that differs. Or
-/// the place of a comment without an end. The expected texts come from another implementation, but
-/// for the place of a last newline that a splice takes away, which is supplied where it stood.
+/// What a file holds, and its tokens: kind, a tilde where space stands before, place, spelling, and
+/// a name that differs. Or the place of a comment without an end. The expected texts come from
+/// another implementation, but for the place of a last newline that a splice takes away, which is
+/// supplied where it stood.
 const ROWS: [(&[u8], &[u8]); 43] = [
     (b"", b""),
     (b"a", b"Identifier 1:1 a|Newline 1:2 \n|"),

@@ -158,7 +158,8 @@ fn line_of(alloc: Global, names: &mut Names, text: &[u8]) -> Result<Vec<Token>, 
     Ok(line)
 }
 
-/// Which arguments are wanted: `b` and `a` stand beside `##`, `c` behind `#`, and then all but `c` by themselves.
+/// Which arguments are wanted: `b` and `a` stand beside `##`, `c` behind `#`, and then all but `c`
+/// by themselves.
 #[test]
 fn expanded_parameters_are_in_the_order_of_their_places(rt: HostRuntime) -> Result<(), Fail> {
     let alloc = rt.alloc();
@@ -208,8 +209,8 @@ fn items_at_tells_the_place(rt: HostRuntime) -> Result<(), Fail> {
     Ok(())
 }
 
-/// A definition and the arguments of a call, a line each, and what replaces the call: of C11 6.10.3.3 and 6.10.3.5, where
-/// what an argument expands to is not asked for, and two refusals.
+/// A definition and the arguments of a call, a line each, and what replaces the call: of C11
+/// 6.10.3.3 and 6.10.3.5, where what an argument expands to is not asked for, and two refusals.
 const REPLACEMENTS: [(&[u8], &[u8]); 18] = [
     (b"#define hash_hash # ## #", b"##"),
     (

@@ -15,8 +15,8 @@ use std::alloc::Global;
 use std::process::Abort;
 use std::test::Fail;
 
-/// An enumeration: its begin, an enumerator for the second option of each variable, and what follows
-/// them all.
+/// An enumeration: its begin, an enumerator for the second option of each variable, and what
+/// follows them all.
 const TEXTS: [&[u8]; 22] = [
     b"enum e {",
     b"E1,",

@@ -18,7 +18,8 @@ pub struct Case<'a> {
     pub err: &'a str,
 }
 
-/// Which read, which write to the output and which to the error output fail, by their numbers from 0.
+/// Which read, which write to the output and which to the error output fail, by their numbers from
+/// 0.
 #[derive(Clone, Copy)]
 pub struct Failing {
     pub read: u64,

@@ -20,8 +20,8 @@ const STATEMENT: Symbol = Symbol::Nonterminal(Nonterminal(1));
 
 const EMPTY: Symbol = Symbol::Nonterminal(Nonterminal(2));
 
-/// A text is a statement and its end, or the end alone. A statement is an `if` with or without an `else`, a semicolon,
-/// or an empty one, which is a semicolon too.
+/// A text is a statement and its end, or the end alone. A statement is an `if` with or without an
+/// `else`, a semicolon, or an empty one, which is a semicolon too.
 const STATEMENTS: Grammar = Grammar {
     terminals: 96,
     nonterminals: 3,

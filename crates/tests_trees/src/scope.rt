@@ -9,7 +9,8 @@ use std::test::Fail;
 
 const NAME: Name = Name(5);
 
-/// In some configurations the inner binding, a variable, hides the outer one, a typedef (C11 6.2.1p4).
+/// In some configurations the inner binding, a variable, hides the outer one, a typedef (C11
+/// 6.2.1p4).
 fn checks_hiding<C: Conditions>(rt: &impl Abort, alloc: Global, conds: &mut C) -> Result<(), Fail>
     requires { (C.sets conds.old).arities ≡ 2 ∷ [] }
 {
@@ -25,7 +26,8 @@ fn checks_hiding<C: Conditions>(rt: &impl Abort, alloc: Global, conds: &mut C) -
     Ok(())
 }
 
-/// Of two owners one takes off the inner level, in which the name is bound, and the other joins it to the outer one.
+/// Of two owners one takes off the inner level, in which the name is bound, and the other joins it
+/// to the outer one.
 fn checks_join<C: Conditions>(rt: &impl Abort, alloc: Global, conds: &mut C) -> Result<(), Fail> {
     let mut scopes = Scopes::new(alloc);
     scopes.push()?;

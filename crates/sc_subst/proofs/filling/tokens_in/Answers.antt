@@ -1,4 +1,4 @@
-use Rattle.std.proofs.Common.{◌∙◌, map}
+use Rattle.std.proofs.Common.{◌∙◌}
 use Rattle.sc_subst.specs.Parts.{seen_arguments}
 use Rattle.sc_subst.proofs.TokenLemmas.{put_more}
 use Rattle.sc_subst.proofs.filling.tokens_in.Goals as goal

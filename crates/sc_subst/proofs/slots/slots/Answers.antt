@@ -1,7 +1,6 @@
 use Rattle.std.proofs.Common.{◌∙◌, map, sym, ap, subst}
 use Rattle.std.specs.Prelude.{All}
 use Rattle.c11_macros.specs.Substitution as substitution
-use Rattle.c11_macros.specs.Substitution.{neither}
 use Rattle.sc_base.proofs.Growth.{Extends-trans}
 use Rattle.sc_subst.specs.ListParts.{IsHeldListPart, seen_list_part}
 use Rattle.sc_subst.specs.Parts.{seen_arguments}

@@ -23,8 +23,8 @@ decreases-take_line g l = 4 * (l.space.now.limits.include_depth - l.entry.depth)
 abbrev pub decreases-include_line : goal.decreases-include_line
 decreases-include_line g l = 4 * (l.space.now.limits.include_depth - l.entry.depth)
 
--- each machine ran over the lines before this one, and what was gathered stands apart from the tokens
--- that are still to come
+-- each machine ran over the lines before this one, and what was gathered stands apart from the
+-- tokens that are still to come
 abbrev pub invariant-walk_lines-loop-number : goal.invariant-walk_lines-loop-number
 invariant-walk_lines-loop-number g l = record {
   ready : IsReady (g.C.Conditions.sets l.conds) l.names l.files (g.S.Source.holds l.src) l.self l.contents;

@@ -1,4 +1,4 @@
-use Rattle.std.proofs.Common.{◌≡◌, ◌∙◌, ◌<◌, ℕ, [], List, Some, ap, slice_get, subst, sym}
+use Rattle.std.proofs.Common.{◌≡◌, ◌∙◌, ℕ, [], List, Some, ap, slice_get, subst, sym}
 use Rattle.sc_subst.specs.Groups.{AreGroups}
 use Rattle.sc_subst.specs.declared.groups.Groups.{Groups}
 use Rattle.sc_subst.specs.declared.hidden.Hidden.{Hidden}
