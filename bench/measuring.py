@@ -16,9 +16,9 @@ def program():
 
 
 def measure(words, statuses=(0, 1)):
-    """Seconds of the clock and of the processor, and peak memory in bytes, of one run whose output goes through a pipe, and
-    how many lines of it tell a condition's node. The system counts into the memory what this script takes when it starts the run,
-    some 15 to 30 MB."""
+    """Seconds of the clock and of the processor, and peak memory in bytes, of one run whose output
+    goes through a pipe, and how many lines of it tell a condition's node. The system counts into
+    the memory what this script takes when it starts the run, some 15 to 30 MB."""
     begin = time.time()
     reading, writing = os.pipe()
     pid = os.fork()

@@ -1,5 +1,5 @@
-"""Real C: Debian's lua5.4 and zlib, under some variables of their own, with small stand-ins for the system's headers and for
-the one that Debian's build makes. What the scripts beside it share.
+"""Real C: Debian's lua5.4 and zlib, under some variables of their own, with small stand-ins for the
+system's headers and for the one that Debian's build makes. What the scripts beside it share.
 """
 import contextlib
 import itertools
@@ -119,8 +119,9 @@ def run_gcc(include, config, file):
 
 
 def compared(superc, command, projects, stand_ins):
-    """Each file at each configuration of its project's first three variables: the file, the configuration, what superc tells of
-    it (nodes, tokens, faults there), and what gcc's preprocessor answers.
+    """Each file at each configuration of its project's first three variables: the file, the
+    configuration, what superc tells of it (nodes, tokens, faults there), and what gcc's
+    preprocessor answers.
     """
     for project, folder in projects.items():
         names, include = VARIABLES[project][:3], [folder, stand_ins]

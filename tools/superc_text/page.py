@@ -92,7 +92,8 @@ class Page:
         return f"{plain_place(fault.place)}: {fault.name}{when}"
 
     def _lines(self) -> Iterator[str]:
-        """The lines of source, each fault before the first line of its file that is not above it."""
+        """The lines of source, each fault before the first line of its file that is not above
+        it."""
         waiting = list(enumerate(self._document.faults))
         file: str | None = None
         for (name, line), group in groupby(self._pieces, key=lambda piece: piece.place[:2]):

@@ -246,7 +246,8 @@ class Reader:
     # ---- the tree
 
     def _part(self, number: bytes, children: Iterable[int]) -> int:
-        """The number of a part of the tree, which is the next one, and whose children have lines."""
+        """The number of a part of the tree, which is the next one, and whose children have
+        lines."""
         self._be("tree")
         _need(not self._has_root, "the root comes after all parts of the tree")
         one = len(self._starts) - 1
