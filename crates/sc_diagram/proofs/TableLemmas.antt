@@ -8,7 +8,7 @@ use Rattle.std.proofs.lemmas.Slice.Eq.{slice_eq-Decides}
 use Rattle.sc_model.specs.Sets.{HasOptions}
 use Rattle.sc_base.specs.Interns.{Interns, known, fresh}
 use Rattle.sc_base.proofs.InternLemmas.{IsOneToOne-Interns}
-use Rattle.sc_diagram.specs.Diagram.{Branch, IsDiagram, end_at}
+use Rattle.sc_diagram.specs.Diagram.{Branch, IsDiagram, end_at, ends_over}
 
 abbrev pub branch_eq : Branch → Branch → Bool
 branch_eq a b = (a.variable == b.variable) && pointwise nat_eq a.children b.children
@@ -25,7 +25,7 @@ ends_differ : (ns : List ℕ) → end_at ns 0 ≡ end_at ns 1 → ⊥
 ends_differ ns same = let e : 0 ≡ 1 = ap (λ b. slice_index b.children 0) same in omega (arith, e)
 
 -- the first nodes
-nodes_at_first : (ns : List ℕ) (one two : List Branch) → Interns [] one (end_at ns 0) → Interns one two (end_at ns 1) → two ≡ end_at ns 0 ∷ end_at ns 1 ∷ []
+pub nodes_at_first : (ns : List ℕ) (one two : List Branch) → Interns [] one (end_at ns 0) → Interns one two (end_at ns 1) → two ≡ ends_over ns
 nodes_at_first ns one two (known has same) second = absurd (omega (arith, has.1))
 nodes_at_first ns one two (fresh lacks last) (known has same) =
     let there : Contains (end_at ns 0 ∷ []) (end_at ns 1) = subst (λ nodes. Contains nodes (end_at ns 1)) last has in

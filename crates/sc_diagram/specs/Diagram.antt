@@ -21,6 +21,10 @@ pub record Diagram : Type 0 where
 abbrev pub end_at : List ℕ → ℕ → Branch
 end_at arities n = branch (length arities) (n ∷ [])
 
+-- the ends never and always
+abbrev pub ends_over : List ℕ → List Branch
+ends_over arities = end_at arities 0 ∷ end_at arities 1 ∷ []
+
 abbrev pub branch_of : Diagram → ℕ → Branch
 branch_of d n = slice_index_or d.nodes n (end_at d.arities n)
 

@@ -1,9 +1,8 @@
 ghost use Rattle.std.specs.Prelude.{◌≡◌, ℕ, ◌+◌, ◌<◌, ◌==◌, ◌&&◌, ◌||◌, ◌⊎◌, ◌↔◌, not, All, Bool, true, false, List, length, slice_index, slice_set, IsNone, IfSome, IfOk};
 ghost use Rattle.std.specs.Bool.{OnTrue, OnFalse};
-ghost use Rattle.sc_model.specs.Growth.{Extends};
 ghost use Rattle.sc_model.specs.Sets.{HasOptions, IsConfig, IsCond, Denotes, Keeps, IsNever, IsAlways, IsTop, DependsFrom, IsCanonical};
 ghost use Rattle.sc_diagram.specs.Decision.{IsDecisionOf, numbers_of};
-ghost use Rattle.sc_diagram.specs.Diagram.{sets_of};
+ghost use Rattle.sc_diagram.specs.Diagram.{IsDiagram, ends_over, sets_of};
 ghost use Rattle.sc_diagram.specs.Grown.{Grows, AddsOnly};
 ghost use Rattle.sc_diagram.specs.Applied.{IsApplication, Applies, application};
 
@@ -47,7 +46,9 @@ impl Store {
     /// that is made later.
     pub fn new(alloc: Global, arities: &[usize]) -> Result<Store, OutOfMemory>
         requires { HasOptions arities.now }
-        ensures { IfOk result (λ store. store.arities ≡ arities.now) }
+        ensures arities { IfOk result (λ store. store.arities ≡ arities.now) }
+        ensures nodes { IfOk result (λ store. store.nodes ≡ ends_over arities.now) }
+        ensures valid { IfOk result (λ store. IsDiagram store) }
     {
         Ok(Store {
             table: Table::new(alloc, arities)?,
@@ -75,7 +76,8 @@ impl Store {
 
     /// How many nodes decide by a variable, which are all but always and never.
     pub fn len(&self) -> usize
-        ensures { result + 2 ≡ length self.now.nodes }
+        ensures len { result + 2 ≡ length self.now.nodes }
+        ensures valid { IsDiagram self.now }
     {
         self.table.count() - 2
     }
@@ -89,7 +91,7 @@ impl Store {
         ensures adds { IfOk result (λ r. AddsOnly self.old self.new r.0) }
 
         // at every outcome
-        ensures extends { Extends self.old.nodes self.new.nodes }
+        ensures grows { Grows self.old self.new }
         ensures keeps { Keeps (sets_of self.old) (sets_of self.new) }
     {
         let node = choose(&mut self.table, variable, option)?;
@@ -109,7 +111,7 @@ impl Store {
         ensures adds { IfOk result (λ r. AddsOnly self.old self.new r.0) }
 
         // at every outcome
-        ensures extends { Extends self.old.nodes self.new.nodes }
+        ensures grows { Grows self.old self.new }
         ensures keeps { Keeps (sets_of self.old) (sets_of self.new) }
     {
         let node = between(&mut self.table, variable, children)?;
@@ -126,7 +128,7 @@ impl Store {
         ensures adds { IfOk result (λ r. AddsOnly self.old self.new r.0) }
 
         // at every outcome
-        ensures extends { Extends self.old.nodes self.new.nodes }
+        ensures grows { Grows self.old self.new }
         ensures keeps { Keeps (sets_of self.old) (sets_of self.new) }
     {
         self.make(Operation::And, a, b)
@@ -142,7 +144,7 @@ impl Store {
         ensures adds { IfOk result (λ r. AddsOnly self.old self.new r.0) }
 
         // at every outcome
-        ensures extends { Extends self.old.nodes self.new.nodes }
+        ensures grows { Grows self.old self.new }
         ensures keeps { Keeps (sets_of self.old) (sets_of self.new) }
     {
         self.make(Operation::Or, a, b)
@@ -157,7 +159,7 @@ impl Store {
         ensures adds { IfOk result (λ r. AddsOnly self.old self.new r.0) }
 
         // at every outcome
-        ensures extends { Extends self.old.nodes self.new.nodes }
+        ensures grows { Grows self.old self.new }
         ensures keeps { Keeps (sets_of self.old) (sets_of self.new) }
     {
         self.make(Operation::Negate, a, a)
@@ -175,7 +177,7 @@ impl Store {
         ensures adds { IfOk result (λ r. AddsOnly self.old self.new r.0) }
 
         // at every outcome
-        ensures extends { Extends self.old.nodes self.new.nodes }
+        ensures grows { Grows self.old self.new }
         ensures keeps { Keeps (sets_of self.old) (sets_of self.new) }
     {
         self.make(Operation::Part(variable, option), a, a)

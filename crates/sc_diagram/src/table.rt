@@ -1,6 +1,6 @@
 ghost use Rattle.std.specs.Prelude.{◌≡◌, ℕ, ◌+◌, ◌<◌, ◌≤◌, ◌==◌, [], ◌∷◌, length, slice_index, IfOk, IfSome, IfNone};
 ghost use Rattle.sc_model.specs.Sets.{HasOptions, IsCanonical};
-ghost use Rattle.sc_diagram.specs.Diagram.{IsDiagram, branch_of, variable_of, sets_of};
+ghost use Rattle.sc_diagram.specs.Diagram.{IsDiagram, branch_of, ends_over, variable_of, sets_of};
 ghost use Rattle.sc_diagram.specs.Grown.{Grows, IsChoice};
 ghost use Rattle.sc_diagram.specs.Applied.{cofactor};
 
@@ -49,7 +49,9 @@ impl Table {
     /// later.
     pub fn new(alloc: Global, arities: &[usize]) -> Result<Table, OutOfMemory>
         requires { HasOptions arities.now }
-        ensures { IfOk result (λ table. table.arities ≡ arities.now) }
+        ensures arities { IfOk result (λ table. table.arities ≡ arities.now) }
+        ensures nodes { IfOk result (λ table. table.nodes ≡ ends_over arities.now) }
+        ensures valid { IfOk result (λ table. IsDiagram table) }
     {
         let mut nodes = IndexSet::new(alloc);
         nodes.insert(end(alloc, arities.len(), NEVER)?)?;

@@ -14,6 +14,3 @@ returns-clause-meaning c = IfOk-weaker c.make.result _ _ (λ r applies. λ f g t
 
 pub returns-clause-keeps : goal.returns-clause-keeps
 returns-clause-keeps c = Keeps-Grows c.make.ensures.grows
-
-pub returns-clause-extends : goal.returns-clause-extends
-returns-clause-extends c = c.make.ensures.grows.extends

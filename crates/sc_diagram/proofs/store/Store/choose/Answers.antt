@@ -1,6 +1,7 @@
 use Rattle.std.proofs.Common.{subst}
 use Rattle.sc_model.specs.Sets.{Keeps}
 use Rattle.sc_diagram.specs.Diagram.{sets_of}
+use Rattle.sc_diagram.specs.Grown.{Grows}
 use Rattle.sc_diagram.proofs.AppliedLemmas.{IsKnown-Grows}
 use Rattle.sc_diagram.proofs.GrownLemmas.{Keeps-Grows}
 use Rattle.sc_diagram.proofs.store.Store.choose.Goals as goal
@@ -16,3 +17,9 @@ invariant_of-self-2 c = IsKnown-Grows c.in_ok-node.ensures.grows c.self.invarian
 
 pub returns-clause-keeps : goal.returns-clause-keeps
 returns-clause-keeps c = subst (λ d. Keeps (sets_of d) (sets_of c.choose.new.table)) c.self.view_is (Keeps-Grows c.in_ok-node.ensures.grows)
+
+pub returns-in_err-node-clause-grows : goal.returns-in_err-node-clause-grows
+returns-in_err-node-clause-grows c = subst (λ d. Grows d c.choose.new.table) c.self.view_is c.in_err-node.ensures.grows
+
+pub returns-clause-grows : goal.returns-clause-grows
+returns-clause-grows c = subst (λ d. Grows d c.choose.new.table) c.self.view_is c.in_ok-node.ensures.grows
