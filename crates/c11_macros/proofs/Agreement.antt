@@ -7,11 +7,11 @@ use Rattle.c11_macros.specs.Hidden.{Hidden, Provenance, Failure}
 use Rattle.c11_macros.specs.Macros.{Macros}
 use Rattle.c11_macros.specs.Trace.{Trace, after_step, both, failing, looked_up_at, taking, taking_call, trace, trace_each, trace_rescan, Agree, ExpandsBy}
 
-agree-front : (one two : Macros) (xs ys : List (List ℕ)) → Agree one two (xs ++ ys) → Agree one two xs
+pub agree-front : (one two : Macros) (xs ys : List (List ℕ)) → Agree one two (xs ++ ys) → Agree one two xs
 agree-front one two [] ys agree = tt
 agree-front one two (x ∷ xs) ys agree = (agree.0, agree-front one two xs ys agree.1)
 
-agree-back : (one two : Macros) (xs ys : List (List ℕ)) → Agree one two (xs ++ ys) → Agree one two ys
+pub agree-back : (one two : Macros) (xs ys : List (List ℕ)) → Agree one two (xs ++ ys) → Agree one two ys
 agree-back one two [] ys agree = agree
 agree-back one two (x ∷ xs) ys agree = agree-back one two xs ys agree.1
 
@@ -19,7 +19,7 @@ case-by : {P : Type 0} (one two : Macros) (looked : Bool) (name : List ℕ) (res
 case-by one two true name rest agree = ap (λ d. defined_case d rest) agree.0
 case-by one two false name rest agree = refl
 
-case-agrees : {P : Type 0} (one two : Macros) (t : Hidden P) (rest : List (Hidden P)) → Agree one two (looked_up_at t) → case_of one t rest ≡ case_of two t rest
+pub case-agrees : {P : Type 0} (one two : Macros) (t : Hidden P) (rest : List (Hidden P)) → Agree one two (looked_up_at t) → case_of one t rest ≡ case_of two t rest
 case-agrees one two t rest agree = case-by one two (is_looked_up t) t.spelling rest agree
 
 pub record EachBy {P : Type 0} (provenance : Provenance P) (macros : Macros) (asks : List (Option (List (Hidden P)))) (rs : List (Result (List (Hidden P)) (Failure P))) (x : Trace) : Type 0 where
@@ -63,7 +63,7 @@ module _ {P : Type 0} {provenance : Provenance P} (one two : Macros) where
           by = ap (both front) (both-same args.by more.by);
         }
 
-    agrees-each : {asks : List (Option (List (Hidden P)))} {rs : List (Result (List (Hidden P)) (Failure P))} (e : Each provenance one asks rs) → Agree one two (trace_each e).looked_up → EachBy provenance two asks rs (trace_each e)
+    pub agrees-each : {asks : List (Option (List (Hidden P)))} {rs : List (Result (List (Hidden P)) (Failure P))} (e : Each provenance one asks rs) → Agree one two (trace_each e).looked_up → EachBy provenance two asks rs (trace_each e)
     agrees-each none agree = record { each = none; by = refl }
     agrees-each (passed e) agree = let more = agrees-each e agree in record { each = passed more.each; by = more.by }
     agrees-each (expanded d e) agree =

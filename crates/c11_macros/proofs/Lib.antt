@@ -1,6 +1,15 @@
 pub mod Agreement
 mod Examples
 pub mod Halting
+pub mod LongerLists
 pub mod OneAnswer
+pub mod OneRun
+pub mod OpenCalls
+pub mod Resuming
 pub mod Rows
+pub mod RunExpands
+pub mod RunsAgree
 pub mod SameLaws
+pub mod SettledLists
+pub mod Settling
+pub mod Splitting

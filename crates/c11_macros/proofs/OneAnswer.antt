@@ -94,7 +94,7 @@ module _ {P : Type 0} {provenance : Provenance P} {macros : Macros} where
     one (call {t} {rest} {r} d arguments close after results is each g) =
         λ s e. was-called t rest d arguments close after results r s (trace_each each) (trace e) (trace_rescan g) (one-each each) (one-rescan g) (subst (λ c. Did provenance macros t rest c s (trace e)) is (did e))
 
-    one-each : {asks : List (Option (List (Hidden P)))} {rs : List (Result (List (Hidden P)) (Failure P))} (e : Each provenance macros asks rs) → OnlyEach provenance macros asks rs (trace_each e)
+    pub one-each : {asks : List (Option (List (Hidden P)))} {rs : List (Result (List (Hidden P)) (Failure P))} (e : Each provenance macros asks rs) → OnlyEach provenance macros asks rs (trace_each e)
     one-each none = only-none
     one-each (passed e) = only-passed (one-each e)
     one-each (expanded d e) = only-expanded (one d) (one-each e)

@@ -9,3 +9,5 @@ pub mod Substitution
 pub mod Text
 pub mod Trace
 pub mod Footprint
+pub mod Runs
+pub mod Resumed
