@@ -1,2 +1,3 @@
+pub mod DecidesLaws
 pub mod NestLaws
 pub mod PreLaws

@@ -1,7 +1,9 @@
 //! Laws about the definitions, each the contract of a function without code.
-ghost use Rattle.std.specs.Prelude.{List, ℕ, ◌≡◌, Result};
-ghost use Rattle.c11_directives.specs.Lines.{Group, Line, Tree};
-ghost use Rattle.c11_directives.specs.Pre.{Pre};
+ghost use Rattle.std.specs.Prelude.{Bool, List, ℕ, ◌≡◌, ◌⊎◌, Result, Some};
+ghost use Rattle.c11_directives.specs.Lines.{Group, Line, Opens, Tree, conditional_of, hash_of};
+ghost use Rattle.c11_directives.specs.Pre.{Context, Decides, Pre, State};
+ghost use Rattle.c11_directives.specs.declared.directive.Conditional.TheVariants.{Elif};
+ghost use Rattle.c11_macros.specs.Expansion.{IsWithin};
 ghost use Rattle.sc_model.specs.Fault.{Fault};
 ghost use Rattle.sc_model.specs.Outside.{Files};
 ghost use Rattle.sc_model.specs.Space.{Space};
@@ -10,6 +12,13 @@ ghost use Rattle.sc_model.specs.Token.{Place, Token};
 /// The conditional directives of a file nest in one way, or their first fault is at one place.
 pub fn nesting_has_one_answer()
     ensures { (lines : List Line) (r s : Result Group Place) → Tree lines r → Tree lines s → r ≡ s }
+{}
+
+/// Where finitely many names are defined each line of an `#if`, `#ifdef`, `#ifndef` or `#elif` is
+/// decided.
+pub fn conditionals_have_an_answer()
+    ensures { (context : Context) (s : State) (names : List (List ℕ)) (line : Line) (hash : Token) → IsWithin names s.macros → hash_of line ≡ Some hash
+        → Opens line ⊎ (conditional_of line ≡ Some Elif) → (r : Result Bool Fault) × Decides context s line r }
 {}
 
 /// A configuration has one sequence of tokens, or one fault.

@@ -82,3 +82,10 @@ one_result ts r s (evaluated a is) (evaluated b at) =
 one_result ts r s (evaluated a is) (refused none) = absurd (none a is)
 one_result ts r s (refused none) (evaluated b at) = absurd (none b at)
 one_result ts r s (refused none) (refused other) = refl
+
+pub has_result : (ts : List Spelled) → (r : Result Typed Cause) × Evaluates ts r
+has_result ts = by (reading_tokens ts) refl
+  where
+    by : (o : Option Outcome) → reading_tokens ts ≡ o → (r : Result Typed Cause) × Evaluates ts r
+    by None is = (Err BadIf, evaluates_err ts is)
+    by (Some o) is = (result_of o, evaluates_ok ts o is)

@@ -1,10 +1,11 @@
 //! Laws about the definitions, each the contract of a function without code.
-ghost use Rattle.std.specs.Prelude.{◌≡◌, Bool, List, Result};
+ghost use Rattle.std.specs.Prelude.{◌≡◌, ℕ, Bool, List, Result};
 ghost use Rattle.c11_expressions.specs.Arithmetic.{Typed};
 ghost use Rattle.c11_expressions.specs.Evaluates.{Evaluates, Spelled};
 ghost use Rattle.c11_expressions.specs.Expressions.{Expression, outcome};
 ghost use Rattle.c11_expressions.specs.Grammar.{Phrase, Symbol};
 ghost use Rattle.c11_expressions.specs.Lines.{Decides};
+ghost use Rattle.c11_macros.specs.Expansion.{IsWithin};
 ghost use Rattle.c11_macros.specs.Hidden.{Failure, Hidden, Provenance};
 ghost use Rattle.c11_macros.specs.Macros.{Macros};
 ghost use Rattle.sc_model.specs.declared.cause.Cause.{Cause};
@@ -19,8 +20,19 @@ pub fn tokens_have_one_result()
     ensures { (ts : List Spelled) (r s : Result Typed Cause) → Evaluates ts r → Evaluates ts s → r ≡ s }
 {}
 
-/// A line is decided one way.
+/// Tokens come to a result.
+pub fn tokens_have_a_result()
+    ensures { (ts : List Spelled) → (r : Result Typed Cause) × Evaluates ts r }
+{}
+
+/// A line is decided in one way.
 pub fn lines_have_one_answer<P>()
     ensures { (provenance : Provenance P) (macros : Macros) (hash : P) (ts : List (Hidden P)) (r s : Result Bool (Failure P))
         → Decides provenance macros hash ts r → Decides provenance macros hash ts s → r ≡ s }
+{}
+
+/// Where finitely many names are defined each line is decided.
+pub fn lines_have_an_answer<P>()
+    ensures { (provenance : Provenance P) (macros : Macros) (names : List (List ℕ)) → IsWithin names macros
+        → (hash : P) (ts : List (Hidden P)) → (r : Result Bool (Failure P)) × Decides provenance macros hash ts r }
 {}

@@ -9,6 +9,9 @@ mod unary;
 
 pub use base::Base;
 pub use binary::Binary;
-pub use laws::{lines_have_one_answer, symbols_have_one_outcome, tokens_have_one_result};
+pub use laws::{
+    lines_have_an_answer, lines_have_one_answer, symbols_have_one_outcome, tokens_have_a_result,
+    tokens_have_one_result,
+};
 pub use punctuator::Punctuator;
 pub use unary::Unary;
