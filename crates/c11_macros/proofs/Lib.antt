@@ -11,5 +11,6 @@ pub mod RunExpands
 pub mod RunsAgree
 pub mod SameLaws
 pub mod SettledLists
+pub mod SettlesLaws
 pub mod Settling
 pub mod Splitting

@@ -25,7 +25,7 @@ stand-first (over after) whole source taken later made is stand = stand
 stand-first (waits name rest) whole source taken later made is stand = (stand.0, is ∙ (ap (λ l. taken ++ l) stand.1 ∙ sym (append_assoc taken later stand.0)), stand.2)
 stand-first (fails failure) whole source taken later made is stand = stand
 
-leaves-source : {P : Type 0} {source after left rest taken : List (Hidden P)} → Leaves source after left rest taken → source ≡ taken ++ rest
+pub leaves-source : {P : Type 0} {source after left rest taken : List (Hidden P)} → Leaves source after left rest taken → source ≡ taken ++ rest
 leaves-source (within is) = refl
 leaves-source (beyond is some) = is
 

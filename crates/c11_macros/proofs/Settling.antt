@@ -21,11 +21,11 @@ module _ {P : Type 0} (provenance : Provenance P) (macros : Macros) where
   passes-then {ts} {one} {left = left} first (goes_on {out} {done} u before run) = subst (λ l. Passes provenance macros ts l left) (append_assoc one out done) (goes_on u (passes-then first before) run)
 
   -- nothing was passed, or the first name and others
-  data First (t : Hidden P) (rest : List (Hidden P)) : (done left : List (Hidden P)) → Type 0 where
+  pub data First (t : Hidden P) (rest : List (Hidden P)) : (done left : List (Hidden P)) → Type 0 where
     none_passed : First t rest [] (t ∷ rest)
     first_passed : {mid one two left : List (Hidden P)} (u : Uses P) → Runs provenance macros (t ∷ []) rest one (over mid) u → Passes provenance macros mid two left → First t rest (one ++ two) left
 
-  passes-first : {t : Hidden P} {rest done left : List (Hidden P)} → Passes provenance macros (t ∷ rest) done left → First t rest done left
+  pub passes-first : {t : Hidden P} {rest done left : List (Hidden P)} → Passes provenance macros (t ∷ rest) done left → First t rest done left
   passes-first begins = none_passed
   passes-first {t} {rest} {left = left} (goes_on {out} {done} u before run) = by (passes-first before) run
     where

@@ -106,3 +106,8 @@ pub data Settles {P : Type 0} (provenance : Provenance P) (macros : Macros) (ts 
 pub data IsHeld {P : Type 0} (provenance : Provenance P) (macros : Macros) (ts : List (Hidden P)) (failure : Failure P) : Type 0 where
   held : {out done behind : List (Hidden P)} {t : Hidden P} (u : Uses P) → Passes provenance macros ts out (t ∷ behind)
       → Runs provenance macros (t ∷ []) behind done (fails failure) u → IsHeld provenance macros ts failure
+
+-- what a list becomes whatever follows it and what is left, or its failure
+abbrev pub SettlesTo : {P : Type 0} → Provenance P → Macros → List (Hidden P) → Result (List (Hidden P) × List (Hidden P)) (Failure P) → Type 0
+SettlesTo provenance macros ts (Ok settled) = Settles provenance macros ts settled.0 settled.1
+SettlesTo provenance macros ts (Err failure) = IsHeld provenance macros ts failure

@@ -5,7 +5,7 @@ ghost use Rattle.c11_macros.specs.Footprint.{footprint};
 ghost use Rattle.c11_macros.specs.Hidden.{Failure, Hidden, Provenance};
 ghost use Rattle.c11_macros.specs.Macros.{Macros};
 ghost use Rattle.c11_macros.specs.Resumed.{BeginsWithRun, Continues, EndExpands, Resumed};
-ghost use Rattle.c11_macros.specs.Runs.{End, IsHeld, Passes, Runs, Settles, Uses, after_these};
+ghost use Rattle.c11_macros.specs.Runs.{End, IsHeld, Passes, Runs, Settles, SettlesTo, Uses, after_these};
 ghost use Rattle.c11_macros.specs.Trace.{Agree, ExpandsBy, Same, trace};
 
 /// A list has one expansion, and that by one trace.
@@ -98,4 +98,16 @@ pub fn list_is_held_again<P>()
 pub fn held_list_stays_held<P>()
     ensures { (provenance : Provenance P) (macros : Macros) (ts more : List (Hidden P)) (failure : Failure P)
         → IsHeld provenance macros ts failure → IsHeld provenance macros (ts ++ more) failure }
+{}
+
+/// A list settles or is held in one way.
+pub fn settling_has_one_answer<P>()
+    ensures { (provenance : Provenance P) (macros : Macros) (ts : List (Hidden P)) (r s : Result (List (Hidden P) × List (Hidden P)) (Failure P))
+        → SettlesTo provenance macros ts r → SettlesTo provenance macros ts s → r ≡ s }
+{}
+
+/// Where finitely many names are defined each list settles or is held.
+pub fn settling_has_an_answer<P>()
+    ensures { (provenance : Provenance P) (macros : Macros) (names : List (List ℕ)) → IsWithin names macros
+        → (ts : List (Hidden P)) → (r : Result (List (Hidden P) × List (Hidden P)) (Failure P)) × SettlesTo provenance macros ts r }
 {}
