@@ -1,3 +1,4 @@
 pub mod LexLaws
 pub mod PlainLaws
 mod Vectors
+pub mod SomeAnswer

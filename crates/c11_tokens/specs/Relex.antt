@@ -1,6 +1,6 @@
 -- The token that bytes are exactly, without translation phases 1 and 2 (C11 6.4). A header name is
 -- none.
-use Rattle.std.specs.Prelude.{ℕ, ◌||◌, Bool, List, [], ◌∷◌, Option, Some, None, if◌then◌else◌}
+use Rattle.std.specs.Prelude.{ℕ, ◌||◌, List, [], ◌∷◌, Option, Some, None, if◌then◌else◌}
 use Rattle.c11_tokens.specs.Lex.{is_white_space, is_comment, is_identifier, is_number, is_character, is_text, is_punctuator, is_one_byte}
 use Rattle.sc_model.specs.declared.kind.Kind.{Kind}
 use Rattle.sc_model.specs.declared.kind.Kind.TheVariants.{Identifier, Number, Character, Text, Punctuator, Other, Newline}

@@ -3,4 +3,4 @@
 
 mod laws;
 
-pub use laws::{lexing_has_one_answer, tokens_are_plain};
+pub use laws::{lexing_has_an_answer, lexing_has_one_answer, tokens_are_plain};
