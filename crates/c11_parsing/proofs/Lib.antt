@@ -2,3 +2,4 @@ pub mod Events
 pub mod Examples
 pub mod OneAnswer
 pub mod OneClass
+pub mod Derivations

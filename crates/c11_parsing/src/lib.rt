@@ -5,4 +5,5 @@ mod laws;
 
 pub use laws::{
     classes_are_determined, parsing_has_one_answer, subparsers_follow_each_configuration,
+    trees_are_derivations,
 };

@@ -32,17 +32,17 @@ no_value : {x : ℕ} → None ≡ Some x → ⊥
 no_value {x} e = none-some x e
 
 -- an entry is of the one kind or of the other
-not_both : (terminals x y : ℕ) (e : Option Entry) → option_and_then (right_in terminals) e ≡ Some x → option_and_then (left_in terminals) e ≡ Some y → ⊥
+pub not_both : (terminals x y : ℕ) (e : Option Entry) → option_and_then (right_in terminals) e ≡ Some x → option_and_then (left_in terminals) e ≡ Some y → ⊥
 not_both terminals x y None a b = no_value b
 not_both terminals x y (Some (Left n mark)) a b = no_value a
 not_both terminals x y (Some (Right s)) a b = no_value b
 
 -- the item has its dot behind n symbols of the production that begins at b
-record Behind (g : Grammar) (i b n : ℕ) : Type 0 where
-  left : ℕ
-  begins : begun g b ≡ Some left
-  place : b + n ≡ i
-  symbols : (k : ℕ) → k < n → (x : ℕ) × (after g (b + k) ≡ Some x)
+pub record Behind (g : Grammar) (i b n : ℕ) : Type 0 where
+  pub left : ℕ
+  pub begins : begun g b ≡ Some left
+  pub place : b + n ≡ i
+  pub symbols : (k : ℕ) → k < n → (x : ℕ) × (after g (b + k) ≡ Some x)
 
 abbrev behind_itself : (g : Grammar) (i x : ℕ) → begun g i ≡ Some x → Behind g i i 0
 behind_itself g i x h = record { left = x; begins = h; place = omega arith; symbols = λ k below. absurd (omega (arith, below)) }
@@ -75,15 +75,15 @@ one_beginning g i b c n o d e = elim (cases_lt n o) [
 ]
 
 -- ---- the state below a right side
-record Below (g : Grammar) (states : List (List ℕ)) (stack symbols : List ℕ) (i : ℕ) : Type 0 where
-  first : ℕ
-  size : ℕ
-  behind : Behind g i first size
-  high : size ≤ length stack
-  on_top : (k : ℕ) → k < size → slice_get symbols k ≡ after g (i - suc k)
-  kernel : List ℕ
-  kernel_at : slice_get states (top (drop size stack)) ≡ Some kernel
-  within : Closure g kernel first
+pub record Below (g : Grammar) (states : List (List ℕ)) (stack symbols : List ℕ) (i : ℕ) : Type 0 where
+  pub first : ℕ
+  pub size : ℕ
+  pub behind : Behind g i first size
+  pub high : size ≤ length stack
+  pub on_top : (k : ℕ) → k < size → slice_get symbols k ≡ after g (i - suc k)
+  pub kernel : List ℕ
+  pub kernel_at : slice_get states (top (drop size stack)) ≡ Some kernel
+  pub within : Closure g kernel first
 
 below_itself : (g : Grammar) (states : List (List ℕ)) (stack symbols kernel : List ℕ) (i x : ℕ) → slice_get states (top stack) ≡ Some kernel → Closure g kernel i → begun g i ≡ Some x
     → Below g states stack symbols i
@@ -115,7 +115,7 @@ below_more g states t x i m stack symbols h to d = record {
     on_top zero low = sym h ∙ ap (after g) (let e : i ≡ m - 1 = omega (arith, to) in e)
     on_top (suc k) low = d.on_top k (omega (arith, low)) ∙ ap (after g) (let e : i - suc k ≡ m - suc (suc k) = omega (arith, to) in e)
 
-climb : (g : Grammar) (states : List (List ℕ)) → IsStates g states → (stack symbols kernel : List ℕ) (i : ℕ) → Path g states stack symbols → slice_get states (top stack) ≡ Some kernel
+pub climb : (g : Grammar) (states : List (List ℕ)) → IsStates g states → (stack symbols kernel : List ℕ) (i : ℕ) → Path g states stack symbols → slice_get states (top stack) ≡ Some kernel
     → Closure g kernel i → Below g states stack symbols i
 climb g states are stack symbols kernel j path at (opened i _ x c over begins) = below_itself g states stack symbols kernel j x at (opened i j x c over begins) begins
 climb g states are _ _ kernel i lowest at (given _ h) =
@@ -183,7 +183,7 @@ kernel_starts g states _ _ kernel i left are (above t x stack symbols goto path)
     let m = (goto.moved i).0 (subst (λ zs. Contains zs i) (same_Some kernel goto.target (sym at ∙ goto.target_at)) h) in
     absurd (not_both g.terminals x left (slice_get g.entries.now (m.from + 1)) m.over (ap (begun g) (sym m.to) ∙ begins))
 
-drop_path : (g : Grammar) (states : List (List ℕ)) (n : ℕ) (stack symbols : List ℕ) → Path g states stack symbols → Path g states (drop n stack) (drop n symbols)
+pub drop_path : (g : Grammar) (states : List (List ℕ)) (n : ℕ) (stack symbols : List ℕ) → Path g states stack symbols → Path g states (drop n stack) (drop n symbols)
 drop_path g states zero stack symbols path = path
 drop_path g states (suc n) _ _ lowest = lowest
 drop_path g states (suc n) _ _ (above t x stack symbols goto path) = drop_path g states n stack symbols path

@@ -22,3 +22,4 @@ pub mod StartLemmas
 pub mod StepLemmas
 pub mod TerminalLemmas
 pub mod ValueLemmas
+pub mod ParserLemmas

@@ -21,7 +21,9 @@ use Rattle.lr_tables.specs.Tables.{IsGoto, NoGoto}
 use Rattle.sc_base.specs.declared.id.TreeId.{TreeId}
 use Rattle.sc_fork.specs.Owns.{IsOnPath, has_tree}
 use Rattle.sc_fork.specs.Reducing.{IsValueOf, passed_on, made}
-use Rattle.sc_fork.proofs.ProductionLemmas.{Reduction, passes, drop-path, top-state}
+use Rattle.sc_fork.proofs.ProductionLemmas.{Reduction, top-state}
+use Rattle.lr_tables.proofs.Members.{passes}
+use Rattle.lr_tables.proofs.Stacks.{drop_path}
 use Rattle.sc_grammar.specs.C11.{productions}
 use Rattle.sc_grammar.specs.Production.{symbols_of}
 use Rattle.sc_lalr.specs.declared.tables.Tables as lalr
@@ -143,7 +145,7 @@ module _ (g : Grammar) (states : List (List ℕ)) (stack : List Entry) (on : IsO
   path-after state value goto =
       above state (96 + r.production.left) (states_of (drop size stack)) (drop size on.symbols)
       (subst (λ s. IsGoto g states s (96 + r.production.left) state) (sym (top-state (drop size stack))) goto)
-      (subst (λ ss. Path g states ss (drop size on.symbols)) (drop-map (λ (entry : Entry). entry.state) size stack) (drop-path g states size (states_of stack) on.symbols on.path))
+      (subst (λ ss. Path g states ss (drop size on.symbols)) (drop-map (λ (entry : Entry). entry.state) size stack) (drop_path g states size (states_of stack) on.symbols on.path))
 
   -- the state that follows is put on the stack
   pub on-path : (state : ℕ) (value : Option TreeId) → IsGoto g states (state_of (drop size stack)) (96 + r.production.left) state → is_some value ≡ true

@@ -6,27 +6,32 @@ use Rattle.std.specs.Prelude.{option_map}
 use Rattle.std.proofs.lemmas.List.Elements.{All-nil, All-cons, All-tail, All-head}
 use Rattle.std.proofs.lemmas.Option.{none-some}
 use Rattle.std.proofs.lemmas.Simd.{map-map}
+use Rattle.c11_parsing.proofs.Derivations.{derives-text}
 use Rattle.c11_parsing.proofs.Events.{finished-answers}
 use Rattle.c11_parsing.proofs.OneAnswer.{one_answer}
 use Rattle.c11_parsing.specs.Classes.{HasMoreClasses, Input, project}
 use Rattle.c11_parsing.specs.Core as core
 use Rattle.c11_parsing.specs.Core.{count, filled, nothing, over, Piece, Stands}
+use Rattle.c11_parsing.specs.Derives.{IsParserOf}
 use Rattle.c11_parsing.specs.LR.{LR}
+use Rattle.c11_parsing.specs.Parser.{Parser}
 use Rattle.c11_parsing.specs.Trees.{Condition, Tree}
 use Rattle.lr_tables.proofs.Members.{cons_cases, cons_head, cons_tail, no_member}
+use Rattle.lr_tables.specs.declared.grammar.Grammar.{Grammar}
 use Rattle.lr_tables.specs.declared.grammar.Terminal.{Terminal}
 use Rattle.sc_base.specs.declared.fault.Fault as declared
 use Rattle.sc_base.specs.declared.id.Cond.{Cond}
 use Rattle.sc_base.specs.declared.place.Place.{Place}
 use Rattle.sc_base.specs.declared.token.Token.{Token}
 use Rattle.sc_base.specs.Seen.{IsHeld, seen}
+use Rattle.sc_fork.proofs.ParserLemmas.{is-parser}
 use Rattle.sc_fork.specs.declared.event.Event.{Event}
 use Rattle.sc_fork.specs.declared.outcome.Outcome.{Outcome}
 use Rattle.sc_fork.specs.declared.source.Source.{Source}
 use Rattle.sc_fork.specs.Cores.{AreRows, empty_row, event_of, full_row, IsFinished, no_rows, Starts}
 use Rattle.sc_fork.specs.Enabled.{Has}
 use Rattle.sc_fork.specs.Outcomes.{answers_at, faults_in, HasTree, IsOutcome, OwnsOutcome}
-use Rattle.sc_fork.specs.Owns.{AreTerminals, IsPlaceOf}
+use Rattle.sc_fork.specs.Owns.{AreC11Tables, AreTerminals, IsPlaceOf}
 use Rattle.sc_fork.specs.Parsers.{c11_parser}
 use Rattle.sc_fork.specs.Seen.{IsInput}
 use Rattle.sc_fork.specs.Starts.{AreFirst, no_first, one_first}
@@ -166,6 +171,17 @@ map-none : {A B : Type 0} (f : A → B) (xs : List A) → map f xs ≡ [] → xs
 map-none f [] e = refl
 map-none f (x ∷ xs) e = absurd (cc)
 
+-- the parser does what the tables of C11 say
+pub record IsC11 (parser : Parser) : Type 0 where
+  pub grammar : Grammar
+  pub is : IsParserOf grammar parser
+
+pub is-c11 : (w : Tables) (list : List (Cond × Token)) (tables : code.Tables) (end : Place) (live : Cond) (input : Input) → AreC11Tables tables → IsInputOf w list tables end live input → IsC11 input.parser
+is-c11 w list tables end live input c11 of = record {
+  grammar = c11.grammar;
+  is = subst (IsParserOf c11.grammar) (sym of.parser) (is-parser c11.grammar c11.entries c11.terminals c11.nonterminals (tables_of c11.states tables) (tables_of of.states tables) c11.exact refl refl);
+}
+
 module _ (input : Input) (last : core.Core) (done : core.IsFinished last) (stands : Stands input last) where
   -- a configuration that is live has the one answer of LR parsing
   pub live-answer : (c : List ℕ) (answer : Result Tree Fault) → IsConfig input.arities c → input.live c ≡ true → LR input.parser input.end (project c input.items) answer
@@ -196,9 +212,10 @@ module _ (input : Input) (last : core.Core) (done : core.IsFinished last) (stand
             | inr rest ↦ absurd (no_member (Ok tree) rest)
           ]
 
-  pub parsed : (w : Tables) (o : Outcome) (events : Vec Event) → input.arities ≡ w.sets.arities → IsOutcome w last o
+  pub parsed : (w : Tables) (o : Outcome) (events : Vec Event) → input.arities ≡ w.sets.arities → IsC11 input.parser → IsOutcome w last o
       → IsParse w input (record { root = o.root; faults = o.faults; events = events })
-  parsed w o events arities outcome = record {
+  parsed w o events arities c11 outcome = record {
+    derivations = λ c tree is. derives-text c11.grammar input.parser c11.is input.end (project c input.items) tree is.answer;
     trees = λ c tree is.
         let one = live-answer c (Ok tree) is.is_config is.live is.answer in
         outcome.trees c tree (listed c is.is_config) (record { answer = subst (λ answers. Contains answers (Ok tree)) (sym one) (cons_head (Ok tree) []) });

@@ -24,7 +24,8 @@ use Rattle.lr_tables.specs.declared.grammar.Symbol.{Symbol}
 use Rattle.lr_tables.specs.declared.grammar.Symbol.TheVariants.{Terminal, Nonterminal}
 use Rattle.lr_tables.specs.Grammar.{after, entries_of, is_known, IsGrammar, Production, right_in, symbol_number}
 use Rattle.lr_tables.specs.Paths.{Path, above, lowest, top}
-use Rattle.sc_fork.proofs.ProductionLemmas.{is-grammar, passes, reduction-of}
+use Rattle.sc_fork.proofs.ProductionLemmas.{is-grammar, reduction-of}
+use Rattle.lr_tables.proofs.Members.{passes}
 use Rattle.sc_fork.specs.declared.event.Event.TheVariants.{Reduce}
 use Rattle.sc_fork.specs.declared.fork.Core.{Core}
 use Rattle.sc_fork.specs.declared.piece.Piece.{Piece}

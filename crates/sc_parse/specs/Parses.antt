@@ -2,6 +2,7 @@
 use Rattle.std.specs.Prelude.{◌≡◌, ℕ, ◌+◌, ◌<◌, true, false, List, [], ◌∷◌, length, map, Some, Result, Ok, All, IfSome}
 use Rattle.c11_parsing.specs.Classes.{Input, project, HasMoreClasses}
 use Rattle.c11_parsing.specs.Core.{Has}
+use Rattle.c11_parsing.specs.Derives.{DerivesText}
 use Rattle.c11_parsing.specs.LR.{LR}
 use Rattle.c11_parsing.specs.Trees.{Condition, Tree}
 use Rattle.sc_base.specs.declared.fault.Fault as declared_fault
@@ -43,9 +44,10 @@ pub record IsAccepted (input : Input) (c : List ℕ) (tree : Tree) : Type 0 wher
 
 -- The root stands for the tree of each live configuration that is accepted, and the faults are
 -- those of each other one. Configurations that are not live have no fault. There is no root
--- exactly where no configuration is accepted.
+-- exactly where no configuration is accepted. Each tree derives a whole text from the tokens.
 pub record IsParse (w : Tables) (input : Input) (p : Parsed) : Type 0 where
   pub trees : (c : List ℕ) (tree : Tree) → IsAccepted input c tree → RootReads w c p.root tree
+  pub derivations : (c : List ℕ) (tree : Tree) → IsAccepted input c tree → DerivesText input.parser tree (project c input.items)
   pub faults : (c : List ℕ) (answer : Result Tree Fault) → IsConfig input.arities c → input.live c ≡ true
       → LR input.parser input.end (project c input.items) answer → map (seen_fault w.files) (faults_at w.sets p.faults.items c) ≡ faults_in (answer ∷ [])
   pub others : (c : List ℕ) → IsConfig input.arities c → input.live c ≡ false → faults_at w.sets p.faults.items c ≡ []

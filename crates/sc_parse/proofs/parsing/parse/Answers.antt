@@ -6,7 +6,7 @@ use Rattle.sc_fork.specs.Choices.{AddsLeaves}
 use Rattle.sc_merge.specs.Merges.{tables_with}
 use Rattle.sc_model.proofs.SetLemmas.{Keeps-trans}
 use Rattle.sc_parse.proofs.EventLemmas.{run-stands-seen}
-use Rattle.sc_parse.proofs.ResultLemmas.{IsStarted, begins, has-begun, no-more, own-parsed, parsed, run-over, schedule}
+use Rattle.sc_parse.proofs.ResultLemmas.{IsStarted, begins, has-begun, is-c11, no-more, own-parsed, parsed, run-over, schedule}
 use Rattle.sc_parse.proofs.RunLemmas.{leaves-then}
 use Rattle.sc_parse.proofs.parsing.parse.Given as given
 use Rattle.sc_parse.proofs.parsing.parse.Goals as goal
@@ -55,7 +55,8 @@ returns-clause-parse g c = λ files input of.
     let run = c.in_ok-run_to_end.ensures.goes_on.run names files input begun.0 begun.1 in
     let stands = run-stands-seen w input begun.0 steps run in
     parsed input run.last (run-over w input begun.0 steps run c.in_ok-run_to_end.ensures.done) stands v c.in_ok-outcome.outcome steps.events
-    (of.arities ∙ sym (Keeps-trans c.run_to_end.ensures.keeps c.in_ok-outcome.ensures.keeps).arities) (c.in_ok-outcome.ensures.outcome names files input run.last run.is stands)
+    (of.arities ∙ sym (Keeps-trans c.run_to_end.ensures.keeps c.in_ok-outcome.ensures.keeps).arities) (is-c11 _ _ _ _ _ input c.requires.tables of)
+    (c.in_ok-outcome.ensures.outcome names files input run.last run.is stands)
 
 pub returns-clause-schedule : goal.returns-clause-schedule
 returns-clause-schedule g c = λ files input of.
