@@ -88,6 +88,14 @@ module _ (w : Tables) (input : Input) where
 -- ---- the step
 
 module _ (old new : Sets) (lines added : List Line) (names files : List (List ℕ)) (input : Input) where
+  -- a core is seen as before in stores that have grown
+  pub IsCore-Grows : (c : Core) (seen : core.Core) → Keeps old new → Extends lines added → IsCore (tables_with old lines names files) input c seen → IsCore (tables_with new added names files) input c seen
+  IsCore-Grows c seen keeps longer is = record {
+    source = IsInput-Grows names files c.source input keeps is.source;
+    rows = rows-Grow keeps longer names files input is.source.arities c.rows.items seen.rows is.rows;
+    ended = over-Grow keeps longer names files input is.source.arities c.ended.items seen.ended is.ended;
+  }
+
   -- the core after an event that leaves these numbers and has these pieces
   pub seen-after : (before after : Core) (e : Event) (seen : core.Core) (gone : List (Option core.Subparser)) (pieces : List kept.Piece) (qs : List core.Piece) (made : List ℕ)
       → Keeps old new → Extends lines added → IsCore (tables_with old lines names files) input before seen → after.source ≡ before.source → Becomes before e pieces after made
@@ -95,13 +103,13 @@ module _ (old new : Sets) (lines added : List Line) (names files : List (List �
       → IsCore (tables_with new added names files) input after (record { rows = gone ++ going_in qs; ended = seen.ended ++ over_in qs })
   seen-after before after e seen gone pieces qs made keeps longer is source becomes rows pieces_seen =
       let v = tables_with new added names files in
+      let grown = IsCore-Grows before seen keeps longer is in
       record {
-        source = subst (λ s. IsInput v s input) (sym source) (IsInput-Grows names files before.source input keeps is.source);
+        source = subst (λ s. IsInput v s input) (sym source) grown.source;
         rows = subst (λ rs. AreRows v input rs (gone ++ going_in qs)) (sym becomes.rows)
             (rows-append v input (without (numbers_of e) before.rows.items) (going_of pieces) gone (going_in qs) rows (rows-going v input pieces qs pieces_seen));
         ended = subst (λ es. AreOver v input es (seen.ended ++ over_in qs)) (sym becomes.ended)
-            (over-append v input before.ended.items (over_of pieces) seen.ended (over_in qs)
-            (over-Grow keeps longer names files input is.source.arities before.ended.items seen.ended is.ended) (over-over v input pieces qs pieces_seen));
+            (over-append v input before.ended.items (over_of pieces) seen.ended (over_in qs) grown.ended (over-over v input pieces qs pieces_seen));
       }
 
   numbers-are : (before after : Core) (e : Event) (pieces : List kept.Piece) (made : List ℕ) → Becomes before e pieces after made

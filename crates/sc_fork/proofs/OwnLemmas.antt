@@ -79,6 +79,16 @@ row-weaker P Q weaker (Some s) own = weaker s own
 items-own : {old new : Sets} (list : List (Cond × Token)) → Keeps old new → All (λ (item : Cond × Token). IsCond old item.0.0) list → All (λ (item : Cond × Token). IsCond new item.0.0) list
 items-own list keeps own = λ k d below. keeps.own _ (own k d below)
 
+-- a core owns what it did in stores that have grown
+pub OwnsCore-Grows : {old new : Sets} {lines added : List Line} (core : Core) → Keeps old new → Extends lines added → OwnsCore old (length lines) core → OwnsCore new (length added) core
+OwnsCore-Grows {old} {new} {lines} {added} core keeps longer own = record {
+  source = own.source;
+  items = items-own core.source.list.now keeps own.items;
+  rows = λ usable. All-weaker (λ (row : Option Subparser). IfSome row (OwnsRow old (length lines) core.source)) (λ (row : Option Subparser). IfSome row (OwnsRow new (length added) core.source))
+      (row-weaker (OwnsRow old (length lines) core.source) (OwnsRow new (length added) core.source) (OwnsRow-Grows keeps longer core.source)) core.rows.items (own.rows usable);
+  ended = λ usable. All-weaker (OwnsEnded old (length lines) core.source) (OwnsEnded new (length added) core.source) (OwnsEnded-Grows keeps longer core.source) core.ended.items (own.ended usable);
+}
+
 -- a core that is given up keeps no more than its source
 pub owns-given_up : {old new : Sets} (count others : ℕ) (before after : Core) → Keeps old new → OwnsCore old count before → after.source ≡ before.source → after.is_given_up ≡ true
     → OwnsCore new others after
@@ -92,21 +102,20 @@ owns-given_up {old} {new} count others before after keeps own source given_up = 
 module _ {old new : Sets} {lines added : List Line} (before after : Core) (keeps : Keeps old new) (own : OwnsCore old (length lines) before) (source : after.source ≡ before.source) where
   pub owns-after : (e : Event) (pieces : List Piece) (made : List ℕ) → Extends lines added → before.is_given_up ≡ false → Becomes before e pieces after made
       → All (OwnsPiece new (length added) before.source) pieces → OwnsCore new (length added) after
-  owns-after e pieces made longer usable becomes owned = record {
-    source = subst IsSource (sym source) own.source;
-    items = subst (λ (s : Source). All (λ (item : Cond × Token). IsCond new item.0.0) s.list.now) (sym source) (items-own before.source.list.now keeps own.items);
-    rows = λ now. subst (λ (s : Source). All (λ (row : Option Subparser). IfSome row (OwnsRow new (length added) s)) after.rows.items) (sym source)
-        (subst (All Row) (sym becomes.rows)
-        (All-append Row (without (numbers_of e) before.rows.items) (going_of pieces)
-        (without-own (OwnsRow new (length added) before.source) (numbers_of e) before.rows.items
-        (All-weaker (λ (row : Option Subparser). IfSome row (OwnsRow old (length lines) before.source)) Row
-        (row-weaker (OwnsRow old (length lines) before.source) (OwnsRow new (length added) before.source) (OwnsRow-Grows keeps longer before.source)) before.rows.items (own.rows usable)))
-        (going-own new (length added) before.source pieces owned)));
-    ended = λ now. subst (λ (s : Source). All (OwnsEnded new (length added) s) after.ended.items) (sym source) (subst (All (OwnsEnded new (length added) before.source)) (sym becomes.ended)
-        (All-append (OwnsEnded new (length added) before.source) before.ended.items (over_of pieces)
-        (All-weaker (OwnsEnded old (length lines) before.source) (OwnsEnded new (length added) before.source) (OwnsEnded-Grows keeps longer before.source) before.ended.items (own.ended usable))
-        (over-own new (length added) before.source pieces owned)));
-  }
+  owns-after e pieces made longer usable becomes owned =
+      let grown = OwnsCore-Grows before keeps longer own in
+      record {
+        source = subst IsSource (sym source) own.source;
+        items = subst (λ (s : Source). All (λ (item : Cond × Token). IsCond new item.0.0) s.list.now) (sym source) grown.items;
+        rows = λ now. subst (λ (s : Source). All (λ (row : Option Subparser). IfSome row (OwnsRow new (length added) s)) after.rows.items) (sym source)
+            (subst (All Row) (sym becomes.rows)
+            (All-append Row (without (numbers_of e) before.rows.items) (going_of pieces)
+            (without-own (OwnsRow new (length added) before.source) (numbers_of e) before.rows.items (grown.rows usable))
+            (going-own new (length added) before.source pieces owned)));
+        ended = λ now. subst (λ (s : Source). All (OwnsEnded new (length added) s) after.ended.items) (sym source) (subst (All (OwnsEnded new (length added) before.source)) (sym becomes.ended)
+            (All-append (OwnsEnded new (length added) before.source) before.ended.items (over_of pieces) (grown.ended usable)
+            (over-own new (length added) before.source pieces owned)));
+      }
     where
       Row : Option Subparser → Type 0
       Row row = IfSome row (OwnsRow new (length added) before.source)

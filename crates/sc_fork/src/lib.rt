@@ -5,6 +5,7 @@ mod classifying;
 mod enabled;
 mod event;
 mod fork;
+mod laws;
 mod outcome;
 mod piece;
 mod reducing;
@@ -14,6 +15,7 @@ mod splitting;
 
 pub use event::{Applied, CoreStop, Event, Fact};
 pub use fork::Core;
+pub use laws::core_stays_in_grown_stores;
 pub use outcome::Outcome;
 pub use piece::{Answer, Ended, Piece};
 pub use source::Source;
