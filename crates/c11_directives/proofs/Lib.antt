@@ -1,3 +1,6 @@
 pub mod DecidesLaws
 pub mod NestLaws
 pub mod PreLaws
+pub mod Nesting
+pub mod SomeNesting
+pub mod SomeWalk

@@ -2,3 +2,4 @@ pub mod Behind
 pub mod Footprints
 pub mod Lines
 pub mod Pre
+pub mod Sections

@@ -1,6 +1,6 @@
 //! Laws about the definitions, each the contract of a function without code.
 ghost use Rattle.std.specs.Prelude.{Bool, List, ℕ, ◌≡◌, ◌⊎◌, Result, Some};
-ghost use Rattle.c11_directives.specs.Lines.{Group, Line, Opens, Tree, conditional_of, hash_of};
+ghost use Rattle.c11_directives.specs.Lines.{DirectiveNames, Group, Line, Opens, Tree, conditional_of, hash_of, lines_of};
 ghost use Rattle.c11_directives.specs.Pre.{Context, Decides, Pre, State};
 ghost use Rattle.c11_directives.specs.declared.directive.Conditional.TheVariants.{Elif};
 ghost use Rattle.c11_macros.specs.Expansion.{IsWithin};
@@ -14,6 +14,11 @@ pub fn nesting_has_one_answer()
     ensures { (lines : List Line) (r s : Result Group Place) → Tree lines r → Tree lines s → r ≡ s }
 {}
 
+/// The lines of a file's tokens are nested, or have a first fault.
+pub fn nesting_has_an_answer()
+    ensures { (names : DirectiveNames) (tokens : List Token) → (r : Result Group Place) × Tree (lines_of names tokens) r }
+{}
+
 /// Where finitely many names are defined each line of an `#if`, `#ifdef`, `#ifndef` or `#elif` is
 /// decided.
 pub fn conditionals_have_an_answer()
@@ -24,4 +29,9 @@ pub fn conditionals_have_an_answer()
 /// A configuration has one sequence of tokens, or one fault.
 pub fn preprocessing_has_one_answer()
     ensures { (space : Space) (files : Files) (main config : List ℕ) (r s : Result (List Token) Fault) → Pre space files main config r → Pre space files main config s → r ≡ s }
+{}
+
+/// Each configuration has one of these.
+pub fn preprocessing_has_an_answer()
+    ensures { (space : Space) (files : Files) (main config : List ℕ) → (r : Result (List Token) Fault) × Pre space files main config r }
 {}

@@ -6,8 +6,8 @@ use Rattle.std.specs.Option.{option_and_then}
 use Rattle.sc_lines.specs.Branches.{begins_branch, ends_branch, IsNextBranch, ClosesAt, last_branch, more_branches, HasBranch}
 use Rattle.sc_lines.specs.declared.line.Branch.{Branch}
 use Rattle.sc_lines.specs.Judges.{no_line, line_at}
-use Rattle.sc_lines.specs.Sections.{nest_by}
-use Rattle.sc_lines.proofs.Nesting.{nest_all, nest_all-append, nest-group}
+use Rattle.c11_directives.specs.Sections.{nest_by}
+use Rattle.c11_directives.proofs.Nesting.{nest_all, nest_all-append, nest-group}
 use Rattle.c11_directives.specs.declared.directive.Conditional.{Conditional}
 use Rattle.c11_directives.specs.declared.directive.Conditional.TheVariants.{If, Ifdef, Ifndef, Elif, Else, Endif}
 use Rattle.c11_directives.specs.Lines.{Line, conditional_of, Group, group_lines}

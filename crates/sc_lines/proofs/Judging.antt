@@ -7,8 +7,9 @@ use Rattle.std.specs.Prelude.{if◌then◌else◌}
 use Rattle.std.specs.Option.{option_map, option_and_then}
 use Rattle.sc_lines.specs.declared.section.Open.{Open}
 use Rattle.sc_lines.specs.Judges.{no_line, line_at, FailsAt}
-use Rattle.sc_lines.specs.Sections.{Sections, nest_by, sections_of}
-use Rattle.sc_lines.proofs.Nesting.{nest, nest_all, nest_all-append, accepted, misplaced_at, open_at_end, head_named}
+use Rattle.c11_directives.specs.Sections.{Sections, nest_by}
+use Rattle.sc_lines.specs.Sections.{sections_of}
+use Rattle.c11_directives.proofs.Nesting.{nest, nest_all, nest_all-append, accepted, misplaced_at, open_at_end, head_named}
 use Rattle.c11_directives.specs.declared.directive.Conditional.{Conditional}
 use Rattle.c11_directives.specs.declared.directive.Conditional.TheVariants.{If, Ifdef, Ifndef, Elif, Else, Endif}
 use Rattle.c11_directives.specs.Lines.{Line, Group, IsTree, conditional_of, Opens, Tree}

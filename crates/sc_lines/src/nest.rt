@@ -1,5 +1,6 @@
 ghost use Rattle.std.specs.Prelude.{◌≡◌, None, Some, IfOk, MatchBool};
-ghost use Rattle.sc_lines.specs.Sections.{nest_by, next_branch, sections_of};
+ghost use Rattle.c11_directives.specs.Sections.{nest_by, next_branch};
+ghost use Rattle.sc_lines.specs.Sections.{sections_of};
 
 use crate::section::Open;
 use c11_directives::Conditional;

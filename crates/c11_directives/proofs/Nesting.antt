@@ -7,7 +7,7 @@ use Rattle.c11_directives.specs.declared.directive.Conditional.TheVariants.{If, 
 use Rattle.c11_directives.specs.declared.directive.Directive.TheVariants as directive
 use Rattle.c11_directives.specs.Lines.{Line, conditional_of, is_opening, Group, Branches, empty, plain, section, closing, otherwise, alternative, group_lines, branch_lines, Opens, IsGroup, AreBranches, IsTree, GoesOn, IsOpenAtEnd, Unclosed, first, more, last, hash_place, Tree, misplaced, unclosed}
 use Rattle.sc_model.specs.Token.{Place}
-use Rattle.sc_lines.specs.Sections.{Sections, closes_section, next_branch, nest_by}
+use Rattle.c11_directives.specs.Sections.{Sections, closes_section, next_branch, nest_by}
 
 abbrev pub nest : Line → Sections Line → Option (Sections Line)
 nest line ss = nest_by line ss (conditional_of line)
@@ -232,3 +232,15 @@ opens_inside (inside head n o u) = o
 -- the first line of an open section is a directive
 pub head_named : (lines : List Line) (s : Line × Bool) (ss : Sections Line) → nest_all lines [] ≡ Some (s ∷ ss) → Opens s.0
 head_named lines s ss e = opens_inside (nested-lines lines (s ∷ ss) e)
+
+-- and stands among the lines
+pub record Stands (line : Line) (lines : List Line) : Type 0 where
+  pub before : List Line
+  pub after : List Line
+  pub whole : lines ≡ before ++ line ∷ after
+
+stands_inside : {s : Line × Bool} {ss : Sections Line} {xs : List Line} → Nested (s ∷ ss) xs → Stands s.0 xs
+stands_inside (inside {before = before} {lines = lines} head n o u) = record { before = before; after = lines; whole = refl }
+
+pub head_within : (lines : List Line) (s : Line × Bool) (ss : Sections Line) → nest_all lines [] ≡ Some (s ∷ ss) → Stands s.0 lines
+head_within lines s ss e = stands_inside (nested-lines lines (s ∷ ss) e)
