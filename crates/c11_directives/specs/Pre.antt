@@ -35,8 +35,6 @@ pub record Context : Type 0 where
   pub files : Files
   pub include : List (List ℕ)
   pub include_depth : ℕ
-  pub date : List ℕ
-  pub time : List ℕ
   pub standard : Standard
 
 -- the macros that are defined, the text since the last barrier, what was put out, how deep the
@@ -112,7 +110,7 @@ pub data Defines (macros : Macros) (d : Defined) : Result Macros Cause → Type 
   again : macros d.name ≡ Some d.definition → Defines macros d (Ok (with_macro macros d))
   redefined : (other : Definition) → macros d.name ≡ Some other → (other ≡ d.definition → ⊥) → Defines macros d (Err Redefined)
 
--- A macro is taken back by its name (6.10.3.5p2), unless no directive may (6.10.8p4).
+-- A macro is taken back by its name (6.10.3.5p2), unless no directive may (6.10.8p2).
 abbrev pub undefined : Macros → Option (List ℕ) → Result Macros Cause
 undefined macros None = Err BadDirective
 undefined macros (Some name) = if is_protected name then Err ProtectedName else Ok (without_macro macros name)
@@ -277,8 +275,6 @@ context_of space files = record {
   files = files;
   include = space.include;
   include_depth = space.include_depth;
-  date = space.date;
-  time = space.time;
   standard = c11;
 }
 

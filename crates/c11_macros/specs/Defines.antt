@@ -9,7 +9,7 @@ use Rattle.sc_model.specs.declared.cause.Cause.TheVariants.{BadDefine, Protected
 use Rattle.sc_model.specs.Bytes.{same_bytes}
 use Rattle.sc_model.specs.Token.{Token}
 
--- names that no directive defines or takes back (6.10.8p4)
+-- names that no directive defines or takes back (6.10.8p2)
 abbrev pub protected_names : List (List ℕ)
 protected_names = codes "defined" ∷ codes "__VA_ARGS__" ∷ predefined_names
 

@@ -1,5 +1,4 @@
-//! Macro expansion of C11 (6.10.3.4): its steps at one configuration, and parts of the loop that
-//! takes them in all configurations at once.
+//! Macro expansion of C11 (6.10.3.4) in all configurations at once, and its steps at one of them.
 #![tactic(auto)]
 
 mod arguments;

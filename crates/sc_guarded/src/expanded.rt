@@ -1,7 +1,7 @@
 use crate::Guarded;
 use sc_base::{Fault, Token};
 
-/// What a file or a list of tokens becomes under all configurations. A configuration with a fault
+/// What a list of tokens becomes under all configurations. A configuration with a fault
 /// is refused, and its tokens then don't count.
 #[derive(Drop)]
 pub struct Expanded {

@@ -1,4 +1,5 @@
-//! The expression of `#if` (C11 6.10.1, 6.6): integers and their operators.
+//! The lines of `#if` and `#elif` (C11 6.10.1, 6.6): what `defined` becomes, what an expression
+//! comes to, and which configurations take the group.
 #![tactic(auto)]
 
 mod character;

@@ -43,7 +43,7 @@ pub fn read_define(alloc: Global, names: &Names, line: &[Token]) -> Result<Defin
     })
 }
 
-/// Whether no directive may define the name or take it back (C11 6.10.8p4).
+/// Whether no directive may define the name or take it back (C11 6.10.8p2).
 pub fn is_protected(name: &[u8]) -> bool
     ensures { result ≡ model.is_protected name.now }
 {

@@ -106,7 +106,7 @@ impl MacroTable {
     }
 
     /// Takes a macro back in the configurations of `live`. The result is the configurations where
-    /// that is refused: those of `live` where the name is protected (C11 6.10.8p4), else none.
+    /// that is refused: those of `live` where the name is protected (C11 6.10.8p2), else none.
     #[tactic(auto, using(sc_model::proofs::SetLemmas::conditions, crate::proofs::Growth::tables))]
     pub fn undef<C: Conditions>(
         &mut self,
