@@ -1,0 +1,1 @@
+"""Makes runs of superc from the build of a project."""
