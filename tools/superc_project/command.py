@@ -9,6 +9,8 @@ from collections import Counter
 from collections.abc import Iterator
 from pathlib import Path
 
+from superc_text import VERSION
+
 from . import kconfig, runs
 from .compiler import CompilerError
 from .compiles import Compile, CompileError, absolute, compile_of, read_database
@@ -43,6 +45,7 @@ def parser() -> argparse.ArgumentParser:
     whole = argparse.ArgumentParser(
         prog="superc-project", description="Makes runs of superc from the build of a project."
     )
+    whole.add_argument("--version", action="version", version=f"%(prog)s {VERSION}")
     commands = whole.add_subparsers(dest="command", required=True, metavar="COMMAND")
     for name, words in HELPS.items():
         one = commands.add_parser(name, help=words, description=words[0].upper() + words[1:] + ".")

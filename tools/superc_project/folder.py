@@ -243,9 +243,7 @@ class Folder:
                     notes.append(f"{name} is {value}, as superc has it")
         standard = self.unit.compile.standard
         if standard not in ("c11", "gnu11", "iso9899:2011"):
-            notes.append(
-                f"-std={standard or 'the compiler has'}: it is read as C11, with __STDC_VERSION__ 201112"
-            )
+            notes.append(f"the standard {standard or 'of the compiler'} is read as C11")
         notes += [
             f"-D{head}: no directive may define it"
             for head, _ in self.unit.compile.macros

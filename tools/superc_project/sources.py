@@ -12,12 +12,10 @@ from collections.abc import Collection
 from dataclasses import dataclass, field
 from functools import cached_property, lru_cache
 
+from superc_text.directives import DIRECTIVE, LITERAL, without_comments
+
 from .compiler import ASKING, ASKING_FOR_HEADERS
 
-BLANKED = re.compile(
-    r"//(?:[^\n\\]|\\\n|\\.)*|/\*.*?\*/|(?P<kept>\"(?:\\.|[^\"\\\n])*\"|'(?:\\.|[^'\\\n])*')", re.S
-)
-DIRECTIVE = re.compile(r"^[ \t\f\v]*(?:#|%:)(?:[ \t]|\\\n)*(\w+)((?:[^\n\\]|\\.)*)", re.M | re.S)
 HEADER = re.compile(r"\s*(?:<([^>\n]+)>|\"([^\"\n]+)\")")
 NAME = re.compile(r"(?<![\w.])[A-Za-z_]\w*")
 ASKED = re.compile(r"\b(\w+)[ \t]*\([ \t]*(\w+(?:::\w+)?)[ \t]*\)")
@@ -136,15 +134,11 @@ def source_of(path: str) -> Source:
     return read(path, text.replace("\r\n", " \n"))
 
 
-def _blank(found: re.Match[str]) -> str:
-    return found[0] if found["kept"] else re.sub(r"[^\n]", " ", found[0])
-
-
 def read(path: str, text: str) -> Source:
     """The file with this text."""
     source = Source(path, text)
     # Without comments, each character in its place.
-    plain = BLANKED.sub(_blank, text)
+    plain = without_comments(text)
     directives = list(DIRECTIVE.finditer(plain))
     depth, top = 0, 1 if _has_guard(directives) else 0
     for found in directives:
@@ -193,7 +187,7 @@ def _has_guard(directives: list[re.Match[str]]) -> bool:
 
 def _condition(source: Source, found: re.Match[str]) -> None:
     """What a conditional line tests."""
-    names = NAME.findall(BLANKED.sub(" ", found[2]))
+    names = NAME.findall(LITERAL.sub(" ", found[2]))
     source.tested.update(name for name in names if name not in OPERATORS)
     source.characters.extend(
         (found.start(2) + one.start(), found.start(2) + one.end())

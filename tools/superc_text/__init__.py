@@ -17,6 +17,8 @@ from .reader import Reader, TextError
 from .space import SpaceError, variables_of
 from .writer import Writer, text_at, text_of
 
+VERSION = "1.0"
+
 # Walks of a diagram are as deep as it has variables, of which there are at most 1,024.
 DEEPEST = 20_000
 sys.setrecursionlimit(max(DEEPEST, sys.getrecursionlimit()))
@@ -39,6 +41,7 @@ __all__ = [
     "Root",
     "SpaceError",
     "TextError",
+    "VERSION",
     "Token",
     "Writer",
     "configuration_of",

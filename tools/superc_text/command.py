@@ -8,10 +8,11 @@ from collections.abc import Iterable, Iterator
 from tempfile import SpooledTemporaryFile
 from typing import IO
 
+from . import VERSION
 from .diagrams import ALWAYS, Diagrams
 from .document import Document
 from .items import Fault, Token
-from .layout import fault_text, source
+from .layout import Conditions, fault_text, source
 from .page import Page
 from .projection import (
     Configuration,
@@ -21,9 +22,17 @@ from .projection import (
     fault_at,
     tokens_at,
 )
-from .reader import Reader, TextError
+from .reader import Reader, Scan, TextError
 from .space import SpaceError, Variables, variables_of
-from .views import conditions_dot, faults_view, tokens_of_document, tokens_view, tree_dot, tree_view
+from .trees import PlaceError, TreeView, document_at, parts_at, wanted
+from .views import (
+    conditions_dot,
+    diff_view,
+    faults_view,
+    tokens_of_document,
+    tokens_view,
+    tree_dot,
+)
 from .writer import text_at
 
 ACCEPTED, REFUSED, MISUSED, WRONG_TEXT, UNREADABLE, UNWRITTEN = 0, 1, 2, 3, 6, 7
@@ -34,6 +43,7 @@ IN_MEMORY = 1 << 20
 HELPS = {
     "tokens": "the tokens as source, with #if around what is conditional",
     "at": "the source of one configuration",
+    "diff": "what differs between two configurations; status 1 where anything does",
     "faults": "the faults, as compilers write them; status 1 where there are any",
     "tree": "the tree, indented",
     "dot": "the conditions, or a part of the tree, for Graphviz",
@@ -75,6 +85,7 @@ def parser() -> argparse.ArgumentParser:
     whole = argparse.ArgumentParser(
         prog="superc-view", description="Shows a text that superc printed."
     )
+    whole.add_argument("--version", action="version", version=f"%(prog)s {VERSION}")
     commands = whole.add_subparsers(dest="command", required=True, metavar="COMMAND")
     for name, words in HELPS.items():
         one = commands.add_parser(name, help=words, description=words[0].upper() + words[1:] + ".")
@@ -104,6 +115,31 @@ def _add_options(name: str, one: argparse.ArgumentParser) -> None:
             action="store_true",
             help="print the text of the configuration, not its source",
         )
+    if name == "tokens":
+        one.add_argument(
+            "--exact",
+            action="store_true",
+            help="write whole conditions, which no refused configuration has or lacks freely",
+        )
+    if name == "diff":
+        for side in ("left", "right"):
+            one.add_argument(
+                side,
+                metavar="NAME=OPTION[,..]",
+                help="a variable that is not named takes its first option; - names none",
+            )
+    if name == "tree":
+        one.add_argument(
+            "--at",
+            metavar="NAME=OPTION[,..]",
+            help="the tree of one configuration; - names no variable",
+        )
+        one.add_argument(
+            "--part",
+            metavar="PLACE",
+            help="the largest parts that begin at LINE, LINE:COLUMN or FILE:LINE[:COLUMN]",
+        )
+        one.add_argument("--depth", type=int, metavar="N", help="so many levels alone")
     if name == "dot":
         one.add_argument(
             "--part",
@@ -113,6 +149,11 @@ def _add_options(name: str, one: argparse.ArgumentParser) -> None:
         )
     if name == "html":
         one.add_argument("--title", default="superc", help="the title of the page")
+        one.add_argument(
+            "--root",
+            metavar="DIR",
+            help="show the files below this folder as they stand there",
+        )
 
 
 def main(words: list[str] | None = None) -> int:
@@ -133,7 +174,7 @@ def main(words: list[str] | None = None) -> int:
         return status
     except TextError as fault:
         return _stop(WRONG_TEXT, f"{asked.input or 'standard input'}: {fault}")
-    except ConfigurationError as fault:
+    except (ConfigurationError, PlaceError) as fault:
         return _stop(MISUSED, str(fault))
     except Unwritten as fault:
         os.dup2(os.open(os.devnull, os.O_WRONLY), sys.stdout.fileno())
@@ -180,12 +221,18 @@ def _is_tree(text: IO[bytes]) -> tuple[bool, Iterator[bytes]]:
 
 def _tokens(asked: argparse.Namespace, text: IO[bytes], out: Output) -> int:
     has_tree, lines = _is_tree(text)
-    _write(
-        out,
-        tokens_of_document(Document.read(lines, asked.variables))
-        if has_tree
-        else tokens_view(Reader(lines, asked.variables)),
-    )
+    if has_tree:
+        _write(out, tokens_of_document(Document.read(lines, asked.variables), asked.exact))
+        return ACCEPTED
+    with SpooledTemporaryFile(IN_MEMORY) as kept:
+        # The faults come last, and the conditions are shown by what they refuse.
+        scan = Scan()
+        for line in lines:
+            scan.add(line)
+            kept.write(line)
+        kept.seek(0)
+        reader = Reader(kept, asked.variables)
+        _write(out, tokens_view(reader, scan.refused(reader), asked.exact))
     return ACCEPTED
 
 
@@ -204,7 +251,7 @@ def _at(asked: argparse.Namespace, text: IO[bytes], out: Output) -> int:
         if asked.text:
             out.write(text_at(document, configuration))
         elif not fault:
-            _write(out, source(tokens_at(document, configuration), document.diagrams, str))
+            _write(out, source(tokens_at(document, configuration), document.conditions()))
         return _refusal(fault)
     return _at_in_one_pass(asked, configuration, lines, out)
 
@@ -227,7 +274,7 @@ def _at_in_one_pass(
                 faults.append(item)
 
     with SpooledTemporaryFile(IN_MEMORY) as kept:
-        _write(kept, source(tokens(), Diagrams(), str))
+        _write(kept, source(tokens(), Conditions(Diagrams())))
         _note(asked, projection.check())
         kept.seek(0)
         if not faults:
@@ -250,8 +297,42 @@ def _refusal(fault: Fault | None) -> int:
     return REFUSED
 
 
+def _diff(asked: argparse.Namespace, text: IO[bytes], out: Output) -> int:
+    sides = [_configuration(word) for word in (asked.left, asked.right)]
+    document = Document.read(text, asked.variables)
+    for side in sides:
+        _note(asked, Projection(document.diagrams, side).check())
+    faults = [fault for side in sides if (fault := fault_at(document, side))]
+    for fault in faults:
+        _refusal(fault)
+    return REFUSED if faults or _write(out, diff_view(document, *sides)) else ACCEPTED
+
+
+def _configuration(word: str) -> Configuration:
+    """The configuration that one word NAME=OPTION,.. names."""
+    return configuration_of([] if word == "-" else word.split(","))
+
+
 def _tree(asked: argparse.Namespace, text: IO[bytes], out: Output) -> int:
-    _write(out, tree_view(Document.read(text, asked.variables)))
+    document = Document.read(text, asked.variables)
+    if document.kind != "tree":
+        return _stop(MISUSED, "the text has no tree: superc parse prints one")
+    conditions = document.conditions()
+    if asked.at is not None:
+        configuration = _configuration(asked.at)
+        _note(asked, Projection(document.diagrams, configuration).check())
+        fault = fault_at(document, configuration)
+        if fault:
+            return _refusal(fault)
+        document = document_at(document, configuration)
+    tops = [] if document.root is None else [document.root]
+    if asked.part is not None:
+        tops = parts_at(document, wanted(asked.part))
+        if not tops:
+            raise PlaceError(f"no part begins at {asked.part}")
+    view = TreeView(document, conditions, asked.depth)
+    for top in tops:
+        _write(out, view.lines(top))
     return ACCEPTED
 
 
@@ -270,7 +351,7 @@ def _dot(asked: argparse.Namespace, text: IO[bytes], out: Output) -> int:
 
 
 def _html(asked: argparse.Namespace, text: IO[bytes], out: Output) -> int:
-    for piece in Page(Document.read(text, asked.variables), asked.title).text():
+    for piece in Page(Document.read(text, asked.variables), asked.title, asked.root).text():
         out.write(piece.encode("utf-8"))
     return ACCEPTED
 
@@ -278,6 +359,7 @@ def _html(asked: argparse.Namespace, text: IO[bytes], out: Output) -> int:
 COMMANDS = {
     "tokens": _tokens,
     "at": _at,
+    "diff": _diff,
     "faults": _faults,
     "tree": _tree,
     "dot": _dot,

@@ -2,9 +2,12 @@
 from __future__ import annotations
 
 from collections.abc import Iterable, Iterator
+from functools import cached_property
 
 from .diagrams import ALWAYS, NEVER, Diagrams
 from .items import Choice, Conflict, Fault, Leaf, Node, Part, Place, Root, Token
+from .joining import joined
+from .layout import Conditions
 from .reader import Reader
 from .space import Variables
 
@@ -57,17 +60,25 @@ class Document:
             refused = self.diagrams.disjunction(refused, fault.condition)
         return refused
 
+    def conditions(self, is_exact: bool = False) -> Conditions:
+        """How conditions are shown, where refused configurations may have them or not."""
+        refused = NEVER if is_exact else self.refused()
+        return Conditions(self.diagrams, self.number_of, refused)
+
+    @cached_property
+    def sizes(self) -> list[int]:
+        """For each part of the tree how many leaves it has, of all branches together."""
+        sizes: list[int] = []
+        for part in self.parts:
+            leaf = isinstance(part, Leaf)
+            sizes.append(1 if leaf else sum(sizes[child] for _, child in branches_of(part)))
+        return sizes
+
     def shown_tokens(self) -> Iterator[Token]:
-        """The tokens in order. Those of a tree are its leaves, each under the conditions of the
-        choices above it.
+        """The tokens in order. Those of a tree are its leaves as often as they occur, each under
+        the conditions of the choices above it.
         """
-        if self.kind != "tree":
-            return iter(self.tokens)
-        leaves = [part for part in self.parts if isinstance(part, Leaf)]
-        if len({leaf.place.file for leaf in leaves}) < 2:
-            leaves.sort(key=lambda leaf: leaf.place)
-        conditions = self.part_conditions()
-        return (Token(conditions[leaf.number], leaf.place, leaf.spelling) for leaf in leaves)
+        return leaves(self) if self.kind == "tree" else iter(self.tokens)
 
     def part_conditions(self) -> list[int]:
         """For each part of the tree the configurations that have it."""
@@ -80,6 +91,25 @@ class Document:
                 reached = self.diagrams.conjunction(own, condition)
                 conditions[child] = self.diagrams.disjunction(conditions[child], reached)
         return conditions
+
+
+def leaves(document: Document) -> Iterator[Token]:
+    """The leaves of a tree as tokens, from left to right. What the branches of a choice share may
+    be told once.
+    """
+    diagrams = document.diagrams
+    waiting = [] if document.root is None else [(document.root, ALWAYS)]
+    while waiting:
+        number, condition = waiting.pop()
+        part = document.parts[number]
+        if isinstance(part, Leaf):
+            yield Token(condition, part.place, part.spelling)
+        elif isinstance(part, Node):
+            waiting.extend((child, condition) for child in reversed(part.children))
+        else:
+            for child, when in reversed(joined(document, part)):
+                met = diagrams.conjunction(condition, when)
+                waiting.extend([(child, met)] if met != NEVER else [])
 
 
 def branches_of(part: Part) -> tuple[tuple[int, int], ...]:

@@ -36,27 +36,36 @@ class Expressions:
         self._diagrams = diagrams
         self._number_of = number_of or {}
         self._covers: dict[tuple[int, int], tuple[tuple[Product, ...], int]] = {}
-        self._texts: dict[int, str] = {}
+        self._texts: dict[tuple[int, int], str] = {}
         self._steps = 0
 
-    def text(self, condition: int) -> str:
-        """The expression; `condition(N)` names a condition that has no short one."""
-        if condition not in self._texts:
+    def text(self, condition: int, free: int = NEVER) -> str:
+        """The expression, which may have what is free or not; `condition(N)` names a condition that
+        has no short one.
+        """
+        pair = (condition, free)
+        if pair not in self._texts:
+            lower = self._diagrams.difference(condition, free)
+            upper = self._diagrams.disjunction(condition, free)
             try:
-                self._texts[condition] = self._shortest(condition)
+                self._texts[pair] = self._shortest(lower, upper)
             except TooLong:
-                self._texts[condition] = f"condition({self._number_of.get(condition, condition)})"
-        return self._texts[condition]
+                self._texts[pair] = f"condition({self._number_of.get(condition, condition)})"
+        return self._texts[pair]
 
-    def _shortest(self, condition: int) -> str:
-        if condition in (NEVER, ALWAYS):
-            return str(condition)
+    def _shortest(self, lower: int, upper: int) -> str:
+        """The shortest expression that was found between two conditions."""
+        if upper == ALWAYS:
+            return str(ALWAYS)
+        if lower == NEVER:
+            return str(NEVER)
         written: list[Written] = []
-        negation = self._diagrams.negation(condition)
-        for start, is_negation in ((condition, False), (negation, True)):
+        negation = self._diagrams.negation
+        bounds = ((lower, upper, False), (negation(upper), negation(lower), True))
+        for low, high, is_negation in bounds:
             self._steps = 0
             try:
-                products, _ = self._cover(start, start)
+                products, _ = self._cover(low, high)
             except TooLong:
                 continue
             written.append(

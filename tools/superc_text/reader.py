@@ -364,6 +364,48 @@ class Reader:
         self.is_ended = True
 
 
+class Scan:
+    """What a text refuses, by a look at its lines that checks none of them."""
+
+    def __init__(self) -> None:
+        self._lines: list[bytes] = []
+
+    def add(self, line: bytes) -> None:
+        """Takes the next line."""
+        if line.startswith((b"c ", b"f ")):
+            self._lines.append(line)
+
+    def refused(self, reader: Reader) -> int:
+        """The configurations that have a fault, in the store of a reader of this text that has read
+        nothing yet; none where lines are wrong.
+        """
+        variables = reader.diagrams.variables
+        before = dict(variables)
+        conditions = [NEVER, ALWAYS]
+        refused = NEVER
+        try:
+            for line in self._lines:
+                form = FORMS[line[:1]].fullmatch(line)
+                if form is None:
+                    raise LookupError
+                if line[:1] == b"f":
+                    refused = reader.diagrams.disjunction(refused, conditions[int(form[1])])
+                    continue
+                fields = [field.decode().partition(":") for field in form[3].split()]
+                name, options = form[2].decode(), tuple(option for option, _, _ in fields)
+                if name not in variables and reader.has_space:
+                    raise LookupError
+                if variables.setdefault(name, options) != options:
+                    raise LookupError
+                children = [conditions[int(child)] for _, _, child in fields]
+                conditions.append(reader.diagrams.make(name, children))
+        except LookupError:
+            variables.clear()
+            variables.update(before)
+            return NEVER
+        return refused
+
+
 def _need(holds: bool, rule: str) -> None:
     if not holds:
         raise _Wrong(rule)

@@ -1,21 +1,23 @@
 """The views of a text as lines."""
 from __future__ import annotations
 
-from collections.abc import Callable, Iterable, Iterator
+from collections.abc import Iterable, Iterator
+from difflib import unified_diff
 
 from .diagrams import ALWAYS, NEVER, Diagrams
 from .document import Document, branches_of
 from .expressions import Expressions
-from .grammar import productions
 from .items import Choice, Fault, Leaf, Node, Token
-from .layout import fault_text, shown, source
+from .layout import Conditions, fault_text, shown, source
+from .projection import Configuration, tokens_at
 from .reader import Reader
+from .trees import left_of
 
-TextOf = Callable[[int], str]
 
-
-def tokens_view(reader: Reader) -> Iterator[str]:
-    """The tokens as source with `#if`; at the end what refuses configurations, as `#error`."""
+def tokens_view(reader: Reader, refused: int, is_exact: bool = False) -> Iterator[str]:
+    """The tokens as source with `#if`; at the end what refuses configurations, as `#error`. The
+    refused configurations are known before, and conditions may have them or not.
+    """
     faults: list[Fault] = []
 
     def tokens() -> Iterator[Token]:
@@ -25,21 +27,21 @@ def tokens_view(reader: Reader) -> Iterator[str]:
             elif isinstance(item, Fault):
                 faults.append(item)
 
-    text_of = Expressions(reader.diagrams, reader.number_of).text
-    yield from source(tokens(), reader.diagrams, text_of)
-    yield from _errors(faults, text_of)
+    conditions = Conditions(reader.diagrams, reader.number_of, NEVER if is_exact else refused)
+    yield from source(tokens(), conditions)
+    yield from _errors(faults, conditions)
 
 
-def tokens_of_document(document: Document) -> Iterator[str]:
+def tokens_of_document(document: Document, is_exact: bool = False) -> Iterator[str]:
     """The same of a document, that may have a tree."""
-    text_of = Expressions(document.diagrams, document.number_of).text
-    yield from source(document.shown_tokens(), document.diagrams, text_of)
-    yield from _errors(document.faults, text_of)
+    conditions = document.conditions(is_exact)
+    yield from source(document.shown_tokens(), conditions)
+    yield from _errors(document.faults, conditions)
 
 
-def _errors(faults: Iterable[Fault], text_of: TextOf) -> Iterator[str]:
+def _errors(faults: Iterable[Fault], conditions: Conditions) -> Iterator[str]:
     for fault in faults:
-        yield f"#if {text_of(fault.condition)}"
+        yield f"#if {conditions.exact(fault.condition)}"
         name = fault.place.file.replace("\\", "\\\\").replace('"', '\\"')
         yield f'#error "{name}:{fault.place.line}:{fault.place.column}: {fault.name}"'
         yield "#endif"
@@ -53,64 +55,14 @@ def faults_view(reader: Reader) -> Iterator[str]:
             yield fault_text(item, text_of)
 
 
-def tree_view(document: Document) -> Iterator[str]:
-    """The tree, indented. A list is shown flat, and a part that several others have is shown once,
-    with its number.
-    """
-    if document.root is None:
-        return
-    text_of = Expressions(document.diagrams, document.number_of).text
-    parents = [0] * len(document.parts)
-    for part in document.parts:
-        for _, child in branches_of(part):
-            parents[child] += 1
-    done: set[int] = set()
-    waiting = [(document.root, 0, "")]
-    while waiting:
-        number, depth, when = waiting.pop()
-        label = f" [{number}]" if parents[number] > 1 else ""
-        margin = "  " * depth + when
-        part = document.parts[number]
-        if number in done:
-            yield f"{margin}[{number}] above"
-            continue
-        done.add(number)
-        if isinstance(part, Leaf):
-            place = part.place
-            yield f"{margin}{shown(part.spelling)}  {place.file}:{place.line}:{place.column}{label}"
-        elif isinstance(part, Choice):
-            yield f"{margin}choice{label}"
-            branches = [
-                (child, depth + 1, f"when {text_of(condition)}: ")
-                for condition, child in part.branches
-            ]
-            waiting.extend(reversed(branches))
-        else:
-            yield f"{margin}{_left(part)} {part.production}{label}"
-            waiting.extend(
-                (child, depth + 1, "") for child in reversed(_flat(document, part, parents))
-            )
-
-
-def _left(node: Node) -> str:
-    return productions()[node.production].left
-
-
-def _flat(document: Document, node: Node, parents: list[int]) -> list[int]:
-    """The children of a node; where the first one is a list of the same name, its children stand in
-    its place.
-    """
-    children: list[int] = []
-    while True:
-        children.extend(reversed(node.children))
-        if not node.children:
-            break
-        first = document.parts[node.children[0]]
-        if not isinstance(first, Node) or _left(first) != _left(node) or parents[first.number] > 1:
-            break
-        children.pop()
-        node = first
-    return children[::-1]
+def diff_view(document: Document, left: Configuration, right: Configuration) -> Iterator[str]:
+    """What differs between the sources of two configurations, as `diff -u` writes it."""
+    before, after = (
+        list(source(tokens_at(document, one), Conditions(document.diagrams)))
+        for one in (left, right)
+    )
+    names = [" ".join(f"{name}={option}" for name, option in one.items()) for one in (left, right)]
+    return unified_diff(before, after, names[0], names[1], lineterm="")
 
 
 def conditions_dot(diagrams: Diagrams, number_of: dict[int, int]) -> Iterator[str]:
@@ -151,7 +103,7 @@ def _name(part: Leaf | Node | Choice) -> str:
         case Leaf():
             return shown(part.spelling)
         case Node():
-            return f"{_left(part)} {part.production}"
+            return f"{left_of(part)} {part.production}"
         case _:
             return "choice"
 

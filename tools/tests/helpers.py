@@ -33,6 +33,29 @@ end
 """
 
 
+# `#define L a , b , c` and `enum { L };`: both commas stand at one place, and are one leaf.
+SHARED_TEXT = b"""s 0 m.c
+l 0 0:2:1 enum
+l 1 0:2:6 {
+l 2 0:2:8 a
+n 3 288 2
+l 4 0:2:8 ,
+l 5 0:2:8 b
+n 6 288 5
+n 7 153 3 4 6
+l 8 0:2:8 c
+n 9 288 8
+n 10 153 7 4 9
+l 11 0:2:10 }
+n 12 147 0 1 10 11
+l 13 0:2:11 ;
+n 14 18 12 13
+n 15 1 14
+root 15
+end
+"""
+
+
 def document(text: bytes) -> Document:
     return Document.read(io.BytesIO(text))
 

@@ -7,7 +7,8 @@ import sys
 import unittest
 from pathlib import Path
 
-from superc_text.command import parser
+from superc_project.command import parser as superc_project
+from superc_text.command import parser as superc_view
 
 TOOLS = Path(__file__).resolve().parent.parent
 COMPLETIONS = TOOLS / "completions"
@@ -29,22 +30,26 @@ class Completions(unittest.TestCase):
             subprocess.run([sys.executable, "-B", COMPLETIONS / "make", "--check"]).returncode, 0
         )
 
-    def test_the_list_is_that_of_the_command(self) -> None:
-        listed = json.loads((COMPLETIONS / "commands.json").read_text())["superc-view"]
-        [subcommands] = [
-            action for action in parser()._actions if isinstance(action, argparse._SubParsersAction)
-        ]
-        found = {
-            name: {
-                word
-                for action in one._actions
-                for word in action.option_strings
-                if word.startswith("--")
+    def test_the_list_is_that_of_the_commands(self) -> None:
+        commands = {"superc-view": superc_view(), "superc-project": superc_project()}
+        for program, words in commands.items():
+            listed = json.loads((COMPLETIONS / "commands.json").read_text())[program]
+            [subcommands] = [
+                action
+                for action in words._actions
+                if isinstance(action, argparse._SubParsersAction)
+            ]
+            found = {
+                name: {
+                    word
+                    for action in one._actions
+                    for word in action.option_strings
+                    if word.startswith("--")
+                }
+                - {"--help"}
+                for name, one in subcommands.choices.items()
             }
-            - {"--help"}
-            for name, one in subcommands.choices.items()
-        }
-        self.assertEqual({name: set(one["options"]) for name, one in listed.items()}, found)
+            self.assertEqual({name: set(one["options"]) for name, one in listed.items()}, found)
 
     @unittest.skipUnless(shutil.which("bash"), "bash is not there")
     def test_what_bash_offers(self) -> None:
@@ -52,4 +57,5 @@ class Completions(unittest.TestCase):
         self.assertEqual(complete("superc-view", "t"), ["tokens", "tree"])
         self.assertEqual(complete("superc-view", "at", "--"), ["--input", "--space", "--text"])
         self.assertEqual(complete("superc-view", "dot", "--part", ""), [])
+        self.assertEqual(complete("superc-project", "all", "--k"), ["--kconfig"])
         self.assertEqual(complete("superc-view", "tokens", "--input", "/et"), ["/etc"])

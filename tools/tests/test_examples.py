@@ -1,16 +1,21 @@
 """The example and the text of the README, and the table of productions."""
+import os
 import re
 import subprocess
 import sys
+import tempfile
 import unittest
 from pathlib import Path
 
+from superc_text.faults import SENTENCES
 from superc_text.grammar import productions
+from superc_text.items import CAUSES
 
 from .helpers import README_TEXT, document
 
 TOOLS = Path(__file__).resolve().parent.parent
 TOP = TOOLS.parent
+SUPERC = os.environ.get("SUPERC", str(TOP / "crates/superc/out/superc"))
 
 
 def indented_blocks(text: str) -> list[str]:
@@ -50,6 +55,26 @@ class Examples(unittest.TestCase):
         ).stdout.decode()
         self.assertIn(" .suspend = suspend,\n", alone)
         self.assertNotIn("spin_lock", alone)
+
+
+class Faults(unittest.TestCase):
+    def test_each_cause_has_its_sentence(self) -> None:
+        page = (TOP / "docs/FAULTS.md").read_text()
+        found = re.findall(r"^## (\w+)\n\n(.*)\n", page, re.M)
+        self.assertEqual(dict(found), SENTENCES)
+        self.assertEqual(tuple(name for name, _ in found), CAUSES)
+
+    @unittest.skipUnless(os.access(SUPERC, os.X_OK), "superc is not built, nor named by SUPERC")
+    def test_each_example_has_its_cause(self) -> None:
+        page = (TOP / "docs/FAULTS.md").read_text()
+        with tempfile.TemporaryDirectory() as folder:
+            Path(folder, "space.toml").write_text("[variables]\n")
+            for cause, section in re.findall(r"^## (\w+)\n(.*?)(?=^## |\Z)", page, re.M | re.S):
+                for example in indented_blocks(section):
+                    Path(folder, "m.c").write_text(example)
+                    words = [SUPERC, "parse", "space.toml", "m.c"]
+                    done = subprocess.run(words, cwd=folder, capture_output=True, text=True)
+                    self.assertRegex(done.stdout, rf"(?m)^f 1 \d+ {cause} ")
 
 
 class Grammar(unittest.TestCase):

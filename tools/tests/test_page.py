@@ -31,7 +31,7 @@ for (const [key, value] of CLICKS) {
   answers.push([parts.map((part) => part.textContent), document.getElementById("verdict").textContent]);
 }
 const told = document.getElementById("told");
-document.querySelector("#lines b").dispatchEvent(new MouseEvent("mouseover", { bubbles: true }));
+document.querySelector("#lines b")?.dispatchEvent(new MouseEvent("mouseover", { bubbles: true }));
 answers.push(told.textContent);
 for (const key of ["n", "n"]) document.dispatchEvent(new KeyboardEvent("keydown", { key }));
 answers.push(told.textContent, getComputedStyle(document.body).backgroundColor);
@@ -60,7 +60,7 @@ def browse(text: bytes, clicks: list[tuple[str, str]], *flags: str) -> list:
             "--dump-dom",
             path.as_uri(),
         ]
-        shown = subprocess.run(words, capture_output=True, timeout=60, check=True).stdout.decode()
+        shown = subprocess.run(words, capture_output=True, timeout=300, check=True).stdout.decode()
     found = re.search(r'id="answers"[^>]*>(.*?)</p>', shown, re.S)
     assert found, shown[-2000:]
     return json.loads(unescape(found[1]))

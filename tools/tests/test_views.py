@@ -5,12 +5,15 @@ import tempfile
 import unittest
 from pathlib import Path
 
-from superc_text import Diagrams, Place, Token
-from superc_text.layout import source, would_join
+from superc_text import Diagrams, Place, Token, fault_at, tokens_at
+from superc_text.layout import Conditions, source, would_join
+from superc_text.trees import Wanted, wanted
 
-from .helpers import README_TEXT, TREE_TEXT
+from .helpers import README_TEXT, SHARED_TEXT, TREE_TEXT, configurations, document
 
 TOOLS = Path(__file__).resolve().parent.parent
+DATA = Path(__file__).parent / "data"
+SENTENCE = "No directive of C11 is written so."
 
 
 def run(*words: str, text: bytes = b"") -> tuple[int, str, str]:
@@ -22,8 +25,10 @@ def run(*words: str, text: bytes = b"") -> tuple[int, str, str]:
 
 class Commands(unittest.TestCase):
     def test_tokens(self) -> None:
-        want = '#if defined(A)\nx\n#endif\n#if !defined(A)\n#error "main.c:4:1: BadDirective"\n#endif\n'
-        self.assertEqual(run("tokens", text=README_TEXT), (0, want, ""))
+        error = '#if !defined(A)\n#error "main.c:4:1: BadDirective"\n#endif\n'
+        self.assertEqual(run("tokens", text=README_TEXT), (0, f"x\n{error}", ""))
+        want = f"#if defined(A)\nx\n#endif\n{error}"
+        self.assertEqual(run("tokens", "--exact", text=README_TEXT), (0, want, ""))
 
     def test_tokens_of_a_tree(self) -> None:
         self.assertEqual(
@@ -32,7 +37,9 @@ class Commands(unittest.TestCase):
 
     def test_at(self) -> None:
         self.assertEqual(run("at", "A=1", text=README_TEXT), (0, "x\n", ""))
-        self.assertEqual(run("at", text=README_TEXT), (1, "", "main.c:4:1: error: BadDirective\n"))
+        self.assertEqual(
+            run("at", text=README_TEXT), (1, "", f"main.c:4:1: error: BadDirective: {SENTENCE}\n")
+        )
         self.assertEqual(run("at", "A=1", text=TREE_TEXT), (0, "int\nx;\n", ""))
         self.assertEqual(run("at", "A=undef", text=TREE_TEXT), (0, "long\nx;\n", ""))
 
@@ -65,10 +72,12 @@ class Commands(unittest.TestCase):
     def test_faults(self) -> None:
         self.assertEqual(
             run("faults", text=README_TEXT),
-            (1, "main.c:4:1: error: BadDirective [when !defined(A)]\n", ""),
+            (1, f"main.c:4:1: error: BadDirective: {SENTENCE} [when !defined(A)]\n", ""),
         )
         everywhere = b"s 0 m.c\nf 1 5 BadDirective 0:1:1\nend\n"
-        self.assertEqual(run("faults", text=everywhere), (1, "m.c:1:1: error: BadDirective\n", ""))
+        self.assertEqual(
+            run("faults", text=everywhere), (1, f"m.c:1:1: error: BadDirective: {SENTENCE}\n", "")
+        )
         self.assertEqual(run("faults", text=TREE_TEXT), (0, "", ""))
 
     def test_tree(self) -> None:
@@ -76,10 +85,10 @@ class Commands(unittest.TestCase):
   declaration 19
     choice
       when defined(A): int  m.c:2:1
-      when !defined(A): long  m.c:4:1
+      when !defined(A): long  4:1
     var_name 288
-      x  m.c:6:1
-    ;  m.c:6:2
+      x  6:1
+    ;  6:2
 """
         self.assertEqual(run("tree", text=TREE_TEXT), (0, want, ""))
 
@@ -89,14 +98,48 @@ class Commands(unittest.TestCase):
   block_items 15
     expression_statement 43 [4]
       var_name 288
-        a  m.c:1:1
-      ;  m.c:1:2
+        a  1:1
+      ;  1:2
     [4] above
     [4] above
-  }  m.c:1:4
+  }  1:4
 """
         text = b"s 0 m.c\nl 0 0:1:3 {\nl 1 0:1:1 a\nn 2 288 1\nl 3 0:1:2 ;\nn 4 43 2 3\nn 5 15 4 4\nn 6 15 5 4\nl 7 0:1:4 }\nn 8 13 0 6 7\nroot 8\nend\n"
         self.assertEqual(run("tree", text=text), (0, want, ""))
+
+    def test_a_part_of_a_tree(self) -> None:
+        want = "var_name 288\n  x  m.c:6:1\n"
+        self.assertEqual(run("tree", "--part", "6", text=TREE_TEXT), (0, f"{want};  6:2\n", ""))
+        self.assertEqual(run("tree", "--part", "m.c:6:1", text=TREE_TEXT), (0, want, ""))
+        told = "superc-view: no part begins at 9:1\n"
+        self.assertEqual(run("tree", "--part", "9:1", text=TREE_TEXT), (2, "", told))
+        told = "superc-view: x is no place\n"
+        self.assertEqual(run("tree", "--part", "x", text=TREE_TEXT), (2, "", told))
+        self.assertEqual(wanted("a:b.c:3"), Wanted("a:b.c", 3, None))
+        self.assertEqual(wanted("b.c:3:4"), Wanted("b.c", 3, 4))
+
+    def test_the_tree_of_a_configuration(self) -> None:
+        want = "unit 1\n  declaration 19\n    long  m.c:4:1\n    var_name 288 ..\n    ;  6:2\n"
+        self.assertEqual(run("tree", "--at", "-", "--depth", "2", text=TREE_TEXT), (0, want, ""))
+        told = "superc-view: UnknownOption A\n"
+        self.assertEqual(run("tree", "--at", "A=2", text=TREE_TEXT), (2, "", told))
+
+    def test_a_text_without_a_tree(self) -> None:
+        told = "superc-view: the text has no tree: superc parse prints one\n"
+        self.assertEqual(run("tree", text=README_TEXT), (2, "", told))
+
+    def test_diff(self) -> None:
+        want = "--- A=1\n+++ \n@@ -1,2 +1,2 @@\n-int\n+long\n x;\n"
+        self.assertEqual(run("diff", "A=1", "-", text=TREE_TEXT), (1, want, ""))
+        self.assertEqual(run("diff", "A=1", "A=1", text=TREE_TEXT), (0, "", ""))
+        status, out, told = run("diff", "A=1", "-", text=README_TEXT)
+        self.assertEqual((status, out), (1, ""))
+        self.assertIn(f"BadDirective: {SENTENCE}", told)
+
+    def test_version(self) -> None:
+        status, out, _ = run("--version")
+        self.assertEqual(status, 0)
+        self.assertRegex(out, r"^superc-view \d+\.\d+\n$")
 
     def test_dot(self) -> None:
         self.assertIn('2 -> 1 [label="1"];', run("dot", text=README_TEXT)[1])
@@ -174,6 +217,84 @@ class Commands(unittest.TestCase):
             self.assertEqual(run("at", "A=1", "-i", text.name), (0, "x\n", ""))
 
 
+class Leaves(unittest.TestCase):
+    """The tokens of a tree are its leaves, in order, each as often as it occurs."""
+
+    def test_a_leaf_that_occurs_twice(self) -> None:
+        self.assertEqual(run("tokens", text=SHARED_TEXT), (0, "enum { a , b , c };\n", ""))
+
+    def test_each_configuration(self) -> None:
+        paths = [*sorted(DATA.glob("*.tree")), *sorted(DATA.glob("*.txt"))]
+        texts = [path.read_bytes() for path in paths]
+        self.assertGreater(len(texts), 1)
+        for text in [*texts, TREE_TEXT, SHARED_TEXT]:
+            whole = document(text)
+            tokens = list(whole.shown_tokens())
+            for one in configurations(whole.diagrams):
+                if fault_at(whole, one):
+                    continue
+                found = [
+                    (token.place, token.spelling)
+                    for token in tokens
+                    if whole.diagrams.holds(token.condition, one)
+                ]
+                alone = [(token.place, token.spelling) for token in tokens_at(whole, one)]
+                self.assertEqual(found, alone)
+
+
+class Nested(unittest.TestCase):
+    """The conditionals around tokens."""
+
+    def lines(self, *rows: tuple[str, int]) -> list[str]:
+        diagrams = self.diagrams
+        tokens = [
+            Token(condition, Place("m.c", line, 1), text.encode())
+            for line, (text, condition) in enumerate(rows, 1)
+        ]
+        return list(source(tokens, Conditions(diagrams, refused=self.refused)))
+
+    def setUp(self) -> None:
+        self.diagrams = Diagrams()
+        for name in "ABC":
+            self.diagrams.variables[name] = ("undef", "1")
+        self.a, self.b, self.c = (self.diagrams.make(name, (0, 1)) for name in "ABC")
+        self.refused = 0
+
+    def test_one_holds_others(self) -> None:
+        both = self.diagrams.conjunction(self.a, self.b)
+        want = [
+            "#if defined(A)",
+            "#if defined(B)",
+            "x",
+            "#endif",
+            "y",
+            "#if defined(B)",
+            "z",
+            "#endif",
+            "#endif",
+            "w",
+        ]
+        self.assertEqual(self.lines(("x", both), ("y", self.a), ("z", both), ("w", 1)), want)
+
+    def test_branches(self) -> None:
+        not_a = self.diagrams.negation(self.a)
+        not_a_b = self.diagrams.conjunction(not_a, self.b)
+        neither = self.diagrams.difference(not_a, self.b)
+        want = ["#if defined(A)", "x", "#elif defined(B)", "y", "#else", "z", "#endif"]
+        self.assertEqual(self.lines(("x", self.a), ("y", not_a_b), ("z", neither)), want)
+
+    def test_refused_configurations_are_free(self) -> None:
+        self.refused = self.diagrams.difference(self.a, self.b)
+        both = self.diagrams.conjunction(self.a, self.b)
+        want = ["#if defined(A)", "x", "#endif", "y"]
+        self.assertEqual(
+            self.lines(
+                ("x", both), ("y", self.diagrams.negation(self.refused)), ("z", self.refused)
+            ),
+            want,
+        )
+
+
 class Layout(unittest.TestCase):
     def test_tokens_that_would_join(self) -> None:
         for left, right in (
@@ -203,8 +324,8 @@ class Layout(unittest.TestCase):
             Token(1, Place("m.c", 3, 3), b"-"),
             Token(1, Place("m.c", 3, 3), b"1"),
         ]
-        self.assertEqual(list(source(tokens, Diagrams(), str)), [" - - 1"])
+        self.assertEqual(list(source(tokens, Conditions(Diagrams()))), [" - - 1"])
 
     def test_files(self) -> None:
         tokens = [Token(1, Place("m.c", 1, 1), b"a"), Token(1, Place("h.h", 1, 1), b"b")]
-        self.assertEqual(list(source(tokens, Diagrams(), str)), ["a", "/* h.h */", "b"])
+        self.assertEqual(list(source(tokens, Conditions(Diagrams()))), ["a", "/* h.h */", "b"])

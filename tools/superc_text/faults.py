@@ -1,0 +1,26 @@
+"""What each cause of a fault says; docs/FAULTS.md has more on each."""
+
+SENTENCES = {
+    "NotFound": "No file is found for the header that this #include names.",
+    "FileTooLarge": "The file has more than 16,777,216 bytes.",
+    "UnterminatedComment": "A comment begins here and has no end.",
+    "BadNesting": "The lines #if, #elif, #else and #endif of the file do not nest.",
+    "BadDirective": "No directive of C11 is written so.",
+    "BadDefine": "This #define is not written as C11 asks.",
+    "Redefined": "The macro is defined already, and otherwise.",
+    "ProtectedName": "No directive may define or take back this name.",
+    "BadIf": "The line is no constant expression that #if can have.",
+    "IfDivision": "The expression of #if divides by zero.",
+    "IfOverflow": "A value of the expression of #if has no place in 64 bits.",
+    "IfShift": "The expression of #if shifts by less than 0 or by more than 63.",
+    "DefinedFromMacro": "The word defined comes from a macro in this #if.",
+    "BadInclude": "The line #include names no header.",
+    "IncludeDepth": "Files include each other deeper than the space file allows.",
+    "ErrorDirective": "The line #error refuses the file.",
+    "UnterminatedCall": "A call of a macro has no closing parenthesis.",
+    "WrongArguments": "A call of a macro has too few or too many arguments.",
+    "BadPaste": "The two sides of a ## make no token.",
+    "BadStringize": "The argument behind a # makes no string literal.",
+    "BadToken": "No token of C is spelled so.",
+    "Syntax": "The syntax of C11 does not go on with this token.",
+}

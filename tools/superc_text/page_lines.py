@@ -1,0 +1,298 @@
+"""The lines of a page: those of the source as it stands in files, or those that the tokens make."""
+from __future__ import annotations
+
+import os
+import re
+from collections.abc import Callable, Iterator, Mapping
+from dataclasses import dataclass, field
+from functools import cached_property
+from itertools import groupby
+
+from .diagrams import ALWAYS, NEVER
+from .directives import DIRECTIVE, without_comments
+from .document import Document
+from .items import Fault
+from .layout import Conditions, Piece, indentation, pieces
+from .page_text import escaped
+
+# The number of a condition on the page, which names its class.
+NumberOf = Callable[[int], int]
+FaultLine = Callable[[int, Fault], str]
+
+HEADER = re.compile(r"\s*[<\"]([^>\"\n]+)[>\"]")
+HEADS = ("if", "ifdef", "ifndef", "elif", "else")
+# The copies that superc-project makes stand by the whole names of their files.
+COPY = re.compile(r"^/.*/(?:overlay|settings)/[0-9a-f]{8}(?:/beside)?(?=/)")
+
+
+class TokenLines:
+    """The lines that the tokens make, where they stand in their files."""
+
+    def __init__(self, document: Document, conditions: Conditions) -> None:
+        self._document = document
+        self._conditions = conditions
+        found = (
+            (conditions.live(piece.condition), piece) for piece in pieces(document.shown_tokens())
+        )
+        self._pieces = [(live, piece) for live, piece in found if live != NEVER]
+        self.main = self._pieces[-1][1].place.file if self._pieces else None
+
+    @property
+    def shown(self) -> Iterator[tuple[int, int]]:
+        """The conditions that the lines show, each by its configurations that are not refused."""
+        return ((live, piece.condition) for live, piece in self._pieces)
+
+    def html(
+        self, number_of: NumberOf, fault_line: FaultLine, texts: Mapping[int, str]
+    ) -> Iterator[str]:
+        """The lines of source, each fault before the first line of its file that is not above
+        it.
+        """
+        waiting = list(enumerate(self._document.faults))
+        file: str | None = None
+        known: set[str] = set()
+        for (name, line), group in groupby(self._pieces, key=lambda one: one[1].place[:2]):
+            if name != file:
+                above = [one for one in waiting if one[1].place.file == file]
+                waiting = [one for one in waiting if one[1].place.file != file]
+                yield from (fault_line(*one) for one in above)
+                yield f"<h2>{escaped(name)}</h2>\n"
+            file = name
+            if waiting:
+                above = [
+                    one
+                    for one in waiting
+                    if one[1].place.file == name and one[1].place.line <= line
+                ]
+                waiting = [one for one in waiting if one not in above]
+                yield from (fault_line(*one) for one in above)
+            key = f"L{line}" if name == self.main else ""
+            yield self._line(line, list(group), "" if key in known else key, number_of)
+            known.add(key)
+        yield from (fault_line(*one) for one in waiting)
+
+    def _line(
+        self, line: int, group: list[tuple[int, Piece]], key: str, number_of: NumberOf
+    ) -> str:
+        texts = " ".join(piece_html(piece.text, number_of(live)) for live, piece in group)
+        identity = f' id="{key}"' if key else ""
+        return f"<div{identity}><i>{line}</i>{indentation(group[0][1].place)}{texts}</div>\n"
+
+
+def piece_html(text: str, number: int) -> str:
+    """A piece of a line, coloured by the number of its condition."""
+    if number == ALWAYS:
+        return escaped(text)
+    return f'<b class="c{number}" data-c="{number}" tabindex="-1">{escaped(text)}</b>'
+
+
+@dataclass
+class SourceFile:
+    """A file as it stands, with what the text tells of its lines."""
+
+    name: str
+    text: str
+    # By line: the pieces of its tokens, each with its live condition.
+    tokens: dict[int, list[tuple[int, str]]] = field(default_factory=dict)
+    # By line: the live configurations that have it, as far as tokens tell.
+    conditions: dict[int, int] = field(default_factory=dict)
+
+    @cached_property
+    def lines(self) -> list[str]:
+        """The lines of the file."""
+        lines = self.text.split("\n")
+        return lines[:-1] if lines[-1:] == [""] else lines
+
+    @cached_property
+    def plain(self) -> list[str]:
+        """The lines without comments and blanks."""
+        return [re.sub(r"\s+", "", line) for line in without_comments(self.text).split("\n")]
+
+    def directives(self) -> Iterator[tuple[str, int, int, str]]:
+        """The word of each directive, its first and last line, and its rest."""
+        plain = without_comments(self.text)
+        line, at = 1, 0
+        for found in DIRECTIVE.finditer(plain):
+            line += plain.count("\n", at, found.start())
+            at = found.start()
+            yield found[1], line, line + found[0].count("\n"), found[2]
+
+    def branches(self) -> tuple[list[int], dict[int, int]]:
+        """For each line the head of its innermost branch, or 0; and for each head the line that
+        ends its branch.
+        """
+        heads = [0] * (len(self.lines) + 2)
+        ends: dict[int, int] = {}
+        stack = [0]
+        last = 1
+        for word, first, end, _ in self.directives():
+            if word not in HEADS and word != "endif":
+                continue
+            heads[last:first] = [stack[-1]] * (first - last)
+            if word in ("elif", "else", "endif") and len(stack) > 1:
+                ends[stack.pop()] = first
+            heads[first : end + 1] = [stack[-1]] * (end + 1 - first)
+            if word in HEADS:
+                stack.append(end)
+            last = end + 1
+        heads[last:] = [stack[-1]] * (len(heads) - last)
+        return heads, ends
+
+
+class SourceLines:
+    """The lines of the files below a folder, as they stand there."""
+
+    def __init__(self, document: Document, conditions: Conditions, root: str) -> None:
+        self._document = document
+        self._conditions = conditions
+        self._root = os.path.realpath(root)
+        self._joins: dict[tuple[int, int], int] = {}
+        self.files: dict[str, SourceFile] = {}
+        self.outside: dict[str, int] = {}
+        last: str | None = None
+        for piece in pieces(document.shown_tokens()):
+            live = conditions.live(piece.condition)
+            if live != NEVER:
+                last = self._add(piece, live) or last
+        for fault in document.faults:
+            self._file(plain_name(fault.place.file))
+        for file in self.files.values():
+            self._fill(file)
+        names = sorted(self.files, key=lambda name: name != last)
+        self.main = last
+        self._number = {name: number for number, name in enumerate(names)}
+        self._texts: Mapping[int, str] = {}
+        self.expansions: list[list[tuple[int, str]]] = []
+
+    def _add(self, piece: Piece, live: int) -> str | None:
+        name = plain_name(piece.place.file)
+        file = self._file(name)
+        if file is None:
+            self.outside[name] = self.outside.get(name, 0) + 1
+            return None
+        line = piece.place.line
+        file.tokens.setdefault(line, []).append((live, piece.text))
+        file.conditions[line] = self._join(file.conditions.get(line, NEVER), live)
+        return name
+
+    def _file(self, name: str) -> SourceFile | None:
+        """The file of this name, if it is below the folder."""
+        if name in self.files or name in self.outside:
+            return self.files.get(name)
+        path = os.path.realpath(os.path.join(self._root, name))
+        if path.startswith(self._root.rstrip("/") + "/") and os.path.isfile(path):
+            with open(path, encoding="utf-8", errors="replace") as text:
+                self.files[name] = SourceFile(name, text.read())
+        else:
+            self.outside[name] = 0
+        return self.files.get(name)
+
+    def _join(self, left: int, right: int) -> int:
+        if (left, right) not in self._joins:
+            self._joins[left, right] = self._conditions.diagrams.disjunction(left, right)
+        return self._joins[left, right]
+
+    def _fill(self, file: SourceFile) -> None:
+        """Lines without tokens have the condition of their branch, as far as its tokens tell."""
+        heads, _ = file.branches()
+        branches: dict[int, int] = {}
+        for line, condition in file.conditions.items():
+            head = heads[line] if line < len(heads) else 0
+            branches[head] = self._join(branches.get(head, NEVER), condition)
+        for line in range(1, len(file.lines) + 1):
+            condition = branches.get(heads[line], NEVER)
+            if line not in file.conditions and condition != NEVER:
+                file.conditions[line] = condition
+
+    @property
+    def shown(self) -> Iterator[tuple[int, int]]:
+        """The conditions that the lines show, each by its configurations that are not refused."""
+        for file in self.files.values():
+            yield from ((live, live) for live in file.conditions.values())
+            yield from ((live, live) for line in file.tokens.values() for live, _ in line)
+
+    def key_of(self, name: str, line: int) -> str | None:
+        """The name of a line on the page."""
+        number = self._number.get(plain_name(name))
+        return None if number is None else f"L{line}" if number == 0 else f"F{number}L{line}"
+
+    def html(
+        self, number_of: NumberOf, fault_line: FaultLine, texts: Mapping[int, str]
+    ) -> Iterator[str]:
+        """The files, the main one first. The texts are those of conditions, by their numbers."""
+        self._texts = texts
+        faults: dict[tuple[str, int], list[tuple[int, Fault]]] = {}
+        for numbered in enumerate(self._document.faults):
+            place = numbered[1].place
+            faults.setdefault((plain_name(place.file), place.line), []).append(numbered)
+        for name, number in self._number.items():
+            yield f'<section id="F{number}"><h2>{escaped(self.title(name))}</h2>\n'
+            yield from self._lines(self.files[name], number, number_of, fault_line, faults)
+            yield "</section>\n"
+        elsewhere = [name for name, _ in faults if name not in self.files]
+        for name in dict.fromkeys(elsewhere):
+            yield f"<section><h2>{escaped(name)}</h2>\n"
+            for (file, _), numbered_faults in sorted(faults.items()):
+                if file == name:
+                    yield from (fault_line(*one) for one in numbered_faults)
+            yield "</section>\n"
+
+    def title(self, name: str) -> str:
+        """A name of a file, from the folder on."""
+        path = os.path.realpath(os.path.join(self._root, name))
+        return os.path.relpath(path, self._root)
+
+    def links(self) -> Iterator[tuple[str, str]]:
+        """The files of the page, each with its name there."""
+        return ((self.title(name), f"F{number}") for name, number in self._number.items())
+
+    def _lines(
+        self,
+        file: SourceFile,
+        number: int,
+        number_of: NumberOf,
+        fault_line: FaultLine,
+        faults: dict[tuple[str, int], list[tuple[int, Fault]]],
+    ) -> Iterator[str]:
+        _, ends = file.branches()
+        included = {first: rest for word, first, _, rest in file.directives() if word == "include"}
+        prefix = "L" if number == 0 else f"F{number}L"
+        before = ALWAYS
+        for line, text in enumerate(file.lines, 1):
+            live = file.conditions.get(line, NEVER)
+            condition = ALWAYS if live == NEVER else number_of(live)
+            marks = f' class="c{condition}" data-c="{condition}"' if condition != ALWAYS else ""
+            fold = f'<s data-e="{prefix}{ends[line]}" tabindex="0"></s>' if line in ends else ""
+            gutter = "<u></u>" if condition == before else f"<u>{self._mark(condition)}</u>"
+            before = condition
+            shown = self._include(text, included[line]) if line in included else escaped(text)
+            yield f'<div id="{prefix}{line}"{marks}><i>{line}</i>{gutter}{fold}{shown}{self._more(file, line, number_of)}</div>\n'
+            yield from (fault_line(*one) for one in faults.get((file.name, line), ()))
+
+    def _mark(self, condition: int) -> str:
+        return "" if condition == ALWAYS else escaped(self._texts[condition])
+
+    def _include(self, text: str, rest: str) -> str:
+        """A line of an `#include`, with a link where its file is on the page."""
+        header = HEADER.match(rest)
+        ends = f"/{header[1]}" if header else ""
+        found = [
+            number for name, number in self._number.items() if header and f"/{name}".endswith(ends)
+        ]
+        return f'<a href="#F{found[0]}">{escaped(text)}</a>' if found else escaped(text)
+
+    def _more(self, file: SourceFile, line: int, number_of: NumberOf) -> str:
+        """A mark where the tokens of a line are not those that stand in it."""
+        tokens = file.tokens.get(line)
+        if (
+            not tokens
+            or re.sub(r"\s+", "", "".join(text for _, text in tokens)) == file.plain[line - 1]
+        ):
+            return ""
+        self.expansions.append([(number_of(live), text) for live, text in tokens])
+        return f'<em data-x="{len(self.expansions) - 1}" tabindex="0"></em>'
+
+
+def plain_name(name: str) -> str:
+    """The name of the file of which superc-project made a copy; any other name as it is."""
+    return COPY.sub("", name)
