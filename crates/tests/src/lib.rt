@@ -1,8 +1,6 @@
-//! The tests of the libraries of names, files, spaces and words, over public calls.
+//! The tests of the libraries of names, files and spaces, over public calls.
 #![tactic(auto)]
 
-#[cfg(test)]
-mod args;
 #[cfg(test)]
 mod base;
 #[cfg(test)]

@@ -1,9 +1,5 @@
-//! The tests of tokens, lines and macros, over public calls.
+//! The tests of lists of tokens that calls share, over public calls.
 #![tactic(auto)]
 
 #[cfg(test)]
-mod lex;
-#[cfg(test)]
-mod lines;
-#[cfg(test)]
-mod subst;
+mod closing;

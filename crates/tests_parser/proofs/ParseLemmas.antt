@@ -57,8 +57,3 @@ held-later names more t grows held = record {
 pub list-later : (names more : List (List ℕ)) (list : List (Cond × Token)) → Extends names more → All (λ (item : Cond × Token). IsHeld names item.1) list
     → All (λ (item : Cond × Token). IsHeld more item.1) list
 list-later names more list grows held = λ k d within. held-later names more (get_or list k d).1 grows (held k d within)
-
--- the first of a list is in it
-pub first-of : {A : Type 0} (P : A → Type 0) (xs : List A) (x : A) → slice_get xs 0 ≡ Some x → All P xs → P x
-first-of P [] x at all = absurd (cc)
-first-of P (y ∷ ys) x at all = let same : y ≡ x = cc in subst P same (All-head P y ys all)

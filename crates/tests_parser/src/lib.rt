@@ -2,8 +2,6 @@
 #![tactic(auto)]
 
 #[cfg(test)]
-mod optional;
-#[cfg(test)]
 mod parse;
 #[cfg(test)]
 mod schedules;

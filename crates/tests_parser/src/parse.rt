@@ -4,7 +4,7 @@ ghost use Rattle.sc_fork.specs.Owns.{AreC11Tables};
 ghost use Rattle.sc_model.specs.Sets.{Sets, IsCond, IsConfig, Keeps};
 ghost use Rattle.sc_tree.specs.Lines.{OwnsBranches};
 
-use sc_base::{Cond, FileId, Limits, Names, OutOfMemory, Place, Stop, Token, TreeId};
+use sc_base::{Cond, FileId, Limits, Names, OutOfMemory, Place, Token, TreeId};
 use sc_grammar::grammar;
 use sc_guarded::Guarded;
 use sc_items::states;
@@ -24,11 +24,9 @@ pub(crate) enum Under {
     All,
     WithoutA,
     WithA,
-    WithB,
-    WithC,
 }
 
-use Under::{All, WithA, WithB, WithC, WithoutA};
+use Under::{All, WithA, WithoutA};
 
 pub(crate) type Texts<'a> = &'a [(Under, &'a [u8])];
 
@@ -51,16 +49,6 @@ pub(crate) const END: Place = Place {
 
 /// `int` with A, `long` without it.
 const EITHER_TYPE: Texts<'static> = &[(WithA, b"int"), (WithoutA, b"long"), (All, b"x;")];
-
-/// Enumerators of which each but the last may be there or not. At the second there are six classes:
-/// two stacks, each with three tokens that may come next.
-const ENUMERATORS: Texts<'static> = &[
-    (All, b"enum e {"),
-    (WithA, b"E1,"),
-    (WithB, b"E2,"),
-    (WithC, b"E3,"),
-    (All, b"Z };"),
-];
 
 const DECLARATION: &[Node] = &[Node(1, 0, 19), Node(19, 1, 288)];
 
@@ -148,8 +136,6 @@ fn condition_of<C: Conditions>(conds: &mut C, under: Under) -> Result<Cond, OutO
         All => Ok(conds.always()),
         WithoutA => conds.choose(0, 0),
         WithA => conds.choose(0, 1),
-        WithB => conds.choose(1, 1),
-        WithC => conds.choose(2, 1),
     }
 }
 
@@ -173,34 +159,31 @@ pub(crate) fn list_of<C: Conditions>(
     Ok(list)
 }
 
-/// What the texts are, where at most so many branches may be, with the trees.
+/// What the texts are, with the trees.
 fn parsed<C: Conditions>(
     alloc: Global,
     conds: &mut C,
     tables: &Tables,
     texts: Texts<'_>,
-    branches: usize,
-) -> Result<Result<(Trees, Parsed), Stop>, Fail>
+) -> Result<(Trees, Parsed), Fail>
     requires arities { (C.sets conds.old).arities ≡ 2 ∷ (2 ∷ (2 ∷ [])) }
     requires tables { AreC11Tables tables.now }
     ensures arities { IfOk result (λ found. (C.sets conds.new).arities ≡ 2 ∷ (2 ∷ (2 ∷ []))) }
-    ensures owns { IfOk result (λ found. IfOk found (λ found. OwnsBranches (C.sets conds.new) found.0)) }
-    ensures root { IfOk result (λ found. IfOk found (λ found. IfSome found.1.root (λ root. root.0 < length found.0))) }
+    ensures owns { IfOk result (λ found. OwnsBranches (C.sets conds.new) found.0) }
+    ensures root { IfOk result (λ found. IfSome found.1.root (λ root. root.0 < length found.0)) }
 {
     let mut names = Names::new(alloc)?;
     let list = list_of(alloc, conds, &mut names, texts)?;
     let live = conds.always();
     let limits = Limits {
-        branches,
+        branches: 100,
         include_depth: 15,
     };
     let mut trees = Trees::new(alloc);
-    match parse(
+    let parsed = parse(
         alloc, conds, &mut trees, &names, &list, live, END, tables, limits,
-    ) {
-        Ok(parsed) => Ok(Ok((trees, parsed))),
-        Err(stop) => Ok(Err(stop)),
-    }
+    )?;
+    Ok((trees, parsed))
 }
 
 /// The branch of a choice at a configuration.
@@ -333,108 +316,13 @@ fn checks_case<C: Conditions>(
     requires arities { (C.sets conds.old).arities ≡ 2 ∷ (2 ∷ (2 ∷ [])) }
     requires tables { AreC11Tables tables.now }
 {
-    let (trees, parsed) = parsed(alloc, conds, tables, case.texts, 100)??;
+    let (trees, parsed) = parsed(alloc, conds, tables, case.texts)?;
     assert_eq!(rt; parsed.faults.len(), 0);
     let Some(root) = parsed.root else {
         return Err(Fail::new("no tree"));
     };
     checks_nodes(rt, alloc, conds, &trees, root, &[0, 0, 0], case.nodes[0])?;
     checks_nodes(rt, alloc, conds, &trees, root, &[1, 0, 0], case.nodes[1])
-}
-
-/// No tokens are one tree, of no children.
-fn checks_none<C: Conditions>(
-    rt: &impl Abort,
-    alloc: Global,
-    conds: &mut C,
-    tables: &Tables,
-) -> Result<(), Fail>
-    requires arities { (C.sets conds.old).arities ≡ 2 ∷ (2 ∷ (2 ∷ [])) }
-    requires tables { AreC11Tables tables.now }
-{
-    let (trees, parsed) = parsed(alloc, conds, tables, &[], 100)??;
-    let Some(root) = parsed.root else {
-        return Err(Fail::new("no tree"));
-    };
-    assert_eq!(rt; trees.read(root), TreeView::Node(2, &[]));
-    Ok(())
-}
-
-/// Whether the tree is a declaration whose type is a choice.
-fn is_choice_of_types(trees: &Trees, id: TreeId) -> bool
-    requires { id.0 < length trees.now }
-{
-    trees.children_first();
-    let TreeView::Node(19, children) = trees.read(id) else {
-        return false;
-    };
-    match children.first() {
-        Some(child) => matches!(trees.read(*child), TreeView::Choice(_)),
-        None => false,
-    }
-}
-
-/// There is one declaration, whose type is a choice.
-fn checks_choice<C: Conditions>(
-    rt: &impl Abort,
-    alloc: Global,
-    conds: &mut C,
-    tables: &Tables,
-) -> Result<(), Fail>
-    requires arities { (C.sets conds.old).arities ≡ 2 ∷ (2 ∷ (2 ∷ [])) }
-    requires tables { AreC11Tables tables.now }
-{
-    let (trees, parsed) = parsed(alloc, conds, tables, EITHER_TYPE, 2)??;
-    let Some(root) = parsed.root else {
-        return Err(Fail::new("no tree"));
-    };
-    let Some(count) = root.0.checked_add(1) else {
-        return Err(Fail::new("too many trees"));
-    };
-    let mut declarations = Vec::new(alloc);
-    for id in 0..count {
-        if matches!(trees.read(TreeId(id)), TreeView::Node(19, _)) {
-            declarations.push(is_choice_of_types(&trees, TreeId(id)))?;
-        }
-    }
-    assert_eq!(rt; declarations.as_slice(), [true].as_slice());
-    Ok(())
-}
-
-/// There are more classes at one place than so many.
-fn checks_full<C: Conditions>(
-    rt: &impl Abort,
-    alloc: Global,
-    conds: &mut C,
-    tables: &Tables,
-    texts: Texts<'_>,
-    branches: usize,
-) -> Result<(), Fail>
-    requires arities { (C.sets conds.old).arities ≡ 2 ∷ (2 ∷ (2 ∷ [])) }
-    requires tables { AreC11Tables tables.now }
-{
-    match parsed(alloc, conds, tables, texts, branches)? {
-        Err(Stop::BranchesFull { count }) => {
-            assert_eq!(rt; count.checked_sub(1), Some(branches));
-            Ok(())
-        }
-        _ => Err(Fail::new("so many branches are enough")),
-    }
-}
-
-/// There are six classes of the enumerators at one place, and nowhere more.
-fn checks_enough<C: Conditions>(
-    rt: &impl Abort,
-    alloc: Global,
-    conds: &mut C,
-    tables: &Tables,
-) -> Result<(), Fail>
-    requires arities { (C.sets conds.old).arities ≡ 2 ∷ (2 ∷ (2 ∷ [])) }
-    requires tables { AreC11Tables tables.now }
-{
-    let (_trees, parsed) = parsed(alloc, conds, tables, ENUMERATORS, 6)??;
-    assert!(rt; parsed.faults.is_empty() && parsed.root.is_some());
-    Ok(())
 }
 
 #[test]
@@ -445,34 +333,4 @@ fn trees_at_each_configuration(rt: HostRuntime) -> Result<(), Fail> {
         checks_case(&rt, rt.alloc(), &mut conds, &tables, case)?;
     }
     Ok(())
-}
-
-#[test]
-fn no_tokens(rt: HostRuntime) -> Result<(), Fail> {
-    let tables = c11_tables(rt.alloc())?;
-    let mut conds = PlainSets::new(rt.alloc(), &[2, 2, 2])?;
-    checks_none(&rt, rt.alloc(), &mut conds, &tables)
-}
-
-#[test]
-fn merged_declaration(rt: HostRuntime) -> Result<(), Fail> {
-    let tables = c11_tables(rt.alloc())?;
-    let mut conds = PlainSets::new(rt.alloc(), &[2, 2, 2])?;
-    checks_choice(&rt, rt.alloc(), &mut conds, &tables)
-}
-
-#[test]
-fn enough_branches(rt: HostRuntime) -> Result<(), Fail> {
-    let tables = c11_tables(rt.alloc())?;
-    let mut conds = PlainSets::new(rt.alloc(), &[2, 2, 2])?;
-    checks_enough(&rt, rt.alloc(), &mut conds, &tables)
-}
-
-#[test]
-fn too_many_branches(rt: HostRuntime) -> Result<(), Fail> {
-    let tables = c11_tables(rt.alloc())?;
-    let mut conds = PlainSets::new(rt.alloc(), &[2, 2, 2])?;
-    checks_full(&rt, rt.alloc(), &mut conds, &tables, EITHER_TYPE, 1)?;
-    let mut others = PlainSets::new(rt.alloc(), &[2, 2, 2])?;
-    checks_full(&rt, rt.alloc(), &mut others, &tables, ENUMERATORS, 5)
 }
