@@ -283,7 +283,7 @@ module _ (files names : List (List ℕ)) {old s : Sets} (keeps : Keeps old s) (w
 
 -- a context, where what is to be shown names none
 abbrev pub empty_context : Context
-empty_context = record { files = λ _. None; include = []; include_depth = 0; date = []; time = []; standard = c11 }
+empty_context = record { files = λ _. None; include = []; include_depth = 0; standard = c11 }
 
 pub section-opened : {names more : List (List ℕ)} {old mid new : Sets} {w v next : Walk} (files : List (List ℕ)) (x : Context) (l : Line) → conditional_of l ≡ Some If → Keeps old mid → (taken : Cond)
     → SimulatesOneOf files names old w more mid v (λ c m n. DecidesAt x l (old.has w.acting.0 c && is_none m.fault) m (mid.has taken.0 c) n)
