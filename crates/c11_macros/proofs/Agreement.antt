@@ -1,8 +1,7 @@
 -- Tables that define the names alike that an expansion looked up give it the same answer, by the
 -- same trace.
-use Rattle.std.proofs.Common.{◌≡◌, ℕ, Bool, true, false, List, [], ◌∷◌, ◌++◌, Option, Result, refl, sym, ap, ◌∙◌, if◌then◌else◌}
-use Rattle.c11_macros.specs.Call.{behind_call}
-use Rattle.c11_macros.specs.Expansion.{is_looked_up, looked_up_case, defined_case, case_of, Expands, empty, stay, object, unterminated, miscounted, call, Each, none, passed, expanded, Rescans, on, refused}
+use Rattle.std.proofs.Common.{◌≡◌, ℕ, Bool, true, false, List, [], ◌∷◌, ◌++◌, Result, refl, sym, ap, ◌∙◌, if◌then◌else◌}
+use Rattle.c11_macros.specs.Expansion.{is_looked_up, looked_up_case, defined_case, case_of, Expands, empty, stay, object, unterminated, miscounted, call, Each, none, next, stops, Rescans, on, refused}
 use Rattle.c11_macros.specs.Hidden.{Hidden, Provenance, Failure}
 use Rattle.c11_macros.specs.Macros.{Macros}
 use Rattle.c11_macros.specs.Trace.{Trace, after_step, both, failing, looked_up_at, taking, taking_call, trace, trace_each, trace_rescan, Agree, ExpandsBy}
@@ -22,8 +21,8 @@ case-by one two false name rest agree = refl
 pub case-agrees : {P : Type 0} (one two : Macros) (t : Hidden P) (rest : List (Hidden P)) → Agree one two (looked_up_at t) → case_of one t rest ≡ case_of two t rest
 case-agrees one two t rest agree = case-by one two (is_looked_up t) t.spelling rest agree
 
-pub record EachBy {P : Type 0} (provenance : Provenance P) (macros : Macros) (asks : List (Option (List (Hidden P)))) (rs : List (Result (List (Hidden P)) (Failure P))) (x : Trace) : Type 0 where
-  pub each : Each provenance macros asks rs
+pub record EachBy {P : Type 0} (provenance : Provenance P) (macros : Macros) (asks : List (ℕ × List (Hidden P))) (lists : List (List (Hidden P))) (r : Result (List (List (Hidden P))) (Failure P)) (x : Trace) : Type 0 where
+  pub each : Each provenance macros asks lists r
   pub by : trace_each each ≡ x
 
 pub record RescansBy {P : Type 0} (provenance : Provenance P) (macros : Macros) (made : Result (List (Hidden P)) (Failure P)) (rest : List (Hidden P)) (r : Result (List (Hidden P)) (Failure P)) (x : Trace) : Type 0 where
@@ -51,7 +50,7 @@ module _ {P : Type 0} {provenance : Provenance P} (one two : Macros) where
         let more = agrees-rescan g (tail-of one two (taking t rest) (trace_rescan g) agree) in
         record { expands = object d (sym (case-agrees one two t rest (head-of one two (taking t rest) (trace_rescan g) agree)) ∙ is) more.goes; by = ap (both (taking t rest)) more.by }
     agrees (unterminated {t} {rest} is) agree = record { expands = unterminated (sym (case-agrees one two t rest (head-of one two (taking t rest) failing agree)) ∙ is); by = refl }
-    agrees (miscounted {t} {rest} is) agree = record { expands = miscounted (sym (case-agrees one two t rest (head-of one two (taking t rest) (both (taking_call (behind_call rest)) failing) agree)) ∙ is); by = refl }
+    agrees (miscounted {t} {rest} after is) agree = record { expands = miscounted after (sym (case-agrees one two t rest (head-of one two (taking t rest) (both (taking_call after) failing) agree)) ∙ is); by = refl }
     agrees (call {t} {rest} d arguments close after results is each g) agree =
         let front = both (taking t rest) (taking_call after) in
         let back = both (trace_each each) (trace_rescan g) in
@@ -63,13 +62,14 @@ module _ {P : Type 0} {provenance : Provenance P} (one two : Macros) where
           by = ap (both front) (both-same args.by more.by);
         }
 
-    pub agrees-each : {asks : List (Option (List (Hidden P)))} {rs : List (Result (List (Hidden P)) (Failure P))} (e : Each provenance one asks rs) → Agree one two (trace_each e).looked_up → EachBy provenance two asks rs (trace_each e)
+    pub agrees-each : {asks : List (ℕ × List (Hidden P))} {lists : List (List (Hidden P))} {r : Result (List (List (Hidden P))) (Failure P)} (e : Each provenance one asks lists r) → Agree one two (trace_each e).looked_up
+        → EachBy provenance two asks lists r (trace_each e)
     agrees-each none agree = record { each = none; by = refl }
-    agrees-each (passed e) agree = let more = agrees-each e agree in record { each = passed more.each; by = more.by }
-    agrees-each (expanded d e) agree =
+    agrees-each (next list d e) agree =
         let first = agrees d (head-of one two (after_step (trace d)) (trace_each e) agree) in
         let more = agrees-each e (tail-of one two (after_step (trace d)) (trace_each e) agree) in
-        record { each = expanded first.expands more.each; by = both-same (ap after_step first.by) more.by }
+        record { each = next list first.expands more.each; by = both-same (ap after_step first.by) more.by }
+    agrees-each (stops failure d) agree = let first = agrees d agree in record { each = stops failure first.expands; by = ap after_step first.by }
 
     agrees-rescan : {made : Result (List (Hidden P)) (Failure P)} {rest : List (Hidden P)} {r : Result (List (Hidden P)) (Failure P)} (g : Rescans provenance one made rest r) → Agree one two (trace_rescan g).looked_up → RescansBy provenance two made rest r (trace_rescan g)
     agrees-rescan (on d) agree = let more = agrees d agree in record { goes = on more.expands; by = more.by }

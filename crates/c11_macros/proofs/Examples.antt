@@ -3,11 +3,11 @@ use Rattle.std.proofs.Common.{◌≡◌, ℕ, Bool, true, false, List, [], ◌�
 use Rattle.c11_macros.specs.Call.{call_of, arguments_for}
 use Rattle.c11_macros.specs.Defines.{Defined, reads}
 use Rattle.c11_macros.specs.Expansion as expansion
-use Rattle.c11_macros.specs.Expansion.{Expands, empty, stay, none, passed, expanded, on}
+use Rattle.c11_macros.specs.Expansion.{Expands, asked, empty, stay, none, next, on}
 use Rattle.c11_macros.specs.Footprint.{Footprint, footprint}
 use Rattle.c11_macros.specs.Hidden.{Hidden, Provenance, Failure, failure_at, no_names}
 use Rattle.c11_macros.specs.Macros.{Item, Form, object_like, function_like, items, Macros}
-use Rattle.c11_macros.specs.Substitution.{parts, neither, substituted, wants}
+use Rattle.c11_macros.specs.Substitution.{substituted, wanted_of}
 use Rattle.c11_tokens.specs.Relex.{relexed}
 use Rattle.sc_model.specs.Bytes.{same_bytes}
 use Rattle.sc_model.specs.declared.cause.Cause.{Cause}
@@ -49,7 +49,7 @@ abbrev xyz : List (List ℕ)
 xyz = codes "x" ∷ codes "y" ∷ codes "z" ∷ []
 
 -- #x, of B that would expand to 1
-literal-of-the_argument : shown (substituted provenance (function_like x false) (item false (codes "#") ∷ item false (codes "x") ∷ []) head ((at 5 true (codes "B") ∷ []) ∷ []) (Ok (at 5 true (codes "1") ∷ []) ∷ []) no_names)
+literal-of-the_argument : shown (substituted provenance (function_like x false) (item false (codes "#") ∷ item false (codes "x") ∷ []) head ((at 5 true (codes "B") ∷ []) ∷ []) ((at 5 true (codes "1") ∷ []) ∷ []) no_names)
     ≡ Some ((codes "\"B\"", true) ∷ [])
 literal-of-the_argument = refl
 
@@ -85,11 +85,20 @@ paste-operand : shown (substituted provenance object_like (item false (codes "#"
 paste-operand = refl
 
 -- x##x of an empty argument, and an argument that expands in one place alone
-wants-beside : wants 0 false (parts (function_like x false) neither (item false (codes "x") ∷ item false (codes "##") ∷ item false (codes "x") ∷ [])) ≡ false
+wants-beside : wanted_of (function_like x false) (item false (codes "x") ∷ item false (codes "##") ∷ item false (codes "x") ∷ []) ≡ []
 wants-beside = refl
 
-wants-elsewhere : wants 0 false (parts (function_like x false) neither (item false (codes "#") ∷ item false (codes "x") ∷ item false (codes "x") ∷ [])) ≡ true
+wants-elsewhere : wanted_of (function_like x false) (item false (codes "#") ∷ item false (codes "x") ∷ item false (codes "x") ∷ []) ≡ 0 ∷ []
 wants-elsewhere = refl
+
+-- of z x y x each once, in the order of the list
+wants-in_order : wanted_of (function_like xyz false) (item false (codes "z") ∷ item false (codes "x") ∷ item false (codes "y") ∷ item false (codes "x") ∷ []) ≡ 2 ∷ 0 ∷ 1 ∷ []
+wants-in_order = refl
+
+-- #x y, where #x fails: y is not expanded
+asks-nothing : asked provenance (record { form = function_like xyz false; replacement = items (item false (codes "#") ∷ item false (codes "x") ∷ item true (codes "y") ∷ []) }) head
+    ((at 5 false (codes "\\") ∷ []) ∷ (at 6 false (codes "V") ∷ []) ∷ [] ∷ []) ≡ []
+asks-nothing = refl
 
 abbrev arguments_in : ℕ → List (Hidden ℕ) → Option (List (List (List ℕ)))
 arguments_in commas ts = elim (call_of commas 0 ts) [
@@ -176,7 +185,7 @@ abbrev line : List (Hidden ℕ)
 line = at 1 true (codes "f") ∷ at 2 false (codes "(") ∷ at 3 false (codes "1") ∷ at 4 false (codes ")") ∷ at 5 false (codes "(") ∷ at 6 false (codes "2") ∷ at 7 false (codes ")") ∷ at 8 false (codes ";") ∷ []
 
 abbrev line_expands : (r : Result (List (Hidden ℕ)) (Failure ℕ)) × Expands provenance table line r
-line_expands = (_, expansion.call _ _ _ _ _ refl (passed none) (on (expansion.call _ _ _ _ _ refl (expanded (stay refl empty) none) (on (stay refl (stay refl empty))))))
+line_expands = (_, expansion.call _ _ _ _ _ refl none (on (expansion.call _ _ _ _ _ refl (next _ (stay refl empty) none) (on (stay refl (stay refl empty))))))
 
 -- what g takes was behind f, and 1 and 2 are no names
 footprint-goes_on : footprint line_expands.1 ≡ record { left = 1; looked_up = codes "f" ∷ codes "g" ∷ []; fails = false }
@@ -187,7 +196,7 @@ abbrev misfit_line : List (Hidden ℕ)
 misfit_line = at 1 true (codes "g") ∷ at 2 false (codes "(") ∷ at 3 false (codes "1") ∷ at 4 false (codes ",") ∷ at 5 false (codes "2") ∷ at 6 false (codes ")") ∷ at 7 false (codes ";") ∷ []
 
 abbrev of_misfit : Footprint
-of_misfit = let d : Expands provenance table misfit_line (Err (failure_at WrongArguments (at 1 true (codes "g")))) = expansion.miscounted refl in footprint d
+of_misfit = let d : Expands provenance table misfit_line (Err (failure_at WrongArguments (at 1 true (codes "g")))) = expansion.miscounted _ refl in footprint d
 
 footprint-misfit : of_misfit ≡ record { left = 1; looked_up = codes "g" ∷ []; fails = true }
 footprint-misfit = refl

@@ -2,14 +2,14 @@
 --
 -- A replacement hides one name more than what it came from, up to the tokens behind it. So the cuts
 -- of a list grow or the lowest that changes sinks, and there are no more of them than names.
-use Rattle.std.proofs.Common.{◌≡◌, ℕ, zero, suc, ◌<◌, ◌≤◌, ◌&&◌, ◌||◌, nat_le, Bool, true, false, List, [], ◌∷◌, ◌++◌, length, Option, Some, None, Result, Ok, Err, refl, sym, ap, ◌∙◌, subst, arith, if◌then◌else◌}
+use Rattle.std.proofs.Common.{◌≡◌, ℕ, zero, suc, ◌<◌, ◌≤◌, ◌&&◌, ◌||◌, nat_le, Bool, true, false, List, [], ◌∷◌, ◌++◌, length, Some, Result, Ok, Err, refl, sym, ap, ◌∙◌, arith, if◌then◌else◌, map, is_ok, slice_set}
 use Rattle.std.proofs.lemmas.Bool.{leb-true, leb-false, true≢false}
 use Rattle.std.specs.List.{list_any}
-use Rattle.c11_macros.specs.Expansion.{Case, stays, replaced, unclosed, misfit, called, case_of, list_of, asked, object_result, call_result, with_first, Expands, empty, stay, object, unterminated, miscounted, call, Each, none, passed, expanded, Rescans, on, refused, IsWithin}
+use Rattle.c11_macros.specs.Expansion.{Case, stays, replaced, unclosed, misfit, called, case_of, list_of, asked, object_result, call_result, with_first, Expands, empty, stay, object, unterminated, miscounted, call, Each, none, next, stops, Rescans, on, refused, IsWithin}
 use Rattle.c11_macros.specs.Hidden.{Hidden, HideSet, Provenance, Failure, failure_at, with_name, meet}
-use Rattle.c11_macros.specs.Macros.{Macros, Definition, Form, Item}
-use Rattle.c11_macros.specs.Substitution.{wants, parts, neither}
-use Rattle.c11_macros.proofs.Rows.{Cuts, uncut, cut, Fit, Row, AtMost, Sorted, is_cut, HasAll, kept, at_most-more, fit-less, has-kept, has-more, has-meet, not-cut, AllCover, Covered, object-covers, call-covers, row-replaced, AllRows, CaseRow, sound}
+use Rattle.c11_macros.specs.Macros.{Macros, Definition}
+use Rattle.c11_macros.specs.Substitution.{argument, neither, parts, slots, wanted_of}
+use Rattle.c11_macros.proofs.Rows.{Cuts, uncut, cut, Fit, Row, AtMost, Sorted, is_cut, HasAll, kept, at_most-more, has-kept, has-more, has-meet, not-cut, Covered, object-covers, call-covers, row-replaced, AllRows, CaseRow, sound}
 use Rattle.sc_model.proofs.ByteLemmas.{same_bytes-refl, same_bytes-true}
 use Rattle.sc_model.specs.Bytes.{same_bytes}
 use Rattle.sc_model.specs.declared.cause.Cause.TheVariants.{UnterminatedCall, WrongArguments}
@@ -75,6 +75,9 @@ module _ {P : Type 0} (provenance : Provenance P) (macros : Macros) (names : Lis
   abbrev Answer : Type 0
   Answer = Result (List (Hidden P)) (Failure P)
 
+  abbrev Lists : Type 0
+  Lists = Result (List (List (Hidden P))) (Failure P)
+
   -- the list has an expansion
   abbrev pub Halts : List (Hidden P) → Type 0
   Halts ts = (r : Answer) × Expands provenance macros ts r
@@ -105,16 +108,28 @@ module _ {P : Type 0} (provenance : Provenance P) (macros : Macros) (names : Lis
       by true low later = λ name new. let h = leb-true e m low in above name new (h, at_most-more e m lower h sorted.0)
       by false high later = later (leb-false e m high)
 
+  -- an argument halts, as each list does that is no longer
+  argument-halts : (k : ℕ) (c : Cuts) (arguments : List (List (Hidden P))) (n : ℕ) → AllRows c k arguments → ((ts : List (Hidden P)) → length ts ≤ k → Row c ts → Halts ts) → Halts (argument arguments n)
+  argument-halts k c [] n rows halts = halts [] (omega arith) tt
+  argument-halts k c (first ∷ others) zero rows halts = halts first rows.1 rows.0
+  argument-halts k c (first ∷ others) (suc n) rows halts = argument-halts k c others n rows.2 halts
+
   -- what is asked of the arguments halts
-  each-halts : (form : Form) (items : List Item) (n k : ℕ) (c : Cuts) (arguments : List (List (Hidden P))) → AllRows c k arguments → ((ts : List (Hidden P)) → length ts ≤ k → Row c ts → Halts ts)
-      → (rs : List Answer) × Each provenance macros (asked form items n arguments) rs
-  each-halts form items n k c [] rows halts = ([], none)
-  each-halts form items n k c (argument ∷ arguments) rows halts = by (wants n false (parts form neither items)) (halts argument rows.1 rows.0) (each-halts form items (suc n) k c arguments rows.2 halts)
+  each-halts : (arguments : List (List (Hidden P))) (ns : List ℕ) (lists : List (List (Hidden P))) → ((n : ℕ) → Halts (argument arguments n)) → (r : Lists) × Each provenance macros (map (λ n. (n, argument arguments n)) ns) lists r
+  each-halts arguments [] lists halts = (Ok lists, none)
+  each-halts arguments (n ∷ ns) lists halts = by (halts n).0 (halts n).1 (λ list. each-halts arguments ns (slice_set lists n list) halts)
     where
-      by : (b : Bool) → Halts argument → (rs : List Answer) × Each provenance macros (asked form items (suc n) arguments) rs
-          → (rs : List Answer) × Each provenance macros ((if b then Some argument else None) ∷ asked form items (suc n) arguments) rs
-      by true first others = (first.0 ∷ others.0, expanded first.1 others.1)
-      by false first others = (Ok [] ∷ others.0, passed others.1)
+      by : (r : Answer) → Expands provenance macros (argument arguments n) r → ((list : List (Hidden P)) → (s : Lists) × Each provenance macros (map (λ n. (n, argument arguments n)) ns) (slice_set lists n list) s)
+          → (s : Lists) × Each provenance macros (map (λ n. (n, argument arguments n)) (n ∷ ns)) lists s
+      by (Ok list) d others = ((others list).0, next list d (others list).1)
+      by (Err failure) d others = (Err failure, stops failure d)
+
+  asked-halts : (d : Definition) (t : Hidden P) (arguments lists : List (List (Hidden P))) → ((n : ℕ) → Halts (argument arguments n)) → (r : Lists) × Each provenance macros (asked provenance d t arguments) lists r
+  asked-halts d t arguments lists halts = by (is_ok (slots t arguments (parts d.form neither (list_of provenance d t))))
+    where
+      by : (b : Bool) → (r : Lists) × Each provenance macros (if b then map (λ n. (n, argument arguments n)) (wanted_of d.form (list_of provenance d t)) else []) lists r
+      by true = each-halts arguments (wanted_of d.form (list_of provenance d t)) lists halts
+      by false = (Ok lists, none)
 
   -- a replacement by a name that is new among the cuts that are kept, all of whose names the set
   -- has
@@ -139,10 +154,10 @@ module _ {P : Type 0} (provenance : Provenance P) (macros : Macros) (names : Lis
         (has-more t.hide (with_name t.hide t.spelling) (kept (length rest) c) (with-more t.hide t.spelling) (has-kept t.hide (length rest) (length rest) c (omega arith) sorted fit)) (object-covers provenance d t) row in
         (g.0, object d is g.1)
     head-halts t rest unclosed is at fit row shorter = (Err (failure_at UnterminatedCall t), unterminated is)
-    head-halts t rest misfit is at fit row shorter = (Err (failure_at WrongArguments t), miscounted is)
+    head-halts t rest (misfit after) is at fit row shorter = (Err (failure_at WrongArguments t), miscounted after is)
     head-halts t rest (called d arguments close after) is at fit row shorter =
         let set = meet t.hide close.hide in
-        let each = each-halts d.form (list_of provenance d t) 0 (length rest) c arguments at.2 shorter in
+        let each = asked-halts d t arguments (map (λ a. []) arguments) (λ n. argument-halts (length rest) c arguments n at.2 shorter) in
         let has =
         has-meet t.hide close.hide (kept (length after) c) (has-kept t.hide (length rest) (length after) c at.5 sorted fit) (has-kept close.hide (length after) (length after) c (omega arith) sorted at.3) in
         let g =

@@ -1,6 +1,6 @@
 -- The case at a token, as more follows the list.
 use Rattle.std.proofs.Common.{◌≡◌, ℕ, zero, suc, ◌&&◌, Bool, true, false, List, [], ◌∷◌, ◌++◌, length, codes, Option, Some, None, refl, subst, if◌then◌else◌}
-use Rattle.c11_macros.specs.Call.{Call, Role, apart, arguments_for, behind_call, call_of, call_step, closing, comma, onto, onto_argument, opening, other, rest_or, role_of}
+use Rattle.c11_macros.specs.Call.{Call, Role, apart, arguments_for, call_of, call_step, closing, comma, onto, onto_argument, opening, other, role_of}
 use Rattle.c11_macros.specs.Defines.{is_function_like}
 use Rattle.c11_macros.specs.Expansion.{Case, call_case, called, case_of, defined_case, fitted_case, form_case, is_looked_up, looked_up_case, misfit, replaced, stays, unclosed}
 use Rattle.c11_macros.specs.Hidden.{Hidden}
@@ -18,7 +18,7 @@ pub data CallMore {P : Type 0} (more : List (Hidden P)) : Option (Call P) → Op
 pub data CaseMore {P : Type 0} (more : List (Hidden P)) : List (Hidden P) → Case P → Case P → Type 0 where
   same_stays : (rest : List (Hidden P)) → CaseMore more rest stays stays
   same_replaced : (rest : List (Hidden P)) (d : Definition) → CaseMore more rest (replaced d) (replaced d)
-  same_misfit : (rest : List (Hidden P)) → CaseMore more rest misfit misfit
+  same_misfit : (rest after : List (Hidden P)) → CaseMore more rest (misfit after) (misfit (after ++ more))
   same_called : (rest : List (Hidden P)) (d : Definition) (arguments : List (List (Hidden P))) (close : Hidden P) (after : List (Hidden P)) → CaseMore more rest (called d arguments close after) (called d arguments close (after ++ more))
   not_closed : (rest : List (Hidden P)) (k : Case P) → CaseMore more rest unclosed k
   at_end : (k : Case P) → CaseMore more [] stays k
@@ -49,7 +49,7 @@ module _ {P : Type 0} (more : List (Hidden P)) where
 
   module _ (d : Definition) where
     fitted-more : (rest after : List (Hidden P)) (close : Hidden P) (o : Option (List (List (Hidden P)))) → CaseMore more rest (fitted_case d close after o) (fitted_case d close (after ++ more) o)
-    fitted-more rest after close None = same_misfit rest
+    fitted-more rest after close None = same_misfit rest after
     fitted-more rest after close (Some arguments) = same_called rest d arguments close after
 
     call_case-more : (rest : List (Hidden P)) (ps : List (List ℕ)) (variadic : Bool) (o p : Option (Call P)) → CallMore more o p → CaseMore more rest (call_case d ps variadic o) (call_case d ps variadic p)
@@ -86,11 +86,11 @@ module _ {P : Type 0} (more : List (Hidden P)) where
         by : (rest : List (Hidden P)) (k : Case P) → CaseMore more rest (replaced d) k → k ≡ replaced d
         by _ _ (same_replaced r e) = refl
 
-    pub misfit-more : case_of macros t rest ≡ misfit → case_of macros t (rest ++ more) ≡ misfit
-    misfit-more is = by rest (case_of macros t (rest ++ more)) (known-more misfit is)
+    pub misfit-more : (after : List (Hidden P)) → case_of macros t rest ≡ misfit after → case_of macros t (rest ++ more) ≡ misfit (after ++ more)
+    misfit-more after is = by rest (case_of macros t (rest ++ more)) (known-more (misfit after) is)
       where
-        by : (rest : List (Hidden P)) (k : Case P) → CaseMore more rest misfit k → k ≡ misfit
-        by _ _ (same_misfit r) = refl
+        by : (rest : List (Hidden P)) (k : Case P) → CaseMore more rest (misfit after) k → k ≡ misfit (after ++ more)
+        by _ _ (same_misfit r a) = refl
 
     pub called-more : (d : Definition) (arguments : List (List (Hidden P))) (close : Hidden P) (after : List (Hidden P)) → case_of macros t rest ≡ called d arguments close after
         → case_of macros t (rest ++ more) ≡ called d arguments close (after ++ more)
@@ -131,92 +131,6 @@ pub lasting : {P : Type 0} (macros : Macros) (t : Hidden P) (rest more : List (H
     → (case_of macros t (rest ++ more) ≡ stays) × (is_last_name macros t (rest ++ more) ≡ false)
 lasting macros t [] more is free = (looked-last macros (is_looked_up t) t.spelling more is free, free-last macros t more free)
 lasting macros t (u ∷ us) more is free = (stays-more more macros t u us is, refl)
-
--- ---- what follows a call
-
-rest-onto : {P : Type 0} (xs : List (Hidden P)) (t : Hidden P) (o : Option (Call P)) → rest_or xs (onto t o) ≡ rest_or xs o
-rest-onto xs t None = refl
-rest-onto xs t (Some call) = refl
-
-rest-apart : {P : Type 0} (xs : List (Hidden P)) (o : Option (Call P)) → rest_or xs (apart o) ≡ rest_or xs o
-rest-apart xs None = refl
-rest-apart xs (Some call) = refl
-
--- where a call ends, and whether, doesn't hang on how its arguments are parted
-pub data SameEnd {P : Type 0} : Option (Call P) → Option (Call P) → Type 0 where
-  no_end : SameEnd None None
-  one_end : (a b : Call P) → a.rest ≡ b.rest → SameEnd (Some a) (Some b)
-
-module _ {P : Type 0} where
-  end-onto : (t : Hidden P) (o p : Option (Call P)) → SameEnd o p → SameEnd (onto t o) (onto t p)
-  end-onto t _ _ no_end = no_end
-  end-onto t _ _ (one_end a b same) = one_end (record a { arguments = onto_argument t a.arguments }) (record b { arguments = onto_argument t b.arguments }) same
-
-  end-apart : (o p : Option (Call P)) → SameEnd o p → SameEnd (apart o) (apart p)
-  end-apart _ _ no_end = no_end
-  end-apart _ _ (one_end a b same) = one_end (record a { arguments = [] ∷ a.arguments }) (record b { arguments = [] ∷ b.arguments }) same
-
-  end-mixed : (t : Hidden P) (o p : Option (Call P)) → SameEnd o p → SameEnd (apart o) (onto t p)
-  end-mixed t _ _ no_end = no_end
-  end-mixed t _ _ (one_end a b same) = one_end (record a { arguments = [] ∷ a.arguments }) (record b { arguments = onto_argument t b.arguments }) same
-
-  end-mixed-two : (t : Hidden P) (o p : Option (Call P)) → SameEnd o p → SameEnd (onto t o) (apart p)
-  end-mixed-two t _ _ no_end = no_end
-  end-mixed-two t _ _ (one_end a b same) = one_end (record a { arguments = onto_argument t a.arguments }) (record b { arguments = [] ∷ b.arguments }) same
-
-  end-step : (role : Role) (j k depth : ℕ) (t : Hidden P) (ts : List (Hidden P)) (go : ℕ → ℕ → Option (Call P)) → ((j k d : ℕ) → SameEnd (go j d) (go k d))
-      → SameEnd (call_step role j depth t ts go) (call_step role k depth t ts go)
-  end-step closing j k zero t ts go same = one_end _ _ refl
-  end-step closing j k (suc depth) t ts go same = end-onto t (go j depth) (go k depth) (same j k depth)
-  end-step opening j k depth t ts go same = end-onto t (go j (suc depth)) (go k (suc depth)) (same j k (suc depth))
-  end-step comma zero zero zero t ts go same = end-onto t (go zero zero) (go zero zero) (same zero zero zero)
-  end-step comma zero (suc k) zero t ts go same = end-mixed-two t (go zero zero) (go k zero) (same zero k zero)
-  end-step comma (suc j) zero zero t ts go same = end-mixed t (go j zero) (go zero zero) (same j zero zero)
-  end-step comma (suc j) (suc k) zero t ts go same = end-apart (go j zero) (go k zero) (same j k zero)
-  end-step comma zero zero (suc depth) t ts go same = end-onto t (go zero (suc depth)) (go zero (suc depth)) (same zero zero (suc depth))
-  end-step comma zero (suc k) (suc depth) t ts go same = end-onto t (go zero (suc depth)) (go (suc k) (suc depth)) (same zero (suc k) (suc depth))
-  end-step comma (suc j) zero (suc depth) t ts go same = end-onto t (go (suc j) (suc depth)) (go zero (suc depth)) (same (suc j) zero (suc depth))
-  end-step comma (suc j) (suc k) (suc depth) t ts go same = end-onto t (go (suc j) (suc depth)) (go (suc k) (suc depth)) (same (suc j) (suc k) (suc depth))
-  end-step other j k depth t ts go same = end-onto t (go j depth) (go k depth) (same j k depth)
-
-  pub same-end : (j k depth : ℕ) (ts : List (Hidden P)) → SameEnd (call_of j depth ts) (call_of k depth ts)
-  same-end j k depth [] = no_end
-  same-end j k depth (t ∷ ts) = end-step (role_of t.spelling) j k depth t ts (λ c d. call_of c d ts) (λ a b d. same-end a b d ts)
-
--- behind a call with a wrong count more follows
-module _ {P : Type 0} (more : List (Hidden P)) where
-  behind-by : (ts : List (Hidden P)) (o p q : Option (Call P)) → SameEnd q o → CallMore more o p → (q ≡ None → ⊥) → rest_or (ts ++ more) p ≡ rest_or ts o ++ more
-  behind-by ts _ _ _ no_end m some = absurd (some refl)
-  behind-by ts _ _ _ (one_end a b same) (closed call) some = refl
-
-  -- the count is wrong only where the call is closed
-  misfit-ends : (d : Definition) (ps : List (List ℕ)) (v : Bool) (o : Option (Call P)) → call_case d ps v o ≡ misfit → o ≡ None → ⊥
-  misfit-ends d ps v None is none = cc
-  misfit-ends d ps v (Some call) is none = cc
-
-  behind-opened : (d : Definition) (ps : List (List ℕ)) (v : Bool) (us : List (Hidden P)) → call_case d ps v (call_of (length ps) zero us) ≡ misfit → rest_or (us ++ more) (call_of zero zero (us ++ more)) ≡ rest_or us (call_of zero zero us) ++ more
-  behind-opened d ps v us is = behind-by us (call_of zero zero us) (call_of zero zero (us ++ more)) (call_of (length ps) zero us) (same-end (length ps) zero zero us) (call-more more zero zero us)
-      (misfit-ends d ps v (call_of (length ps) zero us) is)
-
-  behind-form : (d : Definition) (f : Form) (rest : List (Hidden P)) → form_case d f rest ≡ misfit → behind_call (rest ++ more) ≡ behind_call rest ++ more
-  behind-form d object_like rest is = absurd (cc)
-  behind-form d (function_like ps v) [] is = absurd (cc)
-  behind-form d (function_like ps v) (u ∷ us) is = by (same_bytes u.spelling (codes "(")) is
-    where
-      by : (b : Bool) → (if b then call_case d ps v (call_of (length ps) zero us) else stays) ≡ misfit → rest_or (us ++ more) (call_of zero zero (us ++ more)) ≡ rest_or us (call_of zero zero us) ++ more
-      by true is = behind-opened d ps v us is
-      by false is = absurd (cc)
-
-  behind-defined : (o : Option Definition) (rest : List (Hidden P)) → defined_case o rest ≡ misfit → behind_call (rest ++ more) ≡ behind_call rest ++ more
-  behind-defined None rest is = absurd (cc)
-  behind-defined (Some d) rest is = behind-form d d.form rest is
-
-  behind-looked : (macros : Macros) (b : Bool) (name : List ℕ) (rest : List (Hidden P)) → looked_up_case macros b name rest ≡ misfit → behind_call (rest ++ more) ≡ behind_call rest ++ more
-  behind-looked macros true name rest is = behind-defined (macros name) rest is
-  behind-looked macros false name rest is = absurd (cc)
-
-  pub behind-more : (macros : Macros) (t : Hidden P) (rest : List (Hidden P)) → case_of macros t rest ≡ misfit → behind_call (rest ++ more) ≡ behind_call rest ++ more
-  behind-more macros t rest is = behind-looked macros (is_looked_up t) t.spelling rest is
 
 -- a function-like macro's name that stands last stays
 last-form : {P : Type 0} (d : Definition) (f : Form) → is_function_like f ≡ true → form_case {P = P} d f [] ≡ stays

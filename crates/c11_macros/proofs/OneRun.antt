@@ -1,10 +1,9 @@
 -- What stands in front runs in one way.
-use Rattle.std.proofs.Common.{◌≡◌, Bool, true, false, List, [], ◌∷◌, ◌++◌, ◌+◌, length, length-append, Option, Result, Ok, Err, refl, sym, ap, ◌∙◌, subst, arith}
+use Rattle.std.proofs.Common.{◌≡◌, Bool, true, false, List, [], ◌∷◌, ◌++◌, ◌+◌, length, length-append, Result, Ok, Err, refl, sym, ap, ◌∙◌, subst, arith, map, ℕ}
 use Rattle.std.proofs.lemmas.List.{append_cancel_right}
 use Rattle.c11_macros.proofs.LongerLists.{last-stays}
 use Rattle.c11_macros.proofs.OneAnswer.{one-each}
-use Rattle.c11_macros.specs.Call.{behind_call}
-use Rattle.c11_macros.specs.Expansion.{Case, called, case_of, misfit, replaced, stays, unclosed, list_of, asked, object_result, call_result, Each}
+use Rattle.c11_macros.specs.Expansion.{Case, called, case_of, misfit, replaced, stays, unclosed, asked, object_result, call_result, Each}
 use Rattle.c11_macros.specs.Hidden.{Hidden, Provenance, Failure, failure_at}
 use Rattle.c11_macros.specs.Macros.{Definition, Macros}
 use Rattle.c11_macros.specs.Runs.{Uses, no_uses, then_uses, using, End, over, waits, fails, is_last_name, Leaves, within, beyond, Runs, used_up, stay, alone, open_call, object, call, bad_object, bad_count, bad_call}
@@ -41,14 +40,14 @@ data Did {P : Type 0} (provenance : Provenance P) (macros : Macros) (t : Hidden 
   did_object : {b : Bool} {d : Definition} {done : List (Hidden P)} {end : End P} {u : Uses P} (body : List (Hidden P)) → object_result provenance d t ≡ Ok body → Runs provenance macros (body ++ front) source done end u
       → Did provenance macros t front source (replaced d) b done end (then_uses (using [] (looked_up_at t)) u)
   did_bad_object : {b : Bool} {d : Definition} (failure : Failure P) → object_result provenance d t ≡ Err failure → Did provenance macros t front source (replaced d) b [] (fails failure) (using [] (looked_up_at t))
-  did_count : {b : Bool} {left rest taken : List (Hidden P)} → Leaves source (behind_call (front ++ source)) left rest taken
-      → Did provenance macros t front source misfit b [] (fails (failure_at WrongArguments t)) (using taken (looked_up_at t))
+  did_count : {b : Bool} {after left rest taken : List (Hidden P)} → Leaves source after left rest taken
+      → Did provenance macros t front source (misfit after) b [] (fails (failure_at WrongArguments t)) (using taken (looked_up_at t))
   did_call : {b : Bool} {d : Definition} {arguments : List (List (Hidden P))} {close : Hidden P} {after left rest taken : List (Hidden P)} {done : List (Hidden P)} {end : End P} {u : Uses P} (body : List (Hidden P))
-      (results : List (Result (List (Hidden P)) (Failure P))) → Leaves source after left rest taken → (each : Each provenance macros (asked d.form (list_of provenance d t) 0 arguments) results)
+      (results : Result (List (List (Hidden P))) (Failure P)) → Leaves source after left rest taken → (each : Each provenance macros (asked provenance d t arguments) (map (λ a. []) arguments) results)
       → call_result provenance d t arguments close results ≡ Ok body → Runs provenance macros (body ++ left) rest done end u
       → Did provenance macros t front source (called d arguments close after) b done end (then_uses (using taken (looked_up_at t ++ (trace_each each).looked_up)) u)
   did_bad_call : {b : Bool} {d : Definition} {arguments : List (List (Hidden P))} {close : Hidden P} {after left rest taken : List (Hidden P)} (failure : Failure P)
-      (results : List (Result (List (Hidden P)) (Failure P))) → Leaves source after left rest taken → (each : Each provenance macros (asked d.form (list_of provenance d t) 0 arguments) results)
+      (results : Result (List (List (Hidden P))) (Failure P)) → Leaves source after left rest taken → (each : Each provenance macros (asked provenance d t arguments) (map (λ a. []) arguments) results)
       → call_result provenance d t arguments close results ≡ Err failure
       → Did provenance macros t front source (called d arguments close after) b [] (fails failure) (using taken (looked_up_at t ++ (trace_each each).looked_up))
 
@@ -84,7 +83,7 @@ module _ {P : Type 0} (provenance : Provenance P) (macros : Macros) where
   did (object d body is made run) = at-case (replaced d) is (did_object body made run)
   did (call d arguments close after left rest taken body results is leaves each made run) = at-case (called d arguments close after) is (did_call body results leaves each made run)
   did (bad_object d failure is made) = at-case (replaced d) is (did_bad_object failure made)
-  did (bad_count left rest taken is leaves) = at-case misfit is (did_count leaves)
+  did (bad_count after left rest taken is leaves) = at-case (misfit after) is (did_count leaves)
   did (bad_call d arguments close after left rest taken results failure is leaves each made) = at-case (called d arguments close after) is (did_bad_call failure results leaves each made)
 
   -- each run of the same front is this
@@ -112,16 +111,16 @@ module _ {P : Type 0} (provenance : Provenance P) (macros : Macros) where
   only-bad-object t front source d b failure bad _ _ _ (did_object body2 made2 run) = absurd (ok-err (object_result provenance d t) body2 failure made2 bad)
   only-bad-object t front source d b failure bad _ _ _ (did_bad_object failure2 bad2) = record { done = refl; end = ap fails (same-failure (object_result provenance d t) failure failure2 bad bad2); uses = refl }
 
-  only-count : (t : Hidden P) (front source left rest taken : List (Hidden P)) (b : Bool) → Leaves source (behind_call (front ++ source)) left rest taken
-      → (done2 : List (Hidden P)) (end2 : End P) (u2 : Uses P) → Did provenance macros t front source misfit b done2 end2 u2 → SameRun [] done2 (fails (failure_at WrongArguments t)) end2 (using taken (looked_up_at t)) u2
-  only-count t front source left rest taken b leaves _ _ _ (did_count leaves2) = record { done = refl; end = refl; uses = ap (λ l. using l (looked_up_at t)) (one-left leaves leaves2).taken }
+  only-count : (t : Hidden P) (front source after left rest taken : List (Hidden P)) (b : Bool) → Leaves source after left rest taken
+      → (done2 : List (Hidden P)) (end2 : End P) (u2 : Uses P) → Did provenance macros t front source (misfit after) b done2 end2 u2 → SameRun [] done2 (fails (failure_at WrongArguments t)) end2 (using taken (looked_up_at t)) u2
+  only-count t front source after left rest taken b leaves _ _ _ (did_count leaves2) = record { done = refl; end = refl; uses = ap (λ l. using l (looked_up_at t)) (one-left leaves leaves2).taken }
 
-  call-uses : (t : Hidden P) {asks : List (Option (List (Hidden P)))} {taken taken2 : List (Hidden P)} {results results2 : List (Result (List (Hidden P)) (Failure P))} (each : Each provenance macros asks results) (each2 : Each provenance macros asks results2) → taken ≡ taken2
+  call-uses : (t : Hidden P) {asks : List (ℕ × List (Hidden P))} {taken taken2 : List (Hidden P)} {lists : List (List (Hidden P))} {results results2 : Result (List (List (Hidden P))) (Failure P)} (each : Each provenance macros asks lists results) (each2 : Each provenance macros asks lists results2) → taken ≡ taken2
       → using taken (looked_up_at t ++ (trace_each each).looked_up) ≡ using taken2 (looked_up_at t ++ (trace_each each2).looked_up)
   call-uses t {results2 = rs} each each2 same = λ i. using (same i) (looked_up_at t ++ ((one-each each rs each2).trace i).looked_up)
 
-  only-call : (t : Hidden P) (front source : List (Hidden P)) (d : Definition) (arguments : List (List (Hidden P))) (close : Hidden P) (after left rest taken body : List (Hidden P)) (results : List (Result (List (Hidden P)) (Failure P)))
-      (b : Bool) (done : List (Hidden P)) (end : End P) (u : Uses P) → Leaves source after left rest taken → (each : Each provenance macros (asked d.form (list_of provenance d t) 0 arguments) results)
+  only-call : (t : Hidden P) (front source : List (Hidden P)) (d : Definition) (arguments : List (List (Hidden P))) (close : Hidden P) (after left rest taken body : List (Hidden P)) (results : Result (List (List (Hidden P))) (Failure P))
+      (b : Bool) (done : List (Hidden P)) (end : End P) (u : Uses P) → Leaves source after left rest taken → (each : Each provenance macros (asked provenance d t arguments) (map (λ a. []) arguments) results)
       → call_result provenance d t arguments close results ≡ Ok body → Only (body ++ left) rest done end u
       → (done2 : List (Hidden P)) (end2 : End P) (u2 : Uses P) → Did provenance macros t front source (called d arguments close after) b done2 end2 u2
       → SameRun done done2 end end2 (then_uses (using taken (looked_up_at t ++ (trace_each each).looked_up)) u) u2
@@ -134,8 +133,8 @@ module _ {P : Type 0} (provenance : Provenance P) (macros : Macros) where
   only-call t front source d arguments close after left rest taken body results b done end u leaves each made only _ _ _ (did_bad_call failure results2 leaves2 each2 bad) =
       absurd (ok-err (call_result provenance d t arguments close results2) body failure (ap (call_result provenance d t arguments close) (sym (one-each each results2 each2).answer) ∙ made) bad)
 
-  only-bad-call : (t : Hidden P) (front source : List (Hidden P)) (d : Definition) (arguments : List (List (Hidden P))) (close : Hidden P) (after left rest taken : List (Hidden P)) (results : List (Result (List (Hidden P)) (Failure P)))
-      (b : Bool) (failure : Failure P) → Leaves source after left rest taken → (each : Each provenance macros (asked d.form (list_of provenance d t) 0 arguments) results)
+  only-bad-call : (t : Hidden P) (front source : List (Hidden P)) (d : Definition) (arguments : List (List (Hidden P))) (close : Hidden P) (after left rest taken : List (Hidden P)) (results : Result (List (List (Hidden P))) (Failure P))
+      (b : Bool) (failure : Failure P) → Leaves source after left rest taken → (each : Each provenance macros (asked provenance d t arguments) (map (λ a. []) arguments) results)
       → call_result provenance d t arguments close results ≡ Err failure
       → (done2 : List (Hidden P)) (end2 : End P) (u2 : Uses P) → Did provenance macros t front source (called d arguments close after) b done2 end2 u2
       → SameRun [] done2 (fails failure) end2 (using taken (looked_up_at t ++ (trace_each each).looked_up)) u2
@@ -168,8 +167,8 @@ module _ {P : Type 0} (provenance : Provenance P) (macros : Macros) where
       (known (called d arguments close after) (is_last_name macros t (front ++ source)) is refl r)
   one-run (bad_object {t} {front} {source} d failure is bad) =
       λ e f v r. only-bad-object t front source d (is_last_name macros t (front ++ source)) failure bad e f v (known (replaced d) (is_last_name macros t (front ++ source)) is refl r)
-  one-run (bad_count {t} {front} {source} left rest taken is leaves) =
-      λ e f v r. only-count t front source left rest taken (is_last_name macros t (front ++ source)) leaves e f v (known misfit (is_last_name macros t (front ++ source)) is refl r)
+  one-run (bad_count {t} {front} {source} after left rest taken is leaves) =
+      λ e f v r. only-count t front source after left rest taken (is_last_name macros t (front ++ source)) leaves e f v (known (misfit after) (is_last_name macros t (front ++ source)) is refl r)
   one-run (bad_call {t} {front} {source} d arguments close after left rest taken results failure is leaves each bad) =
       λ e f v r. only-bad-call t front source d arguments close after left rest taken results (is_last_name macros t (front ++ source)) failure leaves each bad e f v
       (known (called d arguments close after) (is_last_name macros t (front ++ source)) is refl r)

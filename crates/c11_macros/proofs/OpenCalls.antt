@@ -1,7 +1,6 @@
 -- A call that is open in a list ends in what follows the list.
-use Rattle.std.proofs.Common.{◌≡◌, ℕ, zero, suc, Bool, true, false, List, [], ◌∷◌, ◌++◌, length, codes, Option, Some, None, refl, sym, ap, ◌∙◌, subst, if◌then◌else◌}
-use Rattle.c11_macros.proofs.LongerLists.{same-end, SameEnd, no_end, one_end}
-use Rattle.c11_macros.specs.Call.{Call, Role, apart, arguments_for, behind_call, call_of, call_step, closing, comma, onto, onto_argument, opening, other, rest_or, role_of}
+use Rattle.std.proofs.Common.{◌≡◌, ℕ, zero, suc, Bool, true, false, List, [], ◌∷◌, ◌++◌, length, codes, Option, Some, None, refl, ap, ◌∙◌, subst, if◌then◌else◌}
+use Rattle.c11_macros.specs.Call.{Call, Role, apart, arguments_for, call_of, call_step, closing, comma, onto, onto_argument, opening, other, role_of}
 use Rattle.c11_macros.specs.Expansion.{Case, call_case, called, case_of, defined_case, fitted_case, form_case, is_looked_up, looked_up_case, misfit, replaced, stays, unclosed}
 use Rattle.c11_macros.specs.Hidden.{Hidden}
 use Rattle.c11_macros.specs.Macros.{Definition, Form, Macros, function_like, object_like}
@@ -79,61 +78,53 @@ module _ {P : Type 0} (more : List (Hidden P)) where
   later-call commas depth [] = later-new (call_of commas depth more) (in-call commas depth more)
   later-call commas depth (t ∷ ts) = later-step (role_of t.spelling) commas depth t ts (λ k d. call_of k d ts) (λ k d. call_of k d (ts ++ more)) (λ k d. later-call k d ts)
 
-  -- what an open call may become: with this behind it
-  pub data Opened : Case P → (behind : List (Hidden P)) → Type 0 where
-    open_still : {behind : List (Hidden P)} → Opened unclosed behind
-    open_misfit : {behind : List (Hidden P)} → EndsWith more behind → Opened misfit behind
-    open_called : {behind : List (Hidden P)} (d : Definition) (arguments : List (List (Hidden P))) (close : Hidden P) (after : List (Hidden P)) → EndsWith more after → Opened (called d arguments close after) behind
+  -- what an open call may become
+  pub data Opened : Case P → Type 0 where
+    open_still : Opened unclosed
+    open_misfit : (after : List (Hidden P)) → EndsWith more after → Opened (misfit after)
+    open_called : (d : Definition) (arguments : List (List (Hidden P))) (close : Hidden P) (after : List (Hidden P)) → EndsWith more after → Opened (called d arguments close after)
 
-  fitted-opened : (d : Definition) (c : Call P) (behind : List (Hidden P)) (o : Option (List (List (Hidden P)))) → EndsWith more c.rest → EndsWith more behind → Opened (fitted_case d c.close c.rest o) behind
-  fitted-opened d c behind None e b = open_misfit b
-  fitted-opened d c behind (Some arguments) e b = open_called d arguments c.close c.rest e
+  fitted-opened : (d : Definition) (c : Call P) (o : Option (List (List (Hidden P)))) → EndsWith more c.rest → Opened (fitted_case d c.close c.rest o)
+  fitted-opened d c None e = open_misfit c.rest e
+  fitted-opened d c (Some arguments) e = open_called d arguments c.close c.rest e
 
-  same-behind : (us : List (Hidden P)) (o p : Option (Call P)) (c : Call P) → o ≡ Some c → SameEnd o p → EndsWith more c.rest → EndsWith more (rest_or us p)
-  same-behind us _ _ c is no_end e = absurd (cc)
-  same-behind us _ _ c is (one_end a b same) e = let first : a ≡ c = cc in subst (EndsWith more) (sym (ap (λ (x : Call P). x.rest) first) ∙ same) e
-
-  call-opened : (d : Definition) (ps : List (List ℕ)) (v : Bool) (us : List (Hidden P)) (o p : Option (Call P)) → call_of (length ps) zero (us ++ more) ≡ p → Later more o p → call_case d ps v o ≡ unclosed
-      → Opened (call_case d ps v p) (rest_or (us ++ more) (call_of zero zero (us ++ more)))
-  call-opened d ps v us _ _ at (was_closed c o) is = absurd (closed-not d c (arguments_for ps v c.arguments) is)
+  call-opened : (d : Definition) (ps : List (List ℕ)) (v : Bool) (o p : Option (Call P)) → Later more o p → call_case d ps v o ≡ unclosed → Opened (call_case d ps v p)
+  call-opened d ps v _ _ (was_closed c o) is = absurd (closed-not d c (arguments_for ps v c.arguments) is)
     where
       closed-not : (d : Definition) (c : Call P) (o : Option (List (List (Hidden P)))) → fitted_case d c.close c.rest o ≡ unclosed → ⊥
       closed-not d c None is = cc
       closed-not d c (Some arguments) is = cc
-  call-opened d ps v us _ _ at still_open is = open_still
-  call-opened d ps v us _ _ at (ends_later c e) is =
-      fitted-opened d c (rest_or (us ++ more) (call_of zero zero (us ++ more))) (arguments_for ps v c.arguments) e
-      (same-behind (us ++ more) (call_of (length ps) zero (us ++ more)) (call_of zero zero (us ++ more)) c at (same-end (length ps) zero zero (us ++ more)) e)
+  call-opened d ps v _ _ still_open is = open_still
+  call-opened d ps v _ _ (ends_later c e) is = fitted-opened d c (arguments_for ps v c.arguments) e
 
-  form-opened : (d : Definition) (f : Form) (rest : List (Hidden P)) → form_case d f rest ≡ unclosed → Opened (form_case d f (rest ++ more)) (behind_call (rest ++ more))
+  form-opened : (d : Definition) (f : Form) (rest : List (Hidden P)) → form_case d f rest ≡ unclosed → Opened (form_case d f (rest ++ more))
   form-opened d object_like rest is = absurd (cc)
   form-opened d (function_like ps v) [] is = absurd (cc)
   form-opened d (function_like ps v) (u ∷ us) is = by (same_bytes u.spelling (codes "(")) is
     where
-      by : (b : Bool) → (if b then call_case d ps v (call_of (length ps) zero us) else stays) ≡ unclosed
-          → Opened (if b then call_case d ps v (call_of (length ps) zero (us ++ more)) else stays) (rest_or (us ++ more) (call_of zero zero (us ++ more)))
-      by true is = call-opened d ps v us (call_of (length ps) zero us) (call_of (length ps) zero (us ++ more)) refl (later-call (length ps) zero us) is
+      by : (b : Bool) → (if b then call_case d ps v (call_of (length ps) zero us) else stays) ≡ unclosed → Opened (if b then call_case d ps v (call_of (length ps) zero (us ++ more)) else stays)
+      by true is = call-opened d ps v (call_of (length ps) zero us) (call_of (length ps) zero (us ++ more)) (later-call (length ps) zero us) is
       by false is = absurd (cc)
 
-  defined-opened : (o : Option Definition) (rest : List (Hidden P)) → defined_case o rest ≡ unclosed → Opened (defined_case o (rest ++ more)) (behind_call (rest ++ more))
+  defined-opened : (o : Option Definition) (rest : List (Hidden P)) → defined_case o rest ≡ unclosed → Opened (defined_case o (rest ++ more))
   defined-opened None rest is = absurd (cc)
   defined-opened (Some d) rest is = form-opened d d.form rest is
 
-  looked-opened : (macros : Macros) (b : Bool) (name : List ℕ) (rest : List (Hidden P)) → looked_up_case macros b name rest ≡ unclosed → Opened (looked_up_case macros b name (rest ++ more)) (behind_call (rest ++ more))
+  looked-opened : (macros : Macros) (b : Bool) (name : List ℕ) (rest : List (Hidden P)) → looked_up_case macros b name rest ≡ unclosed → Opened (looked_up_case macros b name (rest ++ more))
   looked-opened macros true name rest is = defined-opened (macros name) rest is
   looked-opened macros false name rest is = absurd (cc)
 
-  pub opened : (macros : Macros) (t : Hidden P) (rest : List (Hidden P)) (k : Case P) → case_of macros t rest ≡ unclosed → case_of macros t (rest ++ more) ≡ k → Opened k (behind_call (rest ++ more))
-  opened macros t rest k is at = subst (λ k. Opened k (behind_call (rest ++ more))) at (looked-opened macros (is_looked_up t) t.spelling rest is)
+  pub opened : (macros : Macros) (t : Hidden P) (rest : List (Hidden P)) (k : Case P) → case_of macros t rest ≡ unclosed → case_of macros t (rest ++ more) ≡ k → Opened k
+  opened macros t rest k is at = subst Opened at (looked-opened macros (is_looked_up t) t.spelling rest is)
 
-  pub opened-stays : (behind : List (Hidden P)) → Opened stays behind → ⊥
-  opened-stays behind o = elim o [ ]
+  pub opened-stays : Opened stays → ⊥
+  opened-stays o = elim o [ ]
 
-  pub opened-replaced : (behind : List (Hidden P)) (d : Definition) → Opened (replaced d) behind → ⊥
-  opened-replaced behind d o = elim o [ ]
+  pub opened-replaced : (d : Definition) → Opened (replaced d) → ⊥
+  opened-replaced d o = elim o [ ]
 
-  pub opened-called : (behind : List (Hidden P)) (d : Definition) (arguments : List (List (Hidden P))) (close : Hidden P) (after : List (Hidden P)) → Opened (called d arguments close after) behind → EndsWith more after
-  opened-called behind d arguments close after (open_called _ _ _ _ e) = e
+  pub opened-called : (d : Definition) (arguments : List (List (Hidden P))) (close : Hidden P) (after : List (Hidden P)) → Opened (called d arguments close after) → EndsWith more after
+  opened-called d arguments close after (open_called _ _ _ _ e) = e
 
-  pub opened-misfit : (behind : List (Hidden P)) → Opened misfit behind → EndsWith more behind
-  opened-misfit behind (open_misfit e) = e
+  pub opened-misfit : (after : List (Hidden P)) → Opened (misfit after) → EndsWith more after
+  opened-misfit after (open_misfit _ e) = e

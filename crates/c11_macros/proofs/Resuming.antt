@@ -2,11 +2,10 @@
 use Rattle.std.proofs.Common.{◌≡◌, ℕ, true, false, List, [], ◌∷◌, ◌++◌, append_assoc, append-nil, refl, sym, ap, ◌∙◌, subst}
 use Rattle.std.proofs.lemmas.List.{append_cancel_right}
 use Rattle.c11_macros.proofs.Agreement.{agree-back, agree-front}
-use Rattle.c11_macros.proofs.LongerLists.{lasting, last-stays, replaced-more, misfit-more, called-more, behind-more}
+use Rattle.c11_macros.proofs.LongerLists.{lasting, last-stays, replaced-more, misfit-more, called-more}
 use Rattle.c11_macros.proofs.OneRun.{more-than}
 use Rattle.c11_macros.proofs.OpenCalls as past
 use Rattle.c11_macros.proofs.OpenCalls.{EndsWith}
-use Rattle.c11_macros.specs.Call.{behind_call}
 use Rattle.c11_macros.specs.Expansion.{stays, replaced, unclosed, misfit, called, case_of}
 use Rattle.c11_macros.specs.Hidden.{Hidden, Provenance, failure_at}
 use Rattle.c11_macros.specs.Macros.{Macros}
@@ -66,7 +65,7 @@ module _ {P : Type 0} (provenance : Provenance P) (macros : Macros) (more : List
   first-looks (call {t} {u = u} d arguments close after left rest taken body results is leaves each made run) one two agree =
       agree-front one two (looked_up_at t) (trace_each each).looked_up (agree-front one two (looked_up_at t ++ (trace_each each).looked_up) u.looked_up agree)
   first-looks (bad_object d failure is made) one two agree = agree
-  first-looks (bad_count left rest taken is leaves) one two agree = agree
+  first-looks (bad_count after left rest taken is leaves) one two agree = agree
   first-looks (bad_call {t} d arguments close after left rest taken results failure is leaves each made) one two agree = agree-front one two (looked_up_at t) (trace_each each).looked_up agree
 
   -- a name alone: all that follows it is new
@@ -103,10 +102,10 @@ module _ {P : Type 0} (provenance : Provenance P) (macros : Macros) (more : List
         whole = ap (λ l. (front ++ source) ++ l) e.is ∙ (sym (append_assoc (front ++ source) e.before after) ∙ ap (λ l. l ++ after) (append_assoc front source e.before))
 
     was-open : {done : List (Hidden P)} {end : End P} {v : Uses P} → Runs provenance macros (t ∷ []) ((front ++ source) ++ more) done end v → Resumed provenance macros more (t ∷ front) source done (waits t (front ++ source)) end (using [] (looked_up_at t)) v
-    was-open (stay is free run) = absurd (past.opened-stays more _ (past.opened more macros t (front ++ source) stays opened is))
-    was-open (object d body is made run) = absurd (past.opened-replaced more _ d (past.opened more macros t (front ++ source) (replaced d) opened is))
-    was-open (bad_object d failure is made) = absurd (past.opened-replaced more _ d (past.opened more macros t (front ++ source) (replaced d) opened is))
-    was-open (alone is) = absurd (past.opened-stays more _ (past.opened more macros t (front ++ source) stays opened (last-stays macros t ((front ++ source) ++ more) is)))
+    was-open (stay is free run) = absurd (past.opened-stays more (past.opened more macros t (front ++ source) stays opened is))
+    was-open (object d body is made run) = absurd (past.opened-replaced more d (past.opened more macros t (front ++ source) (replaced d) opened is))
+    was-open (bad_object d failure is made) = absurd (past.opened-replaced more d (past.opened more macros t (front ++ source) (replaced d) opened is))
+    was-open (alone is) = absurd (past.opened-stays more (past.opened more macros t (front ++ source) stays opened (last-stays macros t ((front ++ source) ++ more) is)))
     was-open (open_call is) = record {
       uses = using [] (looked_up_at t);
       runs = subst (λ l. Runs provenance macros (t ∷ front) (source ++ more) [] (waits t l) (using [] (looked_up_at t))) (sym (append_assoc front source more)) (open_call (at (case_of macros t) unclosed is));
@@ -118,7 +117,7 @@ module _ {P : Type 0} (provenance : Provenance P) (macros : Macros) (more : List
       looked_up = λ one two agree. (agree, agree);
     }
     was-open (call {done} {end} {u} d arguments close after left rest taken body results is leaves each made run) =
-        let e = past.opened-called more _ d arguments close after (past.opened more macros t (front ++ source) (called d arguments close after) opened is) in
+        let e = past.opened-called more d arguments close after (past.opened more macros t (front ++ source) (called d arguments close after) opened is) in
         let o = one-list e leaves in
         record {
           uses = then_uses (using o.2 (looked_up_at t ++ (trace_each each).looked_up)) u;
@@ -131,13 +130,12 @@ module _ {P : Type 0} (provenance : Provenance P) (macros : Macros) (more : List
           taken = refl;
           looked_up = λ one two agree. (agree-front one two (looked_up_at t) (trace_each each).looked_up (agree-front one two (looked_up_at t ++ (trace_each each).looked_up) u.looked_up agree), agree);
         }
-    was-open (bad_count left rest taken is leaves) =
-        let e = past.opened-misfit more _ (past.opened more macros t (front ++ source) misfit opened is) in
+    was-open (bad_count after left rest taken is leaves) =
+        let e = past.opened-misfit more after (past.opened more macros t (front ++ source) (misfit after) opened is) in
         let o = one-list e leaves in
         record {
           uses = using o.2 (looked_up_at t);
-          runs = bad_count [] (behind_call (front ++ (source ++ more))) o.2 (at (case_of macros t) misfit is)
-              (subst (λ l. Leaves (source ++ more) l [] l o.2) (ap behind_call (append_assoc front source more)) o.4);
+          runs = bad_count after [] after o.2 (at (case_of macros t) (misfit after) is) o.4;
           made = front;
           stand = (source, refl, refl);
           own = o.2;
@@ -146,7 +144,7 @@ module _ {P : Type 0} (provenance : Provenance P) (macros : Macros) (more : List
           looked_up = λ one two agree. (agree, agree);
         }
     was-open (bad_call d arguments close after left rest taken results failure is leaves each made) =
-        let e = past.opened-called more _ d arguments close after (past.opened more macros t (front ++ source) (called d arguments close after) opened is) in
+        let e = past.opened-called more d arguments close after (past.opened more macros t (front ++ source) (called d arguments close after) opened is) in
         let o = one-list e leaves in
         record {
           uses = using o.2 (looked_up_at t ++ (trace_each each).looked_up);
@@ -175,9 +173,9 @@ module _ {P : Type 0} (provenance : Provenance P) (macros : Macros) (more : List
       (list-more (case_of macros t) front source (called d arguments close (after ++ more)) (called-more more macros t (front ++ source) d arguments close after is)) (leaves-more leaves) each made)
   resume (bad_object {t} {front} {source} d failure is made) from_failure =
       ended (fails failure) (using [] (looked_up_at t)) refl (bad_object d failure (list-more (case_of macros t) front source (replaced d) (replaced-more more macros t (front ++ source) d is)) made)
-  resume (bad_count {t} {front} {source} left rest taken is leaves) from_failure =
-      ended (fails (failure_at WrongArguments t)) (using taken (looked_up_at t)) refl (bad_count left (rest ++ more) taken (list-more (case_of macros t) front source misfit (misfit-more more macros t (front ++ source) is))
-      (subst (λ l. Leaves (source ++ more) l left (rest ++ more) taken) (sym (list-more behind_call front source (behind_call (front ++ source) ++ more) (behind-more more macros t (front ++ source) is))) (leaves-more leaves)))
+  resume (bad_count {t} {front} {source} after left rest taken is leaves) from_failure =
+      ended (fails (failure_at WrongArguments t)) (using taken (looked_up_at t)) refl (bad_count (after ++ more) left (rest ++ more) taken
+      (list-more (case_of macros t) front source (misfit (after ++ more)) (misfit-more more macros t (front ++ source) after is)) (leaves-more leaves))
   resume (bad_call {t} {front} {source} d arguments close after left rest taken results failure is leaves each made) from_failure =
       ended (fails failure) (using taken (looked_up_at t ++ (trace_each each).looked_up)) refl (bad_call d arguments close (after ++ more) left (rest ++ more) taken results failure
       (list-more (case_of macros t) front source (called d arguments close (after ++ more)) (called-more more macros t (front ++ source) d arguments close after is)) (leaves-more leaves) each made)

@@ -1,13 +1,13 @@
 -- Lists of tokens of which those far from the end hide names, and what a call and a replacement
 -- make of such a list.
-use Rattle.std.proofs.Common.{◌≡◌, ℕ, zero, suc, ◌<◌, ◌≤◌, ◌&&◌, ◌||◌, ◌==◌, ◌+◌, not, nat_le, Bool, true, false, List, [], ◌∷◌, ◌++◌, length, map, codes, Option, Some, None, Result, Ok, Err, refl, sym, ap, ◌∙◌, subst, arith, if◌then◌else◌}
-use Rattle.std.proofs.lemmas.Bool.{leb-true, leb-false, and_parts, true≢false}
-use Rattle.c11_macros.specs.Call.{Call, Role, opening, closing, comma, other, role_of, onto_argument, onto, apart, call_step, call_of, counts, is_nothing, given, filled_up, arguments_for}
+use Rattle.std.proofs.Common.{◌≡◌, ℕ, zero, suc, ◌<◌, ◌≤◌, ◌&&◌, ◌||◌, ◌==◌, ◌+◌, not, nat_le, Bool, true, false, List, [], ◌∷◌, ◌++◌, length, codes, Option, Some, None, Result, Ok, Err, refl, sym, ap, ◌∙◌, arith, if◌then◌else◌}
+use Rattle.std.proofs.lemmas.Bool.{leb-true, and_parts, true≢false}
+use Rattle.c11_macros.specs.Call.{Call, Role, opening, closing, comma, other, role_of, onto_argument, onto, apart, call_step, call_of, counts, is_nothing, given, filled_up}
 use Rattle.c11_macros.specs.Expansion.{Case, stays, replaced, unclosed, misfit, called, is_looked_up, fitted_case, call_case, form_case, defined_case, looked_up_case, case_of, list_of, object_result, call_result}
-use Rattle.c11_macros.specs.Hidden.{Hidden, HideSet, Provenance, Failure, with_name, union, meet}
+use Rattle.c11_macros.specs.Hidden.{Hidden, HideSet, Provenance, Failure, with_name, meet}
 use Rattle.c11_macros.specs.Macros.{Macros, Definition, Form, object_like, function_like, Item}
 use Rattle.c11_macros.specs.Results.{result_map, result_and_then}
-use Rattle.c11_macros.specs.Substitution.{Piece, parts, neither, slots, filled, all_glued, hiding, hidden_by, substituted, with_space, tokens_of}
+use Rattle.c11_macros.specs.Substitution.{Piece, parts, neither, slots, filled, all_glued, hiding, substituted, with_space, tokens_of, Slot, put_together}
 use Rattle.c11_tokens.specs.Lex.{is_identifier_kind}
 use Rattle.sc_model.proofs.ByteLemmas.{same_bytes-true}
 use Rattle.sc_model.specs.Bytes.{same_bytes}
@@ -126,17 +126,21 @@ made-covers : {P : Type 0} (provenance : Provenance P) (set : HideSet) (space : 
 made-covers provenance set space (Ok ps) = hiding-covers provenance set (with_space space (tokens_of ps))
 made-covers provenance set space (Err failure) = tt
 
-substituted-covers : {P : Type 0} (provenance : Provenance P) (form : Form) (items : List Item) (t : Hidden P) (raw : List (List (Hidden P))) (results : List (Result (List (Hidden P)) (Failure P))) (set : HideSet)
-    → Covered set (substituted provenance form items t raw results set)
-substituted-covers provenance form items t raw results set =
-    made-covers provenance set t.space (result_and_then (all_glued t) (result_and_then (filled raw results false) (slots t raw (parts form neither items))))
+substituted-covers : {P : Type 0} (provenance : Provenance P) (form : Form) (items : List Item) (t : Hidden P) (raw expanded : List (List (Hidden P))) (set : HideSet)
+    → Covered set (substituted provenance form items t raw expanded set)
+substituted-covers {P} provenance form items t raw expanded set = by (slots t raw (parts form neither items))
+  where
+    by : (made : Result (List (Slot P)) (Failure P)) → Covered set (result_and_then (put_together provenance t raw expanded set) made)
+    by (Ok ss) = made-covers provenance set t.space (all_glued t (filled raw expanded false ss))
+    by (Err failure) = tt
 
 pub object-covers : {P : Type 0} (provenance : Provenance P) (d : Definition) (t : Hidden P) → Covered (with_name t.hide t.spelling) (object_result provenance d t)
 object-covers provenance d t = substituted-covers provenance d.form (list_of provenance d t) t [] [] (with_name t.hide t.spelling)
 
-pub call-covers : {P : Type 0} (provenance : Provenance P) (d : Definition) (t : Hidden P) (arguments : List (List (Hidden P))) (close : Hidden P) (results : List (Result (List (Hidden P)) (Failure P)))
-    → Covered (with_name (meet t.hide close.hide) t.spelling) (call_result provenance d t arguments close results)
-call-covers provenance d t arguments close results = substituted-covers provenance d.form (list_of provenance d t) t arguments results (with_name (meet t.hide close.hide) t.spelling)
+pub call-covers : {P : Type 0} (provenance : Provenance P) (d : Definition) (t : Hidden P) (arguments : List (List (Hidden P))) (close : Hidden P) (expanded : Result (List (List (Hidden P))) (Failure P))
+    → Covered (with_name (meet t.hide close.hide) t.spelling) (call_result provenance d t arguments close expanded)
+call-covers provenance d t arguments close (Ok lists) = substituted-covers provenance d.form (list_of provenance d t) t arguments lists (with_name (meet t.hide close.hide) t.spelling)
+call-covers provenance d t arguments close (Err failure) = tt
 
 fit-has : {P : Type 0} (set : HideSet) (t : Hidden P) (n : ℕ) (c : Cuts) → Covers set t → HasAll set c → Fit t.hide n c
 fit-has set t n uncut covers has = tt
@@ -229,7 +233,7 @@ abbrev pub CaseRow : {P : Type 0} → Macros → Cuts → Hidden P → ℕ → C
 CaseRow macros c t n stays = Unit {0}
 CaseRow macros c t n (replaced d) = (macros t.spelling ≡ Some d) × (t.hide t.spelling ≡ false)
 CaseRow macros c t n unclosed = Unit {0}
-CaseRow macros c t n misfit = Unit {0}
+CaseRow macros c t n (misfit after) = Unit {0}
 CaseRow macros c t n (called d arguments close after) =
     (macros t.spelling ≡ Some d) × (t.hide t.spelling ≡ false) × AllRows c n arguments × Fit close.hide (length after) c × Row c after × (length after ≤ n)
 

@@ -1,6 +1,6 @@
 -- What a run says of the expansion of the list, and of the run where more follows.
 use Rattle.std.proofs.Common.{◌≡◌, List, [], ◌∷◌, ◌++◌, append_assoc, Result, Ok, Err, refl, sym, ap, ◌∙◌, subst}
-use Rattle.c11_macros.specs.Expansion.{Case, stays, replaced, unclosed, misfit, called, case_of, list_of, asked, object_result, call_result, with_first, Expands, Each, Rescans, on, refused}
+use Rattle.c11_macros.specs.Expansion.{with_first, Expands, Rescans, on, refused}
 use Rattle.c11_macros.specs.Expansion as expansion
 use Rattle.c11_macros.specs.Hidden.{Hidden, Provenance, Failure}
 use Rattle.c11_macros.specs.Macros.{Macros}
@@ -43,8 +43,8 @@ module _ {P : Type 0} (provenance : Provenance P) (macros : Macros) where
   runs-expand (bad_object {t} {front} {source} d failure is made) r left =
       subst (λ s. Expands provenance macros (t ∷ front ++ source) (after_these [] s)) (sym left)
       (expansion.object d is (subst (λ m. Rescans provenance macros m (front ++ source) (Err failure)) (sym made) (refused failure)))
-  runs-expand (bad_count {t} {front} {source} left rest taken is leaves) r end =
-      subst (λ s. Expands provenance macros (t ∷ front ++ source) (after_these [] s)) (sym end) (expansion.miscounted is)
+  runs-expand (bad_count {t} {front} {source} after left rest taken is leaves) r end =
+      subst (λ s. Expands provenance macros (t ∷ front ++ source) (after_these [] s)) (sym end) (expansion.miscounted after is)
   runs-expand (bad_call {t} {front} {source} d arguments close after left rest taken results failure is leaves each made) r end =
       subst (λ s. Expands provenance macros (t ∷ front ++ source) (after_these [] s)) (sym end)
       (expansion.call d arguments close after results is each (subst (λ m. Rescans provenance macros m after (Err failure)) (sym made) (refused failure)))

@@ -33,7 +33,7 @@ module _ (one two : Macros) where
       (call d arguments close after left rest taken body results (sym (case-agrees one two t (front ++ source) (agree-front one two (looked_up_at t) names first)) ∙ is) leaves other.each made
       (runs-agree run (agree-back one two (looked_up_at t ++ names) u.looked_up agree)))
   runs-agree (bad_object {t} {front} {source} d failure is made) agree = bad_object d failure (sym (case-agrees one two t (front ++ source) agree) ∙ is) made
-  runs-agree (bad_count {t} {front} {source} left rest taken is leaves) agree = bad_count left rest taken (sym (case-agrees one two t (front ++ source) agree) ∙ is) leaves
+  runs-agree (bad_count {t} {front} {source} after left rest taken is leaves) agree = bad_count after left rest taken (sym (case-agrees one two t (front ++ source) agree) ∙ is) leaves
   runs-agree {provenance = provenance} (bad_call {t} {front} {source} d arguments close after left rest taken results failure is leaves each made) agree =
       let names = (trace_each each).looked_up in
       let other = agrees-each one two each (agree-back one two (looked_up_at t) names agree) in

@@ -1,15 +1,15 @@
 -- The expansion of a list, as a run of what stands in front and the expansion of what it leaves.
-use Rattle.std.proofs.Common.{◌≡◌, ℕ, zero, Bool, true, false, List, [], ◌∷◌, ◌++◌, append_assoc, length, codes, Option, Some, None, Result, Ok, Err, refl, sym, ap, ◌∙◌, subst, if◌then◌else◌}
-use Rattle.c11_macros.proofs.LongerLists.{last-stays, same-end, SameEnd, no_end, one_end}
+use Rattle.std.proofs.Common.{◌≡◌, ℕ, zero, Bool, true, false, List, [], ◌∷◌, ◌++◌, append_assoc, length, codes, Option, Some, None, Result, Ok, Err, refl, sym, ap, ◌∙◌, subst, if◌then◌else◌, map}
+use Rattle.c11_macros.proofs.LongerLists.{last-stays}
 use Rattle.c11_macros.proofs.OpenCalls.{EndsWith, Ends, no_call, a_call, cons-some, in-call}
 use Rattle.c11_macros.proofs.RunExpands.{leaves-split, these-more, these-none}
-use Rattle.c11_macros.specs.Call.{Call, arguments_for, behind_call, call_of, rest_or}
-use Rattle.c11_macros.specs.Expansion.{Case, call_case, called, case_of, defined_case, fitted_case, form_case, is_looked_up, looked_up_case, misfit, replaced, stays, unclosed, list_of, asked, object_result, call_result, with_first, Expands, Each, Rescans, on, refused}
+use Rattle.c11_macros.specs.Call.{Call, arguments_for, call_of}
+use Rattle.c11_macros.specs.Expansion.{Case, call_case, called, case_of, defined_case, fitted_case, form_case, is_looked_up, looked_up_case, misfit, replaced, stays, unclosed, asked, object_result, call_result, with_first, Expands, Each, Rescans, on, refused}
 use Rattle.c11_macros.specs.Expansion as expansion
 use Rattle.c11_macros.specs.Hidden.{Hidden, Provenance, Failure, failure_at}
 use Rattle.c11_macros.specs.Macros.{Definition, Form, Macros, function_like, object_like}
 use Rattle.c11_macros.specs.Resumed.{BeginsWithRun}
-use Rattle.c11_macros.specs.Runs.{Uses, no_uses, then_uses, using, End, over, waits, fails, is_last_name, Leaves, within, beyond, Runs, after_these}
+use Rattle.c11_macros.specs.Runs.{no_uses, then_uses, using, over, waits, fails, is_last_name, Leaves, within, beyond}
 use Rattle.c11_macros.specs.Runs as run
 use Rattle.c11_macros.specs.Trace.{looked_up_at, trace_each}
 use Rattle.sc_model.specs.Bytes.{same_bytes}
@@ -23,27 +23,22 @@ module _ {P : Type 0} where
     in_stays : CaseIn rest stays
     in_replaced : (d : Definition) → CaseIn rest (replaced d)
     in_unclosed : CaseIn rest unclosed
-    in_misfit : EndsWith rest (behind_call rest) → CaseIn rest misfit
+    in_misfit : (after : List (Hidden P)) → EndsWith rest after → CaseIn rest (misfit after)
     in_called : (d : Definition) (arguments : List (List (Hidden P))) (close : Hidden P) (after : List (Hidden P)) → EndsWith rest after → CaseIn rest (called d arguments close after)
 
   ends-more : {u : Hidden P} {us after : List (Hidden P)} → EndsWith us after → EndsWith (u ∷ us) after
   ends-more {u} e = record { before = u ∷ e.before; is = ap (λ l. u ∷ l) e.is; some = cons-some u e.before }
 
-  fitted-in : (d : Definition) (u : Hidden P) (us : List (Hidden P)) (call : Call P) (o : Option (List (List (Hidden P)))) → EndsWith us call.rest → EndsWith (u ∷ us) (behind_call (u ∷ us)) → CaseIn (u ∷ us) (fitted_case d call.close call.rest o)
-  fitted-in d u us call None e m = in_misfit m
-  fitted-in d u us call (Some arguments) e m = in_called d arguments call.close call.rest (ends-more e)
-
-  behind-in : (u : Hidden P) (us : List (Hidden P)) (o p : Option (Call P)) (c : Call P) → o ≡ Some c → SameEnd o p → Ends us p → EndsWith us (rest_or us p)
-  behind-in u us _ _ c some no_end i = absurd (cc)
-  behind-in u us _ _ c some (one_end a b same) (a_call call e) = e
+  fitted-in : (d : Definition) (u : Hidden P) (us : List (Hidden P)) (call : Call P) (o : Option (List (List (Hidden P)))) → EndsWith us call.rest → CaseIn (u ∷ us) (fitted_case d call.close call.rest o)
+  fitted-in d u us call None e = in_misfit call.rest (ends-more e)
+  fitted-in d u us call (Some arguments) e = in_called d arguments call.close call.rest (ends-more e)
 
   opened-in : (d : Definition) (ps : List (List ℕ)) (v : Bool) (u : Hidden P) (us : List (Hidden P)) → CaseIn (u ∷ us) (call_case d ps v (call_of (length ps) zero us))
-  opened-in d ps v u us = by (call_of (length ps) zero us) refl (in-call (length ps) zero us)
+  opened-in d ps v u us = by (call_of (length ps) zero us) (in-call (length ps) zero us)
     where
-      by : (o : Option (Call P)) → call_of (length ps) zero us ≡ o → Ends us o → CaseIn (u ∷ us) (call_case d ps v o)
-      by _ is no_call = in_unclosed
-      by _ is (a_call call e) = fitted-in d u us call (arguments_for ps v call.arguments) e
-          (ends-more (behind-in u us (call_of (length ps) zero us) (call_of zero zero us) call is (same-end (length ps) zero zero us) (in-call zero zero us)))
+      by : (o : Option (Call P)) → Ends us o → CaseIn (u ∷ us) (call_case d ps v o)
+      by _ no_call = in_unclosed
+      by _ (a_call call e) = fitted-in d u us call (arguments_for ps v call.arguments) e
 
   form-in : (d : Definition) (f : Form) (rest : List (Hidden P)) → CaseIn rest (form_case d f rest)
   form-in d object_like rest = in_replaced d
@@ -68,8 +63,8 @@ module _ {P : Type 0} where
   called-ends : (rest : List (Hidden P)) (d : Definition) (arguments : List (List (Hidden P))) (close : Hidden P) (after : List (Hidden P)) → CaseIn rest (called d arguments close after) → EndsWith rest after
   called-ends rest d arguments close after (in_called _ _ _ _ e) = e
 
-  misfit-ends : (rest : List (Hidden P)) → CaseIn rest misfit → EndsWith rest (behind_call rest)
-  misfit-ends rest (in_misfit e) = e
+  misfit-ends : (rest after : List (Hidden P)) → CaseIn rest (misfit after) → EndsWith rest after
+  misfit-ends rest after (in_misfit _ e) = e
 
   -- the end of two lists together lies in the second, or begins in the first
   record SomeLeaves (source after : List (Hidden P)) : Type 0 where
@@ -168,8 +163,8 @@ module _ {P : Type 0} (provenance : Provenance P) (macros : Macros) where
     is = refl;
   }
 
-  called-split : (t : Hidden P) (r : Answer) (d : Definition) (arguments : List (List (Hidden P))) (close : Hidden P) (after : List (Hidden P)) (results : List Answer) (front source : List (Hidden P))
-      → case_of macros t (front ++ source) ≡ called d arguments close after → Each provenance macros (asked d.form (list_of provenance d t) 0 arguments) results
+  called-split : (t : Hidden P) (r : Answer) (d : Definition) (arguments : List (List (Hidden P))) (close : Hidden P) (after : List (Hidden P)) (results : Result (List (List (Hidden P))) (Failure P)) (front source : List (Hidden P))
+      → case_of macros t (front ++ source) ≡ called d arguments close after → Each provenance macros (asked provenance d t arguments) (map (λ a. []) arguments) results
       → (made : Answer) → call_result provenance d t arguments close results ≡ made → Rescans provenance macros made after r → Onward made after r → Split (t ∷ front) source r
   called-split t r d arguments close after results front source case each m made g next =
       let e = called-ends (front ++ source) d arguments close after (case-in macros t (front ++ source) (called d arguments close after) case) in
@@ -219,16 +214,16 @@ module _ {P : Type 0} (provenance : Provenance P) (macros : Macros) where
           left = expansion.unterminated open_;
           is = refl;
         })
-    split (expansion.miscounted {t} {rest} case) (u ∷ front) source is =
+    split (expansion.miscounted {t} {rest} after case) (u ∷ front) source is =
         let first = first-is t u rest (front ++ source) is in
         let bad = ap (case_of macros t) (sym first.1) ∙ case in
-        let e = misfit-ends (front ++ source) (case-in macros t (front ++ source) misfit bad) in
-        let s = divide e.before (behind_call (front ++ source)) front source (sym e.is) in
+        let e = misfit-ends (front ++ source) after (case-in macros t (front ++ source) (misfit after) bad) in
+        let s = divide e.before after front source (sym e.is) in
         subst (λ (v : Hidden P). Split (v ∷ front) source (Err (failure_at WrongArguments t))) first.0 (record {
           done = [];
           end = fails (failure_at WrongArguments t);
           uses = using s.taken (looked_up_at t);
-          runs = run.bad_count s.left s.rest s.taken bad s.leaves;
+          runs = run.bad_count after s.left s.rest s.taken bad s.leaves;
           behind = Err (failure_at WrongArguments t);
           left = refl;
           is = refl;

@@ -55,15 +55,6 @@ abbrev pub call_of : {P : Type 0} → ℕ → ℕ → List (Hidden P) → Option
 call_of commas depth [] = None
 call_of commas depth (t ∷ ts) = call_step (role_of t.spelling) commas depth t ts (λ c d. call_of c d ts)
 
-abbrev pub rest_or : {P : Type 0} → List (Hidden P) → Option (Call P) → List (Hidden P)
-rest_or ts None = ts
-rest_or ts (Some call) = call.rest
-
--- what follows the call that these tokens begin with
-abbrev pub behind_call : {P : Type 0} → List (Hidden P) → List (Hidden P)
-behind_call [] = []
-behind_call (t ∷ ts) = rest_or ts (call_of zero zero ts)
-
 -- so many arguments fit the macro; for ... none need be given (own)
 abbrev pub counts : Form → ℕ → Bool
 counts object_like n = false

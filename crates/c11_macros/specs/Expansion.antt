@@ -1,10 +1,10 @@
 -- Macro expansion (C11 6.10.3 and 6.10.3.4), by Prosser's algorithm.
-use Rattle.std.specs.Prelude.{◌≡◌, ℕ, zero, suc, not, ◌&&◌, Bool, true, false, List, [], ◌∷◌, ◌++◌, length, codes, Option, Some, None, Result, Ok, Err, if◌then◌else◌}
+use Rattle.std.specs.Prelude.{◌≡◌, ℕ, zero, not, ◌&&◌, Bool, true, false, List, [], ◌∷◌, ◌++◌, map, length, codes, Option, Some, None, Result, Ok, Err, is_ok, slice_set, if◌then◌else◌}
 use Rattle.c11_macros.specs.Call.{Call, call_of, arguments_for}
 use Rattle.c11_macros.specs.Hidden.{Hidden, Provenance, Failure, failure_at, with_name, meet}
-use Rattle.c11_macros.specs.Macros.{Form, object_like, function_like, Definition, Replacement, Item, list_at, Macros}
-use Rattle.c11_macros.specs.Results.{result_map}
-use Rattle.c11_macros.specs.Substitution.{substituted, parts, neither, wants}
+use Rattle.c11_macros.specs.Macros.{Form, object_like, function_like, Definition, Item, list_at, Macros}
+use Rattle.c11_macros.specs.Results.{result_map, result_and_then}
+use Rattle.c11_macros.specs.Substitution.{argument, substituted, slots, parts, neither, wanted_of}
 use Rattle.sc_model.specs.declared.cause.Cause.TheVariants.{UnterminatedCall, WrongArguments}
 use Rattle.c11_tokens.specs.Lex.{is_identifier_kind}
 use Rattle.std.specs.List.{list_any}
@@ -19,8 +19,8 @@ pub data Case (P : Type 0) : Type 0 where
   replaced : Definition → Case P
   -- a call that no parenthesis closes
   unclosed : Case P
-  -- a call with another number of arguments
-  misfit : Case P
+  -- a call with another number of arguments, and what follows it
+  misfit : List (Hidden P) → Case P
   -- a call: its arguments, its closing parenthesis, and what follows it
   called : Definition → List (List (Hidden P)) → Hidden P → List (Hidden P) → Case P
 
@@ -29,7 +29,7 @@ abbrev pub is_looked_up : {P : Type 0} → Hidden P → Bool
 is_looked_up t = is_identifier_kind t.kind && not (t.hide t.spelling)
 
 abbrev pub fitted_case : {P : Type 0} → Definition → Hidden P → List (Hidden P) → Option (List (List (Hidden P))) → Case P
-fitted_case d close rest None = misfit
+fitted_case d close rest None = misfit rest
 fitted_case d close rest (Some arguments) = called d arguments close rest
 
 abbrev pub call_case : {P : Type 0} → Definition → List (List ℕ) → Bool → Option (Call P) → Case P
@@ -59,18 +59,20 @@ case_of macros t rest = looked_up_case macros (is_looked_up t) t.spelling rest
 abbrev pub list_of : {P : Type 0} → Provenance P → Definition → Hidden P → List Item
 list_of provenance d head = list_at d.replacement (provenance.place head.place)
 
--- The arguments that are expanded alone, each in its place: those that the list wants.
-abbrev pub asked : {P : Type 0} → Form → List Item → ℕ → List (List (Hidden P)) → List (Option (List (Hidden P)))
-asked form items n [] = []
-asked form items n (argument ∷ arguments) = (if wants n false (parts form neither items) then Some argument else None) ∷ asked form items (suc n) arguments
+-- The arguments that are expanded alone, each with its parameter, in the order in which the list
+-- wants them. Where a # fails there are none, since the call fails before any expands.
+abbrev pub asked : {P : Type 0} → Provenance P → Definition → Hidden P → List (List (Hidden P)) → List (ℕ × List (Hidden P))
+asked provenance d head arguments =
+    if is_ok (slots head arguments (parts d.form neither (list_of provenance d head))) then map (λ n. (n, argument arguments n)) (wanted_of d.form (list_of provenance d head)) else []
 
 -- an object-like macro's replacement
 abbrev pub object_result : {P : Type 0} → Provenance P → Definition → Hidden P → Result (List (Hidden P)) (Failure P)
 object_result provenance d head = substituted provenance d.form (list_of provenance d head) head [] [] (with_name head.hide head.spelling)
 
--- a call's replacement
-abbrev pub call_result : {P : Type 0} → Provenance P → Definition → Hidden P → List (List (Hidden P)) → Hidden P → List (Result (List (Hidden P)) (Failure P)) → Result (List (Hidden P)) (Failure P)
-call_result provenance d head arguments close expanded = substituted provenance d.form (list_of provenance d head) head arguments expanded (with_name (meet head.hide close.hide) head.spelling)
+-- a call's replacement, or the failure of an argument
+abbrev pub call_result : {P : Type 0} → Provenance P → Definition → Hidden P → List (List (Hidden P)) → Hidden P → Result (List (List (Hidden P))) (Failure P) → Result (List (Hidden P)) (Failure P)
+call_result provenance d head arguments close expanded =
+    result_and_then (λ lists. substituted provenance d.form (list_of provenance d head) head arguments lists (with_name (meet head.hide close.hide) head.spelling)) expanded
 
 -- the token before what the rest becomes
 abbrev pub with_first : {P : Type 0} → Hidden P → Result (List (Hidden P)) (Failure P) → Result (List (Hidden P)) (Failure P)
@@ -86,19 +88,21 @@ mutual
         → case_of macros t rest ≡ replaced d → Rescans provenance macros (object_result provenance d t) rest r → Expands provenance macros (t ∷ rest) r
     unterminated : {t : Hidden P} {rest : List (Hidden P)}
         → case_of macros t rest ≡ unclosed → Expands provenance macros (t ∷ rest) (Err (failure_at UnterminatedCall t))
-    miscounted : {t : Hidden P} {rest : List (Hidden P)}
-        → case_of macros t rest ≡ misfit → Expands provenance macros (t ∷ rest) (Err (failure_at WrongArguments t))
+    miscounted : {t : Hidden P} {rest : List (Hidden P)} (after : List (Hidden P))
+        → case_of macros t rest ≡ misfit after → Expands provenance macros (t ∷ rest) (Err (failure_at WrongArguments t))
     call : {t : Hidden P} {rest : List (Hidden P)} {r : Result (List (Hidden P)) (Failure P)} (d : Definition) (arguments : List (List (Hidden P))) (close : Hidden P)
-        (after : List (Hidden P)) (expanded : List (Result (List (Hidden P)) (Failure P)))
-        → case_of macros t rest ≡ called d arguments close after → Each provenance macros (asked d.form (list_of provenance d t) 0 arguments) expanded
+        (after : List (Hidden P)) (expanded : Result (List (List (Hidden P))) (Failure P))
+        → case_of macros t rest ≡ called d arguments close after → Each provenance macros (asked provenance d t arguments) (map (λ a. []) arguments) expanded
         → Rescans provenance macros (call_result provenance d t arguments close expanded) after r → Expands provenance macros (t ∷ rest) r
 
-  -- the arguments that are asked for expand alone to these; the others to nothing
-  pub data Each {P : Type 0} (provenance : Provenance P) (macros : Macros) : List (Option (List (Hidden P))) → List (Result (List (Hidden P)) (Failure P)) → Type 0 where
-    none : Each provenance macros [] []
-    passed : {asks : List (Option (List (Hidden P)))} {rs : List (Result (List (Hidden P)) (Failure P))} → Each provenance macros asks rs → Each provenance macros (None ∷ asks) (Ok [] ∷ rs)
-    expanded : {asks : List (Option (List (Hidden P)))} {rs : List (Result (List (Hidden P)) (Failure P))} {argument : List (Hidden P)} {r : Result (List (Hidden P)) (Failure P)}
-        → Expands provenance macros argument r → Each provenance macros asks rs → Each provenance macros (Some argument ∷ asks) (r ∷ rs)
+  -- The arguments that are asked for expand alone, one after the other, up to the first cause
+  -- (6.10.3.1). There is a list for each parameter, which becomes what its argument expands to.
+  pub data Each {P : Type 0} (provenance : Provenance P) (macros : Macros) : List (ℕ × List (Hidden P)) → List (List (Hidden P)) → Result (List (List (Hidden P))) (Failure P) → Type 0 where
+    none : {lists : List (List (Hidden P))} → Each provenance macros [] lists (Ok lists)
+    next : {ask : ℕ × List (Hidden P)} {asks : List (ℕ × List (Hidden P))} {lists : List (List (Hidden P))} {r : Result (List (List (Hidden P))) (Failure P)} (list : List (Hidden P))
+        → Expands provenance macros ask.1 (Ok list) → Each provenance macros asks (slice_set lists ask.0 list) r → Each provenance macros (ask ∷ asks) lists r
+    stops : {ask : ℕ × List (Hidden P)} {asks : List (ℕ × List (Hidden P))} {lists : List (List (Hidden P))} (failure : Failure P)
+        → Expands provenance macros ask.1 (Err failure) → Each provenance macros (ask ∷ asks) lists (Err failure)
 
   -- a replacement is scanned again together with the rest (6.10.3.4); its cause is the cause of the
   -- whole

@@ -1,10 +1,9 @@
 -- The expansion of what stands before a list, a name of it or what replaced one, up to where
 -- nothing of it is left (C11 6.10.3.4). More may follow the list than is known so far: it may call
 -- the last name, or end an open call (6.10.3p10, p11).
-use Rattle.std.specs.Prelude.{◌≡◌, ℕ, ◌&&◌, Bool, true, false, List, [], ◌∷◌, ◌++◌, Option, Some, None, Result, Ok, Err}
-use Rattle.c11_macros.specs.Call.{behind_call}
+use Rattle.std.specs.Prelude.{◌≡◌, ℕ, ◌&&◌, Bool, true, false, List, [], ◌∷◌, ◌++◌, map, Option, Some, None, Result, Ok, Err}
 use Rattle.c11_macros.specs.Defines.{is_function_like}
-use Rattle.c11_macros.specs.Expansion.{stays, replaced, unclosed, misfit, called, case_of, is_looked_up, asked, list_of, object_result, call_result, Each}
+use Rattle.c11_macros.specs.Expansion.{stays, replaced, unclosed, misfit, called, case_of, is_looked_up, asked, object_result, call_result, Each}
 use Rattle.c11_macros.specs.Hidden.{Hidden, Provenance, Failure, failure_at}
 use Rattle.c11_macros.specs.Macros.{Definition, Macros}
 use Rattle.c11_macros.specs.Results.{result_map}
@@ -66,21 +65,21 @@ pub data Runs {P : Type 0} (provenance : Provenance P) (macros : Macros) : (fron
       → case_of macros t (front ++ source) ≡ replaced d → object_result provenance d t ≡ Ok body → Runs provenance macros (body ++ front) source done end u
       → Runs provenance macros (t ∷ front) source done end (then_uses (using [] (looked_up_at t)) u)
   call : {t : Hidden P} {front source done : List (Hidden P)} {end : End P} {u : Uses P} (d : Definition) (arguments : List (List (Hidden P))) (close : Hidden P)
-      (after left rest taken body : List (Hidden P)) (results : List (Result (List (Hidden P)) (Failure P)))
+      (after left rest taken body : List (Hidden P)) (results : Result (List (List (Hidden P))) (Failure P))
       → case_of macros t (front ++ source) ≡ called d arguments close after → Leaves source after left rest taken
-      → (each : Each provenance macros (asked d.form (list_of provenance d t) 0 arguments) results) → call_result provenance d t arguments close results ≡ Ok body
+      → (each : Each provenance macros (asked provenance d t arguments) (map (λ a. []) arguments) results) → call_result provenance d t arguments close results ≡ Ok body
       → Runs provenance macros (body ++ left) rest done end u
       → Runs provenance macros (t ∷ front) source done end (then_uses (using taken (looked_up_at t ++ (trace_each each).looked_up)) u)
   bad_object : {t : Hidden P} {front source : List (Hidden P)} (d : Definition) (failure : Failure P) → case_of macros t (front ++ source) ≡ replaced d
       → object_result provenance d t ≡ Err failure → Runs provenance macros (t ∷ front) source [] (fails failure) (using [] (looked_up_at t))
   -- a closed call that is refused took its tokens too
-  bad_count : {t : Hidden P} {front source : List (Hidden P)} (left rest taken : List (Hidden P)) → case_of macros t (front ++ source) ≡ misfit
-      → Leaves source (behind_call (front ++ source)) left rest taken
+  bad_count : {t : Hidden P} {front source : List (Hidden P)} (after left rest taken : List (Hidden P)) → case_of macros t (front ++ source) ≡ misfit after
+      → Leaves source after left rest taken
       → Runs provenance macros (t ∷ front) source [] (fails (failure_at WrongArguments t)) (using taken (looked_up_at t))
   bad_call : {t : Hidden P} {front source : List (Hidden P)} (d : Definition) (arguments : List (List (Hidden P))) (close : Hidden P)
-      (after left rest taken : List (Hidden P)) (results : List (Result (List (Hidden P)) (Failure P))) (failure : Failure P)
+      (after left rest taken : List (Hidden P)) (results : Result (List (List (Hidden P))) (Failure P)) (failure : Failure P)
       → case_of macros t (front ++ source) ≡ called d arguments close after → Leaves source after left rest taken
-      → (each : Each provenance macros (asked d.form (list_of provenance d t) 0 arguments) results) → call_result provenance d t arguments close results ≡ Err failure
+      → (each : Each provenance macros (asked provenance d t arguments) (map (λ a. []) arguments) results) → call_result provenance d t arguments close results ≡ Err failure
       → Runs provenance macros (t ∷ front) source [] (fails failure) (using taken (looked_up_at t ++ (trace_each each).looked_up))
 
 -- ---- the names of a list

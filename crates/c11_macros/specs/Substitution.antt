@@ -1,9 +1,9 @@
 -- What a macro's replacement list becomes (C11 6.10.3.1 to 6.10.3.3): four steps, each over the
 -- whole list.
-use Rattle.std.specs.Prelude.{ℕ, zero, suc, ◌+◌, ◌==◌, ◌&&◌, ◌||◌, not, Bool, true, false, List, [], ◌∷◌, ◌++◌, map, length, codes, Option, Some, None, is_some, Result, Ok, Err, slice_index_or, if◌then◌else◌}
+use Rattle.std.specs.Prelude.{ℕ, ◌+◌, ◌==◌, ◌&&◌, ◌||◌, not, Bool, true, false, List, [], ◌∷◌, ◌++◌, map, filter, codes, Option, Some, None, is_some, Result, Ok, Err, slice_index_or, if◌then◌else◌}
 use Rattle.c11_macros.specs.Results.{result_map, result_and_then}
 use Rattle.c11_macros.specs.Hidden.{Hidden, HideSet, Provenance, Failure, failure_at, no_names, union, meet}
-use Rattle.c11_macros.specs.Macros.{Item, Form, object_like, function_like, Definition, escaped}
+use Rattle.c11_macros.specs.Macros.{Item, Form, object_like, function_like, escaped}
 use Rattle.c11_tokens.specs.Relex.{relexed}
 use Rattle.sc_model.specs.declared.cause.Cause.TheVariants.{BadPaste, BadStringize}
 use Rattle.sc_model.specs.declared.kind.Kind.{Kind}
@@ -149,20 +149,16 @@ abbrev pub begins_paste : {P : Type 0} → List (Slot P) → Bool
 begins_paste (for_paste ∷ ss) = true
 begins_paste _ = false
 
--- the argument of a parameter as it expands alone
-abbrev pub expansion_of : {P E : Type 0} → List (Result (List (Hidden P)) E) → ℕ → Result (List (Hidden P)) E
-expansion_of expanded n = slice_index_or expanded n (Ok [])
+-- the argument of a parameter: as it is beside ##, or as it expands alone
+abbrev pub argument_pieces : {P : Type 0} → List (List (Hidden P)) → List (List (Hidden P)) → Bool → ℕ → Bool → List (Piece P)
+argument_pieces raw expanded true n space = or_placemarker (with_space space (argument raw n))
+argument_pieces raw expanded false n space = pieces_of (with_space space (argument expanded n))
 
-abbrev pub argument_pieces : {P : Type 0} → Bool → List (List (Hidden P)) → List (Result (List (Hidden P)) (Failure P)) → ℕ → Bool → Result (List (Piece P)) (Failure P)
-argument_pieces true raw expanded n space = Ok (or_placemarker (with_space space (argument raw n)))
-argument_pieces false raw expanded n space = result_map (λ ts. pieces_of (with_space space ts)) (expansion_of expanded n)
-
-abbrev pub filled : {P : Type 0} → List (List (Hidden P)) → List (Result (List (Hidden P)) (Failure P)) → Bool → List (Slot P) → Result (List (Piece P)) (Failure P)
-filled raw expanded behind [] = Ok []
-filled raw expanded behind (filled_by t ∷ ss) = result_map (λ rest. piece t ∷ rest) (filled raw expanded false ss)
-filled raw expanded behind (for_paste ∷ ss) = result_map (λ rest. operator ∷ rest) (filled raw expanded true ss)
-filled raw expanded behind (for_parameter n space ∷ ss) =
-    result_and_then (λ here. result_map (λ rest. here ++ rest) (filled raw expanded false ss)) (argument_pieces (behind || begins_paste ss) raw expanded n space)
+abbrev pub filled : {P : Type 0} → List (List (Hidden P)) → List (List (Hidden P)) → Bool → List (Slot P) → List (Piece P)
+filled raw expanded behind [] = []
+filled raw expanded behind (filled_by t ∷ ss) = piece t ∷ filled raw expanded false ss
+filled raw expanded behind (for_paste ∷ ss) = operator ∷ filled raw expanded true ss
+filled raw expanded behind (for_parameter n space ∷ ss) = argument_pieces raw expanded (behind || begins_paste ss) n space ++ filled raw expanded false ss
 
 -- ---- tokens pasted at each ##, from the left (6.10.3.3)
 
@@ -205,13 +201,15 @@ hidden_by provenance names t = record t { hide = union t.hide names; place = pro
 abbrev pub hiding : {P : Type 0} → Provenance P → HideSet → List (Hidden P) → List (Hidden P)
 hiding provenance names ts = map (hidden_by provenance names) ts
 
+-- the slots filled, and pasted
+abbrev pub put_together : {P : Type 0} → Provenance P → Hidden P → List (List (Hidden P)) → List (List (Hidden P)) → HideSet → List (Slot P) → Result (List (Hidden P)) (Failure P)
+put_together provenance head raw expanded names ss =
+    result_map (λ pieces. hiding provenance names (with_space head.space (tokens_of pieces))) (all_glued head (filled raw expanded false ss))
+
 -- The replacement of a macro's name: its list of items, with these arguments as they are and as
 -- they expand.
-abbrev pub substituted : {P : Type 0} → Provenance P → Form → List Item → Hidden P → List (List (Hidden P)) → List (Result (List (Hidden P)) (Failure P)) → HideSet
-    → Result (List (Hidden P)) (Failure P)
-substituted provenance form items head raw expanded names =
-    result_map (λ pieces. hiding provenance names (with_space head.space (tokens_of pieces)))
-    (result_and_then (all_glued head) (result_and_then (filled raw expanded false) (slots head raw (parts form neither items))))
+abbrev pub substituted : {P : Type 0} → Provenance P → Form → List Item → Hidden P → List (List (Hidden P)) → List (List (Hidden P)) → HideSet → Result (List (Hidden P)) (Failure P)
+substituted provenance form items head raw expanded names = result_and_then (put_together provenance head raw expanded names) (slots head raw (parts form neither items))
 
 -- ---- which arguments are expanded: those with a place beside no # and no ##
 
@@ -219,8 +217,18 @@ abbrev pub is_paste_next : List Part → Bool
 is_paste_next (paste ∷ ps) = true
 is_paste_next _ = false
 
-abbrev pub wants : ℕ → Bool → List Part → Bool
-wants n behind [] = false
-wants n behind (paste ∷ ps) = wants n true ps
-wants n behind (parameter m space ∷ ps) = (n == m && not (behind || is_paste_next ps)) || wants n false ps
-wants n behind (p ∷ ps) = wants n false ps
+-- the parameters with such a place, in the order of the places
+abbrev pub wanted_places : Bool → List Part → List ℕ
+wanted_places behind [] = []
+wanted_places behind (paste ∷ ps) = wanted_places true ps
+wanted_places behind (parameter n space ∷ ps) = if behind || is_paste_next ps then wanted_places false ps else n ∷ wanted_places false ps
+wanted_places behind (p ∷ ps) = wanted_places false ps
+
+-- each of these once, where it first stands
+abbrev pub each_once : List ℕ → List ℕ
+each_once [] = []
+each_once (n ∷ ns) = n ∷ filter (λ m. not (m == n)) (each_once ns)
+
+-- each once, in the order of its first such place
+abbrev pub wanted_of : Form → List Item → List ℕ
+wanted_of form items = each_once (wanted_places false (parts form neither items))

@@ -1,8 +1,7 @@
 -- What an expansion used: the names that it looked up, the tokens that it took from its list, and
 -- its steps.
-use Rattle.std.specs.Prelude.{◌≡◌, ℕ, suc, ◌+◌, List, [], ◌∷◌, ◌++◌, length, Option, Result, if◌then◌else◌}
-use Rattle.c11_macros.specs.Call.{behind_call}
-use Rattle.c11_macros.specs.Expansion.{is_looked_up, Expands, empty, stay, object, unterminated, miscounted, call, Each, none, passed, expanded, Rescans, on, refused}
+use Rattle.std.specs.Prelude.{◌≡◌, ℕ, suc, ◌+◌, List, [], ◌∷◌, ◌++◌, length, Result, if◌then◌else◌}
+use Rattle.c11_macros.specs.Expansion.{is_looked_up, Expands, empty, stay, object, unterminated, miscounted, call, Each, none, next, stops, Rescans, on, refused}
 use Rattle.c11_macros.specs.Hidden.{Hidden, Provenance, Failure}
 use Rattle.c11_macros.specs.Macros.{Macros}
 
@@ -53,13 +52,13 @@ abbrev mutual
   trace (stay {t} {rest} is d) = both (taking t rest) (trace d)
   trace (object {t} {rest} d is more) = both (taking t rest) (trace_rescan more)
   trace (unterminated {t} {rest} is) = both (taking t rest) failing
-  trace (miscounted {t} {rest} is) = both (taking t rest) (both (taking_call (behind_call rest)) failing)
+  trace (miscounted {t} {rest} after is) = both (taking t rest) (both (taking_call after) failing)
   trace (call {t} {rest} d arguments close after results is each more) = both (both (taking t rest) (taking_call after)) (both (trace_each each) (trace_rescan more))
 
-  pub trace_each : {P : Type 0} {provenance : Provenance P} {macros : Macros} {asks : List (Option (List (Hidden P)))} {rs : List (Result (List (Hidden P)) (Failure P))} → Each provenance macros asks rs → Trace
+  pub trace_each : {P : Type 0} {provenance : Provenance P} {macros : Macros} {asks : List (ℕ × List (Hidden P))} {lists : List (List (Hidden P))} {r : Result (List (List (Hidden P))) (Failure P)} → Each provenance macros asks lists r → Trace
   trace_each none = no_trace
-  trace_each (passed others) = trace_each others
-  trace_each (expanded first others) = both (after_step (trace first)) (trace_each others)
+  trace_each (next list first others) = both (after_step (trace first)) (trace_each others)
+  trace_each (stops failure first) = after_step (trace first)
 
   pub trace_rescan : {P : Type 0} {provenance : Provenance P} {macros : Macros} {made : Result (List (Hidden P)) (Failure P)} {rest : List (Hidden P)} {r : Result (List (Hidden P)) (Failure P)} → Rescans provenance macros made rest r → Trace
   trace_rescan (on more) = trace more

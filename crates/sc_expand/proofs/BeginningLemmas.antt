@@ -6,14 +6,15 @@ use Rattle.std.proofs.Math.ListN.{get_or-map}
 use Rattle.std.proofs.lemmas.Option.{slice_get-get_or}
 use Rattle.std.proofs.lemmas.Simd.{map-map}
 use Rattle.std.proofs.lemmas.List.Elements.{All-drop, All-head, All-tail, All-weaker}
-use Rattle.std.specs.Prelude.{codes, slice_get, IfNone, IfOk, IfSome}
+use Rattle.std.specs.Prelude.{codes, is_ok, slice_get, IfNone, IfOk, IfSome}
 use Rattle.c11_macros.specs.Hidden as model
-use Rattle.c11_macros.specs.Hidden.{Failure, HideSet, Provenance, failure_at, meet, with_name}
+use Rattle.c11_macros.specs.Hidden.{Failure, HideSet, Provenance, failure_at, meet, no_names, with_name}
+use Rattle.c11_macros.specs.Results.{result_and_then}
 use Rattle.c11_macros.specs.Call.{arguments_for, call_of}
 use Rattle.c11_macros.specs.Call.{Call as SomeCall}
 use Rattle.c11_macros.specs.Expansion.{call_case, called, case_of, defined_case, fitted_case, form_case, is_looked_up, list_of, looked_up_case, misfit, stays}
 use Rattle.c11_macros.specs.Macros.{Definition, Form, Item, Macros, function_like}
-use Rattle.c11_macros.specs.Substitution.{argument, substituted}
+use Rattle.c11_macros.specs.Substitution.{Slot, argument, neither, parts, put_together, slots, substituted, wanted_of}
 use Rattle.sc_base.proofs.Growth.{Extends-trans}
 use Rattle.sc_base.specs.declared.id.Cond.{Cond}
 use Rattle.sc_base.specs.declared.id.Name.{Name}
@@ -24,7 +25,7 @@ use Rattle.sc_expand.specs.Plain.{IsTemplate, gathered}
 use Rattle.sc_model.specs.Bytes.{same_bytes}
 use Rattle.sc_expand.specs.Beginning.{Begins, IsRefused, IsTemplateOf, token_at, tokens_of, with_argument}
 use Rattle.sc_expand.specs.Taking.{has_first}
-use Rattle.sc_expand.specs.Seen.{AreHeld, IsHeldCall, IsHeldTemplate, IsHeldToken, Stores, seen_at, seen_template, seen_wanted, stores, waiting_at}
+use Rattle.sc_expand.specs.Seen.{AreHeld, IsHeldCall, IsHeldTemplate, IsHeldToken, Stores, provenance_of, seen_at, seen_template, seen_wanted, stores, waiting_at}
 use Rattle.sc_expand.specs.declared.call.Call.{Call}
 use Rattle.sc_expand.specs.declared.call.Template.{Template}
 use Rattle.sc_expand.specs.declared.call.Wanted.{Wanted}
@@ -39,10 +40,11 @@ use Rattle.sc_base.specs.declared.token.Token.{Token}
 use Rattle.sc_model.specs.Growth.{Extends}
 use Rattle.sc_model.specs.Sets.{Sets, IsCond, IsConfig, Keeps}
 use Rattle.sc_subst.proofs.Later.{IsHeldHidden-Extends, IsHeldSet-Extends, hide_later, text_later}
+use Rattle.sc_subst.proofs.Templates.{slots_fail}
 use Rattle.sc_subst.specs.declared.hidden.Hidden.{Hidden}
 use Rattle.sc_subst.specs.declared.stop.SubstStop.{SubstStop}
 use Rattle.sc_subst.specs.declared.stop.SubstStop.TheVariants.{Fault}
-use Rattle.sc_subst.specs.Halves.{completed, wanted_of}
+use Rattle.sc_subst.specs.Halves.{completed}
 use Rattle.sc_subst.specs.Parts.{seen_arguments, seen_list}
 use Rattle.sc_subst.specs.Seen.{IsHeldHidden, IsHeldSet, Lasting, hide_at, seen_hidden}
 use Rattle.sc_model.specs.declared.cause.Cause.{Cause}
@@ -97,18 +99,22 @@ in_some {A} P r a is h = subst (λ r. IfSome r P) is h
 
 -- ---- faults of a list
 
-module _ (names : List (List ℕ)) (sets : List (List Name)) (form : declared_form.Form) (items : List declared.Item) (raw : List (List Hidden)) (place : Place) where
-  -- what replaces the name is this, whatever the arguments expand to
-  abbrev pub Replaces : (model.Hidden Place → HideSet → List (Result (List (model.Hidden Place)) (Failure Place)) → Provenance Place → List ℕ → Result (List (model.Hidden Place)) (Failure Place))
-      → List (List ℕ) → List (List Name) → model.Hidden Place → List (Result (List (model.Hidden Place)) (Failure Place)) → Provenance Place → HideSet → Type 0
-  Replaces what names sets head results provenance hidden =
-      substituted provenance (seen_form names form) (map (seen_item names) items) head (seen_arguments names sets raw) results hidden
-      ≡ what head hidden results provenance (wanted_of (seen_form names form) (map (seen_item names) items))
+-- no # fails where the whole has not its failure
+pub no_hash : (provenance : Provenance Place) (form : Form) (items : List Item) (head : model.Hidden Place) (raw expanded : List (List (model.Hidden Place))) (hidden : HideSet)
+    → (substituted provenance form items head raw expanded hidden ≡ Err (failure_at cause.BadStringize head) → ⊥) → is_ok (slots head raw (parts form neither items)) ≡ true
+no_hash provenance form items head raw expanded hidden differs = by (slots head raw (parts form neither items)) (slots_fail head raw (parts form neither items)) differs
+  where
+    by : (made : Result (List (Slot Place)) (Failure Place)) → ((failure : Failure Place) → made ≡ Err failure → failure ≡ failure_at cause.BadStringize head)
+        → (result_and_then (put_together provenance head raw expanded hidden) made ≡ Err (failure_at cause.BadStringize head) → ⊥) → is_ok made ≡ true
+    by (Ok ss) told differs = refl
+    by (Err failure) told differs = absurd (differs (ap Err (told failure refl)))
 
+module _ (names : List (List ℕ)) (sets : List (List Name)) (form : declared_form.Form) (items : List declared.Item) (raw : List (List Hidden)) (place : Place) where
   abbrev pub Fails : Cause → Type 0
-  Fails x = Lasting names sets (λ names sets. (head : model.Hidden Place) (results : List (Result (List (model.Hidden Place)) (Failure Place))) (provenance : Provenance Place) (hidden : HideSet) → head.place ≡ place
-      → OnOperator x (Replaces (λ head hidden results provenance wanted. Err (failure_at cause.BadStringize head)) names sets head results provenance hidden)
-      (Replaces (λ head hidden results provenance wanted. completed provenance head hidden wanted results (Err (failure_at cause.BadPaste head))) names sets head results provenance hidden))
+  Fails x = Lasting names sets (λ names sets. (head : model.Hidden Place) → head.place ≡ place → OnOperator x
+      (slots head (seen_arguments names sets raw) (parts (seen_form names form) neither (map (seen_item names) items)) ≡ Err (failure_at cause.BadStringize head))
+      ((expanded : List (List (model.Hidden Place))) (provenance : Provenance Place) (hidden : HideSet)
+      → substituted provenance (seen_form names form) (map (seen_item names) items) head (seen_arguments names sets raw) expanded hidden ≡ Err (failure_at cause.BadPaste head)))
 
   pub refused_some : (stop : SubstStop) (template : Template) → OnFault stop Fails → IsRefused stop template
       → Lasting names sets (λ names sets. IsTemplateOf names sets (seen_form names form) (map (seen_item names) items) (seen_arguments names sets raw) place template)
@@ -116,13 +122,21 @@ module _ (names : List (List ℕ)) (sets : List (List Name)) (form : declared_fo
       let claim : Fails told.cause = subst (λ stop. OnFault stop Fails) told.is err in
       record {
         at = λ later later_sets e f. record {
-          completes = λ s head results provenance hidden same.
-              let paste = on_paste _ _ told.cause told.no_hash (claim.at later later_sets e f head results provenance hidden same) in
-              let wanted = wanted_of (seen_form later form) (map (seen_item later) items) in
-              paste.1 ∙ (ap (completed provenance head hidden wanted results) (λ i. Err (record { cause = sym paste.0 i; place = same i }))
-              ∙ ap (λ made. completed provenance head hidden wanted results (seen_template (stores s later later_sets) place made)) (sym told.made));
+          stringized = λ head same.
+              let paste = (on_paste _ _ told.cause told.no_hash (claim.at later later_sets e f head same)).1 [] (provenance_of []) no_names in
+              no_hash (provenance_of []) (seen_form later form) (map (seen_item later) items) head (seen_arguments later later_sets raw) [] no_names (λ hash. other_cause head _ paste hash);
+          completes = λ s head expanded provenance hidden same.
+              let paste = on_paste _ _ told.cause told.no_hash (claim.at later later_sets e f head same) in
+              paste.1 expanded provenance hidden ∙ (ap (completed provenance head hidden expanded) (λ i. Err (record { cause = sym paste.0 i; place = same i }))
+              ∙ ap (λ made. completed provenance head hidden expanded (seen_template (stores s later later_sets) place made)) (sym told.made));
         };
       }
+    where
+      cause-differs : cause.BadPaste ≡ cause.BadStringize → ⊥
+      cause-differs is = cc
+
+      other_cause : (head : model.Hidden Place) (made : Result (List (model.Hidden Place)) (Failure Place)) → made ≡ Err (failure_at cause.BadPaste head) → made ≡ Err (failure_at cause.BadStringize head) → ⊥
+      other_cause head made paste hash = let same : failure_at cause.BadPaste head ≡ failure_at cause.BadStringize head = cc in cause-differs (ap (λ (f : Failure Place). f.cause) same)
 
   pub refused_none : (stop : SubstStop) → OnFault stop Fails → stop ≡ Fault cause.BadStringize → Fails cause.BadStringize
   refused_none stop err is = subst (λ stop. OnFault stop Fails) is err
@@ -226,13 +240,12 @@ module _ (names : List (List ℕ)) (sets : List (List Name)) (provenance : Prove
   pub is_template : (items : List Item) (cond : Cond) (head close : Hidden) (raw : List (List Hidden)) (call : Call) (s : Sets) → list_of provenance d (seen_hidden names sets head) ≡ items
       → Begins names sets d.form items cond head close raw call
       → IsTemplate provenance d (seen_hidden names sets head) (seen_arguments names sets raw) (seen_template (stores s names sets) head.token.place call.template)
-  is_template items cond head close raw call s is begun = record {
-    completes = λ results hidden.
-        let t = seen_hidden names sets head in
-        let P : List Item → Type 0 = λ items. substituted provenance d.form items t (seen_arguments names sets raw) results hidden
-        ≡ completed provenance t hidden (wanted_of d.form items) results (seen_template (stores s names sets) head.token.place call.template) in
-        subst P (sym is) (begun.template.completes s t results provenance hidden refl);
-  }
+  is_template items cond head close raw call s is begun =
+      let t = seen_hidden names sets head in
+      record {
+        stringized = ap (λ list. is_ok (slots t (seen_arguments names sets raw) (parts d.form neither list))) is ∙ begun.template.stringized t refl;
+        completes = λ expanded hidden. ap (λ list. substituted provenance d.form list t (seen_arguments names sets raw) expanded hidden) is ∙ begun.template.completes s t expanded provenance hidden refl;
+      }
 
   pub is_gathered : (items : List Item) (cond : Cond) (head close : Hidden) (raw : List (List Hidden)) (call : Call) (s : Sets) (c : List ℕ) → list_of provenance d (seen_hidden names sets head) ≡ items
       → Begins names sets d.form items cond head close raw call
@@ -270,7 +283,7 @@ module _ {P : Type 0} (macros : Macros) (t opener close : model.Hidden P) (betwe
   called_case lists is fits = is ∙ ap (fitted_case d close after) fits
 
   pub misfit_case : case_of macros t (opener ∷ (between ++ close ∷ after)) ≡ fitted_case d close after (arguments_for parameters variadic (parted (length parameters) 0 between))
-      → arguments_for parameters variadic (parted (length parameters) 0 between) ≡ None → case_of macros t (opener ∷ (between ++ close ∷ after)) ≡ misfit
+      → arguments_for parameters variadic (parted (length parameters) 0 between) ≡ None → case_of macros t (opener ∷ (between ++ close ∷ after)) ≡ misfit after
   misfit_case is fits = is ∙ ap (fitted_case d close after) fits
 
 -- ---- the tokens at places

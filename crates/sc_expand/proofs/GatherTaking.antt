@@ -70,10 +70,10 @@ module _ (provenance : Provenance Place) (macros : Macros) (t : model.Hidden Pla
       dead (failures ∙ ap (λ (m : At). m.failures ++ failure ∷ []) taken)
 
   -- another number of arguments is a failure
-  misfit-gathers : case_of macros t rest ≡ misfit → b.live ≡ false → b.failures ≡ mid.failures ++ failure_at WrongArguments t ∷ [] → Gathers provenance macros t rest a b false
+  misfit-gathers : case_of macros t rest ≡ misfit after → b.live ≡ false → b.failures ≡ mid.failures ++ failure_at WrongArguments t ∷ [] → Gathers provenance macros t rest a b false
   misfit-gathers case dead failures =
       let failure = failure_at WrongArguments t in
-      gathers.failed failure (subst (λ s. Fails provenance macros s failure) (state-scanning a.view (t ∷ rest) work calls) (miscounted a.view.out rest t case))
+      gathers.failed failure (subst (λ s. Fails provenance macros s failure) (state-scanning a.view (t ∷ rest) work calls) (miscounted a.view.out rest after t case))
       dead (failures ∙ ap (λ (m : At). m.failures ++ failure ∷ []) taken)
 
 -- ---- lists

@@ -3,12 +3,9 @@ pub mod AlikeGathering
 pub mod PlainArguments
 pub mod PlainCompletes
 pub mod PlainMoves
-pub mod PlainParameters
 pub mod PlainReaches
-pub mod PlainWanted
 pub mod PlainTotal
 pub mod PlainTables
-pub mod PlainOpen
 pub mod PlainTurns
 pub mod PlainCases
 pub mod PlainNames

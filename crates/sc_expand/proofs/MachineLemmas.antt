@@ -134,7 +134,7 @@ no-move (plain.inside out work w n m) e = absurd (cc)
 no-fail : {provenance : Provenance Place} {macros : Macros} {s : State Place} {failure : Failure Place} → Fails provenance macros s failure → s ≡ scanning [] [] → ⊥
 no-fail (plain.bad_object out rest t d failure is made) e = absurd (cc)
 no-fail (plain.open_call out rest t is) e = absurd (cc)
-no-fail (plain.miscounted out rest t is) e = absurd (cc)
+no-fail (plain.miscounted out rest after t is) e = absurd (cc)
 no-fail (plain.bad_stringize out rest after t close d arguments failure is made) e = absurd (cc)
 no-fail (plain.bad_paste out work w failure is made) e = absurd (cc)
 no-fail (plain.inside_fails out work w n f) e = absurd (cc)

@@ -1,8 +1,8 @@
 -- The call of a name that stands first in the whole list, as the footprint tells it.
-use Rattle.std.proofs.Common.{◌≡◌, ◌⊎◌, inl, inr, ℕ, zero, suc, ◌+◌, ◌-◌, ◌<◌, ◌≤◌, nat_le, Bool, true, false, List, [], ◌∷◌, ◌++◌, drop, length, take, Option, Some, None, IsTrue, refl, ap, subst, ◌∙◌, arith, if◌then◌else◌}
+use Rattle.std.proofs.Common.{◌≡◌, ◌⊎◌, inl, inr, ℕ, zero, suc, ◌+◌, ◌-◌, ◌<◌, ◌≤◌, nat_le, Bool, true, false, List, [], ◌∷◌, ◌++◌, drop, length, take, Option, Some, None, IsTrue, refl, ap, ◌∙◌, arith, if◌then◌else◌}
 use Rattle.std.proofs.lemmas.Bool.{cases_lt, le-ltb, leb-true, lt-ltb}
 use Rattle.std.proofs.lemmas.List.{length-append}
-use Rattle.c11_macros.specs.Call.{arguments_for, behind_call, rest_or}
+use Rattle.c11_macros.specs.Call.{arguments_for}
 use Rattle.c11_macros.specs.Defines.{is_function_like}
 use Rattle.c11_macros.specs.Expansion.{IsWithin, case_of, fitted_case, is_looked_up, stays, unclosed}
 use Rattle.c11_macros.specs.Footprint.{Footprint}
@@ -77,13 +77,8 @@ module _ {P : Type 0} (provenance : Provenance P) (macros : Macros) where
           case : case_of macros t rest ≡ fitted_case d.definition it.close it.after (arguments_for d.parameters d.variadic (parted (length d.parameters) 0 it.between))
           case = case-closed macros t d.definition looked d.is d.parameters d.variadic d.formed rest it.between it.close it.after it.call
 
-          behind : behind_call rest ≡ it.after
-          behind =
-              let it_ends = it.call.ends 0 in
-              ap behind_call it.call.is ∙ (ap (rest_or (it.between ++ it.close ∷ it.after)) it_ends.is ∙ it_ends.rest)
-
           few : (o : Option (List (List (Hidden P)))) → case_of macros t rest ≡ fitted_case d.definition it.close it.after o → whole.left ≤ length it.after
-          few None case = subst (λ (l : List (Hidden P)). whole.left ≤ length l) behind (uses-misfit provenance macros names within out rest t left whole fits uses case)
+          few None case = uses-misfit provenance macros names within out rest t left whole fits uses it.after case
           few (Some arguments) case = uses-call provenance macros names within out rest t left whole fits uses d.definition arguments it.close it.after case
 
       -- one that no parenthesis closes makes no step

@@ -1,13 +1,13 @@
 -- The tokens that replace a macro's name stand where the name does, or where those of its
 -- arguments do.
-use Rattle.std.proofs.Common.{◌≡◌, ℕ, zero, suc, ◌<◌, ◌||◌, Bool, true, false, List, [], ◌∷◌, ◌++◌, All, map, refl, sym, ap, subst, ◌∙◌, if◌then◌else◌}
+use Rattle.std.proofs.Common.{◌≡◌, ℕ, zero, suc, ◌<◌, ◌||◌, Bool, true, false, List, [], ◌∷◌, ◌++◌, All, map, refl, sym, subst, ◌∙◌, if◌then◌else◌}
 use Rattle.std.proofs.lemmas.List.Elements.{All-nil, All-cons, All-head, All-tail}
 use Rattle.std.specs.Prelude.{IfOk, Result, Ok, Err, Option, Some, None}
 use Rattle.c11_macros.specs.Hidden as model
 use Rattle.c11_macros.specs.Hidden.{Failure, HideSet, Provenance, failure_at, no_names}
 use Rattle.c11_macros.specs.Macros.{Form, Item}
 use Rattle.c11_macros.specs.Results.{result_and_then, result_map}
-use Rattle.c11_macros.specs.Substitution.{Part, Piece, Slot, all_glued, argument, argument_pieces, begins_paste, filled, filled_by, for_parameter, for_paste, glued, hiding, is_text_kind, joined, literal, neither, operator, or_placemarker, parameter, parts, paste, pasted_as, piece, pieces_of, placemarker, slot_of, slots, spellings, substituted, token, tokens_of, with_space}
+use Rattle.c11_macros.specs.Substitution.{Part, Piece, Slot, all_glued, argument, argument_pieces, begins_paste, filled, filled_by, for_parameter, for_paste, glued, hiding, is_text_kind, joined, literal, neither, operator, or_placemarker, parameter, parts, paste, pasted_as, piece, pieces_of, placemarker, slot_of, slots, spellings, substituted, token, tokens_of, with_space, put_together}
 use Rattle.c11_tokens.specs.Relex.{relexed}
 use Rattle.sc_base.specs.declared.place.Place.{Place}
 use Rattle.sc_base.specs.declared.id.Name.{Name}
@@ -18,7 +18,7 @@ use Rattle.sc_model.specs.declared.kind.Kind.TheVariants.{Text}
 use Rattle.sc_subst.specs.declared.hidden.Hidden.{Hidden}
 use Rattle.sc_subst.specs.declared.part.Part as declared_part
 use Rattle.sc_subst.specs.declared.part.Part.TheVariants as part
-use Rattle.sc_subst.specs.Halves.{completed, first_failure, unless_failed, wanted_of}
+use Rattle.sc_subst.specs.Halves.{completed}
 use Rattle.sc_subst.specs.Parts.{IsHeldPart, filled_in, seen_arguments, seen_list, seen_part}
 
 -- ---- lists
@@ -34,10 +34,6 @@ each-all Q (x ∷ xs) each = All-cons Q x xs each.0 (each-all Q xs each.1)
 each-append : {A : Type 0} (Q : A → Type 0) (xs ys : List A) → Each Q xs → Each Q ys → Each Q (xs ++ ys)
 each-append Q [] ys one two = two
 each-append Q (x ∷ xs) ys one two = (one.0, each-append Q xs ys one.1 two)
-
-each-before : {A E : Type 0} (Q : A → Type 0) (here : List A) (o : Result (List A) E) → Each Q here → IfOk o (Each Q) → IfOk (result_map (λ rest. here ++ rest) o) (Each Q)
-each-before Q here (Ok xs) one two = each-append Q here xs one two
-each-before Q here (Err e) one two = tt
 
 each-first : {A E : Type 0} (Q : A → Type 0) (x : A) (o : Result (List A) E) → Q x → IfOk o (Each Q) → IfOk (result_map (λ rest. x ∷ rest) o) (Each Q)
 each-first Q x (Ok xs) one two = (one, two)
@@ -144,22 +140,22 @@ module _ {P : Type 0} (provenance : Provenance P) (mark : (p : P) → provenance
     slots-placed [] = tt
     slots-placed (p ∷ ps) = each-then SlotPlaced (slot_of head raw p) (slots head raw ps) (slot-placed p) (slots-placed ps)
 
-    argument_pieces-placed : (beside : Bool) (n : ℕ) (space : Bool) → IfOk (argument_pieces beside raw [] n space) (Each PiecePlaced)
+    argument_pieces-placed : (beside : Bool) (n : ℕ) (space : Bool) → Each PiecePlaced (argument_pieces raw [] beside n space)
     argument_pieces-placed true n space = beside-placed (with_space space (argument raw n)) (spaced-placed space (argument raw n) (argument-placed raw n own))
     argument_pieces-placed false zero space = tt
     argument_pieces-placed false (suc n) space = tt
 
-    filled-placed : (behind : Bool) (ss : List (Slot P)) → Each SlotPlaced ss → IfOk (filled raw [] behind ss) (Each PiecePlaced)
+    filled-placed : (behind : Bool) (ss : List (Slot P)) → Each SlotPlaced ss → Each PiecePlaced (filled raw [] behind ss)
     filled-placed behind [] placed = tt
-    filled-placed behind (filled_by t ∷ ss) placed = each-first PiecePlaced (piece t) (filled raw [] false ss) placed.0 (filled-placed false ss placed.1)
-    filled-placed behind (for_paste ∷ ss) placed = each-first PiecePlaced operator (filled raw [] true ss) tt (filled-placed true ss placed.1)
+    filled-placed behind (filled_by t ∷ ss) placed = (placed.0, filled-placed false ss placed.1)
+    filled-placed behind (for_paste ∷ ss) placed = (tt, filled-placed true ss placed.1)
     filled-placed behind (for_parameter n space ∷ ss) placed =
-        ok-then (Each PiecePlaced) (Each PiecePlaced) (λ here. result_map (λ rest. here ++ rest) (filled raw [] false ss)) (argument_pieces (behind || begins_paste ss) raw [] n space)
-        (argument_pieces-placed (behind || begins_paste ss) n space) (λ here one. each-before PiecePlaced here (filled raw [] false ss) one (filled-placed false ss placed.1))
+        each-append PiecePlaced (argument_pieces raw [] (behind || begins_paste ss) n space) (filled raw [] false ss) (argument_pieces-placed (behind || begins_paste ss) n space) (filled-placed false ss placed.1)
 
     substituted-placed : (form : Form) (items : List Item) (names : HideSet) → IfOk (substituted provenance form items head raw [] names) (Each Placed)
-    substituted-placed form items names = made-placed names _ (ok-then (Each PiecePlaced) (Each PiecePlaced) (all_glued head) (result_and_then (filled raw [] false) (slots head raw (parts form neither items)))
-        (ok-then (Each SlotPlaced) (Each PiecePlaced) (filled raw [] false) (slots head raw (parts form neither items)) (slots-placed (parts form neither items)) (λ ss placed. filled-placed false ss placed)) (λ ps placed. all-placed ps placed))
+    substituted-placed form items names =
+        ok-then (Each SlotPlaced) (Each Placed) (put_together provenance head raw [] names) (slots head raw (parts form neither items)) (slots-placed (parts form neither items))
+        (λ ss placed. made-placed names (all_glued head (filled raw [] false ss)) (all-placed (filled raw [] false ss) (filled-placed false ss placed)))
 
 -- ---- without arguments
 
@@ -178,11 +174,6 @@ placed-result provenance mark head see is form items names made same =
     placed-made see head.place is (substituted provenance form items head [] [] names) made (substituted-placed provenance mark (λ p. p ≡ head.place) head refl [] tt form items names) same
 
 -- ---- the tokens of a template
-
-none-failed : (P E : Type 0) (ns : List ℕ) → first_failure {P = P} {E = E} ns [] ≡ None
-none-failed P E [] = refl
-none-failed P E (zero ∷ ns) = none-failed P E ns
-none-failed P E (suc n ∷ ns) = none-failed P E ns
 
 abbrev IsIn : ℕ → model.Hidden Place → Type 0
 IsIn files t = t.place.file.0 < files
@@ -213,17 +204,15 @@ arguments-in names sets files (list ∷ lists) own =
 -- expands to nothing. The tokens of the template are then all that there are.
 pub held-template : (st : Stores) (files : ℕ) (form : Form) (items : List Item) (place : Place) (raw : List (List Hidden)) (ps : List declared_part.Part) → place.file.0 < files
     → All (All (λ (h : Hidden). h.token.place.file.0 < files)) raw → All (IsHeldPart st.names st.hides) ps
-    → ((head : model.Hidden Place) (results : List (Result (List (model.Hidden Place)) (Failure Place))) (provenance : Provenance Place) (hidden : HideSet) → head.place ≡ place
-    → substituted provenance form items head (seen_arguments st.names st.hides raw) results hidden ≡ completed provenance head hidden (wanted_of form items) results (Ok (map (seen_part st.names st.hides) ps)))
+    → ((head : model.Hidden Place) (expanded : List (List (model.Hidden Place))) (provenance : Provenance Place) (hidden : HideSet) → head.place ≡ place
+    → substituted provenance form items head (seen_arguments st.names st.hides raw) expanded hidden ≡ completed provenance head hidden expanded (Ok (map (seen_part st.names st.hides) ps)))
     → All (IsHeldPartIn st files) ps
 held-template st files form items place raw ps here own held completes =
     let provenance = provenance_of [] in
     let head : model.Hidden Place = record { kind = Text; spelling = []; space = false; place = place; hide = no_names } in
     let tokens = filled_in [] (map (seen_part st.names st.hides) ps) in
     let spaced = with_space false tokens in
-    let all : Result (List (model.Hidden Place)) (Failure Place) = Ok (hiding provenance no_names spaced) in
-    let same = completes head [] provenance no_names refl ∙ ap (λ failure. unless_failed failure all) (none-failed Place (Failure Place) (wanted_of form items)) in
     let Q : Place → Type 0 = λ p. p.file.0 < files in
-    let placed = subst (λ o. IfOk o (Each (IsIn files))) same
+    let placed = subst (λ o. IfOk o (Each (IsIn files))) (completes head [] provenance no_names refl)
     (substituted-placed provenance (λ p. refl) Q head here (seen_arguments st.names st.hides raw) (arguments-in st.names st.hides files raw own) form items no_names) in
     held-parts st files ps held (unspaced-placed provenance (λ p. refl) Q head here false tokens (unhidden-placed provenance (λ p. refl) Q head here no_names spaced placed))

@@ -18,7 +18,7 @@ head-taken : {P : Type 0} {provenance : Provenance P} {macros : Macros} {t : Hid
 head-taken {t = t} (expansion.stay is d) = covers-front (looked_up_at t) (trace d).looked_up
 head-taken {t = t} (expansion.object e is g) = covers-front (looked_up_at t) (trace_rescan g).looked_up
 head-taken {t = t} (expansion.unterminated is) = covers-front (looked_up_at t) []
-head-taken {t = t} (expansion.miscounted is) = covers-front (looked_up_at t) []
+head-taken {t = t} (expansion.miscounted after is) = covers-front (looked_up_at t) []
 head-taken {t = t} (expansion.call e arguments close after results is each g) =
     covers-then (covers-front (looked_up_at t ++ []) ((trace_each each).looked_up ++ (trace_rescan g).looked_up)) (covers-front (looked_up_at t) [])
 
@@ -82,7 +82,7 @@ module _ {P : Type 0} (provenance : Provenance P) (macros other : Macros) (names
   pub fails-agrees : (s : State P) (failure : Failure P) → Fails provenance macros s failure → AgreesFrom s → Fails provenance other s failure
   fails-agrees _ _ (plain.bad_object out rest t d failure is made) agrees = plain.bad_object out rest t d failure (agrees-case out rest t agrees ∙ is) made
   fails-agrees _ _ (plain.open_call out rest t is) agrees = plain.open_call out rest t (agrees-case out rest t agrees ∙ is)
-  fails-agrees _ _ (plain.miscounted out rest t is) agrees = plain.miscounted out rest t (agrees-case out rest t agrees ∙ is)
+  fails-agrees _ _ (plain.miscounted out rest after t is) agrees = plain.miscounted out rest after t (agrees-case out rest t agrees ∙ is)
   fails-agrees _ _ (plain.bad_stringize out rest after t close d arguments failure is whatever) agrees =
       plain.bad_stringize out rest after t close d arguments failure (agrees-case out rest t agrees ∙ is) whatever
   fails-agrees _ _ (plain.bad_paste out work w failure all made) agrees = plain.bad_paste out work w failure all made

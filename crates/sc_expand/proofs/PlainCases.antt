@@ -1,18 +1,11 @@
 -- What is to be done at a token, by what is known of it.
-use Rattle.std.proofs.Common.{◌≡◌, ℕ, zero, ◌<◌, Bool, true, false, List, [], ◌∷◌, length, codes, Option, Some, None, Result, Ok, refl, sym, ap, ◌∙◌, arith, if◌then◌else◌}
+use Rattle.std.proofs.Common.{◌≡◌, ℕ, zero, ◌<◌, Bool, true, false, List, [], ◌∷◌, length, codes, Option, Some, None, Ok, refl, ap, ◌∙◌, if◌then◌else◌}
 use Rattle.std.proofs.lemmas.List.Elements.{All-head, All-tail}
 use Rattle.std.specs.List.{All}
 use Rattle.c11_macros.specs.Call.{Call, arguments_for, call_of}
-use Rattle.c11_macros.specs.Expansion.{Expands, empty, stay, call_case, called, case_of, defined_case, fitted_case, form_case, is_looked_up, list_of, looked_up_case, misfit, object_result, replaced, stays, unclosed}
-use Rattle.c11_macros.specs.Hidden.{Failure, Hidden, Provenance, with_name}
-use Rattle.c11_macros.specs.Macros.{Definition, Form, Item, Macros, function_like, object_like}
-use Rattle.c11_macros.specs.Results.{result_map}
-use Rattle.c11_macros.specs.Substitution.{Slot, hiding, with_space}
-use Rattle.sc_expand.proofs.PlainParameters.{arity, wants-below}
-use Rattle.sc_expand.proofs.PlainWanted.{among-first, is_among, wanted-asked}
-use Rattle.sc_subst.specs.Halves.{completed, wanted_of}
-use Rattle.sc_subst.specs.Parts.{filled_in}
-use Rattle.sc_expand.specs.Plain.{IsTemplate}
+use Rattle.c11_macros.specs.Expansion.{Expands, empty, stay, call_case, called, case_of, defined_case, fitted_case, form_case, is_looked_up, looked_up_case, misfit, replaced, stays, unclosed}
+use Rattle.c11_macros.specs.Hidden.{Hidden, Provenance}
+use Rattle.c11_macros.specs.Macros.{Definition, Form, Macros, function_like, object_like}
 use Rattle.sc_model.specs.Bytes.{same_bytes}
 
 module _ {P : Type 0} (macros : Macros) (t : Hidden P) where
@@ -51,28 +44,12 @@ module _ {P : Type 0} (macros : Macros) (t : Hidden P) where
         pub case-open : call_of (length parameters) zero us ≡ None → case_of macros t (u ∷ us) ≡ unclosed
         case-open none = case-call None none
 
-        pub case-misfit : (call : Call P) → call_of (length parameters) zero us ≡ Some call → arguments_for parameters variadic call.arguments ≡ None → case_of macros t (u ∷ us) ≡ misfit
+        pub case-misfit : (call : Call P) → call_of (length parameters) zero us ≡ Some call → arguments_for parameters variadic call.arguments ≡ None → case_of macros t (u ∷ us) ≡ misfit call.rest
         case-misfit call some none = case-call (Some call) some ∙ ap (fitted_case d call.close call.rest) none
 
         pub case-called : (call : Call P) (arguments : List (List (Hidden P))) → call_of (length parameters) zero us ≡ Some call → arguments_for parameters variadic call.arguments ≡ Some arguments
             → case_of macros t (u ∷ us) ≡ called d arguments call.close call.rest
         case-called call arguments some fit = case-call (Some call) some ∙ ap (fitted_case d call.close call.rest) fit
-
--- ---- macros without parameters
-
-pub wanted-none : (form : Form) (items : List Item) → arity form ≡ 0 → wanted_of form items ≡ []
-wanted-none form items none = by (wanted_of form items) (λ n among. wants-below n form items (sym (wanted-asked n form items) ∙ among))
-  where
-    by : (ns : List ℕ) → ((n : ℕ) → is_among ns n ≡ true → n < arity form) → ns ≡ []
-    by [] below = refl
-    by (n ∷ ns) below = absurd (omega (arith, below n (among-first n n ns refl), none))
-
--- an object-like macro's replacement is its template
-pub object-completes : {P : Type 0} (provenance : Provenance P) (d : Definition) (t : Hidden P) (template : Result (List (Slot P)) (Failure P)) → d.form ≡ object_like → IsTemplate provenance d t [] template
-    → object_result provenance d t ≡ result_map (λ slots. hiding provenance (with_name t.hide t.spelling) (with_space t.space (filled_in [] slots))) template
-object-completes provenance d t template formed stands =
-    stands.completes [] (with_name t.hide t.spelling)
-    ∙ ap (λ ns. completed provenance t (with_name t.hide t.spelling) ns [] template) (wanted-none d.form (list_of provenance d t) (ap arity formed))
 
 -- ---- names that are not defined
 

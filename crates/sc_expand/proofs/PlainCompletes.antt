@@ -6,13 +6,9 @@ use Rattle.c11_macros.specs.Expansion.{Expands, IsWithin, Rescans, on, refused}
 use Rattle.c11_macros.specs.Footprint.{Footprint, footprint_from, with_names}
 use Rattle.c11_macros.specs.Hidden.{Failure, Hidden, Provenance}
 use Rattle.c11_macros.specs.Macros.{Macros}
-use Rattle.c11_macros.specs.Results.{result_map}
+use Rattle.c11_macros.specs.Runs.{after_these}
 use Rattle.c11_macros.specs.Trace.{Same, trace, trace_rescan}
 use Rattle.sc_expand.specs.Plain.{State, Waiting, expanding, replacement_of, scanning, waiting, with_expanded, without_first}
-
--- this list before what the rest becomes
-abbrev pub after_these : {P : Type 0} → List (Hidden P) → Result (List (Hidden P)) (Failure P) → Result (List (Hidden P)) (Failure P)
-after_these out r = result_map (λ ts. out ++ ts) r
 
 -- The state comes to this list, or to this failure: what is put out stands before what the rest
 -- expands to, and the arguments of a call expand one after the other, up to the first that fails.

@@ -36,7 +36,7 @@ module _ {P : Type 0} where
   IsBehind rest stays = Unit {0}
   IsBehind rest (replaced d) = Unit {0}
   IsBehind rest unclosed = Unit {0}
-  IsBehind rest misfit = Unit {0}
+  IsBehind rest (misfit after) = Unit {0}
   IsBehind rest (called d arguments close after) = (n : ℕ) × (after ≡ drop n rest)
 
   behind-case : (macros : Macros) (t : Hidden P) (rest : List (Hidden P)) → IsBehind rest (case_of macros t rest)

@@ -3,14 +3,13 @@
 use Rattle.std.proofs.Common.{◌≡◌, ℕ, suc, ◌<◌, ◌≤◌, nat_le, Bool, true, false, List, [], ◌∷◌, ◌++◌, length, Result, Ok, Err, refl, sym, ap, ◌∙◌, subst, arith, if◌then◌else◌}
 use Rattle.std.proofs.lemmas.Bool.{leb-true, leb-false}
 use Rattle.c11_macros.proofs.OneAnswer.{one_footprint}
-use Rattle.c11_macros.specs.Call.{behind_call}
 use Rattle.c11_macros.specs.Expansion as expansion
-use Rattle.c11_macros.specs.Expansion.{Case, Expands, IsWithin, called, case_of, is_looked_up, misfit}
+use Rattle.c11_macros.specs.Expansion.{Expands, IsWithin, called, case_of, is_looked_up, misfit}
 use Rattle.c11_macros.specs.Footprint.{Footprint, footprint, footprint_from}
 use Rattle.c11_macros.specs.Hidden.{Failure, Hidden, Provenance}
 use Rattle.c11_macros.specs.Macros.{Definition, Macros}
 use Rattle.c11_macros.specs.Trace as used
-use Rattle.c11_macros.specs.Trace.{Agree, Trace, Use, looked_up_at, trace, trace_each, trace_rescan}
+use Rattle.c11_macros.specs.Trace.{Agree, Use, looked_up_at, trace, trace_each, trace_rescan}
 use Rattle.sc_expand.proofs.PlainAgreement.{AgreesFrom}
 use Rattle.sc_expand.proofs.PlainCompletes.{Completes, asks, ends, looked, refuses, replaces, resumes, scanned, scans, using}
 use Rattle.sc_expand.proofs.PlainMoves.{fails-by, move-back, past-first}
@@ -58,7 +57,7 @@ module _ {P : Type 0} (provenance : Provenance P) (macros : Macros) where
   first-use (expansion.stay is d) = ((trace d).uses, refl)
   first-use (expansion.object d is g) = ((trace_rescan g).uses, refl)
   first-use (expansion.unterminated is) = (used.fails ∷ [], refl)
-  first-use {rest} (expansion.miscounted is) = (used.takes (length (behind_call rest)) ∷ used.fails ∷ [], refl)
+  first-use (expansion.miscounted after is) = (used.takes (length after) ∷ used.fails ∷ [], refl)
   first-use (expansion.call d arguments close after results is each g) = (used.takes (length after) ∷ (trace_each each).uses ++ (trace_rescan g).uses, refl)
 
   nothing-used : (work : List (Hidden P)) (r : Answer) (d : Expands provenance macros work r) (left : ℕ) → length work ≤ left → footprint_from left (trace d).uses ≡ record { left = left; looked_up = []; fails = false }
@@ -80,19 +79,22 @@ module _ {P : Type 0} (provenance : Provenance P) (macros : Macros) where
   call-used t rest r (expansion.stay is d) left below e arguments close after case = absurd (cc)
   call-used t rest r (expansion.object d is g) left below e arguments close after case = absurd (cc)
   call-used t rest r (expansion.unterminated is) left below e arguments close after case = absurd (cc)
-  call-used t rest r (expansion.miscounted is) left below e arguments close after case = absurd (cc)
+  call-used t rest r (expansion.miscounted behind is) left below e arguments close after case = absurd (cc)
   call-used t rest r (expansion.call d list last behind results is each g) left below e arguments close after case =
       let same : behind ≡ after = cc in
       subst (λ l. (footprint_from left (used.stands (suc (length rest)) ∷ used.looks_up (looked_up_at t) ∷ used.takes (length behind) ∷ (trace_each each).uses ++ (trace_rescan g).uses)).left ≤ length l) same
       (taken-used left (length behind) t rest ((trace_each each).uses ++ (trace_rescan g).uses) below)
 
-  misfit-used : (t : Hidden P) (rest : List (Hidden P)) (r : Answer) (d : Expands provenance macros (t ∷ rest) r) (left : ℕ) → left < suc (length rest) → case_of macros t rest ≡ misfit
-      → (footprint_from left (trace d).uses).left ≤ length (behind_call rest)
-  misfit-used t rest r (expansion.stay is d) left below case = absurd (cc)
-  misfit-used t rest r (expansion.object d is g) left below case = absurd (cc)
-  misfit-used t rest r (expansion.unterminated is) left below case = absurd (cc)
-  misfit-used t rest r (expansion.miscounted is) left below case = taken-used left (length (behind_call rest)) t rest (used.fails ∷ []) below
-  misfit-used t rest r (expansion.call d list last behind results is each g) left below case = absurd (cc)
+  misfit-used : (t : Hidden P) (rest : List (Hidden P)) (r : Answer) (d : Expands provenance macros (t ∷ rest) r) (left : ℕ) → left < suc (length rest) → (after : List (Hidden P)) → case_of macros t rest ≡ misfit after
+      → (footprint_from left (trace d).uses).left ≤ length after
+  misfit-used t rest r (expansion.stay is d) left below after case = absurd (cc)
+  misfit-used t rest r (expansion.object d is g) left below after case = absurd (cc)
+  misfit-used t rest r (expansion.unterminated is) left below after case = absurd (cc)
+  misfit-used t rest r (expansion.miscounted behind is) left below after case =
+      let same : behind ≡ after = cc in
+      subst (λ l. (footprint_from left (used.stands (suc (length rest)) ∷ used.looks_up (looked_up_at t) ∷ used.takes (length behind) ∷ used.fails ∷ [])).left ≤ length l) same
+      (taken-used left (length behind) t rest (used.fails ∷ []) below)
+  misfit-used t rest r (expansion.call d list last behind results is each g) left below after case = absurd (cc)
 
   used-less : {s : State P} {r : Answer} (k : Completes provenance macros s r) (left : ℕ) → (using k left).left ≤ left
   used-less (scans out work r d) left = left-le left (trace d).uses
@@ -154,8 +156,8 @@ module _ {P : Type 0} (provenance : Provenance P) (macros : Macros) where
         omega (arith, u.2.left, call-used t rest u.0 u.1 left (omega arith) d arguments close after case)
 
     pub uses-misfit : (out rest : List (Hidden P)) (t : Hidden P) (left : ℕ) (whole : Footprint) → left ≤ length rest → UsesFrom (scanning out (t ∷ rest)) left whole
-        → case_of macros t rest ≡ misfit → whole.left ≤ length (behind_call rest)
-    uses-misfit out rest t left whole fits uses case = let u = scan-uses out (t ∷ rest) left whole uses in omega (arith, u.2.left, misfit-used t rest u.0 u.1 left (omega arith) case)
+        → (after : List (Hidden P)) → case_of macros t rest ≡ misfit after → whole.left ≤ length after
+    uses-misfit out rest t left whole fits uses after case = let u = scan-uses out (t ∷ rest) left whole uses in omega (arith, u.2.left, misfit-used t rest u.0 u.1 left (omega arith) after case)
 
     -- tables that agree on the names of the footprint agree on all that an argument looks up
     pub uses-inside : (out work : List (Hidden P)) (w : Waiting P) (n : ℕ) (s : State P) (left : ℕ) (whole : Footprint) → UsesFrom (expanding out work w n s) left whole

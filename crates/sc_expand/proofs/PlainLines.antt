@@ -1,5 +1,5 @@
 -- What an expansion puts out stands on one line.
-use Rattle.std.proofs.Common.{◌≡◌, ℕ, zero, suc, ◌+◌, ◌==◌, ◌/◌, ◌%◌, ◌&&◌, ◌||◌, not, Bool, true, false, List, [], ◌∷◌, ◌++◌, All, IfOk, map, length, get_or, codes, decimal, Option, Some, None, Result, Ok, Err, refl, sym, ap, subst, ◌∙◌, arith, if◌then◌else◌}
+use Rattle.std.proofs.Common.{◌≡◌, is_ok, set, ℕ, zero, suc, ◌+◌, ◌==◌, ◌/◌, ◌%◌, ◌&&◌, ◌||◌, not, Bool, true, false, List, [], ◌∷◌, ◌++◌, All, IfOk, map, length, get_or, codes, decimal, Option, Some, None, Result, Ok, Err, refl, sym, ap, subst, ◌∙◌, arith, if◌then◌else◌}
 use Rattle.std.proofs.lemmas.Bool.{ne_eqb, not-true, not_from_false, or_from, or_parts}
 use Rattle.std.proofs.lemmas.List.Elements.{All-from_recursion, recursion_from_All}
 use Rattle.std.proofs.lemmas.List.Folds.{list_any-append}
@@ -14,7 +14,7 @@ use Rattle.c11_macros.specs.Hidden.{Failure, Hidden, HideSet, Provenance, failur
 use Rattle.c11_macros.specs.Macros.{Definition, Form, Item, Macros, Replacement, escaped, file_name, function_like, items, line_number, list_at, object_like}
 use Rattle.c11_macros.specs.Results.{result_and_then, result_map}
 use Rattle.c11_macros.specs.Substitution as substitution
-use Rattle.c11_macros.specs.Substitution.{Before, Part, Piece, Slot, after_hash, after_paste, all_glued, argument, argument_pieces, begins_paste, begins_with_parameter, expansion_of, filled, filled_by, for_parameter, for_paste, glued, hidden_by, hiding, is_after_paste, is_hash, is_paste, is_quoted_kind, is_text_kind, joined, literal_of, neither, operand_part, operator, or_placemarker, parameter_of, parts, pasted_as, piece, pieces_of, placemarker, quoted_spelling, slot_of, slots, spellings, spellings_after, stringized, substituted, tokens_of, wants, with_space}
+use Rattle.c11_macros.specs.Substitution.{Before, Part, Piece, Slot, after_hash, after_paste, all_glued, argument, argument_pieces, begins_paste, begins_with_parameter, filled, filled_by, for_parameter, for_paste, glued, hidden_by, hiding, is_after_paste, is_hash, is_paste, is_quoted_kind, is_text_kind, joined, literal_of, neither, operand_part, operator, or_placemarker, parameter_of, parts, pasted_as, piece, pieces_of, placemarker, quoted_spelling, slot_of, slots, spellings, spellings_after, stringized, substituted, tokens_of, with_space, put_together, wanted_of}
 use Rattle.c11_tokens.specs.Relex.{relexed}
 use Rattle.sc_expand.specs.OneLine.{AreOneLine, IsInPlace, IsOneLine, IsOneLineList}
 use Rattle.sc_model.specs.declared.cause.Cause.TheVariants.{BadStringize}
@@ -36,6 +36,11 @@ ok-then C D g h (Err e) k = tt
 pub both : {A : Type 0} (C : A → Type 0) (b : Bool) (x y : A) → C x → C y → C (if b then x else y)
 both C true x y h k = h
 both C false x y h k = k
+
+every-set : {A : Type 0} (C : A → Type 0) (xs : List A) (n : ℕ) (x : A) → Every C xs → C x → Every C (set xs n x)
+every-set C [] n x h k = tt
+every-set C (y ∷ ys) zero x h k = (k, h.1)
+every-set C (y ∷ ys) (suc n) x h k = (h.0, every-set C ys n x h.1 k)
 
 every-append : {A : Type 0} (C : A → Type 0) (xs ys : List A) → Every C xs → Every C ys → Every C (xs ++ ys)
 every-append C [] ys h k = k
@@ -189,23 +194,17 @@ module _ {P : Type 0} (provenance : Provenance P) where
   or_placemarker-plain [] h = (tt, tt)
   or_placemarker-plain (t ∷ ts) h = pieces-plain (t ∷ ts) h
 
-  module _ (raw : List (List (Hidden P))) (results : List (Result (List (Hidden P)) (Failure P))) (plain : Every Plains raw) (good : Every PlainAnswer results) where
-    argument_pieces-plain : (beside : Bool) (n : ℕ) (space : Bool) → IfOk (argument_pieces beside raw results n space) (Every PlainPiece)
+  module _ (raw expanded : List (List (Hidden P))) (plain : Every Plains raw) (good : Every Plains expanded) where
+    argument_pieces-plain : (beside : Bool) (n : ℕ) (space : Bool) → Every PlainPiece (argument_pieces raw expanded beside n space)
     argument_pieces-plain true n space = or_placemarker-plain (with_space space (argument raw n)) (with_space-plain space (argument raw n) (argument-plain raw n plain))
-    argument_pieces-plain false n space =
-        ok-map Plains (Every PlainPiece) (λ ts. pieces_of (with_space space ts)) (λ ts k. pieces-plain (with_space space ts) (with_space-plain space ts k)) (expansion_of results n)
-        (every-get PlainAnswer results n (Ok []) tt good)
+    argument_pieces-plain false n space = pieces-plain (with_space space (argument expanded n)) (with_space-plain space (argument expanded n) (argument-plain expanded n good))
 
-    filled-plain : (behind : Bool) (ss : List (Slot P)) → Every PlainSlot ss → IfOk (filled raw results behind ss) (Every PlainPiece)
+    filled-plain : (behind : Bool) (ss : List (Slot P)) → Every PlainSlot ss → Every PlainPiece (filled raw expanded behind ss)
     filled-plain behind [] h = tt
-    filled-plain behind (filled_by t ∷ ss) h =
-        ok-map (Every PlainPiece) (Every PlainPiece) (λ rest. piece t ∷ rest) (λ rest more. (h.0, more)) (filled raw results false ss) (filled-plain false ss h.1)
-    filled-plain behind (for_paste ∷ ss) h =
-        ok-map (Every PlainPiece) (Every PlainPiece) (λ rest. operator ∷ rest) (λ rest more. (tt, more)) (filled raw results true ss) (filled-plain true ss h.1)
+    filled-plain behind (filled_by t ∷ ss) h = (h.0, filled-plain false ss h.1)
+    filled-plain behind (for_paste ∷ ss) h = (tt, filled-plain true ss h.1)
     filled-plain behind (for_parameter n space ∷ ss) h =
-        ok-then (Every PlainPiece) (Every PlainPiece) (λ here. result_map (λ rest. here ++ rest) (filled raw results false ss))
-        (λ here k. ok-map (Every PlainPiece) (Every PlainPiece) (λ rest. here ++ rest) (λ rest more. every-append PlainPiece here rest k more) (filled raw results false ss) (filled-plain false ss h.1))
-        (argument_pieces (behind || begins_paste ss) raw results n space) (argument_pieces-plain (behind || begins_paste ss) n space)
+        every-append PlainPiece (argument_pieces raw expanded (behind || begins_paste ss) n space) (filled raw expanded false ss) (argument_pieces-plain (behind || begins_paste ss) n space) (filled-plain false ss h.1)
 
   -- ---- tokens pasted at each ##
 
@@ -303,7 +302,7 @@ module _ {P : Type 0} (provenance : Provenance P) where
   PlainCase stays = Unit {0}
   PlainCase (replaced d) = IsOneLineList d.replacement
   PlainCase unclosed = Unit {0}
-  PlainCase misfit = Unit {0}
+  PlainCase (misfit after) = Unit {0}
   PlainCase (called d arguments close after) = PlainCalled d arguments close after
 
   fitted-plain : (d : Definition) (close : Hidden P) (rest : List (Hidden P)) (o : Option (List (List (Hidden P)))) → IsOneLineList d.replacement → Plain close → Plains rest → IfSome o (Every Plains)
@@ -335,11 +334,6 @@ module _ {P : Type 0} (provenance : Provenance P) where
     case-plain : (t : Hidden P) (rest : List (Hidden P)) (k : Case P) → case_of macros t rest ≡ k → Plains rest → PlainCase k
     case-plain t rest k is h = subst PlainCase is (looked_up_case-plain (is_looked_up t) t.spelling rest h)
 
-    asked-plain : (form : Form) (list : List Item) (n : ℕ) (arguments : List (List (Hidden P))) → Every Plains arguments → Every (λ (o : Option (List (Hidden P))). IfSome o Plains) (asked form list n arguments)
-    asked-plain form list n [] h = tt
-    asked-plain form list n (argument ∷ arguments) h =
-        (both (λ (o : Option (List (Hidden P))). IfSome o Plains) (wants n false (parts form neither list)) (Some argument) None h.0 tt, asked-plain form list (suc n) arguments h.1)
-
     with_first-plain : (t : Hidden P) (r : Result (List (Hidden P)) (Failure P)) → Plain t → PlainAnswer r → PlainAnswer (with_first t r)
     with_first-plain t r h k = ok-map Plains Plains (λ ts. t ∷ ts) (λ ts more. (h, more)) r k
 
@@ -351,17 +345,29 @@ module _ {P : Type 0} (provenance : Provenance P) where
           every-map Plain Plain (hidden_by provenance names)
           (λ t k. record { spelling = k.spelling; file = subst (λ (p : Place). has_no_newline p.file ≡ true) (sym (stands.place t.place)) k.file }) ts h
 
-      substituted-plain : (form : Form) (list : List Item) (head : Hidden P) (raw : List (List (Hidden P))) (results : List (Result (List (Hidden P)) (Failure P))) (names : HideSet)
-          → PlainList list → Plain head → Every Plains raw → Every PlainAnswer results → PlainAnswer (substituted provenance form list head raw results names)
-      substituted-plain form list head raw results names plain own arguments good =
-          let ps = parts form neither list in
-          let in_slots = slots-plain head own raw arguments ps (parts-plain form neither list plain) in
-          let in_pieces = ok-then (Every PlainSlot) (Every PlainPiece) (filled raw results false) (filled-plain raw results arguments good false) (slots head raw ps) in_slots in
-          let all = result_and_then (filled raw results false) (slots head raw ps) in
-          let made = ok-then (Every PlainPiece) (Every PlainPiece) (all_glued head) (all_glued-plain head) all in_pieces in
+      substituted-plain : (form : Form) (list : List Item) (head : Hidden P) (raw expanded : List (List (Hidden P))) (names : HideSet)
+          → PlainList list → Plain head → Every Plains raw → Every Plains expanded → PlainAnswer (substituted provenance form list head raw expanded names)
+      substituted-plain form list head raw expanded names plain own arguments good =
+          ok-then (Every PlainSlot) Plains (put_together provenance head raw expanded names)
+          (λ ss h.
           ok-map (Every PlainPiece) Plains (λ pieces. hiding provenance names (with_space head.space (tokens_of pieces)))
-          (λ pieces h. hiding-plain names (with_space head.space (tokens_of pieces)) (with_space-plain head.space (tokens_of pieces) (tokens-plain pieces h)))
-          (result_and_then (all_glued head) all) made
+          (λ pieces k. hiding-plain names (with_space head.space (tokens_of pieces)) (with_space-plain head.space (tokens_of pieces) (tokens-plain pieces k)))
+          (all_glued head (filled raw expanded false ss)) (all_glued-plain head (filled raw expanded false ss) (filled-plain raw expanded arguments good false ss h)))
+          (slots head raw (parts form neither list)) (slots-plain head own raw arguments (parts form neither list) (parts-plain form neither list plain))
+
+      -- the arguments that are asked for, and the lists before they expand
+      asks-plain : (arguments : List (List (Hidden P))) (ns : List ℕ) → Every Plains arguments → Every (λ (ask : ℕ × List (Hidden P)). Plains ask.1) (map (λ n. (n, argument arguments n)) ns)
+      asks-plain arguments [] h = tt
+      asks-plain arguments (n ∷ ns) h = (argument-plain arguments n h, asks-plain arguments ns h)
+
+      asked-plain : (d : Definition) (t : Hidden P) (arguments : List (List (Hidden P))) → Every Plains arguments → Every (λ (ask : ℕ × List (Hidden P)). Plains ask.1) (asked provenance d t arguments)
+      asked-plain d t arguments h =
+          let list = list_of provenance d t in
+          both (Every (λ (ask : ℕ × List (Hidden P)). Plains ask.1)) (is_ok (slots t arguments (parts d.form neither list))) (map (λ n. (n, argument arguments n)) (wanted_of d.form list)) [] (asks-plain arguments (wanted_of d.form list) h) tt
+
+      unexpanded-plain : (arguments : List (List (Hidden P))) → Every Plains (map (λ a. []) arguments)
+      unexpanded-plain [] = tt
+      unexpanded-plain (a ∷ others) = (tt, unexpanded-plain others)
 
       list_of-plain : (d : Definition) (t : Hidden P) → IsOneLineList d.replacement → Plain t → PlainList (list_of provenance d t)
       list_of-plain d t h own = list-plain d.replacement (provenance.place t.place) h own.file
@@ -374,18 +380,21 @@ module _ {P : Type 0} (provenance : Provenance P) where
             let list = list_of-plain d t (case-plain t rest (replaced d) is h.1) h.0 in
             rescans-plain g (substituted-plain d.form (list_of provenance d t) t [] [] (with_name t.hide t.spelling) list h.0 tt tt) h.1
         expands-plain (expansion.unterminated is) h = tt
-        expands-plain (expansion.miscounted is) h = tt
+        expands-plain (expansion.miscounted after is) h = tt
         expands-plain (expansion.call {t} {rest} d arguments close after results is each g) h =
             let k = case-plain t rest (called d arguments close after) is h.1 in
             let list = list_of-plain d t k.list h.0 in
-            let good = each-plain each (asked-plain d.form (list_of provenance d t) 0 arguments k.arguments) in
-            rescans-plain g (substituted-plain d.form (list_of provenance d t) t arguments results (with_name (meet t.hide close.hide) t.spelling) list h.0 k.arguments good) k.after
+            let names = with_name (meet t.hide close.hide) t.spelling in
+            let good = each-plain each (asked-plain d t arguments k.arguments) (unexpanded-plain arguments) in
+            rescans-plain g
+            (ok-then (Every Plains) Plains (λ lists. substituted provenance d.form (list_of provenance d t) t arguments lists names)
+            (λ lists all. substituted-plain d.form (list_of provenance d t) t arguments lists names list h.0 k.arguments all) results good) k.after
 
-        each-plain : {asks : List (Option (List (Hidden P)))} {rs : List (Result (List (Hidden P)) (Failure P))} → Each provenance macros asks rs
-            → Every (λ (o : Option (List (Hidden P))). IfSome o Plains) asks → Every PlainAnswer rs
-        each-plain expansion.none h = tt
-        each-plain (expansion.passed others) h = (tt, each-plain others h.1)
-        each-plain (expansion.expanded first others) h = (expands-plain first h.0, each-plain others h.1)
+        each-plain : {asks : List (ℕ × List (Hidden P))} {lists : List (List (Hidden P))} {r : Result (List (List (Hidden P))) (Failure P)} → Each provenance macros asks lists r
+            → Every (λ (ask : ℕ × List (Hidden P)). Plains ask.1) asks → Every Plains lists → IfOk r (Every Plains)
+        each-plain expansion.none h k = k
+        each-plain (expansion.next {ask} {lists = lists} list first others) h k = each-plain others h.1 (every-set Plains lists ask.0 list k (expands-plain first h.0))
+        each-plain (expansion.stops failure first) h k = tt
 
         rescans-plain : {made : Result (List (Hidden P)) (Failure P)} {rest : List (Hidden P)} {r : Result (List (Hidden P)) (Failure P)} → Rescans provenance macros made rest r → PlainAnswer made → Plains rest → PlainAnswer r
         rescans-plain (expansion.on {body} {rest} d) h k = expands-plain d (every-append Plain body rest h k)

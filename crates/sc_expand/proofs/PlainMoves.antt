@@ -1,54 +1,23 @@
 -- What the state behind a step comes to, the state before it comes to as well, in more steps.
-use Rattle.std.proofs.Common.{◌≡◌, ℕ, zero, suc, ◌+◌, ◌*◌, ◌<◌, ◌≤◌, nat_le, Bool, true, false, List, [], ◌∷◌, ◌++◌, append_assoc, append-nil, length, length-append, map, sum, get_or, Option, Some, None, Result, Ok, Err, refl, sym, ap, ◌∙◌, subst, arith, if◌then◌else◌}
+use Rattle.std.proofs.Common.{◌≡◌, ℕ, suc, ◌+◌, ◌*◌, ◌<◌, ◌≤◌, nat_le, Bool, true, false, List, [], ◌∷◌, ◌++◌, append_assoc, append-nil, length, length-append, map, is_ok, Result, Ok, Err, refl, sym, ap, ◌∙◌, subst, arith, if◌then◌else◌}
 use Rattle.std.proofs.lemmas.Bool.{leb-true}
-use Rattle.std.proofs.lemmas.List.{length-map}
-use Rattle.std.proofs.Math.ListN.{get_or-map}
-use Rattle.c11_macros.proofs.Halting.{halts}
-use Rattle.c11_macros.specs.Call.{behind_call}
 use Rattle.c11_macros.specs.Expansion as expansion
-use Rattle.c11_macros.specs.Expansion.{Each, Expands, IsWithin, Rescans, asked, call_result, called, case_of, expanded, list_of, none, object_result, on, passed, refused, with_first}
+use Rattle.c11_macros.specs.Expansion.{Each, Expands, IsWithin, Rescans, asked, call_result, called, case_of, list_of, next, none, object_result, on, refused, stops, with_first}
 use Rattle.c11_macros.specs.Footprint.{Footprint, footprint_from, with_names}
-use Rattle.c11_macros.specs.Hidden.{Failure, Hidden, HideSet, Provenance, failure_at, meet, with_name}
-use Rattle.c11_macros.specs.Macros.{Definition, Form, Item, Macros}
-use Rattle.c11_macros.specs.Substitution.{Slot, argument, neither, parts, wants}
+use Rattle.c11_macros.specs.Hidden.{Failure, Hidden, Provenance, failure_at, meet, with_name}
+use Rattle.c11_macros.specs.Macros.{Definition, Macros}
+use Rattle.c11_macros.specs.Results.{result_and_then}
+use Rattle.c11_macros.specs.Runs.{after_these}
+use Rattle.c11_macros.specs.Substitution.{Slot, argument, neither, parts, put_together, slots, wanted_of}
 use Rattle.c11_macros.specs.Trace as used
-use Rattle.c11_macros.specs.Trace.{Trace, Use, failing, looked_up_at, trace, trace_each, trace_rescan}
-use Rattle.sc_expand.proofs.PlainArguments.{AreKnown, Supplied, argument-expansions, costs, each-none, each-some, length-costs, length-each, sum-costs, supplied}
-use Rattle.sc_expand.proofs.PlainCompletes.{Completes, after_these, asks, looked, refuses, replaces, resumes, scanned, scans, steps, using}
+use Rattle.c11_macros.specs.Trace.{Trace, Use, both, failing, looked_up_at, no_trace, trace, trace_each, trace_rescan}
+use Rattle.sc_expand.proofs.PlainArguments.{replaced_with, supplied}
+use Rattle.sc_expand.proofs.PlainCompletes.{Completes, asks, looked, refuses, replaces, resumes, scanned, scans, steps, using}
 use Rattle.sc_expand.proofs.PlainNames.{Covers, IsRestOf, covers-back, covers-both, covers-front, covers-same, covers-then, rest-behind, rest-same, rest-then, rest-with}
-use Rattle.sc_expand.proofs.PlainParameters.{arity, called-fits, wants-below}
-use Rattle.sc_expand.proofs.PlainWanted.{is_among, wanted-apart, wanted-asked}
-use Rattle.sc_subst.specs.Halves.{wanted_of, completed, expansions, list_or_empty}
-use Rattle.sc_expand.specs.Plain as plain
 use Rattle.sc_expand.specs.FootprintSteps.{IsPending, bottom, lower_of}
+use Rattle.sc_expand.specs.Plain as plain
+use Rattle.sc_expand.specs.Plain.{Fails, IsTemplate, Moves, State, Waiting, expanding, gathered, replacement_of, scanning, waiting, with_expanded}
 use Rattle.sc_model.specs.declared.cause.Cause.TheVariants.{UnterminatedCall, WrongArguments}
-use Rattle.sc_expand.specs.Plain.{Fails, IsTemplate, Moves, State, Waiting, expanding, gathered, replacement_of, scanning, waiting, with_expanded, without_first}
-
--- ---- the arguments that are asked for
-
-asked-some : {P : Type 0} (form : Form) (items : List Item) (k : ℕ) (arguments : List (List (Hidden P))) (n : ℕ) → n < length arguments → wants (k + n) false (parts form neither items) ≡ true
-    → get_or (asked form items k arguments) n None ≡ Some (argument arguments n)
-asked-some form items k [] n below wanted = absurd (omega arith)
-asked-some form items k (a ∷ others) zero below wanted =
-    let same : k ≡ k + 0 = omega arith in
-    ap (λ b. if b then Some a else None) (ap (λ j. wants j false (parts form neither items)) same ∙ wanted)
-asked-some form items k (a ∷ others) (suc n) below wanted =
-    let same : suc k + n ≡ k + suc n = omega arith in
-    asked-some form items (suc k) others n (omega arith) (ap (λ j. wants j false (parts form neither items)) same ∙ wanted)
-
-asked-none : {P : Type 0} (form : Form) (items : List Item) (k : ℕ) (arguments : List (List (Hidden P))) (n : ℕ) → wants (k + n) false (parts form neither items) ≡ false
-    → get_or (asked form items k arguments) n None ≡ None
-asked-none form items k [] n unwanted = refl
-asked-none form items k (a ∷ others) zero unwanted =
-    let same : k ≡ k + 0 = omega arith in
-    ap (λ b. if b then Some a else None) (ap (λ j. wants j false (parts form neither items)) same ∙ unwanted)
-asked-none form items k (a ∷ others) (suc n) unwanted =
-    let same : suc k + n ≡ k + suc n = omega arith in
-    asked-none form items (suc k) others n (ap (λ j. wants j false (parts form neither items)) same ∙ unwanted)
-
-length-asked : {P : Type 0} (form : Form) (items : List Item) (k : ℕ) (arguments : List (List (Hidden P))) → length (asked form items k arguments) ≡ length arguments
-length-asked form items k [] = refl
-length-asked form items k (a ∷ others) = ap suc (length-asked form items (suc k) others)
 
 after-stay : {P : Type 0} (out : List (Hidden P)) (t : Hidden P) (r : Result (List (Hidden P)) (Failure P)) → after_these out (with_first t r) ≡ after_these (out ++ t ∷ []) r
 after-stay out t (Ok list) = ap Ok (sym (append_assoc out (t ∷ []) list))
@@ -75,12 +44,12 @@ lower-rest : (n left : ℕ) (whole : Footprint) (uses : ℕ → Footprint) → l
 lower-rest n left whole uses below = subst (λ m. IsRestOf whole (uses m)) (sym (lower-same n left below))
 
 -- the arguments use names, and nothing of the whole list
-past-each : {P : Type 0} {provenance : Provenance P} {macros : Macros} {wanted : List (Option (List (Hidden P)))} {rs : List (Result (List (Hidden P)) (Failure P))} (left : ℕ) (uses : List Use) (e : Each provenance macros wanted rs)
+past-each : {P : Type 0} {provenance : Provenance P} {macros : Macros} {asks : List (ℕ × List (Hidden P))} {lists : List (List (Hidden P))} {rs : Result (List (List (Hidden P))) (Failure P)} (left : ℕ) (uses : List Use) (e : Each provenance macros asks lists rs)
     → footprint_from left ((trace_each e).uses ++ uses) ≡ with_names (trace_each e).looked_up (footprint_from left uses)
 past-each left uses none = refl
-past-each left uses (passed e) = past-each left uses e
-past-each left uses (expanded d e) =
+past-each left uses (next list d e) =
     ap (with_names (trace d).looked_up) (past-each left uses e) ∙ ap (λ names. record (footprint_from left uses) { looked_up = names }) (sym (append_assoc (trace d).looked_up (trace_each e).looked_up (footprint_from left uses).looked_up))
+past-each left uses (stops failure d) = refl
 
 -- The state completes so, in more steps than this, and looks up these names. What it uses ends as
 -- this does, where so many tokens of the whole list are behind it.
@@ -158,70 +127,40 @@ module _ {P : Type 0} (provenance : Provenance P) (macros : Macros) where
         rests = λ left pending fits. lower-rest (length work) left (with_names (looked inner) (using c left)) (using c) fits (rest-behind (looked inner) (using c left));
       }
 
-  -- the wanted arguments of a call, when all are expanded that are asked for
-  module _ (form : Form) (items : List Item) (arguments : List (List (Hidden P))) where
-    abbrev IsWanted : ℕ → Bool → Type 0
-    IsWanted n b = is_among (wanted_of form items) n ≡ b
+  -- the arguments that are asked for, where no # fails
+  asked-each : (d : Definition) (t : Hidden P) (arguments : List (List (Hidden P))) (results : Result (List (List (Hidden P))) (Failure P)) → is_ok (slots t arguments (parts d.form neither (list_of provenance d t))) ≡ true
+      → (e : Each provenance macros (map (λ n. (n, argument arguments n)) (wanted_of d.form (list_of provenance d t))) (map (λ a. []) arguments) results)
+      → (f : Each provenance macros (asked provenance d t arguments) (map (λ a. []) arguments) results) × (trace_each f ≡ trace_each e)
+  asked-each d t arguments results is e =
+      let all = map (λ n. (n, argument arguments n)) (wanted_of d.form (list_of provenance d t)) in
+      let same : asked provenance d t arguments ≡ all = ap (λ b. if b then all else []) is in
+      subst (λ l. (f : Each provenance macros l (map (λ a. []) arguments) results) × (trace_each f ≡ trace_each e)) (sym same) (e, refl)
 
-    wants-at : (n : ℕ) (b : Bool) → IsWanted n b → wants (0 + n) false (parts form neither items) ≡ b
-    wants-at n b is = let same : 0 + n ≡ n = omega arith in ap (λ j. wants j false (parts form neither items)) same ∙ (sym (wanted-asked n form items) ∙ is)
-
-    known-each : length arguments ≡ arity form → (rs : List Answer) (each : Each provenance macros (asked form items 0 arguments) rs) → AreKnown provenance macros arguments rs (wanted_of form items) (costs provenance macros each) (trace_each each).looked_up
-    known-each fit rs each = record {
-      below = λ n is. omega (arith, below n is, length-costs provenance macros each, length-asked form items 0 arguments);
-      at = λ n is. each-some provenance macros each n (argument arguments n) (asked-some form items 0 arguments n (below n is) (wants-at n true is));
-    }
-      where
-        below : (n : ℕ) → IsWanted n true → n < length arguments
-        below n is = omega (arith, wants-below n form items (sym (wanted-asked n form items) ∙ is), fit)
-
-    -- an argument that isn't wanted stays empty
-    empty-each : (rs : List Answer) (each : Each provenance macros (asked form items 0 arguments) rs) → (length (map {B = List (Hidden P)} (λ a. []) arguments) ≡ length rs)
-        × ((n : ℕ) → IsWanted n false → argument (map (λ a. []) arguments) n ≡ argument (expansions rs) n)
-    empty-each rs each = (
-      length-map arguments (λ a. []) ∙ sym (length-each provenance macros each ∙ length-asked form items 0 arguments),
-      λ n not.
-          get_or-map (λ a. []) arguments n []
-          ∙ sym (argument-expansions rs n ∙ ap list_or_empty (each-none provenance macros each n (asked-none form items 0 arguments n (wants-at n false not)))),
-    )
+  -- a call is taken, and its arguments and what it becomes use the rest of this
+  call-rest : (left n : ℕ) (t : Hidden P) (rest : List (Hidden P)) {asks : List (ℕ × List (Hidden P))} {lists : List (List (Hidden P))} {results : Result (List (List (Hidden P))) (Failure P)} (e : Each provenance macros asks lists results) (x : Trace) (f : Footprint)
+      → left < suc (length rest) → with_names (trace_each e).looked_up (footprint_from (lower_of n left) x.uses) ≡ f
+      → IsRestOf (footprint_from left (used.stands (suc (length rest)) ∷ used.looks_up (looked_up_at t) ∷ used.takes n ∷ (trace_each e).uses ++ x.uses)) f
+  call-rest left n t rest e x f below same =
+      rest-then (rest-same (past-first left (length rest) (looked_up_at t) (used.takes n ∷ (trace_each e).uses ++ x.uses) below))
+      (rest-then (rest-behind (looked_up_at t) (footprint_from (lower_of n left) ((trace_each e).uses ++ x.uses))) (rest-same (past-each (lower_of n left) x.uses e ∙ same)))
 
   -- a call as its arguments expand
-  called-back : (out rest after : List (Hidden P)) (t close : Hidden P) (d : Definition) (arguments : List (List (Hidden P))) (template : Result (List (Slot P)) (Failure P)) (r : Answer) (count : ℕ) (names : List (List ℕ)) (uses : ℕ → Footprint)
-      → case_of macros t rest ≡ called d arguments close after → IsTemplate provenance d t arguments template → (rs : List Answer) (each : Each provenance macros (asked d.form (list_of provenance d t) 0 arguments) rs)
-      → Supplied provenance macros out after (completed provenance t (with_name (meet t.hide close.hide) t.spelling) (wanted_of d.form (list_of provenance d t)) rs template) r count (sum (costs provenance macros each)) (trace_each each).looked_up names uses
-      → Earlier provenance macros (scanning out (t ∷ rest)) r count names uses (length after)
-  called-back out rest after t close d arguments template r count names uses is stands rs each s =
-      let set : HideSet = with_name (meet t.hide close.hide) t.spelling in
-      let g = rescans-as (call_result provenance d t arguments close rs) (completed provenance t set (wanted_of d.form (list_of provenance d t)) rs template) after s.answer (stands.completes rs set) s.rescans in
-      let front = covers-back (looked_up_at t ++ []) ((trace_each each).looked_up ++ (trace_rescan g.0).looked_up) in
-      let back = covers-same (ap (λ (x : Trace). (trace_each each).looked_up ++ x.looked_up) g.1) in
-      earlier-by out (t ∷ rest) s.answer r count names uses (length after) (sym s.is) (expansion.call d arguments close after rs is each g.0) (omega (arith, s.few, sum-costs provenance macros each, ap (λ x. x.steps) g.1))
-      (covers-then front (covers-then back s.covers))
-      (λ left below. rest-then (rest-same (past-first left (length rest) (looked_up_at t) (used.takes (length after) ∷ (trace_each each).uses ++ (trace_rescan g.0).uses) below))
-      (rest-then (rest-behind (looked_up_at t) (footprint_from (lower_of (length after) left) ((trace_each each).uses ++ (trace_rescan g.0).uses)))
-      (rest-then (rest-same (past-each (lower_of (length after) left) (trace_rescan g.0).uses each ∙ ap (λ (x : Trace). with_names (trace_each each).looked_up (footprint_from (lower_of (length after) left) x.uses)) g.1)) (s.rests (lower_of (length after) left)))))
+  gather-back : (out rest after : List (Hidden P)) (t close : Hidden P) (d : Definition) (arguments : List (List (Hidden P))) (template : Result (List (Slot P)) (Failure P)) (r : Answer)
+      → case_of macros t rest ≡ called d arguments close after → IsTemplate provenance d t arguments template
+      → (c : Completes provenance macros (waiting out after (gathered provenance d t arguments close template)) r) → Earlier provenance macros (scanning out (t ∷ rest)) r (steps c) (looked c) (using c) (length after)
+  gather-back out rest after t close d arguments template r is stands c =
+      let w = gathered provenance d t arguments close template in
+      let s = supplied provenance macros out after w.wanted w r refl c in
+      let e = asked-each d t arguments s.results stands.stringized s.each in
+      let g = rescans-as (call_result provenance d t arguments close s.results) (replaced_with provenance macros w s.results) after s.answer (λ i. result_and_then (λ lists. stands.completes lists w.names i) s.results) s.rescans in
+      let names = (trace_each e.0).looked_up ++ (trace_rescan g.0).looked_up in
+      earlier-by out (t ∷ rest) s.answer r (steps c) (looked c) (using c) (length after) (sym s.is) (expansion.call d arguments close after s.results is e.0 g.0)
+      (omega (arith, s.few, ap (λ (x : Trace). x.steps) e.1, ap (λ (x : Trace). x.steps) g.1))
+      (covers-then (covers-back (looked_up_at t ++ []) names) (covers-same {xs = names} {ys = looked c} ((λ i. (e.1 i).looked_up ++ (g.1 i).looked_up) ∙ sym s.named)))
+      (λ left below. call-rest left (length after) t rest e.0 (trace_rescan g.0) (using c (lower_of (length after) left)) below
+      ((λ i. with_names (e.1 i).looked_up (footprint_from (lower_of (length after) left) (g.1 i).uses)) ∙ sym (ap (λ f. f (lower_of (length after) left)) s.used)))
 
   module _ (names : List (List ℕ)) (within : IsWithin names macros) where
-    each-of : (wanted : List (Option (List (Hidden P)))) → (rs : List Answer) × Each provenance macros wanted rs
-    each-of [] = ([], none)
-    each-of (None ∷ wanted) = let e = each-of wanted in (Ok [] ∷ e.0, passed e.1)
-    each-of (Some a ∷ wanted) =
-        let h = halts provenance macros names within a in
-        let e = each-of wanted in
-        (h.0 ∷ e.0, expanded h.1 e.1)
-
-    gather-back : (out rest after : List (Hidden P)) (t close : Hidden P) (d : Definition) (arguments : List (List (Hidden P))) (template : Result (List (Slot P)) (Failure P)) (r : Answer)
-        → case_of macros t rest ≡ called d arguments close after → IsTemplate provenance d t arguments template
-        → (c : Completes provenance macros (waiting out after (gathered provenance d t arguments close template)) r) → Earlier provenance macros (scanning out (t ∷ rest)) r (steps c) (looked c) (using c) (length after)
-    gather-back out rest after t close d arguments template r is stands c = by (each-of (asked d.form (list_of provenance d t) 0 arguments))
-      where
-        by : ((rs : List Answer) × Each provenance macros (asked d.form (list_of provenance d t) 0 arguments) rs) → Earlier provenance macros (scanning out (t ∷ rest)) r (steps c) (looked c) (using c) (length after)
-        by (rs, each) =
-            called-back out rest after t close d arguments template r (steps c) (looked c) (using c) is stands rs each
-            (supplied provenance macros t (with_name (meet t.hide close.hide) t.spelling) template arguments rs out after (trace_each each).looked_up (wanted_of d.form (list_of provenance d t)) (map (λ a. []) arguments) (costs provenance macros each) r
-            (wanted-apart d.form (list_of provenance d t)) (length-costs provenance macros each ∙ sym (length-each provenance macros each))
-            (known-each d.form (list_of provenance d t) arguments (called-fits macros t close rest after d arguments is) rs each) (empty-each d.form (list_of provenance d t) arguments rs each) c)
-
     pub move-back : (s t : State P) → Moves provenance macros s t → (r : Answer) (c : Completes provenance macros t r) → Earlier provenance macros s r (steps c) (looked c) (using c) (length (bottom t))
     move-back _ _ (plain.stay out rest t is) r c = stay-back out rest t r is c
     move-back _ _ (plain.object out rest body t d is made) r c = object-back out rest body t d r is made c
@@ -255,11 +194,17 @@ module _ {P : Type 0} (provenance : Provenance P) (macros : Macros) where
     -- ---- failures
 
     -- a call whose replacement fails
-    call-fails : (left n : ℕ) (t : Hidden P) (rest : List (Hidden P)) {wanted : List (Option (List (Hidden P)))} {rs : List Answer} (each : Each provenance macros wanted rs) (x : Trace) → left < suc (length rest) → x ≡ failing
-        → (footprint_from left (used.stands (suc (length rest)) ∷ used.looks_up (looked_up_at t) ∷ used.takes n ∷ (trace_each each).uses ++ x.uses)).fails ≡ true
-    call-fails left n t rest each x below is =
-        ap (λ (f : Footprint). f.fails) (past-first left (length rest) (looked_up_at t) (used.takes n ∷ (trace_each each).uses ++ x.uses) below)
-        ∙ (ap (λ (f : Footprint). f.fails) (past-each (lower_of n left) x.uses each) ∙ ap (λ (y : Trace). (footprint_from (lower_of n left) y.uses).fails) is)
+    call-fails : (left n : ℕ) (t : Hidden P) (rest : List (Hidden P)) (x : Trace) → left < suc (length rest) → x ≡ failing
+        → (footprint_from left (used.stands (suc (length rest)) ∷ used.looks_up (looked_up_at t) ∷ used.takes n ∷ x.uses)).fails ≡ true
+    call-fails left n t rest x below is =
+        ap (λ (f : Footprint). f.fails) (past-first left (length rest) (looked_up_at t) (used.takes n ∷ x.uses) below) ∙ ap (λ (y : Trace). (footprint_from (lower_of n left) y.uses).fails) is
+
+    -- no argument is asked for where a # fails
+    none-asked : (d : Definition) (t : Hidden P) (arguments : List (List (Hidden P))) (failure : Failure P) → slots t arguments (parts d.form neither (list_of provenance d t)) ≡ Err failure
+        → (e : Each provenance macros (asked provenance d t arguments) (map (λ a. []) arguments) (Ok (map (λ a. []) arguments))) × (trace_each e ≡ no_trace)
+    none-asked d t arguments failure is =
+        let same : asked provenance d t arguments ≡ [] = ap (λ made. if is_ok made then map (λ n. (n, argument arguments n)) (wanted_of d.form (list_of provenance d t)) else []) is in
+        subst (λ l. (e : Each provenance macros l (map (λ a. []) arguments) (Ok (map (λ a. []) arguments))) × (trace_each e ≡ no_trace)) (sym same) (none, refl)
 
     pub fails-by : (s : State P) (failure : Failure P) → Fails provenance macros s failure → Failing provenance macros s failure
     fails-by _ _ (plain.bad_object out rest t d failure is made) =
@@ -272,16 +217,18 @@ module _ {P : Type 0} (provenance : Provenance P) (macros : Macros) where
       completes = scans out (t ∷ rest) (Err (failure_at UnterminatedCall t)) (expansion.unterminated is);
       fails = λ left pending. ap (λ (f : Footprint). f.fails) (past-first left (length rest) (looked_up_at t) failing.uses pending);
     }
-    fails-by _ _ (plain.miscounted out rest t is) = record {
-      completes = scans out (t ∷ rest) (Err (failure_at WrongArguments t)) (expansion.miscounted is);
-      fails = λ left pending. ap (λ (f : Footprint). f.fails) (past-first left (length rest) (looked_up_at t) (used.takes (length (behind_call rest)) ∷ failing.uses) pending);
+    fails-by _ _ (plain.miscounted out rest after t is) = record {
+      completes = scans out (t ∷ rest) (Err (failure_at WrongArguments t)) (expansion.miscounted after is);
+      fails = λ left pending. call-fails left (length after) t rest failing pending refl;
     }
-    fails-by _ _ (plain.bad_stringize out rest after t close d arguments failure is whatever) =
-        let each = each-of (asked d.form (list_of provenance d t) 0 arguments) in
-        let g = rescans-as (call_result provenance d t arguments close each.0) (Err failure) after (Err failure) (whatever each.0) (refused failure) in
+    fails-by _ _ (plain.bad_stringize out rest after t close d arguments failure is hash) =
+        let e = none-asked d t arguments failure hash in
+        let lists = map (λ (a : List (Hidden P)). []) arguments in
+        let made : call_result provenance d t arguments close (Ok lists) ≡ Err failure = ap (result_and_then (put_together provenance t arguments lists (with_name (meet t.hide close.hide) t.spelling))) hash in
+        let g = rescans-as (call_result provenance d t arguments close (Ok lists)) (Err failure) after (Err failure) made (refused failure) in
         record {
-          completes = scans out (t ∷ rest) (Err failure) (expansion.call d arguments close after each.0 is each.1 g.0);
-          fails = λ left pending. call-fails left (length after) t rest each.1 (trace_rescan g.0) pending g.1;
+          completes = scans out (t ∷ rest) (Err failure) (expansion.call d arguments close after (Ok lists) is e.0 g.0);
+          fails = λ left pending. call-fails left (length after) t rest (both (trace_each e.0) (trace_rescan g.0)) pending (λ i. both (e.1 i) (g.1 i));
         }
     fails-by _ _ (plain.bad_paste out work w failure all made) =
         let g = rescans-as (replacement_of provenance w) (Err failure) work (Err failure) made (refused failure) in

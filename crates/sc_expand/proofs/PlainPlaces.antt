@@ -1,16 +1,16 @@
 -- Expansion commutes with a map of what is kept of the places of tokens.
-use Rattle.std.proofs.Common.{◌≡◌, ℕ, zero, suc, ◌==◌, ◌&&◌, ◌||◌, Bool, true, false, List, [], ◌∷◌, ◌++◌, map, length, codes, Option, Some, None, Result, Ok, Err, refl, sym, ap, subst, ◌∙◌, if◌then◌else◌}
-use Rattle.std.proofs.lemmas.List.{length-map, map-append}
+use Rattle.std.proofs.Common.{◌≡◌, is_ok, ℕ, zero, suc, ◌==◌, ◌&&◌, ◌||◌, Bool, true, false, List, [], ◌∷◌, ◌++◌, map, length, codes, Option, Some, None, Result, Ok, Err, refl, sym, ap, subst, ◌∙◌, if◌then◌else◌}
+use Rattle.std.proofs.lemmas.List.{length-map, map-append, map-set}
 use Rattle.std.proofs.Math.ListN.{get_or-map}
 use Rattle.std.specs.Option.{option_map}
 use Rattle.c11_macros.proofs.Agreement.{EachBy, RescansBy}
-use Rattle.c11_macros.specs.Call.{Call, Role, opening, closing, comma, other, apart, arguments_for, behind_call, call_of, call_step, counts, filled_up, given, is_nothing, onto, onto_argument, rest_or, role_of}
-use Rattle.c11_macros.specs.Expansion.{Case, stays, replaced, unclosed, misfit, called, asked, call_case, call_result, case_of, defined_case, fitted_case, form_case, is_looked_up, list_of, looked_up_case, object_result, with_first, Expands, empty, stay, object, unterminated, miscounted, call, Each, none, passed, expanded, Rescans, on, refused}
+use Rattle.c11_macros.specs.Call.{Call, Role, opening, closing, comma, other, apart, arguments_for, call_of, call_step, counts, filled_up, given, is_nothing, onto, onto_argument, role_of}
+use Rattle.c11_macros.specs.Expansion.{Case, stays, replaced, unclosed, misfit, called, asked, call_case, call_result, case_of, defined_case, fitted_case, form_case, is_looked_up, list_of, looked_up_case, object_result, with_first, Expands, empty, stay, object, unterminated, miscounted, call, Each, next, none, stops, Rescans, on, refused}
 use Rattle.c11_macros.specs.Hidden.{Failure, Hidden, HideSet, Provenance, failure_at, meet, no_names, with_name}
 use Rattle.c11_macros.specs.Macros.{Definition, Form, Item, Macros, function_like, list_at, object_like}
 use Rattle.c11_macros.specs.Results.{result_and_then, result_map}
 use Rattle.c11_macros.specs.Substitution as substitution
-use Rattle.c11_macros.specs.Substitution.{Part, Piece, Slot, all_glued, argument, argument_pieces, begins_paste, expansion_of, filled, filled_by, for_parameter, for_paste, glued, hidden_by, hiding, is_text_kind, joined, literal_of, neither, operator, or_placemarker, parts, pasted_as, piece, pieces_of, placemarker, quoted_spelling, slot_of, slots, spellings, spellings_after, stringized, substituted, tokens_of, wants, with_space}
+use Rattle.c11_macros.specs.Substitution.{Part, Piece, Slot, all_glued, argument, argument_pieces, begins_paste, filled, filled_by, for_parameter, for_paste, glued, hidden_by, hiding, is_text_kind, joined, literal_of, neither, operator, or_placemarker, parts, put_together, wanted_of, pasted_as, piece, pieces_of, placemarker, quoted_spelling, slot_of, slots, spellings, spellings_after, stringized, substituted, tokens_of, with_space}
 use Rattle.c11_macros.specs.Trace.{ExpandsBy, after_step, both, failing, looked_up_at, looks_up, stands, takes, taking, taking_call, trace, trace_each, trace_rescan}
 use Rattle.c11_tokens.specs.Relex.{relexed}
 use Rattle.sc_expand.specs.Moved.{IsKept, moved, moved_answer, moved_failure}
@@ -35,6 +35,10 @@ carried-then : {A B C D E F : Type 0} (a : A → B) (b : C → D) (e : E → F) 
     → result_and_then h (carried a e r) ≡ carried b e (result_and_then g r)
 carried-then a b e g h same (Ok x) = same x
 carried-then a b e g h same (Err x) = refl
+
+carried-ok : {A B E F : Type 0} (a : A → B) (e : E → F) (r : Result A E) → is_ok (carried a e r) ≡ is_ok r
+carried-ok a e (Ok x) = refl
+carried-ok a e (Err x) = refl
 
 carried-if : {A B : Type 0} (g : A → B) (c : Bool) (x y : A) → (if c then g x else g y) ≡ g (if c then x else y)
 carried-if g true x y = refl
@@ -122,38 +126,23 @@ module _ {P Q : Type 0} (f : P → Q) where
   begins_paste-moved (for_parameter n space ∷ ss) = refl
   begins_paste-moved (for_paste ∷ ss) = refl
 
-  module _ (raw : List (List (Hidden P))) (results : List (Result (List (Hidden P)) (Failure P))) where
-    expansion-moved : (n : ℕ) → expansion_of (map (moved_answer f) results) n ≡ carried all (moved_failure f) (expansion_of results n)
-    expansion-moved n = get_or-map (moved_answer f) results n (Ok []) ∙ sym (moved-carried (expansion_of results n))
-
-    argument_pieces-moved : (beside : Bool) (n : ℕ) (space : Bool)
-        → argument_pieces beside (map all raw) (map (moved_answer f) results) n space ≡ carried (map moved_piece) (moved_failure f) (argument_pieces beside raw results n space)
+  module _ (raw expanded : List (List (Hidden P))) where
+    argument_pieces-moved : (beside : Bool) (n : ℕ) (space : Bool) → argument_pieces (map all raw) (map all expanded) beside n space ≡ map moved_piece (argument_pieces raw expanded beside n space)
     argument_pieces-moved true n space =
-        ap (λ ts. Ok (or_placemarker (with_space space ts))) (argument-moved raw n)
-        ∙ ap (λ ts. Ok (or_placemarker ts)) (with_space-moved space (argument raw n))
-        ∙ ap (λ ps. Ok ps) (or_placemarker-moved (with_space space (argument raw n)))
+        ap (λ ts. or_placemarker (with_space space ts)) (argument-moved raw n)
+        ∙ (ap or_placemarker (with_space-moved space (argument raw n)) ∙ or_placemarker-moved (with_space space (argument raw n)))
     argument_pieces-moved false n space =
-        ap (result_map (λ ts. pieces_of (with_space space ts))) (expansion-moved n)
-        ∙ carried-map all (map moved_piece) (moved_failure f) (λ ts. pieces_of (with_space space ts)) (λ ts. pieces_of (with_space space ts))
-        (λ ts. ap pieces_of (with_space-moved space ts) ∙ pieces-moved (with_space space ts)) (expansion_of results n)
+        ap (λ ts. pieces_of (with_space space ts)) (argument-moved expanded n)
+        ∙ (ap pieces_of (with_space-moved space (argument expanded n)) ∙ pieces-moved (with_space space (argument expanded n)))
 
-    filled-moved : (behind : Bool) (ss : List (Slot P)) → filled (map all raw) (map (moved_answer f) results) behind (map moved_slot ss) ≡ carried (map moved_piece) (moved_failure f) (filled raw results behind ss)
+    filled-moved : (behind : Bool) (ss : List (Slot P)) → filled (map all raw) (map all expanded) behind (map moved_slot ss) ≡ map moved_piece (filled raw expanded behind ss)
     filled-moved behind [] = refl
-    filled-moved behind (filled_by t ∷ ss) =
-        ap (result_map (λ rest. piece (moved f t) ∷ rest)) (filled-moved false ss)
-        ∙ carried-map (map moved_piece) (map moved_piece) (moved_failure f) (λ rest. piece t ∷ rest) (λ rest. piece (moved f t) ∷ rest) (λ rest. refl) (filled raw results false ss)
-    filled-moved behind (for_paste ∷ ss) =
-        ap (result_map (λ rest. operator ∷ rest)) (filled-moved true ss)
-        ∙ carried-map (map moved_piece) (map moved_piece) (moved_failure f) (λ rest. operator ∷ rest) (λ rest. operator ∷ rest) (λ rest. refl) (filled raw results true ss)
+    filled-moved behind (filled_by t ∷ ss) = ap (λ rest. piece (moved f t) ∷ rest) (filled-moved false ss)
+    filled-moved behind (for_paste ∷ ss) = ap (λ rest. operator ∷ rest) (filled-moved true ss)
     filled-moved behind (for_parameter n space ∷ ss) =
-        let after = filled (map all raw) (map (moved_answer f) results) false (map moved_slot ss) in
-        ap (λ b. result_and_then (λ here. result_map (λ rest. here ++ rest) after) (argument_pieces (behind || b) (map all raw) (map (moved_answer f) results) n space)) (begins_paste-moved ss)
-        ∙ ap (result_and_then (λ here. result_map (λ rest. here ++ rest) after)) (argument_pieces-moved (behind || begins_paste ss) n space)
-        ∙ carried-then (map moved_piece) (map moved_piece) (moved_failure f) (λ here. result_map (λ rest. here ++ rest) (filled raw results false ss)) (λ here. result_map (λ rest. here ++ rest) after)
-        (λ here.
-        ap (result_map (λ rest. map moved_piece here ++ rest)) (filled-moved false ss)
-        ∙ carried-map (map moved_piece) (map moved_piece) (moved_failure f) (λ rest. here ++ rest) (λ rest. map moved_piece here ++ rest) (λ rest. sym (map-append moved_piece here rest)) (filled raw results false ss))
-        (argument_pieces (behind || begins_paste ss) raw results n space)
+        (λ i. argument_pieces (map all raw) (map all expanded) (behind || begins_paste-moved ss i) n space ++ filled-moved false ss i)
+        ∙ (ap (λ here. here ++ map moved_piece (filled raw expanded false ss)) (argument_pieces-moved (behind || begins_paste ss) n space)
+        ∙ sym (map-append moved_piece (argument_pieces raw expanded (behind || begins_paste ss) n space) (filled raw expanded false ss)))
 
   -- ---- tokens pasted at each ##
 
@@ -201,7 +190,7 @@ module _ {P Q : Type 0} (f : P → Q) where
   moved_case stays = stays
   moved_case (replaced d) = replaced d
   moved_case unclosed = unclosed
-  moved_case misfit = misfit
+  moved_case (misfit after) = misfit (all after)
   moved_case (called d arguments close after) = called d (map all arguments) (moved f close) (all after)
 
   onto_argument-moved : (t : Hidden P) (arguments : List (List (Hidden P))) → onto_argument (moved f t) (map all arguments) ≡ map all (onto_argument t arguments)
@@ -295,11 +284,17 @@ module _ {P Q : Type 0} (f : P → Q) where
   pub case_of-moved : (macros : Macros) (t : Hidden P) (rest : List (Hidden P)) → case_of macros (moved f t) (all rest) ≡ moved_case (case_of macros t rest)
   case_of-moved macros t rest = looked_up_case-moved macros (is_looked_up t) t.spelling rest
 
-  asked-moved : (form : Form) (items : List Item) (n : ℕ) (arguments : List (List (Hidden P))) → asked form items n (map all arguments) ≡ map (option_map all) (asked form items n arguments)
-  asked-moved form items n [] = refl
-  asked-moved form items n (argument ∷ arguments) =
-      ap (λ ask. ask ∷ asked form items (suc n) (map all arguments)) (carried-if (option_map all) (wants n false (parts form neither items)) (Some argument) None)
-      ∙ ap (λ asks. option_map all (if wants n false (parts form neither items) then Some argument else None) ∷ asks) (asked-moved form items (suc n) arguments)
+  -- an argument that is asked for, with its parameter
+  abbrev moved_ask : ℕ × List (Hidden P) → ℕ × List (Hidden Q)
+  moved_ask ask = (ask.0, all ask.1)
+
+  asks-moved : (arguments : List (List (Hidden P))) (ns : List ℕ) → map (λ n. (n, argument (map all arguments) n)) ns ≡ map moved_ask (map (λ n. (n, argument arguments n)) ns)
+  asks-moved arguments [] = refl
+  asks-moved arguments (n ∷ ns) = λ i. (n, argument-moved arguments n i) ∷ asks-moved arguments ns i
+
+  unexpanded-moved : (arguments : List (List (Hidden P))) → map {B = List (Hidden Q)} (λ a. []) (map all arguments) ≡ map all (map (λ a. []) arguments)
+  unexpanded-moved [] = refl
+  unexpanded-moved (a ∷ others) = ap (λ lists. [] ∷ lists) (unexpanded-moved others)
 
   with_first-moved : (t : Hidden P) (r : Result (List (Hidden P)) (Failure P)) → with_first (moved f t) (moved_answer f r) ≡ moved_answer f (with_first t r)
   with_first-moved t (Ok ts) = refl
@@ -313,14 +308,6 @@ module _ {P Q : Type 0} (f : P → Q) where
   taking_call-moved : (after : List (Hidden P)) → taking_call (all after) ≡ taking_call after
   taking_call-moved after = ap (λ n. record { steps = 0; looked_up = []; uses = takes n ∷ [] }) (length-map after (moved f))
 
-  rest_or-moved : (ts : List (Hidden P)) (o : Option (Call P)) → rest_or (all ts) (option_map moved_call o) ≡ all (rest_or ts o)
-  rest_or-moved ts None = refl
-  rest_or-moved ts (Some found) = refl
-
-  behind_call-moved : (ts : List (Hidden P)) → behind_call (all ts) ≡ all (behind_call ts)
-  behind_call-moved [] = refl
-  behind_call-moved (t ∷ ts) = ap (rest_or (all ts)) (call_of-moved zero zero ts) ∙ rest_or-moved ts (call_of zero zero ts)
-
   -- ---- replacements and expansions
 
   module _ {one : Provenance P} {two : Provenance Q} (kept : IsKept one two f) where
@@ -333,42 +320,48 @@ module _ {P Q : Type 0} (f : P → Q) where
     list_of-moved : (d : Definition) (head : Hidden P) → list_of two d (moved f head) ≡ list_of one d head
     list_of-moved d head = ap (list_at d.replacement) (kept.place head.place)
 
-    substituted-moved : (form : Form) (items : List Item) (head : Hidden P) (raw : List (List (Hidden P))) (results : List (Result (List (Hidden P)) (Failure P))) (names : HideSet)
-        → substituted two form items (moved f head) (map all raw) (map (moved_answer f) results) names ≡ moved_answer f (substituted one form items head raw results names)
-    substituted-moved form items head raw results names =
-        let ps = parts form neither items in
-        let fails = moved_failure f in
-        let fills : List (Slot P) → Result (List (Piece P)) (Failure P) = filled raw results false in
-        let other_fills : List (Slot Q) → Result (List (Piece Q)) (Failure Q) = filled (map all raw) (map (moved_answer f) results) false in
-        let ends : List (Piece P) → List (Hidden P) = λ pieces. hiding one names (with_space head.space (tokens_of pieces)) in
-        let other_ends : List (Piece Q) → List (Hidden Q) = λ pieces. hiding two names (with_space head.space (tokens_of pieces)) in
-        ap (λ r. result_map other_ends (result_and_then (all_glued (moved f head)) (result_and_then other_fills r))) (slots-moved head raw ps)
-        ∙ ap (λ r. result_map other_ends (result_and_then (all_glued (moved f head)) r)) (carried-then (map moved_slot) (map moved_piece) fails fills other_fills (filled-moved raw results false) (slots head raw ps))
-        ∙ ap (result_map other_ends) (carried-then (map moved_piece) (map moved_piece) fails (all_glued head) (all_glued (moved f head)) (all_glued-moved head) (result_and_then fills (slots head raw ps)))
-        ∙ carried-map (map moved_piece) all fails ends other_ends
-        (λ pieces.
-        ap (λ ts. hiding two names (with_space head.space ts)) (tokens-moved pieces)
-        ∙ ap (hiding two names) (with_space-moved head.space (tokens_of pieces))
-        ∙ hiding-moved names (with_space head.space (tokens_of pieces)))
-        (result_and_then (all_glued head) (result_and_then fills (slots head raw ps)))
-        ∙ moved-carried (substituted one form items head raw results names)
+    module _ (head : Hidden P) (raw expanded : List (List (Hidden P))) (names : HideSet) where
+      put-moved : (ss : List (Slot P)) → put_together two (moved f head) (map all raw) (map all expanded) names (map moved_slot ss) ≡ carried all (moved_failure f) (put_together one head raw expanded names ss)
+      put-moved ss =
+          let ends : List (Piece P) → List (Hidden P) = λ pieces. hiding one names (with_space head.space (tokens_of pieces)) in
+          let other_ends : List (Piece Q) → List (Hidden Q) = λ pieces. hiding two names (with_space head.space (tokens_of pieces)) in
+          ap (λ ps. result_map other_ends (all_glued (moved f head) ps)) (filled-moved raw expanded false ss)
+          ∙ ap (result_map other_ends) (all_glued-moved head (filled raw expanded false ss))
+          ∙ carried-map (map moved_piece) all (moved_failure f) ends other_ends
+          (λ pieces.
+          ap (λ ts. hiding two names (with_space head.space ts)) (tokens-moved pieces)
+          ∙ ap (hiding two names) (with_space-moved head.space (tokens_of pieces))
+          ∙ hiding-moved names (with_space head.space (tokens_of pieces)))
+          (all_glued head (filled raw expanded false ss))
+
+      substituted-moved : (form : Form) (items : List Item) → substituted two form items (moved f head) (map all raw) (map all expanded) names ≡ moved_answer f (substituted one form items head raw expanded names)
+      substituted-moved form items =
+          let ps = parts form neither items in
+          ap (result_and_then (put_together two (moved f head) (map all raw) (map all expanded) names)) (slots-moved head raw ps)
+          ∙ carried-then (map moved_slot) all (moved_failure f) (put_together one head raw expanded names) (put_together two (moved f head) (map all raw) (map all expanded) names) put-moved (slots head raw ps)
+          ∙ moved-carried (substituted one form items head raw expanded names)
 
     object_result-moved : (d : Definition) (t : Hidden P) → object_result two d (moved f t) ≡ moved_answer f (object_result one d t)
     object_result-moved d t =
         ap (λ list. substituted two d.form list (moved f t) [] [] (with_name t.hide t.spelling)) (list_of-moved d t)
-        ∙ substituted-moved d.form (list_of one d t) t [] [] (with_name t.hide t.spelling)
+        ∙ substituted-moved t [] [] (with_name t.hide t.spelling) d.form (list_of one d t)
 
-    call_result-moved : (d : Definition) (t : Hidden P) (arguments : List (List (Hidden P))) (close : Hidden P) (results : List (Result (List (Hidden P)) (Failure P)))
-        → call_result two d (moved f t) (map all arguments) (moved f close) (map (moved_answer f) results) ≡ moved_answer f (call_result one d t arguments close results)
-    call_result-moved d t arguments close results =
-        ap (λ list. substituted two d.form list (moved f t) (map all arguments) (map (moved_answer f) results) (with_name (meet t.hide close.hide) t.spelling)) (list_of-moved d t)
-        ∙ substituted-moved d.form (list_of one d t) t arguments results (with_name (meet t.hide close.hide) t.spelling)
+    call_result-moved : (d : Definition) (t : Hidden P) (arguments : List (List (Hidden P))) (close : Hidden P) (results : Result (List (List (Hidden P))) (Failure P))
+        → call_result two d (moved f t) (map all arguments) (moved f close) (carried (map all) (moved_failure f) results) ≡ moved_answer f (call_result one d t arguments close results)
+    call_result-moved d t arguments close (Ok lists) =
+        ap (λ list. substituted two d.form list (moved f t) (map all arguments) (map all lists) (with_name (meet t.hide close.hide) t.spelling)) (list_of-moved d t)
+        ∙ substituted-moved t arguments lists (with_name (meet t.hide close.hide) t.spelling) d.form (list_of one d t)
+    call_result-moved d t arguments close (Err failure) = refl
 
-    asked_of-moved : (d : Definition) (t : Hidden P) (arguments : List (List (Hidden P)))
-        → asked d.form (list_of two d (moved f t)) 0 (map all arguments) ≡ map (option_map all) (asked d.form (list_of one d t) 0 arguments)
-    asked_of-moved d t arguments =
-        ap (λ list. asked d.form list 0 (map all arguments)) (list_of-moved d t)
-        ∙ asked-moved d.form (list_of one d t) 0 arguments
+    asked-moved : (d : Definition) (t : Hidden P) (arguments : List (List (Hidden P))) → asked two d (moved f t) (map all arguments) ≡ map moved_ask (asked one d t arguments)
+    asked-moved d t arguments =
+        let list = list_of one d t in
+        let ps = parts d.form neither list in
+        let ask : List Item → Bool → List (ℕ × List (Hidden Q)) = λ items b. if b then map (λ n. (n, argument (map all arguments) n)) (wanted_of d.form items) else [] in
+        ap (λ items. ask items (is_ok (slots (moved f t) (map all arguments) (parts d.form neither items)))) (list_of-moved d t)
+        ∙ ap (ask list) (ap is_ok (slots-moved t arguments ps) ∙ carried-ok (map moved_slot) (moved_failure f) (slots t arguments ps))
+        ∙ ap (λ asks. if is_ok (slots t arguments ps) then asks else []) (asks-moved arguments (wanted_of d.form list))
+        ∙ carried-if (map moved_ask) (is_ok (slots t arguments ps)) (map (λ n. (n, argument arguments n)) (wanted_of d.form list)) []
 
     module _ (macros : Macros) where
       mutual
@@ -383,27 +376,25 @@ module _ {P Q : Type 0} (f : P → Q) where
             let h = subst (λ made. RescansBy two macros made (all rest) (moved_answer f r) (trace_rescan g)) (sym (object_result-moved d t)) (rescans-moved g) in
             record { expands = object d (case_of-moved macros t rest ∙ ap moved_case is) h.goes; by = λ i. both (taking-moved t rest i) (h.by i) }
         expands-moved (unterminated {t} {rest} is) = record { expands = unterminated (case_of-moved macros t rest ∙ ap moved_case is); by = λ i. both (taking-moved t rest i) failing }
-        expands-moved (miscounted {t} {rest} is) = record {
-          expands = miscounted (case_of-moved macros t rest ∙ ap moved_case is);
-          by =
-              let behind = ap taking_call (behind_call-moved rest) ∙ taking_call-moved (behind_call rest) in
-              λ i. both (taking-moved t rest i) (both (behind i) failing);
-        }
+        expands-moved (miscounted {t} {rest} after is) =
+            record { expands = miscounted (all after) (case_of-moved macros t rest ∙ ap moved_case is); by = λ i. both (taking-moved t rest i) (both (taking_call-moved after i) failing) }
         expands-moved (call {t} {rest} {r} d arguments close after results is each g) =
-            let every = subst (λ asks. EachBy two macros asks (map (moved_answer f) results) (trace_each each)) (sym (asked_of-moved d t arguments)) (each-moved each) in
+            let lists = carried (map all) (moved_failure f) results in
+            let every = subst (λ (p : List (ℕ × List (Hidden Q)) × List (List (Hidden Q))). EachBy two macros p.0 p.1 lists (trace_each each)) (λ i. (sym (asked-moved d t arguments) i, sym (unexpanded-moved arguments) i)) (each-moved each) in
             let h = subst (λ made. RescansBy two macros made (all after) (moved_answer f r) (trace_rescan g)) (sym (call_result-moved d t arguments close results)) (rescans-moved g) in
             record {
-              expands = call d (map all arguments) (moved f close) (all after) (map (moved_answer f) results) (case_of-moved macros t rest ∙ ap moved_case is) every.each h.goes;
+              expands = call d (map all arguments) (moved f close) (all after) lists (case_of-moved macros t rest ∙ ap moved_case is) every.each h.goes;
               by = λ i. both (both (taking-moved t rest i) (taking_call-moved after i)) (both (every.by i) (h.by i));
             }
 
-        each-moved : {asks : List (Option (List (Hidden P)))} {rs : List (Result (List (Hidden P)) (Failure P))} (each : Each one macros asks rs) → EachBy two macros (map (option_map all) asks) (map (moved_answer f) rs) (trace_each each)
+        each-moved : {asks : List (ℕ × List (Hidden P))} {lists : List (List (Hidden P))} {r : Result (List (List (Hidden P))) (Failure P)} (each : Each one macros asks lists r)
+            → EachBy two macros (map moved_ask asks) (map all lists) (carried (map all) (moved_failure f) r) (trace_each each)
         each-moved none = record { each = none; by = refl }
-        each-moved (passed others) = let more = each-moved others in record { each = passed more.each; by = more.by }
-        each-moved (expanded first others) =
+        each-moved (next {ask} {asks} {lists} {r} list first others) =
             let e = expands-moved first in
-            let more = each-moved others in
-            record { each = expanded e.expands more.each; by = λ i. both (after_step (e.by i)) (more.by i) }
+            let more = subst (λ l. EachBy two macros (map moved_ask asks) l (carried (map all) (moved_failure f) r) (trace_each others)) (map-set all lists ask.0 list) (each-moved others) in
+            record { each = next (all list) e.expands more.each; by = λ i. both (after_step (e.by i)) (more.by i) }
+        each-moved (stops failure first) = let e = expands-moved first in record { each = stops (moved_failure f failure) e.expands; by = ap after_step e.by }
 
         rescans-moved : {made : Result (List (Hidden P)) (Failure P)} {rest : List (Hidden P)} {r : Result (List (Hidden P)) (Failure P)} (g : Rescans one macros made rest r) → RescansBy two macros (moved_answer f made) (all rest) (moved_answer f r) (trace_rescan g)
         rescans-moved (on {body} {rest} {r} d) =

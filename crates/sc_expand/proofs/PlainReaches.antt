@@ -4,7 +4,7 @@ use Rattle.std.proofs.Common.{ℕ, ◌<◌, List, [], append-nil, Result, Ok, Er
 use Rattle.c11_macros.specs.Expansion.{Expands, IsWithin, empty}
 use Rattle.c11_macros.specs.Hidden.{Failure, Hidden, Provenance}
 use Rattle.c11_macros.specs.Macros.{Macros}
-use Rattle.sc_expand.proofs.PlainArguments.{after-none}
+use Rattle.c11_macros.proofs.RunExpands.{these-none}
 use Rattle.sc_expand.proofs.PlainCompletes.{Completes, ends, scanned, scans, size, size-is}
 use Rattle.sc_expand.proofs.PlainMoves.{fails-back, move-back}
 use Rattle.sc_expand.specs.Plain.{Fails, Leads, Moves, State, no_step, scanning, step}
@@ -18,7 +18,7 @@ module _ {P : Type 0} (provenance : Provenance P) (macros : Macros) where
     pub back : (r : Answer) → Completes provenance macros s r → Expands provenance macros source r
 
   pub reaches-start : (source : List (Hidden P)) → Reaches source (scanning [] source)
-  reaches-start source = record { back = λ r c. let s = scanned c in subst (Expands provenance macros source) (sym (s.is ∙ after-none s.answer)) s.expands }
+  reaches-start source = record { back = λ r c. let s = scanned c in subst (Expands provenance macros source) (sym (s.is ∙ sym (these-none s.answer))) s.expands }
 
   pub reaches-end : (source out : List (Hidden P)) → Reaches source (scanning out []) → Expands provenance macros source (Ok out)
   reaches-end source out reaches = reaches.back (Ok out) (subst (λ l. Completes provenance macros (scanning out []) (Ok l)) (append-nil out) (scans out [] (Ok []) empty))

@@ -1,9 +1,9 @@
 -- A call that waits for its arguments, as it begins.
-use Rattle.std.specs.Prelude.{◌≡◌, ℕ, List, [], Result, map, slice_index_or}
+use Rattle.std.specs.Prelude.{◌≡◌, ℕ, List, [], true, is_ok, map, slice_index_or}
 use Rattle.c11_macros.specs.Hidden as model
-use Rattle.c11_macros.specs.Hidden.{Failure, HideSet, Provenance, meet, with_name}
+use Rattle.c11_macros.specs.Hidden.{HideSet, Provenance, meet, with_name}
 use Rattle.c11_macros.specs.Macros.{Form, Item}
-use Rattle.c11_macros.specs.Substitution.{argument, substituted}
+use Rattle.c11_macros.specs.Substitution.{argument, neither, parts, slots, substituted, wanted_of}
 use Rattle.sc_base.specs.declared.id.Cond.{Cond}
 use Rattle.sc_base.specs.declared.id.Name.{Name}
 use Rattle.sc_base.specs.declared.place.Place.{Place}
@@ -18,7 +18,7 @@ use Rattle.sc_model.specs.Sets.{Sets}
 use Rattle.sc_subst.specs.declared.stop.SubstStop.{SubstStop}
 use Rattle.sc_subst.specs.declared.stop.SubstStop.TheVariants.{Fault}
 use Rattle.sc_subst.specs.declared.hidden.Hidden.{Hidden}
-use Rattle.sc_subst.specs.Halves.{completed, wanted_of}
+use Rattle.sc_subst.specs.Halves.{completed}
 use Rattle.sc_subst.specs.Parts.{seen_arguments}
 use Rattle.sc_subst.specs.Seen.{seen_hidden}
 
@@ -33,11 +33,12 @@ tokens_of w = (w.parameter, w.tokens)
 abbrev pub with_argument : List (List Hidden) → ℕ → ℕ × List Hidden
 with_argument raw n = (n, argument raw n)
 
--- whatever the arguments expand to, the template makes the replacement of a name at this place with
--- them
+-- at a name at this place no # of the list fails, and whatever the arguments expand to, the
+-- template makes its replacement with them
 pub record IsTemplateOf (names : List (List ℕ)) (sets : List (List Name)) (form : Form) (items : List Item) (arguments : List (List (model.Hidden Place))) (place : Place) (template : Template) : Type 0 where
-  pub completes : (s : Sets) (head : model.Hidden Place) (results : List (Result (List (model.Hidden Place)) (Failure Place))) (provenance : Provenance Place) (hidden : HideSet) → head.place ≡ place
-      → substituted provenance form items head arguments results hidden ≡ completed provenance head hidden (wanted_of form items) results (seen_template (stores s names sets) place template)
+  pub stringized : (head : model.Hidden Place) → head.place ≡ place → is_ok (slots head arguments (parts form neither items)) ≡ true
+  pub completes : (s : Sets) (head : model.Hidden Place) (expanded : List (List (model.Hidden Place))) (provenance : Provenance Place) (hidden : HideSet) → head.place ≡ place
+      → substituted provenance form items head arguments expanded hidden ≡ completed provenance head hidden expanded (seen_template (stores s names sets) place template)
 
 -- a ## fails, and no #
 pub record IsRefused (stop : SubstStop) (template : Template) : Type 0 where

@@ -1,11 +1,11 @@
 -- Calls that are taken out of a list, each in the configurations that have its tokens.
 use Rattle.std.specs.Prelude.{◌≡◌, ℕ, true, false, List, [], ◌∷◌, ◌++◌, All, Some, Result, Err, codes, map}
 use Rattle.c11_macros.specs.Call.{Call, call_of}
-use Rattle.c11_macros.specs.Expansion.{call_result, is_looked_up, list_of}
+use Rattle.c11_macros.specs.Expansion.{is_looked_up, list_of}
 use Rattle.c11_macros.specs.Hidden as model
 use Rattle.c11_macros.specs.Hidden.{Failure, Provenance}
 use Rattle.c11_macros.specs.Macros.{Definition, Macros}
-use Rattle.c11_macros.specs.Substitution.{Slot}
+use Rattle.c11_macros.specs.Substitution.{Slot, neither, parts, slots}
 use Rattle.sc_base.specs.declared.place.Place.{Place}
 use Rattle.sc_expand.specs.declared.expansion.Expansion.{Expansion}
 use Rattle.sc_expand.specs.Gather.{Gathers}
@@ -68,7 +68,7 @@ pub record IsBranch (st : Stores) (e : Expansion) (branch : Branch) : Type 0 whe
 pub data Begins (provenance : Provenance Place) (d : Definition) (t close : model.Hidden Place) (arguments : List (List (model.Hidden Place))) (a b : At) : Type 0 where
   waits : (template : Result (List (Slot Place)) (Failure Place)) → IsTemplate provenance d t arguments template
       → b ≡ record a { view = with_call a.view (gathered provenance d t arguments close template) } → Begins provenance d t close arguments a b
-  refused : (failure : Failure Place) → ((expanded : List (Result (List (model.Hidden Place)) (Failure Place))) → call_result provenance d t arguments close expanded ≡ Err failure)
+  refused : (failure : Failure Place) → slots t arguments (parts d.form neither (list_of provenance d t)) ≡ Err failure
       → b.live ≡ false → b.failures ≡ a.failures ++ failure ∷ [] → Begins provenance d t close arguments a b
 
 -- the name is looked up, and is that of a macro with this form and this list

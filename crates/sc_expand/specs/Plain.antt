@@ -1,13 +1,11 @@
 -- The expansion of a list step by step, from its first token on (C11 6.10.3.4): each argument of a
 -- call is expanded alone before the call is replaced.
-use Rattle.std.specs.Prelude.{◌≡◌, ℕ, List, [], ◌∷◌, ◌++◌, map, Result, Ok, Err, slice_set}
-use Rattle.c11_macros.specs.Expansion.{call_result, called, case_of, list_of, misfit, object_result, replaced, stays, unclosed}
+use Rattle.std.specs.Prelude.{◌≡◌, ℕ, List, [], ◌∷◌, ◌++◌, map, true, Result, Ok, Err, is_ok, slice_set}
+use Rattle.c11_macros.specs.Expansion.{called, case_of, list_of, misfit, object_result, replaced, stays, unclosed}
 use Rattle.c11_macros.specs.Hidden.{Failure, Hidden, HideSet, Provenance, failure_at, meet, with_name}
 use Rattle.c11_macros.specs.Macros.{Definition, Macros}
-use Rattle.c11_macros.specs.Results.{result_map}
-use Rattle.c11_macros.specs.Substitution.{Slot, argument, hiding, substituted, with_space}
-use Rattle.sc_subst.specs.Halves.{completed, wanted_of}
-use Rattle.sc_subst.specs.Parts.{filled_in}
+use Rattle.c11_macros.specs.Substitution.{Slot, argument, neither, parts, slots, substituted, wanted_of}
+use Rattle.sc_subst.specs.Halves.{completed}
 use Rattle.sc_model.specs.declared.cause.Cause.TheVariants.{UnterminatedCall, WrongArguments}
 
 -- a call that was taken out of its list and waits for its arguments
@@ -48,14 +46,15 @@ gathered provenance d t arguments close template = record {
   names = with_name (meet t.hide close.hide) t.spelling;
 }
 
--- whatever the arguments of the call expand to, the template makes its replacement with them
+-- no # of the list fails, and whatever the arguments of the call expand to, the template makes its
+-- replacement with them
 pub record IsTemplate {P : Type 0} (provenance : Provenance P) (d : Definition) (t : Hidden P) (arguments : List (List (Hidden P))) (template : Result (List (Slot P)) (Failure P)) : Type 0 where
-  pub completes : (results : List (Result (List (Hidden P)) (Failure P))) (names : HideSet)
-      → substituted provenance d.form (list_of provenance d t) t arguments results names ≡ completed provenance t names (wanted_of d.form (list_of provenance d t)) results template
+  pub stringized : is_ok (slots t arguments (parts d.form neither (list_of provenance d t))) ≡ true
+  pub completes : (expanded : List (List (Hidden P))) (names : HideSet) → substituted provenance d.form (list_of provenance d t) t arguments expanded names ≡ completed provenance t names expanded template
 
 -- the call's replacement, once its arguments are expanded; its failure is that of the template
 abbrev pub replacement_of : {P : Type 0} → Provenance P → Waiting P → Result (List (Hidden P)) (Failure P)
-replacement_of provenance w = result_map (λ slots. hiding provenance w.names (with_space w.head.space (filled_in w.expanded slots))) w.template
+replacement_of provenance w = completed provenance w.head w.names w.expanded w.template
 
 -- one step
 pub data Moves {P : Type 0} (provenance : Provenance P) (macros : Macros) : State P → State P → Type 0 where
@@ -83,11 +82,11 @@ pub data Fails {P : Type 0} (provenance : Provenance P) (macros : Macros) : Stat
   bad_object : (out rest : List (Hidden P)) (t : Hidden P) (d : Definition) (failure : Failure P) → case_of macros t rest ≡ replaced d → object_result provenance d t ≡ Err failure
       → Fails provenance macros (scanning out (t ∷ rest)) failure
   open_call : (out rest : List (Hidden P)) (t : Hidden P) → case_of macros t rest ≡ unclosed → Fails provenance macros (scanning out (t ∷ rest)) (failure_at UnterminatedCall t)
-  miscounted : (out rest : List (Hidden P)) (t : Hidden P) → case_of macros t rest ≡ misfit → Fails provenance macros (scanning out (t ∷ rest)) (failure_at WrongArguments t)
-  -- a # fails, whatever the arguments expand to
+  miscounted : (out rest after : List (Hidden P)) (t : Hidden P) → case_of macros t rest ≡ misfit after → Fails provenance macros (scanning out (t ∷ rest)) (failure_at WrongArguments t)
+  -- a # fails, before any argument expands
   bad_stringize : (out rest after : List (Hidden P)) (t close : Hidden P) (d : Definition) (arguments : List (List (Hidden P))) (failure : Failure P)
       → case_of macros t rest ≡ called d arguments close after
-      → ((expanded : List (Result (List (Hidden P)) (Failure P))) → call_result provenance d t arguments close expanded ≡ Err failure)
+      → slots t arguments (parts d.form neither (list_of provenance d t)) ≡ Err failure
       → Fails provenance macros (scanning out (t ∷ rest)) failure
   bad_paste : (out work : List (Hidden P)) (w : Waiting P) (failure : Failure P) → w.wanted ≡ [] → replacement_of provenance w ≡ Err failure → Fails provenance macros (waiting out work w) failure
   inside_fails : (out work : List (Hidden P)) (w : Waiting P) (n : ℕ) {s : State P} {failure : Failure P} → Fails provenance macros s failure → Fails provenance macros (expanding out work w n s) failure

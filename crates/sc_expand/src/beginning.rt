@@ -1,9 +1,8 @@
 //! How a call begins: what replaces it but for its arguments, and which of these are wanted.
 ghost use Rattle.std.specs.Prelude.{◌≡◌, ◌+◌, ◌<◌, ◌≤◌, ℕ, ◌&&◌, ◌||◌, ◌++◌, ◌∷◌, [], Bool, true, false, List, Result, Ok, Err, Some, All, map, drop, if◌then◌else◌, reverse, length, slice_get, IfOk, IfSome, IfNone, OnOk, take};
 ghost use Rattle.c11_macros.specs.Hidden as model;
-ghost use Rattle.c11_macros.specs.Hidden.{Failure, HideSet, Provenance, failure_at, meet, with_name};
-ghost use Rattle.c11_macros.specs.Expansion.{call_result, list_of};
-ghost use Rattle.c11_macros.specs.Substitution.{argument, substituted};
+ghost use Rattle.c11_macros.specs.Hidden.{failure_at, meet, with_name};
+ghost use Rattle.c11_macros.specs.Substitution.{argument, neither, parts, slots, wanted_of};
 ghost use Rattle.sc_base.specs.declared.id.Cond as declared_cond;
 ghost use Rattle.sc_base.specs.declared.id.Name as declared_name;
 ghost use Rattle.sc_base.specs.declared.place.Place as declared_place;
@@ -19,7 +18,6 @@ ghost use Rattle.sc_model.specs.Growth.{Extends};
 ghost use Rattle.sc_model.specs.Sets.{Sets, IsCond, IsConfig, Keeps};
 ghost use Rattle.sc_subst.specs.declared.hidden.Hidden as declared_hidden;
 ghost use Rattle.sc_subst.specs.declared.stop.SubstStop.TheVariants.{Fault};
-ghost use Rattle.sc_subst.specs.Halves.{wanted_of};
 ghost use Rattle.sc_subst.specs.Parts.{AreHeldArguments, seen_arguments};
 ghost use Rattle.sc_subst.specs.Seen.{IsHeldHidden, IsHeldSet, Lasting, hide_at, seen_hidden};
 
@@ -50,9 +48,8 @@ fn template_of(
         (seen_arguments names sets raw.now) place template))) }
     ensures held { IfOk result (λ made. IfSome made (λ template. (s : Sets) (files : ℕ) → place.file.0 < files → All (All (λ h. h.token.place.file.0 < files)) raw.now
         → IsHeldTemplate (stores s names.new sets.new) files template)) }
-    ensures none { IfOk result (λ made. IfNone made (Lasting names.new sets.new (λ names sets. (head : model.Hidden declared_place.Place) (results : List (Result (List (model.Hidden declared_place.Place)) (Failure declared_place.Place)))
-        (provenance : Provenance declared_place.Place) (hidden : HideSet) → head.place ≡ place
-        → substituted provenance (seen_form names form.now) (map (seen_item names) items.now) head (seen_arguments names sets raw.now) results hidden ≡ Err (failure_at BadStringize head)))) }
+    ensures none { IfOk result (λ made. IfNone made (Lasting names.new sets.new (λ names sets. (head : model.Hidden declared_place.Place) → head.place ≡ place
+        → slots head (seen_arguments names sets raw.now) (parts (seen_form names form.now) neither (map (seen_item names) items.now)) ≡ Err (failure_at BadStringize head)))) }
 
     // at every outcome
     ensures names { Extends names.old names.new }
@@ -263,9 +260,8 @@ pub fn begin_call(
     ensures some { IfOk result (λ made. IfSome made (λ call. Begins names.new sets.new (seen_form names.new form.now) (map (seen_item names.new) items.now) cond head close raw.now call)) }
     ensures held { IfOk result (λ made. IfSome made (λ call. (s : Sets) (files : ℕ) → IsCond s cond.0 → IsHeldToken (stores s names.old sets.old) files head
         → All (All (IsHeldToken (stores s names.old sets.old) files)) raw.now → IsHeldCall (stores s names.new sets.new) files call)) }
-    ensures none { IfOk result (λ made. IfNone made ((at : model.Hidden declared_place.Place) (results : List (Result (List (model.Hidden declared_place.Place)) (Failure declared_place.Place)))
-        (provenance : Provenance declared_place.Place) (hidden : HideSet) → at.place ≡ head.token.place
-        → substituted provenance (seen_form names.new form.now) (map (seen_item names.new) items.now) at (seen_arguments names.new sets.new raw.now) results hidden ≡ Err (failure_at BadStringize at))) }
+    ensures none { IfOk result (λ made. IfNone made ((at : model.Hidden declared_place.Place) → at.place ≡ head.token.place
+        → slots at (seen_arguments names.new sets.new raw.now) (parts (seen_form names.new form.now) neither (map (seen_item names.new) items.now)) ≡ Err (failure_at BadStringize at))) }
 
     // at every outcome
     ensures names { Extends names.old names.new }

@@ -5,10 +5,10 @@ use Rattle.std.proofs.Math.Seq.{drop-cons}
 use Rattle.std.proofs.lemmas.Bool.{cases_Bool, eqb-true, true≢false}
 use Rattle.std.proofs.lemmas.List.{map-append, take_all}
 use Rattle.c11_macros.specs.Hidden as model
-use Rattle.c11_macros.specs.Hidden.{Failure, failure_at}
+use Rattle.c11_macros.specs.Hidden.{Failure}
 use Rattle.c11_macros.specs.Results.{result_map, result_and_then}
 use Rattle.c11_macros.specs.Substitution as substitution
-use Rattle.c11_macros.specs.Substitution.{all_glued, argument, begins_paste, glued, joined, or_placemarker, pieces_of, tokens_of, with_space}
+use Rattle.c11_macros.specs.Substitution.{all_glued, argument, argument_pieces, begins_paste, filled, glued, joined, or_placemarker, pieces_of, tokens_of, with_space}
 use Rattle.sc_base.specs.declared.id.Name.{Name}
 use Rattle.sc_base.specs.declared.place.Place.{Place}
 use Rattle.sc_model.specs.Growth.{Extends}
@@ -18,7 +18,7 @@ use Rattle.sc_subst.specs.declared.glue.Piece.TheVariants as piece
 use Rattle.sc_subst.specs.declared.hidden.Hidden.{Hidden}
 use Rattle.sc_subst.specs.declared.part.Part.{Part}
 use Rattle.sc_subst.specs.declared.part.Part.TheVariants as part
-use Rattle.sc_subst.specs.Glue.{IsHeldPiece, argument_pieces, begins_operator, is_operator, pieces_in, seen_piece, tokens_behind}
+use Rattle.sc_subst.specs.Glue.{IsHeldPiece, begins_operator, is_operator, seen_piece, tokens_behind}
 use Rattle.sc_subst.specs.Parts.{AreHeldArguments, IsHeldPart, filled_in, seen_arguments, seen_part}
 use Rattle.sc_subst.specs.Seen.{IsHeldHidden, seen_hidden}
 use Rattle.sc_subst.proofs.Later.{IsHeldHidden-Extends}
@@ -132,13 +132,13 @@ placed names sets head xs parts new ts ps h filled =
     ∙ result_twice (λ qs. pieces_of ts ++ qs) (λ qs. old ++ tokens_of qs) (λ qs. filled_in xs (map (seen_part names sets) new) ++ tokens_of qs)
     (λ qs. ap (λ us. old ++ us) (tokens_argument ts qs) ∙ (sym (append_assoc old ts (tokens_of qs)) ∙ ap (λ us. us ++ tokens_of qs) (sym filled))) (all_glued head ps)
 
-pub begins_pieces_in : {P : Type 0} (raw xs : List (List (model.Hidden P))) (ss : List (substitution.Slot P)) → begins_paste ss ≡ false → begins_operator (pieces_in raw xs false ss) ≡ false
+pub begins_pieces_in : {P : Type 0} (raw xs : List (List (model.Hidden P))) (ss : List (substitution.Slot P)) → begins_paste ss ≡ false → begins_operator (filled raw xs false ss) ≡ false
 begins_pieces_in {P} raw xs [] h = refl
 begins_pieces_in {P} raw xs (substitution.filled_by t ∷ ss) h = refl
 begins_pieces_in {P} raw xs (substitution.for_paste ∷ ss) h = cc
 begins_pieces_in {P} raw xs (substitution.for_parameter n space ∷ ss) h = elim (cases_Bool (begins_paste ss)) [
-  | inl beside ↦ rw beside (some (with_space space (argument raw n)) (pieces_in raw xs false ss))
-  | inr apart ↦ rw apart (begins_pieces (with_space space (argument xs n)) (pieces_in raw xs false ss) (begins_pieces_in raw xs ss apart))
+  | inl beside ↦ rw beside (some (with_space space (argument raw n)) (filled raw xs false ss))
+  | inr apart ↦ rw apart (begins_pieces (with_space space (argument xs n)) (filled raw xs false ss) (begins_pieces_in raw xs ss apart))
 ]
   where
     some : (ts : List (model.Hidden P)) (ps : List (substitution.Piece P)) → begins_operator (or_placemarker ts ++ ps) ≡ false

@@ -1,20 +1,19 @@
 -- Substitution in two halves: a template, and what fills it, are the replacement of the definition,
 -- whatever the arguments expand to.
-use Rattle.std.proofs.Common.{◌≡◌, ℕ, zero, suc, ◌==◌, ◌||◌, not, Bool, true, false, List, [], ◌∷◌, ◌++◌, map, filter, Option, Some, None, Result, Ok, Err, if◌then◌else◌, inl, inr, refl, sym, ap, subst, ◌∙◌}
+use Rattle.std.proofs.Common.{◌≡◌, ℕ, ◌==◌, ◌||◌, Bool, true, false, List, [], ◌∷◌, ◌++◌, Option, Some, None, Result, Ok, Err, if◌then◌else◌, inl, inr, refl, sym, ap, subst, ◌∙◌}
 use Rattle.std.specs.Prelude.{IfOk, IfErr}
-use Rattle.std.proofs.lemmas.Bool.{cases_Bool, eqb-true}
+use Rattle.std.proofs.lemmas.Bool.{cases_Bool}
 use Rattle.c11_macros.specs.Hidden as model
 use Rattle.c11_macros.specs.Hidden.{Failure, HideSet, Provenance, failure_at}
 use Rattle.c11_macros.specs.Macros as macros
 use Rattle.c11_macros.specs.Results.{result_map, result_and_then}
 use Rattle.c11_macros.specs.Substitution as substitution
-use Rattle.c11_macros.specs.Substitution.{all_glued, argument, begins_paste, expansion_of, filled, glued, hiding, is_paste_next, is_text_kind, joined, literal_of, neither, or_placemarker, parts, pasted_as, pieces_of, slots, spellings, stringized, substituted, tokens_of, with_space}
+use Rattle.c11_macros.specs.Substitution.{all_glued, argument, begins_paste, filled, glued, hiding, is_paste_next, is_text_kind, joined, literal_of, neither, parts, pasted_as, slots, spellings, stringized, substituted, tokens_of, wanted_places, with_space, put_together}
 use Rattle.c11_tokens.specs.Relex.{relexed}
 use Rattle.sc_model.specs.declared.cause.Cause.{Cause}
 use Rattle.sc_model.specs.declared.cause.Cause.TheVariants.{BadPaste, BadStringize}
 use Rattle.sc_model.specs.declared.kind.Kind.{Kind}
-use Rattle.sc_subst.specs.Glue.{argument_pieces, pieces_in}
-use Rattle.sc_subst.specs.Halves.{completed, each_once, expansions, failure_or, first_failure, list_or_empty, unless_failed, wanted_of, wanted_places}
+use Rattle.sc_subst.specs.Halves.{completed}
 use Rattle.sc_subst.specs.Parts.{filled_in}
 use Rattle.sc_subst.specs.Stops.{OnOperator}
 use Rattle.sc_subst.proofs.Store.{if_ok}
@@ -62,115 +61,19 @@ wants_are {P} head raw b (substitution.parameter n space ∷ ps) =
     (λ ss h. (ap (λ next. if b || next then wanted_slots false ss else n ∷ wanted_slots false ss) h.1 ∙ ap (λ ns. if b || is_paste_next ps then ns else n ∷ ns) h.0, refl)) (wants_are head raw false ps))
 wants_are {P} head raw b (substitution.paste ∷ ps) = if_mapped _ (Want b (substitution.paste ∷ ps)) (slots head raw ps) (if_ok _ _ (slots head raw ps) (λ ss h. (h.0, refl)) (wants_are head raw true ps))
 
--- ---- the first failure
-
-mapped_unless : {A B E : Type 0} (f : A → B) (o : Option E) (a : A) → result_map f (unless_failed o (Ok a)) ≡ unless_failed o (Ok (f a))
-mapped_unless {A} {B} {E} f None a = refl
-mapped_unless {A} {B} {E} f (Some e) a = refl
-
-then_unless : {A B C E : Type 0} (f : B → C) (g : A → Result B E) (o : Option E) (a : A) → result_map f (result_and_then g (unless_failed o (Ok a))) ≡ unless_failed o (result_map f (g a))
-then_unless {A} {B} {C} {E} f g None a = refl
-then_unless {A} {B} {C} {E} f g (Some e) a = refl
-
-one_argument : {P Q E : Type 0} (g : List (model.Hidden P) → List Q) (r : Result (List (model.Hidden P)) E) (o : Option E) (qs : List Q)
-    → result_and_then (λ here. result_map (λ rest. here ++ rest) (unless_failed o (Ok qs))) (result_map g r) ≡ unless_failed (failure_or r o) (Ok (g (list_or_empty r) ++ qs))
-one_argument {P} {Q} {E} g (Ok ts) o qs = mapped_unless (λ rest. g ts ++ rest) o qs
-one_argument {P} {Q} {E} g (Err e) o qs = refl
-
-expansion_at : {P E : Type 0} (results : List (Result (List (model.Hidden P)) E)) (n : ℕ) → list_or_empty (expansion_of results n) ≡ argument (expansions results) n
-expansion_at {P} {E} [] n = refl
-expansion_at {P} {E} (r ∷ rs) zero = refl
-expansion_at {P} {E} (r ∷ rs) (suc n) = expansion_at rs n
-
-module _ {P : Type 0} (raw : List (List (model.Hidden P))) (results : List (Result (List (model.Hidden P)) (Failure P))) where
-  filled_parameter : (beside : Bool) (n : ℕ) (space : Bool) (rest : Result (List (substitution.Piece P)) (Failure P)) (wanted : List ℕ) (qs : List (substitution.Piece P))
-      → rest ≡ unless_failed (first_failure wanted results) (Ok qs)
-      → result_and_then (λ here. result_map (λ more. here ++ more) rest) (substitution.argument_pieces beside raw results n space)
-      ≡ unless_failed (first_failure (if beside then wanted else n ∷ wanted) results) (Ok (argument_pieces raw (expansions results) beside n space ++ qs))
-  filled_parameter true n space rest wanted qs is =
-      ap (result_map (λ more. or_placemarker (with_space space (argument raw n)) ++ more)) is
-      ∙ mapped_unless (λ more. or_placemarker (with_space space (argument raw n)) ++ more) (first_failure wanted results) qs
-  filled_parameter false n space rest wanted qs is =
-      ap (λ r. result_and_then (λ here. result_map (λ more. here ++ more) r) (substitution.argument_pieces false raw results n space)) is
-      ∙ (one_argument (λ ts. pieces_of (with_space space ts)) (expansion_of results n) (first_failure wanted results) qs
-      ∙ ap (λ ts. unless_failed (first_failure (n ∷ wanted) results) (Ok (pieces_of (with_space space ts) ++ qs))) (expansion_at results n))
-
-  filled_first : (b : Bool) (ss : List (substitution.Slot P)) → filled raw results b ss ≡ unless_failed (first_failure (wanted_slots b ss) results) (Ok (pieces_in raw (expansions results) b ss))
-  filled_first b [] = refl
-  filled_first b (substitution.filled_by t ∷ ss) =
-      ap (result_map (λ rest. substitution.piece t ∷ rest)) (filled_first false ss)
-      ∙ mapped_unless (λ rest. substitution.piece t ∷ rest) (first_failure (wanted_slots false ss) results) (pieces_in raw (expansions results) false ss)
-  filled_first b (substitution.for_paste ∷ ss) =
-      ap (result_map (λ rest. substitution.operator ∷ rest)) (filled_first true ss)
-      ∙ mapped_unless (λ rest. substitution.operator ∷ rest) (first_failure (wanted_slots true ss) results) (pieces_in raw (expansions results) true ss)
-  filled_first b (substitution.for_parameter n space ∷ ss) =
-      filled_parameter (b || begins_paste ss) n space (filled raw results false ss) (wanted_slots false ss) (pieces_in raw (expansions results) false ss) (filled_first false ss)
-
--- a result that is none, left out
-first_without : {P E : Type 0} (results : List (Result (List (model.Hidden P)) E)) (n : ℕ) (ts : List (model.Hidden P)) → expansion_of results n ≡ Ok ts
-    → (ms : List ℕ) → first_failure (filter (λ m. not (m == n)) ms) results ≡ first_failure ms results
-first_without {P} {E} results n ts ok [] = refl
-first_without {P} {E} results n ts ok (m ∷ ms) = elim (cases_Bool (m == n)) [
-  | inl same ↦ rw same (first_without results n ts ok ms
-      ∙ ap (λ r. failure_or r (first_failure ms results)) (sym ok ∙ ap (expansion_of results) (sym (eqb-true m n same))))
-  | inr other ↦ rw other (ap (failure_or (expansion_of results m)) (first_without results n ts ok ms))
-]
-
-first_once : {P E : Type 0} (results : List (Result (List (model.Hidden P)) E)) (ns : List ℕ) → first_failure (each_once ns) results ≡ first_failure ns results
-first_once {P} {E} results [] = refl
-first_once {P} {E} results (n ∷ ns) = at (expansion_of results n) refl (first_once results ns)
-  where
-    at : (r : Result (List (model.Hidden P)) E) → expansion_of results n ≡ r → first_failure (each_once ns) results ≡ first_failure ns results
-        → failure_or (expansion_of results n) (first_failure (filter (λ m. not (m == n)) (each_once ns)) results) ≡ failure_or (expansion_of results n) (first_failure ns results)
-    at (Ok ts) is rest = ap (failure_or (expansion_of results n)) (first_without results n ts is (each_once ns) ∙ rest)
-    at (Err e) is rest = rw is refl
-
 -- ---- the law
 
-module _ {P : Type 0} (provenance : Provenance P) (form : macros.Form) (items : List macros.Item) (head : model.Hidden P) (raw : List (List (model.Hidden P)))
-    (results : List (Result (List (model.Hidden P)) (Failure P))) (hidden : HideSet) where
+module _ {P : Type 0} (provenance : Provenance P) (form : macros.Form) (items : List macros.Item) (head : model.Hidden P) (raw expanded : List (List (model.Hidden P))) (hidden : HideSet) where
   -- the last steps
   abbrev finish : List (model.Hidden P) → List (model.Hidden P)
   finish ts = hiding provenance hidden (with_space head.space ts)
 
   pub in_halves : (ss : List (substitution.Slot P)) (template : Result (List (substitution.Slot P)) (Failure P)) → slots head raw (parts form neither items) ≡ Ok ss
-      → result_map tokens_of (all_glued head (pieces_in raw (expansions results) false ss)) ≡ result_map (filled_in (expansions results)) template
-      → substituted provenance form items head raw results hidden ≡ completed provenance head hidden (wanted_of form items) results template
+      → result_map tokens_of (all_glued head (filled raw expanded false ss)) ≡ result_map (filled_in expanded) template
+      → substituted provenance form items head raw expanded hidden ≡ completed provenance head hidden expanded template
   in_halves ss template made glues =
-      let first = first_failure (wanted_slots false ss) results in
-      let wants = subst (λ r. IfOk r (Want false (parts form neither items))) made (wants_are head raw false (parts form neither items)) in
-      ap (λ r. result_map (λ ps. finish (tokens_of ps)) (result_and_then (all_glued head) (result_and_then (filled raw results false) r))) made
-      ∙ (ap (λ r. result_map (λ ps. finish (tokens_of ps)) (result_and_then (all_glued head) r)) (filled_first raw results false ss)
-      ∙ (then_unless (λ ps. finish (tokens_of ps)) (all_glued head) first (pieces_in raw (expansions results) false ss)
-      ∙ (ap (unless_failed first)
-      (mapped tokens_of finish (all_glued head (pieces_in raw (expansions results) false ss)) ∙ (ap (result_map finish) glues ∙ sym (mapped (filled_in (expansions results)) finish template)))
-      ∙ ap (λ o. unless_failed o (result_map (λ ss. finish (filled_in (expansions results) ss)) template))
-      (ap (λ ns. first_failure ns results) wants.0 ∙ sym (first_once results (wanted_places false (parts form neither items)))))))
-
-  pub refused : (failure : Failure P) → slots head raw (parts form neither items) ≡ Err failure → substituted provenance form items head raw results hidden ≡ Err failure
-  refused failure made =
-      ap (λ r. result_map (λ ps. finish (tokens_of ps)) (result_and_then (all_glued head) (result_and_then (filled raw results false) r))) made
-
--- ---- arguments that all expand
-
-expansions_ok : {P : Type 0} (E : Type 0) (xs : List (List (model.Hidden P))) → expansions {E = E} (map (λ ts. Ok ts) xs) ≡ xs
-expansions_ok {P} E [] = refl
-expansions_ok {P} E (x ∷ xs) = ap (λ ys. x ∷ ys) (expansions_ok E xs)
-
-failure_ok : {P : Type 0} (E : Type 0) (xs : List (List (model.Hidden P))) (n : ℕ) (later : Option E) → failure_or (expansion_of {E = E} (map (λ ts. Ok ts) xs) n) later ≡ later
-failure_ok {P} E [] n later = refl
-failure_ok {P} E (x ∷ xs) zero later = refl
-failure_ok {P} E (x ∷ xs) (suc n) later = failure_ok E xs n later
-
-none_fails : {P : Type 0} (E : Type 0) (xs : List (List (model.Hidden P))) (ns : List ℕ) → first_failure {E = E} ns (map (λ ts. Ok ts) xs) ≡ None
-none_fails {P} E xs [] = refl
-none_fails {P} E xs (n ∷ ns) = failure_ok E xs n (first_failure {E = E} ns (map (λ ts. Ok ts) xs)) ∙ none_fails E xs ns
-
-pub completed_ok : {P : Type 0} (provenance : Provenance P) (head : model.Hidden P) (hidden : HideSet) (wanted : List ℕ) (xs : List (List (model.Hidden P))) (template : Result (List (substitution.Slot P)) (Failure P))
-    → completed provenance head hidden wanted (map (λ ts. Ok ts) xs) template ≡ result_map (λ ss. hiding provenance hidden (with_space head.space (filled_in xs ss))) template
-completed_ok {P} provenance head hidden wanted xs template =
-    ap (λ o. unless_failed o (result_map (λ ss. hiding provenance hidden (with_space head.space (filled_in (expansions {E = Failure P} (map (λ ts. Ok ts) xs)) ss))) template)) (none_fails (Failure P) xs wanted)
-    ∙ ap (λ ys. result_map (λ ss. hiding provenance hidden (with_space head.space (filled_in ys ss))) template) (expansions_ok (Failure P) xs)
+      ap (result_and_then (put_together provenance head raw expanded hidden)) made
+      ∙ (mapped tokens_of finish (all_glued head (filled raw expanded false ss)) ∙ (ap (result_map finish) glues ∙ sym (mapped (filled_in expanded) finish template)))
 
 -- ---- which failures there are
 
@@ -227,10 +130,9 @@ by_hash cause hash paste is h = subst (λ c. OnOperator c hash paste) (sym is) h
 pub by_paste : (cause : Cause) (hash paste : Type 0) → cause ≡ BadPaste → paste → OnOperator cause hash paste
 by_paste cause hash paste is h = subst (λ c. OnOperator c hash paste) (sym is) h
 
--- where no argument fails, each fault is that of the whole
-pub by_operator : {P : Type 0} (provenance : Provenance P) (head : model.Hidden P) (hidden : HideSet) (wanted : List ℕ) (xs : List (List (model.Hidden P))) (cause : Cause) (whole : Result (List (model.Hidden P)) (Failure P))
-    → OnOperator cause (whole ≡ Err (failure_at BadStringize head)) (whole ≡ completed provenance head hidden wanted (map (λ ts. Ok ts) xs) (Err (failure_at BadPaste head)))
-    → whole ≡ Err (failure_at cause head)
-by_operator {P} provenance head hidden wanted xs BadStringize whole h = h
-by_operator {P} provenance head hidden wanted xs BadPaste whole h = h ∙ completed_ok provenance head hidden wanted xs (Err (failure_at BadPaste head))
-by_operator {P} provenance head hidden wanted xs other whole h = absurd h
+-- what follows from each fault follows from a fault
+pub by_operator : {P : Type 0} (head : model.Hidden P) (whole : Result (List (model.Hidden P)) (Failure P)) (cause : Cause) (hash paste : Type 0) → OnOperator cause hash paste
+    → (hash → whole ≡ Err (failure_at BadStringize head)) → (paste → whole ≡ Err (failure_at BadPaste head)) → whole ≡ Err (failure_at cause head)
+by_operator head whole BadStringize hash paste h one two = one h
+by_operator head whole BadPaste hash paste h one two = two h
+by_operator head whole other hash paste h one two = absurd h

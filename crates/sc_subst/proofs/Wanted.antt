@@ -10,14 +10,13 @@ use Rattle.c11_macros.specs.Hidden as model
 use Rattle.c11_macros.specs.Hidden.{Failure}
 use Rattle.c11_macros.specs.Results.{result_map}
 use Rattle.c11_macros.specs.Substitution as substitution
-use Rattle.c11_macros.specs.Substitution.{all_glued, argument, begins_paste, slots, tokens_of, with_space}
+use Rattle.c11_macros.specs.Substitution.{all_glued, argument, argument_pieces, begins_paste, each_once, filled, slots, tokens_of, wanted_places, with_space}
 use Rattle.sc_base.specs.declared.id.Name.{Name}
 use Rattle.sc_subst.specs.declared.part.Part.{Part}
 use Rattle.sc_subst.specs.declared.part.Part.TheVariants as part
 use Rattle.sc_subst.specs.declared.parts.ListPart.{ListPart}
 use Rattle.sc_subst.specs.declared.parts.ListPart.TheVariants as list
-use Rattle.sc_subst.specs.Glue.{argument_pieces, pieces_in}
-use Rattle.sc_subst.specs.Halves.{IsWantedPart, each_once, wanted_places}
+use Rattle.sc_subst.specs.Halves.{IsWantedPart}
 use Rattle.sc_subst.specs.ListParts.{is_paste_part, place_of, seen_list_part, with_one_more}
 use Rattle.sc_subst.specs.Parts.{filled_in, seen_part}
 use Rattle.sc_subst.proofs.Gluing.{from_at, tail_at}
@@ -57,15 +56,15 @@ differs : (m n : ℕ) → (m == n) ≡ false → m ≡ n → ⊥
 differs m n h e = true≢false (sym (itself n) ∙ (ap (λ k. k == n) (sym e) ∙ h))
 
 same_pieces : {P : Type 0} (raw : List (List (model.Hidden P))) (n : ℕ) (t : model.Hidden P) (b : Bool) (ss : List (substitution.Slot P)) → has (wanted_slots b ss) n ≡ false
-    → pieces_in raw (only n t) b ss ≡ pieces_in raw [] b ss
+    → filled raw (only n t) b ss ≡ filled raw [] b ss
 same_pieces {P} raw n t b [] h = refl
 same_pieces {P} raw n t b (substitution.filled_by u ∷ ss) h = ap (λ ps. substitution.piece u ∷ ps) (same_pieces raw n t false ss h)
 same_pieces {P} raw n t b (substitution.for_paste ∷ ss) h = ap (λ ps. substitution.operator ∷ ps) (same_pieces raw n t true ss h)
-same_pieces {P} raw n t b (substitution.for_parameter m space ∷ ss) h = at (b || begins_paste ss) (pieces_in raw (only n t) false ss) (λ k. same_pieces raw n t false ss k) h
+same_pieces {P} raw n t b (substitution.for_parameter m space ∷ ss) h = at (b || begins_paste ss) (filled raw (only n t) false ss) (λ k. same_pieces raw n t false ss k) h
   where
-    at : (beside : Bool) (ps : List (substitution.Piece P)) → (has (wanted_slots false ss) n ≡ false → ps ≡ pieces_in raw [] false ss)
+    at : (beside : Bool) (ps : List (substitution.Piece P)) → (has (wanted_slots false ss) n ≡ false → ps ≡ filled raw [] false ss)
         → has (if beside then wanted_slots false ss else m ∷ wanted_slots false ss) n ≡ false
-        → argument_pieces raw (only n t) beside m space ++ ps ≡ argument_pieces raw [] beside m space ++ pieces_in raw [] false ss
+        → argument_pieces raw (only n t) beside m space ++ ps ≡ argument_pieces raw [] beside m space ++ filled raw [] false ss
     at true ps same k = ap (λ qs. argument_pieces raw [] true m space ++ qs) (same k)
     at false ps same k =
         let parts = or_parts (m == n) (has (wanted_slots false ss) n) k in
@@ -147,7 +146,7 @@ ok_same : {A E : Type 0} (x y : A) → (let r : Result A E = Ok x in r) ≡ Ok y
 ok_same {A} {E} x y h = cc
 
 module _ {P : Type 0} (head : model.Hidden P) (raw : List (List (model.Hidden P))) (ps : List substitution.Part) (ss : List (substitution.Slot P)) (made : slots head raw ps ≡ Ok ss)
-    (template : List (substitution.Slot P)) (is : (xs : List (List (model.Hidden P))) → result_map tokens_of (all_glued head (pieces_in raw xs false ss)) ≡ Ok (filled_in xs template)) where
+    (template : List (substitution.Slot P)) (is : (xs : List (List (model.Hidden P))) → result_map tokens_of (all_glued head (filled raw xs false ss)) ≡ Ok (filled_in xs template)) where
   only_wanted : (n : ℕ) → has_place n template ≡ true → has (wanted_slots false ss) n ≡ true
   only_wanted n h = elim (cases_Bool (has (wanted_slots false ss) n)) [
     | inl wanted ↦ wanted

@@ -1,10 +1,10 @@
 -- A template in the making: what stands before the pieces that are left.
-use Rattle.std.specs.Prelude.{Bool, true, false, ℕ, List, [], ◌∷◌, ◌++◌, map, Result, ◌||◌}
+use Rattle.std.specs.Prelude.{Bool, true, false, ℕ, List, [], ◌∷◌, ◌++◌, map, Result}
 use Rattle.c11_macros.specs.Hidden as model
 use Rattle.c11_macros.specs.Hidden.{Failure}
 use Rattle.c11_macros.specs.Results.{result_map}
 use Rattle.c11_macros.specs.Substitution as substitution
-use Rattle.c11_macros.specs.Substitution.{all_glued, argument, begins_paste, glued, or_placemarker, pieces_of, tokens_of, with_space}
+use Rattle.c11_macros.specs.Substitution.{all_glued, glued, tokens_of}
 use Rattle.sc_base.specs.declared.id.Name.{Name}
 use Rattle.sc_base.specs.declared.place.Place.{Place}
 use Rattle.sc_subst.specs.declared.glue.Left.{Left}
@@ -59,16 +59,3 @@ begins_operator _ = false
 abbrev pub is_paste_slot : Slot → Bool
 is_paste_slot slot.Paste = true
 is_paste_slot _ = false
-
--- the pieces of an argument, with the white space of its parameter: as it is beside ##, or as it
--- expands
-abbrev pub argument_pieces : {P : Type 0} → List (List (model.Hidden P)) → List (List (model.Hidden P)) → Bool → ℕ → Bool → List (substitution.Piece P)
-argument_pieces raw expanded true n space = or_placemarker (with_space space (argument raw n))
-argument_pieces raw expanded false n space = pieces_of (with_space space (argument expanded n))
-
--- the pieces of slots, with these arguments as they are and as they expand
-abbrev pub pieces_in : {P : Type 0} → List (List (model.Hidden P)) → List (List (model.Hidden P)) → Bool → List (substitution.Slot P) → List (substitution.Piece P)
-pieces_in raw expanded behind [] = []
-pieces_in raw expanded behind (substitution.filled_by t ∷ ss) = substitution.piece t ∷ pieces_in raw expanded false ss
-pieces_in raw expanded behind (substitution.for_paste ∷ ss) = substitution.operator ∷ pieces_in raw expanded true ss
-pieces_in raw expanded behind (substitution.for_parameter n space ∷ ss) = argument_pieces raw expanded (behind || begins_paste ss) n space ++ pieces_in raw expanded false ss

@@ -5,11 +5,11 @@ ghost use Rattle.c11_macros.specs.Hidden as model;
 ghost use Rattle.c11_macros.specs.Hidden.{failure_at};
 ghost use Rattle.c11_macros.specs.Results.{result_map};
 ghost use Rattle.c11_macros.specs.Substitution as substitution;
-ghost use Rattle.c11_macros.specs.Substitution.{all_glued, begins_paste, joined, or_placemarker, pieces_of, tokens_of, with_space};
+ghost use Rattle.c11_macros.specs.Substitution.{all_glued, begins_paste, filled, joined, or_placemarker, pieces_of, tokens_of, with_space};
 ghost use Rattle.sc_base.specs.declared.id.Name as Name;
 ghost use Rattle.sc_base.specs.declared.place.Place as declared;
 ghost use Rattle.sc_model.specs.Growth.{Extends};
-ghost use Rattle.sc_subst.specs.Glue.{IsHeldLeft, IsHeldPiece, begins_operator, is_operator, is_paste_slot, is_pasting, pieces_in, seen_piece, tokens_behind};
+ghost use Rattle.sc_subst.specs.Glue.{IsHeldLeft, IsHeldPiece, begins_operator, is_operator, is_paste_slot, is_pasting, seen_piece, tokens_behind};
 ghost use Rattle.sc_subst.specs.Parts.{AreHeldArguments, IsHeldPart, IsHeldSlot, filled_in, seen_arguments, seen_part, seen_slot};
 ghost use Rattle.sc_subst.specs.Seen.{IsHeldHidden, Lasting, seen_hidden};
 ghost use Rattle.sc_subst.specs.Stops.{OnFault};
@@ -258,13 +258,13 @@ fn read(
     requires slot { IsHeldSlot names.old sets.old slot.now }
     requires raw { AreHeldArguments names.old sets.old raw.now }
     ensures ok { IfOk result (λ next. Lasting names.new sets.new (λ names sets. (head : model.Hidden declared.Place) (expanded : List (List (model.Hidden declared.Place)))
-        → tokens_behind names sets head expanded parts.old.items left (pieces_in (seen_arguments names sets raw.now) expanded behind (map (seen_slot names sets) (slot.now ∷ rest.now)))
-        ≡ tokens_behind names sets head expanded parts.new.items next (pieces_in (seen_arguments names sets raw.now) expanded (is_paste_slot slot.now) (map (seen_slot names sets) rest.now)))) }
+        → tokens_behind names sets head expanded parts.old.items left (filled (seen_arguments names sets raw.now) expanded behind (map (seen_slot names sets) (slot.now ∷ rest.now)))
+        ≡ tokens_behind names sets head expanded parts.new.items next (filled (seen_arguments names sets raw.now) expanded (is_paste_slot slot.now) (map (seen_slot names sets) rest.now)))) }
     ensures left { IfOk result (IsHeldLeft names.new sets.new) }
     ensures parts { OnOk result (All (IsHeldPart names.new sets.new) parts.new.items) }
     ensures pasting { IfOk result (λ next. is_paste_slot slot.now ≡ false → is_pasting next ≡ false) }
     ensures err { IfErr result (λ stop. OnFault stop (λ cause. Lasting names.new sets.new (λ names sets. (head : model.Hidden declared.Place) (expanded : List (List (model.Hidden declared.Place)))
-        → tokens_behind names sets head expanded parts.old.items left (pieces_in (seen_arguments names sets raw.now) expanded behind (map (seen_slot names sets) (slot.now ∷ rest.now))) ≡ Err (failure_at cause head)))) }
+        → tokens_behind names sets head expanded parts.old.items left (filled (seen_arguments names sets raw.now) expanded behind (map (seen_slot names sets) (slot.now ∷ rest.now))) ≡ Err (failure_at cause head)))) }
 
     // at every outcome
     ensures names { Extends names.old names.new }
@@ -302,10 +302,10 @@ pub fn glue(
     requires slots { All (IsHeldSlot names.old sets.old) slots.now }
     requires raw { AreHeldArguments names.old sets.old raw.now }
     ensures ok { IfOk result (λ parts. Lasting names.new sets.new (λ names sets. (head : model.Hidden declared.Place) (expanded : List (List (model.Hidden declared.Place)))
-        → result_map tokens_of (all_glued head (pieces_in (seen_arguments names sets raw.now) expanded false (map (seen_slot names sets) slots.now))) ≡ Ok (filled_in expanded (map (seen_part names sets) parts.items)))) }
+        → result_map tokens_of (all_glued head (filled (seen_arguments names sets raw.now) expanded false (map (seen_slot names sets) slots.now))) ≡ Ok (filled_in expanded (map (seen_part names sets) parts.items)))) }
     ensures own { IfOk result (λ parts. All (IsHeldPart names.new sets.new) parts.items) }
     ensures err { IfErr result (λ stop. OnFault stop (λ cause. Lasting names.new sets.new (λ names sets. (head : model.Hidden declared.Place) (expanded : List (List (model.Hidden declared.Place)))
-        → result_map tokens_of (all_glued head (pieces_in (seen_arguments names sets raw.now) expanded false (map (seen_slot names sets) slots.now))) ≡ Err (failure_at cause head)))) }
+        → result_map tokens_of (all_glued head (filled (seen_arguments names sets raw.now) expanded false (map (seen_slot names sets) slots.now))) ≡ Err (failure_at cause head)))) }
 
     // at every outcome
     ensures names { Extends names.old names.new }

@@ -1,9 +1,8 @@
 //! The parts of a macro's list (C11 6.10.3.1 to 6.10.3.3), and which arguments it wants expanded.
 ghost use Rattle.std.specs.Prelude.{◌≡◌, ℕ, ◌&&◌, ◌||◌, ◌++◌, ◌∷◌, false, List, Some, None, All, IfOk, OnOk, if◌then◌else◌, map, not, option_to_list};
 ghost use Rattle.c11_macros.specs.Substitution as substitution;
-ghost use Rattle.c11_macros.specs.Substitution.{begins_with_parameter, is_after_paste, is_hash, is_paste, is_paste_next};
+ghost use Rattle.c11_macros.specs.Substitution.{begins_with_parameter, each_once, is_after_paste, is_hash, is_paste, is_paste_next, wanted_of, wanted_places};
 ghost use Rattle.sc_macro.specs.Seen.{IsHeldForm, IsHeldItem, seen_form, seen_item};
-ghost use Rattle.sc_subst.specs.Halves.{each_once, wanted_of, wanted_places};
 ghost use Rattle.sc_subst.specs.ListParts.{IsHeldListPart, is_paste_part, place_of, seen_before, seen_list_part, with_one_more};
 
 use sc_base::{Names, OutOfMemory};

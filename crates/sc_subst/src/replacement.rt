@@ -1,13 +1,14 @@
 //! What replaces a macro's name, before the arguments are known as they expand.
-ghost use Rattle.std.specs.Prelude.{◌≡◌, List, Result, Ok, Err, All, IfErr, IfOk, map};
+ghost use Rattle.std.specs.Prelude.{◌≡◌, List, Ok, Err, All, IfErr, IfOk, map};
 ghost use Rattle.c11_macros.specs.Hidden as model;
-ghost use Rattle.c11_macros.specs.Hidden.{Failure, HideSet, Provenance, failure_at};
-ghost use Rattle.c11_macros.specs.Substitution.{substituted};
+ghost use Rattle.c11_macros.specs.Hidden.{HideSet, Provenance, failure_at};
+ghost use Rattle.c11_macros.specs.Substitution as substitution;
+ghost use Rattle.c11_macros.specs.Substitution.{neither, substituted, wanted_of};
 ghost use Rattle.sc_base.specs.declared.place.Place as declared;
 ghost use Rattle.sc_macro.specs.Seen.{IsHeldForm, IsHeldItem, seen_form, seen_item};
 ghost use Rattle.sc_model.specs.declared.cause.Cause.TheVariants.{BadPaste, BadStringize};
 ghost use Rattle.sc_model.specs.Growth.{Extends};
-ghost use Rattle.sc_subst.specs.Halves.{IsWantedPart, completed, wanted_of};
+ghost use Rattle.sc_subst.specs.Halves.{IsWantedPart, completed};
 ghost use Rattle.sc_subst.specs.Parts.{AreHeldArguments, IsHeldPart, seen_arguments, seen_part};
 ghost use Rattle.sc_subst.specs.Seen.{IsHeldHidden, IsHeldSet, Lasting, hide_at, seen_hidden};
 ghost use Rattle.sc_subst.specs.Stops.{OnFault, OnOperator};
@@ -23,8 +24,8 @@ use std::alloc::Global;
 /// The template of a list that replaces a macro whose name stands at the place. `raw` has an
 /// argument for each parameter, the one for `...` last. Whatever the arguments that are wanted
 /// expand to, the template filled with them is the replacement, but for the white space of the
-/// first token and the names that all tokens hide; where one of them fails, its failure is. A fault
-/// of `#` comes before the failure of an argument, and a fault of `##` after it.
+/// first token and the names that all tokens hide. A fault of `#` comes before any argument
+/// expands, and a fault of `##` after all have.
 pub fn template(
     alloc: Global,
     sets: &mut HideSets,
@@ -37,17 +38,16 @@ pub fn template(
     requires form { IsHeldForm names.old form.now }
     requires items { All (IsHeldItem names.old) items.now }
     requires raw { AreHeldArguments names.old sets.old raw.now }
-    ensures ok { IfOk result (λ parts. Lasting names.new sets.new (λ names sets. (head : model.Hidden declared.Place) (results : List (Result (List (model.Hidden declared.Place)) (Failure declared.Place)))
+    ensures ok { IfOk result (λ parts. Lasting names.new sets.new (λ names sets. (head : model.Hidden declared.Place) (expanded : List (List (model.Hidden declared.Place)))
         (provenance : Provenance declared.Place) (hidden : HideSet) → head.place ≡ place
-        → substituted provenance (seen_form names form.now) (map (seen_item names) items.now) head (seen_arguments names sets raw.now) results hidden
-        ≡ completed provenance head hidden (wanted_of (seen_form names form.now) (map (seen_item names) items.now)) results (Ok (map (seen_part names sets) parts.items)))) }
+        → substituted provenance (seen_form names form.now) (map (seen_item names) items.now) head (seen_arguments names sets raw.now) expanded hidden
+        ≡ completed provenance head hidden expanded (Ok (map (seen_part names sets) parts.items)))) }
     ensures wanted { IfOk result (λ parts. All (IsWantedPart (wanted_of (seen_form names.new form.now) (map (seen_item names.new) items.now))) parts.items) }
     ensures own { IfOk result (λ parts. All (IsHeldPart names.new sets.new) parts.items) }
-    ensures err { IfErr result (λ stop. OnFault stop (λ cause. Lasting names.new sets.new (λ names sets. (head : model.Hidden declared.Place) (results : List (Result (List (model.Hidden declared.Place)) (Failure declared.Place)))
-        (provenance : Provenance declared.Place) (hidden : HideSet) → head.place ≡ place → OnOperator cause
-        (substituted provenance (seen_form names form.now) (map (seen_item names) items.now) head (seen_arguments names sets raw.now) results hidden ≡ Err (failure_at BadStringize head))
-        (substituted provenance (seen_form names form.now) (map (seen_item names) items.now) head (seen_arguments names sets raw.now) results hidden
-        ≡ completed provenance head hidden (wanted_of (seen_form names form.now) (map (seen_item names) items.now)) results (Err (failure_at BadPaste head)))))) }
+    ensures err { IfErr result (λ stop. OnFault stop (λ cause. Lasting names.new sets.new (λ names sets. (head : model.Hidden declared.Place) → head.place ≡ place → OnOperator cause
+        (substitution.slots head (seen_arguments names sets raw.now) (substitution.parts (seen_form names form.now) neither (map (seen_item names) items.now)) ≡ Err (failure_at BadStringize head))
+        ((expanded : List (List (model.Hidden declared.Place))) (provenance : Provenance declared.Place) (hidden : HideSet)
+        → substituted provenance (seen_form names form.now) (map (seen_item names) items.now) head (seen_arguments names sets raw.now) expanded hidden ≡ Err (failure_at BadPaste head))))) }
 
     // at every outcome
     ensures names { Extends names.old names.new }
@@ -80,13 +80,13 @@ pub fn substitute(
     ensures ok { IfOk result (λ made. Lasting names.new sets.new (λ names sets. (at : model.Hidden declared.Place) (provenance : Provenance declared.Place)
         → at.place ≡ head.now.place → at.space ≡ head.now.space → ((p : declared.Place) → provenance.mark p ≡ p)
         → substituted provenance (seen_form names form.now) (map (seen_item names) items.now) at (seen_arguments names sets raw.now)
-        (map (λ ts. Ok ts) (seen_arguments names sets expanded.now)) (hide_at names sets hide.0)
+        (seen_arguments names sets expanded.now) (hide_at names sets hide.0)
         ≡ Ok (map (seen_hidden names sets) made.items))) }
     ensures own { IfOk result (λ made. All (IsHeldHidden names.new sets.new) made.items) }
     ensures err { IfErr result (λ stop. OnFault stop (λ cause. Lasting names.new sets.new (λ names sets. (at : model.Hidden declared.Place) (provenance : Provenance declared.Place)
         → at.place ≡ head.now.place
         → substituted provenance (seen_form names form.now) (map (seen_item names) items.now) at (seen_arguments names sets raw.now)
-        (map (λ ts. Ok ts) (seen_arguments names sets expanded.now)) (hide_at names sets hide.0)
+        (seen_arguments names sets expanded.now) (hide_at names sets hide.0)
         ≡ Err (failure_at cause at)))) }
 
     // at every outcome

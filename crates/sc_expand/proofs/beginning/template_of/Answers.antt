@@ -1,14 +1,29 @@
-use Rattle.std.proofs.Common.{map}
+use Rattle.std.proofs.Common.{◌≡◌, ◌∙◌, List, [], Ok, Err, map, sym}
+use Rattle.c11_macros.specs.Hidden as model
+use Rattle.c11_macros.specs.Hidden.{failure_at, no_names}
+use Rattle.sc_base.specs.declared.place.Place.{Place}
 use Rattle.sc_base.proofs.Growth.{Extends-refl}
-use Rattle.sc_expand.proofs.BeginningLemmas.{Fails, map_none, map_ok, map_some, refused_none, refused_some}
+use Rattle.sc_expand.proofs.BeginningLemmas.{Fails, map_none, map_ok, map_some, no_hash, refused_none, refused_some}
 use Rattle.sc_expand.proofs.Placing.{held-template}
-use Rattle.sc_expand.specs.Seen.{stores}
+use Rattle.sc_expand.specs.Seen.{provenance_of, stores}
+use Rattle.sc_model.specs.declared.cause.Cause.TheVariants.{BadStringize}
 use Rattle.sc_macro.specs.Seen.{seen_form, seen_item}
+use Rattle.sc_subst.specs.Parts.{seen_arguments}
 use Rattle.sc_subst.specs.Stops.{OnFault}
 use Rattle.sc_expand.proofs.beginning.template_of.Goals as goal
 
 pub returns-in-Ok-clause-some : goal.returns-in-Ok-clause-some
-returns-in-Ok-clause-some c = record { at = λ later later_sets names sets. record { completes = λ s head results provenance hidden place. c.in-Ok.ensures.ok.at later later_sets names sets head results provenance hidden place } }
+returns-in-Ok-clause-some c = record {
+  at = λ later later_sets names sets. record {
+    stringized = λ head place.
+        no_hash (provenance_of []) (seen_form later c.args.form.now) (map (seen_item later) c.args.items.now) head (seen_arguments later later_sets c.args.raw.now) [] no_names
+        (λ hash. differs head (sym (c.in-Ok.ensures.ok.at later later_sets names sets head [] (provenance_of []) no_names place) ∙ hash));
+    completes = λ s head expanded provenance hidden place. c.in-Ok.ensures.ok.at later later_sets names sets head expanded provenance hidden place;
+  };
+}
+  where
+    differs : {made : List (model.Hidden Place)} (head : model.Hidden Place) → Ok made ≡ Err (failure_at BadStringize head) → ⊥
+    differs head is = cc
 
 pub returns-in-Ok-clause-held : goal.returns-in-Ok-clause-held
 returns-in-Ok-clause-held c = λ s files here own.

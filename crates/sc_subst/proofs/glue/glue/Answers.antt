@@ -1,7 +1,8 @@
 use Rattle.std.proofs.Common.{◌∙◌, ◌+◌, ◌-◌, length, take, map, drop, sym, ap}
+use Rattle.c11_macros.specs.Substitution.{filled}
 use Rattle.std.proofs.Math.ListN.{drop_of_length-le}
 use Rattle.sc_base.proofs.Growth.{Extends-trans}
-use Rattle.sc_subst.specs.Glue.{pieces_in, tokens_behind}
+use Rattle.sc_subst.specs.Glue.{tokens_behind}
 use Rattle.sc_subst.specs.Parts.{seen_arguments, seen_slot}
 use Rattle.sc_subst.proofs.Gluing.{arguments_later, from_at, tail_at}
 use Rattle.sc_subst.proofs.Turns.{on_fault, slot_later}
@@ -13,7 +14,7 @@ returns-in-Err-clause-err c =
     (λ cause h. record {
       at = λ n s en es head xs.
           c.loop-i.invariant.is.at n s (Extends-trans c.read.ensures.names en) (Extends-trans c.read.ensures.sets es) head xs
-          ∙ (ap (λ ss. tokens_behind n s head xs c.loop-i.parts.items c.loop-i.left (pieces_in (seen_arguments n s c.args.raw.now) xs c.loop-i.behind (map (seen_slot n s) ss))) (from_at c.args.slots.now c.loop-i.i _ c.loop-i-test.true)
+          ∙ (ap (λ ss. tokens_behind n s head xs c.loop-i.parts.items c.loop-i.left (filled (seen_arguments n s c.args.raw.now) xs c.loop-i.behind (map (seen_slot n s) ss))) (from_at c.args.slots.now c.loop-i.i _ c.loop-i-test.true)
           ∙ h.at n s en es head xs);
     }) c.in-Err.ensures.err
 
@@ -27,10 +28,10 @@ loop-i-preserved c = record {
   is = record {
     at = λ n s en es head xs.
         c.loop-i.invariant.is.at n s (Extends-trans c.read.ensures.names en) (Extends-trans c.read.ensures.sets es) head xs
-        ∙ (ap (λ ss. tokens_behind n s head xs c.loop-i.parts.items c.loop-i.left (pieces_in (seen_arguments n s c.args.raw.now) xs c.loop-i.behind (map (seen_slot n s) ss))) (from_at c.args.slots.now c.loop-i.i _ c.loop-i-test.true)
+        ∙ (ap (λ ss. tokens_behind n s head xs c.loop-i.parts.items c.loop-i.left (filled (seen_arguments n s c.args.raw.now) xs c.loop-i.behind (map (seen_slot n s) ss))) (from_at c.args.slots.now c.loop-i.i _ c.loop-i-test.true)
         ∙ (c.in-Ok.ensures.ok.at n s en es head xs
-        ∙ (ap (λ b. tokens_behind n s head xs c.read.new.parts.items c.in-Ok.next (pieces_in (seen_arguments n s c.args.raw.now) xs b (map (seen_slot n s) (take (length c.args.slots.now - (c.loop-i.i + 1)) (drop (c.loop-i.i + 1) c.args.slots.now))))) (sym c.is_paste-behind.ensures)
-        ∙ ap (λ ss. tokens_behind n s head xs c.read.new.parts.items c.in-Ok.next (pieces_in (seen_arguments n s c.args.raw.now) xs c.is_paste-behind.result (map (seen_slot n s) ss))) (tail_at c.args.slots.now c.loop-i.i))));
+        ∙ (ap (λ b. tokens_behind n s head xs c.read.new.parts.items c.in-Ok.next (filled (seen_arguments n s c.args.raw.now) xs b (map (seen_slot n s) (take (length c.args.slots.now - (c.loop-i.i + 1)) (drop (c.loop-i.i + 1) c.args.slots.now))))) (sym c.is_paste-behind.ensures)
+        ∙ ap (λ ss. tokens_behind n s head xs c.read.new.parts.items c.in-Ok.next (filled (seen_arguments n s c.args.raw.now) xs c.is_paste-behind.result (map (seen_slot n s) ss))) (tail_at c.args.slots.now c.loop-i.i))));
   };
 }
 
@@ -38,7 +39,7 @@ pub returns-clause-ok : goal.returns-clause-ok
 returns-clause-ok c = record {
   at = λ n s en es head xs.
       c.loop-i.invariant.is.at n s en es head xs
-      ∙ (ap (λ ss. tokens_behind n s head xs c.loop-i.parts.items c.loop-i.left (pieces_in (seen_arguments n s c.args.raw.now) xs c.loop-i.behind (map (seen_slot n s) ss))) (drop_of_length-le c.args.slots.now c.loop-i-test.false)
+      ∙ (ap (λ ss. tokens_behind n s head xs c.loop-i.parts.items c.loop-i.left (filled (seen_arguments n s c.args.raw.now) xs c.loop-i.behind (map (seen_slot n s) ss))) (drop_of_length-le c.args.slots.now c.loop-i-test.false)
       ∙ c.in_ok-settle.ensures.ends n s head xs);
 }
 

@@ -1,5 +1,5 @@
 use Rattle.std.proofs.Common.{◌∙◌, false, map, ap}
-use Rattle.sc_subst.specs.Halves.{each_once, wanted_places}
+use Rattle.c11_macros.specs.Substitution.{each_once, wanted_places}
 use Rattle.sc_subst.specs.ListParts.{seen_list_part}
 use Rattle.sc_subst.proofs.parts.expanded_parameters.Goals as goal
 

@@ -1,6 +1,6 @@
 use Rattle.std.proofs.Common.{◌∙◌, false, map, ap, sym}
+use Rattle.c11_macros.specs.Substitution.{wanted_places}
 use Rattle.std.proofs.lemmas.List.{drop_all}
-use Rattle.sc_subst.specs.Halves.{wanted_places}
 use Rattle.sc_subst.specs.ListParts.{seen_list_part}
 use Rattle.sc_subst.proofs.PartTurns.{blank_part}
 use Rattle.sc_subst.proofs.Wanted.{added, all_added, wanted_turn}

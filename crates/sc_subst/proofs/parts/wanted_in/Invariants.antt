@@ -1,5 +1,5 @@
 use Rattle.std.proofs.Common.{◌≡◌, ℕ, false, List, [], map, drop}
-use Rattle.sc_subst.specs.Halves.{wanted_places}
+use Rattle.c11_macros.specs.Substitution.{wanted_places}
 use Rattle.sc_subst.specs.ListParts.{seen_list_part}
 use Rattle.sc_subst.proofs.Wanted.{added}
 use Rattle.sc_subst.proofs.parts.wanted_in.Given as goal

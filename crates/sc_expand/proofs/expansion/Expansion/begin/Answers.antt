@@ -1,8 +1,8 @@
 use Rattle.std.proofs.Common.{◌≡◌, true, false, All, map, refl, sym, ap, subst, ◌∙◌}
 use Rattle.std.proofs.lemmas.List.Elements.{All-push}
-use Rattle.c11_macros.specs.Hidden.{failure_at, meet, with_name}
+use Rattle.c11_macros.specs.Hidden.{failure_at}
 use Rattle.c11_macros.specs.Macros.{Form}
-use Rattle.c11_macros.specs.Substitution.{substituted}
+use Rattle.c11_macros.specs.Substitution.{neither, parts, slots}
 use Rattle.sc_expand.proofs.AlikeGathering.{begun-alike, refused-alike}
 use Rattle.sc_expand.proofs.BeginningLemmas.{in_none, in_some, is_gathered, is_template}
 use Rattle.sc_expand.proofs.GatherSteps.{pushed-at, pushed-held, pushed-other, refused-failures, refused-live, refused-other}
@@ -76,12 +76,10 @@ returns-in-None-clause-begins g c = both-on-ok c.refuse.result
     let grows : Grows (stores s c.args.names.now c.args.self.now.sets) (stores (g.C.Conditions.sets c.refuse.new.conds) n h) =
     record { sets = c.refuse.ensures.keeps; names = c.begin_call.ensures.names; hides = c.begin_call.ensures.sets } in
     let t = seen_hidden n h c.args.head in
-    let close = seen_hidden n h c.args.close in
     let raw = seen_arguments n h c.args.raw.now in
-    let hidden = with_name (meet t.hide close.hide) t.spelling in
     let failure = failure_at BadStringize t in
     let none = in_none c.in_ok-made.made c.in-None.is c.in_ok-made.ensures.none in
-    refused failure (λ expanded. (λ i. substituted provenance (formed i) (list i) t raw expanded hidden) ∙ none t expanded provenance hidden refl)
+    refused failure ((λ i. slots t raw (parts (formed i) neither (list i))) ∙ none t refl)
     (refused-live grows c.args.self.now c.requires.held.1 c.refuse.new.self c.args.cond.0 failure live failures x listed has)
     (refused-failures grows c.args.self.now c.requires.held.1 c.refuse.new.self c.args.cond.0 failure live failures x listed has))
     c.refuse.ensures.live c.refuse.ensures.failures
