@@ -1,10 +1,10 @@
 pub mod Agreement
+pub mod CallEnds
 mod Examples
 pub mod Halting
 pub mod LongerLists
 pub mod OneAnswer
 pub mod OneRun
-pub mod OpenCalls
 pub mod Resuming
 pub mod Rows
 pub mod RunExpands

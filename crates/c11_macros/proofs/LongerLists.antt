@@ -1,5 +1,6 @@
 -- The case at a token, as more follows the list.
 use Rattle.std.proofs.Common.{◌≡◌, ℕ, zero, suc, ◌&&◌, Bool, true, false, List, [], ◌∷◌, ◌++◌, length, codes, Option, Some, None, refl, subst, if◌then◌else◌}
+use Rattle.c11_macros.proofs.CallEnds.{EndsWith, Ends, no_call, a_call, in-call}
 use Rattle.c11_macros.specs.Call.{Call, Role, apart, arguments_for, call_of, call_step, closing, comma, onto, onto_argument, opening, other, role_of}
 use Rattle.c11_macros.specs.Defines.{is_function_like}
 use Rattle.c11_macros.specs.Expansion.{Case, call_case, called, case_of, defined_case, fitted_case, form_case, is_looked_up, looked_up_case, misfit, replaced, stays, unclosed}
@@ -11,8 +12,15 @@ use Rattle.sc_model.specs.Bytes.{same_bytes}
 -- ---- the case at a token, as more follows
 
 pub data CallMore {P : Type 0} (more : List (Hidden P)) : Option (Call P) → Option (Call P) → Type 0 where
-  open_so_far : (o : Option (Call P)) → CallMore more None o
+  -- an open call ends in what follows, or not yet
+  open_so_far : (o : Option (Call P)) → Ends more o → CallMore more None o
   closed : (call : Call P) → CallMore more (Some call) (Some (record call { rest = call.rest ++ more }))
+
+-- what an open call may become
+pub data Opened {P : Type 0} (more : List (Hidden P)) : Case P → Type 0 where
+  open_still : Opened more unclosed
+  open_misfit : (after : List (Hidden P)) → EndsWith more after → Opened more (misfit after)
+  open_called : (d : Definition) (arguments : List (List (Hidden P))) (close : Hidden P) (after : List (Hidden P)) → EndsWith more after → Opened more (called d arguments close after)
 
 -- A case stays what it is, but for that of an open call, and of a name that is the last token.
 pub data CaseMore {P : Type 0} (more : List (Hidden P)) : List (Hidden P) → Case P → Case P → Type 0 where
@@ -20,16 +28,18 @@ pub data CaseMore {P : Type 0} (more : List (Hidden P)) : List (Hidden P) → Ca
   same_replaced : (rest : List (Hidden P)) (d : Definition) → CaseMore more rest (replaced d) (replaced d)
   same_misfit : (rest after : List (Hidden P)) → CaseMore more rest (misfit after) (misfit (after ++ more))
   same_called : (rest : List (Hidden P)) (d : Definition) (arguments : List (List (Hidden P))) (close : Hidden P) (after : List (Hidden P)) → CaseMore more rest (called d arguments close after) (called d arguments close (after ++ more))
-  not_closed : (rest : List (Hidden P)) (k : Case P) → CaseMore more rest unclosed k
+  not_closed : (rest : List (Hidden P)) (k : Case P) → Opened more k → CaseMore more rest unclosed k
   at_end : (k : Case P) → CaseMore more [] stays k
 
 module _ {P : Type 0} (more : List (Hidden P)) where
   onto-more : (t : Hidden P) (o p : Option (Call P)) → CallMore more o p → CallMore more (onto t o) (onto t p)
-  onto-more t _ _ (open_so_far o) = open_so_far (onto t o)
+  onto-more t _ _ (open_so_far _ no_call) = open_so_far None no_call
+  onto-more t _ _ (open_so_far _ (a_call c e)) = open_so_far (onto t (Some c)) (a_call (record c { arguments = onto_argument t c.arguments }) e)
   onto-more t _ _ (closed call) = closed (record call { arguments = onto_argument t call.arguments })
 
   apart-more : (o p : Option (Call P)) → CallMore more o p → CallMore more (apart o) (apart p)
-  apart-more _ _ (open_so_far o) = open_so_far (apart o)
+  apart-more _ _ (open_so_far _ no_call) = open_so_far None no_call
+  apart-more _ _ (open_so_far _ (a_call c e)) = open_so_far (apart (Some c)) (a_call (record c { arguments = [] ∷ c.arguments }) e)
   apart-more _ _ (closed call) = closed (record call { arguments = [] ∷ call.arguments })
 
   step-more : (role : Role) (commas depth : ℕ) (t : Hidden P) (ts : List (Hidden P)) (go later : ℕ → ℕ → Option (Call P)) → ((k d : ℕ) → CallMore more (go k d) (later k d))
@@ -44,7 +54,7 @@ module _ {P : Type 0} (more : List (Hidden P)) where
   step-more other commas depth t ts go later same = onto-more t (go commas depth) (later commas depth) (same commas depth)
 
   call-more : (commas depth : ℕ) (ts : List (Hidden P)) → CallMore more (call_of commas depth ts) (call_of commas depth (ts ++ more))
-  call-more commas depth [] = open_so_far (call_of commas depth more)
+  call-more commas depth [] = open_so_far (call_of commas depth more) (in-call commas depth more)
   call-more commas depth (t ∷ ts) = step-more (role_of t.spelling) commas depth t ts (λ k d. call_of k d ts) (λ k d. call_of k d (ts ++ more)) (λ k d. call-more k d ts)
 
   module _ (d : Definition) where
@@ -52,8 +62,13 @@ module _ {P : Type 0} (more : List (Hidden P)) where
     fitted-more rest after close None = same_misfit rest after
     fitted-more rest after close (Some arguments) = same_called rest d arguments close after
 
+    fitted-opened : (c : Call P) (o : Option (List (List (Hidden P)))) → EndsWith more c.rest → Opened more (fitted_case d c.close c.rest o)
+    fitted-opened c None e = open_misfit c.rest e
+    fitted-opened c (Some arguments) e = open_called d arguments c.close c.rest e
+
     call_case-more : (rest : List (Hidden P)) (ps : List (List ℕ)) (variadic : Bool) (o p : Option (Call P)) → CallMore more o p → CaseMore more rest (call_case d ps variadic o) (call_case d ps variadic p)
-    call_case-more rest ps variadic _ _ (open_so_far o) = not_closed rest (call_case d ps variadic o)
+    call_case-more rest ps variadic _ _ (open_so_far _ no_call) = not_closed rest unclosed open_still
+    call_case-more rest ps variadic _ _ (open_so_far _ (a_call c e)) = not_closed rest (call_case d ps variadic (Some c)) (fitted-opened c (arguments_for ps variadic c.arguments) e)
     call_case-more rest ps variadic _ _ (closed call) = fitted-more rest call.rest call.close (arguments_for ps variadic call.arguments)
 
     form-more : (form : Form) (rest : List (Hidden P)) → CaseMore more rest (form_case d form rest) (form_case d form (rest ++ more))
@@ -98,6 +113,25 @@ module _ {P : Type 0} (more : List (Hidden P)) where
       where
         by : (rest : List (Hidden P)) (k : Case P) → CaseMore more rest (called d arguments close after) k → k ≡ called d arguments close (after ++ more)
         by _ _ (same_called r e a c f) = refl
+
+    -- an open call
+    pub opened : (k : Case P) → case_of macros t rest ≡ unclosed → case_of macros t (rest ++ more) ≡ k → Opened more k
+    opened k is at = subst (Opened more) at (by rest (case_of macros t (rest ++ more)) (known-more unclosed is))
+      where
+        by : (rest : List (Hidden P)) (k : Case P) → CaseMore more rest unclosed k → Opened more k
+        by _ _ (not_closed r k o) = o
+
+  pub opened-stays : Opened more stays → ⊥
+  opened-stays o = elim o [ ]
+
+  pub opened-replaced : (d : Definition) → Opened more (replaced d) → ⊥
+  opened-replaced d o = elim o [ ]
+
+  pub opened-called : (d : Definition) (arguments : List (List (Hidden P))) (close : Hidden P) (after : List (Hidden P)) → Opened more (called d arguments close after) → EndsWith more after
+  opened-called d arguments close after (open_called _ _ _ _ e) = e
+
+  pub opened-misfit : (after : List (Hidden P)) → Opened more (misfit after) → EndsWith more after
+  opened-misfit after (open_misfit _ e) = e
 
   -- a name before another token
   pub stays-more : (macros : Macros) (t u : Hidden P) (us : List (Hidden P)) → case_of macros t (u ∷ us) ≡ stays → case_of macros t (u ∷ us ++ more) ≡ stays

@@ -2,11 +2,10 @@
 use Rattle.std.proofs.Common.{◌≡◌, ℕ, true, false, List, [], ◌∷◌, ◌++◌, append_assoc, append-nil, refl, sym, ap, ◌∙◌, subst}
 use Rattle.std.proofs.lemmas.List.{append_cancel_right}
 use Rattle.c11_macros.proofs.Agreement.{agree-back, agree-front}
-use Rattle.c11_macros.proofs.LongerLists.{lasting, last-stays, replaced-more, misfit-more, called-more}
+use Rattle.c11_macros.proofs.LongerLists.{Opened, opened, opened-called, opened-misfit, opened-replaced, opened-stays, lasting, last-stays, replaced-more, misfit-more, called-more}
 use Rattle.c11_macros.proofs.OneRun.{more-than}
-use Rattle.c11_macros.proofs.OpenCalls as past
-use Rattle.c11_macros.proofs.OpenCalls.{EndsWith}
-use Rattle.c11_macros.specs.Expansion.{stays, replaced, unclosed, misfit, called, case_of}
+use Rattle.c11_macros.proofs.CallEnds.{EndsWith}
+use Rattle.c11_macros.specs.Expansion.{Case, stays, replaced, unclosed, misfit, called, case_of}
 use Rattle.c11_macros.specs.Hidden.{Hidden, Provenance, failure_at}
 use Rattle.c11_macros.specs.Macros.{Macros}
 use Rattle.c11_macros.specs.Resumed.{Continues, from_over, from_failure, from_waiting, StandBehind, TakesBehind, nothing, all_made, Resumed}
@@ -76,7 +75,7 @@ module _ {P : Type 0} (provenance : Provenance P) (macros : Macros) (more : List
   was-last {front = x ∷ xs} last run = absurd (cc)
 
   -- An open call: what closes it stands behind the made tokens.
-  module _ (t : Hidden P) (front source : List (Hidden P)) (opened : case_of macros t (front ++ source) ≡ unclosed) where
+  module _ (t : Hidden P) (front source : List (Hidden P)) (is-open : case_of macros t (front ++ source) ≡ unclosed) where
     at : {A : Type 0} (f : List (Hidden P) → A) (x : A) → f ((front ++ source) ++ more) ≡ x → f (front ++ (source ++ more)) ≡ x
     at f x is = list-more f front source x is
 
@@ -101,11 +100,14 @@ module _ {P : Type 0} (provenance : Provenance P) (macros : Macros) (more : List
         whole : (front ++ source) ++ more ≡ (front ++ (source ++ e.before)) ++ after
         whole = ap (λ l. (front ++ source) ++ l) e.is ∙ (sym (append_assoc (front ++ source) e.before after) ∙ ap (λ l. l ++ after) (append_assoc front source e.before))
 
+    becomes : (k : Case P) → case_of macros t ((front ++ source) ++ more) ≡ k → Opened more k
+    becomes k at = opened more macros t (front ++ source) k is-open at
+
     was-open : {done : List (Hidden P)} {end : End P} {v : Uses P} → Runs provenance macros (t ∷ []) ((front ++ source) ++ more) done end v → Resumed provenance macros more (t ∷ front) source done (waits t (front ++ source)) end (using [] (looked_up_at t)) v
-    was-open (stay is free run) = absurd (past.opened-stays more (past.opened more macros t (front ++ source) stays opened is))
-    was-open (object d body is made run) = absurd (past.opened-replaced more d (past.opened more macros t (front ++ source) (replaced d) opened is))
-    was-open (bad_object d failure is made) = absurd (past.opened-replaced more d (past.opened more macros t (front ++ source) (replaced d) opened is))
-    was-open (alone is) = absurd (past.opened-stays more (past.opened more macros t (front ++ source) stays opened (last-stays macros t ((front ++ source) ++ more) is)))
+    was-open (stay is free run) = absurd (opened-stays more (becomes stays is))
+    was-open (object d body is made run) = absurd (opened-replaced more d (becomes (replaced d) is))
+    was-open (bad_object d failure is made) = absurd (opened-replaced more d (becomes (replaced d) is))
+    was-open (alone is) = absurd (opened-stays more (becomes stays (last-stays macros t ((front ++ source) ++ more) is)))
     was-open (open_call is) = record {
       uses = using [] (looked_up_at t);
       runs = subst (λ l. Runs provenance macros (t ∷ front) (source ++ more) [] (waits t l) (using [] (looked_up_at t))) (sym (append_assoc front source more)) (open_call (at (case_of macros t) unclosed is));
@@ -117,7 +119,7 @@ module _ {P : Type 0} (provenance : Provenance P) (macros : Macros) (more : List
       looked_up = λ one two agree. (agree, agree);
     }
     was-open (call {done} {end} {u} d arguments close after left rest taken body results is leaves each made run) =
-        let e = past.opened-called more d arguments close after (past.opened more macros t (front ++ source) (called d arguments close after) opened is) in
+        let e = opened-called more d arguments close after (becomes (called d arguments close after) is) in
         let o = one-list e leaves in
         record {
           uses = then_uses (using o.2 (looked_up_at t ++ (trace_each each).looked_up)) u;
@@ -131,7 +133,7 @@ module _ {P : Type 0} (provenance : Provenance P) (macros : Macros) (more : List
           looked_up = λ one two agree. (agree-front one two (looked_up_at t) (trace_each each).looked_up (agree-front one two (looked_up_at t ++ (trace_each each).looked_up) u.looked_up agree), agree);
         }
     was-open (bad_count after left rest taken is leaves) =
-        let e = past.opened-misfit more after (past.opened more macros t (front ++ source) (misfit after) opened is) in
+        let e = opened-misfit more after (becomes (misfit after) is) in
         let o = one-list e leaves in
         record {
           uses = using o.2 (looked_up_at t);
@@ -144,7 +146,7 @@ module _ {P : Type 0} (provenance : Provenance P) (macros : Macros) (more : List
           looked_up = λ one two agree. (agree, agree);
         }
     was-open (bad_call d arguments close after left rest taken results failure is leaves each made) =
-        let e = past.opened-called more d arguments close after (past.opened more macros t (front ++ source) (called d arguments close after) opened is) in
+        let e = opened-called more d arguments close after (becomes (called d arguments close after) is) in
         let o = one-list e leaves in
         record {
           uses = using o.2 (looked_up_at t ++ (trace_each each).looked_up);

@@ -1,7 +1,7 @@
 -- The expansion of a list, as a run of what stands in front and the expansion of what it leaves.
 use Rattle.std.proofs.Common.{◌≡◌, ℕ, zero, Bool, true, false, List, [], ◌∷◌, ◌++◌, append_assoc, length, codes, Option, Some, None, Result, Ok, Err, refl, sym, ap, ◌∙◌, subst, if◌then◌else◌, map}
 use Rattle.c11_macros.proofs.LongerLists.{last-stays}
-use Rattle.c11_macros.proofs.OpenCalls.{EndsWith, Ends, no_call, a_call, cons-some, in-call}
+use Rattle.c11_macros.proofs.CallEnds.{EndsWith, called-ends, case-in, cons-some, misfit-ends}
 use Rattle.c11_macros.proofs.RunExpands.{leaves-split, these-more, these-none}
 use Rattle.c11_macros.specs.Call.{Call, arguments_for, call_of}
 use Rattle.c11_macros.specs.Expansion.{Case, call_case, called, case_of, defined_case, fitted_case, form_case, is_looked_up, looked_up_case, misfit, replaced, stays, unclosed, asked, object_result, call_result, with_first, Expands, Each, Rescans, on, refused}
@@ -15,57 +15,7 @@ use Rattle.c11_macros.specs.Trace.{looked_up_at, trace_each}
 use Rattle.sc_model.specs.Bytes.{same_bytes}
 use Rattle.sc_model.specs.declared.cause.Cause.TheVariants.{UnterminatedCall, WrongArguments}
 
--- ---- what a call leaves is the end of its list
-
 module _ {P : Type 0} where
-  -- what the case leaves: all but a call's
-  data CaseIn (rest : List (Hidden P)) : Case P → Type 0 where
-    in_stays : CaseIn rest stays
-    in_replaced : (d : Definition) → CaseIn rest (replaced d)
-    in_unclosed : CaseIn rest unclosed
-    in_misfit : (after : List (Hidden P)) → EndsWith rest after → CaseIn rest (misfit after)
-    in_called : (d : Definition) (arguments : List (List (Hidden P))) (close : Hidden P) (after : List (Hidden P)) → EndsWith rest after → CaseIn rest (called d arguments close after)
-
-  ends-more : {u : Hidden P} {us after : List (Hidden P)} → EndsWith us after → EndsWith (u ∷ us) after
-  ends-more {u} e = record { before = u ∷ e.before; is = ap (λ l. u ∷ l) e.is; some = cons-some u e.before }
-
-  fitted-in : (d : Definition) (u : Hidden P) (us : List (Hidden P)) (call : Call P) (o : Option (List (List (Hidden P)))) → EndsWith us call.rest → CaseIn (u ∷ us) (fitted_case d call.close call.rest o)
-  fitted-in d u us call None e = in_misfit call.rest (ends-more e)
-  fitted-in d u us call (Some arguments) e = in_called d arguments call.close call.rest (ends-more e)
-
-  opened-in : (d : Definition) (ps : List (List ℕ)) (v : Bool) (u : Hidden P) (us : List (Hidden P)) → CaseIn (u ∷ us) (call_case d ps v (call_of (length ps) zero us))
-  opened-in d ps v u us = by (call_of (length ps) zero us) (in-call (length ps) zero us)
-    where
-      by : (o : Option (Call P)) → Ends us o → CaseIn (u ∷ us) (call_case d ps v o)
-      by _ no_call = in_unclosed
-      by _ (a_call call e) = fitted-in d u us call (arguments_for ps v call.arguments) e
-
-  form-in : (d : Definition) (f : Form) (rest : List (Hidden P)) → CaseIn rest (form_case d f rest)
-  form-in d object_like rest = in_replaced d
-  form-in d (function_like ps v) [] = in_stays
-  form-in d (function_like ps v) (u ∷ us) = by (same_bytes u.spelling (codes "("))
-    where
-      by : (b : Bool) → CaseIn (u ∷ us) (if b then call_case d ps v (call_of (length ps) zero us) else stays)
-      by true = opened-in d ps v u us
-      by false = in_stays
-
-  defined-in : (o : Option Definition) (rest : List (Hidden P)) → CaseIn rest (defined_case o rest)
-  defined-in None rest = in_stays
-  defined-in (Some d) rest = form-in d d.form rest
-
-  looked-in : (macros : Macros) (b : Bool) (name : List ℕ) (rest : List (Hidden P)) → CaseIn rest (looked_up_case macros b name rest)
-  looked-in macros true name rest = defined-in (macros name) rest
-  looked-in macros false name rest = in_stays
-
-  case-in : (macros : Macros) (t : Hidden P) (rest : List (Hidden P)) (k : Case P) → case_of macros t rest ≡ k → CaseIn rest k
-  case-in macros t rest k is = subst (CaseIn rest) is (looked-in macros (is_looked_up t) t.spelling rest)
-
-  called-ends : (rest : List (Hidden P)) (d : Definition) (arguments : List (List (Hidden P))) (close : Hidden P) (after : List (Hidden P)) → CaseIn rest (called d arguments close after) → EndsWith rest after
-  called-ends rest d arguments close after (in_called _ _ _ _ e) = e
-
-  misfit-ends : (rest after : List (Hidden P)) → CaseIn rest (misfit after) → EndsWith rest after
-  misfit-ends rest after (in_misfit _ e) = e
-
   -- the end of two lists together lies in the second, or begins in the first
   record SomeLeaves (source after : List (Hidden P)) : Type 0 where
     left : List (Hidden P)
