@@ -2,7 +2,7 @@
 -- argument as it is entered and left.
 use Rattle.std.proofs.Common.{◌≡◌, ℕ, suc, ◌-◌, ◌&&◌, ◌++◌, ◌∷◌, [], List, All, Some, drop, length, length-append, map, slice_get, take, inl, inr, refl, sym, ap, subst, arith, ◌∙◌, if◌then◌else◌}
 use Rattle.sc_base.proofs.Growth.{push_cases}
-use Rattle.std.proofs.lemmas.List.Elements.{All-append, All-cons, All-head, All-map, All-nil, All-push, All-set, All-tail}
+use Rattle.std.proofs.lemmas.List.Elements.{All-cons, All-head, All-map, All-nil, All-push, All-set, All-tail}
 use Rattle.sc_base.specs.declared.id.Cond.{Cond}
 use Rattle.sc_expand.proofs.AlikeLemmas.{All-both, AreAlike-Keeps, IsAlikeCall-Keeps, alike-of, enclosing-last, enclosing-others, of-all}
 use Rattle.sc_expand.specs.Alike.{AreAlikeRefusals, IsAlikeCall, IsAlikeEnclosing, IsAlikeExpansion, IsAlikeFrame, Others, no_others, others_at}
@@ -34,9 +34,6 @@ module _ {T : Type 0} (s : Sets) (c d : List ℕ) where
   -- one item more
   pub AreAlike-push : (list more : List (Cond × T)) (cond : Cond) (item : T) → more ≡ list ++ (cond, item) ∷ [] → AreAlike s c d list → IsAlike s c d cond → AreAlike s c d more
   AreAlike-push list more cond item is alike here = subst (All Same) (sym is) (All-push Same list (cond, item) alike here)
-
-  pub AreAlike-append : (xs ys : List (Cond × T)) → AreAlike s c d xs → AreAlike s c d ys → AreAlike s c d (xs ++ ys)
-  AreAlike-append xs ys first rest = All-append Same xs ys first rest
 
   pub AreAlike-nil : AreAlike {T = T} s c d []
   AreAlike-nil = All-nil Same

@@ -12,7 +12,7 @@ use Rattle.c11_macros.specs.Hidden.{Failure, HideSet, Provenance, failure_at, me
 use Rattle.c11_macros.specs.Results.{result_and_then}
 use Rattle.c11_macros.specs.Call.{arguments_for, call_of}
 use Rattle.c11_macros.specs.Call.{Call as SomeCall}
-use Rattle.c11_macros.specs.Expansion.{call_case, called, case_of, defined_case, fitted_case, form_case, is_looked_up, list_of, looked_up_case, misfit, stays}
+use Rattle.c11_macros.specs.Expansion.{call_case, case_of, defined_case, fitted_case, form_case, is_looked_up, list_of, looked_up_case, stays}
 use Rattle.c11_macros.specs.Macros.{Definition, Form, Item, Macros, function_like}
 use Rattle.c11_macros.specs.Substitution.{Slot, argument, neither, parts, put_together, slots, substituted, wanted_of}
 use Rattle.sc_base.proofs.Growth.{Extends-trans}
@@ -58,9 +58,6 @@ map_some (Some a) f h = f a h
 pub map_none : {A P Q : Type 0} (r : Option A) → (P → Q) → IfNone r P → IfNone r Q
 map_none None f h = f h
 map_none (Some a) f h = tt
-
-pub on_hash : (H P : Type 0) (x : Cause) → x ≡ cause.BadStringize → OnOperator x H P → H
-on_hash H P x is o = subst (λ x. OnOperator x H P) is o
 
 pub map_ok : {A E : Type 0} {P Q : A → Type 0} (r : Result A E) → ((a : A) → P a → Q a) → IfOk r P → IfOk r Q
 map_ok (Ok a) f h = f a h
@@ -277,14 +274,6 @@ module _ {P : Type 0} (macros : Macros) (t opener close : model.Hidden P) (betwe
       ∙ (ap (λ b. if b then call_case d parameters variadic (call_of (length parameters) 0 (between ++ close ∷ after)) else stays) opens
       ∙ (ap (call_case d parameters variadic) calls
       ∙ (λ i. fitted_case d (is.close i) (ends i) (arguments_for parameters variadic (is.arguments i)))))))
-
-  pub called_case : (lists : List (List (model.Hidden P))) → case_of macros t (opener ∷ (between ++ close ∷ after)) ≡ fitted_case d close after (arguments_for parameters variadic (parted (length parameters) 0 between))
-      → arguments_for parameters variadic (parted (length parameters) 0 between) ≡ Some lists → case_of macros t (opener ∷ (between ++ close ∷ after)) ≡ called d lists close after
-  called_case lists is fits = is ∙ ap (fitted_case d close after) fits
-
-  pub misfit_case : case_of macros t (opener ∷ (between ++ close ∷ after)) ≡ fitted_case d close after (arguments_for parameters variadic (parted (length parameters) 0 between))
-      → arguments_for parameters variadic (parted (length parameters) 0 between) ≡ None → case_of macros t (opener ∷ (between ++ close ∷ after)) ≡ misfit after
-  misfit_case is fits = is ∙ ap (fitted_case d close after) fits
 
 -- ---- the tokens at places
 

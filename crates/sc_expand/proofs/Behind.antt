@@ -1,13 +1,12 @@
 -- How many items of a list stand behind each that a configuration has.
-use Rattle.std.proofs.Common.{◌≡◌, ◌⊎◌, inl, inr, ℕ, zero, suc, ◌+◌, ◌-◌, ◌<◌, ◌≤◌, nat_le, nat_lt, Bool, true, false, List, [], ◌∷◌, ◌++◌, All, map, take, drop, length, refl, sym, ap, subst, ◌∙◌, arith, if◌then◌else◌}
+use Rattle.std.proofs.Common.{◌≡◌, ◌⊎◌, inl, inr, ℕ, zero, suc, ◌+◌, ◌-◌, ◌<◌, ◌≤◌, nat_le, nat_lt, Bool, true, false, List, [], ◌∷◌, ◌++◌, All, take, drop, length, refl, sym, ap, subst, ◌∙◌, arith, if◌then◌else◌}
 use Rattle.std.proofs.lemmas.Bool.{cases_lt, le-ltb, leb-false, leb-true, lt-ltb}
-use Rattle.std.proofs.lemmas.List.{drop_all, length-drop, take-map}
+use Rattle.std.proofs.lemmas.List.{drop_all, length-drop}
 use Rattle.std.proofs.lemmas.List.Elements.{All-cons, All-head, All-nil, All-tail, All-weaker}
 use Rattle.sc_base.specs.declared.id.Cond.{Cond}
 use Rattle.sc_expand.specs.Having.{HasLast, HasMore, behind_at}
 use Rattle.sc_guarded.specs.Items.{items_at}
 use Rattle.sc_hoist.specs.Alike.{AreAlike, IsAlike}
-use Rattle.sc_hoist.specs.Places.{places_from}
 use Rattle.sc_model.specs.Sets.{Sets}
 use Rattle.sc_subst.specs.declared.hidden.Hidden.{Hidden}
 
@@ -121,32 +120,6 @@ module _ {T : Type 0} (s : Sets) (c : List ℕ) where
   pub below-items : (n : ℕ) (list : List (Cond × T)) → n ≤ length list → length (below n (behind_at s list c)) ≡ length (items_at s (drop (length list - n) list) c)
   below-items n list within = ap length (below-behind n list within) ∙ length-behind (drop (length list - n) list)
 
-  -- the places of a list counted from its end
-  pub places-behind : (list : List (Cond × T)) (m : ℕ) → map (λ (i : ℕ). length list + m - (i + 1)) (places_from s m (map (λ (item : Cond × T). item.0) list) c) ≡ behind_at s list c
-  places-behind [] m = refl
-  places-behind (item ∷ items) m =
-      let count : suc (length items) + m ≡ length items + (m + 1) = omega arith in
-      by (s.has item.0.0 c) (ap (λ (t : ℕ). map (λ (i : ℕ). t - (i + 1)) (places_from s (m + 1) (map (λ (item : Cond × T). item.0) items) c)) count ∙ places-behind items (m + 1))
-    where
-      places : List ℕ
-      places = places_from s (m + 1) (map (λ (item : Cond × T). item.0) items) c
-
-      by : (b : Bool) → map (λ (i : ℕ). suc (length items) + m - (i + 1)) places ≡ behind_at s items c
-          → map (λ (i : ℕ). suc (length items) + m - (i + 1)) (if b then m ∷ places else places) ≡ (if b then length items ∷ behind_at s items c else behind_at s items c)
-      by true rest = let count : suc (length items) + m - (m + 1) ≡ length items = omega arith in ap (λ (k : ℕ). k ∷ map (λ (i : ℕ). suc (length items) + m - (i + 1)) places) count ∙ ap (λ (l : List ℕ). length items ∷ l) rest
-      by false rest = rest
-
--- equal places are as far from the end
-pub same-behind : {T : Type 0} (s : Sets) (c d : List ℕ) (list : List (Cond × T)) (m k : ℕ) → take k (places_from s m (map (λ (item : Cond × T). item.0) list) c) ≡ take k (places_from s m (map (λ (item : Cond × T). item.0) list) d)
-    → take k (behind_at s list c) ≡ take k (behind_at s list d)
-same-behind {T} s c d list m k same = sym (at c) ∙ (ap (map f) same ∙ at d)
-  where
-    f : ℕ → ℕ
-    f i = length list + m - (i + 1)
-
-    at : (e : List ℕ) → map f (take k (places_from s m (map (λ (item : Cond × T). item.0) list) e)) ≡ take k (behind_at s list e)
-    at e = sym (take-map f k (places_from s m (map (λ (item : Cond × T). item.0) list) e)) ∙ ap (take k) (places-behind s e list m)
-
 -- ---- the first items of two configurations
 
 -- Both have the same items down to the last of so many: behind that one each has the rest of its
@@ -233,16 +206,6 @@ first-gone {T} s c n gone (x ∷ xs) few far = by gone (s.has x.0.0 c) few
     by (suc gone) false few = absurd (omega (arith, few))
 
 module _ {old new : Sets} {before after : List (Cond × Hidden)} {c : List ℕ} where
-  -- where other items stand before all, the rest is the same
-  pub more-last : HasMore old new before after c → HasLast old new before after c
-  more-last more = record {
-    made = more.made;
-    gone = 0;
-    is = more.is;
-    high = All-weaker (λ (n : ℕ). length before ≤ n) (λ n. length before ≤ suc n) (λ n above. omega arith) more.made more.high;
-    few = inr (omega arith);
-  }
-
   pub more-same : HasMore old new before after c → (n : ℕ) → n ≤ length before → below n (behind_at new after c) ≡ below n (behind_at old before c)
   more-same more n far =
       ap (below n) more.is

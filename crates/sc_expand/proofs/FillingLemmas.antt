@@ -284,12 +284,6 @@ parts_seen s names hides expanded c (part.Argument n space ∷ ps) =
     ∙ (ap (λ ts. ts ++ map see (parts_at s expanded true c ps)) (spaced_first names hides (items_at s (expanded_argument expanded n) c) space ∙ ap (with_space space) (seen_argument s see expanded n c))
     ∙ ap (λ ts. with_space space (argument (map (λ list. map see (items_at s list c)) expanded) n) ++ ts) (parts_seen s names hides expanded c ps))
 
--- configurations that the call has not have nothing
-pub parts_elsewhere : (s : Sets) (expanded : List (List (Cond × Hidden))) (c : List ℕ) (parts : List Part) → parts_at s expanded false c parts ≡ []
-parts_elsewhere s expanded c [] = refl
-parts_elsewhere s expanded c (part.Token t ∷ ps) = parts_elsewhere s expanded c ps
-parts_elsewhere s expanded c (part.Argument n space ∷ ps) = parts_elsewhere s expanded c ps
-
 -- items under the conditions of others, at whose places they stand, are held
 pub made_held : (s : Sets) (st : Stores) (files : ℕ) (names : List (List ℕ)) (hides : List (List Name)) (hidden : HideSet) (xs ys : List (Cond × Hidden))
     → map (λ (item : Cond × Hidden). item.0) ys ≡ map (λ (item : Cond × Hidden). item.0) xs

@@ -1,8 +1,7 @@
 -- The calls of branches leave their list one after the other.
-use Rattle.std.proofs.Common.{◌≡◌, ℕ, zero, suc, ◌+◌, ◌<◌, ◌≤◌, Bool, true, false, List, [], ◌∷◌, ◌++◌, All, map, take, drop, length, get_or, IsTrue, refl, sym, ap, subst, ◌∙◌, arith, append-nil, if◌then◌else◌}
+use Rattle.std.proofs.Common.{◌≡◌, ℕ, zero, suc, ◌+◌, ◌<◌, ◌≤◌, Bool, true, false, List, [], ◌∷◌, ◌++◌, All, map, take, drop, length, get_or, refl, sym, ap, subst, ◌∙◌, arith, append-nil, if◌then◌else◌}
 use Rattle.std.proofs.lemmas.List.{get_or-take, length-append, length-take, take_more}
 use Rattle.std.proofs.lemmas.List.Elements.{All-cons, All-nil}
-use Rattle.c11_macros.specs.Defines.{is_function_like}
 use Rattle.c11_macros.specs.Expansion.{is_looked_up}
 use Rattle.c11_macros.specs.Hidden as model
 use Rattle.c11_macros.specs.Hidden.{Provenance}
@@ -31,7 +30,7 @@ use Rattle.sc_hoist.specs.declared.branch.Branch.{Branch}
 use Rattle.sc_hoist.specs.Places.{places_from}
 use Rattle.sc_macro.specs.declared.definition.Item as declared_item
 use Rattle.sc_macro.specs.declared.form.Form as declared_form
-use Rattle.sc_macro.specs.Seen.{IsHeldForm, IsHeldItem, seen_form}
+use Rattle.sc_macro.specs.Seen.{IsHeldForm, IsHeldItem}
 use Rattle.sc_model.proofs.SetLemmas.{IsConfig-Keeps, IsConfig-kept}
 use Rattle.sc_model.specs.Sets.{Sets, IsCond, IsConfig}
 use Rattle.sc_subst.proofs.Later.{hidden_later, text_later}
@@ -117,9 +116,6 @@ module _ {old mid : Stores} (grows : Grows old mid) (form : declared_form.Form) 
     formed = is.formed ∙ sym (form_later form form_held grows.names);
     list = is.list ∙ sym (items_later items items_held grows.names);
   }
-
-  pub function-later : IsTrue (is_function_like (seen_form old.names form)) → IsTrue (is_function_like (seen_form mid.names form))
-  function-later is = subst (λ f. IsTrue (is_function_like f)) (sym (form_later form form_held grows.names)) is
 
   module _ (e0 e1 : Expansion) (bs : List Branch) (i : ℕ) (b : Branch) (within : i < length bs) (is_next : b ≡ get_or bs i b) (done : AreGathered old mid e0 e1 form items head (take i bs))
       (one : (c : List ℕ) → IsConfig old.sets.arities c → length (lists_at old.sets bs c) ≤ 1) where

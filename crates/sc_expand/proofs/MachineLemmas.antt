@@ -10,21 +10,14 @@ use Rattle.sc_expand.proofs.PlainReaches.{Reaches, reaches-fail, reaches-move}
 use Rattle.sc_expand.proofs.PlainTurns.{Pending, fails-under, move-under, under}
 use Rattle.sc_expand.proofs.SeenLemmas.{calls_at-Grows, view_at-Grows, seen_at-Grows, waiting_at-Grows}
 use Rattle.sc_expand.specs.declared.frame.Enclosing.{Enclosing}
-use Rattle.sc_expand.specs.declared.frame.Frame.{Frame}
 use Rattle.sc_expand.specs.Machine.{IsAbsent, Progress, Stands, fails, gone, here, inside, no_view, on_top, rests, state_in, steps}
 use Rattle.sc_expand.specs.Plain as plain
 use Rattle.sc_expand.specs.Plain.{Fails, Moves, State, expanding, scanning}
-use Rattle.sc_expand.specs.Seen.{Grows, IsHeldEnclosing, Stores, View, calls_at, seen_at, state_at, state_of, view_at, waiting_at}
+use Rattle.sc_expand.specs.Seen.{Grows, IsHeldEnclosing, Stores, View, calls_at, seen_at, state_of, view_at, waiting_at}
 use Rattle.sc_expand.specs.Turn.{At, Turn, failed, moved, over, passed}
 use Rattle.sc_model.specs.Sets.{IsConfig}
 
 -- ---- the state by the view of the frame on top
-
-pub state_at-in : (st : Stores) (below : List Enclosing) (top : Frame) (c : List ℕ) → state_at st below top c ≡ state_in st below (view_at st top c) c
-state_at-in st [] top c = refl
-state_at-in st (e ∷ es) top c =
-    ap (λ s. if st.sets.has e.call.cond.0 c then expanding (seen_at st e.frame.out c) (seen_at st e.frame.work c) (waiting_at st e.call c) e.parameter s else state_of (view_at st e.frame c))
-    (state_at-in st es top c)
 
 abbrev pub pending_at : Stores → List ℕ → Enclosing → Pending Place
 pending_at st c e = record { out = seen_at st e.frame.out c; work = seen_at st e.frame.work c; call = waiting_at st e.call c; parameter = e.parameter }

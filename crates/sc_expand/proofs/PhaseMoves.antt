@@ -7,7 +7,7 @@ use Rattle.std.proofs.lemmas.List.Elements.{All-pop}
 use Rattle.c11_macros.specs.Expansion.{IsWithin}
 use Rattle.c11_macros.specs.Footprint.{Arrives, Footprint}
 use Rattle.c11_macros.specs.Hidden as model
-use Rattle.c11_macros.specs.Hidden.{Failure, Provenance}
+use Rattle.c11_macros.specs.Hidden.{Provenance}
 use Rattle.c11_macros.specs.Macros.{Macros}
 use Rattle.sc_base.specs.declared.id.Cond.{Cond}
 use Rattle.sc_base.specs.declared.place.Place.{Place}
@@ -17,7 +17,7 @@ use Rattle.sc_expand.proofs.MachineLemmas.{IsBelow, IsOnTop, alone, called_in, g
 use Rattle.sc_expand.proofs.Phases.{IsBetween, IsInside, IsReady, Phase, bound_of, end_of, last_at, print_of, state_now}
 use Rattle.sc_expand.proofs.PlainEnds.{move-ends}
 use Rattle.sc_expand.proofs.PlainFootprint.{UsesFrom, uses-less, uses-move}
-use Rattle.sc_expand.proofs.Rests.{first-is, next-argument, next-call, next-token}
+use Rattle.sc_expand.proofs.Rests.{next-argument, next-call, next-token}
 use Rattle.sc_expand.proofs.RunLemmas.{IsRunning, running-stands, turned-at}
 use Rattle.sc_expand.specs.declared.call.Call.{Call}
 use Rattle.sc_expand.specs.declared.expansion.Expansion.{Expansion}
@@ -303,16 +303,6 @@ module _ (files : List (List ℕ)) (macros : List ℕ → Macros) (names : List 
           let more = first-more now.sets e.top.work h.item c phase.n h.first h.has far in
           let count = ap (λ (l : List (Cond × Hidden)). length (below phase.n (behind_at now.sets l c))) same in
           subst (λ s. IsPending s (last_at now e phase.n c)) (sym state) (omega (arith, more, count, length-seen now e.top.work c))
-
-  -- and so has who has the first token, where no call waits
-  pub first-pending : (c : List ℕ) (item : Cond × Hidden) → slice_get e.top.work 0 ≡ Some item → e.top.calls.items ≡ [] → now.sets.has item.0.0 c ≡ true → Stands now c e.below.items (view_at now e.top c)
-      → IsPending (state_now now e c) (last_at now e phase.n c)
-  first-pending c item first none has stands = takes-pending c true which refl stands (λ ended. never item (sym first ∙ ap (λ (l : List (Cond × Hidden)). slice_get l 0) ended.work))
-    where
-      which : (cond : Cond) → next_of e ≡ Some cond → true ≡ now.sets.has cond.0 c
-      which cond next =
-          let same : item.0 ≡ cond = some-same (sym (next-token e item (drop 1 e.top.work) none (first-is e.top.work item first)) ∙ next) in
-          sym has ∙ ap (λ (x : Cond). now.sets.has x.0 c) same
 
   module _ (new : Stores) (after : Expansion) (other : List ℕ → Macros) (same : (c : List ℕ) → IsConfig old.sets.arities c → other c ≡ macros c) {went : Bool} (turned : IsTurned files other now new e after went) where
     pub moved-fits : phase.n ≤ length (bottom after).work

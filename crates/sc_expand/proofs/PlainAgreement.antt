@@ -11,7 +11,7 @@ use Rattle.sc_expand.proofs.PlainMoves.{move-back}
 use Rattle.sc_expand.proofs.PlainNames.{Covers, covers-front, covers-same, covers-then}
 use Rattle.sc_expand.proofs.PlainTurns.{Pending, under}
 use Rattle.sc_expand.specs.Plain as plain
-use Rattle.sc_expand.specs.Plain.{Fails, Leads, Moves, State, Waiting, expanding, no_step, scanning, step, waiting, with_expanded}
+use Rattle.sc_expand.specs.Plain.{Leads, Moves, State, Waiting, expanding, no_step, scanning, step, waiting, with_expanded}
 
 -- the name of the first token is looked up, where it is one that is not hidden
 head-taken : {P : Type 0} {provenance : Provenance P} {macros : Macros} {t : Hidden P} {rest : List (Hidden P)} {r : Result (List (Hidden P)) (Failure P)} (d : Expands provenance macros (t ∷ rest) r) → Covers (trace d).looked_up (looked_up_at t)
@@ -78,15 +78,6 @@ module _ {P : Type 0} (provenance : Provenance P) (macros other : Macros) (names
   move-agrees _ _ (plain.leave out work list w n) agrees = plain.leave out work list w n
   move-agrees _ _ (plain.replace out work body w all made) agrees = plain.replace out work body w all made
   move-agrees _ _ (plain.inside out work w n {s} {t} m) agrees = plain.inside out work w n (move-agrees s t m (agrees-inside out work w n s agrees))
-
-  pub fails-agrees : (s : State P) (failure : Failure P) → Fails provenance macros s failure → AgreesFrom s → Fails provenance other s failure
-  fails-agrees _ _ (plain.bad_object out rest t d failure is made) agrees = plain.bad_object out rest t d failure (agrees-case out rest t agrees ∙ is) made
-  fails-agrees _ _ (plain.open_call out rest t is) agrees = plain.open_call out rest t (agrees-case out rest t agrees ∙ is)
-  fails-agrees _ _ (plain.miscounted out rest after t is) agrees = plain.miscounted out rest after t (agrees-case out rest t agrees ∙ is)
-  fails-agrees _ _ (plain.bad_stringize out rest after t close d arguments failure is whatever) agrees =
-      plain.bad_stringize out rest after t close d arguments failure (agrees-case out rest t agrees ∙ is) whatever
-  fails-agrees _ _ (plain.bad_paste out work w failure all made) agrees = plain.bad_paste out work w failure all made
-  fails-agrees _ _ (plain.inside_fails out work w n {s} {failure} f) agrees = plain.inside_fails out work w n (fails-agrees s failure f (agrees-inside out work w n s agrees))
 
   pub leads-agrees : (s t : State P) → Leads provenance macros s t → AgreesFrom s → Leads provenance other s t
   leads-agrees s _ no_step agrees = no_step

@@ -1,10 +1,8 @@
 -- What is to be done at a token, by what is known of it.
-use Rattle.std.proofs.Common.{◌≡◌, ℕ, zero, ◌<◌, Bool, true, false, List, [], ◌∷◌, length, codes, Option, Some, None, Ok, refl, ap, ◌∙◌, if◌then◌else◌}
-use Rattle.std.proofs.lemmas.List.Elements.{All-head, All-tail}
-use Rattle.std.specs.List.{All}
-use Rattle.c11_macros.specs.Call.{Call, arguments_for, call_of}
-use Rattle.c11_macros.specs.Expansion.{Expands, empty, stay, call_case, called, case_of, defined_case, fitted_case, form_case, is_looked_up, looked_up_case, misfit, replaced, stays, unclosed}
-use Rattle.c11_macros.specs.Hidden.{Hidden, Provenance}
+use Rattle.std.proofs.Common.{◌≡◌, ℕ, zero, ◌<◌, Bool, true, false, List, [], ◌∷◌, length, codes, Option, Some, None, refl, ap, ◌∙◌, if◌then◌else◌}
+use Rattle.c11_macros.specs.Call.{Call, call_of}
+use Rattle.c11_macros.specs.Expansion.{call_case, case_of, defined_case, form_case, is_looked_up, looked_up_case, replaced, stays, unclosed}
+use Rattle.c11_macros.specs.Hidden.{Hidden}
 use Rattle.c11_macros.specs.Macros.{Definition, Form, Macros, function_like, object_like}
 use Rattle.sc_model.specs.Bytes.{same_bytes}
 
@@ -44,13 +42,6 @@ module _ {P : Type 0} (macros : Macros) (t : Hidden P) where
         pub case-open : call_of (length parameters) zero us ≡ None → case_of macros t (u ∷ us) ≡ unclosed
         case-open none = case-call None none
 
-        pub case-misfit : (call : Call P) → call_of (length parameters) zero us ≡ Some call → arguments_for parameters variadic call.arguments ≡ None → case_of macros t (u ∷ us) ≡ misfit call.rest
-        case-misfit call some none = case-call (Some call) some ∙ ap (fitted_case d call.close call.rest) none
-
-        pub case-called : (call : Call P) (arguments : List (List (Hidden P))) → call_of (length parameters) zero us ≡ Some call → arguments_for parameters variadic call.arguments ≡ Some arguments
-            → case_of macros t (u ∷ us) ≡ called d arguments call.close call.rest
-        case-called call arguments some fit = case-call (Some call) some ∙ ap (fitted_case d call.close call.rest) fit
-
 -- ---- names that are not defined
 
 -- the token is no defined name, or hides it
@@ -63,9 +54,3 @@ undefined-stays macros t rest undefined = by (is_looked_up t) undefined
     by : (b : Bool) → (b ≡ true → macros t.spelling ≡ None) → looked_up_case macros b t.spelling rest ≡ stays
     by true none = ap (λ o. defined_case o rest) (none refl)
     by false none = refl
-
--- a list without defined names stays as it is
-pub undefined-expands : {P : Type 0} (provenance : Provenance P) (macros : Macros) (ts : List (Hidden P)) → All (IsUndefined macros) ts → Expands provenance macros ts (Ok ts)
-undefined-expands provenance macros [] undefined = empty
-undefined-expands provenance macros (t ∷ ts) undefined =
-    stay (undefined-stays macros t ts (All-head (IsUndefined macros) t ts undefined)) (undefined-expands provenance macros ts (All-tail (IsUndefined macros) t ts undefined))

@@ -158,10 +158,3 @@ module _ {P : Type 0} (provenance : Provenance P) (macros : Macros) where
     pub size-is : (s : State P) (r : Answer) (c : Completes provenance macros s r) → size s ≡ suc (steps c)
     unfolding size
     size-is s r c = ap suc (only (ends s).1 r c).1
-
--- tables that define each name alike leave as many steps
-pub size-same : {P : Type 0} (provenance : Provenance P) (macros other : Macros) (names others : List (List ℕ)) (within : IsWithin names macros) (within_other : IsWithin others other)
-    → ((name : List ℕ) → macros name ≡ other name) → (s : State P) → size provenance macros names within s ≡ size provenance other others within_other s
-size-same {P} provenance macros other names others within within_other same s =
-    subst (λ table. (too : IsWithin others table) → size provenance macros names within s ≡ size provenance table others too s) (λ i name. same name i)
-    (λ too. let e = ends provenance macros others too s in size-is provenance macros names within s e.0 e.1 ∙ sym (size-is provenance macros others too s e.0 e.1)) within_other

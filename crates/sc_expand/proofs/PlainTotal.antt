@@ -60,12 +60,6 @@ total-less (arity ∷ arities) f g (option ∷ config) is le less =
     (λ option below. total-le arities (λ c. f (option ∷ c)) (λ c. g (option ∷ c)) (λ c config. le (option ∷ c) (config-cons arity option arities c below config)))
     (total-less arities (λ c. f (option ∷ c)) (λ c. g (option ∷ c)) config (config-tail arity option arities config is) (λ c config. le (option ∷ c) (config-cons arity option arities c (is.each 0 (omega arith)) config)) less)
 
-pub total-same : (arities : List ℕ) (f g : List ℕ → ℕ) → ((c : List ℕ) → IsConfig arities c → g c ≡ f c) → total arities g ≡ total arities f
-total-same arities f g same =
-    let less = total-le arities f g (λ c config. omega (arith, same c config)) in
-    let more = total-le arities g f (λ c config. omega (arith, same c config)) in
-    omega arith
-
 -- ---- sums over the configurations that pass a test
 
 abbrev pub total_of : List ℕ → (List ℕ → Bool) → (List ℕ → ℕ) → ℕ

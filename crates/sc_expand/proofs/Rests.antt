@@ -1,8 +1,7 @@
 -- What drops out of the frame on top, with all that is next for refused configurations alone, and
 -- what does not: no configuration that was not refused moves.
-use Rattle.std.proofs.Common.{◌≡◌, ℕ, zero, suc, ◌<◌, ◌-◌, ◌&&◌, Bool, true, false, true≢false, List, [], ◌∷◌, ◌++◌, All, drop, length, map, take, length-append, append-nil, Option, Some, None, slice_get, sum_by, refl, sym, ap, subst, ◌∙◌, arith, if◌then◌else◌}
+use Rattle.std.proofs.Common.{◌≡◌, ℕ, zero, suc, ◌<◌, ◌-◌, ◌&&◌, Bool, true, false, true≢false, List, [], ◌∷◌, ◌++◌, All, drop, length, map, take, length-append, append-nil, Option, Some, None, slice_get, refl, sym, ap, subst, ◌∙◌, arith, if◌then◌else◌}
 use Rattle.std.proofs.lemmas.List.Elements.{All-head, All-pop, All-tail}
-use Rattle.std.proofs.lemmas.List.Sums.{sum_by-append}
 use Rattle.c11_macros.specs.Hidden.{Provenance}
 use Rattle.c11_macros.specs.Macros.{Macros}
 use Rattle.sc_base.specs.declared.id.Cond.{Cond}
@@ -22,7 +21,7 @@ use Rattle.sc_expand.specs.declared.frame.Frame.{Frame}
 use Rattle.sc_expand.specs.Machine.{IsHeldExpansion, Progress, Stands, at, fails, gone, rests, state_in, steps}
 use Rattle.sc_expand.specs.Plain.{Fails, Moves}
 use Rattle.sc_expand.specs.Running as running
-use Rattle.sc_expand.specs.Running.{IsDropped, IsReady, IsRested, bottom, bottom_by, frame_weight, last_of, next_by, next_of, put_by, weight}
+use Rattle.sc_expand.specs.Running.{IsDropped, IsReady, IsRested, bottom, bottom_by, last_of, next_by, next_of, put_by}
 use Rattle.sc_expand.specs.Seen.{AreHeld, Grows, IsHeldCall, IsHeldEnclosing, IsHeldFrame, IsHeldRefusals, Stores, calls_at, failures_at, seen_at, view_at, waiting_at}
 use Rattle.sc_expand.specs.Turn.{At}
 use Rattle.sc_guarded.specs.Items.{items_at}
@@ -282,14 +281,6 @@ module _ (st : Stores) (e : Expansion) (cond : Cond) (never : (c : List ℕ) →
       (rested-tokens n work (All-tail Same item (take n work) same))
 
 -- ---- it grows lighter
-
-pub weight-dropped : (e after : Expansion) → IsDropped e after → weight after < weight e
-weight-dropped e after (running.call k calls work out below) =
-    omega (arith, ap length calls, length-append after.top.calls.items (k ∷ []), ap length work, ap (λ b. sum_by (λ (o : Enclosing). frame_weight o.frame) b.items) below)
-weight-dropped e after (running.token item none later work out below) =
-    omega (arith, ap length none, ap length later, ap length work, ap (λ b. sum_by (λ (o : Enclosing). frame_weight o.frame) b.items) below)
-weight-dropped e after (running.argument o none empty below top) =
-    omega (arith, ap length none, ap length empty, ap frame_weight top, ap (sum_by (λ (o : Enclosing). frame_weight o.frame)) below, sum_by-append (λ (o : Enclosing). frame_weight o.frame) after.below.items (o ∷ []))
 
 -- ---- whether not all that have what is next were refused
 

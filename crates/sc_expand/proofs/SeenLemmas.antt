@@ -17,8 +17,8 @@ use Rattle.sc_expand.specs.declared.frame.Enclosing.{Enclosing}
 use Rattle.sc_expand.specs.declared.frame.Frame.{Frame}
 use Rattle.sc_expand.specs.declared.refusals.Refusals.{Refusals}
 use Rattle.sc_expand.specs.Machine.{IsHeldExpansion, at}
-use Rattle.sc_expand.specs.Plain.{Waiting, expanding}
-use Rattle.sc_expand.specs.Seen.{AreHeld, Grows, IsHeldCall, IsHeldEnclosing, IsHeldFrame, IsHeldRefusals, IsHeldPartIn, IsHeldTemplate, IsHeldToken, Stores, calls_at, failures_at, seen_at, seen_failure, seen_template, seen_wanted, state_at, state_of, view_at, waiting_at}
+use Rattle.sc_expand.specs.Plain.{Waiting}
+use Rattle.sc_expand.specs.Seen.{AreHeld, Grows, IsHeldCall, IsHeldEnclosing, IsHeldFrame, IsHeldRefusals, IsHeldPartIn, IsHeldTemplate, IsHeldToken, Stores, calls_at, failures_at, seen_at, seen_failure, seen_template, seen_wanted, view_at, waiting_at}
 use Rattle.sc_guarded.proofs.ItemLemmas.{faults_at-Keeps, items_at-append}
 use Rattle.sc_guarded.specs.Items.{items_at}
 use Rattle.sc_model.proofs.SetLemmas.{Keeps-refl, Keeps-trans}
@@ -180,17 +180,6 @@ module _ {old new : Stores} (grows : Grows old new) where
         let work = seen_at-Grows frame.work held.work in
         let calls = calls_at-Grows frame.calls.items held.calls in
         λ i. record { out = out i; work = work i; calls = calls i }
-
-    pub state_at-Grows : {files : ℕ} (below : List Enclosing) (top : Frame) → All (IsHeldEnclosing old files) below → IsHeldFrame old files top → state_at new below top c ≡ state_at old below top c
-    state_at-Grows {files} [] top held here = ap state_of (view_at-Grows top here)
-    state_at-Grows {files} (e ∷ es) top held here =
-        let first = All-head (IsHeldEnclosing old files) e es held in
-        let out = seen_at-Grows e.frame.out first.frame.out in
-        let work = seen_at-Grows e.frame.work first.frame.work in
-        let call = waiting_at-Grows e.call first.call in
-        let inner = state_at-Grows es top (All-tail (IsHeldEnclosing old files) e es held) here in
-        let other = ap state_of (view_at-Grows e.frame first.frame) in
-        λ i. if grows.sets.at e.call.cond.0 c first.call.own listed i then expanding (out i) (work i) (call i) e.parameter (inner i) else other i
 
     pub failures_at-Grows : (faults : List Fault) → All (λ f. IsCond old.sets f.cond.0) faults → failures_at new.sets faults c ≡ failures_at old.sets faults c
     failures_at-Grows faults own = ap (map seen_failure) (faults_at-Keeps faults c grows.sets own listed)

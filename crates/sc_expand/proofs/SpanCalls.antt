@@ -1,25 +1,19 @@
 -- What the first items of a list tell of the call of the name that stands first, where two
 -- configurations have the same of them.
 use Rattle.std.proofs.Common.{◌≡◌, ◌⊎◌, inl, inr, ℕ, zero, suc, ◌+◌, ◌-◌, ◌<◌, ◌≤◌, Bool, true, false, List, [], ◌∷◌, ◌++◌, codes, drop, length, map, take, refl, sym, ap, ◌∙◌, arith, Option, Some, None, if◌then◌else◌}
-use Rattle.std.proofs.lemmas.List.{length-map, length-take-le, take-append-le}
+use Rattle.std.proofs.lemmas.List.{length-map, take-append-le}
 use Rattle.std.proofs.lemmas.List.Elements.{All-drop, All-head, All-tail}
-use Rattle.std.proofs.lemmas.Simd.{map-map}
 use Rattle.std.specs.Option.{option_map}
 use Rattle.c11_macros.specs.Call.{Role, opening, closing, comma, other, role_of}
 use Rattle.sc_base.specs.declared.id.Cond.{Cond}
 use Rattle.sc_base.specs.declared.token.Token.{Token}
 use Rattle.sc_base.specs.Seen.{text_at}
-use Rattle.sc_expand.proofs.Behind.{length-behind, places-behind, same-behind}
 use Rattle.sc_expand.specs.Alike.{IsSameCall}
-use Rattle.sc_expand.specs.Having.{behind_at, tokens_in}
+use Rattle.sc_expand.specs.Having.{tokens_in}
 use Rattle.sc_guarded.specs.Items.{items_at}
 use Rattle.sc_hoist.specs.Alike.{AreAlike, IsAlike}
 use Rattle.sc_hoist.specs.Calls.{bare, call_end, call_end_at, call_length, call_places, closed, closing_at, closing_step, opened_end, opened_length, spelled_at, still}
 use Rattle.sc_hoist.specs.Places.{places_from}
-use Rattle.sc_hoist.specs.Reading.{step, takes, role_in}
-use Rattle.sc_hoist.specs.declared.state.State.{State}
-use Rattle.sc_hoist.specs.declared.state.State.TheVariants.{Alone, Inside, Closed, Bare}
-use Rattle.sc_hoist.proofs.CallLemmas.{length_from, length_from-step}
 use Rattle.sc_model.specs.Bytes.{same_bytes}
 use Rattle.sc_model.specs.Sets.{Sets}
 use Rattle.sc_subst.specs.declared.hidden.Hidden.{Hidden}
@@ -201,77 +195,3 @@ module _ (s : Sets) (c d : List ℕ) where
 
         at : (e : List ℕ) → First e list x → Opened list e
         at e it = onto e it (by (closing_at 0 it.0))
-
-    -- no token of the span follows it
-    pub span-none : (span : ℕ) (list : List (Cond × Hidden)) → AreAlike s c d (take span list) → items_at s (drop 1 (take span list)) c ≡ [] → items_at s (drop 1 (take span list)) d ≡ []
-    span-none span list alike none = sym (behind-alike span list alike) ∙ none
-
--- ---- the items of a call, as they stand from the end of the list
-
-length_from-within : (state : State) (ts : List (List ℕ)) → length_from state ts ≤ length ts
-length_from-within Alone [] = omega arith
-length_from-within (Inside depth) [] = omega arith
-length_from-within Closed [] = omega arith
-length_from-within Bare [] = omega arith
-length_from-within state (t ∷ ts) = let e = length_from-step state t ts in omega (arith, e, by (takes (role_in t) state) (length_from-within (step (role_in t) state) ts))
-  where
-    by : (b : Bool) → length_from (step (role_in t) state) ts ≤ length ts → (if b then suc (length_from (step (role_in t) state) ts) else 0) ≤ suc (length ts)
-    by true less = omega arith
-    by false less = omega arith
-
-pub call_length-within : (ts : List (List ℕ)) → call_length ts ≤ length ts
-call_length-within ts = length_from-within Alone ts
-
-module _ (s : Sets) (names : List (List ℕ)) where
-  -- how many items of a list the configuration has in the call of the name that stands first
-  abbrev pub call_items : List (Cond × Hidden) → List ℕ → ℕ
-  call_items list e = suc (call_length (spelled_at s names (drop 1 (tokens_in list)) e))
-
-  module _ (items : List (Cond × Hidden)) (e : List ℕ) where
-    -- places in a list of tokens are those in the list with the hide sets
-    places-tokens : (m : ℕ) → places_from s m (map (λ (x : Cond × Token). x.0) (tokens_in items)) e ≡ places_from s m (map (λ (x : Cond × Hidden). x.0) items) e
-    places-tokens m = ap (λ (conds : List Cond). places_from s m conds e) (map-map (λ (x : Cond × Token). x.0) (λ (x : Cond × Hidden). (x.0, x.1.token)) items)
-
-    length-places : {T : Type 0} (list : List (Cond × T)) (m : ℕ) → length (places_from s m (map (λ (x : Cond × T). x.0) list) e) ≡ length (behind_at s list e)
-    length-places list m = sym (length-map (places_from s m (map (λ (x : Cond × _). x.0) list) e) (λ (i : ℕ). length list + m - (i + 1))) ∙ ap length (places-behind s e list m)
-
-    -- a call takes no more places than there are
-    call-fits : call_length (spelled_at s names (tokens_in items) e) ≤ length (behind_at s items e)
-    call-fits =
-        let tokens : List (Cond × Token) = tokens_in items in
-        let spelled = length-map (items_at s tokens e) (λ (t : Token). text_at names t.spelling.0) in
-        let here = length-behind s e tokens in
-        let there = sym (length-places tokens 1) ∙ (ap length (places-tokens 1) ∙ length-places items 1) in
-        omega (arith, call_length-within (spelled_at s names tokens e), spelled, here, there)
-
-  -- calls of the same places are of the same items
-  pub record CallsAlike (c d : List ℕ) (list : List (Cond × Hidden)) : Type 0 where
-    pub count : call_items list c ≡ call_items list d
-    pub items : take (call_items list c) (behind_at s list c) ≡ take (call_items list c) (behind_at s list d)
-    pub within : call_items list c ≤ length (behind_at s list c)
-    pub within_other : call_items list c ≤ length (behind_at s list d)
-
-  pub calls-alike : (c d : List ℕ) (item : Cond × Hidden) (items : List (Cond × Hidden)) → s.has item.0.0 c ≡ true → s.has item.0.0 d ≡ true
-      → call_places s names (tokens_in (item ∷ items)) 0 c ≡ call_places s names (tokens_in (item ∷ items)) 0 d → CallsAlike c d (item ∷ items)
-  calls-alike c d item items has has_d same =
-      let P : List ℕ → List ℕ = λ e. places_from s 1 (map (λ (x : Cond × Token). x.0) (tokens_in items)) e in
-      let rest : take (long c) (P c) ≡ take (long d) (P d) = cc in
-      let count : long c ≡ long d = omega (arith, ap length rest, length-take-le (long c) (P c) (fits c), length-take-le (long d) (P d) (fits d)) in
-      let k : ℕ = long c in
-      let here : take k (P c) ≡ take k (P d) = rest ∙ sym (ap (λ (n : ℕ). take n (P d)) count) in
-      let both = same-behind s c d items 1 k (ap (take k) (sym (places-tokens items c 1)) ∙ (here ∙ ap (take k) (places-tokens items d 1))) in
-      record {
-        count = ap suc count;
-        items = ap (take (suc k)) (all c has) ∙ (ap (λ (l : List ℕ). length items ∷ l) both ∙ sym (ap (take (suc k)) (all d has_d)));
-        within = omega (arith, call-fits items c, ap length (all c has));
-        within_other = omega (arith, call-fits items d, ap length (all d has_d));
-      }
-    where
-      long : List ℕ → ℕ
-      long e = call_length (spelled_at s names (tokens_in items) e)
-
-      fits : (e : List ℕ) → long e ≤ length (places_from s 1 (map (λ (x : Cond × Token). x.0) (tokens_in items)) e)
-      fits e = omega (arith, call-fits items e, ap length (places-tokens items e 1), length-places items e items 1)
-
-      all : (e : List ℕ) → s.has item.0.0 e ≡ true → behind_at s (item ∷ items) e ≡ length items ∷ behind_at s items e
-      all e is = ap (λ (b : Bool). if b then length items ∷ behind_at s items e else behind_at s items e) is

@@ -1,6 +1,6 @@
 -- What a text expands to stands on one line, where its tokens and the macros' lists do; and which
 -- macros' lists do.
-use Rattle.std.proofs.Common.{◌≡◌, ℕ, ◌&&◌, not, Bool, true, false, List, [], ◌∷◌, ◌++◌, All, IfOk, map, codes, decimal, Option, Some, None, Result, Ok, Err, refl, sym, ap, subst, ◌∙◌, slice_get, if◌then◌else◌}
+use Rattle.std.proofs.Common.{◌≡◌, ℕ, ◌&&◌, not, Bool, true, false, List, [], ◌∷◌, ◌++◌, All, IfOk, map, codes, decimal, Option, Some, None, Result, Ok, Err, refl, sym, subst, ◌∙◌, slice_get, if◌then◌else◌}
 use Rattle.std.proofs.lemmas.Bool.{true_from_ne_false, true≢false}
 use Rattle.std.proofs.lemmas.List.Elements.{All-from_recursion, All-map, All-weaker, recursion_from_All}
 use Rattle.std.specs.List.{AllByRecursion as Every}
@@ -13,19 +13,14 @@ use Rattle.c11_macros.specs.Macros.{Definition, Form, Item, Macros, definition_n
 use Rattle.c11_macros.specs.Text.{TextExpands, place_alone, text_of_answer, token_of, unhidden}
 use Rattle.c11_tokens.specs.Lex.{is_identifier_kind}
 use Rattle.sc_base.specs.declared.id.Cond.{Cond}
-use Rattle.sc_base.specs.declared.token.Token as base_token
-use Rattle.sc_base.specs.Seen.{seen, text_at}
 use Rattle.sc_expand.proofs.PlainLines.{both, decimal-plain, escaped-plain, every-map, quoted-plain, stays-on_one_line}
-use Rattle.sc_expand.specs.Answers.{IsExpanded, Stands}
 use Rattle.sc_expand.specs.OneLine.{AreOneLine, IsOneLine, IsOneLineList}
-use Rattle.sc_guarded.specs.declared.expanded.Expanded.{Expanded}
-use Rattle.sc_guarded.specs.Items.{faults_at, items_at, seen_fault}
+use Rattle.sc_guarded.specs.Items.{items_at}
 use Rattle.sc_model.specs.declared.cause.Cause.{Cause}
 use Rattle.sc_model.specs.declared.cause.Cause.TheVariants.{BadDefine, ProtectedName}
 use Rattle.sc_model.specs.declared.variable_option.VariableOption.{VariableOption}
 use Rattle.sc_model.specs.declared.variable_option.VariableOption.TheVariants.{Number, Undefined}
 use Rattle.sc_model.specs.Bytes.{has_no_newline, same_bytes}
-use Rattle.sc_model.specs.Fault.{Fault}
 use Rattle.sc_model.specs.Sets.{IsConfig, IsNever, Sets}
 use Rattle.sc_model.specs.Space.{Space, Variable}
 use Rattle.sc_model.specs.Token.{Place, Token}
@@ -66,10 +61,6 @@ one_line-from macros h = record { each = λ name d is. subst (λ (o : Option Def
 some-from : (o : Option Definition) → ((d : Definition) → o ≡ Some d → PlainDefinition d) → IfSome o PlainDefinition
 some-from None h = tt
 some-from (Some d) h = h d refl
-
--- one item alone
-one-plain : (item : Item) → PlainItem item → All PlainItem (item ∷ [])
-one-plain item h = All-from_recursion PlainItem (item ∷ []) (h, tt)
 
 -- a macro more, in the place of another or not, and a macro less
 pub update-one_line : (macros : Macros) (name : List ℕ) (o : Option Definition) → AreOneLine macros → IfSome o PlainDefinition → AreOneLine (update same_bytes macros name o)
@@ -171,10 +162,6 @@ initial-one_line space config date time =
 
 -- ---- the lists of all configurations
 
-every-unmap : {A B : Type 0} (C : B → Type 0) (g : A → B) (xs : List A) → Every C (map g xs) → Every (λ x. C (g x)) xs
-every-unmap C g [] h = tt
-every-unmap C g (x ∷ xs) h = (h.0, every-unmap C g xs h.1)
-
 passes-every : {A : Type 0} (s : Sets) (test : A → Bool) (list : List (Cond × A)) → Every (λ (item : Cond × A). IsNever s item.0.0 → ⊥) list
     → ((c : List ℕ) → IsConfig s.arities c → Every (λ x. test x ≡ true) (items_at s list c)) → Every (λ (item : Cond × A). test item.1 ≡ true) list
 passes-every s test [] some h = tt
@@ -197,16 +184,3 @@ pub passes-all : {A : Type 0} (s : Sets) (test : A → Bool) (list : List (Cond 
 passes-all {A} s test list some h =
     All-from_recursion (λ (item : Cond × A). test item.1 ≡ true) list
     (passes-every s test list (recursion_from_All (λ (item : Cond × A). IsNever s item.0.0 → ⊥) list some) (λ c listed. recursion_from_All (λ x. test x ≡ true) (items_at s list c) (h c listed)))
-
--- the tokens of a configuration that is not refused are spelled on one line, where what its text
--- expands to is
-pub expanded-stays_on_one_line : (s : Sets) (names files : List (List ℕ)) (e : Expanded) (macros : Macros) (text : List Token) (c : List ℕ) → IsExpanded s names files e macros text c → faults_at s e.faults.items c ≡ []
-    → ((output : List Token) → TextExpands macros text (Ok output) → All PlainToken output) → All (λ (t : base_token.Token). has_no_newline (text_at names t.spelling.0) ≡ true) (items_at s e.list c)
-expanded-stays_on_one_line s names files e macros text c expanded none plain = by expanded.answer expanded.expands expanded.stands
-  where
-    by : (answer : Result (List Token) Fault) → TextExpands macros text answer → Stands answer (map (seen names files) (items_at s e.list c)) (map (seen_fault files) (faults_at s e.faults.items c))
-        → All (λ (t : base_token.Token). has_no_newline (text_at names t.spelling.0) ≡ true) (items_at s e.list c)
-    by (Ok output) d stands =
-        All-from_recursion (λ (t : base_token.Token). has_no_newline (text_at names t.spelling.0) ≡ true) (items_at s e.list c)
-        (every-unmap PlainToken (seen names files) (items_at s e.list c) (subst PlainTokens (sym stands.0) (recursion_from_All PlainToken output (plain output d))))
-    by (Err fault) d stands = let empty : [] ≡ fault ∷ [] = sym (ap (map (seen_fault files)) none) ∙ stands in absurd (cc)

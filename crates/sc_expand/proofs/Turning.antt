@@ -2,10 +2,8 @@
 use Rattle.std.proofs.Common.{◌≡◌, inl, inr, ℕ, suc, ◌≤◌, Bool, true, false, true≢false, List, [], ◌∷◌, ◌++◌, All, length, append-nil, Option, Some, None, option_to_list, slice_get, refl, sym, ap, subst, ◌∙◌, arith, if◌then◌else◌}
 use Rattle.std.proofs.lemmas.List.Elements.{All-head, All-pop}
 use Rattle.std.specs.Global.{Vec}
-use Rattle.c11_macros.specs.Hidden.{Provenance}
 use Rattle.c11_macros.specs.Macros.{Macros}
 use Rattle.sc_base.specs.declared.id.Cond.{Cond}
-use Rattle.sc_base.specs.declared.place.Place.{Place}
 use Rattle.sc_expand.proofs.AlikeFilling.{alike-leave}
 use Rattle.sc_expand.proofs.Dropping.{IsNone}
 use Rattle.sc_expand.proofs.MachineCalls.{calls_at-append, last-alone}
@@ -215,9 +213,6 @@ module _ (st : Stores) (e after : Expansion) (same : (bottom after).work ≡ (bo
 -- ---- turns
 
 module _ {old new : Stores} (grows : Grows old new) (files : List (List ℕ)) (macros : List ℕ → Macros) (e after : Expansion) (is : IsExpansion old (length files) e) where
-  prov : Provenance Place
-  prov = provenance_of files
-
   -- a turn of the configurations that have what is next
   next-turn : (next : Cond) → next_of e ≡ Some next → IsReady old.sets e → IsAsLong e after → ((c : List ℕ) → IsConfig old.sets.arities c → Rest old new e after c)
       → (IsUncalled e → LooksUpNone old.sets old.names macros e → Passes new.sets e after)

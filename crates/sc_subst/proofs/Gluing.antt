@@ -18,7 +18,7 @@ use Rattle.sc_subst.specs.declared.glue.Piece.TheVariants as piece
 use Rattle.sc_subst.specs.declared.hidden.Hidden.{Hidden}
 use Rattle.sc_subst.specs.declared.part.Part.{Part}
 use Rattle.sc_subst.specs.declared.part.Part.TheVariants as part
-use Rattle.sc_subst.specs.Glue.{IsHeldPiece, begins_operator, is_operator, seen_piece, tokens_behind}
+use Rattle.sc_subst.specs.Glue.{begins_operator, is_operator, seen_piece, tokens_behind}
 use Rattle.sc_subst.specs.Parts.{AreHeldArguments, IsHeldPart, filled_in, seen_arguments, seen_part}
 use Rattle.sc_subst.specs.Seen.{IsHeldHidden, seen_hidden}
 use Rattle.sc_subst.proofs.Later.{IsHeldHidden-Extends}
@@ -33,11 +33,6 @@ part_later {names} {later} {sets} {later_sets} (part.Argument n space) held e s 
 
 pub parts_later : {names later : List (List ℕ)} {sets later_sets : List (List Name)} (ps : List Part) → All (IsHeldPart names sets) ps → Extends names later → Extends sets later_sets → All (IsHeldPart later later_sets) ps
 parts_later {names} {later} {sets} {later_sets} ps held e s = λ k d h. part_later (get_or ps k d) (held k d h) e s
-
-pub piece_later : {names later : List (List ℕ)} {sets later_sets : List (List Name)} (p : Piece) → IsHeldPiece names sets p → Extends names later → Extends sets later_sets → IsHeldPiece later later_sets p
-piece_later {names} {later} {sets} {later_sets} (piece.Token t) held e s = IsHeldHidden-Extends t held e s
-piece_later {names} {later} {sets} {later_sets} piece.Operator held e s = tt
-piece_later {names} {later} {sets} {later_sets} piece.Placemarker held e s = tt
 
 pub filled_append : {P : Type 0} (xs : List (List (model.Hidden P))) (one two : List (substitution.Slot P)) → filled_in xs (one ++ two) ≡ filled_in xs one ++ filled_in xs two
 filled_append {P} xs [] two = refl

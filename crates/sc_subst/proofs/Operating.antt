@@ -76,9 +76,6 @@ AreMade-insert sets known what made are is = record {
   ];
 }
 
-pub AreMade-empty : (sets : List (List Name)) → AreMade sets []
-AreMade-empty sets = record { each = λ e has. absurd (omega (arith, has.1)) }
-
 -- ---- as the store grows
 
 operation_later : {old new : List (List Name)} (what : SetOperation) → Extends old new → IsSetOperation old what → IsSetOperation new what

@@ -1,7 +1,7 @@
 -- A token that was made of two spellings is what `##` makes.
-use Rattle.std.proofs.Common.{◌≡◌, ℕ, List, ◌++◌, Some, None, Ok, Err, sym, ap, ◌∙◌}
+use Rattle.std.proofs.Common.{◌≡◌, ℕ, List, ◌++◌, Some, Ok, sym, ap, ◌∙◌}
 use Rattle.c11_macros.specs.Hidden as model
-use Rattle.c11_macros.specs.Hidden.{HideSet, failure_at, meet}
+use Rattle.c11_macros.specs.Hidden.{meet}
 use Rattle.c11_macros.specs.Substitution.{pasted, pasted_as, piece}
 use Rattle.c11_tokens.specs.Relex.{relexed}
 use Rattle.sc_base.specs.declared.id.Name.{Name}
@@ -9,7 +9,6 @@ use Rattle.sc_base.specs.declared.place.Place.{Place}
 use Rattle.sc_base.specs.declared.token.Token.{Token}
 use Rattle.sc_base.proofs.Growth.{Extends-trans}
 use Rattle.sc_macro.specs.Seen.{text_of}
-use Rattle.sc_model.specs.declared.cause.Cause.TheVariants.{BadPaste}
 use Rattle.sc_model.specs.declared.kind.Kind.{Kind}
 use Rattle.sc_model.specs.Growth.{Extends}
 use Rattle.sc_subst.specs.declared.hidden.Hidden.{Hidden}
@@ -42,6 +41,3 @@ module _ (names : List (List ℕ)) (sets : List (List Name)) (left right : Hidde
         ∙ (ap (λ h. Ok (piece (record { kind = kind; spelling = spelling; space = left.token.space; place = left.token.place; hide = h }))) both
         ∙ ap (λ x. Ok (piece x)) (sym (made_seen (hide_at n z hide.0) made en))));
   }
-
-  pub pasted_none : None ≡ relexed spelling → Lasting names sets (λ n s. (head : model.Hidden Place) → pasted head (seen_hidden n s left) (seen_hidden n s right) ≡ Err (failure_at BadPaste head))
-  pasted_none is = record { at = λ n z en es head. ap (pasted_as head (seen_hidden n z left) (seen_hidden n z right)) (ap relexed (spelled_later en) ∙ sym is) }
