@@ -9,11 +9,8 @@ use Rattle.std.specs.Option.{option_and_then, option_or}
 use Rattle.std.specs.Prelude.{◌⊎◌, replicate, string_bytes, AllPairs, slice_index, if◌then◌else◌}
 use Rattle.c11_directives.specs.Pre.{Includes, Pre, context_of}
 use Rattle.c11_macros.specs.Macros.{Definition, Macros, definition_of, definition_named, initial_macros, predefined_macros, variable_definition}
-use Rattle.c11_parsing.specs.Classes.{HasMoreClasses, IsClass, Input}
 use Rattle.sc_core.specs.Cut.{cut_space, cut_variables, first_config}
-use Rattle.sc_core.specs.Ordinary.{HasManyClasses}
-use Rattle.sc_core.specs.Texts.{HasManyBranches}
-use Rattle.sc_expand.specs.Stops.{HasConfigs}
+use Rattle.sc_core.specs.Ordinary.{HasManyConfigs}
 use Rattle.sc_model.specs.declared.variable_option.VariableOption.{VariableOption}
 use Rattle.sc_model.specs.Bytes.{same_bytes}
 use Rattle.sc_model.specs.Fault.{Fault, first_place}
@@ -257,29 +254,12 @@ pre-cut {space} {files} {main} {config} listed pre = record {
 
 -- ---- it never has more branches than are allowed
 
-module _ (arities only : List ℕ) (one : (c : List ℕ) → IsConfig arities c → c ≡ only) where
-  pub one-few : (count : ℕ) → 2 ≤ count → HasConfigs arities count → ⊥
-  one-few count least has =
-      let configs = has.configs in
-      let many = has.many in
-      has.apart 0 1 only (omega arith) (omega arith) (one (get_or configs 0 only) (has.listed 0 only (omega arith)) ∙ sym (one (get_or configs 1 only) (has.listed 1 only (omega arith))))
-
-  pub one-class : (input : Input) (branches : ℕ) → input.arities ≡ arities → 1 ≤ branches → HasMoreClasses input branches → ⊥
-  one-class input branches same least has =
-      let configs = has.configs in
-      let more = has.more in
-      let a = get_or configs 0 only in
-      let b = get_or configs 1 only in
-      let first = has.distinct.classes 0 only (omega arith) in
-      let second = has.distinct.classes 1 only (omega arith) in
-      let a_is = one a (subst (λ ns. IsConfig ns a) same first.1.live.is_config) in
-      let b_is = one b (subst (λ ns. IsConfig ns b) same second.1.live.is_config) in
-      has.distinct.different 0 1 only (omega arith) (omega arith) first.0 first.1 (subst (λ c. IsClass input has.place c first.0) (a_is ∙ sym b_is) first.1)
-
-pub never-fills : (space : Space) (holds : Option Files) (main : List ℕ) → ((c : List ℕ) → IsConfig (arities_of space) c → c ≡ first_config space) → IsSound space
-    → HasManyBranches holds space main ⊎ HasManyClasses holds space main → ⊥
-never-fills space holds main one sound (inl many) = let least = sound.branches_least in one-few (arities_of space) (first_config space) one (space.branches + 1) (omega arith) many.configs
-never-fills space holds main one sound (inr classes) = one-class (arities_of space) (first_config space) one classes.input space.branches classes.arities sound.branches_least classes.more
+pub never-fills : (space : Space) → ((c : List ℕ) → IsConfig (arities_of space) c → c ≡ first_config space) → IsSound space → HasManyConfigs space → ⊥
+never-fills space one sound has =
+    let least = sound.branches_least in
+    let many = has.many in
+    let first = first_config space in
+    has.apart 0 1 first (omega arith) (omega arith) (one (get_or has.configs 0 first) (has.listed 0 first (omega arith)) ∙ sym (one (get_or has.configs 1 first) (has.listed 1 first (omega arith))))
 
 replicate-first : (space : Space) (n : ℕ) → length space.variables ≡ n → replicate n 0 ≡ first_config space
 replicate-first space n long = by space.variables n long

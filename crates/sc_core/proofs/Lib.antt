@@ -1,5 +1,6 @@
 pub mod Cuts
 pub mod Failing
+pub mod Filling
 pub mod LaidParts
 pub mod ParsedFiles
 pub mod PlainTelling

@@ -5,8 +5,8 @@ use Rattle.std.proofs.lemmas.List.{length-map}
 use Rattle.std.proofs.lemmas.List.Elements.{All-append, All-contains, All-weaker}
 use Rattle.std.proofs.lemmas.Option.{slice_get_within, slice_get-get_or}
 use Rattle.std.proofs.lemmas.Simd.{map-map}
-use Rattle.std.specs.Prelude.{◌+◌, if◌then◌else◌}
-use Rattle.c11_directives.specs.Footprints.{Has, HasFootprints}
+use Rattle.std.specs.Prelude.{◌+◌, ◌&&◌, if◌then◌else◌}
+use Rattle.std.specs.Result.{is_ok}
 use Rattle.c11_directives.specs.Pre.{Pre}
 use Rattle.c11_parsing.specs.Classes.{Input, project}
 use Rattle.c11_parsing.specs.LR.{LR}
@@ -21,10 +21,10 @@ use Rattle.sc_base.specs.declared.stop.Stop.{Stop}
 use Rattle.sc_base.specs.declared.stop.Stop.TheVariants.{BranchesFull, ReadFault, OutOfMemory}
 use Rattle.sc_base.specs.declared.token.Token.{Token}
 use Rattle.sc_base.specs.Seen.{seen, seen_place}
+use Rattle.sc_core.proofs.Filling.{class-configs, config-is, config-not, is_config}
 use Rattle.sc_core.proofs.Translating.{held-main}
-use Rattle.sc_core.specs.Ordinary.{IsC11Parser, IsFileInput, IsPreparedAt, Translates, not_prepared, parsed}
-use Rattle.sc_core.specs.Texts.{AreTranslated, HasAnswers, IsTranslated, Stands, StopsIn}
-use Rattle.sc_expand.specs.Stops.{HasConfigs}
+use Rattle.sc_core.specs.Ordinary.{HasManyBranches, IsC11Parser, IsFileInput, IsPreparedAt, Setting, Translates, not_prepared, parsed}
+use Rattle.sc_core.specs.Texts.{HasAnswers, IsTranslated, Stands, StopsIn, setting_of}
 use Rattle.sc_fork.specs.Choices.{AddsLeaves}
 use Rattle.sc_fork.specs.Owns.{AreC11Tables, IsPlaceOf}
 use Rattle.sc_fork.specs.Parsers.{c11_parser}
@@ -33,7 +33,7 @@ use Rattle.sc_guarded.proofs.ItemLemmas.{faults_at-append, faults_at-Keeps}
 use Rattle.sc_guarded.specs.Items.{faults_at, items_at, seen_fault}
 use Rattle.sc_guarded.specs.Printable.{AreApart, IsShowable, IsShowableFault}
 use Rattle.sc_lalr.specs.declared.tables.Tables as code
-use Rattle.sc_lalr.specs.Tables.{tables_of}
+use Rattle.sc_lalr.specs.Tables.{conflicts_of, tables_of}
 use Rattle.sc_merge.specs.Merges.{tables_with}
 use Rattle.sc_model.proofs.SetLemmas.{IsConfig-Keeps}
 use Rattle.sc_model.specs.Fault.{Fault}
@@ -48,9 +48,8 @@ use Rattle.sc_fork.specs.declared.event.Event.{Event}
 use Rattle.sc_prep.specs.Closes.{has_none, is_empty}
 use Rattle.sc_prep.specs.Contents.{end_of_file}
 use Rattle.sc_prep.specs.declared.prepared.Prepared.{Prepared}
-use Rattle.sc_prep.specs.Footprints.{StopsAtPlace}
 use Rattle.sc_prep.specs.Preprocesses as prep
-use Rattle.sc_prep.specs.Preprocesses.{IsOrdinary, OwnsList, Stops, is_accepted}
+use Rattle.sc_prep.specs.Preprocesses.{IsOrdinary, OwnsList, is_accepted}
 use Rattle.sc_prep.specs.Printable.{CanBeShown}
 use Rattle.sc_show.specs.TreeShows.{AreShowableLeaves, IsShowableLeaf}
 use Rattle.sc_tree.specs.Lines.{Line}
@@ -73,11 +72,15 @@ c11-is {tables} are = record {
   is = refl;
 }
 
+pub c11-conflicts : {tables : code.Tables} (are : AreC11Tables tables) → (c11-parser are).tables.conflicts ≡ conflicts_of tables
+unfolding c11-parser
+c11-conflicts are = refl
+
 abbrev pub item_seen : Sets → (names files : List (List ℕ)) → Cond × Token → Condition × plain.Token
 item_seen s names files item = (s.has item.0.0, seen names files item.1)
 
-abbrev pub file_input : Sets → (names files : List (List ℕ)) → Parser → Prepared → Input
-file_input s names files parser p = record { parser = parser; arities = s.arities; items = map (item_seen s names files) p.list; end = seen_place files p.end; live = s.has p.live.0 }
+abbrev pub file_input : Sets → (names files : List (List ℕ)) → Parser → Prepared → Condition → Input
+file_input s names files parser p live = record { parser = parser; arities = s.arities; items = map (item_seen s names files) p.list; end = seen_place files p.end; live = live }
 
 project-items : (s : Sets) (names files : List (List ℕ)) (c : List ℕ) (list : List (Cond × Token)) → project c (map (item_seen s names files) list) ≡ map (seen names files) (items_at s list c)
 project-items s names files c [] = refl
@@ -112,64 +115,85 @@ empty-is (fault ∷ faults) is = absurd (false≢true is)
 
 module _ (s : Sets) (names files : List (List ℕ)) (p : Prepared) (tables : code.Tables) (are : AreC11Tables tables) (shown : CanBeShown s names files p) where
   abbrev pub input : Input
-  input = file_input s names files (c11-parser are) p
+  input = file_input s names files (c11-parser are) p (s.has p.live.0)
 
-  pub is-input : (lines : List Line) → IsInputOf (tables_with s lines names files) p.list tables p.end p.live input
+  -- live under listed configurations alone
+  abbrev pub listed_input : Input
+  listed_input = file_input s names files (c11-parser are) p (λ c. is_config s.arities c && s.has p.live.0 c)
+
+  input-under : (live : Condition) → ((c : List ℕ) → IsConfig s.arities c → live c ≡ s.has p.live.0 c) → (lines : List Line)
+      → IsInputOf (tables_with s lines names files) p.list tables p.end p.live (file_input s names files (c11-parser are) p live)
   unfolding c11-parser
-  is-input lines = record {
+  input-under live has lines = record {
     states = are.states;
     parser = refl;
     arities = refl;
     ends = refl;
-    has_live = λ c listed. refl;
+    has_live = has;
     tokens = map-map (λ (item : Condition × plain.Token). item.1) (item_seen s names files) p.list;
     conditions = λ c listed. map-map (λ (item : Condition × plain.Token). item.0 c) (item_seen s names files) p.list;
     files = All-weaker (IsShowable s names files) (λ (item : Cond × Token). item.1.place.file.0 < length files) (λ item is. is.file) p.list shown.list;
   }
 
+  pub is-input : (lines : List Line) → IsInputOf (tables_with s lines names files) p.list tables p.end p.live input
+  is-input = input-under (s.has p.live.0) (λ c listed. refl)
+
+  listed-live : (c : List ℕ) → IsConfig s.arities c → listed_input.live c ≡ s.has p.live.0 c
+  listed-live c listed = ap (λ b. b && s.has p.live.0 c) (config-is s.arities c listed)
+
+  pub is-listed-input : (lines : List Line) → IsInputOf (tables_with s lines names files) p.list tables p.end p.live listed_input
+  is-listed-input = input-under listed_input.live listed-live
+
   -- what is parsed where preprocessing accepts the file, by what it gives there
   module _ (space : Space) (main : List ℕ) (outside : Files) (arities : s.arities ≡ arities_of space)
       (ordinary : (config : List ℕ) → IsConfig s.arities config → IsOrdinary s names files p (Pre space outside main config) config)
       (ends : (bytes : List ℕ) → outside main ≡ Some bytes → (config : List ℕ) → IsConfig s.arities config → s.has p.live.0 config ≡ true → seen_place files p.end ≡ end_of_file main bytes) where
+    abbrev setting : Setting
+    setting = setting_of space main (c11-parser are) outside
+
     prepared-tokens : (config : List ℕ) (o : Result (List plain.Token) Fault) (ts : List plain.Token) → o ≡ Ok ts
-        → prep.Stands o (map (seen names files) (items_at s p.list config)) (map (seen_fault files) (faults_at s p.faults.items config)) → project config input.items ≡ ts
+        → prep.Stands o (map (seen names files) (items_at s p.list config)) (map (seen_fault files) (faults_at s p.faults.items config)) → project config listed_input.items ≡ ts
     prepared-tokens config (Ok us) ts is stands = project-items s names files config p.list ∙ (stands.0 ∙ cc)
     prepared-tokens config (Err fault) ts is stands = cc
 
-    pub prepared-at : (config : List ℕ) → IsListed space config → IsPreparedAt space outside main input config
+    accepted-ok : (o : Result (List plain.Token) Fault) → is_accepted o ≡ is_ok o
+    accepted-ok (Ok ts) = refl
+    accepted-ok (Err fault) = refl
+
+    prepared-at : (config : List ℕ) → IsListed space config → IsPreparedAt setting listed_input config
     prepared-at config listed =
         let here = subst (λ ns. IsConfig ns config) (sym arities) listed in
         let o = ordinary config here in
         record {
           answer = o.answer;
           preprocessed = o.preprocessed;
-          live = o.live;
+          live = listed-live config here ∙ (o.live ∙ accepted-ok o.answer);
           tokens = λ ts is. prepared-tokens config o.answer ts is o.stands;
           ends = λ ts bytes is held. ends bytes held config here (o.live ∙ ap is_accepted is);
         }
 
-    pub file-input : IsFileInput space outside main input
-    file-input = record { parser = c11-is are; each = prepared-at }
+    pub file-input : IsFileInput setting listed_input
+    file-input = record {
+      parser = refl;
+      arities = arities;
+      each = prepared-at;
+      unlisted = λ config not. ap (λ b. b && s.has p.live.0 config) (config-not s.arities config (λ is. not (subst (λ ns. IsConfig ns config) arities is)));
+    }
 
   -- why there is no tree of a file that was preprocessed
   pub stops-in : (space : Space) (main : List ℕ) (holds : Option Files) (before after : ℕ) → s.arities ≡ arities_of space
-      → ((outside : Files) → holds ≡ Some outside → IsFileInput space outside main input) → (stop : Stop) → StopsFor input space.branches stop → StopsIn holds before after space main stop
-  stops-in space main holds before after arities is (BranchesFull count) stops = (stops.0, inr (record { input = input; arities = arities; more = stops.1; is_input = is }))
+      → ((outside : Files) → holds ≡ Some outside → IsFileInput (setting_of space main (c11-parser are) outside) listed_input) → (stop : Stop) → StopsFor listed_input space.branches stop
+      → StopsIn (λ s. HasManyBranches s) holds before after space main stop
+  stops-in space main holds before after arities is (BranchesFull count) stops = (
+    stops.0,
+    record {
+      configs = class-configs space listed_input arities stops.1;
+      parser = c11-parser are;
+      why = λ files told. inr (record { c11 = c11-is are; input = listed_input; is_input = is files told; more = stops.1 });
+    },
+  )
   stops-in space main holds before after arities is ReadFault stops = absurd stops
   stops-in space main holds before after arities is OutOfMemory stops = tt
-
--- why there is none, where preprocessing stops
-pub stops-before : (arities : List ℕ) (space : Space) (main : List ℕ) (holds : Option Files) (before after : ℕ) → arities ≡ arities_of space → (stop : Stop) → Stops arities space.branches before after stop
-    → ((outside : Files) → holds ≡ Some outside → StopsAtPlace arities (Has space outside main) space.branches stop) → StopsIn holds before after space main stop
-stops-before arities space main holds before after same (BranchesFull count) stops here = (
-  stops.0,
-  inl (record {
-    configs = subst (λ ns. HasConfigs ns (space.branches + 1)) same stops.1;
-    footprints = λ outside is. subst (λ ns. HasFootprints ns (Has space outside main) (space.branches + 1)) same (here outside is);
-  }),
-)
-stops-before arities space main holds before after same ReadFault stops here = stops
-stops-before arities space main holds before after same OutOfMemory stops here = tt
 
 -- ---- after parsing
 
@@ -232,11 +256,14 @@ module _ (s new : Sets) (keeps : Keeps s new) (names files : List (List ℕ)) (p
   module _ (space : Space) (main : List ℕ) (outside : Files) (arities : s.arities ≡ arities_of space)
       (ordinary : (config : List ℕ) → IsConfig s.arities config → IsOrdinary s names files p (Pre space outside main config) config)
       (ends : (bytes : List ℕ) → outside main ≡ Some bytes → (config : List ℕ) → IsConfig s.arities config → s.has p.live.0 config ≡ true → seen_place files p.end ≡ end_of_file main bytes) where
+    abbrev parsed_setting : Setting
+    parsed_setting = setting_of space main (c11-parser are) outside
+
     abbrev There : List ℕ → Type 0
-    There config = IsTranslated (c11-parser are) space outside main (tables_with new lines names files) result.root all_faults config
+    There config = IsTranslated parsed_setting (tables_with new lines names files) result.root all_faults config
 
     parsed-as : (config : List ℕ) → IsConfig s.arities config → s.has p.live.0 config ≡ true → faults_at s p.faults.items config ≡ [] → (answer : Result Tree Fault)
-        → Translates (c11-parser are) space outside main config answer
+        → Translates parsed_setting config answer
         → LR (c11-parser are) (seen_place files p.end) (project config (map (item_seen s names files) p.list)) answer → There config
     parsed-as config listed live none answer translated lr = record { ordinary = answer; translated = translated; stands = stands-live config listed live none answer lr }
 
@@ -252,15 +279,11 @@ module _ (s new : Sets) (keeps : Keeps s new) (names files : List (List ℕ)) (p
     translated-by config listed (Err fault) pre stands live =
         record { ordinary = Err fault; translated = not_prepared fault pre; stands = ap (map (seen_fault files)) (faults-before config listed live) ∙ stands }
 
-    pub parsed-translated : AreTranslated space outside main (tables_with new lines names files) result.root all_faults
-    parsed-translated = record {
-      parser = c11-parser are;
-      is_c11 = c11-is are;
-      each = λ config listed.
-          let now = subst (λ ns. IsConfig ns config) (sym arities) listed in
-          let o = ordinary config now in
-          translated-by config now o.answer o.preprocessed o.stands o.live;
-    }
+    pub translated-at : (config : List ℕ) → IsListed space config → There config
+    translated-at config listed =
+        let now = subst (λ ns. IsConfig ns config) (sym arities) listed in
+        let o = ordinary config now in
+        translated-by config now o.answer o.preprocessed o.stands o.live
 
 -- ---- what can be shown
 

@@ -135,12 +135,11 @@ module _ {s new : Sets} (keeps : Keeps s new) (names files : List (List ℕ)) (s
     (answers : HasAnswers (seen_by s names files old) old.root old.faults.items)
     (none : text.is_refused ≡ false → All (λ (f : base.Fault). IsNever s f.cond.0) p.faults.items)
     (some : text.is_refused ≡ true → All (λ (f : base.Fault). IsNever s f.cond.0) p.faults.items → ⊥) where
-  pub tells-plain : (holds : Option Files) (main : List ℕ)
-      → ((outside : Files) → holds ≡ Some outside → AreTranslated space outside main (seen_by s names files old) old.root old.faults.items) → TellsPlain holds space main text
+  pub tells-plain : (holds : Option Files) (main : List ℕ) → AreTranslated holds space main (seen_by s names files old) old.root old.faults.items → TellsPlain holds space main text
   tells-plain holds main translated =
       let c = first_config space in
       let at = answers.each c (subst (λ ns. IsConfig ns c) (sym arities) here) in
-      let of_plain = λ (outside : Files) (held : holds ≡ Some outside). plain-translated c plain space main outside one (translated outside held) in
+      let of_plain = plain-translated c plain holds space main one translated in
       let told = answer-told keeps names files space p text shows shown arities none some holds main of_plain in
       record {
         tells = tells-tree keeps names files space p text shows shown arities none some holds main of_plain;

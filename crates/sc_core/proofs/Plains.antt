@@ -145,12 +145,12 @@ module _ {s : Sets} {names files : List (List ℕ)} {old p : ParsedFile} (c : Li
   )
   stands-plain d is (Err fault) stands = subst (λ (fs : List base.Fault). map (seen_fault files) (faults_at s fs d) ≡ fault ∷ []) (sym plain.faults) stands
 
-  pub plain-translated : (space : Space) (main : List ℕ) (outside : Files) → ((d : List ℕ) → IsListed space d → d ≡ c)
-      → AreTranslated space outside main (seen_by s names files old) old.root old.faults.items → AreTranslated space outside main (seen_by s names files p) p.root p.faults.items
-  plain-translated space main outside one are = record {
+  pub plain-translated : (holds : Option Files) (space : Space) (main : List ℕ) → ((d : List ℕ) → IsListed space d → d ≡ c)
+      → AreTranslated holds space main (seen_by s names files old) old.root old.faults.items → AreTranslated holds space main (seen_by s names files p) p.root p.faults.items
+  plain-translated holds space main one are = record {
     parser = are.parser;
-    is_c11 = are.is_c11;
-    each = λ d listed.
-        let at = are.each d listed in
+    c11 = are.c11;
+    each = λ outside told d listed.
+        let at = are.each outside told d listed in
         record { ordinary = at.ordinary; translated = at.translated; stands = stands-plain d (one d listed) at.ordinary at.stands };
   }

@@ -9,9 +9,11 @@ use Rattle.std.specs.Prelude.{All, nat_le, ◌||◌}
 use Rattle.sc_args.specs.Words.{is_file_name}
 use Rattle.sc_base.specs.declared.fault.Fault as base
 use Rattle.sc_core.specs.declared.output.Output.{Output}
-use Rattle.sc_core.specs.Outcome.{Tells, IsOrdinaryAt, shown_answer, AcceptsAll}
+use Rattle.c11_parsing.specs.Parser.{Parser}
+use Rattle.sc_core.specs.Ordinary.{Preprocesses, Setting}
+use Rattle.sc_core.specs.Outcome.{AcceptsAll, IsRightAt, IsTokensText, Tells, shown_answer}
 use Rattle.sc_prep.specs.Preprocesses.{Stands, IsOrdinary, OwnsList}
-use Rattle.sc_core.specs.Texts.{TellsTokens}
+use Rattle.sc_core.specs.Texts.{lines_of, setting_of}
 use Rattle.sc_guarded.proofs.ItemLemmas.{items_at-Keeps, faults_at-Keeps, faults_at-never, never-faults_at}
 use Rattle.sc_prep.specs.declared.prepared.Prepared.{Prepared}
 use Rattle.sc_guarded.specs.Items.{items_at, faults_at, seen_fault}
@@ -81,28 +83,31 @@ module _ {s new : Sets} (keeps : Keeps s new) (names files : List (List ℕ)) (s
       let nothing : map (seen_fault files) (faults_at s p.faults.items config) ≡ [] = sym shown ∙ ap (λ faults. project faults config) none in
       nil_from_length (faults_at s p.faults.items config) (sym (length-map (faults_at s p.faults.items config) (seen_fault files)) ∙ ap length nothing))
 
-  module _ (outside : Files) (held : holds ≡ Some outside) where
-    ordinary-at : (config : List ℕ) → IsListed space config → IsOrdinaryAt space outside main shows.answer config
+  module _ (outside : Files) (parser : Parser) (held : holds ≡ Some outside) where
+    abbrev setting : Setting
+    setting = setting_of space main parser outside
+
+    ordinary-at : (config : List ℕ) → IsListed space config → IsRightAt (Preprocesses setting config) (λ o. At shows.answer config (shown_answer o))
     ordinary-at config listed =
         let o = ordinary outside held config listed in
         let now = here config listed in
         record {
           ordinary = o.answer;
-          preprocessed = o.preprocessed;
-          same = told shows.answer config o.answer (map (seen names files) (items_at s p.list config)) (map (seen_fault files) (faults_at s p.faults.items config))
+          given = o.preprocessed;
+          said = told shows.answer config o.answer (map (seen names files) (items_at s p.list config)) (map (seen_fault files) (faults_at s p.faults.items config))
               (sym (AreAlike-project config listed shows.tokens) ∙ project-shown_items new names files p.list config
               ∙ (ap (map (λ t. shown (seen names files t))) (items_at-Keeps p.list config keeps owns.list now) ∙ sym (map-map shown (seen names files) (items_at s p.list config))))
               (shown-faults config listed)
               o.stands;
         }
 
-    all-accepted : All (λ (f : base.Fault). IsNever s f.cond.0) p.faults.items → AcceptsAll space outside main
+    all-accepted : All (λ (f : base.Fault). IsNever s f.cond.0) p.faults.items → AcceptsAll space (Preprocesses setting)
     all-accepted never config listed =
         let o = ordinary outside held config listed in
-        accepted-by (Pre space outside main config) o.answer (map (seen names files) (items_at s p.list config)) (map (seen_fault files) (faults_at s p.faults.items config)) o.preprocessed
+        accepted-by (Preprocesses setting config) o.answer (map (seen names files) (items_at s p.list config)) (map (seen_fault files) (faults_at s p.faults.items config)) o.preprocessed
         (ap (map (seen_fault files)) (faults_at-never s p.faults.items never config (here config listed))) o.stands
 
-    none-refused : AcceptsAll space outside main → All (λ (f : base.Fault). IsNever s f.cond.0) p.faults.items
+    none-refused : AcceptsAll space (Preprocesses setting) → All (λ (f : base.Fault). IsNever s f.cond.0) p.faults.items
     none-refused all =
         never-faults_at s p.faults.items (λ config listed.
         let o = ordinary outside held config (there config listed) in
@@ -111,14 +116,15 @@ module _ {s new : Sets} (keeps : Keeps s new) (names files : List (List ℕ)) (s
         unrefused-by o.answer a.0 (map (seen names files) (items_at s p.list config)) (map (seen_fault files) (faults_at s p.faults.items config)) (pre-unique o.preprocessed a.1) o.stands in
         nil_from_length (faults_at s p.faults.items config) (sym (length-map (faults_at s p.faults.items config) (seen_fault files)) ∙ ap length none))
 
-  pub tells-tokens : TellsTokens holds space main text
-  tells-tokens = record {
+  pub tells-tokens : (outside : Files) (parser : Parser) → IsTokensText holds (setting_of space main parser outside) (lines_of text) (not text.is_refused)
+  tells-tokens outside parser = record {
     answer = shows.answer;
-    text_of = subst (λ pieces. IsTextOf space pieces shows.answer) (sym shows.cut) shows.text_of;
+    text = subst (λ pieces. IsTextOf space pieces shows.answer) (sym shows.cut) shows.text_of;
     verdict = tells-by text.is_refused (All (λ (f : base.Fault). IsNever s f.cond.0) p.faults.items) (shows.answer.faults ≡ []) none some no-fault-shown no-fault-had;
-    right = λ outside held. record {
-      ordinary = ordinary-at outside held;
-      verdict = tells-by text.is_refused (All (λ (f : base.Fault). IsNever s f.cond.0) p.faults.items) (AcceptsAll space outside main) none some (all-accepted outside held) (none-refused outside held);
+    right = λ held. record {
+      each = ordinary-at outside parser held;
+      verdict = tells-by text.is_refused (All (λ (f : base.Fault). IsNever s f.cond.0) p.faults.items) (AcceptsAll space (Preprocesses (setting_of space main parser outside))) none some
+          (all-accepted outside parser held) (none-refused outside parser held);
     };
   }
 

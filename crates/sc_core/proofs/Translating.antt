@@ -4,14 +4,12 @@ use Rattle.c11_directives.proofs.PreLaws.{pre-unique}
 use Rattle.c11_directives.specs.Pre.{Context, File, Includes, missing, entered, Pre, State, found_or, output_of, search}
 use Rattle.c11_parsing.proofs.OneAnswer.{one_answer}
 use Rattle.c11_parsing.specs.LR.{LR}
-use Rattle.c11_parsing.specs.Parser.{Parser}
 use Rattle.c11_parsing.specs.Trees.{Tree}
-use Rattle.sc_core.specs.Ordinary.{Translates, not_prepared, parsed}
+use Rattle.sc_core.specs.Ordinary.{Setting, Translates, main_end, not_prepared, parsed}
 use Rattle.sc_model.specs.Fault.{Fault}
 use Rattle.sc_model.specs.Outside.{Files}
 use Rattle.sc_model.specs.Space.{Space}
 use Rattle.sc_model.specs.Token.{Place, Token}
-use Rattle.sc_prep.specs.Contents.{end_of_file}
 
 abbrev Prepared : Type 0
 Prepared = Result (List Token) Fault
@@ -43,13 +41,13 @@ held-main {files = files} {main = main} pre = by pre.end refl
     by (Ok t) is = held-walked main t pre.walked refl is
     by (Err fault) is = let no = pre.is ∙ ap output_of is in cc
 
-module _ {parser : Parser} {space : Space} {files : Files} {main config : List ℕ} where
-  pub translates-unique : {r s : Result Tree Fault} → Translates parser space files main config r → Translates parser space files main config s → r ≡ s
+module _ {of : Setting} {config : List ℕ} where
+  pub translates-unique : {r s : Result Tree Fault} → Translates of config r → Translates of config s → r ≡ s
   translates-unique (not_prepared f p) (not_prepared g q) = let same = pre-unique p q in ap (λ fault. Err fault) (fault-same f g same)
   translates-unique (not_prepared f p) (parsed ts bytes a q held lr) = let same = pre-unique p q in cc
   translates-unique (parsed ts bytes a p held lr) (not_prepared g q) = let same = pre-unique p q in cc
   translates-unique (parsed ts bytes a p held lr) (parsed us more b q also rl) =
       let tokens = tokens-same ts us (pre-unique p q) in
       let ends = bytes-same bytes more (sym held ∙ also) in
-      one_answer parser (end_of_file main bytes) ts a b lr (subst (λ (xs : List Token). LR parser (end_of_file main bytes) xs b) (sym tokens)
-      (subst (λ (xs : List ℕ). LR parser (end_of_file main xs) us b) (sym ends) rl))
+      one_answer of.parser (main_end of bytes) ts a b lr (subst (λ (xs : List Token). LR of.parser (main_end of bytes) xs b) (sym tokens)
+      (subst (λ (xs : List ℕ). LR of.parser (main_end of xs) us b) (sym ends) rl))

@@ -10,9 +10,9 @@ use Rattle.sc_core.proofs.Telling.{tells-by}
 use Rattle.sc_core.proofs.Translating.{translates-unique}
 use Rattle.sc_core.specs.declared.output.Output.{Output}
 use Rattle.sc_core.specs.declared.tree_texts.ParsedFile.{ParsedFile}
-use Rattle.sc_core.specs.Ordinary.{Translates}
-use Rattle.sc_core.specs.Outcome.{HasNoFault, IsTranslationAnswer, TranslatesAll, shown_result}
-use Rattle.sc_core.specs.Texts.{AreTranslated, CanShowTree, Stands, TellsTree, seen_by}
+use Rattle.sc_core.specs.Ordinary.{Setting, Translates}
+use Rattle.sc_core.specs.Outcome.{AcceptsAll, HasNoFault, IsTranslation, shown_result}
+use Rattle.sc_core.specs.Texts.{AreTranslated, CanShowTree, Stands, TellsTree, seen_by, setting_of}
 use Rattle.sc_fork.specs.Outcomes.{RootReads, root_reads}
 use Rattle.sc_guarded.proofs.ItemLemmas.{faults_at-Keeps, faults_at-never, never-faults_at}
 use Rattle.sc_guarded.specs.Items.{faults_at, seen_fault}
@@ -94,39 +94,40 @@ module _ {s new : Sets} (keeps : Keeps s new) (names files : List (List ℕ)) (s
   unrefused-by config (Err fault) tree is stands = cc
 
   module _ (none : text.is_refused ≡ false → NoFault) (some : text.is_refused ≡ true → NoFault → ⊥) where
-    module _ (main : List ℕ) (outside : Files) (are : AreTranslated space outside main (seen_by s names files p) p.root p.faults.items) where
-      all-accepted : NoFault → TranslatesAll are.parser space outside main
-      all-accepted never config listed =
-          let at = are.each config listed in
-          accepted-by config (Translates are.parser space outside main config) at.ordinary at.translated at.stands (faults_at-never s p.faults.items never config (here config listed))
+    module _ {holds : Option Files} {main : List ℕ} (are : AreTranslated holds space main (seen_by s names files p) p.root p.faults.items) (outside : Files) (held : holds ≡ Some outside) where
+      abbrev setting : Setting
+      setting = setting_of space main are.parser outside
 
-      none-refused : TranslatesAll are.parser space outside main → NoFault
+      all-accepted : NoFault → AcceptsAll space (Translates setting)
+      all-accepted never config listed =
+          let at = are.each outside held config listed in
+          accepted-by config (Translates setting config) at.ordinary at.translated at.stands (faults_at-never s p.faults.items never config (here config listed))
+
+      none-refused : AcceptsAll space (Translates setting) → NoFault
       none-refused all =
           never-faults_at s p.faults.items (λ config listed.
-          let at = are.each config (there config listed) in
+          let at = are.each outside held config (there config listed) in
           let a = all config (there config listed) in
           unrefused-by config at.ordinary a.0 (translates-unique at.translated a.1) at.stands)
 
-      translation-answer : IsTranslationAnswer space outside main shows.answer (not text.is_refused)
-      translation-answer = record {
-        parser = are.parser;
-        is_c11 = are.is_c11;
-        ordinary = λ config listed.
-            let at = are.each config listed in
-            record { ordinary = at.ordinary; translated = at.translated; same = result-at config listed at.ordinary at.stands };
-        verdict = tells-by text.is_refused NoFault (TranslatesAll are.parser space outside main) none some all-accepted none-refused;
+      translation : IsTranslation setting shows.answer (not text.is_refused)
+      translation = record {
+        each = λ config listed.
+            let at = are.each outside held config listed in
+            record { ordinary = at.ordinary; given = at.translated; said = result-at config listed at.ordinary at.stands };
+        verdict = tells-by text.is_refused NoFault (AcceptsAll space (Translates setting)) none some all-accepted none-refused;
       }
 
-    pub tells-tree : (holds : Option Files) (main : List ℕ)
-        → ((outside : Files) → holds ≡ Some outside → AreTranslated space outside main (seen_by s names files p) p.root p.faults.items) → TellsTree holds space main text
-    tells-tree holds main translated = record {
+    pub tells-tree : (holds : Option Files) (main : List ℕ) → AreTranslated holds space main (seen_by s names files p) p.root p.faults.items → TellsTree holds space main text
+    tells-tree holds main are = record {
       answer = shows.answer;
       text_of = subst (λ pieces. IsTreeTextOf space pieces shows.answer) (sym shows.cut) shows.text_of;
       verdict = tells-by text.is_refused NoFault (HasNoFault space shows.answer) none some none-shown none-had;
-      right = λ outside held. translation-answer main outside (translated outside held);
+      parser = are.parser;
+      c11 = are.c11;
+      right = translation are;
     }
 
-    pub answer-told : (holds : Option Files) (main : List ℕ)
-        (translated : (outside : Files) → holds ≡ Some outside → AreTranslated space outside main (seen_by s names files p) p.root p.faults.items) → shows.answer ≡ (tells-tree holds main translated).answer
+    pub answer-told : (holds : Option Files) (main : List ℕ) (are : AreTranslated holds space main (seen_by s names files p) p.root p.faults.items) → shows.answer ≡ (tells-tree holds main are).answer
     unfolding tells-tree
-    answer-told holds main translated = refl
+    answer-told holds main are = refl

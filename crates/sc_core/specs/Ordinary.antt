@@ -1,10 +1,13 @@
 -- What ordinary translation of a file gives at one configuration: preprocessing, then parsing.
-use Rattle.std.specs.Prelude.{◌≡◌, ℕ, List, Option, Some, Result, Ok, Err}
+use Rattle.std.specs.Prelude.{◌≡◌, ◌⊎◌, ◌<◌, ◌+◌, ℕ, false, List, length, All, AllPairs, Option, Some, Result, Ok, Err}
+use Rattle.std.specs.Result.{is_ok}
+use Rattle.c11_directives.specs.Footprints.{Has, HasFootprints}
 use Rattle.c11_directives.specs.Pre.{Pre}
 use Rattle.c11_parsing.specs.Classes.{Input, HasMoreClasses, project}
 use Rattle.c11_parsing.specs.LR.{LR}
 use Rattle.c11_parsing.specs.Parser.{Parser}
 use Rattle.c11_parsing.specs.Trees.{Tree}
+use Rattle.c11_tokens.specs.Lex.{end_position}
 use Rattle.lr_tables.specs.declared.grammar.Grammar.{Grammar}
 use Rattle.lr_tables.specs.Grammar.{entries_of}
 use Rattle.lr_tables.specs.Tables.{Tables, AreTables}
@@ -14,9 +17,17 @@ use Rattle.sc_grammar.specs.declared.TheConstants.{TERMINALS, NONTERMINALS}
 use Rattle.sc_model.specs.Fault.{Fault}
 use Rattle.sc_model.specs.Outside.{Files}
 use Rattle.sc_model.specs.Space.{Space, IsListed, arities_of}
-use Rattle.sc_model.specs.Token.{Token}
-use Rattle.sc_prep.specs.Contents.{end_of_file}
-use Rattle.sc_prep.specs.Preprocesses.{is_accepted}
+use Rattle.sc_model.specs.Token.{Place, Token}
+
+-- ---- what a translation is about
+
+-- The variables with their options, and what else a space says: directories, limits, date and time.
+-- Then the files, which of them is the main one, and what parses it.
+pub record Setting : Type 0 where
+  pub space : Space
+  pub files : Files
+  pub main : List ℕ
+  pub parser : Parser
 
 -- the parser of C11, with the LALR(1) tables of its grammar
 pub record IsC11Parser (parser : Parser) : Type 0 where
@@ -28,29 +39,57 @@ pub record IsC11Parser (parser : Parser) : Type 0 where
   pub are_tables : AreTables grammar tables
   pub is : parser ≡ c11_parser tables
 
+-- ---- at one configuration
+
+abbrev pub Preprocesses : Setting → List ℕ → Result (List Token) Fault → Type 0
+Preprocesses s config answer = Pre s.space s.files s.main config answer
+
+-- where the main file with these bytes ends
+abbrev pub main_end : Setting → List ℕ → Place
+main_end s bytes = record { file = s.main; position = end_position bytes }
+
 -- Preprocessing refuses the file, or parsing has this answer on its tokens and its end.
-pub data Translates (parser : Parser) (space : Space) (files : Files) (main config : List ℕ) : Result Tree Fault → Type 0 where
-  not_prepared : (fault : Fault) → Pre space files main config (Err fault) → Translates parser space files main config (Err fault)
-  parsed : (tokens : List Token) (bytes : List ℕ) (answer : Result Tree Fault) → Pre space files main config (Ok tokens) → files main ≡ Some bytes
-      → LR parser (end_of_file main bytes) tokens answer → Translates parser space files main config answer
+pub data Translates (s : Setting) (config : List ℕ) : Result Tree Fault → Type 0 where
+  not_prepared : (fault : Fault) → Preprocesses s config (Err fault) → Translates s config (Err fault)
+  parsed : (tokens : List Token) (bytes : List ℕ) (answer : Result Tree Fault) → Preprocesses s config (Ok tokens) → s.files s.main ≡ Some bytes
+      → LR s.parser (main_end s bytes) tokens answer → Translates s config answer
+
+-- ---- where configurations differ
+
+-- more configurations than branches are listed
+pub record HasManyConfigs (space : Space) : Type 0 where
+  pub configs : List (List ℕ)
+  pub many : space.branches < length configs
+  pub listed : All (IsListed space) configs
+  pub apart : AllPairs (λ c d. c ≡ d → ⊥) configs
+
+-- At one macro name of the files that are preprocessed, or at one directive line, more
+-- configurations than branches have footprints that differ from each other.
+abbrev pub HasManyFootprints : Setting → Type 0
+HasManyFootprints s = HasFootprints (arities_of s.space) (Has s.space s.files s.main) (s.space.branches + 1)
 
 -- at the configuration the input has the file's tokens and its end, where preprocessing accepts it
-pub record IsPreparedAt (space : Space) (files : Files) (main : List ℕ) (input : Input) (config : List ℕ) : Type 0 where
+pub record IsPreparedAt (s : Setting) (input : Input) (config : List ℕ) : Type 0 where
   pub answer : Result (List Token) Fault
-  pub preprocessed : Pre space files main config answer
-  pub live : input.live config ≡ is_accepted answer
+  pub preprocessed : Preprocesses s config answer
+  pub live : input.live config ≡ is_ok answer
   pub tokens : (ts : List Token) → answer ≡ Ok ts → project config input.items ≡ ts
-  pub ends : (ts : List Token) (bytes : List ℕ) → answer ≡ Ok ts → files main ≡ Some bytes → input.end ≡ end_of_file main bytes
+  pub ends : (ts : List Token) (bytes : List ℕ) → answer ≡ Ok ts → s.files s.main ≡ Some bytes → input.end ≡ main_end s bytes
 
--- the file as it is parsed under all configurations
-pub record IsFileInput (space : Space) (files : Files) (main : List ℕ) (input : Input) : Type 0 where
-  pub parser : IsC11Parser input.parser
-  pub each : (config : List ℕ) → IsListed space config → IsPreparedAt space files main input config
+-- the main file as it is parsed under all listed configurations, and under no other
+pub record IsFileInput (s : Setting) (input : Input) : Type 0 where
+  pub parser : input.parser ≡ s.parser
+  pub arities : input.arities ≡ arities_of s.space
+  pub each : (config : List ℕ) → IsListed s.space config → IsPreparedAt s input config
+  pub unlisted : (config : List ℕ) → (IsListed s.space config → ⊥) → input.live config ≡ false
 
--- At some place of the file there are more classes than branches. Where the source tells what it
--- holds, this is so of what it holds.
-pub record HasManyClasses (holds : Option Files) (space : Space) (main : List ℕ) : Type 0 where
+-- at some place of the file, as C11 is parsed, there are more classes than branches
+pub record HasManyClasses (s : Setting) : Type 0 where
+  pub c11 : IsC11Parser s.parser
   pub input : Input
-  pub arities : input.arities ≡ arities_of space
-  pub more : HasMoreClasses input space.branches
-  pub is_input : (files : Files) → holds ≡ Some files → IsFileInput space files main input
+  pub is_input : IsFileInput s input
+  pub more : HasMoreClasses input s.space.branches
+
+-- preprocessing or parsing has at some place more branches than the space allows
+abbrev pub HasManyBranches : Setting → Type 0
+HasManyBranches s = HasManyFootprints s ⊎ HasManyClasses s

@@ -1,24 +1,23 @@
 -- What the text of a command is, before it is written.
-use Rattle.std.specs.Prelude.{◌≡◌, false, ◌⊎◌, ◌<◌, ◌+◌, ℕ, not, List, [], ◌∷◌, length, map, All, IfSome, Option, Some, None, Result, Ok, Err}
-use Rattle.c11_directives.specs.Footprints.{Has, HasFootprints}
+use Rattle.std.specs.Prelude.{◌≡◌, true, false, ◌<◌, ◌+◌, ℕ, not, List, [], ◌∷◌, length, map, All, IfSome, Option, Some, None, Result, Ok, Err}
 use Rattle.c11_parsing.specs.Parser.{Parser}
 use Rattle.c11_parsing.specs.Trees.{Tree}
+use Rattle.sc_args.specs.Words.{Asked}
 use Rattle.sc_base.specs.declared.fault.Fault as base
 use Rattle.sc_base.specs.declared.id.TreeId.{TreeId}
 use Rattle.sc_base.specs.declared.stop.Stop.{Stop}
 use Rattle.sc_base.specs.declared.stop.Stop.TheVariants.{BranchesFull, ReadFault, OutOfMemory}
 use Rattle.sc_core.specs.declared.tree_texts.ParsedFile.{ParsedFile}
 use Rattle.sc_core.specs.Cut.{first_config}
-use Rattle.sc_core.specs.Ordinary.{HasManyClasses, IsC11Parser, Translates}
-use Rattle.sc_core.specs.RunError.{space_line}
-use Rattle.sc_expand.specs.Stops.{HasConfigs}
+use Rattle.sc_core.specs.Ordinary.{HasManyConfigs, IsC11Parser, Setting, Translates}
+use Rattle.sc_core.specs.RunError.{line_of, space_line}
 use Rattle.sc_fork.specs.Outcomes.{RootReads}
 use Rattle.sc_guarded.specs.Items as guarded
 use Rattle.sc_guarded.specs.Items.{faults_at}
 use Rattle.sc_guarded.specs.Printable.{IsShowableFault, AreApart}
+use Rattle.sc_model.specs.Bytes.{has_no_newline}
 use Rattle.sc_model.specs.Fault.{Fault}
 use Rattle.sc_model.specs.Sets.{Sets, IsConfig}
-use Rattle.sc_prep.specs.Printable.{ArePlainPaths}
 use Rattle.sc_project.specs.Layout.{LaysOut}
 use Rattle.sc_show.specs.PlainText.{IsPlainAnswer}
 use Rattle.sc_show.specs.TreeLayout.{IsTreeTextOf}
@@ -35,41 +34,47 @@ use Rattle.sc_tree.specs.Walks.{is_choice}
 use Rattle.sc_core.specs.declared.run_error.RunError.{RunError}
 use Rattle.sc_core.specs.declared.run_error.RunError.TheVariants as error
 use Rattle.sc_core.specs.declared.output.Output.{Output}
-use Rattle.sc_core.specs.Outcome.{HasNoFault, IsOrdinaryAnswer, IsParseText, IsProjectText, IsTokensText, IsTranslationAnswer, RefusesSpace, Tells, HasText}
-use Rattle.sc_text.specs.Layout.{IsTextOf}
+use Rattle.sc_core.specs.Outcome.{HasNoFault, HasSpace, HasText, HasTextOf, IsTokensText, IsTranslation, MayHold, RefusesSpace, Tells, WhereTold, job_of}
 use Rattle.sc_model.specs.Outside.{Files, Rose}
 use Rattle.sc_model.specs.Space.{Space, IsListed, arities_of}
-use Rattle.sc_text.specs.Text.{token_list, Answer}
-use Rattle.sc_show.specs.Pieces.{IsLine, split_lines_after}
+use Rattle.sc_show.specs.Pieces.{split_lines_after}
 
 abbrev pub lines_of : Output → List (List ℕ)
 lines_of text = split_lines_after text.lines.items
-
--- the text of an answer in this space, and whether it has no fault
-pub record TellsTokens (holds : Option Files) (space : Space) (main : List ℕ) (text : Output) : Type 0 where
-  pub answer : Answer token_list
-  pub text_of : IsTextOf space (lines_of text) answer
-  pub verdict : Tells (not text.is_refused) (answer.faults ≡ [])
-  pub right : (files : Files) → holds ≡ Some files → IsOrdinaryAnswer space files main answer (not text.is_refused)
-
--- the same of the space that the space file is read as
-pub record IsTokensAnswer (holds : Option Files) (name main : List ℕ) (text : Output) : Type 0 where
-  pub lines : All IsLine (lines_of text)
-  pub tokens : IsTokensText holds name main (lines_of text) (not text.is_refused)
 
 -- the text is what the words ask for
 abbrev pub IsAnswer : Option Files → List (List ℕ) → Output → Type 0
 IsAnswer holds words text = HasText holds words (lines_of text) (not text.is_refused)
 
+-- it is the text of what is asked for
+abbrev pub IsAnswerFor : Option Files → Asked → Output → Type 0
+IsAnswerFor holds asked text = HasTextOf (job_of asked) holds (lines_of text) (not text.is_refused)
+
+-- ---- the setting
+
+-- a main file in a space
+abbrev pub setting_of : Space → List ℕ → Parser → Files → Setting
+setting_of space main parser files = record { space = space; files = files; main = main; parser = parser }
+
+-- files that the source may hold have this space file
+pub record ReadsSpace (holds : Option Files) (name : List ℕ) (space : Space) : Type 0 where
+  pub files : Files
+  pub held : MayHold holds files
+  pub has : HasSpace files name space
+
+-- files that the source may hold refuse a space, and the line tells why
+pub record RefusesAnySpace (holds : Option Files) (name line : List ℕ) : Type 0 where
+  pub files : Files
+  pub held : MayHold holds files
+  pub why : RefusesSpace files name line
+
 -- why the space file of this name gives no space
 abbrev pub FailsInSpace : Option Files → ℕ → ℕ → List ℕ → RunError → Type 0
-FailsInSpace holds before after name (error.Usage text) = ⊥
-FailsInSpace holds before after name error.BadFile = ⊥
-FailsInSpace holds before after name error.NoSpace = (files : Files) → holds ≡ Some files → files name ≡ None
-FailsInSpace holds before after name (error.BadSpace line) = (files : Files) → holds ≡ Some files → RefusesSpace files name line.items
-FailsInSpace holds before after name (error.BranchesFull line) = ⊥
+FailsInSpace holds before after name error.NoSpace = RefusesAnySpace holds name (line_of error.NoSpace)
+FailsInSpace holds before after name (error.BadSpace line) = RefusesAnySpace holds name line.items
 FailsInSpace holds before after name error.ReadFault = Rose before after
 FailsInSpace holds before after name error.OutOfMemory = Unit {0}
+FailsInSpace holds before after name _ = ⊥
 
 -- why the words choose no configuration of the space
 abbrev pub FailsToChoose : Space → List (List ℕ) → RunError → Type 0
@@ -91,16 +96,16 @@ Stands w root faults config (Ok tree) = (faults_at w.sets faults config ≡ []) 
 Stands w root faults config (Err fault) = map (guarded.seen_fault w.files) (faults_at w.sets faults config) ≡ fault ∷ []
 
 -- the configuration has what ordinary translation gives there
-pub record IsTranslated (parser : Parser) (space : Space) (files : Files) (main : List ℕ) (w : Tables) (root : Option TreeId) (faults : List base.Fault) (config : List ℕ) : Type 0 where
+pub record IsTranslated (s : Setting) (w : Tables) (root : Option TreeId) (faults : List base.Fault) (config : List ℕ) : Type 0 where
   pub ordinary : Result Tree Fault
-  pub translated : Translates parser space files main config ordinary
+  pub translated : Translates s config ordinary
   pub stands : Stands w root faults config ordinary
 
 -- each configuration has it
-pub record AreTranslated (space : Space) (files : Files) (main : List ℕ) (w : Tables) (root : Option TreeId) (faults : List base.Fault) : Type 0 where
+pub record AreTranslated (holds : Option Files) (space : Space) (main : List ℕ) (w : Tables) (root : Option TreeId) (faults : List base.Fault) : Type 0 where
   pub parser : Parser
-  pub is_c11 : IsC11Parser parser
-  pub each : (config : List ℕ) → IsListed space config → IsTranslated parser space files main w root faults config
+  pub c11 : IsC11Parser parser
+  pub each : (files : Files) → WhereTold holds files ((config : List ℕ) → IsListed space config → IsTranslated (setting_of space main parser files) w root faults config)
 
 -- Each configuration has its tree and no fault, or one fault. Where there is a root, some
 -- configuration has a tree.
@@ -119,7 +124,7 @@ pub record CanShowTree (s : Sets) (names files : List (List ℕ)) (p : ParsedFil
   pub root : IfSome p.root (λ id. id.0 < length p.trees)
   pub faults : All (IsShowableFault s files) p.faults.items
   pub apart : AreApart s p.faults.items
-  pub paths : ArePlainPaths files
+  pub paths : All (λ path. has_no_newline path ≡ true) files
 
 -- where there is a tree, the store is what is laid out of it at the configuration, with the other
 -- root
@@ -140,7 +145,9 @@ pub record TellsTree (holds : Option Files) (space : Space) (main : List ℕ) (t
   pub answer : TreeAnswer
   pub text_of : IsTreeTextOf space (lines_of text) answer
   pub verdict : Tells (not text.is_refused) (HasNoFault space answer)
-  pub right : (files : Files) → holds ≡ Some files → IsTranslationAnswer space files main answer (not text.is_refused)
+  pub parser : Parser
+  pub c11 : IsC11Parser parser
+  pub right : (files : Files) → WhereTold holds files (IsTranslation (setting_of space main parser files) answer (not text.is_refused))
 
 -- In a space of one configuration the text is that of its result, a tree or a fault.
 pub record TellsPlain (holds : Option Files) (space : Space) (main : List ℕ) (text : Output) : Type 0 where
@@ -149,24 +156,17 @@ pub record TellsPlain (holds : Option Files) (space : Space) (main : List ℕ) (
   pub same : IsResultAt tells.answer (first_config space) result
   pub plain : IsPlainAnswer tells.answer (first_config space) result
 
--- the same of the space that the space file is read as
-pub record IsParseAnswer (holds : Option Files) (name main : List ℕ) (text : Output) : Type 0 where
-  pub lines : All IsLine (lines_of text)
-  pub tree : IsParseText holds name main (lines_of text) (not text.is_refused)
+-- ---- too many branches
 
-pub record IsProjectAnswer (holds : Option Files) (name main : List ℕ) (choices : List (List ℕ)) (text : Output) : Type 0 where
-  pub lines : All IsLine (lines_of text)
-  pub tree : IsProjectText holds name main choices (lines_of text) (not text.is_refused)
+-- There are more configurations than branches. Where the source tells what it holds, there are too
+-- many branches.
+pub record FillsIn (fills : Setting → Type 0) (holds : Option Files) (space : Space) (main : List ℕ) : Type 0 where
+  pub configs : HasManyConfigs space
+  pub parser : Parser
+  pub why : (files : Files) → WhereTold holds files (fills (setting_of space main parser files))
 
--- There are more configurations than branches. Where the source tells what it holds, so many have
--- different footprints at one name, or at one line.
-pub record HasManyBranches (holds : Option Files) (space : Space) (main : List ℕ) : Type 0 where
-  pub configs : HasConfigs (arities_of space) (space.branches + 1)
-  pub footprints : (files : Files) → holds ≡ Some files → HasFootprints (arities_of space) (Has space files main) (space.branches + 1)
-
--- why a file in this space gives no tree
-abbrev pub StopsIn : Option Files → ℕ → ℕ → Space → List ℕ → Stop → Type 0
-StopsIn holds before after space main (BranchesFull count) =
-    (count ≡ space.branches + 1) × (HasManyBranches holds space main ⊎ HasManyClasses holds space main)
-StopsIn holds before after space main ReadFault = Rose before after
-StopsIn holds before after space main OutOfMemory = Unit {0}
+-- why a file in this space gives nothing
+abbrev pub StopsIn : (Setting → Type 0) → Option Files → ℕ → ℕ → Space → List ℕ → Stop → Type 0
+StopsIn fills holds before after space main (BranchesFull count) = (count ≡ space.branches + 1) × FillsIn fills holds space main
+StopsIn fills holds before after space main ReadFault = Rose before after
+StopsIn fills holds before after space main OutOfMemory = Unit {0}

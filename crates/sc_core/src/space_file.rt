@@ -1,8 +1,6 @@
 ghost use Rattle.std.specs.Prelude.{◌≡◌, ◌≤◌, map, string_bytes, Ok, Some, IfOk, IfErr};
 ghost use Rattle.sc_core.specs.RunError.{space_line};
-ghost use Rattle.sc_core.specs.Outcome.{HasSpace};
-ghost use Rattle.sc_core.specs.Texts.{FailsInSpace, FailsToChoose, TellsRefusal};
-ghost use Rattle.sc_model.specs.Outside.{Files};
+ghost use Rattle.sc_core.specs.Texts.{FailsInSpace, FailsToChoose, ReadsSpace, TellsRefusal};
 ghost use Rattle.sc_model.specs.Sets.{HasOptions};
 ghost use Rattle.sc_model.specs.Space.{IsListed, arities_of};
 ghost use Rattle.sc_space.specs.Config.{read_config};
@@ -17,7 +15,7 @@ use std::alloc::Global;
 
 /// The space of the file with this name.
 pub fn read_space<S: Source>(alloc: Global, src: &mut S, name: &str) -> Result<Space, RunError>
-    ensures space { IfOk result (λ space. (files : Files) → S.holds src.old ≡ Some files → HasSpace files name.now (seen_space space)) }
+    ensures space { IfOk result (λ space. ReadsSpace (S.holds src.old) name.now (seen_space space)) }
     ensures sound { IfOk result (λ space. IsSound (seen_space space)) }
     ensures error { IfErr result (FailsInSpace (S.holds src.old) (S.faults src.old) (S.faults src.new) name.now) }
 

@@ -1,17 +1,16 @@
-ghost use Rattle.std.specs.Prelude.{◌≡◌, ◌≤◌, Some, true, false, map, length, string_bytes, All, IfOk, IfErr};
-ghost use Rattle.c11_directives.specs.Footprints.{Has};
-ghost use Rattle.sc_args.specs.Words.{is_file_name, tokens as asked_tokens};
-ghost use Rattle.sc_core.specs.Outcome.{IsConflictsText, FailsFor, FailsWith};
+ghost use Rattle.std.specs.Prelude.{◌≡◌, ◌≤◌, Option, true, false, not, map, length, string_bytes, All, IfOk, IfErr};
+ghost use Rattle.c11_parsing.specs.Parser.{Parser};
+ghost use Rattle.sc_args.specs.Words.{is_file_name, conflicts as asked_conflicts, tokens as asked_tokens};
+ghost use Rattle.sc_core.specs.Ordinary.{HasManyFootprints};
+ghost use Rattle.sc_core.specs.Outcome.{FailsFor, FailsWith, IsTokensText, job_of};
 ghost use Rattle.sc_core.specs.RunError as lines;
 ghost use Rattle.sc_fork.specs.Owns.{AreC11Tables};
-ghost use Rattle.sc_prep.specs.Footprints.{StopsAtPlace};
-ghost use Rattle.sc_prep.specs.Preprocesses.{Stops};
-ghost use Rattle.sc_core.specs.Texts.{TellsTokens, IsTokensAnswer, IsAnswer, lines_of};
+ghost use Rattle.sc_core.specs.Texts.{IsAnswer, IsAnswerFor, StopsIn, lines_of, setting_of};
 ghost use Rattle.sc_model.specs.Outside.{Files as Outside};
 ghost use Rattle.sc_model.specs.Sets.{IsCond, IsNever};
 ghost use Rattle.sc_model.specs.Space.{arities_of};
 ghost use Rattle.sc_model.specs.Bytes.{has_no_newline};
-ghost use Rattle.sc_show.specs.Pieces.{IsLine, split_lines_after};
+ghost use Rattle.sc_show.specs.Pieces.{IsLine};
 ghost use Rattle.sc_space.specs.Seen.{seen_space, seen_variable};
 ghost use Rattle.sc_space.specs.Sound.{IsSound};
 
@@ -49,20 +48,19 @@ pub fn text_for<S: Source>(alloc: Global, words: &[String], src: &mut S) -> Resu
             file,
             choices,
         } => project_text(alloc, src, space.as_str(), file.as_str(), &choices),
-        Command::Conflicts => Ok(Output {
-            lines: conflicts_text(alloc)?,
-            is_refused: false,
-        }),
+        Command::Conflicts => Ok(conflicts_text(alloc)?),
     }
 }
 
 /// The conflicts of the tables of C11.
-fn conflicts_text(alloc: Global) -> Result<Vec<u8>, OutOfMemory>
-    ensures text { IfOk result (λ text. IsConflictsText (split_lines_after text.items)) }
-    ensures lines { IfOk result (λ text. All IsLine (split_lines_after text.items)) }
+fn conflicts_text(alloc: Global) -> Result<Output, OutOfMemory>
+    ensures { (holds : Option Outside) → IfOk result (IsAnswerFor holds asked_conflicts) }
 {
     let tables = tables(alloc)?;
-    show_conflicts(alloc, &tables)
+    Ok(Output {
+        lines: show_conflicts(alloc, &tables)?,
+        is_refused: false,
+    })
 }
 
 /// The tables of C11.
@@ -82,8 +80,8 @@ fn tokens_text<S: Source>(
     file: &str,
 ) -> Result<Output, RunError>
     requires { is_file_name file.now ≡ true }
-    ensures text { IfOk result (IsTokensAnswer (S.holds src.old) space.now file.now) }
-    ensures error { IfErr result (FailsFor (asked_tokens space.now file.now) (record { holds = S.holds src.old; before = S.faults src.old; after = S.faults src.new })) }
+    ensures text { IfOk result (IsAnswerFor (S.holds src.old) (asked_tokens space.now file.now)) }
+    ensures error { IfErr result (FailsFor (job_of (asked_tokens space.now file.now)) (record { holds = S.holds src.old; before = S.faults src.old; after = S.faults src.new })) }
 
     // at every outcome
     ensures kept { S.holds src.new ≡ S.holds src.old }
@@ -145,9 +143,9 @@ fn text_under<C: Conditions, S: Source>(
     requires sound { IsSound (seen_space space.now) }
     requires plain { has_no_newline file.now ≡ true }
     ensures lines { IfOk result (λ text. All IsLine (lines_of text)) }
-    ensures tokens { IfOk result (λ text. TellsTokens (S.holds src.old) (seen_space space.now) file.now text) }
-    ensures stops { IfErr result (Stops (C.sets conds.old).arities (seen_space space.now).branches (S.faults src.old) (S.faults src.new)) }
-    ensures footprints { (outside : Outside) → S.holds src.old ≡ Some outside → IfErr result (StopsAtPlace (C.sets conds.old).arities (Has (seen_space space.now) outside file.now) (seen_space space.now).branches) }
+    ensures tokens { (files : Outside) (parser : Parser)
+        → IfOk result (λ text. IsTokensText (S.holds src.old) (setting_of (seen_space space.now) file.now parser files) (lines_of text) (not text.is_refused)) }
+    ensures stops { IfErr result (StopsIn (λ s. HasManyFootprints s) (S.holds src.old) (S.faults src.old) (S.faults src.new) (seen_space space.now) file.now) }
 
     // at every outcome
     ensures kept { S.holds src.new ≡ S.holds src.old }

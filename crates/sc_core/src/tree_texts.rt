@@ -2,11 +2,11 @@
 ghost use Rattle.std.specs.Prelude.{◌≡◌, ◌≤◌, ℕ, List, Some, All, true, false, map, string_bytes, IfOk, IfErr};
 ghost use Rattle.sc_args.specs.Words.{is_file_name, parse as asked_parse, project as asked_project};
 ghost use Rattle.sc_core.specs.Cut.{first_config};
-ghost use Rattle.sc_core.specs.Outcome.{FailsFor};
-ghost use Rattle.sc_core.specs.Texts.{AreTranslated, CanShowTree, HasAnswers, IsParseAnswer, IsPlain, IsProjectAnswer, lines_of, seen_by, StopsIn, TellsPlain, TellsTree};
+ghost use Rattle.sc_core.specs.Ordinary.{HasManyBranches};
+ghost use Rattle.sc_core.specs.Outcome.{FailsFor, job_of};
+ghost use Rattle.sc_core.specs.Texts.{AreTranslated, CanShowTree, HasAnswers, IsAnswerFor, IsPlain, lines_of, seen_by, StopsIn, TellsPlain, TellsTree};
 ghost use Rattle.sc_model.specs.Bytes.{has_no_newline};
 ghost use Rattle.sc_model.specs.Growth.{Extends};
-ghost use Rattle.sc_model.specs.Outside.{Files as Outside};
 ghost use Rattle.sc_model.specs.Sets.{IsConfig, IsNever, Keeps};
 ghost use Rattle.sc_model.specs.Space.{arities_of};
 ghost use Rattle.sc_prep.specs.Printable.{ArePlainPaths};
@@ -47,8 +47,8 @@ pub fn parse_text<S: Source>(
     file: &str,
 ) -> Result<Output, RunError>
     requires { is_file_name file.now ≡ true }
-    ensures text { IfOk result (IsParseAnswer (S.holds src.old) space.now file.now) }
-    ensures error { IfErr result (FailsFor (asked_parse space.now file.now) (record { holds = S.holds src.old; before = S.faults src.old; after = S.faults src.new })) }
+    ensures text { IfOk result (IsAnswerFor (S.holds src.old) (asked_parse space.now file.now)) }
+    ensures error { IfErr result (FailsFor (job_of (asked_parse space.now file.now)) (record { holds = S.holds src.old; before = S.faults src.old; after = S.faults src.new })) }
 
     // at every outcome
     ensures kept { S.holds src.new ≡ S.holds src.old }
@@ -76,8 +76,8 @@ pub fn project_text<S: Source>(
     choices: &[String],
 ) -> Result<Output, RunError>
     requires { is_file_name file.now ≡ true }
-    ensures text { IfOk result (IsProjectAnswer (S.holds src.old) space.now file.now (map string_bytes choices.now)) }
-    ensures error { IfErr result (FailsFor (asked_project space.now file.now (map string_bytes choices.now)) (record { holds = S.holds src.old; before = S.faults src.old; after = S.faults src.new })) }
+    ensures text { IfOk result (IsAnswerFor (S.holds src.old) (asked_project space.now file.now (map string_bytes choices.now))) }
+    ensures error { IfErr result (FailsFor (job_of (asked_project space.now file.now (map string_bytes choices.now))) (record { holds = S.holds src.old; before = S.faults src.old; after = S.faults src.new })) }
 
     // at every outcome
     ensures kept { S.holds src.new ≡ S.holds src.old }
@@ -110,7 +110,7 @@ fn tree_under<C: Conditions, S: Source>(
     requires plain { has_no_newline file.now ≡ true }
     ensures lines { IfOk result (λ text. All IsLine (lines_of text)) }
     ensures tree { IfOk result (TellsTree (S.holds src.old) (seen_space space.now) file.now) }
-    ensures stops { IfErr result (StopsIn (S.holds src.old) (S.faults src.old) (S.faults src.new) (seen_space space.now) file.now) }
+    ensures stops { IfErr result (StopsIn (λ s. HasManyBranches s) (S.holds src.old) (S.faults src.old) (S.faults src.new) (seen_space space.now) file.now) }
 
     // at every outcome
     ensures kept { S.holds src.new ≡ S.holds src.old }
@@ -136,7 +136,7 @@ fn plain_under<C: Conditions, S: Source>(
     requires one { (c : List ℕ) → IsConfig (arities_of (seen_space space.now)) c → c ≡ first_config (seen_space space.now) }
     ensures lines { IfOk result (λ text. All IsLine (lines_of text)) }
     ensures tree { IfOk result (TellsPlain (S.holds src.old) (seen_space space.now) file.now) }
-    ensures stops { IfErr result (StopsIn (S.holds src.old) (S.faults src.old) (S.faults src.new) (seen_space space.now) file.now) }
+    ensures stops { IfErr result (StopsIn (λ s. HasManyBranches s) (S.holds src.old) (S.faults src.old) (S.faults src.new) (seen_space space.now) file.now) }
 
     // at every outcome
     ensures kept { S.holds src.new ≡ S.holds src.old }
@@ -165,10 +165,10 @@ fn parsed<C: Conditions, S: Source>(
     requires plain { has_no_newline file.now ≡ true }
     requires paths { ArePlainPaths files.old }
     ensures shown { IfOk result (CanShowTree (C.sets conds.new) names.new files.new) }
-    ensures translated { (outside : Outside) → S.holds src.old ≡ Some outside → IfOk result (λ p.
-        AreTranslated (seen_space space.now) outside file.now (seen_by (C.sets conds.new) names.new files.new p) p.root p.faults.items) }
+    ensures translated { IfOk result (λ p. AreTranslated (S.holds src.old) (seen_space space.now) file.now
+        (seen_by (C.sets conds.new) names.new files.new p) p.root p.faults.items) }
     ensures answered { IfOk result (λ p. HasAnswers (seen_by (C.sets conds.new) names.new files.new p) p.root p.faults.items) }
-    ensures stops { IfErr result (StopsIn (S.holds src.old) (S.faults src.old) (S.faults src.new) (seen_space space.now) file.now) }
+    ensures stops { IfErr result (StopsIn (λ s. HasManyBranches s) (S.holds src.old) (S.faults src.old) (S.faults src.new) (seen_space space.now) file.now) }
 
     // at every outcome
     ensures kept { S.holds src.new ≡ S.holds src.old }

@@ -1,7 +1,10 @@
-use Rattle.std.proofs.Common.{sym, subst, arith}
-use Rattle.std.proofs.lemmas.Result.{IfOk-weaker}
-use Rattle.std.specs.Prelude.{All}
+use Rattle.std.proofs.Common.{◌∙◌, [], None, All, ap, refl, sym, subst, arith}
+use Rattle.sc_core.proofs.Failing.{held_or, may-hold}
+use Rattle.sc_core.proofs.ParsedFiles.{c11-conflicts, c11-is, c11-parser}
 use Rattle.sc_core.proofs.texts.conflicts_text.Goals as goal
+use Rattle.sc_core.specs.Texts.{setting_of}
+use Rattle.sc_model.specs.Space.{Space}
+use Rattle.sc_show.specs.Conflicts.{conflict_pieces}
 use Rattle.sc_lalr.specs.Tables.{conflicts_of, tables_of}
 use Rattle.sc_show.proofs.ConflictLines.{are_named, conflict_lines}
 use Rattle.sc_show.specs.Pieces.{IsLine}
@@ -11,18 +14,18 @@ show_conflicts-requires c =
     let tables = c.in_ok-tables.ensures in
     are_named {g = tables.grammar} {tables = c.in_ok-tables.tables} (record { states = tables.states; exact = tables.exact }) (omega (arith, tables.terminals))
 
-pub returns-clause-text : goal.returns-clause-text
-returns-clause-text c =
-    let tables = c.in_ok-tables.ensures in
-    IfOk-weaker c.show_conflicts.result _ _ (λ text lines. record {
-      grammar = tables.grammar;
-      entries = tables.entries;
-      terminals = tables.terminals;
-      nonterminals = tables.nonterminals;
-      tables = tables_of tables.states c.in_ok-tables.tables;
-      are_tables = tables.exact;
-      written = lines;
-    }) c.show_conflicts.ensures.lines
+-- it is about no files
+no-space : Space
+no-space = record { variables = []; include = []; branches = 0; include_depth = 0; date = []; time = [] }
 
-pub returns-clause-lines : goal.returns-clause-lines
-returns-clause-lines c = IfOk-weaker c.show_conflicts.result _ _ (λ text lines. subst (All IsLine) (sym lines) (conflict_lines (conflicts_of c.in_ok-tables.tables))) c.show_conflicts.ensures.lines
+pub returns : goal.returns
+returns c = λ holds.
+    let tables = c.in_ok-tables.ensures in
+    let written = c.in_ok-show_conflicts.ensures.lines in
+    record {
+      lines = subst (All IsLine) (sym written) (conflict_lines (conflicts_of c.in_ok-tables.tables));
+      setting = setting_of no-space [] (c11-parser tables) (held_or holds (λ name. None));
+      held = may-hold holds (λ name. None);
+      has = tt;
+      text = record { c11 = c11-is tables; written = written ∙ ap conflict_pieces (sym (c11-conflicts tables)); verdict = refl };
+    }

@@ -23,7 +23,7 @@ pub returns-in-Tokens-clause-text : goal.returns-in-Tokens-clause-text
 returns-in-Tokens-clause-text g c =
     let asked = as-passed tokens _ (string_bytes c.in-Tokens.space) (string_bytes c.in-Tokens.file) c.as_str.result.now c.as_str-in-Tokens.result.now c.as_str.ensures.value c.as_str-in-Tokens.ensures.value
     (c.in_ok-space.ensures ∙ ap (λ (command : Command). Ok (seen_command command)) c.in-Tokens.is) in
-    IfOk-weaker c.tokens_text.result _ _ (λ text tells. record { asked = tokens c.as_str.result.now c.as_str-in-Tokens.result.now; asked_is = asked; lines = tells.lines; text = tells.tokens }) c.tokens_text.ensures.text
+    IfOk-weaker c.tokens_text.result _ _ (λ text is. record { asked = tokens c.as_str.result.now c.as_str-in-Tokens.result.now; asked_is = asked; text = is }) c.tokens_text.ensures.text
 
 pub returns-in-Tokens-clause-error : goal.returns-in-Tokens-clause-error
 returns-in-Tokens-clause-error g c =
@@ -40,7 +40,7 @@ pub returns-in-Parse-clause-text : goal.returns-in-Parse-clause-text
 returns-in-Parse-clause-text g c =
     let asked = as-passed parse _ (string_bytes c.in-Parse.space) (string_bytes c.in-Parse.file) c.as_str-in-Parse.result.now c.as_str-in-Parse-2.result.now c.as_str-in-Parse.ensures.value c.as_str-in-Parse-2.ensures.value
     (c.in_ok-space.ensures ∙ ap (λ (command : Command). Ok (seen_command command)) c.in-Parse.is) in
-    IfOk-weaker c.parse_text.result _ _ (λ text tells. record { asked = parse c.as_str-in-Parse.result.now c.as_str-in-Parse-2.result.now; asked_is = asked; lines = tells.lines; text = tells.tree }) c.parse_text.ensures.text
+    IfOk-weaker c.parse_text.result _ _ (λ text is. record { asked = parse c.as_str-in-Parse.result.now c.as_str-in-Parse-2.result.now; asked_is = asked; text = is }) c.parse_text.ensures.text
 
 pub returns-in-Parse-clause-error : goal.returns-in-Parse-clause-error
 returns-in-Parse-clause-error g c =
@@ -59,7 +59,7 @@ returns-in-Project-clause-text g c =
     let asked = as-passed (λ space file. project space file words) _ (string_bytes c.in-Project.space) (string_bytes c.in-Project.file) c.as_str-in-Project.result.now c.as_str-in-Project-2.result.now c.as_str-in-Project.ensures.value c.as_str-in-Project-2.ensures.value
     (c.in_ok-space.ensures ∙ (ap (λ (command : Command). Ok (seen_command command)) c.in-Project.is
     ∙ ap (λ (items : List (String Global)). Ok (project (string_bytes c.in-Project.space) (string_bytes c.in-Project.file) (map string_bytes items))) (sym c.deref.ensures.value))) in
-    IfOk-weaker c.project_text.result _ _ (λ text tells. record { asked = project c.as_str-in-Project.result.now c.as_str-in-Project-2.result.now words; asked_is = asked; lines = tells.lines; text = tells.tree }) c.project_text.ensures.text
+    IfOk-weaker c.project_text.result _ _ (λ text is. record { asked = project c.as_str-in-Project.result.now c.as_str-in-Project-2.result.now words; asked_is = asked; text = is }) c.project_text.ensures.text
 
 pub returns-in-Project-clause-error : goal.returns-in-Project-clause-error
 returns-in-Project-clause-error g c =
@@ -71,10 +71,8 @@ returns-in-Project-clause-error g c =
 
 pub returns-in_ok-conflicts_text-in-Conflicts-clause-text : goal.returns-in_ok-conflicts_text-in-Conflicts-clause-text
 returns-in_ok-conflicts_text-in-Conflicts-clause-text g c =
-    let made = c.in_ok-conflicts_text-in-Conflicts.ensures in
     record {
       asked = conflicts;
       asked_is = c.in_ok-space.ensures ∙ ap (λ (command : Command). Ok (seen_command command)) c.in-Conflicts.is;
-      lines = made.lines;
-      text = (made.text, refl);
+      text = c.in_ok-conflicts_text-in-Conflicts.ensures (g.S.Source.holds c.args.src.now);
     }

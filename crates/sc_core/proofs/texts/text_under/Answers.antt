@@ -2,6 +2,9 @@ use Rattle.std.proofs.Common.{◌≡◌, ◌∙◌, true, sym, subst, List}
 use Rattle.std.proofs.lemmas.List.Elements.{All-nil}
 use Rattle.std.specs.Prelude.{All}
 use Rattle.sc_base.specs.declared.fault.Fault as base
+use Rattle.std.proofs.lemmas.Result.{err_from_is_err_and}
+use Rattle.sc_core.proofs.Filling.{stops-before}
+use Rattle.sc_core.specs.Ordinary.{HasManyFootprints}
 use Rattle.sc_core.proofs.Telling.{tells-tokens}
 use Rattle.sc_core.proofs.texts.text_under.Goals as goal
 use Rattle.sc_model.specs.Bytes.{has_no_newline}
@@ -18,7 +21,7 @@ returns-clause-lines g c =
     subst (All IsLine) (sym (shows.cut ∙ shows.text_of.reads.written)) (text_lines shows.text_of.reads.lines shows.text_of.reads.clear)
 
 pub returns-clause-tokens : goal.returns-clause-tokens
-returns-clause-tokens g c =
+returns-clause-tokens g c = λ outside parser.
     let s = g.C.Conditions.sets c.preprocess.new.conds in
     let space = seen_space c.args.space.now in
     let p = c.in_ok-prepared.prepared in
@@ -29,6 +32,7 @@ returns-clause-tokens g c =
     (λ outside holds config listed. c.in_ok-prepared.ensures.ordinary outside holds config (subst (λ ns. IsConfig ns config) (sym c.requires.arities) listed))
     (λ e. subst (All (λ (f : base.Fault). IsNever s f.cond.0)) c.deref.ensures.value (c.has_fault-is_refused.ensures.none e))
     (λ e all. c.has_fault-is_refused.ensures.some e (subst (All (λ (f : base.Fault). IsNever s f.cond.0)) (sym c.deref.ensures.value) all))
+    outside parser
 
 pub show_tokens-requires-clause-files : goal.show_tokens-requires-clause-files
 show_tokens-requires-clause-files g c =
@@ -37,3 +41,9 @@ show_tokens-requires-clause-files g c =
 pub show_tokens-requires-clause-list : goal.show_tokens-requires-clause-list
 show_tokens-requires-clause-list g c =
     (c.in_ok-prepared.ensures.shown (subst ArePlainPaths (sym c.in_ok-files.ensures) (All-nil (λ path. has_no_newline path ≡ true))) c.requires.plain).list
+
+pub returns-in_err-prepared-clause-stops : goal.returns-in_err-prepared-clause-stops
+returns-in_err-prepared-clause-stops g c =
+    let p = err_from_is_err_and c.from_residual-in_err-prepared.result c.from_residual-in_err-prepared.ensures.1 in
+    rw (p.1, p.2) (stops-before (λ s. HasManyFootprints s) (λ s many. many) (g.C.Conditions.sets c.args.conds.now).arities (seen_space c.args.space.now) c.args.file.now (g.S.Source.holds c.args.src.now) _ _
+    c.requires.arities c.in_err-prepared.field-0.0 c.in_err-prepared.ensures.stops c.in_err-prepared.ensures.footprints)

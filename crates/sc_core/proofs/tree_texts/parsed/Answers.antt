@@ -1,13 +1,15 @@
-use Rattle.std.proofs.Common.{◌∙◌, List, All, sym, subst}
+use Rattle.std.proofs.Common.{◌∙◌, List, All, inl, sym, subst}
 use Rattle.std.proofs.lemmas.List.Elements.{All-weaker}
 use Rattle.std.proofs.lemmas.Result.{err_from_is_err_and}
 use Rattle.sc_base.specs.declared.fault.Fault as base
 use Rattle.sc_base.specs.declared.id.Cond.{Cond}
 use Rattle.sc_base.specs.declared.token.Token.{Token}
 use Rattle.sc_base.specs.Seen.{IsHeld}
-use Rattle.sc_core.proofs.ParsedFiles.{file-input, input, is-input, parsed-answers, parsed-apart, parsed-faults, parsed-leaves, parsed-translated, stops-before, stops-in}
+use Rattle.sc_core.proofs.ParsedFiles.{c11-is, c11-parser, file-input, input, is-input, is-listed-input, listed_input, parsed-answers, parsed-apart, parsed-faults, parsed-leaves, stops-in, translated-at}
+use Rattle.sc_core.proofs.Filling.{stops-before}
 use Rattle.sc_core.proofs.tree_texts.parsed.Goals as goal
 use Rattle.sc_core.proofs.tree_texts.parsed.Goals.{After-drop-prepared-2}
+use Rattle.sc_core.specs.Ordinary.{HasManyBranches}
 use Rattle.sc_core.specs.Texts.{AreTranslated, HasAnswers}
 use Rattle.sc_fork.specs.Choices.{AddsLeaves}
 use Rattle.sc_guarded.specs.Printable.{AreApart, IsShowable, IsShowableFault}
@@ -26,7 +28,7 @@ parse-requires-clause-held g c =
 pub returns-in_err-prepared-clause-stops : goal.returns-in_err-prepared-clause-stops
 returns-in_err-prepared-clause-stops g c =
     let p = err_from_is_err_and c.from_residual.result c.from_residual.ensures.1 in
-    rw (p.1, p.2) (stops-before (g.C.Conditions.sets c.args.conds.now).arities (seen_space c.args.space.now) c.args.file.now (g.S.Source.holds c.args.src.now) _ _ c.requires.arities c.in_err-prepared.field-0.0
+    rw (p.1, p.2) (stops-before (λ s. HasManyBranches s) (λ s many. inl many) (g.C.Conditions.sets c.args.conds.now).arities (seen_space c.args.space.now) c.args.file.now (g.S.Source.holds c.args.src.now) _ _ c.requires.arities c.in_err-prepared.field-0.0
     c.in_err-prepared.ensures.stops c.in_err-prepared.ensures.footprints)
 
 pub returns-in_err-parsed-clause-stops : goal.returns-in_err-parsed-clause-stops
@@ -47,7 +49,7 @@ returns-in_err-parsed-clause-stops g c =
     (λ outside holds. file-input s names files prepared tables are shown space main outside arities
     (λ config listed. made.ordinary outside holds config (subst (λ ns. IsConfig ns config) made.keeps.arities listed))
     (λ bytes held config listed live. made.end outside bytes holds held config (subst (λ ns. IsConfig ns config) made.keeps.arities listed) live))
-    c.in_err-parsed.field-0.0 (c.in_err-parsed.ensures.stops files (input s names files prepared tables are shown) (is-input s names files prepared tables are shown c.new-trees.result)))
+    c.in_err-parsed.field-0.0 (c.in_err-parsed.ensures.stops files (listed_input s names files prepared tables are shown) (is-listed-input s names files prepared tables are shown c.new-trees.result)))
 
 pub returns-in_err-parsed-clause-keeps : goal.returns-in_err-parsed-clause-keeps
 returns-in_err-parsed-clause-keeps g c = Keeps-trans c.preprocess.ensures.keeps c.parse.ensures.keeps
@@ -82,7 +84,7 @@ returns-clause-shown g c =
     }
 
 pub returns-clause-translated : goal.returns-clause-translated
-returns-clause-translated g c = λ outside holds.
+returns-clause-translated g c =
     let s = g.C.Conditions.sets c.preprocess.new.conds in
     let new = g.C.Conditions.sets c.parse.new.conds in
     let names = c.preprocess.new.names in
@@ -98,11 +100,15 @@ returns-clause-translated g c = λ outside holds.
     let schedule = c.in_ok-parsed.ensures.schedule files (input s names files prepared tables are shown) is in
     let space = seen_space c.args.space.now in
     let main = c.args.file.now in
-    subst (λ (faults : List base.Fault). AreTranslated space outside main (tables_with new c.parse.new.trees names files) parsed.root faults) (sym c.in_ok-append.ensures.items)
-    (parsed-translated s new c.parse.ensures.keeps names files prepared tables are shown made.owns c.parse.new.trees parsed parsed.events.items parse schedule space main outside
-    (made.keeps.arities ∙ c.requires.arities)
-    (λ config listed. made.ordinary outside holds config (subst (λ ns. IsConfig ns config) made.keeps.arities listed))
-    (λ bytes held config listed live. made.end outside bytes holds held config (subst (λ ns. IsConfig ns config) made.keeps.arities listed) live))
+    subst (AreTranslated (g.S.Source.holds c.args.src.now) space main (tables_with new c.parse.new.trees names files) parsed.root) (sym c.in_ok-append.ensures.items)
+    (record {
+      parser = c11-parser are;
+      c11 = c11-is are;
+      each = λ outside holds. translated-at s new c.parse.ensures.keeps names files prepared tables are shown made.owns c.parse.new.trees parsed parsed.events.items parse schedule space main outside
+          (made.keeps.arities ∙ c.requires.arities)
+          (λ config listed. made.ordinary outside holds config (subst (λ ns. IsConfig ns config) made.keeps.arities listed))
+          (λ bytes held config listed live. made.end outside bytes holds held config (subst (λ ns. IsConfig ns config) made.keeps.arities listed) live);
+    })
 
 pub returns-clause-answered : goal.returns-clause-answered
 returns-clause-answered g c =

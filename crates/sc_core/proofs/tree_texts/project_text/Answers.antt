@@ -4,12 +4,13 @@ use Rattle.std.specs.Prelude.{not}
 use Rattle.sc_args.specs.Words.{project}
 use Rattle.sc_core.proofs.Cuts.{cut-sound, first-cut, never-fills, one-config}
 use Rattle.sc_core.proofs.Failing.{choice-fails, space-fails}
-use Rattle.sc_core.proofs.Projecting.{projected-answer}
+use Rattle.sc_core.proofs.Projecting.{projected}
 use Rattle.sc_core.proofs.Telling.{name-plain}
 use Rattle.sc_core.proofs.tree_texts.project_text.Goals as goal
 use Rattle.sc_core.specs.Cut.{first_config}
-use Rattle.sc_core.specs.Outcome.{HasNoFault, IsTranslationAnswer, Tells}
-use Rattle.sc_core.specs.Texts.{StopsIn, lines_of}
+use Rattle.sc_core.specs.Ordinary.{HasManyBranches, Setting}
+use Rattle.sc_core.specs.Outcome.{HasNoFault, IsTranslation, Tells, job_of}
+use Rattle.sc_core.specs.Texts.{StopsIn, lines_of, setting_of}
 use Rattle.sc_model.specs.Outside.{Rose}
 use Rattle.sc_model.specs.Sets.{IsConfig}
 use Rattle.sc_model.specs.Space.{IsListed, Space, arities_of}
@@ -47,9 +48,9 @@ pub returns-in_err-space-clause-error : goal.returns-in_err-space-clause-error
 returns-in_err-space-clause-error g c =
     let name = c.args.space.now in
     let p = err_from_is_err_and c.from_residual.result c.from_residual.ensures.1 in
-    rw (p.1, p.2) (space-fails (project name c.args.file.now (map string_bytes c.args.choices.now))
+    rw (p.1, p.2) (space-fails (job_of (project name c.args.file.now (map string_bytes c.args.choices.now)))
     (record { holds = g.S.Source.holds c.args.src.now; before = g.S.Source.faults c.args.src.now; after = g.S.Source.faults c.read_space.new.src })
-    name refl c.in_err-space.field-0.0 c.in_err-space.ensures.error)
+    name refl (λ files line bad. inl bad) c.in_err-space.field-0.0 c.in_err-space.ensures.error)
 
 pub returns-in_err-config-clause-error : goal.returns-in_err-config-clause-error
 returns-in_err-config-clause-error g c =
@@ -70,10 +71,14 @@ returns-in-Ok-clause-text g c =
     let same = subst (λ (d : List ℕ). IsResultAt answer d told.result) first told.same in
     let plain = subst (λ (d : List ℕ). IsPlainAnswer answer d told.result) first told.plain in
     let text = c.in-Ok.text in
+    let found = c.in_ok-space.ensures.space in
+    let setting = setting_of space c.args.file.now tells.parser found.files in
     record {
       lines = c.in-Ok.ensures.lines;
-      tree = record {
-        space = space;
+      setting = setting;
+      held = found.held;
+      has = record { has_space = found.has; main_is = refl };
+      text = record {
         config = config;
         chosen = c.in_ok-config.ensures.config ∙ ap (λ (d : List ℕ). Ok d) (sym c.deref.ensures.value);
         answer = answer;
@@ -81,11 +86,9 @@ returns-in-Ok-clause-text g c =
         result = told.result;
         plain = plain;
         verdict = subst (λ (only : Space). Tells (not text.is_refused) (HasNoFault only answer)) is tells.verdict;
-        right = λ files holds. (
-          c.in_ok-space.ensures.space files holds,
-          projected-answer space files c.args.file.now config answer (not text.is_refused) told.result listed same plain
-              (subst (λ (only : Space). IsTranslationAnswer only files c.args.file.now answer (not text.is_refused)) is (tells.right files (c.in_ok-space.ensures.kept ∙ holds))),
-        );
+        c11 = tells.c11;
+        right = λ holds. projected setting config listed answer (not text.is_refused) told.result same plain
+            (subst (λ (only : Space). IsTranslation (record setting { space = only }) answer (not text.is_refused)) is (tells.right found.files (c.in_ok-space.ensures.kept ∙ holds)));
       };
     }
 
@@ -97,8 +100,8 @@ returns-clause-error g c =
     let listed = subst (IsListed space) (sym c.deref.ensures.value) c.in_ok-config.ensures.listed in
     let sound = subst IsSound (sym c.in_ok-only.ensures) (cut-sound space c.deref.result.now listed c.in_ok-space.ensures.sound) in
     let one = subst (λ (only : Space). (d : List ℕ) → IsConfig (arities_of only) d → d ≡ first_config only) (sym c.in_ok-only.ensures) (one-config space c.deref.result.now listed) in
-    let many = subst (StopsIn (g.S.Source.holds c.read_space.new.src) _ _ only main) c.in-Err-BranchesFull.field-0-is c.in-Err-BranchesFull.ensures.stops in
-    absurd (never-fills only (g.S.Source.holds c.read_space.new.src) main one sound many.1)
+    let many = subst (StopsIn (λ s. HasManyBranches s) (g.S.Source.holds c.read_space.new.src) _ _ only main) c.in-Err-BranchesFull.field-0-is c.in-Err-BranchesFull.ensures.stops in
+    absurd (never-fills only one sound many.1.configs)
 
 rose-before : (before mid after : ℕ) → before ≤ mid → Rose mid after → Rose before after
 rose-before before mid after least (inl more) = inl (omega arith)
@@ -107,9 +110,9 @@ rose-before before mid after least (inr full) = inr full
 pub returns-in-Err-ReadFault-clause-error : goal.returns-in-Err-ReadFault-clause-error
 returns-in-Err-ReadFault-clause-error g c =
     let only = seen_space c.in_ok-only.only in
-    let rose = subst (StopsIn (g.S.Source.holds c.read_space.new.src) (g.S.Source.faults c.read_space.new.src) (g.S.Source.faults c.plain_under.new.src) only c.args.file.now)
+    let rose = subst (StopsIn (λ s. HasManyBranches s) (g.S.Source.holds c.read_space.new.src) (g.S.Source.faults c.read_space.new.src) (g.S.Source.faults c.plain_under.new.src) only c.args.file.now)
     c.in-Err-ReadFault.field-0-is c.in-Err-ReadFault.ensures.stops in
-    rose-before (g.S.Source.faults c.args.src.now) (g.S.Source.faults c.read_space.new.src) (g.S.Source.faults c.plain_under.new.src) c.read_space.ensures.counted rose
+    (refl, rose-before (g.S.Source.faults c.args.src.now) (g.S.Source.faults c.read_space.new.src) (g.S.Source.faults c.plain_under.new.src) c.read_space.ensures.counted rose)
 
 pub returns-in_err-branches_line-in-Err-BranchesFull-clause-error : goal.returns-in_err-branches_line-in-Err-BranchesFull-clause-error
 returns-in_err-branches_line-in-Err-BranchesFull-clause-error g c =

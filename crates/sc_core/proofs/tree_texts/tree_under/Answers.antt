@@ -1,5 +1,6 @@
 use Rattle.std.proofs.Common.{◌≡◌, ◌∙◌, true, sym, subst}
 use Rattle.std.proofs.lemmas.List.Elements.{All-nil}
+use Rattle.std.proofs.lemmas.Result.{err_from_is_err_and}
 use Rattle.sc_core.proofs.TreeTelling.{tells-tree, tree-lines}
 use Rattle.sc_core.proofs.tree_texts.tree_under.Goals as goal
 use Rattle.sc_model.specs.Bytes.{has_no_newline}
@@ -17,4 +18,9 @@ returns-clause-tree g c =
     let made = c.in_ok-parsed.ensures in
     let text = c.in_ok-text_of.ensures in
     tells-tree text.keeps c.parsed.new.names c.parsed.new.files (seen_space c.args.space.now) c.in_ok-parsed.parsed c.in_ok-text_of.field-0 text.text made.shown (made.keeps.arities ∙ c.requires.arities) text.none text.some
-    (g.S.Source.holds c.args.src.now) c.args.file.now (λ outside holds. made.translated outside holds)
+    (g.S.Source.holds c.args.src.now) c.args.file.now made.translated
+
+pub returns-in_err-text_of-clause-stops : goal.returns-in_err-text_of-clause-stops
+returns-in_err-text_of-clause-stops g c =
+    let p = err_from_is_err_and c.from_residual-in_err-text_of.result c.from_residual-in_err-text_of.ensures.1 in
+    rw (p.1, p.2) tt
