@@ -10,3 +10,4 @@ pub mod Telling
 pub mod Translating
 pub mod TreeTelling
 pub mod Writing
+pub mod ToldFiles

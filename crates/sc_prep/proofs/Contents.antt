@@ -2,7 +2,7 @@
 use Rattle.std.proofs.Common.{◌≡◌, ℕ, zero, suc, ◌++◌, ◌<◌, ◌⊎◌, inl, inr, ◌||◌, get_or, Bool, true, false, List, [], ◌∷◌, All, length, map, slice_get, Option, Some, None, Err, refl, sym, ap, ◌∙◌, subst, arith}
 use Rattle.std.proofs.lemmas.Bool.{cases_order}
 use Rattle.std.proofs.lemmas.List.Elements.{All-drop, All-head, All-tail, All-take, All-weaker}
-use Rattle.std.proofs.lemmas.Option.{same_Some, slice_get_within}
+use Rattle.std.proofs.lemmas.Option.{none-some, same_Some, slice_get_within}
 use Rattle.std.proofs.lemmas.Simd.{map-map}
 use Rattle.std.specs.Map.{update}
 use Rattle.std.specs.Option.{option_and_then}
@@ -286,3 +286,13 @@ module _ {holds : Option Files} (files : List (List ℕ)) (file : FileId) (name 
     told = told-as (Some bytes) told;
     held = λ x same. subst (IsHeldContent names (length files) file) (same_Some c x same) (held (length files) (slice_get_within files file.0 name named));
   }
+
+-- what is kept is what some files hold that the source may hold
+pub record MayBeHeld (names files : List (List ℕ)) (holds : Option Files) (contents : Contents) : Type 0 where
+  pub outside : Files
+  pub held : (told : Files) → holds ≡ Some told → outside ≡ told
+  pub agrees : Agrees names files outside contents
+
+pub may-be-held : {names files : List (List ℕ)} (holds : Option Files) {contents : Contents} → AreContents names files holds contents → MayBeHeld names files holds contents
+may-be-held None are = record { outside = are.some.0; held = λ told is. absurd (none-some told is); agrees = are.some.1 }
+may-be-held (Some told) are = record { outside = told; held = λ other is. same_Some told other is; agrees = are.told told refl }

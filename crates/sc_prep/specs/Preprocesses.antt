@@ -1,17 +1,20 @@
 -- What a file gives under all configurations, seen at one.
-use Rattle.std.specs.Prelude.{◌≡◌, ℕ, Bool, true, false, List, [], ◌∷◌, map, All, Result, Ok, Err}
+use Rattle.std.specs.Prelude.{◌≡◌, ℕ, Bool, true, false, List, [], ◌∷◌, map, All, Option, Some, Result, Ok, Err}
+use Rattle.c11_directives.specs.Pre.{Pre}
 use Rattle.sc_base.specs.declared.fault.Fault as base
 use Rattle.sc_base.specs.declared.id.Cond.{Cond}
 use Rattle.sc_base.specs.declared.stop.Stop.{Stop}
 use Rattle.sc_base.specs.declared.stop.Stop.TheVariants.{BranchesFull, ReadFault, OutOfMemory}
 use Rattle.sc_expand.specs.Stops.{StopsBy}
+use Rattle.sc_prep.specs.Contents.{end_of_file}
 use Rattle.sc_prep.specs.declared.prepared.Prepared.{Prepared}
 use Rattle.sc_guarded.specs.Items.{items_at, faults_at, seen_fault}
 use Rattle.sc_base.specs.declared.token.Token as base_token
-use Rattle.sc_base.specs.Seen.{seen}
-use Rattle.sc_model.specs.Outside.{Rose}
+use Rattle.sc_base.specs.Seen.{seen, seen_place}
+use Rattle.sc_model.specs.Outside.{Files, Rose}
 use Rattle.sc_model.specs.Fault.{Fault}
-use Rattle.sc_model.specs.Sets.{Sets, IsCond}
+use Rattle.sc_model.specs.Sets.{Sets, IsCond, IsConfig}
+use Rattle.sc_model.specs.Space.{Space}
 use Rattle.sc_model.specs.Token.{Token}
 
 -- An ordinary answer stands in the lists of its configuration: its tokens and no fault, or its
@@ -31,6 +34,15 @@ pub record IsOrdinary (s : Sets) (names files : List (List ℕ)) (p : Prepared) 
   pub preprocessed : preprocesses answer
   pub stands : Stands answer (map (seen names files) (items_at s p.list config)) (map (seen_fault files) (faults_at s p.faults.items config))
   pub live : s.has p.live.0 config ≡ is_accepted answer
+
+-- At each configuration the lists are what ordinary preprocessing gives there, of files that the
+-- source may hold: where it tells what it holds, of these. Where a configuration is live the end
+-- is that of the main file.
+pub record IsPreparedFrom (arities : List ℕ) (s : Sets) (names files : List (List ℕ)) (p : Prepared) (space : Space) (holds : Option Files) (main : List ℕ) : Type 0 where
+  pub outside : Files
+  pub held : (told : Files) → holds ≡ Some told → outside ≡ told
+  pub ordinary : (config : List ℕ) → IsConfig arities config → IsOrdinary s names files p (Pre space outside main config) config
+  pub ends : (bytes : List ℕ) (config : List ℕ) → outside main ≡ Some bytes → IsConfig arities config → s.has p.live.0 config ≡ true → seen_place files p.end ≡ end_of_file main bytes
 
 -- the configuration has this fault alone
 pub record IsRefused (s : Sets) (names files : List (List ℕ)) (p : Prepared) (fault : Fault) (config : List ℕ) : Type 0 where

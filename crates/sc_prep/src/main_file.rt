@@ -3,16 +3,13 @@ ghost use Rattle.sc_model.specs.Bytes.{has_no_newline};
 ghost use Rattle.sc_model.specs.Growth.{Extends};
 ghost use Rattle.sc_model.specs.Outside.{Files as Outside};
 ghost use Rattle.c11_directives.specs.Footprints.{Has};
-ghost use Rattle.c11_directives.specs.Pre.{Pre};
 ghost use Rattle.sc_model.specs.Sets.{IsConfig, Keeps};
 ghost use Rattle.sc_model.specs.Space.{arities_of};
 ghost use Rattle.sc_space.specs.Seen.{seen_space};
 ghost use Rattle.sc_space.specs.Sound.{IsSound};
-ghost use Rattle.sc_base.specs.Seen.{seen_place};
 ghost use Rattle.sc_prep.specs.Closes.{has_none};
-ghost use Rattle.sc_prep.specs.Contents.{end_of_file};
 ghost use Rattle.sc_prep.specs.Footprints.{StopsAtPlace};
-ghost use Rattle.sc_prep.specs.Preprocesses.{IsOrdinary, OwnsList, Stops};
+ghost use Rattle.sc_prep.specs.Preprocesses.{IsPreparedFrom, OwnsList, Stops};
 ghost use Rattle.sc_prep.specs.Printable.{ArePlainPaths, CanBeShown};
 
 use crate::content::{Contents, end_place, first_place};
@@ -39,12 +36,7 @@ pub fn preprocess<C: Conditions, S: Source>(
 ) -> Result<Prepared, Stop>
     requires space { (C.sets conds.old).arities ≡ arities_of (seen_space space.now) }
     requires sound { IsSound (seen_space space.now) }
-    ensures ordinary { (outside : Outside) → S.holds src.old ≡ Some outside → IfOk result (λ p. (config : List ℕ)
-        → IsConfig (C.sets conds.old).arities config
-        → IsOrdinary (C.sets conds.new) names.new files.new p (Pre (seen_space space.now) outside main.now config) config) }
-    ensures end { (outside : Outside) (bytes : List ℕ) → S.holds src.old ≡ Some outside → outside main.now ≡ Some bytes
-        → IfOk result (λ p. (config : List ℕ) → IsConfig (C.sets conds.old).arities config → (C.sets conds.new).has p.live.0 config ≡ true
-        → seen_place files.new p.end ≡ end_of_file main.now bytes) }
+    ensures ordinary { IfOk result (λ p. IsPreparedFrom (C.sets conds.old).arities (C.sets conds.new) names.new files.new p (seen_space space.now) (S.holds src.old) main.now) }
     ensures end_held { IfOk result (λ p. p.end.file.0 < length files.new) }
     ensures live { IfOk result (λ p. (config : List ℕ) → IsConfig (C.sets conds.old).arities config
         → (C.sets conds.new).has p.live.0 config ≡ has_none (C.sets conds.new) p.faults.items config) }

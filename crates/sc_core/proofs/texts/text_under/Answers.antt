@@ -6,6 +6,7 @@ use Rattle.std.proofs.lemmas.Result.{err_from_is_err_and}
 use Rattle.sc_core.proofs.Filling.{stops-before}
 use Rattle.sc_core.specs.Ordinary.{HasManyFootprints}
 use Rattle.sc_core.proofs.Telling.{tells-tokens}
+use Rattle.sc_core.proofs.ToldFiles.{ordinary-told}
 use Rattle.sc_core.proofs.texts.text_under.Goals as goal
 use Rattle.sc_model.specs.Bytes.{has_no_newline}
 use Rattle.sc_model.specs.Sets.{IsConfig, IsNever}
@@ -29,7 +30,7 @@ returns-clause-tokens g c = λ outside parser.
     tells-tokens c.in_ok-lines.ensures.keeps c.preprocess.new.names c.preprocess.new.files space (g.S.Source.holds c.args.src.now) c.args.file.now p
     (record { lines = c.in_ok-lines.lines; is_refused = c.has_fault-is_refused.result })
     shows c.in_ok-prepared.ensures.owns (c.in_ok-prepared.ensures.keeps.arities ∙ c.requires.arities)
-    (λ outside holds config listed. c.in_ok-prepared.ensures.ordinary outside holds config (subst (λ ns. IsConfig ns config) (sym c.requires.arities) listed))
+    (λ outside holds config listed. ordinary-told c.in_ok-prepared.ensures.ordinary outside holds config (subst (λ ns. IsConfig ns config) (sym c.requires.arities) listed))
     (λ e. subst (All (λ (f : base.Fault). IsNever s f.cond.0)) c.deref.ensures.value (c.has_fault-is_refused.ensures.none e))
     (λ e all. c.has_fault-is_refused.ensures.some e (subst (All (λ (f : base.Fault). IsNever s f.cond.0)) (sym c.deref.ensures.value) all))
     outside parser

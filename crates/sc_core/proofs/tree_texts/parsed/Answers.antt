@@ -7,6 +7,7 @@ use Rattle.sc_base.specs.declared.token.Token.{Token}
 use Rattle.sc_base.specs.Seen.{IsHeld}
 use Rattle.sc_core.proofs.ParsedFiles.{c11-is, c11-parser, file-input, input, is-input, is-listed-input, listed_input, parsed-answers, parsed-apart, parsed-faults, parsed-leaves, stops-in, translated-at}
 use Rattle.sc_core.proofs.Filling.{stops-before}
+use Rattle.sc_core.proofs.ToldFiles.{ends-told, ordinary-told}
 use Rattle.sc_core.proofs.tree_texts.parsed.Goals as goal
 use Rattle.sc_core.proofs.tree_texts.parsed.Goals.{After-drop-prepared-2}
 use Rattle.sc_core.specs.Ordinary.{HasManyBranches}
@@ -47,8 +48,8 @@ returns-in_err-parsed-clause-stops g c =
     let p = err_from_is_err_and c.from_residual-in_err-parsed.result c.from_residual-in_err-parsed.ensures.1 in
     rw (p.1, p.2) (stops-in s names files prepared tables are shown space main (g.S.Source.holds c.args.src.now) _ _ arities
     (λ outside holds. file-input s names files prepared tables are shown space main outside arities
-    (λ config listed. made.ordinary outside holds config (subst (λ ns. IsConfig ns config) made.keeps.arities listed))
-    (λ bytes held config listed live. made.end outside bytes holds held config (subst (λ ns. IsConfig ns config) made.keeps.arities listed) live))
+    (λ config listed. ordinary-told made.ordinary outside holds config (subst (λ ns. IsConfig ns config) made.keeps.arities listed))
+    (λ bytes held config listed live. ends-told made.ordinary outside holds bytes config held (subst (λ ns. IsConfig ns config) made.keeps.arities listed) live))
     c.in_err-parsed.field-0.0 (c.in_err-parsed.ensures.stops files (listed_input s names files prepared tables are shown) (is-listed-input s names files prepared tables are shown c.new-trees.result)))
 
 pub returns-in_err-parsed-clause-keeps : goal.returns-in_err-parsed-clause-keeps
@@ -106,8 +107,8 @@ returns-clause-translated g c =
       c11 = c11-is are;
       each = λ outside holds. translated-at s new c.parse.ensures.keeps names files prepared tables are shown made.owns c.parse.new.trees parsed parsed.events.items parse schedule space main outside
           (made.keeps.arities ∙ c.requires.arities)
-          (λ config listed. made.ordinary outside holds config (subst (λ ns. IsConfig ns config) made.keeps.arities listed))
-          (λ bytes held config listed live. made.end outside bytes holds held config (subst (λ ns. IsConfig ns config) made.keeps.arities listed) live);
+          (λ config listed. ordinary-told made.ordinary outside holds config (subst (λ ns. IsConfig ns config) made.keeps.arities listed))
+          (λ bytes held config listed live. ends-told made.ordinary outside holds bytes config held (subst (λ ns. IsConfig ns config) made.keeps.arities listed) live);
     })
 
 pub returns-clause-answered : goal.returns-clause-answered

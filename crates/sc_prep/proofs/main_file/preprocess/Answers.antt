@@ -4,7 +4,7 @@ use Rattle.std.proofs.lemmas.Result.{err_from_is_err_and}
 use Rattle.std.specs.Option.{option_map}
 use Rattle.std.specs.declared.rc.Rc.{Rc}
 use Rattle.c11_directives.specs.Pre.{Pre, context_of}
-use Rattle.sc_base.proofs.Growth.{Extends-trans, Extends-within}
+use Rattle.sc_base.proofs.Growth.{Extends-keeps, Extends-trans, Extends-within}
 use Rattle.sc_base.specs.declared.id.FileId.{FileId}
 use Rattle.sc_base.specs.declared.place.Place.{Place}
 use Rattle.sc_base.specs.Seen.{seen_place}
@@ -12,7 +12,7 @@ use Rattle.sc_model.specs.declared.cause.Cause.TheVariants.{NotFound}
 use Rattle.sc_model.specs.Fault.{fault_at}
 use Rattle.sc_model.specs.Outside.{Files}
 use Rattle.sc_model.specs.Sets.{IsConfig}
-use Rattle.sc_prep.proofs.Contents.{place-later}
+use Rattle.sc_prep.proofs.Contents.{may-be-held}
 use Rattle.sc_prep.proofs.FindLemmas.{name-absent}
 use Rattle.sc_prep.proofs.main_file.preprocess.Goals as goal
 use Rattle.sc_prep.proofs.main_file.preprocess.Goals.{After-drop-walk-7}
@@ -30,7 +30,7 @@ pub read-requires-clause-contents : goal.read-requires-clause-contents
 read-requires-clause-contents g c = contents-new c.start.new.names c.intern.new.self (g.S.Source.holds c.args.src.now) c.new-contents.result c.new-contents.ensures
 
 pub returns-in_default-clause-ordinary : goal.returns-in_default-clause-ordinary
-returns-in_default-clause-ordinary g c = λ outside holds config listed.
+returns-in_default-clause-ordinary g c =
     let space = seen_space c.args.space.now in
     let files = c.intern.new.self in
     let walk = c.in_ok-walk.ensures in
@@ -38,12 +38,18 @@ returns-in_default-clause-ordinary g c = λ outside holds config listed.
     let fresh = begins-new space files c.requires.space walk.owns walk.empty walk.table table.table table.initial c.read.ensures.names walk.starts in
     let main = c.args.main.now in
     let named = c.in_ok-file.ensures.named in
-    let agrees = c.in_ok-content.ensures.contents.told outside (c.read.ensures.kept ∙ holds) in
-    let refused = refused-is fresh c.refuse_at.ensures.keeps main _ c.always-always.ensures.own c.always-always.ensures.meaning.at c.in_ok-refuse_at.ensures.refuses config listed in
-    missing-ordinary (g.C.Conditions.sets c.refuse_at.new.conds) c.read.new.names files c.refuse_at.new.self.prepared space outside main config
-    (name-absent c.read.new.self outside agrees c.in_ok-file.file main named c.in_ok-content.field-0 c.in_ok-content.ensures.content c.in_default.is)
-    (subst (λ place. IsRefused (g.C.Conditions.sets c.refuse_at.new.conds) c.read.new.names files c.refuse_at.new.self.prepared (fault_at NotFound place) config)
-    (c.first_place-in_default.ensures.place files main named) refused)
+    let may = may-be-held _ c.in_ok-content.ensures.contents in
+    let absent = name-absent c.read.new.self may.outside may.agrees c.in_ok-file.file main named c.in_ok-content.field-0 c.in_ok-content.ensures.content c.in_default.is in
+    record {
+      outside = may.outside;
+      held = λ told is. may.held told (c.read.ensures.kept ∙ is);
+      ordinary = λ config listed.
+          missing-ordinary (g.C.Conditions.sets c.refuse_at.new.conds) c.read.new.names files c.refuse_at.new.self.prepared space may.outside main config absent
+          (subst (λ place. IsRefused (g.C.Conditions.sets c.refuse_at.new.conds) c.read.new.names files c.refuse_at.new.self.prepared (fault_at NotFound place) config)
+          (c.first_place-in_default.ensures.place files main named)
+          (refused-is fresh c.refuse_at.ensures.keeps main _ c.always-always.ensures.own c.always-always.ensures.meaning.at c.in_ok-refuse_at.ensures.refuses config listed));
+      ends = λ bytes config there listed live. absurd (none-some bytes (sym absent ∙ there));
+    }
 
 pub returns-in_default-clause-owns : goal.returns-in_default-clause-owns
 returns-in_default-clause-owns g c =
@@ -68,20 +74,28 @@ enter-requires-clause-ready g c =
     let table = c.in_ok-table.ensures in
     ready-new (begins-new (seen_space c.args.space.now) c.intern.new.self c.requires.space walk.owns walk.empty walk.table table.table table.initial c.read.ensures.names walk.starts) c.in_ok-content.ensures.contents
 
-enters-ordinary : (g : Over) (c : After-drop-walk-7 g) (outside : Files) → g.S.Source.holds c.args.src.now ≡ Some outside → (config : List ℕ)
-    → IsConfig (g.C.Conditions.sets c.args.conds.now).arities config
-    → IsOrdinary (g.C.Conditions.sets c.enter.new.conds) c.enter.new.names c.enter.new.files c.enter.new.self.prepared (Pre (seen_space c.args.space.now) outside c.args.main.now config) config
-enters-ordinary g c outside holds =
+pub returns-clause-ordinary : goal.returns-clause-ordinary
+returns-clause-ordinary g c =
     let space = seen_space c.args.space.now in
     let walk = c.in_ok-walk.ensures in
     let table = c.in_ok-table.ensures in
     let fresh = begins-new space c.intern.new.self c.requires.space walk.owns walk.empty walk.table table.table table.initial c.read.ensures.names walk.starts in
-    let agrees = c.in_ok-enter.ensures.ready.read.told outside (c.enter.ensures.kept ∙ (c.read.ensures.kept ∙ holds)) in
-    entered-is fresh c.enter.ensures.keeps c.args.main.now outside c.in_ok-file.file c.always-always.result c.in_ok-file.ensures.named c.always-always.ensures.meaning.at
-    (c.in_ok-enter.ensures.enters (context_of space outside) (space-context space outside) agrees)
-
-pub returns-clause-ordinary : goal.returns-clause-ordinary
-returns-clause-ordinary g c = λ outside holds config listed. IsOrdinary-end c.enter.new.self.prepared c.end_place-walk.result (enters-ordinary g c outside holds config listed)
+    let file = c.in_ok-file.file in
+    let main = c.args.main.now in
+    let named = c.in_ok-file.ensures.named in
+    let content = c.in-Some.content.value in
+    let at = c.in_ok-content.ensures.content ∙ ap (λ (o : Option (Rc Content Global)). Some (option_map (λ held. held.value) o)) c.in-Some.is in
+    let may = may-be-held _ c.in_ok-enter.ensures.ready.read in
+    let is = may.agrees.each file.0 main (Some content) (Extends-keeps file.0 main named c.enter.ensures.files) (c.in_ok-enter.ensures.read.each file.0 (Some content) at) in
+    let ordinary = entered-is fresh c.enter.ensures.keeps main may.outside file c.always-always.result named c.always-always.ensures.meaning.at
+    (c.in_ok-enter.ensures.enters (context_of space may.outside) (space-context space may.outside) may.agrees) in
+    record {
+      outside = may.outside;
+      held = λ told is. may.held told (c.enter.ensures.kept ∙ (c.read.ensures.kept ∙ is));
+      ordinary = λ config listed. IsOrdinary-end c.enter.new.self.prepared c.end_place-walk.result (ordinary config listed);
+      ends = λ bytes config there listed live.
+          ap (seen_place c.enter.new.files) (c.end_place-walk.ensures ∙ ap end_place c.deref-2.ensures) ∙ main-end space may.outside main config there is (ordinary config listed) live;
+    }
 
 pub returns-clause-shown : goal.returns-clause-shown
 returns-clause-shown g c = λ paths plain.
@@ -118,21 +132,6 @@ returns-in_err-enter-clause-files g c = Extends-trans c.intern.ensures.grows c.e
 pub returns-clause-files : goal.returns-clause-files
 returns-clause-files g c = Extends-trans c.intern.ensures.grows c.enter.ensures.files
 
-pub returns-clause-end : goal.returns-clause-end
-returns-clause-end g c = λ outside bytes holds there config listed live.
-    let files = c.intern.new.self in
-    let file = c.in_ok-file.file in
-    let main = c.args.main.now in
-    let content = c.in-Some.content.value in
-    let contents = c.in_ok-content.ensures.contents in
-    let at = c.in_ok-content.ensures.content ∙ ap (λ (o : Option (Rc Content Global)). Some (option_map (λ held. held.value) o)) c.in-Some.is in
-    let agrees = contents.told outside (c.read.ensures.kept ∙ holds) in
-    let is = agrees.each file.0 main (Some content) c.in_ok-file.ensures.named at in
-    let inside = subst (λ (f : FileId). f.0 < length files) (sym (end-inside c.read.new.names (length files) content (contents.held file content at))) c.in_ok-file.ensures.own in
-    ap (seen_place c.enter.new.files) (c.end_place-walk.ensures ∙ ap end_place c.deref-2.ensures)
-    ∙ (place-later c.enter.ensures.names c.enter.ensures.files (end_place content) inside
-    ∙ main-end (seen_space c.args.space.now) outside main config there is (enters-ordinary g c outside holds config listed) live)
-
 pub returns-clause-end_held : goal.returns-clause-end_held
 returns-clause-end_held g c =
     let files = c.intern.new.self in
@@ -151,12 +150,6 @@ returns-clause-live g c =
     let some = c.in_ok-enter.ensures.ready.read.some in
     entered-live fresh c.enter.ensures.keeps c.args.main.now c.in_ok-file.file c.always-always.result c.in_ok-file.ensures.named c.always-always.ensures.meaning.at
     (c.in_ok-enter.ensures.enters (context_of space some.0) (space-context space some.0) some.1)
-
-pub returns-in_default-clause-end : goal.returns-in_default-clause-end
-returns-in_default-clause-end g c = λ outside bytes holds there config listed live.
-    let agrees = c.in_ok-content.ensures.contents.told outside (c.read.ensures.kept ∙ holds) in
-    let absent = name-absent c.read.new.self outside agrees c.in_ok-file.file c.args.main.now c.in_ok-file.ensures.named c.in_ok-content.field-0 c.in_ok-content.ensures.content c.in_default.is in
-    absurd (none-some bytes (sym absent ∙ there))
 
 pub returns-in_default-clause-end_held : goal.returns-in_default-clause-end_held
 returns-in_default-clause-end_held g c =
