@@ -1,12 +1,12 @@
 -- A space that has one configuration alone.
-use Rattle.std.proofs.Common.{◌≡◌, ◌∙◌, inl, inr, ℕ, zero, suc, ◌+◌, ◌<◌, ◌≤◌, ◌++◌, List, [], ◌∷◌, All, map, length, get_or, slice_get, take, drop, Option, Result, arith, refl, sym, ap, ap₂, subst}
+use Rattle.std.proofs.Common.{◌≡◌, ◌∙◌, ℕ, zero, suc, ◌+◌, ◌<◌, ◌≤◌, ◌++◌, List, [], ◌∷◌, All, map, length, get_or, slice_get, take, drop, Option, Result, arith, refl, sym, ap, ap₂, subst}
 use Rattle.std.proofs.lemmas.List.{length-map, map-append, take_all}
 use Rattle.std.proofs.lemmas.List.Elements.{All-cons, All-nil, All-head, All-tail, All-take, All-drop}
 use Rattle.std.proofs.lemmas.Option.{slice_get_within}
 use Rattle.std.proofs.Math.ListN.{get_or-map}
 use Rattle.std.proofs.Math.Path.{fun_ext}
 use Rattle.std.specs.Option.{option_and_then, option_or}
-use Rattle.std.specs.Prelude.{◌⊎◌, replicate, string_bytes, AllPairs, slice_index, if◌then◌else◌}
+use Rattle.std.specs.Prelude.{replicate, string_bytes, AllPairs, slice_index, if◌then◌else◌}
 use Rattle.c11_directives.specs.Pre.{Includes, Pre, context_of}
 use Rattle.c11_macros.specs.Macros.{Definition, Macros, definition_of, definition_named, initial_macros, predefined_macros, variable_definition}
 use Rattle.sc_core.specs.Cut.{cut_space, cut_variables, first_config}

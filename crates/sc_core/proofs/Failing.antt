@@ -1,5 +1,5 @@
 -- Why there is no text of what is asked for.
-use Rattle.std.proofs.Common.{◌≡◌, ◌∙◌, ℕ, ◌+◌, true, List, Option, Some, None, Ok, Err, inl, inr, refl, sym, ap, subst}
+use Rattle.std.proofs.Common.{◌≡◌, ◌∙◌, ℕ, ◌+◌, true, List, Option, Some, None, Ok, Err, inr, refl, sym, ap}
 use Rattle.std.specs.Option.{unwrap_or}
 use Rattle.sc_args.specs.Words.{Asked, project, asked_of}
 use Rattle.sc_core.specs.declared.run_error.RunError.{RunError}

@@ -1,3 +1,4 @@
+pub mod Choices
 pub mod Cuts
 pub mod Failing
 pub mod Filling

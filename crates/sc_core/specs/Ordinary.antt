@@ -1,5 +1,5 @@
 -- What ordinary translation of a file gives at one configuration: preprocessing, then parsing.
-use Rattle.std.specs.Prelude.{◌≡◌, ◌⊎◌, ◌<◌, ◌+◌, ℕ, false, List, length, All, AllPairs, Option, Some, Result, Ok, Err}
+use Rattle.std.specs.Prelude.{◌≡◌, ◌⊎◌, ◌<◌, ◌+◌, ℕ, false, List, length, All, AllPairs, Some, Result, Ok, Err}
 use Rattle.std.specs.Result.{is_ok}
 use Rattle.c11_directives.specs.Footprints.{Has, HasFootprints}
 use Rattle.c11_directives.specs.Pre.{Pre}

@@ -19,7 +19,7 @@ use Rattle.sc_model.specs.Token.{Shown, Token, shown}
 use Rattle.sc_show.specs.Conflicts.{conflict_pieces}
 use Rattle.sc_show.specs.Pieces.{IsLine}
 use Rattle.sc_show.specs.PlainText.{IsPlainAnswer}
-use Rattle.sc_show.specs.TreeLayout.{IsTreeTextOf}
+use Rattle.sc_show.specs.TreeLayout.{HasSoundChoices, IsRooted, IsTreeTextOf}
 use Rattle.sc_show.specs.TreeShows.{shown_tree}
 use Rattle.sc_show.specs.TreeText.{ShownTree, TreeAnswer, IsResultAt}
 use Rattle.sc_source.specs.Sink.{WritesCut}
@@ -104,11 +104,14 @@ abbrev pub IsTranslation : Setting → TreeAnswer → Bool → Type 0
 IsTranslation s answer accepted = IsRight s.space (Translates s) (λ config ordinary. IsResultAt answer config (shown_result ordinary)) accepted
 
 -- The pieces are the lines of a text that keeps the rules of the format, and a configuration has a
--- fault exactly where it is told that not all are accepted. It says what ordinary translation
--- gives, as C11 is parsed.
+-- fault exactly where it is told that not all are accepted. Its choices are sound, and it has a
+-- root exactly where some configuration is accepted. It says what ordinary translation gives, as
+-- C11 is parsed.
 pub record IsParseText (holds : Option Files) (s : Setting) (pieces : List (List ℕ)) (accepted : Bool) : Type 0 where
   pub answer : TreeAnswer
   pub text : IsTreeTextOf s.space pieces answer
+  pub choices : HasSoundChoices s.space answer.parts
+  pub rooted : IsRooted s.space answer
   pub verdict : Tells accepted (HasNoFault s.space answer)
   pub c11 : IsC11Parser s.parser
   pub right : WhereTold holds s.files (IsTranslation s answer accepted)

@@ -20,7 +20,7 @@ use Rattle.sc_model.specs.Fault.{Fault}
 use Rattle.sc_model.specs.Sets.{Sets, IsConfig}
 use Rattle.sc_project.specs.Layout.{LaysOut}
 use Rattle.sc_show.specs.PlainText.{IsPlainAnswer}
-use Rattle.sc_show.specs.TreeLayout.{IsTreeTextOf}
+use Rattle.sc_show.specs.TreeLayout.{HasSoundChoices, IsRooted, IsTreeTextOf}
 use Rattle.sc_show.specs.TreeShows.{AreShowableLeaves}
 use Rattle.sc_show.specs.TreeText.{ShownTree, TreeAnswer, IsResultAt}
 use Rattle.sc_space.specs.Config.{read_config}
@@ -34,9 +34,9 @@ use Rattle.sc_tree.specs.Walks.{is_choice}
 use Rattle.sc_core.specs.declared.run_error.RunError.{RunError}
 use Rattle.sc_core.specs.declared.run_error.RunError.TheVariants as error
 use Rattle.sc_core.specs.declared.output.Output.{Output}
-use Rattle.sc_core.specs.Outcome.{HasNoFault, HasSpace, HasText, HasTextOf, IsTokensText, IsTranslation, MayHold, RefusesSpace, Tells, WhereTold, job_of}
+use Rattle.sc_core.specs.Outcome.{HasNoFault, HasSpace, HasText, HasTextOf, IsTranslation, MayHold, RefusesSpace, Tells, WhereTold, job_of}
 use Rattle.sc_model.specs.Outside.{Files, Rose}
-use Rattle.sc_model.specs.Space.{Space, IsListed, arities_of}
+use Rattle.sc_model.specs.Space.{Space, IsListed}
 use Rattle.sc_show.specs.Pieces.{split_lines_after}
 
 abbrev pub lines_of : Output → List (List ℕ)
@@ -148,6 +148,12 @@ pub record TellsTree (holds : Option Files) (space : Space) (main : List ℕ) (t
   pub parser : Parser
   pub c11 : IsC11Parser parser
   pub right : (files : Files) → WhereTold holds files (IsTranslation (setting_of space main parser files) answer (not text.is_refused))
+
+-- The choices of such a text are sound, and it has a root where a configuration is accepted.
+pub record TellsChoices (holds : Option Files) (space : Space) (main : List ℕ) (text : Output) : Type 0 where
+  pub tells : TellsTree holds space main text
+  pub choices : HasSoundChoices space tells.answer.parts
+  pub rooted : IsRooted space tells.answer
 
 -- In a space of one configuration the text is that of its result, a tree or a fault.
 pub record TellsPlain (holds : Option Files) (space : Space) (main : List ℕ) (text : Output) : Type 0 where

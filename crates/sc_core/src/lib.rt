@@ -2,6 +2,7 @@
 #![tactic(auto)]
 
 mod cut;
+mod laws;
 mod output;
 mod program;
 mod run_error;
@@ -10,6 +11,7 @@ mod status;
 mod texts;
 mod tree_texts;
 
+pub use laws::{parse_choices_part_configurations, parse_root_has_a_configuration};
 pub use program::run;
 pub use sc_prep::preprocess;
 pub use status::Status;

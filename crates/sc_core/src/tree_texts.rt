@@ -4,7 +4,8 @@ ghost use Rattle.sc_args.specs.Words.{is_file_name, parse as asked_parse, projec
 ghost use Rattle.sc_core.specs.Cut.{first_config};
 ghost use Rattle.sc_core.specs.Ordinary.{HasManyBranches};
 ghost use Rattle.sc_core.specs.Outcome.{FailsFor, job_of};
-ghost use Rattle.sc_core.specs.Texts.{AreTranslated, CanShowTree, HasAnswers, IsAnswerFor, IsPlain, lines_of, seen_by, StopsIn, TellsPlain, TellsTree};
+ghost use Rattle.sc_core.specs.Texts.{AreTranslated, CanShowTree, HasAnswers, IsAnswerFor, IsPlain, lines_of, seen_by, StopsIn, TellsChoices, TellsPlain};
+ghost use Rattle.sc_fork.specs.Choices.{AreSound};
 ghost use Rattle.sc_model.specs.Bytes.{has_no_newline};
 ghost use Rattle.sc_model.specs.Growth.{Extends};
 ghost use Rattle.sc_model.specs.Sets.{IsConfig, IsNever, Keeps};
@@ -109,7 +110,7 @@ fn tree_under<C: Conditions, S: Source>(
     requires sound { IsSound (seen_space space.now) }
     requires plain { has_no_newline file.now ≡ true }
     ensures lines { IfOk result (λ text. All IsLine (lines_of text)) }
-    ensures tree { IfOk result (TellsTree (S.holds src.old) (seen_space space.now) file.now) }
+    ensures tree { IfOk result (TellsChoices (S.holds src.old) (seen_space space.now) file.now) }
     ensures stops { IfErr result (StopsIn (λ s. HasManyBranches s) (S.holds src.old) (S.faults src.old) (S.faults src.new) (seen_space space.now) file.now) }
 
     // at every outcome
@@ -168,6 +169,7 @@ fn parsed<C: Conditions, S: Source>(
     ensures translated { IfOk result (λ p. AreTranslated (S.holds src.old) (seen_space space.now) file.now
         (seen_by (C.sets conds.new) names.new files.new p) p.root p.faults.items) }
     ensures answered { IfOk result (λ p. HasAnswers (seen_by (C.sets conds.new) names.new files.new p) p.root p.faults.items) }
+    ensures choices { IfOk result (λ p. AreSound (C.sets conds.new) p.trees) }
     ensures stops { IfErr result (StopsIn (λ s. HasManyBranches s) (S.holds src.old) (S.faults src.old) (S.faults src.new) (seen_space space.now) file.now) }
 
     // at every outcome

@@ -1,9 +1,9 @@
 -- The rules of the text of a tree: which lines it has, and in which order.
-use Rattle.std.specs.Prelude.{◌≡◌, ℕ, ◌+◌, ◌<◌, true, List, [], ◌∷◌, ◌++◌, length, map, All, Option, Some, None, slice_get}
+use Rattle.std.specs.Prelude.{◌≡◌, ℕ, ◌+◌, ◌<◌, true, false, List, [], ◌∷◌, ◌++◌, length, map, All, AllPairs, Option, Some, None, slice_get}
 use Rattle.std.specs.List.{AllZip, list_all}
 use Rattle.sc_model.specs.Growth.{IsOneToOne}
 use Rattle.sc_model.specs.Sets.{IsConfig, IsCanonical}
-use Rattle.sc_model.specs.Space.{Space, arities_of}
+use Rattle.sc_model.specs.Space.{Space, IsListed, arities_of}
 use Rattle.sc_text.specs.Layout.{Need, condition_numbered, file_numbered, needs, Counts, at_start, Introduces, sets_of, HasOrder, IsAscending, is_fault, AreSame}
 use Rattle.sc_text.specs.Text.{Condition, TextLine, end_line, token_list, Reading, project}
 use Rattle.sc_show.specs.TreeText.{TreeLine, common_line, leaf_line, node_line, choice_line, root_line, common_lines, Part, leaf_part, node_part, choice_part, TreeAnswer, ReadsTree}
@@ -73,6 +73,23 @@ pub record KeepsTreeRules (space : Space) (lines : List TreeLine) (reading : Rea
 pub record IsTreeTextOf (space : Space) (pieces : List (List ℕ)) (answer : TreeAnswer) : Type 0 where
   pub reads : ReadsTree space pieces answer
   pub rules : KeepsTreeRules space reads.lines reads.reading answer.root
+
+-- ---- choices and the root
+
+-- There are at least two branches, their conditions disjoint and satisfiable.
+pub record PartsConfigs (space : Space) (branches : List (Condition × ℕ)) : Type 0 where
+  pub several : 1 < length branches
+  pub apart : AllPairs (λ a b. (c : List ℕ) → IsListed space c → a.0 c ≡ true → b.0 c ≡ true → ⊥) branches
+  pub possible : All (λ (branch : Condition × ℕ). ((c : List ℕ) → IsListed space c → branch.0 c ≡ false) → ⊥) branches
+
+-- each choice has such branches
+pub record HasSoundChoices (space : Space) (parts : List Part) : Type 0 where
+  pub each : (id : ℕ) (branches : List (Condition × ℕ)) → slice_get parts id ≡ Some (choice_part branches) → PartsConfigs space branches
+
+-- there is a root exactly where some listed configuration has no fault
+pub record IsRooted (space : Space) (answer : TreeAnswer) : Type 0 where
+  pub some : (root : ℕ) → answer.root ≡ Some root → (config : List ℕ) × (IsListed space config × (project answer.faults config ≡ []))
+  pub none : answer.root ≡ None → (config : List ℕ) → IsListed space config → project answer.faults config ≡ [] → ⊥
 
 -- ---- what has one text
 

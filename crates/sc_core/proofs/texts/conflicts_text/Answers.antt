@@ -5,7 +5,7 @@ use Rattle.sc_core.proofs.texts.conflicts_text.Goals as goal
 use Rattle.sc_core.specs.Texts.{setting_of}
 use Rattle.sc_model.specs.Space.{Space}
 use Rattle.sc_show.specs.Conflicts.{conflict_pieces}
-use Rattle.sc_lalr.specs.Tables.{conflicts_of, tables_of}
+use Rattle.sc_lalr.specs.Tables.{conflicts_of}
 use Rattle.sc_show.proofs.ConflictLines.{are_named, conflict_lines}
 use Rattle.sc_show.specs.Pieces.{IsLine}
 

@@ -1,4 +1,4 @@
-use Rattle.std.proofs.Common.{◌≡◌, ◌∙◌, Global, ap, ap₂, map, refl, sym, Ok, Result, List, ℕ}
+use Rattle.std.proofs.Common.{◌≡◌, ◌∙◌, Global, ap, ap₂, map, sym, Ok, Result, List, ℕ}
 use Rattle.std.specs.declared.string.String.{String}
 use Rattle.std.proofs.lemmas.Result.{IfErr-weaker, IfOk-weaker}
 use Rattle.std.specs.Prelude.{string_bytes}

@@ -23,13 +23,14 @@ returns-in_err-space-clause-error g c =
 pub returns-in-Ok-clause-text : goal.returns-in-Ok-clause-text
 returns-in-Ok-clause-text g c =
     let is = c.in_ok-space.ensures.space in
-    let tells = c.in-Ok.ensures.tree in
+    let told = c.in-Ok.ensures.tree in
+    let tells = told.tells in
     record {
       lines = c.in-Ok.ensures.lines;
       setting = setting_of (seen_space c.in_ok-space.space) c.args.file.now tells.parser is.files;
       held = is.held;
       has = record { has_space = is.has; main_is = refl };
-      text = record { answer = tells.answer; text = tells.text_of; verdict = tells.verdict; c11 = tells.c11; right = λ told. tells.right is.files (c.in_ok-space.ensures.kept ∙ told) };
+      text = record { answer = tells.answer; text = tells.text_of; choices = told.choices; rooted = told.rooted; verdict = tells.verdict; c11 = tells.c11; right = λ told. tells.right is.files (c.in_ok-space.ensures.kept ∙ told) };
     }
 
 pub returns-clause-error : goal.returns-clause-error

@@ -1,11 +1,11 @@
 use Rattle.std.proofs.Common.{◌∙◌, List, All, inl, sym, subst}
 use Rattle.std.proofs.lemmas.List.Elements.{All-weaker}
 use Rattle.std.proofs.lemmas.Result.{err_from_is_err_and}
-use Rattle.sc_base.specs.declared.fault.Fault as base
 use Rattle.sc_base.specs.declared.id.Cond.{Cond}
 use Rattle.sc_base.specs.declared.token.Token.{Token}
 use Rattle.sc_base.specs.Seen.{IsHeld}
 use Rattle.sc_core.proofs.ParsedFiles.{c11-is, c11-parser, file-input, input, is-input, is-listed-input, listed_input, parsed-answers, parsed-apart, parsed-faults, parsed-leaves, stops-in, translated-at}
+use Rattle.sc_core.proofs.Choices.{no-choices}
 use Rattle.sc_core.proofs.Filling.{stops-before}
 use Rattle.sc_core.proofs.ToldFiles.{ends-told, ordinary-told}
 use Rattle.sc_core.proofs.tree_texts.parsed.Goals as goal
@@ -133,3 +133,14 @@ returns-clause-answered g c =
 
 pub returns-clause-keeps : goal.returns-clause-keeps
 returns-clause-keeps g c = Keeps-trans c.preprocess.ensures.keeps c.parse.ensures.keeps
+
+pub returns-clause-choices : goal.returns-clause-choices
+returns-clause-choices g c =
+    let s = g.C.Conditions.sets c.preprocess.new.conds in
+    let names = c.preprocess.new.names in
+    let files = c.preprocess.new.files in
+    let prepared = c.in_ok-prepared.prepared in
+    let tables = c.in_ok-tables.tables in
+    let are = c.in_ok-tables.ensures in
+    let shown = c.in_ok-prepared.ensures.shown c.requires.paths c.requires.plain in
+    c.in_ok-parsed.ensures.choices files (input s names files prepared tables are shown) (is-input s names files prepared tables are shown c.new-trees.result) (no-choices s c.new-trees.result c.new-trees.ensures)

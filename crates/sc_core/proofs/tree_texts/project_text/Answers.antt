@@ -8,7 +8,7 @@ use Rattle.sc_core.proofs.Projecting.{projected}
 use Rattle.sc_core.proofs.Telling.{name-plain}
 use Rattle.sc_core.proofs.tree_texts.project_text.Goals as goal
 use Rattle.sc_core.specs.Cut.{first_config}
-use Rattle.sc_core.specs.Ordinary.{HasManyBranches, Setting}
+use Rattle.sc_core.specs.Ordinary.{HasManyBranches}
 use Rattle.sc_core.specs.Outcome.{HasNoFault, IsTranslation, Tells, job_of}
 use Rattle.sc_core.specs.Texts.{StopsIn, lines_of, setting_of}
 use Rattle.sc_model.specs.Outside.{Rose}

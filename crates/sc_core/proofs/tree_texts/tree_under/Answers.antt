@@ -1,10 +1,14 @@
 use Rattle.std.proofs.Common.{◌≡◌, ◌∙◌, true, sym, subst}
 use Rattle.std.proofs.lemmas.List.Elements.{All-nil}
 use Rattle.std.proofs.lemmas.Result.{err_from_is_err_and}
-use Rattle.sc_core.proofs.TreeTelling.{tells-tree, tree-lines}
+use Rattle.sc_core.proofs.Choices.{choices-sound, rooted}
+use Rattle.sc_core.proofs.TreeTelling.{answer-told, tells-tree, tree-lines}
 use Rattle.sc_core.proofs.tree_texts.tree_under.Goals as goal
 use Rattle.sc_model.specs.Bytes.{has_no_newline}
 use Rattle.sc_prep.specs.Printable.{ArePlainPaths}
+use Rattle.sc_fork.proofs.OutcomeLemmas.{sound-same}
+use Rattle.sc_show.specs.TreeLayout.{HasSoundChoices, IsRooted}
+use Rattle.sc_show.specs.TreeText.{TreeAnswer}
 use Rattle.sc_space.specs.Seen.{seen_space}
 
 pub parsed-requires-clause-paths : goal.parsed-requires-clause-paths
@@ -17,8 +21,23 @@ pub returns-clause-tree : goal.returns-clause-tree
 returns-clause-tree g c =
     let made = c.in_ok-parsed.ensures in
     let text = c.in_ok-text_of.ensures in
-    tells-tree text.keeps c.parsed.new.names c.parsed.new.files (seen_space c.args.space.now) c.in_ok-parsed.parsed c.in_ok-text_of.field-0 text.text made.shown (made.keeps.arities ∙ c.requires.arities) text.none text.some
-    (g.S.Source.holds c.args.src.now) c.args.file.now made.translated
+    let s = g.C.Conditions.sets c.parsed.new.conds in
+    let new = g.C.Conditions.sets c.text_of.new.conds in
+    let names = c.parsed.new.names in
+    let files = c.parsed.new.files in
+    let space = seen_space c.args.space.now in
+    let main = c.args.file.now in
+    let p = c.in_ok-parsed.parsed in
+    let out = c.in_ok-text_of.field-0 in
+    let holds = g.S.Source.holds c.args.src.now in
+    let arities = made.keeps.arities ∙ c.requires.arities in
+    let sound = sound-same s new p.trees text.keeps made.shown.branches made.choices in
+    let told = answer-told text.keeps names files space p out text.text made.shown arities text.none text.some holds main made.translated in
+    record {
+      tells = tells-tree text.keeps names files space p out text.text made.shown arities text.none text.some holds main made.translated;
+      choices = subst (λ (answer : TreeAnswer). HasSoundChoices space answer.parts) told (choices-sound text.keeps names files space p out text.text made.shown arities sound);
+      rooted = subst (IsRooted space) told (rooted text.keeps names files space p out text.text made.shown arities made.answered);
+    }
 
 pub returns-in_err-text_of-clause-stops : goal.returns-in_err-text_of-clause-stops
 returns-in_err-text_of-clause-stops g c =
