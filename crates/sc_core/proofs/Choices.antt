@@ -12,7 +12,6 @@ use Rattle.sc_core.specs.Texts.{CanShowTree, HasAnswers, seen_by}
 use Rattle.sc_fork.specs.Choices.{AreSound}
 use Rattle.sc_guarded.specs.Items.{seen_fault}
 use Rattle.sc_model.specs.Fault.{Fault}
-use Rattle.sc_model.specs.Outside.{Files}
 use Rattle.sc_model.specs.Sets.{Sets, IsConfig, Keeps}
 use Rattle.sc_model.specs.Space.{Space, IsListed, arities_of}
 use Rattle.sc_show.proofs.TreeResults.{choice-stored}
@@ -95,7 +94,7 @@ module _ {s new : Sets} (keeps : Keeps s new) (names files : List (List ℕ)) (s
 
 -- ---- texts that are none of parsing
 
-module _ {holds : Option Files} {of : Setting} {pieces : List (List ℕ)} {told : Bool} (text : IsParseText holds of pieces told) {answer : TreeAnswer} (reads : ReadsTree of.space pieces answer) where
+module _ {of : Setting} {pieces : List (List ℕ)} {told : Bool} (text : IsParseText of pieces told) {answer : TreeAnswer} (reads : ReadsTree of.space pieces answer) where
   -- the text reads as one answer
   same : text.answer ≡ answer
   same = tree-reads-unique refl text.text.reads reads

@@ -88,12 +88,12 @@ choice-fails reading name main choices space is error.OutOfMemory fails = tt
 
 -- ---- there are too many branches
 
-pub fills-job : (job : Job) (fills : Setting → Type 0) (holds : Option Files) (name main line : List ℕ) (space : Space) → ((s : Setting) → IsOn name main s → job.has s)
+pub fills-job : (job : Job) (fills : Setting → Type 0) (holds : Option Files) (name main line : List ℕ) (space : Space) → ((s : Setting) → IsOn holds name main s → job.has holds s)
     → ((s : Setting) → WhereTold holds s.files (fills s) → job.fills holds s) → ReadsSpace holds name space → FillsIn fills holds space main → line ≡ branches_line (space.branches + 1) → FillsBranches job holds line
 fills-job job fills holds name main line space has why is full told = record {
   setting = setting_of space main full.parser is.files;
   held = is.held;
-  has = has (setting_of space main full.parser is.files) (record { has_space = is.has; main_is = refl });
+  has = has (setting_of space main full.parser is.files) (record { files = is.files; held = is.held; has_space = is.has; main_is = refl });
   configs = full.configs;
   why = why (setting_of space main full.parser is.files) (full.why is.files);
   told = told;

@@ -150,7 +150,9 @@ module _ {s : Sets} {names files : List (List ℕ)} {old p : ParsedFile} (c : Li
   plain-translated holds space main one are = record {
     parser = are.parser;
     c11 = are.c11;
-    each = λ outside told d listed.
-        let at = are.each outside told d listed in
+    files = are.files;
+    held = are.held;
+    each = λ d listed.
+        let at = are.each d listed in
         record { ordinary = at.ordinary; translated = at.translated; stands = stands-plain d (one d listed) at.ordinary at.stands };
   }

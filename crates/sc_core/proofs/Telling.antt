@@ -1,5 +1,5 @@
 -- That a text tells what ordinary preprocessing gives.
-use Rattle.std.proofs.Common.{◌≡◌, ℕ, ◌==◌, not, Bool, true, false, List, [], ◌∷◌, map, length, Option, Some, Result, Ok, Err, arith, refl, sym, ap, ◌∙◌, subst}
+use Rattle.std.proofs.Common.{◌≡◌, ℕ, ◌==◌, not, Bool, true, false, List, [], ◌∷◌, map, length, Result, Ok, Err, arith, refl, sym, ap, ◌∙◌, subst}
 use Rattle.std.proofs.lemmas.Bool.{and_parts}
 use Rattle.std.proofs.lemmas.Bool.Decides.{nat_tests}
 use Rattle.std.proofs.lemmas.Simd.{map-map}
@@ -56,9 +56,9 @@ pub tells-by : (b : Bool) (Never Accepted : Type 0) → (b ≡ false → Never) 
 tells-by true Never Accepted none some accepts never = λ all. some refl (never all)
 tells-by false Never Accepted none some accepts never = accepts (none refl)
 
-module _ {s new : Sets} (keeps : Keeps s new) (names files : List (List ℕ)) (space : Space) (holds : Option Files) (main : List ℕ) (p : Prepared) (text : Output)
+module _ {s new : Sets} (keeps : Keeps s new) (names files : List (List ℕ)) (space : Space) (outside : Files) (main : List ℕ) (p : Prepared) (text : Output)
     (shows : Shows space new names files p.list p.faults.items text.lines.items) (owns : OwnsList s p) (arities : s.arities ≡ arities_of space)
-    (ordinary : (outside : Files) → holds ≡ Some outside → (config : List ℕ) → IsListed space config → IsOrdinary s names files p (Pre space outside main config) config)
+    (ordinary : (config : List ℕ) → IsListed space config → IsOrdinary s names files p (Pre space outside main config) config)
     (none : text.is_refused ≡ false → All (λ (f : base.Fault). IsNever s f.cond.0) p.faults.items)
     (some : text.is_refused ≡ true → All (λ (f : base.Fault). IsNever s f.cond.0) p.faults.items → ⊥) where
   here : (config : List ℕ) → IsListed space config → IsConfig s.arities config
@@ -83,13 +83,13 @@ module _ {s new : Sets} (keeps : Keeps s new) (names files : List (List ℕ)) (s
       let nothing : map (seen_fault files) (faults_at s p.faults.items config) ≡ [] = sym shown ∙ ap (λ faults. project faults config) none in
       nil_from_length (faults_at s p.faults.items config) (sym (length-map (faults_at s p.faults.items config) (seen_fault files)) ∙ ap length nothing))
 
-  module _ (outside : Files) (parser : Parser) (held : holds ≡ Some outside) where
+  module _ (parser : Parser) where
     abbrev setting : Setting
     setting = setting_of space main parser outside
 
     ordinary-at : (config : List ℕ) → IsListed space config → IsRightAt (Preprocesses setting config) (λ o. At shows.answer config (shown_answer o))
     ordinary-at config listed =
-        let o = ordinary outside held config listed in
+        let o = ordinary config listed in
         let now = here config listed in
         record {
           ordinary = o.answer;
@@ -103,28 +103,28 @@ module _ {s new : Sets} (keeps : Keeps s new) (names files : List (List ℕ)) (s
 
     all-accepted : All (λ (f : base.Fault). IsNever s f.cond.0) p.faults.items → AcceptsAll space (Preprocesses setting)
     all-accepted never config listed =
-        let o = ordinary outside held config listed in
+        let o = ordinary config listed in
         accepted-by (Preprocesses setting config) o.answer (map (seen names files) (items_at s p.list config)) (map (seen_fault files) (faults_at s p.faults.items config)) o.preprocessed
         (ap (map (seen_fault files)) (faults_at-never s p.faults.items never config (here config listed))) o.stands
 
     none-refused : AcceptsAll space (Preprocesses setting) → All (λ (f : base.Fault). IsNever s f.cond.0) p.faults.items
     none-refused all =
         never-faults_at s p.faults.items (λ config listed.
-        let o = ordinary outside held config (there config listed) in
+        let o = ordinary config (there config listed) in
         let a = all config (there config listed) in
         let none : map (seen_fault files) (faults_at s p.faults.items config) ≡ [] =
         unrefused-by o.answer a.0 (map (seen names files) (items_at s p.list config)) (map (seen_fault files) (faults_at s p.faults.items config)) (pre-unique o.preprocessed a.1) o.stands in
         nil_from_length (faults_at s p.faults.items config) (sym (length-map (faults_at s p.faults.items config) (seen_fault files)) ∙ ap length none))
 
-  pub tells-tokens : (outside : Files) (parser : Parser) → IsTokensText holds (setting_of space main parser outside) (lines_of text) (not text.is_refused)
-  tells-tokens outside parser = record {
+  pub tells-tokens : (parser : Parser) → IsTokensText (setting_of space main parser outside) (lines_of text) (not text.is_refused)
+  tells-tokens parser = record {
     answer = shows.answer;
     text = subst (λ pieces. IsTextOf space pieces shows.answer) (sym shows.cut) shows.text_of;
     verdict = tells-by text.is_refused (All (λ (f : base.Fault). IsNever s f.cond.0) p.faults.items) (shows.answer.faults ≡ []) none some no-fault-shown no-fault-had;
-    right = λ held. record {
-      each = ordinary-at outside parser held;
+    right = record {
+      each = ordinary-at parser;
       verdict = tells-by text.is_refused (All (λ (f : base.Fault). IsNever s f.cond.0) p.faults.items) (AcceptsAll space (Preprocesses (setting_of space main parser outside))) none some
-          (all-accepted outside parser held) (none-refused outside parser held);
+          (all-accepted parser) (none-refused parser);
     };
   }
 

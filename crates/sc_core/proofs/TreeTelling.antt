@@ -94,26 +94,26 @@ module _ {s new : Sets} (keeps : Keeps s new) (names files : List (List ℕ)) (s
   unrefused-by config (Err fault) tree is stands = cc
 
   module _ (none : text.is_refused ≡ false → NoFault) (some : text.is_refused ≡ true → NoFault → ⊥) where
-    module _ {holds : Option Files} {main : List ℕ} (are : AreTranslated holds space main (seen_by s names files p) p.root p.faults.items) (outside : Files) (held : holds ≡ Some outside) where
+    module _ {holds : Option Files} {main : List ℕ} (are : AreTranslated holds space main (seen_by s names files p) p.root p.faults.items) where
       abbrev setting : Setting
-      setting = setting_of space main are.parser outside
+      setting = setting_of space main are.parser are.files
 
       all-accepted : NoFault → AcceptsAll space (Translates setting)
       all-accepted never config listed =
-          let at = are.each outside held config listed in
+          let at = are.each config listed in
           accepted-by config (Translates setting config) at.ordinary at.translated at.stands (faults_at-never s p.faults.items never config (here config listed))
 
       none-refused : AcceptsAll space (Translates setting) → NoFault
       none-refused all =
           never-faults_at s p.faults.items (λ config listed.
-          let at = are.each outside held config (there config listed) in
+          let at = are.each config (there config listed) in
           let a = all config (there config listed) in
           unrefused-by config at.ordinary a.0 (translates-unique at.translated a.1) at.stands)
 
       translation : IsTranslation setting shows.answer (not text.is_refused)
       translation = record {
         each = λ config listed.
-            let at = are.each outside held config listed in
+            let at = are.each config listed in
             record { ordinary = at.ordinary; given = at.translated; said = result-at config listed at.ordinary at.stands };
         verdict = tells-by text.is_refused NoFault (AcceptsAll space (Translates setting)) none some all-accepted none-refused;
       }
@@ -125,6 +125,8 @@ module _ {s new : Sets} (keeps : Keeps s new) (names files : List (List ℕ)) (s
       verdict = tells-by text.is_refused NoFault (HasNoFault space shows.answer) none some none-shown none-had;
       parser = are.parser;
       c11 = are.c11;
+      files = are.files;
+      held = are.held;
       right = translation are;
     }
 

@@ -82,11 +82,11 @@ shown_answer (Err fault) = Err fault
 -- The pieces are the lines of a text that keeps the rules of the format, and it has no fault
 -- exactly where it is told that all configurations are accepted. It says what ordinary
 -- preprocessing gives.
-pub record IsTokensText (holds : Option Files) (s : Setting) (pieces : List (List ℕ)) (accepted : Bool) : Type 0 where
+pub record IsTokensText (s : Setting) (pieces : List (List ℕ)) (accepted : Bool) : Type 0 where
   pub answer : Answer token_list
   pub text : IsTextOf s.space pieces answer
   pub verdict : Tells accepted (answer.faults ≡ [])
-  pub right : WhereTold holds s.files (IsRight s.space (Preprocesses s) (λ config ordinary. At answer config (shown_answer ordinary)) accepted)
+  pub right : IsRight s.space (Preprocesses s) (λ config ordinary. At answer config (shown_answer ordinary)) accepted
 
 -- ---- the text of trees
 
@@ -107,14 +107,14 @@ IsTranslation s answer accepted = IsRight s.space (Translates s) (λ config ordi
 -- fault exactly where it is told that not all are accepted. Its choices are sound, and it has a
 -- root exactly where some configuration is accepted. It says what ordinary translation gives, as
 -- C11 is parsed.
-pub record IsParseText (holds : Option Files) (s : Setting) (pieces : List (List ℕ)) (accepted : Bool) : Type 0 where
+pub record IsParseText (s : Setting) (pieces : List (List ℕ)) (accepted : Bool) : Type 0 where
   pub answer : TreeAnswer
   pub text : IsTreeTextOf s.space pieces answer
   pub choices : HasSoundChoices s.space answer.parts
   pub rooted : IsRooted s.space answer
   pub verdict : Tells accepted (HasNoFault s.space answer)
   pub c11 : IsC11Parser s.parser
-  pub right : WhereTold holds s.files (IsTranslation s answer accepted)
+  pub right : IsTranslation s answer accepted
 
 -- ---- the text of one configuration
 
@@ -129,16 +129,14 @@ pub record IsProjected (s : Setting) (config : List ℕ) (answer : TreeAnswer) (
 
 -- The pieces are the lines of the text of a result, a tree or a fault, in the space that has the
 -- chosen configuration alone.
-pub record IsProjectText (choices : List (List ℕ)) (holds : Option Files) (s : Setting) (pieces : List (List ℕ)) (accepted : Bool) : Type 0 where
+pub record IsProjectText (choices : List (List ℕ)) (s : Setting) (pieces : List (List ℕ)) (accepted : Bool) : Type 0 where
   pub config : List ℕ
   pub chosen : read_config s.space choices ≡ Ok config
   pub answer : TreeAnswer
   pub text : IsTreeTextOf (cut_space s.space config) pieces answer
-  pub result : Result ShownTree Fault
-  pub plain : IsPlainAnswer answer (first_config s.space) result
   pub verdict : Tells accepted (HasNoFault (cut_space s.space config) answer)
   pub c11 : IsC11Parser s.parser
-  pub right : WhereTold holds s.files (IsProjected s config answer accepted)
+  pub right : IsProjected s config answer accepted
 
 -- ---- the text of the conflicts
 
@@ -156,9 +154,12 @@ pub record HasSpace (files : Files) (name : List ℕ) (space : Space) : Type 0 w
   pub held : files name ≡ Some bytes
   pub read : read_space bytes ≡ Ok space
 
--- the setting has the space of this file and this main file
-pub record IsOn (name main : List ℕ) (s : Setting) : Type 0 where
-  pub has_space : HasSpace s.files name s.space
+-- The setting has this main file, and the space that files which the source may hold have under
+-- this name. A source that doesn't tell may hold others by the time that the main file is read.
+pub record IsOn (holds : Option Files) (name main : List ℕ) (s : Setting) : Type 0 where
+  pub files : Files
+  pub held : MayHold holds files
+  pub has_space : HasSpace files name s.space
   pub main_is : s.main ≡ main
 
 -- the space file is not held or is refused, and the line tells why
@@ -181,12 +182,12 @@ pub record RefusesChoices (files : Files) (name : List ℕ) (choices : List (Lis
 pub record Job : Type 1 where
   -- whether files are read for it
   pub reads : Bool
-  -- it has this setting
-  pub has : Setting → Type 0
+  -- it has this setting, with what the source may hold
+  pub has : Option Files → Setting → Type 0
   -- these files, or other words, refuse it a setting, and the line tells why
   pub refuses : Files → List ℕ → Type 0
   -- the pieces are its text, and it is told whether all is accepted
-  pub text : Option Files → Setting → List (List ℕ) → Bool → Type 0
+  pub text : Setting → List (List ℕ) → Bool → Type 0
   -- there are more branches than the space allows
   pub fills : Option Files → Setting → Type 0
 
@@ -194,30 +195,30 @@ pub record Job : Type 1 where
 abbrev pub job_of : Asked → Job
 job_of (tokens space main) = record {
   reads = true;
-  has = IsOn space main;
+  has = λ holds. IsOn holds space main;
   refuses = λ files line. RefusesSpace files space line;
   text = IsTokensText;
   fills = λ holds s. WhereTold holds s.files (HasManyFootprints s);
 }
 job_of (parse space main) = record {
   reads = true;
-  has = IsOn space main;
+  has = λ holds. IsOn holds space main;
   refuses = λ files line. RefusesSpace files space line;
   text = IsParseText;
   fills = λ holds s. WhereTold holds s.files (HasManyBranches s);
 }
 job_of (project_tree space main choices) = record {
   reads = true;
-  has = IsOn space main;
+  has = λ holds. IsOn holds space main;
   refuses = λ files line. RefusesSpace files space line ⊎ RefusesChoices files space choices line;
   text = IsProjectText choices;
   fills = λ holds s. ⊥;
 }
 job_of conflicts = record {
   reads = false;
-  has = λ s. Unit {0};
+  has = λ holds s. Unit {0};
   refuses = λ files line. ⊥;
-  text = λ holds. IsConflictsText;
+  text = IsConflictsText;
   fills = λ holds s. ⊥;
 }
 
@@ -226,8 +227,8 @@ pub record HasTextOf (job : Job) (holds : Option Files) (pieces : List (List ℕ
   pub lines : All IsLine pieces
   pub setting : Setting
   pub held : MayHold holds setting.files
-  pub has : job.has setting
-  pub text : job.text holds setting pieces accepted
+  pub has : job.has holds setting
+  pub text : job.text setting pieces accepted
 
 -- files that the source may hold refuse the job, and the line tells why
 pub record RefusesJob (job : Job) (holds : Option Files) (line : List ℕ) : Type 0 where
@@ -240,7 +241,7 @@ pub record RefusesJob (job : Job) (holds : Option Files) (line : List ℕ) : Typ
 pub record FillsBranches (job : Job) (holds : Option Files) (line : List ℕ) : Type 0 where
   pub setting : Setting
   pub held : MayHold holds setting.files
-  pub has : job.has setting
+  pub has : job.has holds setting
   pub configs : HasManyConfigs setting.space
   pub why : job.fills holds setting
   pub told : line ≡ branches_line (setting.space.branches + 1)

@@ -34,7 +34,7 @@ use Rattle.sc_tree.specs.Walks.{is_choice}
 use Rattle.sc_core.specs.declared.run_error.RunError.{RunError}
 use Rattle.sc_core.specs.declared.run_error.RunError.TheVariants as error
 use Rattle.sc_core.specs.declared.output.Output.{Output}
-use Rattle.sc_core.specs.Outcome.{HasNoFault, HasSpace, HasText, HasTextOf, IsTranslation, MayHold, RefusesSpace, Tells, WhereTold, job_of}
+use Rattle.sc_core.specs.Outcome.{HasNoFault, HasSpace, HasText, HasTextOf, IsTokensText, IsTranslation, MayHold, RefusesSpace, Tells, WhereTold, job_of}
 use Rattle.sc_model.specs.Outside.{Files, Rose}
 use Rattle.sc_model.specs.Space.{Space, IsListed}
 use Rattle.sc_show.specs.Pieces.{split_lines_after}
@@ -88,6 +88,14 @@ TellsRefusal (stop.Fault fault) (error.BadSpace line) = line.items ≡ space_lin
 TellsRefusal stop.OutOfMemory error.OutOfMemory = Unit {0}
 TellsRefusal _ _ = ⊥
 
+-- ---- tokens
+
+-- the text of the tokens of a main file, in files that the source may hold
+pub record TellsTokens (holds : Option Files) (space : Space) (main : List ℕ) (text : Output) : Type 0 where
+  pub files : Files
+  pub held : MayHold holds files
+  pub text_of : (parser : Parser) → IsTokensText (setting_of space main parser files) (lines_of text) (not text.is_refused)
+
 -- ---- trees
 
 -- at the configuration the file has its tree and no fault, or its fault alone
@@ -105,7 +113,9 @@ pub record IsTranslated (s : Setting) (w : Tables) (root : Option TreeId) (fault
 pub record AreTranslated (holds : Option Files) (space : Space) (main : List ℕ) (w : Tables) (root : Option TreeId) (faults : List base.Fault) : Type 0 where
   pub parser : Parser
   pub c11 : IsC11Parser parser
-  pub each : (files : Files) → WhereTold holds files ((config : List ℕ) → IsListed space config → IsTranslated (setting_of space main parser files) w root faults config)
+  pub files : Files
+  pub held : MayHold holds files
+  pub each : (config : List ℕ) → IsListed space config → IsTranslated (setting_of space main parser files) w root faults config
 
 -- Each configuration has its tree and no fault, or one fault. Where there is a root, some
 -- configuration has a tree.
@@ -147,7 +157,9 @@ pub record TellsTree (holds : Option Files) (space : Space) (main : List ℕ) (t
   pub verdict : Tells (not text.is_refused) (HasNoFault space answer)
   pub parser : Parser
   pub c11 : IsC11Parser parser
-  pub right : (files : Files) → WhereTold holds files (IsTranslation (setting_of space main parser files) answer (not text.is_refused))
+  pub files : Files
+  pub held : MayHold holds files
+  pub right : IsTranslation (setting_of space main parser files) answer (not text.is_refused)
 
 -- The choices of such a text are sound, and it has a root where a configuration is accepted.
 pub record TellsChoices (holds : Option Files) (space : Space) (main : List ℕ) (text : Output) : Type 0 where

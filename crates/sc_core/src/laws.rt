@@ -1,22 +1,21 @@
 //! Laws about the texts of a run, each the contract of a function without code.
-ghost use Rattle.std.specs.Prelude.{Bool, List, ℕ, None, Option, Some, [], slice_get, ◌∷◌, ◌≡◌};
+ghost use Rattle.std.specs.Prelude.{Bool, List, ℕ, None, Some, [], slice_get, ◌∷◌, ◌≡◌};
 ghost use Rattle.sc_core.specs.Ordinary.{Setting};
 ghost use Rattle.sc_core.specs.Outcome.{IsParseText};
-ghost use Rattle.sc_model.specs.Outside.{Files};
 ghost use Rattle.sc_model.specs.Space.{IsListed};
 ghost use Rattle.sc_show.specs.TreeText.{ReadsTree, TreeAnswer, choice_part};
 ghost use Rattle.sc_text.specs.Text.{Condition, project};
 
 /// No choice in a text of `parse` has one branch alone, or two under one condition.
 pub fn parse_choices_part_configurations()
-    ensures one_branch { (holds : Option Files) (s : Setting) (pieces : List (List ℕ)) (accepted : Bool) → IsParseText holds s pieces accepted → (answer : TreeAnswer) → ReadsTree s.space pieces answer
+    ensures one_branch { (s : Setting) (pieces : List (List ℕ)) (accepted : Bool) → IsParseText s pieces accepted → (answer : TreeAnswer) → ReadsTree s.space pieces answer
         → (number : ℕ) (branch : Condition × ℕ) → slice_get answer.parts number ≡ Some (choice_part (branch ∷ [])) → ⊥ }
-    ensures one_condition { (holds : Option Files) (s : Setting) (pieces : List (List ℕ)) (accepted : Bool) → IsParseText holds s pieces accepted → (answer : TreeAnswer) → ReadsTree s.space pieces answer
+    ensures one_condition { (s : Setting) (pieces : List (List ℕ)) (accepted : Bool) → IsParseText s pieces accepted → (answer : TreeAnswer) → ReadsTree s.space pieces answer
         → (number a b : ℕ) (test : Condition) → slice_get answer.parts number ≡ Some (choice_part ((test, a) ∷ (test, b) ∷ [])) → ⊥ }
 {}
 
 /// A text of `parse` in which each configuration has a fault has no root.
 pub fn parse_root_has_a_configuration()
-    ensures { (holds : Option Files) (s : Setting) (pieces : List (List ℕ)) (accepted : Bool) → IsParseText holds s pieces accepted → (answer : TreeAnswer) → ReadsTree s.space pieces answer
+    ensures { (s : Setting) (pieces : List (List ℕ)) (accepted : Bool) → IsParseText s pieces accepted → (answer : TreeAnswer) → ReadsTree s.space pieces answer
         → ((config : List ℕ) → IsListed s.space config → project answer.faults config ≡ [] → ⊥) → answer.root ≡ None }
 {}

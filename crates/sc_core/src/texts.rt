@@ -1,11 +1,10 @@
 ghost use Rattle.std.specs.Prelude.{◌≡◌, ◌≤◌, Option, true, false, not, map, length, string_bytes, All, IfOk, IfErr};
-ghost use Rattle.c11_parsing.specs.Parser.{Parser};
 ghost use Rattle.sc_args.specs.Words.{is_file_name, conflicts as asked_conflicts, tokens as asked_tokens};
 ghost use Rattle.sc_core.specs.Ordinary.{HasManyFootprints};
-ghost use Rattle.sc_core.specs.Outcome.{FailsFor, FailsWith, IsTokensText, job_of};
+ghost use Rattle.sc_core.specs.Outcome.{FailsFor, FailsWith, job_of};
 ghost use Rattle.sc_core.specs.RunError as lines;
 ghost use Rattle.sc_fork.specs.Owns.{AreC11Tables};
-ghost use Rattle.sc_core.specs.Texts.{IsAnswer, IsAnswerFor, StopsIn, lines_of, setting_of};
+ghost use Rattle.sc_core.specs.Texts.{IsAnswer, IsAnswerFor, StopsIn, TellsTokens, lines_of};
 ghost use Rattle.sc_model.specs.Outside.{Files as Outside};
 ghost use Rattle.sc_model.specs.Sets.{IsCond, IsNever};
 ghost use Rattle.sc_model.specs.Space.{arities_of};
@@ -143,8 +142,7 @@ fn text_under<C: Conditions, S: Source>(
     requires sound { IsSound (seen_space space.now) }
     requires plain { has_no_newline file.now ≡ true }
     ensures lines { IfOk result (λ text. All IsLine (lines_of text)) }
-    ensures tokens { (files : Outside) (parser : Parser)
-        → IfOk result (λ text. IsTokensText (S.holds src.old) (setting_of (seen_space space.now) file.now parser files) (lines_of text) (not text.is_refused)) }
+    ensures tokens { IfOk result (TellsTokens (S.holds src.old) (seen_space space.now) file.now) }
     ensures stops { IfErr result (StopsIn (λ s. HasManyFootprints s) (S.holds src.old) (S.faults src.old) (S.faults src.new) (seen_space space.now) file.now) }
 
     // at every outcome

@@ -6,7 +6,6 @@ use Rattle.std.proofs.lemmas.Result.{err_from_is_err_and}
 use Rattle.sc_core.proofs.Filling.{stops-before}
 use Rattle.sc_core.specs.Ordinary.{HasManyFootprints}
 use Rattle.sc_core.proofs.Telling.{tells-tokens}
-use Rattle.sc_core.proofs.ToldFiles.{ordinary-told}
 use Rattle.sc_core.proofs.texts.text_under.Goals as goal
 use Rattle.sc_model.specs.Bytes.{has_no_newline}
 use Rattle.sc_model.specs.Sets.{IsConfig, IsNever}
@@ -22,18 +21,22 @@ returns-clause-lines g c =
     subst (All IsLine) (sym (shows.cut ∙ shows.text_of.reads.written)) (text_lines shows.text_of.reads.lines shows.text_of.reads.clear)
 
 pub returns-clause-tokens : goal.returns-clause-tokens
-returns-clause-tokens g c = λ outside parser.
+returns-clause-tokens g c =
     let s = g.C.Conditions.sets c.preprocess.new.conds in
     let space = seen_space c.args.space.now in
     let p = c.in_ok-prepared.prepared in
+    let from = c.in_ok-prepared.ensures.ordinary in
     let shows = subst (λ (fs : List base.Fault). Shows space (g.C.Conditions.sets c.show_tokens.new.conds) c.preprocess.new.names c.preprocess.new.files p.list fs c.in_ok-lines.lines.items) c.deref-2.ensures.value c.in_ok-lines.ensures.text in
-    tells-tokens c.in_ok-lines.ensures.keeps c.preprocess.new.names c.preprocess.new.files space (g.S.Source.holds c.args.src.now) c.args.file.now p
-    (record { lines = c.in_ok-lines.lines; is_refused = c.has_fault-is_refused.result })
-    shows c.in_ok-prepared.ensures.owns (c.in_ok-prepared.ensures.keeps.arities ∙ c.requires.arities)
-    (λ outside holds config listed. ordinary-told c.in_ok-prepared.ensures.ordinary outside holds config (subst (λ ns. IsConfig ns config) (sym c.requires.arities) listed))
-    (λ e. subst (All (λ (f : base.Fault). IsNever s f.cond.0)) c.deref.ensures.value (c.has_fault-is_refused.ensures.none e))
-    (λ e all. c.has_fault-is_refused.ensures.some e (subst (All (λ (f : base.Fault). IsNever s f.cond.0)) (sym c.deref.ensures.value) all))
-    outside parser
+    record {
+      files = from.outside;
+      held = from.held;
+      text_of = tells-tokens c.in_ok-lines.ensures.keeps c.preprocess.new.names c.preprocess.new.files space from.outside c.args.file.now p
+          (record { lines = c.in_ok-lines.lines; is_refused = c.has_fault-is_refused.result })
+          shows c.in_ok-prepared.ensures.owns (c.in_ok-prepared.ensures.keeps.arities ∙ c.requires.arities)
+          (λ config listed. from.ordinary config (subst (λ ns. IsConfig ns config) (sym c.requires.arities) listed))
+          (λ e. subst (All (λ (f : base.Fault). IsNever s f.cond.0)) c.deref.ensures.value (c.has_fault-is_refused.ensures.none e))
+          (λ e all. c.has_fault-is_refused.ensures.some e (subst (All (λ (f : base.Fault). IsNever s f.cond.0)) (sym c.deref.ensures.value) all));
+    }
 
 pub show_tokens-requires-clause-files : goal.show_tokens-requires-clause-files
 show_tokens-requires-clause-files g c =

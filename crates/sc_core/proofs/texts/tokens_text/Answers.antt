@@ -6,11 +6,10 @@ use Rattle.sc_core.proofs.Filling.{any-parser}
 use Rattle.sc_core.proofs.Telling.{name-plain}
 use Rattle.sc_core.proofs.texts.tokens_text.Goals as goal
 use Rattle.sc_core.specs.Ordinary.{HasManyFootprints}
-use Rattle.sc_core.specs.Outcome.{IsTokensText, job_of}
+use Rattle.sc_core.specs.Outcome.{job_of}
 use Rattle.sc_core.specs.RunError.{branches_line}
-use Rattle.sc_core.specs.Texts.{FillsIn, StopsIn, lines_of, setting_of}
+use Rattle.sc_core.specs.Texts.{FillsIn, StopsIn, setting_of}
 use Rattle.sc_space.specs.Seen.{seen_space}
-use Rattle.std.specs.Prelude.{not}
 
 pub text_under-requires-clause-plain : goal.text_under-requires-clause-plain
 text_under-requires-clause-plain g c = name-plain c.args.file.now c.requires
@@ -25,14 +24,13 @@ returns-in_err-space-clause-error g c =
 pub returns-in-Ok-clause-text : goal.returns-in-Ok-clause-text
 returns-in-Ok-clause-text g c =
     let is = c.in_ok-space.ensures.space in
-    let setting = setting_of (seen_space c.in_ok-space.space) c.args.file.now any-parser is.files in
-    let text = c.in-Ok.text in
+    let tells = c.in-Ok.ensures.tokens in
     record {
       lines = c.in-Ok.ensures.lines;
-      setting = setting;
-      held = is.held;
-      has = record { has_space = is.has; main_is = refl };
-      text = subst (λ h. IsTokensText h setting (lines_of text) (not text.is_refused)) c.in_ok-space.ensures.kept (c.in-Ok.ensures.tokens is.files any-parser);
+      setting = setting_of (seen_space c.in_ok-space.space) c.args.file.now any-parser tells.files;
+      held = λ told holds. tells.held told (c.in_ok-space.ensures.kept ∙ holds);
+      has = record { files = is.files; held = is.held; has_space = is.has; main_is = refl };
+      text = tells.text_of any-parser;
     }
 
 pub returns-clause-error : goal.returns-clause-error

@@ -27,10 +27,10 @@ returns-in-Ok-clause-text g c =
     let tells = told.tells in
     record {
       lines = c.in-Ok.ensures.lines;
-      setting = setting_of (seen_space c.in_ok-space.space) c.args.file.now tells.parser is.files;
-      held = is.held;
-      has = record { has_space = is.has; main_is = refl };
-      text = record { answer = tells.answer; text = tells.text_of; choices = told.choices; rooted = told.rooted; verdict = tells.verdict; c11 = tells.c11; right = λ told. tells.right is.files (c.in_ok-space.ensures.kept ∙ told) };
+      setting = setting_of (seen_space c.in_ok-space.space) c.args.file.now tells.parser tells.files;
+      held = λ told holds. tells.held told (c.in_ok-space.ensures.kept ∙ holds);
+      has = record { files = is.files; held = is.held; has_space = is.has; main_is = refl };
+      text = record { answer = tells.answer; text = tells.text_of; choices = told.choices; rooted = told.rooted; verdict = tells.verdict; c11 = tells.c11; right = tells.right };
     }
 
 pub returns-clause-error : goal.returns-clause-error

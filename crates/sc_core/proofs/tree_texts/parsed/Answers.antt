@@ -105,10 +105,12 @@ returns-clause-translated g c =
     (record {
       parser = c11-parser are;
       c11 = c11-is are;
-      each = λ outside holds. translated-at s new c.parse.ensures.keeps names files prepared tables are shown made.owns c.parse.new.trees parsed parsed.events.items parse schedule space main outside
+      files = made.ordinary.outside;
+      held = made.ordinary.held;
+      each = translated-at s new c.parse.ensures.keeps names files prepared tables are shown made.owns c.parse.new.trees parsed parsed.events.items parse schedule space main made.ordinary.outside
           (made.keeps.arities ∙ c.requires.arities)
-          (λ config listed. ordinary-told made.ordinary outside holds config (subst (λ ns. IsConfig ns config) made.keeps.arities listed))
-          (λ bytes held config listed live. ends-told made.ordinary outside holds bytes config held (subst (λ ns. IsConfig ns config) made.keeps.arities listed) live);
+          (λ config listed. made.ordinary.ordinary config (subst (λ ns. IsConfig ns config) made.keeps.arities listed))
+          (λ bytes held config listed live. made.ordinary.ends bytes config held (subst (λ ns. IsConfig ns config) made.keeps.arities listed) live);
     })
 
 pub returns-clause-answered : goal.returns-clause-answered

@@ -72,23 +72,21 @@ returns-in-Ok-clause-text g c =
     let plain = subst (λ (d : List ℕ). IsPlainAnswer answer d told.result) first told.plain in
     let text = c.in-Ok.text in
     let found = c.in_ok-space.ensures.space in
-    let setting = setting_of space c.args.file.now tells.parser found.files in
+    let setting = setting_of space c.args.file.now tells.parser tells.files in
     record {
       lines = c.in-Ok.ensures.lines;
       setting = setting;
-      held = found.held;
-      has = record { has_space = found.has; main_is = refl };
+      held = λ told holds. tells.held told (c.in_ok-space.ensures.kept ∙ holds);
+      has = record { files = found.files; held = found.held; has_space = found.has; main_is = refl };
       text = record {
         config = config;
         chosen = c.in_ok-config.ensures.config ∙ ap (λ (d : List ℕ). Ok d) (sym c.deref.ensures.value);
         answer = answer;
         text = subst (λ (only : Space). IsTreeTextOf only (lines_of text) answer) is tells.text_of;
-        result = told.result;
-        plain = plain;
         verdict = subst (λ (only : Space). Tells (not text.is_refused) (HasNoFault only answer)) is tells.verdict;
         c11 = tells.c11;
-        right = λ holds. projected setting config listed answer (not text.is_refused) told.result same plain
-            (subst (λ (only : Space). IsTranslation (record setting { space = only }) answer (not text.is_refused)) is (tells.right found.files (c.in_ok-space.ensures.kept ∙ holds)));
+        right = projected setting config listed answer (not text.is_refused) told.result same plain
+            (subst (λ (only : Space). IsTranslation (record setting { space = only }) answer (not text.is_refused)) is tells.right);
       };
     }
 
