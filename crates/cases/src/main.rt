@@ -35,7 +35,7 @@ fn main(rt: HostRuntime) -> Result<()> {
         match report(rt.alloc(), &mut files, name) {
             Ok(differences) if differences.as_str().is_empty() => {}
             Ok(differences) => println!(rt; "{name}: {differences}")?,
-            Err(error) => println!(rt; "{name}: {error}")?,
+            Err(error) => println!(rt; "{name}: {error:#}")?,
         }
         count = count.saturating_add(1);
     }
