@@ -64,7 +64,7 @@ def parser() -> argparse.ArgumentParser:
             one.add_argument(
                 "--superc",
                 metavar="FILE",
-                help="the program; otherwise that of this repository, or of the path",
+                help="the program; otherwise SUPERC, that of this repository, or of the path",
             )
             one.add_argument(
                 "--read",
@@ -260,7 +260,7 @@ def _make_unit(asked: argparse.Namespace) -> int:
         folder.write()
         notes.add(folder.notes())
         print(os.path.relpath(folder.path))
-    _tell_notes(notes)
+    _tell_notes(notes, asked.out)
     return DONE
 
 
@@ -280,7 +280,7 @@ def _make_all(asked: argparse.Namespace) -> int:
     write_if_new(f"{asked.out}/Makefile", makefile(jobs, str(TOOL), superc, asked.read))
     if asked.ninja:
         write_if_new(f"{asked.out}/build.ninja", ninja(jobs, str(TOOL), superc, asked.read))
-    _tell_notes(notes)
+    _tell_notes(notes, asked.out)
     return DONE if asked.no_run else _run_all(asked)
 
 
@@ -306,6 +306,8 @@ def _list_variables(asked: argparse.Namespace) -> int:
 
 
 def _run(asked: argparse.Namespace) -> int:
+    if sys.stderr.isatty():
+        _tell(asked.folder)
     status = runs.run(asked.folder, _superc(asked), asked.read)
     if status in (runs.ACCEPTED, runs.REFUSED):
         return DONE
@@ -320,7 +322,7 @@ def _summary(asked: argparse.Namespace) -> int:
 
 def _superc(asked: argparse.Namespace) -> str:
     """The program: that of the words, or the script at the top of this repository."""
-    named: str | None = asked.superc
+    named: str | None = asked.superc or os.environ.get("SUPERC")
     if named:
         return absolute(os.getcwd(), named) if "/" in named else named
     return str(TOP / "superc") if (TOP / "superc").is_file() else "superc"
@@ -330,12 +332,15 @@ def _tell(text: str) -> None:
     print(f"superc-project: {text}", file=sys.stderr)
 
 
-def _tell_notes(notes: Notes) -> None:
+def _tell_notes(notes: Notes, out: str) -> None:
     """What is not carried, each once, with the number of units where these are several."""
-    for note, count in list(notes.counts.items())[:NOTES_SHOWN]:
-        _tell(f"{note}{f', in {count} units' if count > 1 else ''}")
-    if len(notes.counts) > NOTES_SHOWN:
-        _tell(f"and {len(notes.counts) - NOTES_SHOWN} more, in the file notes")
+    ordered = sorted(notes.counts.items(), key=lambda pair: -pair[1])
+    lines = [f"{note}{f', in {count} units' if count > 1 else ''}" for note, count in ordered]
+    write_if_new(f"{out}/notes", "".join(f"{line}\n" for line in lines))
+    for line in lines[:NOTES_SHOWN]:
+        _tell(line)
+    if len(lines) > NOTES_SHOWN:
+        _tell(f"and {len(lines) - NOTES_SHOWN} more, in {out}/notes")
 
 
 def _progress(text: str) -> None:

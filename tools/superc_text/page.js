@@ -124,7 +124,7 @@ function stepFault(by) {
   if (!all.length) return;
   fault = (fault + by + all.length) % all.length;
   choose(all[fault]);
-  told.textContent = all[fault].textContent;
+  told.textContent = textOf(all[fault]);
 }
 
 function toggle(head) {

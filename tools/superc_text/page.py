@@ -20,6 +20,7 @@ from .trees import is_list, left_of
 HERE = Path(__file__).parent
 GOLDEN_ANGLE = 137.508
 BUTTONS_AT_MOST = 6
+GUTTER_AT_MOST = 26
 
 
 class Page:
@@ -79,6 +80,8 @@ class Page:
         yield f"<script>\n{(HERE / 'page.js').read_text()}</script>\n</body>\n</html>\n"
 
     def _hues(self) -> Iterator[str]:
+        widest = max((len(self._conditions.text(one)) for one in self._shown), default=0)
+        yield f":root {{ --gutter: {min(widest + 2, GUTTER_AT_MOST)}ch; }}\n"
         for place, condition in enumerate(self._shown):
             yield f".c{self._numbers[condition]}{{--hue:{place * GOLDEN_ANGLE % 360:.0f}}}\n"
 

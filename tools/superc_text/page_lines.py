@@ -266,7 +266,8 @@ class SourceLines:
             gutter = "<u></u>" if condition == before else f"<u>{self._mark(condition)}</u>"
             before = condition
             shown = self._include(text, included[line]) if line in included else escaped(text)
-            yield f'<div id="{prefix}{line}"{marks}><i>{line}</i>{gutter}{fold}{shown}{self._more(file, line, number_of)}</div>\n'
+            more = self._more(file, line, number_of)
+            yield f'<div id="{prefix}{line}"{marks}><i>{line}</i>{gutter}<code>{fold}{shown}</code>{more}</div>\n'
             yield from (fault_line(*one) for one in faults.get((file.name, line), ()))
 
     def _mark(self, condition: int) -> str:

@@ -9,10 +9,12 @@ from html import unescape
 from pathlib import Path
 
 from superc_text.page import Page
+from superc_text.page_lines import SourceFile, plain_name
 
 from .helpers import README_TEXT, TREE_TEXT, document
 
 DATA = Path(__file__).parent / "data"
+TOP = Path(__file__).resolve().parent.parent.parent
 BROWSER = next(
     filter(None, map(shutil.which, ("chromium", "chromium-browser", "google-chrome"))), None
 )
@@ -40,16 +42,72 @@ probe.textContent = JSON.stringify(answers);
 }</script>"""
 
 
+# Goes over a page of source, and tells what is there after each step.
+SOURCE_SCRIPT = """<script>{
+const answers = {};
+const at = (id) => document.getElementById(id);
+const away = getComputedStyle(document.documentElement).getPropertyValue("--away").trim();
+const probe = document.createElement("p");
+probe.style.color = away;
+document.body.append(probe);
+const grey = getComputedStyle(probe).color;
+const greyed = () => [...document.querySelectorAll("#lines div[id]")].filter((row) => getComputedStyle(row).color === grey).map((row) => row.id);
+const key = (name, target = document) => target.dispatchEvent(new KeyboardEvent("keydown", { key: name, bubbles: true }));
+const chosen = () => document.querySelector("#lines .chosen")?.id;
+
+answers.opened = [chosen(), location.hash, at("verdict").textContent, document.querySelector("#tree summary").textContent];
+answers.greyed = greyed();
+answers.gutter = ["F1L9", "F1L5"].map((id) => at(id).querySelector("u").textContent);
+search.value = "spin_lock";
+search.dispatchEvent(new Event("input"));
+answers.found = [at("found").textContent];
+for (const _ of [1, 2]) key("Enter", search);
+answers.found.push(document.querySelector(".hit").id, at("found").textContent);
+search.value = "when defined(CONFIG_SMP)";
+search.dispatchEvent(new Event("input"));
+answers.byCondition = at("found").textContent;
+document.querySelector('input[name=v3][value="0"]').click();
+answers.clicked = [location.hash, greyed()];
+document.querySelector("#L12 i").click();
+answers.line = [chosen(), location.hash];
+key("f");
+answers.fault = [chosen(), at("told").textContent];
+const fold = document.querySelector("#L4 s");
+fold.click();
+answers.folded = [at("L5"), at("L6")].map((row) => getComputedStyle(row).display);
+fold.click();
+answers.unfolded = getComputedStyle(at("L5")).display;
+document.querySelector("#L31 em").click();
+answers.expansion = [...at("L31").nextElementSibling.children].map((piece) => [piece.textContent, piece.dataset.c in expressions]);
+document.querySelector("#L31 em").click();
+answers.closed = at("L31").nextElementSibling.id;
+key("n");
+answers.next = chosen();
+key("/");
+answers.focus = document.activeElement.id;
+probe.id = "answers";
+probe.textContent = JSON.stringify(answers);
+}</script>"""
+
+
+def source_page(text: bytes, root: Path) -> str:
+    return "".join(Page(document(text), "a title", str(root)).text())
+
+
 def page(text: bytes) -> str:
     return "".join(Page(document(text), "a title").text())
 
 
 def browse(text: bytes, clicks: list[tuple[str, str]], *flags: str) -> list:
     """What the script finds in a browser."""
-    whole = page(text).replace("</body>", SCRIPT.replace("CLICKS", json.dumps(clicks)) + "</body>")
+    return run_in_browser(page(text), SCRIPT.replace("CLICKS", json.dumps(clicks)), "", *flags)
+
+
+def run_in_browser(whole: str, script: str, address: str, *flags: str) -> list:
+    """What a script leaves in a browser that opens a page with this address behind its name."""
     with tempfile.TemporaryDirectory() as folder:
         path = Path(folder) / "page.html"
-        path.write_text(whole)
+        path.write_text(whole.replace("</body>", script + "</body>"))
         words = [
             BROWSER,
             "--headless",
@@ -58,7 +116,7 @@ def browse(text: bytes, clicks: list[tuple[str, str]], *flags: str) -> list:
             f"--user-data-dir={folder}/user",
             *flags,
             "--dump-dom",
-            path.as_uri(),
+            path.as_uri() + address,
         ]
         shown = subprocess.run(words, capture_output=True, timeout=300, check=True).stdout.decode()
     found = re.search(r'id="answers"[^>]*>(.*?)</p>', shown, re.S)
@@ -85,6 +143,42 @@ class Text(unittest.TestCase):
         text = page(b's 0 <m>.c\nt 1 0:1:1 "</script>\xff<b>"\nend\n')
         self.assertIn("&lt;/script&gt;\ufffd&lt;b&gt;", text)
         self.assertIn("<h2>&lt;m&gt;.c</h2>", text)
+
+
+class Source(unittest.TestCase):
+    """A page of the files as they stand."""
+
+    def page(self) -> str:
+        return source_page((DATA / "ring.tree").read_bytes(), TOP)
+
+    def test_the_files_stand_as_they_are(self) -> None:
+        text = self.page()
+        lines = re.findall(r'<div id="L(\d+)"[^>]*><i>\1</i><u>.*?</u>(.*)</div>', text)
+        shown = [unescape(re.sub("<[^>]*>", "", line)) for _, line in lines]
+        self.assertEqual(shown, (TOP / "examples/ring/ring.c").read_text().splitlines())
+
+    def test_the_gutter_and_links(self) -> None:
+        text = self.page()
+        self.assertIn('<a href="#F2">#include &quot;ring.h&quot;</a>', text)
+        self.assertRegex(
+            text, r'<div id="F1L5" class="c\d+"[^>]*><i>5</i><u>defined\(CONFIG_SMP\)</u>'
+        )
+
+    def test_files_elsewhere_are_named(self) -> None:
+        text = source_page((DATA / "ring.tree").read_bytes(), TOP / "examples/ring/include")
+        self.assertIn("<summary>Outside (3)</summary>", text)
+
+    def test_copies_have_the_lines_of_their_files(self) -> None:
+        name = "/p/out/overlay/0123abcd/usr/include/x.h"
+        self.assertEqual(plain_name(name), "/usr/include/x.h")
+        self.assertEqual(plain_name("/p/out/overlay/0123abcd/beside/usr/x.h"), "/usr/x.h")
+        self.assertEqual(plain_name("/p/overlay/x.h"), "/p/overlay/x.h")
+
+    def test_branches(self) -> None:
+        file = SourceFile("m.c", "a\n#if A\nb\n#if B\nc\n#endif\n#else\nd\n#endif\ne\n")
+        heads, ends = file.branches()
+        self.assertEqual(heads[1:11], [0, 0, 2, 2, 4, 2, 0, 7, 0, 0])
+        self.assertEqual(ends, {2: 7, 4: 6, 7: 9})
 
 
 @unittest.skipUnless(BROWSER, "no browser is there: Debian has it in the package chromium")
@@ -133,3 +227,31 @@ class Browser(unittest.TestCase):
             verdicts,
             ["Refused in part", "Refused: main.c:4:1: BadDirective [when !defined(A)]", "Accepted"],
         )
+
+    def test_a_page_of_source(self) -> None:
+        whole = source_page((DATA / "ring.tree").read_bytes(), TOP)
+        found = run_in_browser(whole, SOURCE_SCRIPT, "#L31;CONFIG_SMP=1;CONFIG_RING_ORDER=8")
+        fault = "examples/ring/ring.h:7:1: ErrorDirective [when CONFIG_RING_ORDER==2 && defined(CONFIG_SMP)]"
+        locks = ["spin_lock(&ring->lock)", "( ( void ) (         &ring->lock ) )", ";"]
+        want = {
+            "opened": [
+                "L31",
+                "#L31;CONFIG_SMP=1;CONFIG_RING_ORDER=8",
+                "Accepted",
+                "expression_statement",
+            ],
+            "greyed": ["F1L9", "F1L10", "F1L11"],
+            "gutter": ["!defined(CONFIG_SMP)", "defined(CONFIG_SMP)"],
+            "found": ["3 lines", "F1L6", "2 of 3 lines"],
+            "byCondition": "6 lines",
+            "clicked": ["#L31;CONFIG_RING_ORDER=8;CONFIG_SMP=undef", ["F1L5", "F1L6", "F1L7"]],
+            "line": ["L12", "#L12;CONFIG_RING_ORDER=8;CONFIG_SMP=undef"],
+            "fault": ["fault0", f"{fault}: The line #error refuses the file."],
+            "folded": ["none", "block"],
+            "unfolded": "block",
+            "expansion": [[lock, lock != ";"] for lock in locks],
+            "closed": "L32",
+            "next": "F1L5",
+            "focus": "search",
+        }
+        self.assertEqual(found, want)
