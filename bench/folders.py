@@ -54,7 +54,7 @@ class Answer:
     def __init__(self, text, configurations, overlay):
         masks = {b"0": 0, b"1": (1 << len(configurations)) - 1}
         self.tokens, self.faults, self.names = [], [], []
-        copy = re.compile(re.escape(f'{overlay}').encode() + rb"(?:/beside)?")
+        copy = re.compile(re.escape(f'{overlay}').encode() + rb"(?:/beside|/once)?")
         for line in text.split(b"\n"):
             kind = line[:2]
             if kind == b"t ":

@@ -32,11 +32,10 @@ ASKING = (
     "__has_builtin",
     "__has_feature",
     "__has_extension",
-    "__has_warning",
     "__is_identifier",
 )
-# The same, by the name of a header.
-ASKING_FOR_HEADERS = ("__has_include", "__has_include_next")
+# The same, by what is no name: a header, or the text of an option.
+ASKING_OTHERWISE = ("__has_include", "__has_include_next", "__has_warning")
 DEFINITION = re.compile(r"^#define (\w+(?:\([^)]*\))?)(?: (.*))?$", re.M)
 STRICT = re.compile(r"c\d|iso9899")
 
@@ -99,7 +98,7 @@ class Compiler:
     @cached_property
     def askable(self) -> list[str]:
         """The operators that ask what the compiler has, as far as it has them."""
-        names = (*ASKING, *ASKING_FOR_HEADERS)
+        names = (*ASKING, *ASKING_OTHERWISE)
         lines = [f"#ifdef {name}\n{place} is there\n#endif" for place, name in enumerate(names)]
         said = self.ask([], "\n".join(lines) + "\n").stdout
         return [names[int(place)] for place in re.findall(r"^(\d+) is there", said, re.M)]

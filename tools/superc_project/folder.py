@@ -8,7 +8,7 @@ import os
 from collections.abc import Iterable
 from dataclasses import dataclass, field
 
-from .compiler import ASKING, ASKING_FOR_HEADERS, OWN, PROTECTED, Compiler
+from .compiler import ASKING, ASKING_OTHERWISE, OWN, PROTECTED, Compiler
 from .compiles import Compile, macro_name
 from .forms import Forms
 from .overlay import Edits, Overlay, write_if_new
@@ -121,8 +121,15 @@ class Folder:
             f"{self.top}/settings/{self.key}", unit.reach, unit.reached, self._settings_of
         )
         self.overlay = Overlay.of(
-            f"{self.top}/overlay/{self.key}", unit.reach, unit.reached, self._edits_of
+            f"{self.top}/overlay/{self.key}",
+            unit.reach,
+            unit.reached,
+            self._edits_of,
+            self._is_once,
         )
+
+    def _is_once(self, here: Found) -> bool:
+        return source_of(here.path).is_once and here != self.unit.main
 
     def _settings_of(self, here: Found) -> Edits:
         if here == self.unit.main or not self.unit.is_own(here):
@@ -190,9 +197,7 @@ class Folder:
         )
         lines = [f"#define {operator}(x) {ANSWER}{operator[2:]}_ ## x" for operator in operators]
         lines += [
-            f"#define {one}(x) #x"
-            for one in self.unit.compiler.askable
-            if one in ASKING_FOR_HEADERS
+            f"#define {one}(x) #x" for one in self.unit.compiler.askable if one in ASKING_OTHERWISE
         ]
         lines += [
             f"#define {ANSWER}{operator[2:]}_{name} {value}"

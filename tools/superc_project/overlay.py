@@ -6,9 +6,10 @@ numbers, but for those of settings.
 """
 from __future__ import annotations
 
+import hashlib
 import os
 from collections.abc import Callable, Iterable
-from dataclasses import dataclass
+from dataclasses import dataclass, field
 
 from .reach import BESIDE, Edge, Found, Reach
 from .sources import source_of
@@ -25,12 +26,24 @@ class Overlay:
     root: str
     reach: Reach
     copies: dict[Found, Edits]
+    # The files that are read once in a unit: a copy includes the file where it was not read before.
+    once: set[Found] = field(default_factory=set)
 
     @classmethod
-    def of(cls, root: str, reach: Reach, reached: Iterable[Found], edits_of: EditsOf) -> Overlay:
+    def of(
+        cls,
+        root: str,
+        reach: Reach,
+        reached: Iterable[Found],
+        edits_of: EditsOf,
+        is_once: Callable[[Found], bool] = lambda here: False,
+    ) -> Overlay:
         """The files with edits of their own, and those that find one of these beside them."""
         files = list(reached)
-        overlay = cls(root, reach, {here: edits for here in files if (edits := edits_of(here))})
+        once = {here for here in files if is_once(here)}
+        edited = {here: edits_of(here) for here in files}
+        copies = {here: edits for here, edits in edited.items() if edits or here in once}
+        overlay = cls(root, reach, copies, once)
         includers: dict[Found, list[Found]] = {}
         for here in files:
             for edge in reach.edges(here):
@@ -81,10 +94,30 @@ class Overlay:
                 at = end
         return "".join([*pieces, source.text[at:]])
 
+    def guard_of(self, here: Found) -> tuple[str, str]:
+        """What is read in the place of a file that is read once, and the name of that file, or of
+        its copy.
+        """
+        edges = self.reach.edges(here)
+        needs_copy = self.copies[here] or any(
+            edge.found in self.copies and not self._is_searched(edge) for edge in edges
+        )
+        path = f"{self.root}/once{here.path}" if needs_copy else here.path
+        name = (
+            f"SUPERC_ONCE_{hashlib.sha256(os.path.realpath(here.path).encode()).hexdigest()[:16]}"
+        )
+        return f'#ifndef {name}\n#define {name}\n#include "{path}"\n#endif\n', path
+
     def write(self) -> None:
         """Writes the copies that are not there as they should be."""
         for here in self.copies:
-            write_if_new(self.path_of(here), self.text_of(here))
+            path = self.path_of(here)
+            if here in self.once:
+                guard, inner = self.guard_of(here)
+                write_if_new(path, guard)
+                path = inner
+            if path != here.path:
+                write_if_new(path, self.text_of(here))
 
 
 def write_if_new(path: str, text: str) -> None:

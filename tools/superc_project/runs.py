@@ -129,4 +129,6 @@ def _plain(path: str, out: str) -> str:
     root = f"{os.path.abspath(out)}/overlay/"
     if not path.startswith(root):
         return path
-    return "/" + path.removeprefix(root).partition("/")[2].removeprefix("beside/")
+    return "/" + path.removeprefix(root).partition("/")[2].removeprefix("beside/").removeprefix(
+        "once/"
+    )

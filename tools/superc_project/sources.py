@@ -14,7 +14,7 @@ from functools import cached_property, lru_cache
 
 from superc_text.directives import DIRECTIVE, LITERAL, without_comments
 
-from .compiler import ASKING, ASKING_FOR_HEADERS
+from .compiler import ASKING, ASKING_OTHERWISE
 
 HEADER = re.compile(r"\s*(?:<([^>\n]+)>|\"([^\"\n]+)\")")
 NAME = re.compile(r"(?<![\w.])[A-Za-z_]\w*")
@@ -31,7 +31,7 @@ REFUSED = ("import", "assert", "unassert", "ident", "sccs")
 CONDITIONS = ("if", "ifdef", "ifndef", "elif")
 # How deep macros may stand for the operators that ask.
 WRAPPED_AT_MOST = 4
-OPERATORS = {"defined", *ASKING, *ASKING_FOR_HEADERS}
+OPERATORS = {"defined", *ASKING, *ASKING_OTHERWISE}
 
 
 @dataclass(frozen=True)
@@ -72,6 +72,8 @@ class Source:
     tested: Counter[str] = field(default_factory=Counter)
     # Where conditionals have a character above 127.
     characters: list[tuple[int, int]] = field(default_factory=list)
+    # Whether it has #pragma once outside of conditionals.
+    is_once: bool = False
     # What is not carried, and the line of the first trigraph sequence.
     lost: list[str] = field(default_factory=list)
     trigraph: int | None = None
@@ -155,7 +157,9 @@ def read(path: str, text: str) -> Source:
         elif word in REFUSED:
             _lose(source, found.start(), f"#{word}: superc refuses it")
         elif word == "pragma" and found[2].split() == ["once"]:
-            _lose(source, found.start(), "#pragma once: superc ignores it")
+            source.is_once |= depth == 0
+            if depth:
+                _lose(source, found.start(), "#pragma once in a conditional: superc ignores it")
     for name in ALONE:
         if name in plain and (at := re.search(rf"\b{name}\b", plain)):
             _lose(source, at.start(), f"superc has no {name}")

@@ -11,6 +11,7 @@ from itertools import groupby
 from .diagrams import ALWAYS, NEVER
 from .directives import DIRECTIVE, without_comments
 from .document import Document
+from .heads import Heads
 from .items import Fault
 from .layout import Conditions, Piece, indentation, pieces
 from .page_text import escaped
@@ -22,7 +23,7 @@ FaultLine = Callable[[int, Fault], str]
 HEADER = re.compile(r"\s*[<\"]([^>\"\n]+)[>\"]")
 HEADS = ("if", "ifdef", "ifndef", "elif", "else")
 # The copies that superc-project makes stand by the whole names of their files.
-COPY = re.compile(r"^/.*/(?:overlay|settings)/[0-9a-f]{8}(?:/beside)?(?=/)")
+COPY = re.compile(r"^/.*/(?:overlay|settings)/[0-9a-f]{8}(?:/beside|/once)?(?=/)")
 
 
 class TokenLines:
@@ -87,6 +88,19 @@ def piece_html(text: str, number: int) -> str:
 
 
 @dataclass
+class Branch:
+    """A branch of a conditional: what its head says, the head of the branch around it, those of the
+    branches before it, and the line that ends it.
+    """
+
+    word: str
+    rest: str
+    outer: int
+    earlier: list[int]
+    end: int | None = None
+
+
+@dataclass
 class SourceFile:
     """A file as it stands, with what the text tells of its lines."""
 
@@ -94,8 +108,11 @@ class SourceFile:
     text: str
     # By line: the pieces of its tokens, each with its live condition.
     tokens: dict[int, list[tuple[int, str]]] = field(default_factory=dict)
-    # By line: the live configurations that have it, as far as tokens tell.
+    # By line: the live configurations that have it, as far as is known.
     conditions: dict[int, int] = field(default_factory=dict)
+    # The heads of branches that no configuration takes, and their lines.
+    dead: set[int] = field(default_factory=set)
+    dead_lines: set[int] = field(default_factory=set)
 
     @cached_property
     def lines(self) -> list[str]:
@@ -117,26 +134,35 @@ class SourceFile:
             at = found.start()
             yield found[1], line, line + found[0].count("\n"), found[2]
 
-    def branches(self) -> tuple[list[int], dict[int, int]]:
-        """For each line the head of its innermost branch, or 0; and for each head the line that
-        ends its branch.
-        """
+    def branches(self) -> tuple[list[int], dict[int, Branch]]:
+        """For each line the head of its innermost branch, or 0; and the branches by their heads."""
         heads = [0] * (len(self.lines) + 2)
-        ends: dict[int, int] = {}
-        stack = [0]
+        branches: dict[int, Branch] = {}
+        stack: list[int] = []
         last = 1
-        for word, first, end, _ in self.directives():
+        for word, first, end, rest in self.directives():
             if word not in HEADS and word != "endif":
                 continue
-            heads[last:first] = [stack[-1]] * (first - last)
-            if word in ("elif", "else", "endif") and len(stack) > 1:
-                ends[stack.pop()] = first
-            heads[first : end + 1] = [stack[-1]] * (end + 1 - first)
+            inside = stack[-1] if stack else 0
+            heads[last:first] = [inside] * (first - last)
+            closed = stack.pop() if stack and word in ("elif", "else", "endif") else 0
+            if closed:
+                branches[closed].end = first
+            outer = stack[-1] if stack else 0
+            heads[first : end + 1] = [outer] * (end + 1 - first)
             if word in HEADS:
+                earlier = [*branches[closed].earlier, closed] if closed else []
+                branches[end] = Branch(word, rest, outer, earlier)
                 stack.append(end)
             last = end + 1
-        heads[last:] = [stack[-1]] * (len(heads) - last)
-        return heads, ends
+        heads[last:] = [stack[-1] if stack else 0] * (len(heads) - last)
+        return heads, branches
+
+    def names(self) -> Iterator[str]:
+        """The names that the file defines or takes back."""
+        for word, _, _, rest in self.directives():
+            if word in ("define", "undef"):
+                yield from re.findall(r"^\s*(\w+)", rest)
 
 
 class SourceLines:
@@ -156,6 +182,8 @@ class SourceLines:
                 last = self._add(piece, live) or last
         for fault in document.faults:
             self._file(plain_name(fault.place.file))
+        changed = {name for file in self.files.values() for name in file.names()}
+        self._heads = Heads(document.diagrams, set(document.diagrams.variables) - changed)
         for file in self.files.values():
             self._fill(file)
         names = sorted(self.files, key=lambda name: name != last)
@@ -193,16 +221,44 @@ class SourceLines:
         return self._joins[left, right]
 
     def _fill(self, file: SourceFile) -> None:
-        """Lines without tokens have the condition of their branch, as far as its tokens tell."""
-        heads, _ = file.branches()
-        branches: dict[int, int] = {}
+        """Lines without tokens have the condition of their branch: that of its tokens, or else what
+        its head asks of variables.
+        """
+        heads, branches = file.branches()
+        found: dict[int, int] = {}
         for line, condition in file.conditions.items():
             head = heads[line] if line < len(heads) else 0
-            branches[head] = self._join(branches.get(head, NEVER), condition)
+            found[head] = self._join(found.get(head, NEVER), condition)
+        for head in branches:
+            if head not in found:
+                self._ask(file, head, branches, found)
         for line in range(1, len(file.lines) + 1):
-            condition = branches.get(heads[line], NEVER)
+            condition = found.get(heads[line], NEVER)
             if line not in file.conditions and condition != NEVER:
                 file.conditions[line] = condition
+            elif heads[line] in file.dead:
+                file.dead_lines.add(line)
+
+    def _ask(
+        self, file: SourceFile, head: int, branches: dict[int, Branch], found: dict[int, int]
+    ) -> None:
+        """Finds the live configurations in which a branch is taken, among those of the branch
+        around it, where variables decide it.
+        """
+        diagrams, branch = self._conditions.diagrams, branches[head]
+        heads = [branch, *(branches[one] for one in branch.earlier)]
+        asked = [self._heads.taken(one.word, one.rest) for one in heads]
+        taken = ALWAYS if asked[0] is None else asked[0]
+        for condition in asked[1:]:
+            taken = diagrams.difference(taken, condition or NEVER)
+        outer = branch.outer
+        if taken == NEVER or outer in file.dead:
+            file.dead.add(head)
+        elif None not in asked:
+            while outer and outer not in found:
+                outer = branches[outer].outer
+            live = found.get(outer, self._conditions.accepted)
+            found[head] = diagrams.conjunction(live, taken)
 
     @property
     def shown(self) -> Iterator[tuple[int, int]]:
@@ -254,7 +310,8 @@ class SourceLines:
         fault_line: FaultLine,
         faults: dict[tuple[str, int], list[tuple[int, Fault]]],
     ) -> Iterator[str]:
-        _, ends = file.branches()
+        _, branches = file.branches()
+        ends = {head: branch.end for head, branch in branches.items() if branch.end}
         included = {first: rest for word, first, _, rest in file.directives() if word == "include"}
         prefix = "L" if number == 0 else f"F{number}L"
         before = ALWAYS
@@ -262,6 +319,7 @@ class SourceLines:
             live = file.conditions.get(line, NEVER)
             condition = ALWAYS if live == NEVER else number_of(live)
             marks = f' class="c{condition}" data-c="{condition}"' if condition != ALWAYS else ""
+            marks = ' class="dead"' if line in file.dead_lines else marks
             fold = f'<s data-e="{prefix}{ends[line]}" tabindex="0"></s>' if line in ends else ""
             gutter = "<u></u>" if condition == before else f"<u>{self._mark(condition)}</u>"
             before = condition

@@ -8,6 +8,8 @@ import unittest
 from html import unescape
 from pathlib import Path
 
+from superc_text import Diagrams, Expressions
+from superc_text.heads import Heads
 from superc_text.page import Page
 from superc_text.page_lines import SourceFile, plain_name
 
@@ -176,9 +178,46 @@ class Source(unittest.TestCase):
 
     def test_branches(self) -> None:
         file = SourceFile("m.c", "a\n#if A\nb\n#if B\nc\n#endif\n#else\nd\n#endif\ne\n")
-        heads, ends = file.branches()
+        heads, branches = file.branches()
         self.assertEqual(heads[1:11], [0, 0, 2, 2, 4, 2, 0, 7, 0, 0])
-        self.assertEqual(ends, {2: 7, 4: 6, 7: 9})
+        self.assertEqual({head: one.end for head, one in branches.items()}, {2: 7, 4: 6, 7: 9})
+        self.assertEqual([one.earlier for one in branches.values()], [[], [], [2]])
+
+    def test_a_branch_without_tokens(self) -> None:
+        text = self.page()
+        for line, condition in (
+            (5, "CONFIG_RING_DEBUG==2"),
+            (7, "CONFIG_RING_DEBUG==1"),
+            (9, "CONFIG_RING_DEBUG==0"),
+        ):
+            self.assertIn(f"<i>{line}</i><u>{condition}</u><code>#define TRACE", text)
+
+    def test_a_branch_that_nothing_takes(self) -> None:
+        with tempfile.TemporaryDirectory() as folder:
+            Path(folder, "m.c").write_text("#if 0\n#ifdef B\ny\n#endif\n#else\nx\n#endif\n")
+            text = source_page(b"s 0 m.c\nt 1 0:6:1 x\nend\n", Path(folder))
+        dead = re.findall(r'<div id="L(\d)" class="dead">', text)
+        self.assertEqual(dead, ["2", "3", "4"])
+
+    def test_what_heads_ask(self) -> None:
+        diagrams = Diagrams()
+        diagrams.variables.update({"A": ("undef", "1"), "N": ("1", "2", "16")})
+        heads = Heads(diagrams, {"A", "N"})
+        text_of = Expressions(diagrams).text
+        rows = {
+            ("ifdef", " A"): "defined(A)",
+            ("ifndef", " A"): "!defined(A)",
+            ("if", " N > 1 && !defined A"): "!defined(A) && N!=1",
+            ("elif", "(N == 2) * 3 - 1 >= A + 1"): "N==2",
+            ("if", " B"): None,
+            ("if", " defined(B)"): None,
+            ("if", " N % 2"): None,
+            ("if", " N >"): None,
+            ("if", " 010"): None,
+        }
+        for (word, rest), want in rows.items():
+            taken = heads.taken(word, rest)
+            self.assertEqual(None if taken is None else text_of(taken), want, rest)
 
 
 @unittest.skipUnless(BROWSER, "no browser is there: Debian has it in the package chromium")
@@ -251,7 +290,7 @@ class Browser(unittest.TestCase):
             "unfolded": "block",
             "expansion": [[lock, lock != ";"] for lock in locks],
             "closed": "L32",
-            "next": "F1L5",
+            "next": "L5",
             "focus": "search",
         }
         self.assertEqual(found, want)

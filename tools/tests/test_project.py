@@ -3,6 +3,7 @@ from __future__ import annotations
 
 import json
 import os
+import re
 import shutil
 import subprocess
 import sys
@@ -118,7 +119,7 @@ class Sources(unittest.TestCase):
         self.assertEqual(source.tested, {"M_H": 1, "A": 1, "B": 1, "C": 1, "E": 1})
         self.assertEqual([one.name for one in source.defines], ["M_H", "D", "H"])
         self.assertEqual(source.named_headers, [("H", "h.h", False)])
-        self.assertEqual(source.lost, ["#pragma once: superc ignores it (m.h:12)"])
+        self.assertEqual(source.lost, ["#pragma once in a conditional: superc ignores it (m.h:12)"])
 
     def test_what_is_said(self) -> None:
         rows = {
@@ -211,6 +212,35 @@ class Files(unittest.TestCase):
         self.put(m_c='#if __has_include(<x.h>) && !__has_include("n.h")\n#endif\n', a__x_h="")
         overlay, _ = self.overlay("m.c", "a")
         self.assertEqual(list(self.copies(overlay).values()), ["#if 1 && !0\n#endif\n"])
+
+    def test_a_header_that_is_read_once(self) -> None:
+        self.put(m_c='#include "x.h"\n#include <y.h>\n', x_h="#pragma once\nint x;\n")
+        self.put(a__y_h="#pragma once\n#define f(x...) x\n")
+        reach = Reach(Search([], [f"{self.folder}/a"]))
+        forms = Forms(reach.search, False)
+        reached = reach.below([Found(f"{self.folder}/m.c", BESIDE)])
+        overlay = Overlay.of(
+            f"{self.folder}/out",
+            reach,
+            reached,
+            forms.edits_of,
+            lambda here: reached[here].is_once,
+        )
+        overlay.write()
+        made = {
+            str(path)
+            .replace(self.folder, ""): re.sub(r"SUPERC_ONCE_\w+", "G", path.read_text())
+            .replace(self.folder, "")
+            for path in Path(self.folder, "out").rglob("*.[ch]")
+        }
+        guard = '#ifndef G\n#define G\n#include "%s"\n#endif\n'
+        want = {
+            "/out/m.c": '#include "/out/x.h"\n#include <y.h>\n',
+            "/out/x.h": guard % "/x.h",
+            "/out/a/y.h": guard % "/out/once/a/y.h",
+            "/out/once/a/y.h": "#pragma once\n#define f(...) __VA_ARGS__\n",
+        }
+        self.assertEqual(made, want)
 
     def test_a_large_character(self) -> None:
         self.put(m_c="#if '\\301' == -63 && '\\x41'\n#endif\n")

@@ -1,4 +1,5 @@
 """The views of superc-view, each as a command."""
+import random
 import subprocess
 import sys
 import tempfile
@@ -9,7 +10,7 @@ from superc_text import Diagrams, Place, Token, fault_at, tokens_at
 from superc_text.layout import Conditions, source, would_join
 from superc_text.trees import Wanted, wanted
 
-from .helpers import README_TEXT, SHARED_TEXT, TREE_TEXT, configurations, document
+from .helpers import README_TEXT, SHARED_TEXT, TREE_TEXT, configurations, document, holds
 
 TOOLS = Path(__file__).resolve().parent.parent
 DATA = Path(__file__).parent / "data"
@@ -293,6 +294,46 @@ class Nested(unittest.TestCase):
             ),
             want,
         )
+
+    def test_random_ones_mean_their_conditions(self) -> None:
+        chance = random.Random(1)
+        for _ in range(300):
+            self.refused = self.some_condition(chance) if chance.random() < 0.6 else 0
+            rows = [(f"t{place}", self.some_condition(chance)) for place in range(8)]
+            lines = self.lines(*[(text, condition) for text, condition in rows if condition])
+            for one in configurations(self.diagrams):
+                if self.diagrams.holds(self.refused, one):
+                    continue
+                want = [text for text, when in rows if self.diagrams.holds(when, one)]
+                self.assertEqual(preprocessed(lines, one), want, lines)
+
+    def some_condition(self, chance: random.Random) -> int:
+        condition = chance.choice((self.a, self.b, self.c, 1))
+        for other in (self.a, self.b, self.c):
+            other = chance.choice((other, self.diagrams.negation(other)))
+            join = chance.choice((self.diagrams.conjunction, self.diagrams.disjunction, None))
+            condition = join(condition, other) if join else condition
+        return condition
+
+
+def preprocessed(lines: list[str], configuration: dict[str, str]) -> list[str]:
+    """The lines that a configuration has, by their conditionals."""
+    kept: list[str] = []
+    # For each open conditional whether its branch is taken, and whether one was.
+    stack: list[tuple[bool, bool]] = []
+    for line in lines:
+        word, _, rest = line.partition(" ")
+        if word == "#if":
+            stack.append((holds(rest, configuration),) * 2)
+        elif word in ("#elif", "#else"):
+            _, was_taken = stack.pop()
+            is_taken = not was_taken and (word == "#else" or holds(rest, configuration))
+            stack.append((is_taken, was_taken or is_taken))
+        elif word == "#endif":
+            stack.pop()
+        elif all(is_taken for is_taken, _ in stack):
+            kept.append(line)
+    return kept
 
 
 class Layout(unittest.TestCase):
