@@ -8,6 +8,7 @@ import sys
 from collections import Counter
 from collections.abc import Iterator
 from pathlib import Path
+from typing import Any
 
 from superc_text import VERSION
 
@@ -40,6 +41,116 @@ HELPS = {
 }
 
 
+Option = tuple[tuple[str, ...], dict[str, Any]]
+BUILD: tuple[Option, ...] = (
+    (
+        ("--database", "-p"),
+        {"metavar": "FILE", "help": "compile_commands.json, or the folder that has it"},
+    ),
+    (
+        ("--no-system",),
+        {
+            "action": "store_true",
+            "help": "ask no compiler: no directories and no macros but those of the words",
+        },
+    ),
+    (
+        ("files",),
+        {
+            "nargs": "*",
+            "metavar": "FILE",
+            "help": "the files of which the database has the compiles; otherwise all",
+        },
+    ),
+)
+VARIABLES: tuple[Option, ...] = (
+    (
+        ("--variable",),
+        {
+            "action": "append",
+            "default": [],
+            "metavar": "NAME[=OPTION,..]",
+            "help": "a variable; without options undef and 1, or Kconfig's",
+        },
+    ),
+    (
+        ("--variables",),
+        {
+            "action": "append",
+            "default": [],
+            "metavar": "FILE",
+            "help": "a TOML file with a table of variables",
+        },
+    ),
+    (
+        ("--from-source",),
+        {
+            "type": int,
+            "metavar": "N",
+            "default": 0,
+            "help": "the N names that are tested most and that nothing defines",
+        },
+    ),
+    (
+        ("--kconfig",),
+        {
+            "action": "append",
+            "default": [],
+            "metavar": "FILE",
+            "help": "a Kconfig file, which has the options of a --variable",
+        },
+    ),
+    (
+        ("--out", "-o"),
+        {
+            "metavar": "DIR",
+            "default": "superc-out",
+            "help": "where the folders are made (superc-out)",
+        },
+    ),
+)
+RUN: tuple[Option, ...] = (
+    (
+        ("--superc",),
+        {
+            "metavar": "FILE",
+            "help": "the program; otherwise SUPERC, that of this repository, or of the path",
+        },
+    ),
+    (
+        ("--read",),
+        {"choices": ("tokens", "parse"), "default": "tokens", "help": "superc's command (tokens)"},
+    ),
+)
+ENGINE: tuple[Option, ...] = (
+    (
+        ("--ninja",),
+        {"action": "store_true", "help": "write build.ninja too, and let ninja run it"},
+    ),
+    (
+        ("--jobs", "-j"),
+        {
+            "type": int,
+            "metavar": "N",
+            "default": os.cpu_count() or 1,
+            "help": "so many units at a time",
+        },
+    ),
+    (
+        ("--no-run",),
+        {"action": "store_true", "help": "write the folders and the Makefile alone"},
+    ),
+)
+FOLDER: tuple[Option, ...] = ((("folder",), {"metavar": "DIR"}),)
+OPTIONS = {
+    "unit": (*BUILD, *VARIABLES),
+    "all": (*BUILD, *VARIABLES, *RUN, *ENGINE),
+    "variables": BUILD,
+    "run": (*FOLDER, *RUN),
+    "summary": FOLDER,
+}
+
+
 def parser() -> argparse.ArgumentParser:
     """The words of the command."""
     whole = argparse.ArgumentParser(
@@ -49,95 +160,9 @@ def parser() -> argparse.ArgumentParser:
     commands = whole.add_subparsers(dest="command", required=True, metavar="COMMAND")
     for name, words in HELPS.items():
         one = commands.add_parser(name, help=words, description=words[0].upper() + words[1:] + ".")
-        if name in ("unit", "all", "variables"):
-            _add_build(name, one)
-        if name in ("unit", "all"):
-            _add_variables(one)
-            one.add_argument(
-                "--out",
-                "-o",
-                metavar="DIR",
-                default="superc-out",
-                help="where the folders are made (superc-out)",
-            )
-        if name in ("all", "run"):
-            one.add_argument(
-                "--superc",
-                metavar="FILE",
-                help="the program; otherwise SUPERC, that of this repository, or of the path",
-            )
-            one.add_argument(
-                "--read",
-                choices=("tokens", "parse"),
-                default="tokens",
-                help="superc's command (tokens)",
-            )
-        if name == "all":
-            one.add_argument(
-                "--ninja", action="store_true", help="write build.ninja too, and let ninja run it"
-            )
-            one.add_argument(
-                "--jobs",
-                "-j",
-                type=int,
-                metavar="N",
-                default=os.cpu_count() or 1,
-                help="so many units at a time",
-            )
-            one.add_argument(
-                "--no-run", action="store_true", help="write the folders and the Makefile alone"
-            )
-        if name in ("run", "summary"):
-            one.add_argument("folder", metavar="DIR")
+        for option, how in OPTIONS[name]:
+            one.add_argument(*option, **how)
     return whole
-
-
-def _add_build(name: str, one: argparse.ArgumentParser) -> None:
-    one.add_argument(
-        "--database", "-p", metavar="FILE", help="compile_commands.json, or the folder that has it"
-    )
-    one.add_argument(
-        "--no-system",
-        action="store_true",
-        help="ask no compiler: no directories and no macros but those of the words",
-    )
-    one.add_argument(
-        "files",
-        nargs="*",
-        metavar="FILE",
-        help="the files of which the database has the compiles; otherwise all",
-    )
-
-
-def _add_variables(one: argparse.ArgumentParser) -> None:
-    one.add_argument(
-        "--variable",
-        action="append",
-        default=[],
-        metavar="NAME[=OPTION,..]",
-        help="a variable; without options undef and 1, or Kconfig's",
-    )
-    one.add_argument(
-        "--variables",
-        action="append",
-        default=[],
-        metavar="FILE",
-        help="a TOML file with a table of variables",
-    )
-    one.add_argument(
-        "--from-source",
-        type=int,
-        metavar="N",
-        default=0,
-        help="the N names that are tested most and that nothing defines",
-    )
-    one.add_argument(
-        "--kconfig",
-        action="append",
-        default=[],
-        metavar="FILE",
-        help="a Kconfig file, which has the options of a --variable",
-    )
 
 
 def main(words: list[str] | None = None) -> int:

@@ -64,6 +64,7 @@ class Compiler:
         )
 
     def ask(self, words: Iterable[str], text: str) -> subprocess.CompletedProcess[str]:
+        """What the preprocessor answers to a text with some more words."""
         command = [*self.words, *words, "-E", "-x", "c", "-"]
         settings = {**os.environ, "LC_ALL": "C"}
         try:

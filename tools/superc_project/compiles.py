@@ -127,46 +127,43 @@ def compile_of(directory: str, words: list[str], file: str | None = None) -> Com
         raise CompileError("there are no words of a compiler")
     one = Compile(_compiler(words[0], directory), directory, "")
     inputs: list[str] = []
-    language = ""
+    language = "c++" if COMPILER_OF_OTHERS.search(os.path.basename(words[0])) else ""
     for option, value in _options(words[1:]):
-        kind = WITH_VALUE.get(option)
-        if kind == "define":
-            one.macros.append(_definition(value))
-        elif kind == "undefine":
-            one.macros.append((value, None))
-        elif kind == "directory":
-            one.directories.append((option, absolute(directory, value)))
-        elif kind == "include":
-            one.includes.append(value)
-        elif kind == "macros":
-            one.lost.append(f"-imacros {value}: superc has no file of which only the macros count")
-        elif kind == "language":
-            language = value
-        elif kind == "mode":
-            one.mode.append(f"{option}={value}" if option == "--sysroot" else option)
-            one.mode.extend([] if option == "--sysroot" else [value])
-        elif option == "input":
+        if option == "input":
             inputs.append(value)
-        elif option.startswith("-std="):
-            one.standard = option[len("-std=") :]
-        elif option == "-ansi":
-            one.standard = "c90"
-        elif kind is None and not option.startswith(WITHOUT_EFFECT):
-            one.mode.append(option)
-    is_of_others = (
-        language not in ("", "c")
-        or not language
-        and COMPILER_OF_OTHERS.search(os.path.basename(words[0]))
-    )
-    of_c = (
-        []
-        if is_of_others
-        else [word for word in inputs if word.endswith(FILES_OF_C) or language == "c"]
-    )
+        elif option == "-x":
+            language = value
+        else:
+            _take(one, option, value)
+    is_other = language not in ("", "c")
+    of_c = [word for word in inputs if not is_other and (language or word.endswith(FILES_OF_C))]
     if not of_c:
         raise CompileError(f"{file or (inputs or ['?'])[0]}: no file of C is compiled")
     one.file = absolute(directory, file if file and len(of_c) > 1 else of_c[0])
     return one
+
+
+def _take(one: Compile, option: str, value: str) -> None:
+    """Notes what an option asks for."""
+    kind = WITH_VALUE.get(option)
+    if kind == "define":
+        one.macros.append(_definition(value))
+    elif kind == "undefine":
+        one.macros.append((value, None))
+    elif kind == "directory":
+        one.directories.append((option, absolute(one.directory, value)))
+    elif kind == "include":
+        one.includes.append(value)
+    elif kind == "macros":
+        one.lost.append(f"-imacros {value}: superc has no file of which only the macros count")
+    elif kind == "mode":
+        one.mode += [f"{option}={value}"] if option == "--sysroot" else [option, value]
+    elif option.startswith("-std="):
+        one.standard = option[len("-std=") :]
+    elif option == "-ansi":
+        one.standard = "c90"
+    elif kind is None and not option.startswith(WITHOUT_EFFECT):
+        one.mode.append(option)
 
 
 def _spread(words: list[str], directory: str) -> Iterator[str]:

@@ -28,6 +28,7 @@ class Notes:
     counts: dict[str, int] = field(default_factory=dict)
 
     def add(self, notes: Iterable[str]) -> None:
+        """Takes the notes of one unit."""
         for note in dict.fromkeys(notes):
             self.counts[note] = self.counts.get(note, 0) + 1
 

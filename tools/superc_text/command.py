@@ -6,7 +6,7 @@ import os
 import sys
 from collections.abc import Iterable, Iterator
 from tempfile import SpooledTemporaryFile
-from typing import IO
+from typing import IO, Any
 
 from . import VERSION
 from .diagrams import ALWAYS, Diagrams
@@ -51,6 +51,86 @@ HELPS = {
 }
 
 
+Option = tuple[tuple[str, ...], dict[str, Any]]
+CONFIGURATION = "NAME=OPTION[,..]"
+EVERYWHERE: tuple[Option, ...] = (
+    (
+        ("--input", "-i"),
+        {"metavar": "FILE", "help": "the text; otherwise it is read from the standard input"},
+    ),
+    (
+        ("--space",),
+        {"metavar": "FILE", "help": "the space file, which names the variables of the text"},
+    ),
+)
+OPTIONS: dict[str, tuple[Option, ...]] = {
+    "tokens": (
+        (
+            ("--exact",),
+            {"action": "store_true", "help": "write conditions with all that is refused of them"},
+        ),
+    ),
+    "at": (
+        (
+            ("options",),
+            {
+                "nargs": "*",
+                "metavar": "NAME=OPTION",
+                "help": "a variable that is not named takes its first option",
+            },
+        ),
+        (
+            ("--text",),
+            {"action": "store_true", "help": "print the text of the configuration, not its source"},
+        ),
+    ),
+    "diff": tuple(
+        (
+            (side,),
+            {
+                "metavar": CONFIGURATION,
+                "help": "a variable that is not named takes its first option; - names none",
+            },
+        )
+        for side in ("left", "right")
+    ),
+    "tree": (
+        (
+            ("--at",),
+            {
+                "metavar": CONFIGURATION,
+                "help": "the tree of one configuration; - names no variable",
+            },
+        ),
+        (
+            ("--part",),
+            {
+                "metavar": "PLACE",
+                "help": "the largest parts that begin at LINE, LINE:COLUMN or FILE:LINE[:COLUMN]",
+            },
+        ),
+        (("--depth",), {"type": int, "metavar": "N", "help": "so many levels alone"}),
+    ),
+    "dot": (
+        (
+            ("--part",),
+            {
+                "type": int,
+                "metavar": "ID",
+                "help": "the part of the tree with this number, and all below it",
+            },
+        ),
+    ),
+    "html": (
+        (("--title",), {"default": "superc", "help": "the title of the page"}),
+        (
+            ("--root",),
+            {"metavar": "DIR", "help": "show the files below this folder as they stand there"},
+        ),
+    ),
+}
+
+
 class Unwritten(Exception):
     """The output takes no more. There are no words for a reader that has gone."""
 
@@ -89,71 +169,9 @@ def parser() -> argparse.ArgumentParser:
     commands = whole.add_subparsers(dest="command", required=True, metavar="COMMAND")
     for name, words in HELPS.items():
         one = commands.add_parser(name, help=words, description=words[0].upper() + words[1:] + ".")
-        _add_options(name, one)
+        for option, how in (*EVERYWHERE, *OPTIONS.get(name, ())):
+            one.add_argument(*option, **how)
     return whole
-
-
-def _add_options(name: str, one: argparse.ArgumentParser) -> None:
-    one.add_argument(
-        "--input",
-        "-i",
-        metavar="FILE",
-        help="the text; otherwise it is read from the standard input",
-    )
-    one.add_argument(
-        "--space", metavar="FILE", help="the space file, which names the variables of the text"
-    )
-    if name == "at":
-        one.add_argument(
-            "options",
-            nargs="*",
-            metavar="NAME=OPTION",
-            help="a variable that is not named takes its first option",
-        )
-        one.add_argument(
-            "--text",
-            action="store_true",
-            help="print the text of the configuration, not its source",
-        )
-    if name == "tokens":
-        one.add_argument(
-            "--exact",
-            action="store_true",
-            help="write whole conditions, which no refused configuration has or lacks freely",
-        )
-    if name == "diff":
-        for side in ("left", "right"):
-            one.add_argument(
-                side,
-                metavar="NAME=OPTION[,..]",
-                help="a variable that is not named takes its first option; - names none",
-            )
-    if name == "tree":
-        one.add_argument(
-            "--at",
-            metavar="NAME=OPTION[,..]",
-            help="the tree of one configuration; - names no variable",
-        )
-        one.add_argument(
-            "--part",
-            metavar="PLACE",
-            help="the largest parts that begin at LINE, LINE:COLUMN or FILE:LINE[:COLUMN]",
-        )
-        one.add_argument("--depth", type=int, metavar="N", help="so many levels alone")
-    if name == "dot":
-        one.add_argument(
-            "--part",
-            type=int,
-            metavar="ID",
-            help="the part of the tree with this number, and all below it",
-        )
-    if name == "html":
-        one.add_argument("--title", default="superc", help="the title of the page")
-        one.add_argument(
-            "--root",
-            metavar="DIR",
-            help="show the files below this folder as they stand there",
-        )
 
 
 def main(words: list[str] | None = None) -> int:
