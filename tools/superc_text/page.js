@@ -127,10 +127,14 @@ function stepFault(by) {
   told.textContent = textOf(all[fault]);
 }
 
+// The line behind a line, which may be in the next block.
+function behind(row) {
+  return row.nextElementSibling ?? row.parentElement.nextElementSibling?.firstElementChild;
+}
+
 function toggle(head) {
-  const first = head.closest("div");
   const isClosed = head.classList.toggle("closed");
-  for (let row = first.nextElementSibling; row && row.id !== head.dataset.e; row = row.nextElementSibling) {
+  for (let row = behind(head.closest("div")); row && row.id !== head.dataset.e; row = behind(row)) {
     row.classList.toggle("folded", isClosed);
     if (!isClosed) row.querySelector("s.closed")?.classList.remove("closed");
   }

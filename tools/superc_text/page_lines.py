@@ -6,7 +6,7 @@ import re
 from collections.abc import Callable, Iterator, Mapping
 from dataclasses import dataclass, field
 from functools import cached_property
-from itertools import groupby
+from itertools import groupby, islice
 
 from .diagrams import ALWAYS, NEVER
 from .directives import DIRECTIVE, without_comments
@@ -21,6 +21,7 @@ NumberOf = Callable[[int], int]
 FaultLine = Callable[[int, Fault], str]
 
 HEADER = re.compile(r"\s*[<\"]([^>\"\n]+)[>\"]")
+LINES_OF_BLOCK = 100
 HEADS = ("if", "ifdef", "ifndef", "elif", "else")
 # The copies that superc-project makes stand by the whole names of their files.
 COPY = re.compile(r"^/.*/(?:overlay|settings)/[0-9a-f]{8}(?:/beside|/once)?(?=/)")
@@ -49,6 +50,9 @@ class TokenLines:
         """The lines of source, each fault before the first line of its file that is not above
         it.
         """
+        return blocks(self._html(number_of, fault_line))
+
+    def _html(self, number_of: NumberOf, fault_line: FaultLine) -> Iterator[str]:
         waiting = list(enumerate(self._document.faults))
         file: str | None = None
         known: set[str] = set()
@@ -78,6 +82,12 @@ class TokenLines:
         texts = " ".join(piece_html(piece.text, number_of(live)) for live, piece in group)
         identity = f' id="{key}"' if key else ""
         return f"<div{identity}><i>{line}</i>{indentation(group[0][1].place)}{texts}</div>\n"
+
+
+def blocks(lines: Iterator[str]) -> Iterator[str]:
+    """Lines in blocks, which a browser lays out when they come into sight."""
+    while block := "".join(islice(lines, LINES_OF_BLOCK)):
+        yield f'<section class="block">\n{block}</section>\n'
 
 
 def piece_html(text: str, number: int) -> str:
@@ -283,7 +293,8 @@ class SourceLines:
             faults.setdefault((plain_name(place.file), place.line), []).append(numbered)
         for name, number in self._number.items():
             yield f'<section id="F{number}"><h2>{escaped(self.title(name))}</h2>\n'
-            yield from self._lines(self.files[name], number, number_of, fault_line, faults)
+            lines = self._lines(self.files[name], number, number_of, fault_line, faults)
+            yield from blocks(lines)
             yield "</section>\n"
         elsewhere = [name for name, _ in faults if name not in self.files]
         for name in dict.fromkeys(elsewhere):
