@@ -12,6 +12,15 @@ class Job:
     name: str
     reads: list[str]
 
+    def folder(self) -> str:
+        """Where its text is made."""
+        return f"units/{self.name}"
+
+    def inputs(self) -> list[str]:
+        """What its text is made of: the files of its folder, and those that its unit reads."""
+        made = [f"{self.folder()}/{name}" for name in ("main.c", "prelude.h", "space.toml")]
+        return [*made, *self.reads]
+
 
 def makefile(jobs: list[Job], tool: str, superc: str, command: str) -> str:
     """A file of make. A unit that fails does not stop the others where make has -k."""
@@ -21,17 +30,16 @@ def makefile(jobs: list[Job], tool: str, superc: str, command: str) -> str:
         f"RUN = {_for_make(shlex.quote(tool))} run --superc $(SUPERC) --read {command}",
         "",
         ".PHONY: all summary clean",
-        "all: " + " ".join(f"units/{_for_make(job.name)}/{command}" for job in jobs),
+        "all: " + " ".join(f"{_for_make(job.folder())}/{command}" for job in jobs),
         "summary:",
         f"\t@{_for_make(shlex.quote(tool))} summary .",
         "clean:",
-        f"\trm -f {' '.join(f'units/{_for_make(job.name)}/{command}' for job in jobs)}",
+        f"\trm -f {' '.join(f'{_for_make(job.folder())}/{command}' for job in jobs)}",
         "",
     ]
     for job in jobs:
-        folder = f"units/{job.name}"
-        made = [f"{folder}/{name}" for name in ("main.c", "prelude.h", "space.toml")]
-        read = " ".join(_for_make(one) for one in [*made, *job.reads])
+        folder = job.folder()
+        read = " ".join(_for_make(one) for one in job.inputs())
         lines += [
             f"{_for_make(folder)}/{command}: {read}",
             f"\t@$(RUN) {_for_make(shlex.quote(folder))}",
@@ -53,9 +61,8 @@ def ninja(jobs: list[Job], tool: str, superc: str, command: str) -> str:
         "",
     ]
     for job in jobs:
-        folder = f"units/{job.name}"
-        made = [f"{folder}/{name}" for name in ("main.c", "prelude.h", "space.toml")]
-        read = " ".join(_for_ninja(one) for one in [*made, *job.reads])
+        folder = job.folder()
+        read = " ".join(_for_ninja(one) for one in job.inputs())
         lines += [
             f"build {_for_ninja(folder)}/{command}: superc {read}",
             f"  folder = {_for_ninja_text(shlex.quote(folder))}",
