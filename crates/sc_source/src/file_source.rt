@@ -1,4 +1,4 @@
-ghost use Rattle.std.specs.Prelude.{◌≡◌, ◌≤◌, Contains, IfOk, IfSome, IsErrOf, None, take, vec_len};
+ghost use Rattle.std.specs.Prelude.{◌≡◌, ◌≤◌, [], ◌∷◌, ◌↔◌, Contains, IfOk, IfSome, IsErrOf, IsTrue, None, take, vec_len};
 ghost use Rattle.sc_model.specs.Outside.{Rose};
 
 use crate::fault_plan::next_count;
@@ -14,9 +14,9 @@ pub const MOST_READ: usize = LARGEST_FILE + 1;
 
 /// The files of the system. What they hold no contract can tell, so it tells nothing.
 ///
-/// A file that is missing, or whose name has a zero byte, is `None`; every other error fails. Of a
-/// long file the first
-/// `MOST_READ` bytes are read.
+/// A file that is missing is `None`, and so is one whose name no file can have: with a zero byte,
+/// with a component that is no directory, with more bytes than the system takes. Every other error
+/// fails. Of a long file the first `MOST_READ` bytes are read.
 #[derive(Drop)]
 pub struct FileSource<R> {
     rt: R,
@@ -65,9 +65,19 @@ fn read_file<R: Files>(rt: &R, alloc: Global, name: &str) -> Result<Option<Vec<u
     }
     match File::open(rt, name) {
         Ok(file) => Ok(Some(read_front(file, alloc, MOST_READ)?)),
-        Err(e) if e.kind() == ErrorKind::NotFound => Ok(None),
+        Err(e) if tells_absence(e.kind()) => Ok(None),
         Err(_) => Err(SourceStop::Failed),
     }
+}
+
+// Whether an error on opening a file says that there is no file of that name.
+fn tells_absence(kind: ErrorKind) -> bool
+    ensures { IsTrue result ↔ Contains (ErrorKind.NotFound ∷ ErrorKind.NotADirectory ∷ ErrorKind.InvalidFilename ∷ []) kind }
+{
+    matches!(
+        kind,
+        ErrorKind::NotFound | ErrorKind::NotADirectory | ErrorKind::InvalidFilename
+    )
 }
 
 // The first bytes of a file, `most` or as many as it has.

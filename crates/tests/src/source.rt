@@ -39,10 +39,13 @@ fn file_source(rt: HostRuntime) -> Result<(), Fail> {
     let mut source = FileSource::new(&rt);
     let found = source.read(alloc, name.as_str())?.ok_or("absent")?;
     assert_eq!(rt; found.as_slice(), b"int x;\n".as_slice());
-    fs::remove_file(&rt, name.as_str())?;
-    for missing in [name.as_str(), "short\0.c"] {
+    let below = format!(in alloc; "{name}/h")?;
+    let long = "h".repeat(alloc, 5000)?;
+    for missing in [below.as_str(), long.as_str(), "short\0.c"] {
         assert!(rt; source.read(alloc, missing)?.is_none());
     }
+    fs::remove_file(&rt, name.as_str())?;
+    assert!(rt; source.read(alloc, name.as_str())?.is_none());
     let failed = source.read(alloc, temp.as_str()).err();
     assert_eq!(rt; failed, Some(SourceStop::Failed));
     Ok(())
