@@ -1,12 +1,14 @@
 -- What tokens come to is what reading them finds.
-use Rattle.std.proofs.Common.{◌≡◌, List, [], ◌∷◌, Option, Some, None, Result, Err, refl, sym, ap, ◌∙◌, subst, map, IfSome}
+use Rattle.std.proofs.Common.{◌≡◌, List, [], ◌∷◌, Option, Some, None, Result, Err, true, refl, sym, ap, ◌∙◌, subst, map, IfSome}
 use Rattle.std.specs.Option.{option_and_then}
 use Rattle.c11_expressions.specs.Arithmetic.{Typed}
 use Rattle.c11_expressions.specs.Evaluates.{Spelled, IsExpression, Evaluates, evaluated, refused}
-use Rattle.c11_expressions.specs.Expressions.{Expression, Outcome, outcome, result_of}
+use Rattle.c11_expressions.specs.Expressions.{Expression, outcome}
 use Rattle.c11_expressions.specs.Grammar.{Symbol}
 use Rattle.c11_expressions.specs.Symbols.{symbol_of}
-use Rattle.c11_expressions.proofs.Reader.{State, wanting, step, run, finished, reading, run_tokens, reading_tokens}
+use Rattle.c11_expressions.specs.Waiting.{Operand, operand_of}
+use Rattle.c11_expressions.proofs.Operands.{result-evaluated}
+use Rattle.c11_expressions.proofs.Reader.{State, wanting, step, run, finished, reading, run_tokens, reading_tokens, result_of_operand}
 use Rattle.c11_expressions.proofs.Reading.{Found, found, reads}
 use Rattle.sc_model.specs.declared.cause.Cause.{Cause}
 use Rattle.sc_model.specs.declared.cause.Cause.TheVariants.{BadIf}
@@ -51,34 +53,35 @@ symbols-run s n (t ∷ ts) e = symbols-none s n t ts (symbol_of t.kind t.spellin
     onto s n t ts y m k is rest = record { symbols = y ∷ rest.symbols; each = cc (is, rest.each); runs = ap (option_and_then (λ m. run m rest.symbols)) k ∙ rest.runs }
 
 -- an expression is read
-pub reads_tokens : (ts : List Spelled) (e : Expression) → IsExpression ts e → reading_tokens ts ≡ Some (outcome e)
+pub reads_tokens : (ts : List Spelled) (e : Expression) → IsExpression ts e → reading_tokens ts ≡ Some (operand_of true (outcome e))
 reads_tokens ts e is = ap (option_and_then finished) (run-symbols (wanting []) ts is.symbols is.each) ∙ reads is.symbols e is.form
 
 -- what is read is an expression
-pub evaluates_ok : (ts : List Spelled) (o : Outcome) → reading_tokens ts ≡ Some o → Evaluates ts (result_of o)
+pub evaluates_ok : (ts : List Spelled) (o : Operand) → reading_tokens ts ≡ Some o → Evaluates ts (result_of_operand o)
 evaluates_ok ts o e = by (run_tokens (wanting []) ts) refl e
   where
-    final : (n : State) → Symbols (wanting []) n ts → finished n ≡ Some o → Evaluates ts (result_of o)
+    final : (n : State) → Symbols (wanting []) n ts → finished n ≡ Some o → Evaluates ts (result_of_operand o)
     final n s e =
         let same : reading s.symbols ≡ Some o = ap (option_and_then finished) s.runs ∙ e in
         let f : Found s.symbols o = subst (λ x. IfSome x (Found s.symbols)) same (found s.symbols) in
-        subst (λ x. Evaluates ts (result_of x)) (sym f.is) (evaluated f.expression (record { symbols = s.symbols; each = s.each; form = f.form }))
+        subst (Evaluates ts) (sym (ap result_of_operand f.is ∙ result-evaluated (outcome f.expression))) (evaluated f.expression (record { symbols = s.symbols; each = s.each; form = f.form }))
 
-    by : (r : Option State) → run_tokens (wanting []) ts ≡ r → option_and_then finished r ≡ Some o → Evaluates ts (result_of o)
+    by : (r : Option State) → run_tokens (wanting []) ts ≡ r → option_and_then finished r ≡ Some o → Evaluates ts (result_of_operand o)
     by None k e = absurd (cc)
     by (Some n) k e = final n (symbols-run (wanting []) n ts k) e
 
 pub evaluates_err : (ts : List Spelled) → reading_tokens ts ≡ None → Evaluates ts (Err BadIf)
 evaluates_err ts none = refused (λ e is. absurd (clash (reading_tokens ts) none (reads_tokens ts e is)))
   where
-    clash : {o : Outcome} → (r : Option Outcome) → r ≡ None → r ≡ Some o → ⊥
+    clash : {o : Operand} → (r : Option Operand) → r ≡ None → r ≡ Some o → ⊥
     clash r a b = cc
 
 -- tokens come to one result
 pub one_result : (ts : List Spelled) (r s : Result Typed Cause) → Evaluates ts r → Evaluates ts s → r ≡ s
 one_result ts r s (evaluated a is) (evaluated b at) =
-    let same : Some (outcome a) ≡ Some (outcome b) = sym (reads_tokens ts a is) ∙ reads_tokens ts b at in
-    let o : outcome a ≡ outcome b = cc in ap result_of o
+    let same : Some (operand_of true (outcome a)) ≡ Some (operand_of true (outcome b)) = sym (reads_tokens ts a is) ∙ reads_tokens ts b at in
+    let o : operand_of true (outcome a) ≡ operand_of true (outcome b) = cc in
+    sym (result-evaluated (outcome a)) ∙ (ap result_of_operand o ∙ result-evaluated (outcome b))
 one_result ts r s (evaluated a is) (refused none) = absurd (none a is)
 one_result ts r s (refused none) (evaluated b at) = absurd (none b at)
 one_result ts r s (refused none) (refused other) = refl
@@ -86,6 +89,6 @@ one_result ts r s (refused none) (refused other) = refl
 pub has_result : (ts : List Spelled) → (r : Result Typed Cause) × Evaluates ts r
 has_result ts = by (reading_tokens ts) refl
   where
-    by : (o : Option Outcome) → reading_tokens ts ≡ o → (r : Result Typed Cause) × Evaluates ts r
+    by : (o : Option Operand) → reading_tokens ts ≡ o → (r : Result Typed Cause) × Evaluates ts r
     by None is = (Err BadIf, evaluates_err ts is)
-    by (Some o) is = (result_of o, evaluates_ok ts o is)
+    by (Some o) is = (result_of_operand o, evaluates_ok ts o is)

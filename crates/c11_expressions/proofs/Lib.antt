@@ -1,4 +1,6 @@
 pub mod Evaluating
 pub mod OneLine
+pub mod OneWaiting
+pub mod Operands
 pub mod Reader
 pub mod Reading

@@ -5,3 +5,4 @@ pub mod Expressions
 pub mod Grammar
 pub mod Lines
 pub mod Symbols
+pub mod Waiting

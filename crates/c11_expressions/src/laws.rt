@@ -5,6 +5,7 @@ ghost use Rattle.c11_expressions.specs.Evaluates.{Evaluates, Spelled};
 ghost use Rattle.c11_expressions.specs.Expressions.{Expression, outcome};
 ghost use Rattle.c11_expressions.specs.Grammar.{Phrase, Symbol};
 ghost use Rattle.c11_expressions.specs.Lines.{Decides};
+ghost use Rattle.c11_expressions.specs.Waiting.{AreWaiting, Waiting};
 ghost use Rattle.c11_macros.specs.Expansion.{IsWithin};
 ghost use Rattle.c11_macros.specs.Hidden.{Failure, Hidden, Provenance};
 ghost use Rattle.c11_macros.specs.Macros.{Macros};
@@ -13,6 +14,11 @@ ghost use Rattle.sc_model.specs.declared.cause.Cause.{Cause};
 /// Whatever expression the symbols are, evaluating it gives the same.
 pub fn symbols_have_one_outcome()
     ensures { (ts : List Symbol) (a b : Expression) → Phrase 0 ts a → Phrase 0 ts b → outcome a ≡ outcome b }
+{}
+
+/// What waits behind symbols is one list.
+pub fn symbols_wait_in_one_way()
+    ensures { (ts : List Symbol) (ws vs : List Waiting) → AreWaiting ws ts → AreWaiting vs ts → ws ≡ vs }
 {}
 
 /// Tokens come to one result.

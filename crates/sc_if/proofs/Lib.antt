@@ -5,7 +5,6 @@ pub mod EnteringLemmas
 pub mod LineLemmas
 pub mod Numbers
 pub mod Refusals
-pub mod ShortCircuit
 pub mod Stacks
 pub mod Pieces
 pub mod Replacements

@@ -1,23 +1,24 @@
 -- What waits while an expression is read, as the definitions see it.
 use Rattle.std.specs.Prelude.{◌≡◌, ℕ, true, List, [], ◌∷◌, map, reverse, Bool, false, Option, Some, None}
 use Rattle.c11_expressions.proofs.Reader as reader
+use Rattle.c11_expressions.specs.Waiting as waiting
 use Rattle.sc_if.specs.declared.frame.Frame.{Frame}
 use Rattle.sc_if.specs.declared.frame.Frame.TheVariants.{Parenthesis, Prefix, Left, Condition, Branch}
 use Rattle.sc_if.specs.declared.operand.Operand.{Operand}
 use Rattle.sc_if.specs.Operands.{seen_operand}
 
-abbrev pub seen_frame : Frame → reader.Frame
-seen_frame Parenthesis = reader.parenthesis
-seen_frame (Prefix op) = reader.prefix op
-seen_frame (Left op x) = reader.left op (seen_operand x)
-seen_frame (Condition c) = reader.condition (seen_operand c)
-seen_frame (Branch c x) = reader.branch (seen_operand c) (seen_operand x)
+abbrev pub seen_frame : Frame → waiting.Waiting
+seen_frame Parenthesis = waiting.parenthesis
+seen_frame (Prefix op) = waiting.prefix op
+seen_frame (Left op x) = waiting.left op (seen_operand x)
+seen_frame (Condition c) = waiting.condition (seen_operand c)
+seen_frame (Branch c x) = waiting.branch (seen_operand c) (seen_operand x)
 
 -- the innermost frame first
-abbrev pub stack_of : List Frame → List reader.Frame
+abbrev pub stack_of : List Frame → List waiting.Waiting
 stack_of frames = reverse (map seen_frame frames)
 
-abbrev pub top_binds : ℕ → List reader.Frame → Bool
+abbrev pub top_binds : ℕ → List waiting.Waiting → Bool
 top_binds level [] = false
 top_binds level (f ∷ fs) = reader.binds level f
 

@@ -1,11 +1,12 @@
 //! What waits while an expression is read.
-ghost use Rattle.std.specs.Prelude.{◌≡◌, ◌+◌, IfNone, IfSome, vec_len};
+ghost use Rattle.std.specs.Prelude.{◌≡◌, ◌+◌, ◌∷◌, [], IfNone, IfSome, vec_len};
 ghost use Rattle.c11_expressions.specs.Grammar.{level_of};
 ghost use Rattle.c11_expressions.proofs.Reader.{binds, closed, held, settled};
+ghost use Rattle.c11_expressions.specs.Waiting.{is_evaluated};
 ghost use Rattle.sc_if.specs.Frames.{IsLeft, Pops, seen_frame, stack_of, top_binds};
 ghost use Rattle.sc_if.specs.Operands.{seen_operand};
 
-use crate::operand::Operand;
+use crate::operand::{Operand, is_decided};
 use c11_expressions::{Binary, Unary};
 
 /// What waits for an operand.
@@ -22,6 +23,19 @@ pub(crate) enum Frame {
 }
 
 impl Frame {
+    /// Whether it leaves its last operand evaluated, by those before.
+    fn goes_on(self) -> bool
+        ensures { result ≡ is_evaluated (seen_frame self ∷ []) }
+    {
+        match self {
+            Frame::Parenthesis | Frame::Prefix(_) => true,
+            Frame::Left(op, Operand::Value(left)) => !is_decided(op, left),
+            Frame::Condition(Operand::Value(value)) => !value.is_zero(),
+            Frame::Branch(Operand::Value(value), _) => value.is_zero(),
+            _ => false,
+        }
+    }
+
     /// Whether it takes an operand as its last before a symbol of this level.
     fn binds(self, level: u8) -> bool
         ensures { result ≡ binds level (seen_frame self) }
@@ -45,6 +59,21 @@ impl Frame {
             Frame::Branch(condition, then) => condition.conditional(then, last),
         }
     }
+}
+
+/// Whether the operand behind these frames is evaluated (C11 6.5.13p4, 6.5.14p4, 6.5.15p4).
+pub(crate) fn is_evaluated(frames: &[Frame]) -> bool
+    ensures { result ≡ is_evaluated (stack_of frames.now) }
+{
+    let mut count = frames.len();
+    while count > 0 {
+        count -= 1;
+        match frames[count] {
+            Frame::Parenthesis | Frame::Prefix(_) => {}
+            frame => return frame.goes_on(),
+        }
+    }
+    true
 }
 
 /// How tightly an operator binds.

@@ -8,7 +8,7 @@ ghost use Rattle.sc_if.specs.Stops.{IsRefusal};
 ghost use Rattle.sc_if.specs.Symbols.{seen_symbol};
 
 use crate::IfStop;
-use crate::frame::{Frame, level_of, settle};
+use crate::frame::{Frame, is_evaluated, level_of, settle};
 use crate::operand::Operand;
 use crate::symbol::Symbol;
 use c11_expressions::{Binary, Punctuator, Unary};
@@ -36,7 +36,7 @@ fn begin(frames: &mut Vec<Frame>, symbol: Symbol) -> Result<Option<Operand>, IfS
     ensures err { IfErr result (λ stop. IsRefusal stop (begun (stack_of frames.old.items) (seen_symbol symbol))) }
 {
     match symbol {
-        Symbol::Operand(value) => Ok(Some(Operand::Value(value))),
+        Symbol::Operand(value) => Ok(Some(Operand::constant(value, is_evaluated(frames)))),
         Symbol::Mark(Punctuator::Open) => wait(frames, Frame::Parenthesis),
         Symbol::Mark(mark) => match as_unary(mark) {
             Some(op) => wait(frames, Frame::Prefix(op)),
