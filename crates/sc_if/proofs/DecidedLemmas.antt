@@ -1,11 +1,12 @@
 -- Decisions that are made branch by branch.
 use Rattle.std.proofs.Common.{◌≡◌, ℕ, ◌+◌, ◌<◌, ◌&&◌, ◌||◌, Bool, true, false, List, [], ◌∷◌, ◌++◌, All, take, length, get_or, refl, sym, ap, subst, ◌∙◌, arith, append-nil, if◌then◌else◌}
 use Rattle.std.proofs.lemmas.List.{length-append, take_more}
-use Rattle.std.proofs.lemmas.List.Elements.{All-nil}
+use Rattle.std.proofs.lemmas.List.Elements.{All-cons, All-head, All-nil, All-tail}
 use Rattle.sc_base.specs.declared.fault.Fault.{Fault}
 use Rattle.sc_base.specs.declared.id.Cond.{Cond}
 use Rattle.sc_base.specs.declared.place.Place as declared_place
 use Rattle.sc_base.specs.declared.token.Token.{Token}
+use Rattle.sc_hoist.specs.Alike.{AreAlikeFaults, IsAlike}
 use Rattle.sc_hoist.proofs.BranchLemmas.{lists_at-append}
 use Rattle.sc_hoist.specs.Branches.{lists_at}
 use Rattle.sc_hoist.specs.declared.branch.Branch.{Branch}
@@ -40,10 +41,15 @@ decided-none s names list hash d empty never = record {
   places = subst (All (λ (f : Fault). f.place ≡ hash)) (sym empty) (All-nil (λ (f : Fault). f.place ≡ hash));
   each = λ c places listed is. absurd (nothing places is);
   others = λ c listed is. (never.at c listed, ap (λ fs. failures_at s fs c) empty);
+  alike = λ a b la lb same. record { taken = never.at a la ∙ sym (never.at b lb); faults = subst (AreAlikeFaults s a b) (sym empty) (All-nil (λ (f : Fault). IsAlike s a b f.cond)) };
 }
   where
     nothing : (p : List ℕ) → (let none : List (List ℕ) = [] in none) ≡ p ∷ [] → ⊥
     nothing p is = cc
+
+of-push : {A : Type 0} (P : A → Type 0) (xs : List A) (y : A) → All P (xs ++ y ∷ []) → All P xs × P y
+of-push P [] y h = (All-nil P, All-head P y [] h)
+of-push P (x ∷ xs) y h = let rest = of-push P xs y (All-tail P x (xs ++ y ∷ []) h) in (All-cons P x xs (All-head P x (xs ++ y ∷ []) h) rest.0, rest.1)
 
 -- ---- one branch more
 
@@ -108,4 +114,9 @@ module _ {old mid new : Sets} {names : List (List ℕ)} {list : List (Cond × To
     places = more.entered.places done.places;
     each = λ c places listed is. next-each c listed (old.has b.cond.0 c) refl places is;
     others = λ c listed is. next-others c listed is;
+    alike = λ p q lp lq same.
+        let Same : Branch → Type 0 = λ x. IsAlike old p q x.cond in
+        let both = of-push Same (take i bs) (get_or bs i b) (subst (All Same) (take_more bs i b within) same) in
+        let here : IsAlike old p q b.cond = subst Same (sym is_next) both.1 in
+        more.entered.alike p q (IsConfig-Keeps keeps lp) (IsConfig-Keeps keeps lq) done.faults_own (same_cond p lp ∙ (here ∙ sym (same_cond q lq))) (done.alike p q lp lq both.0);
   }

@@ -8,6 +8,7 @@ use Rattle.sc_base.specs.declared.id.Cond.{Cond}
 use Rattle.sc_base.specs.declared.place.Place.{Place}
 use Rattle.sc_guarded.proofs.ItemLemmas.{faults_at-append, faults_at-Keeps, map-one}
 use Rattle.sc_guarded.specs.Items.{faults_at}
+use Rattle.sc_hoist.specs.Alike.{AreAlikeFaults, IsAlike}
 use Rattle.sc_if.specs.Decided.{IsEntered, failures_at, seen_failure}
 use Rattle.sc_if.specs.declared.deciding.Decided.{Decided}
 use Rattle.sc_model.proofs.SetLemmas.{IsConfig-Keeps}
@@ -31,6 +32,10 @@ entered-taken s t hash cond d e keeps same told =
       places = λ placed. subst (All Placed) (sym items) placed;
       taken = λ c listed. told.at c (IsConfig-Keeps keeps listed) ∙ ap (λ b. s.has d.taken.0 c || b) (and-true (s.has cond.0 c));
       failures = λ c listed own. ap (λ fs. failures_at t fs c) items ∙ (ap (map seen_failure) (faults_at-Keeps d.faults.items c keeps own listed) ∙ none-more (s.has cond.0 c) (failures_at s d.faults.items c));
+      alike = λ a b la lb owned same was. record {
+        taken = told.at a (IsConfig-Keeps keeps la) ∙ (ap (λ h. h || s.has cond.0 a) was.taken ∙ (ap (λ h. s.has d.taken.0 b || h) same ∙ sym (told.at b (IsConfig-Keeps keeps lb))));
+        faults = subst (AreAlikeFaults t a b) (sym items) (λ k f h. keeps.at _ a (owned k f h) la ∙ (was.faults k f h ∙ sym (keeps.at _ b (owned k f h) lb)));
+      };
     }
   where
     and-true : (b : Bool) → b ≡ (b && true)
@@ -45,6 +50,7 @@ entered-untaken s hash cond d own = record {
   places = λ placed. placed;
   taken = λ c listed. or-none (s.has d.taken.0 c) (s.has cond.0 c);
   failures = λ c listed own. none-more (s.has cond.0 c) (failures_at s d.faults.items c);
+  alike = λ a b la lb owned same was. was;
 }
   where
     or-none : (t b : Bool) → t ≡ (t || (b && false))
@@ -69,6 +75,10 @@ entered-refused s cond cause hash d e own cond_own same items =
           ∙ (ap (map seen_failure) (faults_at-append s d.faults.items (fault ∷ []) c)
           ∙ (map-append seen_failure (faults_at s d.faults.items c) (faults_at s (fault ∷ []) c)
           ∙ ap (λ l. failures_at s d.faults.items c ++ l) (map-one seen_failure (s.has cond.0 c) fault)));
+      alike = λ a b la lb owned told was. record {
+        taken = ap (λ (k : Cond). s.has k.0 a) same ∙ (was.taken ∙ sym (ap (λ (k : Cond). s.has k.0 b) same));
+        faults = subst (AreAlikeFaults s a b) (sym items) (All-push (λ (f : Fault). IsAlike s a b f.cond) d.faults.items fault was.faults told);
+      };
     }
   where
     or-none : (t b : Bool) → t ≡ (t || (b && false))

@@ -1,7 +1,8 @@
 -- What the branches of a line tell of its configurations.
-use Rattle.std.proofs.Common.{◌≡◌, ℕ, zero, suc, ◌+◌, ◌<◌, ◌≤◌, Bool, true, false, List, [], ◌∷◌, All, Contains, map, length, get_or, Result, Ok, Err, refl, sym, ap, subst, ◌∙◌, arith, ◌⊎◌, inl, inr, if◌then◌else◌}
+use Rattle.std.proofs.Common.{◌≡◌, ℕ, zero, suc, ◌+◌, ◌<◌, ◌≤◌, Bool, true, false, List, [], ◌∷◌, All, AllPairs, Contains, map, length, get_or, Result, Ok, Err, refl, sym, ap, subst, ◌∙◌, arith, ◌⊎◌, inl, inr, if◌then◌else◌}
 use Rattle.std.proofs.lemmas.Bool.{cases_lt}
 use Rattle.std.proofs.lemmas.List.{length-map}
+use Rattle.std.proofs.lemmas.List.Elements.{All-cons, All-head, All-nil, All-tail}
 use Rattle.c11_expressions.specs.Lines.{Comes, failure}
 use Rattle.c11_macros.specs.Hidden.{Failure}
 use Rattle.c11_macros.specs.Text.{fault_of}
@@ -12,12 +13,13 @@ use Rattle.sc_base.specs.declared.stop.Stop.{Stop}
 use Rattle.sc_base.specs.declared.token.Token.{Token}
 use Rattle.sc_base.specs.Seen.{seen_place}
 use Rattle.sc_guarded.specs.Items.{faults_at, seen_fault}
-use Rattle.sc_hoist.proofs.PartLemmas.{one_list}
+use Rattle.sc_hoist.proofs.PartLemmas.{no_branch, one_list}
+use Rattle.sc_hoist.specs.Alike.{AreAlike, IsAlike}
 use Rattle.sc_hoist.specs.Branches.{AreBranches, Refuses, lists_at}
 use Rattle.sc_hoist.specs.declared.branch.Branch.{Branch}
 use Rattle.sc_hoist.specs.Places.{places_at, places_from}
 use Rattle.sc_if.proofs.AnswerLemmas.{tokens_at-places}
-use Rattle.sc_if.specs.Decided.{AreDecided, HasFewLists, IsDecided, Stands, at_hash, failures_of, line_of, seen_failure, takes}
+use Rattle.sc_if.specs.Decided.{AreDecided, AreDecidedAlike, HasFewLists, IsDecided, Stands, at_hash, failures_of, line_of, seen_failure, takes}
 use Rattle.sc_if.specs.declared.deciding.Decided.{Decided}
 use Rattle.sc_model.proofs.SetLemmas.{IsConfig-Keeps, IsConfig-kept}
 use Rattle.sc_model.specs.declared.cause.Cause.{Cause}
@@ -75,6 +77,53 @@ listed-by s (b ∷ bs) c p rest is = by (s.has b.cond.0 c) is (λ e. listed-by s
         → Contains (map (λ (b : Branch). b.places.items) (b ∷ bs)) p
     by true e later = let first : b.places.items ≡ p = cc in (0, omega arith, first)
     by false e later = let found = later e in (suc found.0, omega (arith, found.1), found.2)
+
+-- ---- configurations with the same items
+
+module _ (s : Sets) (c d : List ℕ) where
+  places-alike : (n : ℕ) (list : List (Cond × Token)) → AreAlike s c d list → places_from s n (map (λ (item : Cond × Token). item.0) list) c ≡ places_from s n (map (λ (item : Cond × Token). item.0) list) d
+  places-alike n [] same = refl
+  places-alike n (x ∷ xs) same =
+      let Same : Cond × Token → Type 0 = λ item. IsAlike s c d item.0 in
+      by _ _ _ _ (All-head Same x xs same) (places-alike (n + 1) xs (All-tail Same x xs same))
+    where
+      by : (p q : Bool) (us vs : List ℕ) → p ≡ q → us ≡ vs → (if p then n ∷ us else us) ≡ (if q then n ∷ vs else vs)
+      by true true us vs same more = ap (λ l. n ∷ l) more
+      by false false us vs same more = more
+      by true false us vs same more = absurd (cc)
+      by false true us vs same more = absurd (cc)
+
+-- no branch has this list
+no-list : (s : Sets) (c p : List ℕ) (bs : List Branch) → All (λ (b : Branch). b.places.items ≡ p → ⊥) bs → lists_at s bs c ≡ p ∷ [] → ⊥
+no-list s c p [] apart is = cc
+no-list s c p (b ∷ bs) apart is =
+    let Apart : Branch → Type 0 = λ b. b.places.items ≡ p → ⊥ in
+    by (s.has b.cond.0 c) is (All-head Apart b bs apart) (no-list s c p bs (All-tail Apart b bs apart))
+  where
+    by : (h : Bool) → (if h then b.places.items ∷ lists_at s bs c else lists_at s bs c) ≡ p ∷ [] → (b.places.items ≡ p → ⊥) → (lists_at s bs c ≡ p ∷ [] → ⊥) → ⊥
+    by true e here later = here (let first : b.places.items ≡ p = cc in first)
+    by false e here later = later e
+
+-- the branch that has the one has the other
+branches-alike : (s : Sets) (c d p : List ℕ) (bs : List Branch) → AllPairs (λ (a b : Branch). a.places.items ≡ b.places.items → ⊥) bs → lists_at s bs c ≡ p ∷ [] → lists_at s bs d ≡ p ∷ []
+    → All (λ (b : Branch). IsAlike s c d b.cond) bs
+branches-alike s c d p [] apart one two = All-nil (λ (b : Branch). IsAlike s c d b.cond)
+branches-alike s c d p (b ∷ bs) apart one two =
+    by (s.has b.cond.0 c) (s.has b.cond.0 d) refl refl one two (branches-alike s c d p bs (λ i j z lt h. apart (suc i) (suc j) z (omega (arith, lt)) (omega (arith, h))))
+  where
+    others : b.places.items ≡ p → All (λ (x : Branch). x.places.items ≡ p → ⊥) bs
+    others is = λ k x h e. apart 0 (suc k) x (omega arith) (omega (arith, h)) (is ∙ sym e)
+
+    by : (h k : Bool) → s.has b.cond.0 c ≡ h → s.has b.cond.0 d ≡ k → (if h then b.places.items ∷ lists_at s bs c else lists_at s bs c) ≡ p ∷ []
+        → (if k then b.places.items ∷ lists_at s bs d else lists_at s bs d) ≡ p ∷ [] → (lists_at s bs c ≡ p ∷ [] → lists_at s bs d ≡ p ∷ [] → All (λ (x : Branch). IsAlike s c d x.cond) bs)
+        → All (λ (x : Branch). IsAlike s c d x.cond) (b ∷ bs)
+    by true true x y e f rest =
+        let none : lists_at s bs c ≡ [] = cc in
+        let less : lists_at s bs d ≡ [] = cc in
+        All-cons (λ (x : Branch). IsAlike s c d x.cond) b bs (x ∙ sym y) (λ k z h. no_branch s bs c none k z h ∙ sym (no_branch s bs d less k z h))
+    by true false x y e f rest = absurd (no-list s d p bs (others (let first : b.places.items ≡ p = cc in first)) f)
+    by false true x y e f rest = absurd (no-list s c p bs (others (let first : b.places.items ≡ p = cc in first)) e)
+    by false false x y e f rest = All-cons (λ (x : Branch). IsAlike s c d x.cond) b bs (x ∙ sym y) (rest e f)
 
 -- ---- faults
 
@@ -146,3 +195,8 @@ module _ {old mid : Sets} {list : List (Cond × Token)} {live : ℕ} {bs : List 
     lines-others c listed has =
         let it = done.others c (IsConfig-Keeps lines.keeps listed) (lists-other c listed has) in
         (it.0, no-faults (faults_at new d.faults.items c) it.1)
+
+    pub lines-alike : (c e : List ℕ) → IsConfig old.arities c → IsConfig old.arities e → old.has live c ≡ true → old.has live e ≡ true → AreAlike old c e list → AreDecidedAlike new c e d
+    lines-alike c e listed other has also same =
+        done.alike c e (IsConfig-Keeps lines.keeps listed) (IsConfig-Keeps lines.keeps other)
+        (branches-alike mid c e (places_at old list c) bs lines.are.apart (lists-live c listed has) (lists-live e other also ∙ ap (λ ps. ps ∷ []) (sym (places-alike old c e 0 list same))))

@@ -10,6 +10,7 @@ use Rattle.sc_base.specs.declared.place.Place as declared_place
 use Rattle.sc_base.specs.declared.token.Token.{Token}
 use Rattle.sc_base.specs.Seen.{seen, seen_place, text_at}
 use Rattle.sc_guarded.specs.Items.{faults_at, items_at, seen_fault}
+use Rattle.sc_hoist.specs.Alike.{AreAlikeFaults, IsAlike}
 use Rattle.sc_hoist.specs.Branches.{lists_at}
 use Rattle.sc_hoist.specs.declared.branch.Branch.{Branch}
 use Rattle.sc_if.specs.declared.deciding.Decided.{Decided}
@@ -42,6 +43,11 @@ pub record HasFewLists (s : Sets) (cond : ℕ) (list : List ℕ → List ℕ) (l
   pub lists : List (List ℕ)
   pub few : length lists ≤ limit
   pub each : (c : List ℕ) → IsConfig s.arities c → s.has cond c ≡ true → Contains lists (list c)
+
+-- both configurations take the group or neither does, and both have each fault or neither
+pub record AreDecidedAlike (s : Sets) (a b : List ℕ) (d : Decided) : Type 0 where
+  pub taken : IsAlike s a b d.taken
+  pub faults : AreAlikeFaults s a b d.faults.items
 
 -- ---- the tokens of one branch
 
@@ -91,6 +97,8 @@ pub record IsEntered (old new : Sets) (hash : declared_place.Place) (cond : Cond
   pub taken : (c : List ℕ) → IsConfig old.arities c → new.has e.taken.0 c ≡ (old.has d.taken.0 c || (old.has cond.0 c && takes answer))
   pub failures : (c : List ℕ) → IsConfig old.arities c → All (λ f. IsCond old f.cond.0) d.faults.items
       → failures_at new e.faults.items c ≡ failures_at old d.faults.items c ++ (if old.has cond.0 c then failures_of hash answer else [])
+  pub alike : (a b : List ℕ) → IsConfig old.arities a → IsConfig old.arities b → All (λ f. IsCond old f.cond.0) d.faults.items → IsAlike old a b cond
+      → AreDecidedAlike old a b d → AreDecidedAlike new a b e
 
 -- those of a branch have what its tokens come to
 pub record IsAdded (old new : Sets) (names : List (List ℕ)) (list : List (Cond × Token)) (hash : declared_place.Place) (branch : Branch) (d e : Decided) : Type 0 where
@@ -114,3 +122,4 @@ pub record AreDecided (old new : Sets) (names : List (List ℕ)) (list : List (C
       → IsPlaced names list hash places (new.has d.taken.0 c) (failures_at new d.faults.items c)
   pub others : (c : List ℕ) → IsConfig old.arities c → lists_at old branches c ≡ []
       → (new.has d.taken.0 c ≡ false) × (failures_at new d.faults.items c ≡ [])
+  pub alike : (a b : List ℕ) → IsConfig old.arities a → IsConfig old.arities b → All (λ branch. IsAlike old a b branch.cond) branches → AreDecidedAlike new a b d

@@ -2,11 +2,12 @@
 ghost use Rattle.std.specs.Prelude.{◌≡◌, ℕ, ◌<◌, true, false, [], List, All, length, IfOk, IfErr, OnOk};
 ghost use Rattle.std.specs.List.{list_any};
 ghost use Rattle.sc_guarded.specs.Items.{faults_at};
+ghost use Rattle.sc_hoist.specs.Alike.{AreAlike};
 ghost use Rattle.sc_hoist.specs.Branches.{Refuses};
 ghost use Rattle.sc_hoist.specs.Places.{places_at};
 ghost use Rattle.sc_base.specs.declared.place.Place.{Place};
 ghost use Rattle.sc_base.specs.Seen.{IsHeld};
-ghost use Rattle.sc_if.specs.Decided.{AreDecided, HasFewLists, IsAdded, IsAnswer, IsDecided, IsEntered, is_left_over, tokens_at};
+ghost use Rattle.sc_if.specs.Decided.{AreDecided, AreDecidedAlike, HasFewLists, IsAdded, IsAnswer, IsDecided, IsEntered, is_left_over, tokens_at};
 ghost use Rattle.sc_model.specs.Sets.{Sets, IsConfig, IsCond, Keeps};
 
 use crate::IfStop;
@@ -46,6 +47,10 @@ pub fn decide<C: Conditions>(
     ensures own { IfOk result (λ d. IsCond (C.sets conds.new) d.taken.0) }
     ensures faults_own { IfOk result (λ d. All (λ f. IsCond (C.sets conds.new) f.cond.0) d.faults.items) }
     ensures places { IfOk result (λ d. All (λ f. f.place ≡ hash) d.faults.items) }
+
+    // configurations with the same tokens have the same answer
+    ensures alike { IfOk result (λ x. (c d : List ℕ) → IsConfig (C.sets conds.old).arities c → IsConfig (C.sets conds.old).arities d
+        → (C.sets conds.old).has live.0 c ≡ true → (C.sets conds.old).has live.0 d ≡ true → AreAlike (C.sets conds.old) c d list.now → AreDecidedAlike (C.sets conds.new) c d x) }
 
     // the limit, exactly
     ensures few { OnOk result (HasFewLists (C.sets conds.old) live.0 (λ c. places_at (C.sets conds.old) list.now c) limit) }

@@ -3,7 +3,7 @@ use Rattle.std.proofs.lemmas.Result.{err_from_is_err_and}
 use Rattle.sc_base.specs.declared.id.Cond.{Cond}
 use Rattle.sc_base.specs.declared.token.Token.{Token}
 use Rattle.sc_hoist.specs.declared.branch.Branch.{Branch}
-use Rattle.sc_if.proofs.LineLemmas.{are-lines, bare-same, lines-below, lines-decided, lines-few, lines-others, refused-same}
+use Rattle.sc_if.proofs.LineLemmas.{are-lines, bare-same, lines-alike, lines-below, lines-decided, lines-few, lines-others, refused-same}
 use Rattle.sc_if.specs.Decided.{AreDecided}
 use Rattle.sc_model.proofs.SetLemmas.{Keeps-trans}
 use Rattle.sc_model.specs.Sets.{IsCond}
@@ -47,6 +47,14 @@ returns-clause-others g c =
     let new = g.C.Conditions.sets c.decide_branches.new.conds in
     let done = subst (λ bs. AreDecided mid new c.args.names.now c.args.list.now c.args.hash bs c.in_ok-decided.decided) c.deref.ensures.value c.in_ok-decided.ensures.decided in
     lines-others (are-lines old mid c.args.list.now c.args.live.0 c.in_ok-branches.branches.items c.lines.ensures.keeps c.in_ok-branches.ensures.branches c.in_ok-branches.ensures.lists) done
+
+pub returns-clause-alike : goal.returns-clause-alike
+returns-clause-alike g c =
+    let old = g.C.Conditions.sets c.args.conds.now in
+    let mid = g.C.Conditions.sets c.lines.new.conds in
+    let new = g.C.Conditions.sets c.decide_branches.new.conds in
+    let done = subst (λ bs. AreDecided mid new c.args.names.now c.args.list.now c.args.hash bs c.in_ok-decided.decided) c.deref.ensures.value c.in_ok-decided.ensures.decided in
+    lines-alike (are-lines old mid c.args.list.now c.args.live.0 c.in_ok-branches.branches.items c.lines.ensures.keeps c.in_ok-branches.ensures.branches c.in_ok-branches.ensures.lists) done
 
 pub returns-clause-few : goal.returns-clause-few
 returns-clause-few g c =
