@@ -29,23 +29,6 @@ append_cases (z ∷ xs) ys (suc i) x at = append_cases xs ys i x at
 pub adds-none : (old new : List Line) → new ≡ old → AddsNoChoices old new
 adds-none old new same = record { added = []; is = same ∙ sym (append-nil old); none = λ i branches at. absurd (cc) }
 
-adds-line : (old new : List Line) (line : Line) → IsNoChoice line → AddsAtMost old new line → AddsNoChoices old new
-adds-line old new line other (inl same) = adds-none old new same
-adds-line old new line other (inr more) = record { added = line ∷ []; is = more; none = none }
-  where
-    none : (i : ℕ) (branches : List (Cond × TreeId)) → slice_get (line ∷ []) i ≡ Some (choice branches) → ⊥
-    none zero branches at = other branches (same_Some line (choice branches) at)
-    none (suc i) branches at = cc
-
-pub adds-leaf : (old new : List Line) (place : Place) (spelling : Name) → AddsAtMost old new (leaf place spelling) → AddsNoChoices old new
-adds-leaf old new place spelling = adds-line old new (leaf place spelling) (λ branches e. cc)
-
-pub adds-node : (old new : List Line) (production : ℕ) (children : List TreeId) → AddsAtMost old new (node production children) → AddsNoChoices old new
-adds-node old new production children = adds-line old new (node production children) (λ branches e. cc)
-
-pub adds-extends : (old new : List Line) → AddsNoChoices old new → Extends old new
-adds-extends old new adds = subst (λ ls. Extends old ls) (sym adds.is) (Extends-append old adds.added)
-
 -- the conditions of the branches are the store's still
 pub adds-branches : (s : Sets) (old new : List Line) → AddsNoChoices old new → OwnsBranches s old → OwnsBranches s new
 adds-branches s old new adds own = subst (λ ls. OwnsBranches s ls) (sym adds.is) (record { each = λ i line at. by i line (append_cases old adds.added i line at) })
@@ -91,31 +74,3 @@ module _ (list : List (Cond × Token)) where
   pub leaves-leaf : (old new : List Line) (j : ℕ) (item : Cond × Token) → slice_get list j ≡ Some item → AddsAtMost old new (leaf item.1.place item.1.spelling) → AddsLeaves list old new
   leaves-leaf old new j item at =
       leaves-line old new (leaf item.1.place item.1.spelling) (λ place spelling e. (item, (contains-at list j item at, (let p : item.1.place ≡ place = cc in p, let n : item.1.spelling ≡ spelling = cc in n))))
-
-  pub leaves-node : (old new : List Line) (production : ℕ) (children : List TreeId) → AddsAtMost old new (node production children) → AddsLeaves list old new
-  leaves-node old new production children = leaves-line old new (node production children) (λ place spelling e. absurd (cc))
-
-  pub leaves-choices : (here there : Cond) (old new : List Line) → AddsChoices here there old new → AddsLeaves list old new
-  leaves-choices here there old new adds = record { added = adds.added; is = adds.is; leaves = leaves }
-    where
-      leaves : (i : ℕ) (place : Place) (spelling : Name) → slice_get adds.added i ≡ Some (leaf place spelling) → IsOfList place spelling
-      leaves i place spelling at =
-          let is : IsChoice here there (leaf place spelling) = all-at (IsChoice here there) adds.added i (leaf place spelling) adds.choices at in
-          let no : leaf place spelling ≡ choice ((here, is.left) ∷ ((there, is.right) ∷ [])) = is.is in
-          absurd (cc)
-
-  pub leaves-choice : (roots : List (Cond × TreeId)) (old new : List Line) → AddsChoice roots old new → AddsLeaves list old new
-  leaves-choice roots old new (no_choice same) = leaves-none old new same
-  leaves-choice roots old new (one_choice several more) = leaves-line old new (choice roots) (λ place spelling e. absurd (cc)) (inr more)
-
--- the conditions of a choice of roots are the store's, as theirs are
-pub branches-choice : (s : Sets) (roots : List (Cond × TreeId)) (old new : List Line) → AddsChoice roots old new → All (λ (root : Cond × TreeId). IsCond s root.0.0) roots → OwnsBranches s old
-    → OwnsBranches s new
-branches-choice s roots old new (no_choice same) conds own = subst (OwnsBranches s) (sym same) own
-branches-choice s roots old new (one_choice several more) conds own =
-    subst (OwnsBranches s) (sym more) (record { each = λ i line at. by i line (append_cases old (choice roots ∷ []) i line at) })
-  where
-    by : (i : ℕ) (line : Line) → (slice_get old i ≡ Some line) ⊎ ((j : ℕ) × (slice_get (choice roots ∷ []) j ≡ Some line)) → All (λ (branch : Cond × TreeId). IsCond s branch.0.0) (branches_of line)
-    by i line (inl before) = own.each i line before
-    by i line (inr (zero, at)) = subst (λ l. All (λ (branch : Cond × TreeId). IsCond s branch.0.0) (branches_of l)) (same_Some (choice roots) line at) conds
-    by i line (inr (suc j, at)) = absurd (cc)

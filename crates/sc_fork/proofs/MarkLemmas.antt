@@ -189,11 +189,6 @@ module _ (s : Sets) (lines : List Line) (cond : Cond) (value : Option TreeId) (l
       subst (λ m. Marks m after) (sym is) (subst (λ ls. Marks Push ls) (sym levels_are)
       (record { shows = λ names files c tree shown one listed has reads shows. push-shows s names c levels shown shows }))
 
-  pub mark-pop : mark ≡ Pop → after ≡ drop 1 levels → Marks mark after
-  mark-pop is levels_are =
-      subst (λ m. Marks m after) (sym is) (subst (λ ls. Marks Pop ls) (sym levels_are)
-      (record { shows = λ names files c tree shown one listed has reads shows. pop-shows s names c levels shown shows }))
-
   pub mark-join : mark ≡ Join → after ≡ joined levels → Marks mark after
   mark-join is levels_are =
       subst (λ m. Marks m after) (sym is) (subst (λ ls. Marks Join ls) (sym levels_are)

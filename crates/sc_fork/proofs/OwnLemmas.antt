@@ -89,16 +89,6 @@ OwnsCore-Grows {old} {new} {lines} {added} core keeps longer own = record {
   ended = λ usable. All-weaker (OwnsEnded old (length lines) core.source) (OwnsEnded new (length added) core.source) (OwnsEnded-Grows keeps longer core.source) core.ended.items (own.ended usable);
 }
 
--- a core that is given up keeps no more than its source
-pub owns-given_up : {old new : Sets} (count others : ℕ) (before after : Core) → Keeps old new → OwnsCore old count before → after.source ≡ before.source → after.is_given_up ≡ true
-    → OwnsCore new others after
-owns-given_up {old} {new} count others before after keeps own source given_up = record {
-  source = subst IsSource (sym source) own.source;
-  items = subst (λ (s : Source). All (λ (item : Cond × Token). IsCond new item.0.0) s.list.now) (sym source) (items-own before.source.list.now keeps own.items);
-  rows = λ usable. absurd (true≢false (sym given_up ∙ usable));
-  ended = λ usable. absurd (true≢false (sym given_up ∙ usable));
-}
-
 module _ {old new : Sets} {lines added : List Line} (before after : Core) (keeps : Keeps old new) (own : OwnsCore old (length lines) before) (source : after.source ≡ before.source) where
   pub owns-after : (e : Event) (pieces : List Piece) (made : List ℕ) → Extends lines added → before.is_given_up ≡ false → Becomes before e pieces after made
       → All (OwnsPiece new (length added) before.source) pieces → OwnsCore new (length added) after

@@ -76,7 +76,3 @@ becomes before event rows ended pieces taken after made gone same all is = recor
 -- the next item is taken of a list that is passed
 pub taken-more : {A : Type 0} (taken : List A) (x : A) (left rest all : List A) → left ≡ x ∷ rest → taken ++ left ≡ all → (taken ++ x ∷ []) ++ rest ≡ all
 taken-more taken x left rest all next is = append_assoc taken (x ∷ []) rest ∙ ap (λ xs. taken ++ xs) (sym next) ∙ is
-
-pub taken-all : {A : Type 0} (taken left all : List A) → length left ≡ 0 → taken ++ left ≡ all → taken ≡ all
-taken-all taken [] all none is = sym (append-nil taken) ∙ is
-taken-all taken (x ∷ left) all none is = absurd (omega (arith, none))

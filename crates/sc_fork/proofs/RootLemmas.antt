@@ -184,15 +184,6 @@ adds-pushed s roots after cond tree none own own_cond pushed = subst (AddsRoot s
 
 -- ---- the trees of all parts
 
-pub roots-none : (s : Sets) (roots : List (Cond × TreeId)) → roots ≡ [] → AreRoots s s [] roots
-roots-none s roots none = subst (AreRoots s s []) (sym none) (record {
-  own = All-nil (λ (x : Cond × TreeId). IsCond s x.0.0);
-  satisfiable = λ all. All-nil (IsSatisfiable s);
-  within = λ count all. All-nil (λ (x : Cond × TreeId). x.1.0 < count);
-  once = record { same = λ i j x at_i at_j. absurd (cc) };
-  same = λ c listed few. refl;
-})
-
 few-push : {A : Type 0} (xs : List A) (x : A) → length (xs ++ x ∷ []) ≤ 1 → xs ≡ []
 few-push [] x few = refl
 few-push (y ∷ xs) x few = absurd (omega (arith, few, length-append xs (x ∷ [])))

@@ -25,7 +25,3 @@ terminals-more names list first new i cond token text found are here named is ad
   where
     terminal : Cond × Token → Option ℕ
     terminal item = terminal_of item.1.kind (text_at names item.1.spelling.0)
-
-pub terminals-all : (names : List (List ℕ)) (list : List (Cond × Token)) (terminals : List (Option Terminal)) (i : ℕ) → length list ≤ i
-    → AreTerminals names (take i list) terminals → AreTerminals names list terminals
-terminals-all names list terminals i end are = subst (λ xs. AreTerminals names xs terminals) (take_all i list end) are

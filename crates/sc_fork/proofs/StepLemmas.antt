@@ -245,11 +245,6 @@ module _ (w : Tables) (source : Source) (input : Input) (is : IsInput w source i
   element-left c _ own (next_element j item has holds) some = own-left c j item own has holds some
   element-left c _ own next_end some = absurd (omega (arith, same-length, slice_get_within source.list.now (length input.items) own some))
 
-  -- and where the kind of its name does
-  pub named-left : (c : List ℕ) (j : ℕ) (own : Cond × base.Token) → IsNext input c (named j) → slice_get source.list.now j ≡ Some own
-      → left_from input j c ≡ seen w.names w.files own.1 ∷ left_from input (j + 1) c
-  named-left c _ own (next_kind j item has holds) some = own-left c j item own has holds some
-
   -- the token of an element as a leaf knows it
   pub token-at : (j : ℕ) (own : Cond × base.Token) → slice_get source.list.now j ≡ Some own → IsTokenAt w own.1.place own.1.spelling (seen w.names w.files own.1)
   token-at j own some =

@@ -79,9 +79,6 @@ own-within {m} {n} values below own = record { each = λ k d within. own-later m
 
 -- ---- one value
 
-pub value-same : (lines : List Line) (cond other : Cond) (value : Option TreeId) → KeepsValue lines lines cond other value value
-value-same lines cond other value = record { some = refl; reads = λ sets names files c tree own other_own only reads. reads }
-
 -- in a choice of two branches one is the only one
 only_first : (sets : Sets) (here there : Cond) (left right : TreeId) (c : List ℕ) → IsOnlyIn sets here there c
     → items_at sets ((here, left) ∷ ((there, right) ∷ [])) c ≡ left ∷ []
@@ -174,11 +171,6 @@ pub silent-at : (left right : List (Option TreeId)) (i : ℕ) → i < length lef
 silent-at left right i within same =
     let below : i < length right = subst (λ n. i < n) (same-length left right same) within in
     sym (get_or-map is_some left i None true within) ∙ ap (λ bs. get_or bs i true) same ∙ get_or-map is_some right i None true below
-
--- no tree on either side
-pub value-none : (lines : List Line) (cond other : Cond) (value : Option TreeId) → is_some value ≡ false → KeepsValue lines lines cond other value None
-value-none lines cond other None e = value-same lines cond other None
-value-none lines cond other (Some id) e = absurd (cc (e))
 
 -- ---- whole stacks, whose values are gone through from the lowest
 

@@ -101,10 +101,6 @@ first-filled c begun s has n = elim (eqb_tells n 0) [
       omega (arith, none, ap one_if other.0)
 ]
 
-pub first-numbers : (c : Steps) (numbers : List ℕ) → HasBegun c.core → (s : Subparser) → Has c.core.rows.items 0 s → numbers ≡ [] → AreNumbers c.core.rows.items (0 ∷ numbers)
-first-numbers c numbers begun s has none =
-    subst (λ ns. AreNumbers c.core.rows.items (0 ∷ ns)) (sym none) (record { once = λ n. omega (arith, first-filled c begun s has n) })
-
 pub no-waiting : (sets : Sets) (input : Input) (i : ℕ) (rows : List (Option Subparser)) (numbers : List ℕ) → numbers ≡ [] → AreWaiting sets input i rows numbers
 no-waiting sets input i rows numbers none =
     subst (AreWaiting sets input i rows) (sym none) (All-nil (λ n. (t : Subparser) × (Has rows n t × IsWaiting sets input i t)))

@@ -333,10 +333,6 @@ put-alike rows number others are =
     let found = number-in rows (number ∷ others) n are within in
     kept-alike rows rows (number ∷ others) n found.0 (member-of (number ∷ others) n within) found.1 found.1)
 
-pub put-apart : (rows : List (Option Subparser)) (number : ℕ) (others : List ℕ) → All (λ other. AreUnlike rows other number) others → AreApart rows others
-    → AreApart rows (others ++ number ∷ [])
-put-apart rows number others unlike apart = all_pairs_push (AreUnlike rows) others number apart unlike
-
 pub put-each : (P : Subparser → Type 0) (rows : List (Option Subparser)) (number : ℕ) (others : List ℕ) → Each P rows (number ∷ others) → Each P rows (others ++ number ∷ [])
 put-each P rows number others each = each-of P rows (number ∷ others) (others ++ number ∷ []) each (λ n none. omega (arith, none, put-times number others n))
 

@@ -39,15 +39,6 @@ same-place i j t s one two same = cc
 same-name : (i j : ℕ) (t s : Subparser) → t.phase ≡ Named i → s.phase ≡ Named j → t ≡ s → i ≡ j
 same-name i j t s one two same = cc
 
-pub shift-enabled : (source : Source) (rows : List (Option Subparser)) (number j : ℕ) (s : Subparser) → Has rows number s → IsReady source j s → (fact : Fact)
-    → IsRefused source rows (Shift number) fact → ⊥
-shift-enabled source rows number j s has ready _ (none_to_shift _ none) = none s has
-shift-enabled source rows number j s has ready _ (no_lookahead_to_shift _ t there other) = other j (ap (λ (x : Subparser). x.phase) (same-subparser rows number t s there has) ∙ ready.at)
-shift-enabled source rows number j s has ready _ (reduction _ i p t there at action) =
-    let same = same-subparser rows number t s there has in
-    let here : i ≡ j = same-place i j t s at ready.at same in
-    ready.shifts p (subst (λ x. action_in source x j ≡ Some (Reduce p)) same (subst (λ k. action_in source t k ≡ Some (Reduce p)) here action))
-
 pub classify-enabled : (source : Source) (rows : List (Option Subparser)) (number j : ℕ) (s : Subparser) → Has rows number s → s.phase ≡ Named j → (fact : Fact)
     → IsRefused source rows (Classify number) fact → ⊥
 classify-enabled source rows number j s has named _ (none_to_classify _ none) = none s has

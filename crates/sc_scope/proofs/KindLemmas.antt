@@ -101,14 +101,6 @@ narrows s t cond kinds bindings narrowed keeps parts of = record {
 
 -- ---- two sides
 
--- a list that is the same on both sides
-pub same_merges : (s : Sets) (here there : Cond) (left right : List (Cond × NameKind)) → left ≡ right → AreOwn s left → MergesBindings s s here there left right left
-same_merges s here there left right e own = record {
-  own = own;
-  on_left = record { same = λ c only. refl };
-  on_right = record { same = λ c only. ap (λ bs. first_at s bs c) e };
-}
-
 -- in the configurations of either part a kind is what it is on that side
 either_at : {r s t u : Sets} (p : List NameKind → Bool) (here there a b both : Cond) (left right : List (Cond × NameKind)) (c : List ℕ) → Keeps r s → Keeps s t → Keeps t u
     → IsCond r there.0 → AreOwn r right → IsConfig r.arities c → Denotes s a.0 (λ c. r.has here.0 c && p (items_at r left c))

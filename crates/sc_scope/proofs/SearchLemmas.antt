@@ -20,11 +20,6 @@ AreOwn-append s xs ys a b = record { each = All-append (λ (binding : Cond × Na
 
 -- ---- steps of a search
 
--- no binding was looked at
-pub GoesOn-refl : (s : Sets) (search : Search) (bindings : List (Cond × NameKind)) → IsCond s search.left.0 → IsCond s search.types.0
-    → GoesOn s s search search bindings bindings
-GoesOn-refl s search bindings left types = record { keeps = Keeps-refl s; left = left; types = types; same = λ rest own c listed. refl }
-
 pub GoesOn-trans : {r s t : Sets} {x y z : Search} (ks ls ms : List (Cond × NameKind)) → GoesOn r s x y ks ls → GoesOn s t y z ls ms → GoesOn r t x z ks ms
 GoesOn-trans ks ls ms a b = record {
   keeps = Keeps-trans a.keeps b.keeps;
@@ -42,18 +37,6 @@ GoesOn-more {s} {t} {x} {y} bindings others own_others on = record {
   types = on.types;
   same = λ rest own c listed. on.same (others ++ rest) (AreOwn-append s others rest own_others own) c listed
       ∙ ap (λ bs. found s x bs c) (sym (append_assoc bindings others rest));
-}
-
--- where no configuration is left, no binding decides
-pub GoesOn-never : (s : Sets) (search : Search) (bindings : List (Cond × NameKind)) → IsCond s search.left.0 → IsCond s search.types.0
-    → IsNever s search.left.0 → GoesOn s s search search bindings []
-GoesOn-never s search bindings left types never = record {
-  keeps = Keeps-refl s;
-  left = left;
-  types = types;
-  same = λ rest own c listed.
-      ap (λ b. s.has search.types.0 c || (b && is_typedef (items_at s rest c))) (never.none c listed)
-      ∙ sym (ap (λ b. s.has search.types.0 c || (b && is_typedef (items_at s (bindings ++ rest) c))) (never.none c listed));
 }
 
 -- a typedef takes what is left of its condition

@@ -42,9 +42,6 @@ IsAscending-push fs g ascending less = record { each = λ k x y at next. by k x 
         let end = last_of fs k x (sym (slice_get-front fs (g ∷ []) k (omega arith)) ∙ at) here in
         subst (λ z. fault_order x z ≡ Less) same (less end.0 x end.1)
 
-pub EndsWith-push : (fs : List Fault) (f : Fault) → EndsWith (fs ++ f ∷ []) f
-EndsWith-push fs f = record { front = fs; is = refl }
-
 pub MayFollow-none : (g : Fault) → MayFollow [] g
 MayFollow-none g = record { last = λ front f e. absurd (omega (arith, ap length e, length-append front (f ∷ []))) }
 

@@ -174,21 +174,3 @@ module _ {space : Space} {pieces : List (List ℕ)} {answer : TreeAnswer} (x : I
   -- a text whose faults no configuration has is one without faults
   pub no-tree-faults : ((c : List ℕ) → IsConfig (arities_of space) c → project answer.faults c ≡ []) → answer.faults ≡ []
   no-tree-faults none = nothing_had answer.faults text_faults_shown none
-
--- ---- the result at a configuration
-
-module _ {space : Space} {s : Sets} {names files : List (List ℕ)} {store : List Line} {root : Option TreeId} {faults : List base.Fault} {text : List ℕ} (shows_tree : ShowsTree space s names files store root faults text)
-    (c : List ℕ) (here : IsConfig s.arities c) where
-  root_number : {ids : List TreeId} {top : Option TreeId} {told : Option ℕ} (id : TreeId) → IsRootOf ids top told → top ≡ Some id → (number : ℕ) × (told ≡ Some number)
-  root_number id no_root same = absurd (cc)
-  root_number id (root_of other number at) same = (number, refl)
-
-  -- the tree for which the root stands, where no fault is
-  pub result-tree : (id : TreeId) (tree : Tree) → root ≡ Some id → faults_at s faults c ≡ [] → Reads (record { sets = s; names = names; files = files; lines = store }) c id.0 tree
-      → IsResultAt shows_tree.answer c (Ok (shown_tree tree))
-  result-tree id tree is none reads =
-      let number = root_number id shows_tree.root_is is in
-      accepted number.0 (shown_tree tree) (shows_tree.faults_are c here ∙ ap (map (seen_fault files)) none) number.1 (shows_tree.trees c here id number.0 tree is number.1 reads)
-
-  pub result-fault : (fault : base.Fault) → faults_at s faults c ≡ fault ∷ [] → IsResultAt shows_tree.answer c (Err (seen_fault files fault))
-  result-fault fault one = refused (seen_fault files fault) (shows_tree.faults_are c here ∙ ap (map (seen_fault files)) one)

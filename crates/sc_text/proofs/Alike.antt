@@ -15,9 +15,3 @@ AreAlike-project config listed (left_out_there f item xs ys empty rest) =
 AreAlike-project config listed (both f g item xs ys same rest) =
     ap (λ b. if b then item ∷ project xs config else project xs config) (same.at config listed)
     ∙ ap (λ items. if g config then item ∷ items else items) (AreAlike-project config listed rest)
-
-pub AreAlike-append : {T : Type 0} {space : Space} {xs ys zs ws : List (Condition × T)} → AreAlike space xs ys → AreAlike space zs ws → AreAlike space (xs ++ zs) (ys ++ ws)
-AreAlike-append no_item later = later
-AreAlike-append {zs} {ws} (left_out f item xs ys empty rest) later = left_out f item (xs ++ zs) (ys ++ ws) empty (AreAlike-append rest later)
-AreAlike-append {zs} {ws} (left_out_there f item xs ys empty rest) later = left_out_there f item (xs ++ zs) (ys ++ ws) empty (AreAlike-append rest later)
-AreAlike-append {zs} {ws} (both f g item xs ys same rest) later = both f g item (xs ++ zs) (ys ++ ws) same (AreAlike-append rest later)

@@ -49,10 +49,6 @@ module _ {T : Type 0} where
       by true told rest = keeps-it told (s.has x.0.0 c) rest
       by false told rest = drops-it told (s.has x.0.0 c) rest
 
--- the conditions of branches are the store's as it grows
-pub OwnsBranches-Keeps : {old new : Sets} {lines : List Line} → Keeps old new → OwnsBranches old lines → OwnsBranches new lines
-OwnsBranches-Keeps keeps own = record { each = λ i line at k d below. keeps.own _ (own.each i line at k d below) }
-
 -- ---- lists are noted
 
 notes-if : (items own met : List TreeId) (l h : Bool) → (items ++ (if l && h then own else [])) ++ (if l && not h then met else []) ≡ items ++ (if l then (if h then own else met) else [])
