@@ -14,7 +14,7 @@ use Rattle.sc_expand.specs.Stops.{HasConfigs}
 use Rattle.sc_fork.specs.Parsers.{c11_parser}
 use Rattle.sc_model.specs.Outside.{Files}
 use Rattle.sc_model.specs.Sets.{IsConfig}
-use Rattle.sc_model.specs.Space.{Space, arities_of}
+use Rattle.sc_model.specs.Space.{IsListed, Space, arities_of}
 use Rattle.sc_prep.specs.Footprints.{StopsAtPlace}
 use Rattle.sc_prep.specs.Preprocesses.{Stops}
 
@@ -55,25 +55,18 @@ is-config (n ∷ ns) (k ∷ ks) is = by (nat_lt k n) refl is (λ more. is-config
     by true below more rest = record { long = ap suc (rest more).long; each = each (is-below k n below) (rest more) }
     by false below more rest = absurd (false≢true more)
 
-pub config-not : (ns ks : List ℕ) → (IsConfig ns ks → ⊥) → is_config ns ks ≡ false
-config-not ns ks not = by (is_config ns ks) refl
-  where
-    by : (b : Bool) → is_config ns ks ≡ b → is_config ns ks ≡ false
-    by true is = absurd (not (is-config ns ks is))
-    by false is = is
-
 -- ---- more configurations than branches
 
 many-configs : (space : Space) → HasConfigs (arities_of space) (space.branches + 1) → HasManyConfigs space
 many-configs space has = let many = has.many in record { configs = has.configs; many = omega (arith, many); listed = has.listed; apart = has.apart }
 
-pub class-configs : (space : Space) (input : Input) → input.arities ≡ arities_of space → HasMoreClasses input space.branches → HasManyConfigs space
-class-configs space input same has =
+pub class-configs : (space : Space) (input : Input) → ((c : List ℕ) → input.live c ≡ true → IsListed space c) → HasMoreClasses input space.branches → HasManyConfigs space
+class-configs space input listed has =
     let distinct = has.distinct in
     record {
       configs = has.configs;
       many = has.more;
-      listed = λ k d h. subst (λ ns. IsConfig ns (get_or has.configs k d)) same (distinct.classes k d h).1.live.is_config;
+      listed = λ k d h. listed (get_or has.configs k d) (distinct.classes k d h).1.live.unrefused;
       apart = λ i j d below within alike.
           let first = distinct.classes i d (omega (arith, below, within)) in
           distinct.different i j d below within first.0 first.1 (subst (λ c. IsClass input has.place c first.0) alike first.1);

@@ -1,6 +1,6 @@
 -- What the parsing of a preprocessed file comes to.
 use Rattle.std.proofs.Common.{◌≡◌, ◌∙◌, ◌++◌, ℕ, suc, ◌<◌, ◌≤◌, Bool, true, false, List, [], ◌∷◌, All, length, map, get_or, slice_get, Option, Some, None, Result, Ok, Err, append-nil, arith, inr, refl, sym, ap, subst}
-use Rattle.std.proofs.lemmas.Bool.{false≢true}
+use Rattle.std.proofs.lemmas.Bool.{and_parts, false≢true}
 use Rattle.std.proofs.lemmas.List.{length-map}
 use Rattle.std.proofs.lemmas.List.Elements.{All-append, All-contains, All-weaker}
 use Rattle.std.proofs.lemmas.Option.{slice_get_within, slice_get-get_or}
@@ -21,13 +21,13 @@ use Rattle.sc_base.specs.declared.stop.Stop.{Stop}
 use Rattle.sc_base.specs.declared.stop.Stop.TheVariants.{BranchesFull, ReadFault, OutOfMemory}
 use Rattle.sc_base.specs.declared.token.Token.{Token}
 use Rattle.sc_base.specs.Seen.{seen, seen_place}
-use Rattle.sc_core.proofs.Filling.{class-configs, config-is, config-not, is_config}
+use Rattle.sc_core.proofs.Filling.{class-configs, config-is, is-config, is_config}
 use Rattle.sc_core.proofs.Translating.{held-main}
-use Rattle.sc_core.specs.Ordinary.{HasManyBranches, IsC11Parser, IsFileInput, IsPreparedAt, Setting, Translates, not_prepared, parsed}
+use Rattle.sc_core.specs.Ordinary.{HasManyBranches, IsFileInput, IsPreparedAt, Setting, Translates, not_prepared, parsed}
 use Rattle.sc_core.specs.Texts.{HasAnswers, IsTranslated, Stands, StopsIn, setting_of}
 use Rattle.sc_fork.specs.Choices.{AddsLeaves}
-use Rattle.sc_fork.specs.Owns.{AreC11Tables, IsPlaceOf}
-use Rattle.sc_fork.specs.Parsers.{c11_parser}
+use Rattle.sc_fork.specs.Owns.{HasC11Tables, IsPlaceOf}
+use Rattle.sc_fork.specs.Parsers.{c11_parser, IsC11Parser}
 use Rattle.sc_fork.specs.Seen.{place_of}
 use Rattle.sc_guarded.proofs.ItemLemmas.{faults_at-append, faults_at-Keeps}
 use Rattle.sc_guarded.specs.Items.{faults_at, items_at, seen_fault}
@@ -57,22 +57,14 @@ use Rattle.sc_tree.specs.Reads.{Tables}
 
 -- ---- the list as it is parsed
 
-pub c11-parser : {tables : code.Tables} → AreC11Tables tables → Parser
+pub c11-parser : {tables : code.Tables} → HasC11Tables tables → Parser
 c11-parser {tables} are = c11_parser (tables_of are.states tables)
 
-pub c11-is : {tables : code.Tables} (are : AreC11Tables tables) → IsC11Parser (c11-parser are)
+pub c11-is : {tables : code.Tables} (are : HasC11Tables tables) → IsC11Parser (c11-parser are)
 unfolding c11-parser
-c11-is {tables} are = record {
-  grammar = are.grammar;
-  entries = are.entries;
-  terminals = are.terminals;
-  nonterminals = are.nonterminals;
-  tables = tables_of are.states tables;
-  are_tables = are.exact;
-  is = refl;
-}
+c11-is {tables} are = record { tables = tables_of are.states tables; are_tables = are.are; is = refl }
 
-pub c11-conflicts : {tables : code.Tables} (are : AreC11Tables tables) → (c11-parser are).tables.conflicts ≡ conflicts_of tables
+pub c11-conflicts : {tables : code.Tables} (are : HasC11Tables tables) → (c11-parser are).tables.conflicts ≡ conflicts_of tables
 unfolding c11-parser
 c11-conflicts are = refl
 
@@ -113,7 +105,7 @@ empty-is (fault ∷ faults) is = absurd (false≢true is)
 
 -- ---- after preprocessing
 
-module _ (s : Sets) (names files : List (List ℕ)) (p : Prepared) (tables : code.Tables) (are : AreC11Tables tables) (shown : CanBeShown s names files p) where
+module _ (s : Sets) (names files : List (List ℕ)) (p : Prepared) (tables : code.Tables) (are : HasC11Tables tables) (shown : CanBeShown s names files p) where
   abbrev pub input : Input
   input = file_input s names files (c11-parser are) p (s.has p.live.0)
 
@@ -140,6 +132,9 @@ module _ (s : Sets) (names files : List (List ℕ)) (p : Prepared) (tables : cod
 
   listed-live : (c : List ℕ) → IsConfig s.arities c → listed_input.live c ≡ s.has p.live.0 c
   listed-live c listed = ap (λ b. b && s.has p.live.0 c) (config-is s.arities c listed)
+
+  live-listed : (space : Space) → s.arities ≡ arities_of space → (c : List ℕ) → listed_input.live c ≡ true → IsListed space c
+  live-listed space arities c live = subst (λ ns. IsConfig ns c) arities (is-config s.arities c (and_parts (is_config s.arities c) (s.has p.live.0 c) live).0)
 
   pub is-listed-input : (lines : List Line) → IsInputOf (tables_with s lines names files) p.list tables p.end p.live listed_input
   is-listed-input = input-under listed_input.live listed-live
@@ -177,7 +172,7 @@ module _ (s : Sets) (names files : List (List ℕ)) (p : Prepared) (tables : cod
       parser = refl;
       arities = arities;
       each = prepared-at;
-      unlisted = λ config not. ap (λ b. b && s.has p.live.0 config) (config-not s.arities config (λ is. not (subst (λ ns. IsConfig ns config) arities is)));
+      listed = live-listed space arities;
     }
 
   -- why there is no tree of a file that was preprocessed
@@ -187,7 +182,7 @@ module _ (s : Sets) (names files : List (List ℕ)) (p : Prepared) (tables : cod
   stops-in space main holds before after arities is (BranchesFull count) stops = (
     stops.0,
     record {
-      configs = class-configs space listed_input arities stops.1;
+      configs = class-configs space listed_input (live-listed space arities) stops.1;
       parser = c11-parser are;
       why = λ files told. inr (record { c11 = c11-is are; input = listed_input; is_input = is files told; more = stops.1 });
     },
@@ -197,7 +192,7 @@ module _ (s : Sets) (names files : List (List ℕ)) (p : Prepared) (tables : cod
 
 -- ---- after parsing
 
-module _ (s new : Sets) (keeps : Keeps s new) (names files : List (List ℕ)) (p : Prepared) (tables : code.Tables) (are : AreC11Tables tables) (shown : CanBeShown s names files p) (owns : OwnsList s p)
+module _ (s new : Sets) (keeps : Keeps s new) (names files : List (List ℕ)) (p : Prepared) (tables : code.Tables) (are : HasC11Tables tables) (shown : CanBeShown s names files p) (owns : OwnsList s p)
     (lines : List Line) (result : Parsed) (events : List Event)
     (parse : IsParse (tables_with new lines names files) (input s names files p tables are shown) result) (schedule : IsSchedule (input s names files p tables are shown) events) where
   abbrev all_faults : List base.Fault

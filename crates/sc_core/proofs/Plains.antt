@@ -155,4 +155,5 @@ module _ {s : Sets} {names files : List (List ℕ)} {old p : ParsedFile} (c : Li
     each = λ d listed.
         let at = are.each d listed in
         record { ordinary = at.ordinary; translated = at.translated; stands = stands-plain d (one d listed) at.ordinary at.stands };
+    few = are.few;
   }

@@ -128,6 +128,7 @@ module _ {s new : Sets} (keeps : Keeps s new) (names files : List (List ℕ)) (s
       files = are.files;
       held = are.held;
       right = translation are;
+      few = are.few;
     }
 
     pub answer-told : (holds : Option Files) (main : List ℕ) (are : AreTranslated holds space main (seen_by s names files p) p.root p.faults.items) → shows.answer ≡ (tells-tree holds main are).answer

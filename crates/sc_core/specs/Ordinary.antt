@@ -1,5 +1,5 @@
 -- What ordinary translation of a file gives at one configuration: preprocessing, then parsing.
-use Rattle.std.specs.Prelude.{◌≡◌, ◌⊎◌, ◌<◌, ◌+◌, ℕ, false, List, length, All, AllPairs, Some, Result, Ok, Err}
+use Rattle.std.specs.Prelude.{◌≡◌, ◌⊎◌, ◌<◌, ◌+◌, ℕ, true, List, length, All, AllPairs, Some, Result, Ok, Err}
 use Rattle.std.specs.Result.{is_ok}
 use Rattle.c11_directives.specs.Footprints.{Has, HasFootprints}
 use Rattle.c11_directives.specs.Pre.{Pre}
@@ -8,12 +8,7 @@ use Rattle.c11_parsing.specs.LR.{LR}
 use Rattle.c11_parsing.specs.Parser.{Parser}
 use Rattle.c11_parsing.specs.Trees.{Tree}
 use Rattle.c11_tokens.specs.Lex.{end_position}
-use Rattle.lr_tables.specs.declared.grammar.Grammar.{Grammar}
-use Rattle.lr_tables.specs.Grammar.{entries_of}
-use Rattle.lr_tables.specs.Tables.{Tables, AreTables}
-use Rattle.sc_fork.specs.Parsers.{c11_parser}
-use Rattle.sc_grammar.specs.C11.{productions}
-use Rattle.sc_grammar.specs.declared.TheConstants.{TERMINALS, NONTERMINALS}
+use Rattle.sc_fork.specs.Parsers.{IsC11Parser}
 use Rattle.sc_model.specs.Fault.{Fault}
 use Rattle.sc_model.specs.Outside.{Files}
 use Rattle.sc_model.specs.Space.{Space, IsListed, arities_of}
@@ -28,16 +23,6 @@ pub record Setting : Type 0 where
   pub files : Files
   pub main : List ℕ
   pub parser : Parser
-
--- the parser of C11, with the LALR(1) tables of its grammar
-pub record IsC11Parser (parser : Parser) : Type 0 where
-  pub grammar : Grammar
-  pub entries : grammar.entries.now ≡ entries_of productions
-  pub terminals : grammar.terminals ≡ TERMINALS
-  pub nonterminals : grammar.nonterminals ≡ NONTERMINALS
-  pub tables : Tables
-  pub are_tables : AreTables grammar tables
-  pub is : parser ≡ c11_parser tables
 
 -- ---- at one configuration
 
@@ -81,7 +66,7 @@ pub record IsFileInput (s : Setting) (input : Input) : Type 0 where
   pub parser : input.parser ≡ s.parser
   pub arities : input.arities ≡ arities_of s.space
   pub each : (config : List ℕ) → IsListed s.space config → IsPreparedAt s input config
-  pub unlisted : (config : List ℕ) → (IsListed s.space config → ⊥) → input.live config ≡ false
+  pub listed : (config : List ℕ) → input.live config ≡ true → IsListed s.space config
 
 -- at some place of the file, as C11 is parsed, there are more classes than branches
 pub record HasManyClasses (s : Setting) : Type 0 where
@@ -89,6 +74,13 @@ pub record HasManyClasses (s : Setting) : Type 0 where
   pub input : Input
   pub is_input : IsFileInput s input
   pub more : HasMoreClasses input s.space.branches
+
+-- a list of the file has at no place, as C11 is parsed, more classes than branches
+pub record HasFewClasses (s : Setting) : Type 0 where
+  pub c11 : IsC11Parser s.parser
+  pub input : Input
+  pub is_input : IsFileInput s input
+  pub few : HasMoreClasses input s.space.branches → ⊥
 
 -- preprocessing or parsing has at some place more branches than the space allows
 abbrev pub HasManyBranches : Setting → Type 0

@@ -8,8 +8,9 @@ use Rattle.sc_core.specs.declared.run_error.RunError.TheVariants as error
 use Rattle.sc_core.specs.declared.status.Status.{Status}
 use Rattle.sc_core.specs.declared.status.Status.TheVariants.{Accepted, Refused, BadWords, BadSpace, BranchesFull, ReadFault, WriteFault, OutOfMemory}
 use Rattle.sc_core.specs.Cut.{cut_space, first_config}
-use Rattle.sc_core.specs.Ordinary.{HasManyBranches, HasManyConfigs, HasManyFootprints, IsC11Parser, Preprocesses, Setting, Translates}
+use Rattle.sc_core.specs.Ordinary.{HasFewClasses, HasManyBranches, HasManyConfigs, HasManyFootprints, Preprocesses, Setting, Translates}
 use Rattle.sc_core.specs.RunError.{branches_line, line_of, status_of, space_line}
+use Rattle.sc_fork.specs.Parsers.{IsC11Parser}
 use Rattle.sc_text.specs.Layout.{IsTextOf}
 use Rattle.sc_model.specs.Outside.{Files, Rose, Write, Writes, WritesPart, whole_write}
 use Rattle.sc_model.specs.Fault.{Fault}
@@ -25,7 +26,6 @@ use Rattle.sc_show.specs.TreeText.{ShownTree, TreeAnswer, IsResultAt}
 use Rattle.sc_source.specs.Sink.{WritesCut}
 use Rattle.sc_space.specs.Config.{read_config}
 use Rattle.sc_space.specs.SpaceFile as file
-use Rattle.sc_space.specs.SpaceFile.{read_space}
 
 -- ---- the outside of a run
 
@@ -106,15 +106,15 @@ IsTranslation s answer accepted = IsRight s.space (Translates s) (λ config ordi
 -- The pieces are the lines of a text that keeps the rules of the format, and a configuration has a
 -- fault exactly where it is told that not all are accepted. Its choices are sound, and it has a
 -- root exactly where some configuration is accepted. It says what ordinary translation gives, as
--- C11 is parsed.
+-- C11 is parsed, of a file that has no more classes than branches.
 pub record IsParseText (s : Setting) (pieces : List (List ℕ)) (accepted : Bool) : Type 0 where
   pub answer : TreeAnswer
   pub text : IsTreeTextOf s.space pieces answer
   pub choices : HasSoundChoices s.space answer.parts
   pub rooted : IsRooted s.space answer
   pub verdict : Tells accepted (HasNoFault s.space answer)
-  pub c11 : IsC11Parser s.parser
   pub right : IsTranslation s answer accepted
+  pub few : HasFewClasses s
 
 -- ---- the text of one configuration
 
@@ -152,7 +152,7 @@ pub record IsConflictsText (s : Setting) (pieces : List (List ℕ)) (accepted : 
 pub record HasSpace (files : Files) (name : List ℕ) (space : Space) : Type 0 where
   pub bytes : List ℕ
   pub held : files name ≡ Some bytes
-  pub read : read_space bytes ≡ Ok space
+  pub read : file.read_space bytes ≡ Ok space
 
 -- The setting has this main file, and the space that files which the source may hold have under
 -- this name. A source that doesn't tell may hold others by the time that the main file is read.
@@ -165,7 +165,7 @@ pub record IsOn (holds : Option Files) (name main : List ℕ) (s : Setting) : Ty
 -- the space file is not held or is refused, and the line tells why
 pub data RefusesSpace (files : Files) (name line : List ℕ) : Type 0 where
   absent : files name ≡ None → line ≡ line_of error.NoSpace → RefusesSpace files name line
-  refused : (bytes : List ℕ) (fault : file.Fault) → files name ≡ Some bytes → read_space bytes ≡ Err fault → line ≡ space_line fault → RefusesSpace files name line
+  refused : (bytes : List ℕ) (fault : file.Fault) → files name ≡ Some bytes → file.read_space bytes ≡ Err fault → line ≡ space_line fault → RefusesSpace files name line
 
 -- the space file is held and read, the words that choose a configuration are refused, and the line
 -- tells the fault

@@ -9,9 +9,10 @@ use Rattle.sc_base.specs.declared.stop.Stop.{Stop}
 use Rattle.sc_base.specs.declared.stop.Stop.TheVariants.{BranchesFull, ReadFault, OutOfMemory}
 use Rattle.sc_core.specs.declared.tree_texts.ParsedFile.{ParsedFile}
 use Rattle.sc_core.specs.Cut.{first_config}
-use Rattle.sc_core.specs.Ordinary.{HasManyConfigs, IsC11Parser, Setting, Translates}
+use Rattle.sc_core.specs.Ordinary.{HasFewClasses, HasManyConfigs, Setting, Translates}
 use Rattle.sc_core.specs.RunError.{line_of, space_line}
 use Rattle.sc_fork.specs.Outcomes.{RootReads}
+use Rattle.sc_fork.specs.Parsers.{IsC11Parser}
 use Rattle.sc_guarded.specs.Items as guarded
 use Rattle.sc_guarded.specs.Items.{faults_at}
 use Rattle.sc_guarded.specs.Printable.{IsShowableFault, AreApart}
@@ -109,13 +110,14 @@ pub record IsTranslated (s : Setting) (w : Tables) (root : Option TreeId) (fault
   pub translated : Translates s config ordinary
   pub stands : Stands w root faults config ordinary
 
--- each configuration has it
+-- each configuration has it, and the file has no more classes than branches
 pub record AreTranslated (holds : Option Files) (space : Space) (main : List ℕ) (w : Tables) (root : Option TreeId) (faults : List base.Fault) : Type 0 where
   pub parser : Parser
   pub c11 : IsC11Parser parser
   pub files : Files
   pub held : MayHold holds files
   pub each : (config : List ℕ) → IsListed space config → IsTranslated (setting_of space main parser files) w root faults config
+  pub few : HasFewClasses (setting_of space main parser files)
 
 -- Each configuration has its tree and no fault, or one fault. Where there is a root, some
 -- configuration has a tree.
@@ -160,6 +162,7 @@ pub record TellsTree (holds : Option Files) (space : Space) (main : List ℕ) (t
   pub files : Files
   pub held : MayHold holds files
   pub right : IsTranslation (setting_of space main parser files) answer (not text.is_refused)
+  pub few : HasFewClasses (setting_of space main parser files)
 
 -- The choices of such a text are sound, and it has a root where a configuration is accepted.
 pub record TellsChoices (holds : Option Files) (space : Space) (main : List ℕ) (text : Output) : Type 0 where

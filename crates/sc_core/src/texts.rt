@@ -3,7 +3,7 @@ ghost use Rattle.sc_args.specs.Words.{is_file_name, conflicts as asked_conflicts
 ghost use Rattle.sc_core.specs.Ordinary.{HasManyFootprints};
 ghost use Rattle.sc_core.specs.Outcome.{FailsFor, FailsWith, job_of};
 ghost use Rattle.sc_core.specs.RunError as lines;
-ghost use Rattle.sc_fork.specs.Owns.{AreC11Tables};
+ghost use Rattle.sc_fork.specs.Owns.{HasC11Tables};
 ghost use Rattle.sc_core.specs.Texts.{IsAnswer, IsAnswerFor, StopsIn, TellsTokens, lines_of};
 ghost use Rattle.sc_model.specs.Outside.{Files as Outside};
 ghost use Rattle.sc_model.specs.Sets.{IsCond, IsNever};
@@ -64,7 +64,7 @@ fn conflicts_text(alloc: Global) -> Result<Output, OutOfMemory>
 
 /// The tables of C11.
 pub fn tables(alloc: Global) -> Result<Tables, OutOfMemory>
-    ensures { IfOk result (λ tables. AreC11Tables tables) }
+    ensures { IfOk result (λ tables. HasC11Tables tables) }
 {
     let grammar = sc_grammar::grammar();
     let states = sc_items::states(alloc, &grammar)?;

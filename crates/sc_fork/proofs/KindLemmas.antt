@@ -419,10 +419,10 @@ kind-owns old new count source parent j cond kind _ keeps within owns own silent
         levels = subst (λ ls. OwnsLevels new ls) (sym steps.levels) (own-Keeps old new (levels_in parent.scopes) keeps owns.owns.levels);
       };
       within = subst (IsWithin (length source.list.now)) (sym steps.phase) (let h : j + 1 ≤ length source.list.now = omega (arith, within) in h);
-      path = λ c11. subst (λ (es : List Entry). IsOnPath c11.grammar c11.states es) (sym steps.stack)
-          (kind-path c11.grammar c11.states parent.stack state kind (owns.path c11)
-          (goto-of c11.grammar c11.states (state_of parent.stack) kind state (action_of source.tables.now (state_of parent.stack) kind)
-          (c11.exact.action (state_of parent.stack) kind (omega (arith, terminal, c11.terminals))) shifted) silent);
+      path = λ c11. subst (λ (es : List Entry). IsOnPath c11.are.grammar c11.states es) (sym steps.stack)
+          (kind-path c11.are.grammar c11.states parent.stack state kind (owns.path c11)
+          (goto-of c11.are.grammar c11.states (state_of parent.stack) kind state (action_of source.tables.now (state_of parent.stack) kind)
+          (c11.are.exact.action (state_of parent.stack) kind (omega (arith, terminal, c11.are.terminals))) shifted) silent);
     }
 
 pub classify-owns : (old new : Sets) (source : Source) (parent : Subparser) (j : ℕ) (types variables : Cond) (start first second : List kept.Piece) → j < length source.list.now → Keeps old new

@@ -15,7 +15,7 @@ use Rattle.sc_fork.specs.declared.event.Event.{Event}
 use Rattle.sc_fork.specs.declared.piece.Piece.{Piece}
 use Rattle.sc_fork.specs.declared.source.Source.{Source}
 use Rattle.sc_fork.specs.Enabled.{IsEnabled, can_split, can_reduce, can_shift, can_classify, can_merge}
-use Rattle.sc_fork.specs.Owns.{AreC11Tables, IsOnPath, IsWithin, IsSource, OwnsEnabled, OwnsRow, has_tree}
+use Rattle.sc_fork.specs.Owns.{HasC11Tables, IsOnPath, IsWithin, IsSource, OwnsEnabled, OwnsRow, has_tree}
 use Rattle.sc_fork.specs.Pieces.{AreMade, AreMerged}
 use Rattle.sc_fork.specs.Seen.{Events, action_in}
 use Rattle.sc_merge.specs.declared.subparser.Phase.TheVariants.{Between, At, Named}
@@ -115,14 +115,14 @@ pub all-one : (P : Piece → Type 0) (pieces : List Piece) (piece : Piece) → p
 all-one P pieces piece is holds = subst (All P) (sym is) (All-cons P piece [] holds (All-nil P))
 
 -- stacks with the same states have trees for the same symbols
-same-trees : (source : Source) (s t : Subparser) → AreC11Tables source.tables.now → ((c11 : AreC11Tables source.tables.now) → IsOnPath c11.grammar c11.states s.stack)
-    → ((c11 : AreC11Tables source.tables.now) → IsOnPath c11.grammar c11.states t.stack) → states_of t.stack ≡ states_of s.stack
+same-trees : (source : Source) (s t : Subparser) → HasC11Tables source.tables.now → ((c11 : HasC11Tables source.tables.now) → IsOnPath c11.are.grammar c11.states s.stack)
+    → ((c11 : HasC11Tables source.tables.now) → IsOnPath c11.are.grammar c11.states t.stack) → states_of t.stack ≡ states_of s.stack
     → map is_some (values_of s.stack) ≡ map is_some (values_of t.stack)
 same-trees source s t c11 s_path t_path same =
     let p = s_path c11 in
     let q = t_path c11 in
-    let along : Path c11.grammar c11.states (states_of s.stack) q.symbols = subst (λ states. Path c11.grammar c11.states states q.symbols) same q.path in
-    p.trees ∙ ap (map has_tree) (same_symbols c11.grammar c11.states (states_of s.stack) p.symbols q.symbols p.path along) ∙ sym q.trees
+    let along : Path c11.are.grammar c11.states (states_of s.stack) q.symbols = subst (λ states. Path c11.are.grammar c11.states states q.symbols) same q.path in
+    p.trees ∙ ap (map has_tree) (same_symbols c11.are.grammar c11.states (states_of s.stack) p.symbols q.symbols p.path along) ∙ sym q.trees
 
 pub silent-alike : (sets : Sets) (count : ℕ) (source : Source) (s t : Subparser) → IsSource source → OwnsRow sets count source s → OwnsRow sets count source t → AreAlike s t
     → map is_some (values_of s.stack) ≡ map is_some (values_of t.stack)
@@ -136,7 +136,7 @@ merged-row old new count more source s m is own alike owns trees = record {
   within = subst (IsWithin (length source.list.now)) (sym alike.phase) own.within;
   path = λ c11.
       let p = own.path c11 in
-      record { symbols = p.symbols; path = subst (λ states. Path c11.grammar c11.states states p.symbols) (sym alike.states) p.path; trees = trees ∙ p.trees };
+      record { symbols = p.symbols; path = subst (λ states. Path c11.are.grammar c11.states states p.symbols) (sym alike.states) p.path; trees = trees ∙ p.trees };
 }
 
 -- ---- the branches of new choices

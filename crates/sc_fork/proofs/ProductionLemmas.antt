@@ -22,7 +22,7 @@ use Rattle.sc_base.specs.declared.id.Cond.{Cond}
 use Rattle.sc_base.specs.declared.token.Token.{Token}
 use Rattle.sc_base.specs.Seen.{text_at}
 use Rattle.sc_fork.specs.declared.source.Source.{Source}
-use Rattle.sc_fork.specs.Owns.{AreTerminals, AreC11Tables, IsSource, IsOnPath}
+use Rattle.sc_fork.specs.Owns.{AreTerminals, HasC11Tables, IsSource, IsOnPath}
 use Rattle.sc_fork.specs.Seen.{terminal_in, action_by, action_in}
 use Rattle.sc_grammar.specs.C11.{productions}
 use Rattle.sc_grammar.specs.Terminals.{terminal_names}
@@ -211,16 +211,16 @@ top-state [] = refl
 top-state (entry ∷ stack) = refl
 
 -- what the subparser finds on its stack
-pub reduction-of : (source : Source) (parent : Subparser) (at number : ℕ) → IsSource source → (c11 : AreC11Tables source.tables.now) (on : IsOnPath c11.grammar c11.states parent.stack)
-    → action_in source parent at ≡ Some (Reduce number) → Reduction c11.grammar c11.states (states_of parent.stack) on.symbols number
+pub reduction-of : (source : Source) (parent : Subparser) (at number : ℕ) → IsSource source → (c11 : HasC11Tables source.tables.now) (on : IsOnPath c11.are.grammar c11.states parent.stack)
+    → action_in source parent at ≡ Some (Reduce number) → Reduction c11.are.grammar c11.states (states_of parent.stack) on.symbols number
 reduction-of source parent at number is c11 on acts = by (terminal_in source at) refl acts
   where
     by : (x : Option ℕ) → terminal_in source at ≡ x → action_by source.tables.now (state_of parent.stack) x ≡ Some (Reduce number)
-        → Reduction c11.grammar c11.states (states_of parent.stack) on.symbols number
+        → Reduction c11.are.grammar c11.states (states_of parent.stack) on.symbols number
     by None is_none acts = absurd (none-some (Reduce number) acts)
     by (Some x) is_some acts =
-        let below : x < c11.grammar.terminals = omega (arith, source-terminal source is.names at x is.terminals is_some, c11.terminals) in
-        let can = can-reduce c11.grammar c11.states (state_of parent.stack) x number (action_of source.tables.now (state_of parent.stack) x)
-        (c11.exact.action (state_of parent.stack) x below) acts in
-        reduction c11.grammar c11.entries c11.terminals c11.nonterminals c11.states (states_of parent.stack) on.symbols x number c11.exact.are_states on.path
-        (subst (λ s. CanReduce c11.grammar c11.states s x number) (sym (top-state parent.stack)) can)
+        let below : x < c11.are.grammar.terminals = omega (arith, source-terminal source is.names at x is.terminals is_some, c11.are.terminals) in
+        let can = can-reduce c11.are.grammar c11.states (state_of parent.stack) x number (action_of source.tables.now (state_of parent.stack) x)
+        (c11.are.exact.action (state_of parent.stack) x below) acts in
+        reduction c11.are.grammar c11.are.entries c11.are.terminals c11.are.nonterminals c11.states (states_of parent.stack) on.symbols x number c11.are.exact.are_states on.path
+        (subst (λ s. CanReduce c11.are.grammar c11.states s x number) (sym (top-state parent.stack)) can)

@@ -21,7 +21,7 @@ use Rattle.sc_base.specs.declared.id.TreeId.{TreeId}
 use Rattle.sc_base.proofs.Growth.{Extends-refl}
 use Rattle.sc_fork.specs.declared.piece.Piece.TheVariants.{Going}
 use Rattle.sc_fork.specs.declared.source.Source.{Source}
-use Rattle.sc_fork.specs.Owns.{AreC11Tables, IsSource, IsOnPath, IsWithin, OwnsRow}
+use Rattle.sc_fork.specs.Owns.{HasC11Tables, IsSource, IsOnPath, IsWithin, OwnsRow}
 use Rattle.sc_fork.specs.Reducing.{IsValueOf, Rebinds}
 use Rattle.sc_fork.specs.Seen.{IsInput, IsNext, IsSeen, IsSeenAt, going_seen, AreSeen, none_seen, more_seen, terminal_in, action_in, action_by}
 use Rattle.sc_fork.specs.Pieces.{IsReducedBy, ReplacesSide}
@@ -103,18 +103,18 @@ module _ (old new : Sets) (before after : List Line) (source : Source) (parent s
       grown : All Own (values_of parent.stack)
       grown = λ k d below. IfSome_then _ {P = λ (id : TreeId). id.0 < length before} {Q = λ (id : TreeId). id.0 < length after} (own.owns.values.each k d below) (λ id low. omega (arith, low, grows.longer))
 
-  path : (c11 : AreC11Tables source.tables.now) → IsOnPath c11.grammar c11.states s.stack
+  path : (c11 : HasC11Tables source.tables.now) → IsOnPath c11.are.grammar c11.states s.stack
   path c11 =
       let onto = own.path c11 in
       let r = reduction-of source parent j number source_is c11 onto acts in
       let same : rule ≡ r.production = same_Some rule r.production (sym numbered ∙ r.at) in
-      let goto = goes-on c11.grammar c11.states parent.stack onto number r source.tables.now c11.exact c11.terminals c11.nonterminals (Some state)
+      let goto = goes-on c11.are.grammar c11.states parent.stack onto number r source.tables.now c11.are.exact c11.are.terminals c11.are.nonterminals (Some state)
       (subst (λ (p : Production). goto_of source.tables.now (state_of (drop (length p.right) parent.stack)) p.left ≡ Some state) same goes) in
-      let some = left-tree c11.grammar c11.states parent.stack onto number r after value
+      let some = left-tree c11.are.grammar c11.states parent.stack onto number r after value
       (subst (λ (p : Production). IsValueOf after number (reverse (values_of (take (length p.right) parent.stack))) value) same value_is) in
-      subst (λ (es : List Entry). IsOnPath c11.grammar c11.states es) (sym stack)
-      (subst (λ (p : Production). IsOnPath c11.grammar c11.states (record { state = state; value = value } ∷ drop (length p.right) parent.stack)) (sym same)
-      (on-path c11.grammar c11.states parent.stack onto number r state value goto some))
+      subst (λ (es : List Entry). IsOnPath c11.are.grammar c11.states es) (sym stack)
+      (subst (λ (p : Production). IsOnPath c11.are.grammar c11.states (record { state = state; value = value } ∷ drop (length p.right) parent.stack)) (sym same)
+      (on-path c11.are.grammar c11.states parent.stack onto number r state value goto some))
 
   -- the parent's path with the left side on top
   pub by-production : IsReducedBy source j number parent s
@@ -130,25 +130,25 @@ module _ (old new : Sets) (before after : List Line) (source : Source) (parent s
     sides = sides;
   }
     where
-      found : Reduction source_is.tables.grammar source_is.tables.states (states_of parent.stack) (own.path source_is.tables).symbols number
+      found : Reduction source_is.tables.are.grammar source_is.tables.states (states_of parent.stack) (own.path source_is.tables).symbols number
       found = reduction-of source parent j number source_is source_is.tables (own.path source_is.tables) acts
 
       same : rule ≡ found.production
       same = same_Some rule found.production (sym numbered ∙ found.at)
 
-      sides : (c11 : AreC11Tables source.tables.now) → ReplacesSide c11.grammar c11.states (states_of parent.stack) (states_of s.stack) rule
+      sides : (c11 : HasC11Tables source.tables.now) → ReplacesSide c11.are.grammar c11.states (states_of parent.stack) (states_of s.stack) rule
       sides c11 =
           let onto = own.path c11 in
           let r = reduction-of source parent j number source_is c11 onto acts in
           let is : rule ≡ r.production = same_Some rule r.production (sym numbered ∙ r.at) in
-          let goto = goes-on c11.grammar c11.states parent.stack onto number r source.tables.now c11.exact c11.terminals c11.nonterminals (Some state)
+          let goto = goes-on c11.are.grammar c11.states parent.stack onto number r source.tables.now c11.are.exact c11.are.terminals c11.are.nonterminals (Some state)
           (subst (λ (p : Production). goto_of source.tables.now (state_of (drop (length p.right) parent.stack)) p.left ≡ Some state) is goes) in
           record {
             symbols = onto.symbols;
             was = onto.path;
-            becomes = subst (λ (es : List Entry). Path c11.grammar c11.states (states_of es) ((96 + rule.left) ∷ drop (length rule.right) onto.symbols)) (sym stack)
-                (subst (λ (p : Production). Path c11.grammar c11.states (states_of (record { state = state; value = value } ∷ drop (length p.right) parent.stack)) ((96 + p.left) ∷ drop (length p.right) onto.symbols))
-                (sym is) (path-after c11.grammar c11.states parent.stack onto number r state value goto));
+            becomes = subst (λ (es : List Entry). Path c11.are.grammar c11.states (states_of es) ((96 + rule.left) ∷ drop (length rule.right) onto.symbols)) (sym stack)
+                (subst (λ (p : Production). Path c11.are.grammar c11.states (states_of (record { state = state; value = value } ∷ drop (length p.right) parent.stack)) ((96 + p.left) ∷ drop (length p.right) onto.symbols))
+                (sym is) (path-after c11.are.grammar c11.states parent.stack onto number r state value goto));
             alone = subst (λ (p : Production). length p.right ≡ 1 → slice_get onto.symbols 0 ≡ option_map (symbol_number 96) (slice_get p.right 0)) (sym is) r.head;
           }
 
@@ -270,7 +270,7 @@ never-refused old lines source parent j number rule is own acts numbered nowhere
     let c11 = is.tables in
     let r = reduction-of source parent j number is c11 (own.path c11) acts in
     let same : rule ≡ r.production = same_Some rule r.production (sym numbered ∙ r.at) in
-    goes-on c11.grammar c11.states parent.stack (own.path c11) number r source.tables.now c11.exact c11.terminals c11.nonterminals None
+    goes-on c11.are.grammar c11.states parent.stack (own.path c11) number r source.tables.now c11.are.exact c11.are.terminals c11.are.nonterminals None
     (subst (λ (p : Production). goto_of source.tables.now (state_of (drop (length p.right) parent.stack)) p.left ≡ None) same nowhere)
 
 reversed-all : {X : Type 0} (P : X → Type 0) (xs : List X) → All P xs → All P (reverse xs)

@@ -29,7 +29,7 @@ use Rattle.sc_fork.proofs.ValueLemmas.{trees_among, All-reverse, among-All, stac
 use Rattle.sc_fork.specs.declared.piece.Piece as kept
 use Rattle.sc_fork.specs.declared.piece.Piece.TheVariants.{Going, Over}
 use Rattle.sc_fork.specs.declared.source.Source.{Source}
-use Rattle.sc_fork.specs.Owns.{AreC11Tables, IsSource, IsWithin, OwnsRow, has_tree}
+use Rattle.sc_fork.specs.Owns.{HasC11Tables, IsSource, IsWithin, OwnsRow, has_tree}
 use Rattle.sc_fork.specs.Seen.{terminal_in, action_by, action_in, IsInput, IsNext, next_unknown, IsSeen, IsSeenAt, is_tree, IsOver, IsSeenPiece, going_seen, over_seen, none_seen, more_seen, Events, place_in, shift_in}
 use Rattle.sc_fork.specs.Shifts.{IsShifted, IsAccepted, whole_production}
 use Rattle.sc_kinds.specs.Kinds.{terminal_of}
@@ -133,7 +133,7 @@ module _ (sets : Sets) (old new : List Line) (grows : Extends old new) (parent s
     within = subst (IsWithin (length source.list.now)) (sym is.phase) (phase-within (x == 0));
     path = λ c11. record {
       symbols = x ∷ (own.path c11).symbols;
-      path = subst (λ (es : List Entry). Path c11.grammar c11.states (states_of es) (x ∷ (own.path c11).symbols)) (sym is.stack)
+      path = subst (λ (es : List Entry). Path c11.are.grammar c11.states (states_of es) (x ∷ (own.path c11).symbols)) (sym is.stack)
           (above state x (states_of parent.stack) (own.path c11).symbols (goto c11) (own.path c11).path);
       trees = subst (λ (es : List Entry). map is_some (values_of es) ≡ map has_tree (x ∷ (own.path c11).symbols)) (sym is.stack)
           (ap (λ b. b ∷ map is_some (values_of parent.stack)) (sym tokens.tree) ∙ ap (λ bs. has_tree x ∷ bs) (own.path c11).trees);
@@ -147,11 +147,11 @@ module _ (sets : Sets) (old new : List Line) (grows : Extends old new) (parent s
       phase-within true = within
       phase-within false = omega (arith, within)
 
-      goto : (c11 : AreC11Tables source.tables.now) → IsGoto c11.grammar c11.states (top (states_of parent.stack)) x state
+      goto : (c11 : HasC11Tables source.tables.now) → IsGoto c11.are.grammar c11.states (top (states_of parent.stack)) x state
       goto c11 =
-          subst (λ n. IsGoto c11.grammar c11.states n x state) (sym (top-states parent.stack))
-          (goto-of-shift c11.grammar (tables_of c11.states source.tables.now) (state_of parent.stack) x state c11.exact
-          (let w = tokens.within in omega (arith, w, c11.terminals)) (sym (ap (action_by source.tables.now (state_of parent.stack)) some) ∙ action))
+          subst (λ n. IsGoto c11.are.grammar c11.states n x state) (sym (top-states parent.stack))
+          (goto-of-shift c11.are.grammar (tables_of c11.states source.tables.now) (state_of parent.stack) x state c11.are.exact
+          (let w = tokens.within in omega (arith, w, c11.are.terminals)) (sym (ap (action_by source.tables.now (state_of parent.stack)) some) ∙ action))
 
 -- ---- the action
 

@@ -333,7 +333,7 @@ own-part old new count source parent s p keeps owns is own within = record {
     levels = subst (λ ls. OwnsLevels new ls) (sym is.levels) (own-Keeps old new (levels_in parent.scopes) keeps owns.owns.levels);
   };
   within = subst (IsWithin (length source.list.now)) (sym is.phase) within;
-  path = λ c11. subst (λ (es : List Entry). IsOnPath c11.grammar c11.states es) (sym is.stack) (owns.path c11);
+  path = λ c11. subst (λ (es : List Entry). IsOnPath c11.are.grammar c11.states es) (sym is.stack) (owns.path c11);
 }
 
 own-parts : (old new : Sets) (count : ℕ) (source : Source) (parent : Subparser) (parts : List (Cond × ℕ)) (pieces : List kept.Piece) → Keeps old new → OwnsRow old count source parent

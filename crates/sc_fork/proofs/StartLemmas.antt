@@ -96,7 +96,7 @@ first-row : (sets : Sets) (count : ℕ) (source : Source) (live : Cond) (s : Sub
 first-row sets count source live s own is = record {
   owns = first-owned sets count live s own is;
   within = subst (λ (p : Phase). IsWithin (length source.list.now) p) (sym is.phase) (omega arith);
-  path = λ c11. subst (λ (es : List Entry). IsOnPath c11.grammar c11.states es) (sym is.stack) (record { symbols = []; path = lowest; trees = refl });
+  path = λ c11. subst (λ (es : List Entry). IsOnPath c11.are.grammar c11.states es) (sym is.stack) (record { symbols = []; path = lowest; trees = refl });
 }
 
 pub start-owns : (sets : Sets) (count : ℕ) (begun : Core) (live : Cond) → IsSource begun.source → All (λ (item : Cond × Token). IsCond sets item.0.0) begun.source.list.now → IsCond sets live.0

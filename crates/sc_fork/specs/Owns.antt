@@ -2,9 +2,7 @@
 use Rattle.std.specs.Prelude.{◌≡◌, ℕ, ◌<◌, ◌≤◌, ◌==◌, ◌||◌, not, false, Bool, List, Option, is_some, length, map, option_map, slice_get, All, IfSome, [], ◌∷◌}
 use Rattle.lr_tables.specs.declared.grammar.Grammar.{Grammar}
 use Rattle.lr_tables.specs.declared.grammar.Terminal.{Terminal}
-use Rattle.lr_tables.specs.Grammar.{entries_of}
 use Rattle.lr_tables.specs.Paths.{Path}
-use Rattle.lr_tables.specs.Tables as lr
 use Rattle.sc_base.specs.declared.id.Cond.{Cond}
 use Rattle.sc_base.specs.declared.place.Place.{Place}
 use Rattle.sc_base.specs.declared.token.Token.{Token}
@@ -18,9 +16,8 @@ use Rattle.sc_fork.specs.declared.piece.Ended.{Ended}
 use Rattle.sc_fork.specs.declared.piece.Piece.{Piece}
 use Rattle.sc_fork.specs.declared.piece.Piece.TheVariants.{Going, Over}
 use Rattle.sc_fork.specs.declared.source.Source.{Source}
+use Rattle.sc_fork.specs.Parsers.{AreC11Tables}
 use Rattle.sc_fork.specs.Seen.{place_of}
-use Rattle.sc_grammar.specs.C11.{productions}
-use Rattle.sc_grammar.specs.declared.TheConstants.{TERMINALS, NONTERMINALS}
 use Rattle.sc_kinds.specs.Kinds.{terminal_of}
 use Rattle.sc_lalr.specs.declared.tables.Tables.{Tables}
 use Rattle.sc_lalr.specs.Tables.{tables_of}
@@ -33,14 +30,10 @@ use Rattle.sc_scope.specs.Levels.{no_bindings}
 use Rattle.sc_scope.specs.Seen.{levels_in}
 use Rattle.sc_stack.specs.Entries.{Entry, states_of, values_of}
 
--- these are the tables of the grammar of C11
-pub record AreC11Tables (tables : Tables) : Type 0 where
-  pub grammar : Grammar
-  pub entries : grammar.entries.now ≡ entries_of productions
-  pub terminals : grammar.terminals ≡ TERMINALS
-  pub nonterminals : grammar.nonterminals ≡ NONTERMINALS
+-- the entries are those of the tables of C11
+pub record HasC11Tables (tables : Tables) : Type 0 where
   pub states : List (List ℕ)
-  pub exact : lr.AreTables grammar (tables_of states tables)
+  pub are : AreC11Tables (tables_of states tables)
 
 -- each terminal is the first one of its token
 abbrev pub AreTerminals : List (List ℕ) → List (Cond × Token) → List (Option Terminal) → Type 0
@@ -48,7 +41,7 @@ AreTerminals names list terminals =
     map (option_map (λ (x : Terminal). x.0)) terminals ≡ map (λ (item : Cond × Token). terminal_of item.1.kind (text_at names item.1.spelling.0)) list
 
 pub record IsSource (source : Source) : Type 0 where
-  pub tables : AreC11Tables source.tables.now
+  pub tables : HasC11Tables source.tables.now
   pub names : List (List ℕ)
   pub terminals : AreTerminals names source.list.now source.terminals.items
 
@@ -73,7 +66,7 @@ IsWithin count (Named i) = i < count
 pub record OwnsRow (sets : Sets) (count : ℕ) (source : Source) (s : Subparser) : Type 0 where
   pub owns : OwnsSubparser sets count s
   pub within : IsWithin (length source.list.now) s.phase
-  pub path : (c11 : AreC11Tables source.tables.now) → IsOnPath c11.grammar c11.states s.stack
+  pub path : (c11 : HasC11Tables source.tables.now) → IsOnPath c11.are.grammar c11.states s.stack
 
 -- the place is that of an element, or the end
 abbrev pub IsPlaceOf : List (Cond × Token) → Place → Place → Type 0

@@ -17,7 +17,7 @@ use Rattle.sc_fork.specs.declared.piece.Piece.TheVariants.{Going, Over}
 use Rattle.sc_fork.specs.declared.source.Source.{Source}
 use Rattle.sc_fork.specs.Choices.{AddsNoChoices}
 use Rattle.sc_fork.specs.Enabled.{Has}
-use Rattle.sc_fork.specs.Owns.{AreC11Tables}
+use Rattle.sc_fork.specs.Owns.{HasC11Tables}
 use Rattle.sc_fork.specs.Seen.{Events, action_in, terminal_in}
 use Rattle.sc_fork.specs.Shifts.{phase_after}
 use Rattle.sc_grammar.specs.C11.{productions}
@@ -83,7 +83,7 @@ pub record IsReducedBy (source : Source) (j p : ℕ) (parent next : Subparser) :
   pub numbered : slice_get productions (p - 1) ≡ Some rule
   pub some : 0 < length rule.right
   pub height : length (states_of next.stack) + length rule.right ≡ length (states_of parent.stack) + 1
-  pub sides : (c11 : AreC11Tables source.tables.now) → ReplacesSide c11.grammar c11.states (states_of parent.stack) (states_of next.stack) rule
+  pub sides : (c11 : HasC11Tables source.tables.now) → ReplacesSide c11.are.grammar c11.states (states_of parent.stack) (states_of next.stack) rule
 
 -- the one piece looks at an element before that of the other
 pub record LooksBefore (p q : Piece) : Type 0 where

@@ -10,7 +10,7 @@ ghost use Rattle.sc_fork.specs.Choices.{AddsLeaves, AreSound};
 ghost use Rattle.sc_fork.specs.Cores.{IsApplied, IsCore, IsFinished, Starts};
 ghost use Rattle.sc_fork.specs.Enabled.{Has, HasNone, IsEnabled, IsRefused, LooksAt};
 ghost use Rattle.sc_fork.specs.Outcomes.{IsOutcome, OwnsOutcome};
-ghost use Rattle.sc_fork.specs.Owns.{AreC11Tables, AreTerminals, IsFirst, OwnsCore, OwnsEnabled, OwnsPiece, IsSource};
+ghost use Rattle.sc_fork.specs.Owns.{HasC11Tables, AreTerminals, IsFirst, OwnsCore, OwnsEnabled, OwnsPiece, IsSource};
 ghost use Rattle.sc_fork.specs.Pieces.{AddsOwnChoices, AreInOrder, AreMade, Becomes, HasMade, InNextPhase, numbers_of, without};
 ghost use Rattle.sc_fork.specs.Seen.{action_in};
 ghost use Rattle.sc_fork.specs.Starts.{AreFirst};
@@ -62,7 +62,7 @@ impl<'a> Core<'a> {
         end: Place,
         tables: &'a Tables,
     ) -> Result<Core<'a>, OutOfMemory>
-        requires tables { AreC11Tables tables.now }
+        requires tables { HasC11Tables tables.now }
         requires live { IsCond (C.sets conds.now) live.0 }
         requires items { All (λ item. IsCond (C.sets conds.now) item.0.0) list.now }
         requires held { All (λ item. IsHeld names.now item.1) list.now }

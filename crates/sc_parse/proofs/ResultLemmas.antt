@@ -31,7 +31,7 @@ use Rattle.sc_fork.specs.declared.source.Source.{Source}
 use Rattle.sc_fork.specs.Cores.{AreRows, empty_row, event_of, full_row, IsFinished, no_rows, Starts}
 use Rattle.sc_fork.specs.Enabled.{Has}
 use Rattle.sc_fork.specs.Outcomes.{answers_at, faults_in, HasTree, IsOutcome, OwnsOutcome}
-use Rattle.sc_fork.specs.Owns.{AreC11Tables, AreTerminals, IsPlaceOf}
+use Rattle.sc_fork.specs.Owns.{HasC11Tables, AreTerminals, IsPlaceOf}
 use Rattle.sc_fork.specs.Parsers.{c11_parser}
 use Rattle.sc_fork.specs.Seen.{IsInput}
 use Rattle.sc_fork.specs.Starts.{AreFirst, no_first, one_first}
@@ -176,10 +176,10 @@ pub record IsC11 (parser : Parser) : Type 0 where
   pub grammar : Grammar
   pub is : IsParserOf grammar parser
 
-pub is-c11 : (w : Tables) (list : List (Cond × Token)) (tables : code.Tables) (end : Place) (live : Cond) (input : Input) → AreC11Tables tables → IsInputOf w list tables end live input → IsC11 input.parser
+pub is-c11 : (w : Tables) (list : List (Cond × Token)) (tables : code.Tables) (end : Place) (live : Cond) (input : Input) → HasC11Tables tables → IsInputOf w list tables end live input → IsC11 input.parser
 is-c11 w list tables end live input c11 of = record {
-  grammar = c11.grammar;
-  is = subst (IsParserOf c11.grammar) (sym of.parser) (is-parser c11.grammar c11.entries c11.terminals c11.nonterminals (tables_of c11.states tables) (tables_of of.states tables) c11.exact refl refl);
+  grammar = c11.are.grammar;
+  is = subst (IsParserOf c11.are.grammar) (sym of.parser) (is-parser c11.are.grammar c11.are.entries c11.are.terminals c11.are.nonterminals (tables_of c11.states tables) (tables_of of.states tables) c11.are.exact refl refl);
 }
 
 module _ (input : Input) (last : core.Core) (done : core.IsFinished last) (stands : Stands input last) where

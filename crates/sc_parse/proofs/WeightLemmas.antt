@@ -33,7 +33,7 @@ use Rattle.sc_fork.specs.declared.piece.Piece.TheVariants.{Going, Over}
 use Rattle.sc_fork.specs.declared.source.Source.{Source}
 use Rattle.sc_fork.specs.declared.event.Fact.{Fact}
 use Rattle.sc_fork.specs.Enabled.{Has, IsRefused, no_lookahead_to_reduce, no_reduction, none_to_reduce}
-use Rattle.sc_fork.specs.Owns.{AreC11Tables, OwnsRow}
+use Rattle.sc_fork.specs.Owns.{HasC11Tables, OwnsRow}
 use Rattle.sc_fork.specs.Pieces.{going_of, HasMade, IfGoing, IsReducedBy, Makes, reduces}
 use Rattle.sc_fork.specs.Seen.{action_in}
 use Rattle.sc_grammar.specs.C11.{productions}
@@ -220,7 +220,7 @@ pub like-ranked : (source : Source) (rank : ℕ) (s t : Subparser) → AreAlike 
 like-ranked source rank s t alike ranked = record {
   path = λ c11.
       let p = ranked.path c11 in
-      (p.0, (subst (λ states. Path c11.grammar c11.states states p.0) (sym alike.states) p.1.0, p.1.1));
+      (p.0, (subst (λ states. Path c11.are.grammar c11.states states p.0) (sym alike.states) p.1.0, p.1.1));
 }
 
 pub like-weight : (source : Source) (w : Weight) (s t : Subparser) → AreAlike s t → HasWeight source w s → HasWeight source w t
@@ -262,7 +262,7 @@ pub first-ranked : (sets : Sets) (count : ℕ) (source : Source) (s : Subparser)
 first-ranked sets count source s own = record {
   path = λ c11.
       let on = own.path c11 in
-      (on.symbols, (on.path, rank-most c11.grammar c11.entries c11.terminals c11.nonterminals c11.states (states_of s.stack) on.symbols on.path));
+      (on.symbols, (on.path, rank-most c11.are.grammar c11.are.entries c11.are.terminals c11.are.nonterminals c11.states (states_of s.stack) on.symbols on.path));
 }
 
 -- the left side of a production has a lower rank than one symbol that is the whole right side
@@ -312,15 +312,15 @@ module _ (source : Source) (j p : ℕ) (s t : Subparser) (by : IsReducedBy sourc
   }
 
   -- where the right side is one symbol, the rank falls
-  pub unit-lowers : AreC11Tables source.tables.now → (rank : ℕ) → IsRanked source rank s → length by.rule.right ≡ 1 → by.rule.left < rank
+  pub unit-lowers : HasC11Tables source.tables.now → (rank : ℕ) → IsRanked source rank s → length by.rule.right ≡ 1 → by.rule.left < rank
   unit-lowers c11 rank ranked one =
       let sides = by.sides c11 in
       let path = ranked.path c11 in
-      let same = same_symbols c11.grammar c11.states (states_of s.stack) sides.symbols path.0 sides.was path.1.0 in
+      let same = same_symbols c11.are.grammar c11.states (states_of s.stack) sides.symbols path.0 sides.was path.1.0 in
       unit-falls by.rule.left rank by.rule.right path.0 one (rule-falls p by.rule by.numbered).1
       (subst (λ symbols. slice_get symbols 0 ≡ option_map (symbol_number 96) (slice_get by.rule.right 0)) same (sides.alone one)) path.1.1
 
-  pub lighter : AreC11Tables source.tables.now → (rank : ℕ) → IsRanked source rank s
+  pub lighter : HasC11Tables source.tables.now → (rank : ℕ) → IsRanked source rank s
       → 101 * length (states_of t.stack) + by.rule.left < 101 * length (states_of s.stack) + rank
   lighter c11 rank ranked = sized (length by.rule.right) refl
     where
@@ -780,7 +780,7 @@ rank-falls sets count s n rank p rule own ranked reducing numbered few =
     let same : r.production ≡ rule = same_Some r.production rule (sym r.at ∙ numbered) in
     let long : length r.production.right ≡ length rule.right = ap (λ (q : Production). length q.right) same in
     let some = r.not_empty in
-    let symbols = same_symbols c11.grammar c11.states (states_of h.0.stack) on.symbols path.0 on.path path.1.0 in
+    let symbols = same_symbols c11.are.grammar c11.states (states_of h.0.stack) on.symbols path.0 on.path path.1.0 in
     unit-falls rule.left rank rule.right path.0 (omega (arith, some, few, long)) (rule-falls p rule numbered).1
     (subst (λ xs. slice_get xs 0 ≡ option_map (symbol_number 96) (slice_get rule.right 0)) symbols
     (subst (λ (q : Production). slice_get on.symbols 0 ≡ option_map (symbol_number 96) (slice_get q.right 0)) same (r.head (omega (arith, some, few, long)))))

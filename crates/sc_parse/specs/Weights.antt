@@ -5,7 +5,7 @@ use Rattle.std.specs.List.{flat_map}
 use Rattle.lr_tables.specs.declared.grammar.Action.TheVariants.{Reduce}
 use Rattle.lr_tables.specs.Paths.{Path}
 use Rattle.sc_fork.specs.declared.source.Source.{Source}
-use Rattle.sc_fork.specs.Owns.{AreC11Tables}
+use Rattle.sc_fork.specs.Owns.{HasC11Tables}
 use Rattle.sc_fork.specs.Seen.{action_in}
 use Rattle.sc_merge.specs.declared.subparser.Phase.TheVariants.{At}
 use Rattle.sc_merge.specs.declared.subparser.Subparser.{Subparser}
@@ -24,7 +24,7 @@ rank_of (x ∷ symbols) = if nat_lt x 96 then 100 else x - 96
 
 -- the symbol on top of the stack has no higher rank
 pub record IsRanked (source : Source) (rank : ℕ) (s : Subparser) : Type 0 where
-  pub path : (c11 : AreC11Tables source.tables.now) → (symbols : List ℕ) × (Path c11.grammar c11.states (states_of s.stack) symbols × rank_of symbols ≤ rank)
+  pub path : (c11 : HasC11Tables source.tables.now) → (symbols : List ℕ) × (Path c11.are.grammar c11.states (states_of s.stack) symbols × rank_of symbols ≤ rank)
 
 -- the subparser has this weight
 pub record HasWeight (source : Source) (w : Weight) (s : Subparser) : Type 0 where

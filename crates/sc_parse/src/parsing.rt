@@ -5,7 +5,7 @@ ghost use Rattle.c11_parsing.specs.Core as core;
 ghost use Rattle.sc_base.specs.Seen.{IsHeld};
 ghost use Rattle.sc_fork.specs.Choices.{AddsLeaves, AreSound};
 ghost use Rattle.sc_fork.specs.Cores.{event_of, IsFinished};
-ghost use Rattle.sc_fork.specs.Owns.{AreC11Tables};
+ghost use Rattle.sc_fork.specs.Owns.{HasC11Tables};
 ghost use Rattle.sc_merge.specs.Merges.{tables_with};
 ghost use Rattle.sc_model.specs.Growth.{Extends};
 ghost use Rattle.sc_model.specs.Sets.{IsCond, Keeps};
@@ -44,7 +44,7 @@ pub fn parse<C: Conditions>(
     tables: &Tables,
     limits: Limits,
 ) -> Result<Parsed, Stop>
-    requires tables { AreC11Tables tables.now }
+    requires tables { HasC11Tables tables.now }
     requires live { IsCond (C.sets conds.old) live.0 }
     requires items { All (λ item. IsCond (C.sets conds.old) item.0.0) list.now }
     requires held { All (λ item. IsHeld names.now item.1) list.now }

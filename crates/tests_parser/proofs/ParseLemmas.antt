@@ -8,7 +8,7 @@ use Rattle.sc_base.specs.declared.id.Cond.{Cond}
 use Rattle.sc_base.specs.declared.id.TreeId.{TreeId}
 use Rattle.sc_base.specs.declared.token.Token.{Token}
 use Rattle.sc_base.specs.Seen.{IsHeld, text_at}
-use Rattle.sc_fork.specs.Owns.{AreC11Tables}
+use Rattle.sc_fork.specs.Owns.{HasC11Tables}
 use Rattle.sc_grammar.specs.C11.{productions}
 use Rattle.sc_lalr.specs.declared.tables.Tables as code
 use Rattle.sc_lalr.specs.Tables.{AreTables}
@@ -38,10 +38,10 @@ all-pushed P xs ys x same all one = subst (All P) (sym same) (All-append P xs (x
 
 -- the tables of the grammar of C11 are those
 pub c11-tables : {E : Type 0} (grammar : Grammar) (built : Result code.Tables E) → IfOk built (AreTables grammar) → grammar.entries.now ≡ entries_of productions → grammar.terminals ≡ 96
-    → grammar.nonterminals ≡ 100 → IfOk built AreC11Tables
+    → grammar.nonterminals ≡ 100 → IfOk built HasC11Tables
 c11-tables grammar (Err e) are entries terminals nonterminals = tt
 c11-tables grammar (Ok tables) are entries terminals nonterminals =
-    record { grammar = grammar; entries = entries; terminals = terminals; nonterminals = nonterminals; states = are.states; exact = are.exact }
+    record { states = are.states; are = record { grammar = grammar; entries = entries; terminals = terminals; nonterminals = nonterminals; exact = are.exact } }
 
 -- a token that is held is held still
 held-later : (names more : List (List ℕ)) (t : Token) → Extends names more → IsHeld names t → IsHeld more t

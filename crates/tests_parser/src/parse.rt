@@ -1,6 +1,6 @@
 ghost use Rattle.std.specs.Prelude.{◌≡◌, ◌<◌, ◌≤◌, ◌+◌, ℕ, [], ◌∷◌, length, All, IfOk, IfSome};
 ghost use Rattle.sc_base.specs.Seen.{IsHeld};
-ghost use Rattle.sc_fork.specs.Owns.{AreC11Tables};
+ghost use Rattle.sc_fork.specs.Owns.{HasC11Tables};
 ghost use Rattle.sc_model.specs.Sets.{Sets, IsCond, IsConfig, Keeps};
 ghost use Rattle.sc_tree.specs.Lines.{OwnsBranches};
 
@@ -99,7 +99,7 @@ const CASES: [Case<'static>; 7] = [
 
 /// The tables of C11.
 pub(crate) fn c11_tables(alloc: Global) -> Result<Tables, OutOfMemory>
-    ensures { IfOk result AreC11Tables }
+    ensures { IfOk result HasC11Tables }
 {
     let grammar = grammar();
     let states = states(alloc, &grammar)?;
@@ -167,7 +167,7 @@ fn parsed<C: Conditions>(
     texts: Texts<'_>,
 ) -> Result<(Trees, Parsed), Fail>
     requires arities { (C.sets conds.old).arities ≡ 2 ∷ (2 ∷ (2 ∷ [])) }
-    requires tables { AreC11Tables tables.now }
+    requires tables { HasC11Tables tables.now }
     ensures arities { IfOk result (λ found. (C.sets conds.new).arities ≡ 2 ∷ (2 ∷ (2 ∷ []))) }
     ensures owns { IfOk result (λ found. OwnsBranches (C.sets conds.new) found.0) }
     ensures root { IfOk result (λ found. IfSome found.1.root (λ root. root.0 < length found.0)) }
@@ -314,7 +314,7 @@ fn checks_case<C: Conditions>(
     case: Case<'_>,
 ) -> Result<(), Fail>
     requires arities { (C.sets conds.old).arities ≡ 2 ∷ (2 ∷ (2 ∷ [])) }
-    requires tables { AreC11Tables tables.now }
+    requires tables { HasC11Tables tables.now }
 {
     let (trees, parsed) = parsed(alloc, conds, tables, case.texts)?;
     assert_eq!(rt; parsed.faults.len(), 0);

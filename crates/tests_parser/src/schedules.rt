@@ -1,5 +1,5 @@
 ghost use Rattle.std.specs.Prelude.{◌≡◌, ◌∷◌, [], length};
-ghost use Rattle.sc_fork.specs.Owns.{AreC11Tables, OwnsCore};
+ghost use Rattle.sc_fork.specs.Owns.{HasC11Tables, OwnsCore};
 ghost use Rattle.sc_tree.specs.Lines.{OwnsBranches};
 
 use crate::parse::{END, TYPE_OR_VARIABLE, c11_tables, checks_nodes, list_of};
@@ -161,7 +161,7 @@ fn checks_order<C: Conditions>(
     order: Order,
 ) -> Result<(), Fail>
     requires arities { (C.sets conds.old).arities ≡ 2 ∷ (2 ∷ (2 ∷ [])) }
-    requires tables { AreC11Tables tables.now }
+    requires tables { HasC11Tables tables.now }
 {
     let mut names = Names::new(alloc)?;
     let list = list_of(alloc, conds, &mut names, TYPE_OR_VARIABLE.texts)?;

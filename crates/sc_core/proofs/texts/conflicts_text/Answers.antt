@@ -12,7 +12,7 @@ use Rattle.sc_show.specs.Pieces.{IsLine}
 pub show_conflicts-requires : goal.show_conflicts-requires
 show_conflicts-requires c =
     let tables = c.in_ok-tables.ensures in
-    are_named {g = tables.grammar} {tables = c.in_ok-tables.tables} (record { states = tables.states; exact = tables.exact }) (omega (arith, tables.terminals))
+    are_named {g = tables.are.grammar} {tables = c.in_ok-tables.tables} (record { states = tables.states; exact = tables.are.exact }) (omega (arith, tables.are.terminals))
 
 -- it is about no files
 no-space : Space

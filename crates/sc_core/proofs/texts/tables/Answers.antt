@@ -5,10 +5,12 @@ pub returns : goal.returns
 returns c =
     let grammar = c.grammar-grammar in
     IfOk-weaker c.build.result _ _ (λ tables are. record {
-      grammar = grammar.result;
-      entries = grammar.ensures.productions;
-      terminals = grammar.ensures.terminals;
-      nonterminals = grammar.ensures.nonterminals;
       states = are.states;
-      exact = are.exact;
+      are = record {
+        grammar = grammar.result;
+        entries = grammar.ensures.productions;
+        terminals = grammar.ensures.terminals;
+        nonterminals = grammar.ensures.nonterminals;
+        exact = are.exact;
+      };
     }) c.build.ensures

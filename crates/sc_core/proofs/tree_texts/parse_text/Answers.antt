@@ -30,7 +30,7 @@ returns-in-Ok-clause-text g c =
       setting = setting_of (seen_space c.in_ok-space.space) c.args.file.now tells.parser tells.files;
       held = λ told holds. tells.held told (c.in_ok-space.ensures.kept ∙ holds);
       has = record { files = is.files; held = is.held; has_space = is.has; main_is = refl };
-      text = record { answer = tells.answer; text = tells.text_of; choices = told.choices; rooted = told.rooted; verdict = tells.verdict; c11 = tells.c11; right = tells.right };
+      text = record { answer = tells.answer; text = tells.text_of; choices = told.choices; rooted = told.rooted; verdict = tells.verdict; right = tells.right; few = tells.few };
     }
 
 pub returns-clause-error : goal.returns-clause-error

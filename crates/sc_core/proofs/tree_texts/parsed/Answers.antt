@@ -1,4 +1,4 @@
-use Rattle.std.proofs.Common.{◌∙◌, List, All, inl, sym, subst}
+use Rattle.std.proofs.Common.{◌≡◌, ◌∙◌, ℕ, true, List, All, Some, inl, sym, subst}
 use Rattle.std.proofs.lemmas.List.Elements.{All-weaker}
 use Rattle.std.proofs.lemmas.Result.{err_from_is_err_and}
 use Rattle.sc_base.specs.declared.id.Cond.{Cond}
@@ -101,6 +101,10 @@ returns-clause-translated g c =
     let schedule = c.in_ok-parsed.ensures.schedule files (input s names files prepared tables are shown) is in
     let space = seen_space c.args.space.now in
     let main = c.args.file.now in
+    let arities = made.keeps.arities ∙ c.requires.arities in
+    let ordinary = λ (config : List ℕ) (listed : IsConfig s.arities config). made.ordinary.ordinary config (subst (λ ns. IsConfig ns config) made.keeps.arities listed) in
+    let ends = λ (bytes : List ℕ) (held : made.ordinary.outside main ≡ Some bytes) (config : List ℕ) (listed : IsConfig s.arities config) (live : s.has prepared.live.0 config ≡ true).
+    made.ordinary.ends bytes config held (subst (λ ns. IsConfig ns config) made.keeps.arities listed) live in
     subst (AreTranslated (g.S.Source.holds c.args.src.now) space main (tables_with new c.parse.new.trees names files) parsed.root) (sym c.in_ok-append.ensures.items)
     (record {
       parser = c11-parser are;
@@ -108,9 +112,13 @@ returns-clause-translated g c =
       files = made.ordinary.outside;
       held = made.ordinary.held;
       each = translated-at s new c.parse.ensures.keeps names files prepared tables are shown made.owns c.parse.new.trees parsed parsed.events.items parse schedule space main made.ordinary.outside
-          (made.keeps.arities ∙ c.requires.arities)
-          (λ config listed. made.ordinary.ordinary config (subst (λ ns. IsConfig ns config) made.keeps.arities listed))
-          (λ bytes held config listed live. made.ordinary.ends bytes config held (subst (λ ns. IsConfig ns config) made.keeps.arities listed) live);
+          arities ordinary ends;
+      few = record {
+        c11 = c11-is are;
+        input = listed_input s names files prepared tables are shown;
+        is_input = file-input s names files prepared tables are shown space main made.ordinary.outside arities ordinary ends;
+        few = c.in_ok-parsed.ensures.few files (listed_input s names files prepared tables are shown) (is-listed-input s names files prepared tables are shown c.new-trees.result);
+      };
     })
 
 pub returns-clause-answered : goal.returns-clause-answered

@@ -2,7 +2,7 @@ use Rattle.std.proofs.Common.{List, All, sym, subst}
 use Rattle.sc_base.specs.declared.id.Cond.{Cond}
 use Rattle.sc_base.specs.declared.token.Token.{Token}
 use Rattle.sc_fork.proofs.StartLemmas.{starts, start-owns}
-use Rattle.sc_fork.specs.Owns.{AreC11Tables, AreTerminals}
+use Rattle.sc_fork.specs.Owns.{HasC11Tables, AreTerminals}
 use Rattle.sc_lalr.specs.declared.tables.Tables.{Tables}
 use Rattle.sc_merge.specs.Merges.{tables_with}
 use Rattle.sc_model.specs.Sets.{IsCond}
@@ -18,7 +18,7 @@ returns-clause-own g c =
     λ count.
     start-owns sets count _ c.args.live
     (record {
-      tables = subst (λ (t : Tables). AreC11Tables t) (sym c.in_ok-source.ensures.tables) c.requires.tables;
+      tables = subst (λ (t : Tables). HasC11Tables t) (sym c.in_ok-source.ensures.tables) c.requires.tables;
       names = c.args.names.now;
       terminals = subst (λ (list : List (Cond × Token)). AreTerminals c.args.names.now list c.in_ok-source.source.terminals.items) (sym c.in_ok-source.ensures.list) c.in_ok-source.ensures.terminals;
     })
