@@ -17,26 +17,36 @@ use Rattle.c11_macros.specs.Text.{place_alone, unhidden}
 use Rattle.c11_macros.specs.Trace.{trace}
 use Rattle.c11_tokens.specs.Lex.{Lexed}
 use Rattle.sc_model.specs.Outside.{Files, largest_file}
-use Rattle.sc_model.specs.Sets.{IsConfig}
 use Rattle.sc_model.specs.Space.{Space}
 use Rattle.sc_model.specs.Token.{Lexeme, Place, Token}
 
 -- Where the name stands, or the # of the line: behind which #includes, the outermost first, and its
--- place. Then the tokens that were used, and of each name that was looked up the definition, or
--- none.
-pub record SourceFootprint : Type 0 where
+-- place.
+pub record Origin : Type 0 where
   pub chain : List Place
   pub place : Place
+
+-- the tokens that were used, and of each name that was looked up the definition, or none
+pub record Used : Type 0 where
   pub tokens : List Token
   pub definitions : List (List ℕ × Option Definition)
 
+abbrev pub SourceFootprint : Type 0
+SourceFootprint = Origin × Used
+
 -- in the file itself
+abbrev pub origin_at : Place → Origin
+origin_at place = record { chain = []; place = place }
+
+abbrev pub used_as : List Token → List (List ℕ × Option Definition) → Used
+used_as tokens definitions = record { tokens = tokens; definitions = definitions }
+
 abbrev pub footprint_at : Place → List Token → List (List ℕ × Option Definition) → SourceFootprint
-footprint_at place tokens definitions = record { chain = []; place = place; tokens = tokens; definitions = definitions }
+footprint_at place tokens definitions = (origin_at place, used_as tokens definitions)
 
 -- in a file that is included at this place
-abbrev pub included_at : Place → SourceFootprint → SourceFootprint
-included_at place f = record f { chain = place ∷ f.chain }
+abbrev pub included_at : Place → Origin → Origin
+included_at place at = record at { chain = place ∷ at.chain }
 
 abbrev pub definitions_of : Macros → List (List ℕ) → List (List ℕ × Option Definition)
 definitions_of macros names = map (λ name. (name, macros name)) names
@@ -82,7 +92,7 @@ mutual
     of_file : {line : Line} {s : State} {f : SourceFootprint} (t : State) (ts : List Token) (header : Header) (hash : Token) (file : File) (g : SourceFootprint)
         → line.directive ≡ Some directive.Include → Closes s (Ok t) → Says t.macros line (Ok ts) → header_of ts ≡ Ok header → t.depth < context.include_depth
         → hash_of line ≡ Some hash → search context.files (candidates header t.file context.include) ≡ Some file → FileHas context file (deeper t) g
-        → f ≡ included_at (place_in t hash) g → LineHas context line s f
+        → f ≡ (included_at (place_in t hash) g.0, g.1) → LineHas context line s f
 
   -- The walk of a group comes to this footprint.
   pub data GroupHas (context : Context) : Group → State → SourceFootprint → Type 0 where
@@ -124,14 +134,11 @@ pub record Has (space : Space) (files : Files) (main config : List ℕ) (f : Sou
   pub found : search files (main ∷ []) ≡ Some file
   pub has : FileHas (context_of space files) file (initial_state space main config) f
 
--- At least so many configurations have a footprint each at one name, or at one line, and no two of
--- these are the same.
-pub record HasFootprints (arities : List ℕ) (has : List ℕ → SourceFootprint → Type 0) (count : ℕ) : Type 0 where
-  pub chain : List Place
-  pub place : Place
-  pub footprints : List (List ℕ × SourceFootprint)
+-- At least so many of the listed configurations have something each at one place, no two the same.
+pub record HasFootprints {K V : Type 0} (is_listed : List ℕ → Type 0) (has : List ℕ → K × V → Type 0) (count : ℕ) : Type 0 where
+  pub at : K
+  pub footprints : List (List ℕ × V)
   pub many : count ≤ length footprints
-  pub listed : All (λ p. IsConfig arities p.0) footprints
-  pub each : All (λ p. has p.0 p.1) footprints
-  pub here : All (λ p. (p.1.chain ≡ chain) × (p.1.place ≡ place)) footprints
+  pub listed : All (λ p. is_listed p.0) footprints
+  pub each : All (λ p. has p.0 (at, p.1)) footprints
   pub apart : AllPairs (λ p q. (p.0 ≡ q.0 → ⊥) × (p.1 ≡ q.1 → ⊥)) footprints

@@ -3,7 +3,7 @@ use Rattle.std.proofs.Common.{◌≡◌, ◌∙◌, ℕ, suc, zero, ◌+◌, ◌
 use Rattle.std.proofs.lemmas.Bool.{false≢true}
 use Rattle.std.proofs.lemmas.Bool.Decides.{nat_tests}
 use Rattle.std.specs.Prelude.{◌&&◌, nat_lt, slice_index}
-use Rattle.c11_directives.specs.Footprints.{Has, HasFootprints}
+use Rattle.c11_directives.specs.Footprints.{Has}
 use Rattle.c11_parsing.specs.Classes.{HasMoreClasses, IsClass, Input}
 use Rattle.c11_parsing.specs.Parser.{Parser}
 use Rattle.sc_base.specs.declared.stop.Stop.{Stop}
@@ -15,7 +15,7 @@ use Rattle.sc_fork.specs.Parsers.{c11_parser}
 use Rattle.sc_model.specs.Outside.{Files}
 use Rattle.sc_model.specs.Sets.{IsConfig}
 use Rattle.sc_model.specs.Space.{IsListed, Space, arities_of}
-use Rattle.sc_prep.specs.Footprints.{StopsAtPlace}
+use Rattle.sc_prep.specs.Footprints.{StopsAmong}
 use Rattle.sc_prep.specs.Preprocesses.{Stops}
 
 -- ---- whether a list is a configuration
@@ -79,14 +79,14 @@ pub any-parser : Parser
 any-parser = c11_parser (record { states = []; action = λ state symbol. None; goto = λ state symbol. None; conflicts = [] })
 
 pub stops-before : (fills : Setting → Type 0) → ((s : Setting) → HasManyFootprints s → fills s) → (arities : List ℕ) (space : Space) (main : List ℕ) (holds : Option Files) (before after : ℕ) → arities ≡ arities_of space
-    → (stop : Stop) → Stops arities space.branches before after stop → ((outside : Files) → holds ≡ Some outside → StopsAtPlace arities (Has space outside main) space.branches stop)
+    → (stop : Stop) → Stops arities space.branches before after stop → ((outside : Files) → holds ≡ Some outside → StopsAmong (IsListed space) (Has space outside main) space.branches stop)
     → StopsIn fills holds before after space main stop
 stops-before fills of arities space main holds before after same (BranchesFull count) stops here = (
   stops.0,
   record {
     configs = many-configs space (subst (λ ns. HasConfigs ns (space.branches + 1)) same stops.1);
     parser = any-parser;
-    why = λ files told. of (setting_of space main any-parser files) (subst (λ ns. HasFootprints ns (Has space files main) (space.branches + 1)) same (here files told));
+    why = λ files told. of (setting_of space main any-parser files) (here files told);
   },
 )
 stops-before fills of arities space main holds before after same ReadFault stops here = stops

@@ -51,7 +51,7 @@ pub record HasManyConfigs (space : Space) : Type 0 where
 -- At one macro name of the files that are preprocessed, or at one directive line, more
 -- configurations than branches have footprints that differ from each other.
 abbrev pub HasManyFootprints : Setting → Type 0
-HasManyFootprints s = HasFootprints (arities_of s.space) (Has s.space s.files s.main) (s.space.branches + 1)
+HasManyFootprints s = HasFootprints (IsListed s.space) (Has s.space s.files s.main) (s.space.branches + 1)
 
 -- at the configuration the input has the file's tokens and its end, where preprocessing accepts it
 pub record IsPreparedAt (s : Setting) (input : Input) (config : List ℕ) : Type 0 where

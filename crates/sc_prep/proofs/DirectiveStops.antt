@@ -47,8 +47,8 @@ use Rattle.sc_prep.proofs.WalkMoves.{simulates-kept}
 use Rattle.sc_table.specs.Table.{IsTable, macros_at}
 
 -- a stage that stops for different lists stops at a place
-pub lists-stop : {mid arities other : List ℕ} {test : List ℕ → Bool} {list : List ℕ → List ℕ} {P : List ℕ → SourceFootprint → Type 0} (limit : ℕ) (stop : Stop) → mid ≡ arities
-    → (HaveLists arities test list (limit + 1) → HasFootprints other P (limit + 1)) → StopsByLists mid test list limit stop → StopsAtPlace other P limit stop
+pub lists-stop : {K V : Type 0} {mid arities other : List ℕ} {test : List ℕ → Bool} {list : List ℕ → List ℕ} {P : List ℕ → K × V → Type 0} (limit : ℕ) (stop : Stop) → mid ≡ arities
+    → (HaveLists arities test list (limit + 1) → HasFootprints (IsConfig other) P (limit + 1)) → StopsByLists mid test list limit stop → StopsAtPlace other P limit stop
 lists-stop {test = test} {list = list} limit (BranchesFull count) same to h = to (subst (λ a. HaveLists a test list (limit + 1)) same h)
 lists-stop limit ReadFault same to h = tt
 lists-stop limit OutOfMemory same to h = tt
@@ -151,9 +151,9 @@ module _ (files names : List (List ℕ)) {old s : Sets} (keeps : Keeps old s) (w
         let clean = right-none true m.fault (and_parts (old.has among.0 c) (is_none m.fault) a.asked).1 in
         (a.asked, of_line (text_at c) hash (expression (text_at c) conditional a.text) hashed (text-as (a.simulates.macros clean) has))
 
-    texts-found : (count : ℕ) → HaveLists s1.arities behind (λ c. places_at s2 made c) count → HasFootprints old.arities Found count
+    texts-found : (count : ℕ) → HaveLists s1.arities behind (λ c. places_at s2 made c) count → HasFootprints (IsConfig old.arities) Found count
     texts-found count lists =
-        subst (λ a. HasFootprints a Found count) first
+        subst (λ a. HasFootprints (IsConfig a) Found count) first
         (void-footprints s1.arities Found before behind (λ c. places_at s2 made c) count (λ c listed. void c (subst (λ a. IsConfig a c) first listed))
         (λ n h. footprints-as (λ c f listed has. let on = (and_parts (behind c) (before c) has.0).1 in (on, text-found c f (subst (λ a. IsConfig a c) first listed) on has.1))
         (lists-footprints s1 s2 names1 files (macros_at s1 names1 w1.table) list made (λ c. behind c && before c) hash.place n k2 own_list own_made different
@@ -232,7 +232,7 @@ module _ (names files : List (List ℕ)) (s : Sets) (w : Walk) (line : List base
     hashed = (hash-of names files line d directed).1
 
     -- the header name that stands there
-    pub header-stops : begins_with_header (behind_name this) ≡ true → (count : ℕ) → HaveLists s.arities (s.has w.acting.0) (λ c. places_at s list c) count → HasFootprints s.arities Said count
+    pub header-stops : begins_with_header (behind_name this) ≡ true → (count : ℕ) → HaveLists s.arities (s.has w.acting.0) (λ c. places_at s list c) count → HasFootprints (IsConfig s.arities) Said count
     header-stops header count lists =
         footprints-as (λ c f listed has. λ m simulates _. (sym simulates.acting ∙ has.0, of_header d hash directed says header hashed (has.1 ∙ ap (λ ts. footprint_at hash.place ts []) (all-behind c has.0))))
         (headers-footprints s names files list (s.has w.acting.0) hash.place count (behind-different names files w line list same apart) lists)
@@ -266,7 +266,7 @@ module _ (names files : List (List ℕ)) (s : Sets) (w : Walk) (line : List base
             of_line (behind_name this) hash (said d directed says other) hashed (subst (λ ts. TextHas m.state.macros ts hash.place f) (all-behind c parts.0) now),
           )
 
-      pub said-stops : (count : ℕ) → HaveLists s.arities (new.has next.acting.0) (λ c. places_at new made c) count → HasFootprints s.arities Said count
+      pub said-stops : (count : ℕ) → HaveLists s.arities (new.has next.acting.0) (λ c. places_at new made c) count → HasFootprints (IsConfig s.arities) Said count
       said-stops count lists =
           let on = new.has next.acting.0 in
           void-footprints s.arities Said lives on (λ c. places_at new made c) count void-said

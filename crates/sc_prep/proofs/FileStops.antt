@@ -83,7 +83,7 @@ comes-said {l = l} {m} {n} {f} d is said was acting has =
 
 -- or its file
 comes-waiting : {x : Context} {l : Line} {files : List (List ℕ)} {depth : ℕ} {m k n : Machine} {left rest : List FileId} {g : SourceFootprint} (file : FileId) (hash : Token) → l.directive ≡ Some directive.Include
-    → hash_of l ≡ Some hash → Closed m k → Stage x l files depth k left n → left ≡ file ∷ rest → ComesInside x (text_at files file.0) (depth + 1) n g → ComesAt x m l (included_at hash.place g)
+    → hash_of l ≡ Some hash → Closed m k → Stage x l files depth k left n → left ≡ file ∷ rest → ComesInside x (text_at files file.0) (depth + 1) n g → ComesAt x m l (included_at hash.place g.0, g.1)
 comes-waiting file hash is hashed was (came e carried) left_is inside = absurd (cc)
 comes-waiting {x} {l} {files} {depth} {m} {k} {g = g} file hash is hashed was (waits other ts header first f acting says header_is deep shallow hashed_first searching named) left_is inside =
     let c = closing m k was acting in
@@ -99,31 +99,21 @@ comes-waiting {x} {l} {files} {depth} {m} {k} {g = g} file hash is hashed was (w
 
 pub comes-included : {x : Context} {l : Line} {files : List (List ℕ)} {depth : ℕ} {m n : Machine} {left rest : List FileId} {g : SourceFootprint} (file : FileId) (hash : Token)
     → l.directive ≡ Some directive.Include → hash_of l ≡ Some hash → Staged x l files depth m left n → left ≡ file ∷ rest → ComesInside x (text_at files file.0) (depth + 1) n g
-    → ComesAt x m l (included_at hash.place g)
+    → ComesAt x m l (included_at hash.place g.0, g.1)
 comes-included {m = m} file hash is hashed staged left_is inside =
     comes-waiting {k = closing_run m staged.answer} file hash is hashed (record { answer = staged.answer; expands = staged.expands; is = refl }) staged.stage left_is inside
 
 -- configurations with different footprints in a file have different ones at the line
-same-included : (place : Place) (g h : SourceFootprint) → included_at place g ≡ included_at place h → g ≡ h
-same-included place g h same = ap (λ (f : SourceFootprint). record f { chain = drop 1 f.chain }) same
-
-pub footprints-included : {arities : List ℕ} {P Q : List ℕ → SourceFootprint → Type 0} {count : ℕ} (place : Place) → ((c : List ℕ) (g : SourceFootprint) → IsConfig arities c → P c g → Q c (included_at place g))
-    → HasFootprints arities P count → HasFootprints arities Q count
-footprints-included {arities} {P} {Q} place to h =
-    let at : List ℕ × SourceFootprint → List ℕ × SourceFootprint = λ p. (p.0, included_at place p.1) in
-    let Apart : List ℕ × SourceFootprint → List ℕ × SourceFootprint → Type 0 = λ p q. (p.0 ≡ q.0 → ⊥) × (p.1 ≡ q.1 → ⊥) in
-    record {
-      chain = place ∷ h.chain;
-      place = h.place;
-      footprints = map at h.footprints;
-      many = omega (arith, h.many, length-map h.footprints at);
-      listed = All-map (λ p. IsConfig arities p.0) at h.footprints h.listed;
-      each = All-map (λ p. Q p.0 p.1) at h.footprints (λ k d below. to _ _ (h.listed k d below) (h.each k d below));
-      here = All-map (λ p. (p.1.chain ≡ place ∷ h.chain) × (p.1.place ≡ h.place)) at h.footprints
-          (λ k d below. (ap (λ chain. place ∷ chain) (h.here k d below).0, (h.here k d below).1));
-      apart = pairs-map Apart at h.footprints
-          (λ i j d low below. let two = h.apart i j d low below in (two.0, λ same. two.1 (same-included place (get_or h.footprints i d).1 (get_or h.footprints j d).1 same)));
-    }
+pub footprints-included : {is_listed : List ℕ → Type 0} {P Q : List ℕ → SourceFootprint → Type 0} {count : ℕ} (place : Place)
+    → ((c : List ℕ) (g : SourceFootprint) → is_listed c → P c g → Q c (included_at place g.0, g.1)) → HasFootprints is_listed P count → HasFootprints is_listed Q count
+footprints-included place to h = record {
+  at = included_at place h.at;
+  footprints = h.footprints;
+  many = h.many;
+  listed = h.listed;
+  each = λ k d within. to _ _ (h.listed k d within) (h.each k d within);
+  apart = h.apart;
+}
 
 -- ---- a file that is entered
 

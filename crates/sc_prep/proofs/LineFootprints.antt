@@ -3,7 +3,7 @@ use Rattle.std.proofs.Common.{◌≡◌, ℕ, suc, ◌+◌, Bool, true, false, L
 use Rattle.std.proofs.lemmas.List.{get_or-map, length-map}
 use Rattle.std.proofs.lemmas.List.Elements.{All-cons, All-head, All-nil, All-tail, All-weaker}
 use Rattle.std.specs.Prelude.{AllPairs}
-use Rattle.c11_directives.specs.Footprints.{HasFootprints, SourceFootprint, TextHas, definitions_of, footprint_at}
+use Rattle.c11_directives.specs.Footprints.{HasFootprints, Origin, SourceFootprint, TextHas, Used, definitions_of, footprint_at, origin_at, used_as}
 use Rattle.c11_macros.proofs.OneAnswer.{one}
 use Rattle.c11_macros.specs.Expansion.{Expands}
 use Rattle.c11_macros.specs.Hidden.{Failure, Hidden}
@@ -102,24 +102,25 @@ define-alike : (some other : Macros) (text : List Token) (answer : Result (List 
     → Agree some other (trace expands).looked_up → DefineTextAlike some other text
 define-alike some other text answer expands agree = record { agree = λ r d. subst (Agree some other) (ap (λ (x : Trace). x.looked_up) (one expands r d).trace) agree }
 
-used-alike : {some other : Macros} {text more : List Token} {place : Place} {f g : SourceFootprint} → TextHas some text place f → TextHas other more place g → f ≡ g → (text ≡ more) × DefineTextAlike some other text
-used-alike {some} {other} {text} {more} {place} {f} {g} x y same =
-    let e : footprint_at place text (definitions_of some (trace x.expands).looked_up) ≡ footprint_at place more (definitions_of other (trace y.expands).looked_up) = sym x.is ∙ (same ∙ y.is) in (
-      ap (λ (f : SourceFootprint). f.tokens) e,
-      define-alike some other text x.answer x.expands (agree-same some other (trace x.expands).looked_up (trace y.expands).looked_up (ap (λ (f : SourceFootprint). f.definitions) e)),
+used-alike : {some other : Macros} {text more : List Token} {place : Place} {at : Origin} {f g : Used} → TextHas some text place (at, f) → TextHas other more place (at, g) → f ≡ g → (text ≡ more) × DefineTextAlike some other text
+used-alike {some} {other} {text} {more} x y same =
+    let used : SourceFootprint → Used = λ f. f.1 in
+    let e : used_as text (definitions_of some (trace x.expands).looked_up) ≡ used_as more (definitions_of other (trace y.expands).looked_up) = sym (ap used x.is) ∙ (same ∙ ap used y.is) in (
+      ap (λ (u : Used). u.tokens) e,
+      define-alike some other text x.answer x.expands (agree-same some other (trace x.expands).looked_up (trace y.expands).looked_up (ap (λ (u : Used). u.definitions) e)),
     )
 
 -- ---- different lists, where one footprint tells one list
 
-module _ {arities : List ℕ} {test : List ℕ → Bool} {list : List ℕ → List ℕ} {P : List ℕ → SourceFootprint → Type 0} (place : Place)
-    (has : (c : List ℕ) → IsConfig arities c → test c ≡ true → (f : SourceFootprint) × P c f) (here : (c : List ℕ) (f : SourceFootprint) → P c f → (f.chain ≡ []) × (f.place ≡ place))
-    (tells : (c d : List ℕ) (f g : SourceFootprint) → IsConfig arities c → IsConfig arities d → P c f → P d g → f ≡ g → list c ≡ list d) where
-  abbrev IsOne : List ℕ × SourceFootprint → Type 0
-  IsOne p = IsConfig arities p.0 × P p.0 p.1
+module _ {K V : Type 0} {arities : List ℕ} {test : List ℕ → Bool} {list : List ℕ → List ℕ} {P : List ℕ → K × V → Type 0} (at : K)
+    (has : (c : List ℕ) → IsConfig arities c → test c ≡ true → (f : V) × P c (at, f))
+    (tells : (c d : List ℕ) (f g : V) → IsConfig arities c → IsConfig arities d → P c (at, f) → P d (at, g) → f ≡ g → list c ≡ list d) where
+  abbrev IsOne : List ℕ × V → Type 0
+  IsOne p = IsConfig arities p.0 × P p.0 (at, p.1)
 
   record Found (configs : List (List ℕ)) : Type 0 where
-    footprints : List (List ℕ × SourceFootprint)
-    of : map (λ (p : List ℕ × SourceFootprint). p.0) footprints ≡ configs
+    footprints : List (List ℕ × V)
+    of : map (λ (p : List ℕ × V). p.0) footprints ≡ configs
     each : All IsOne footprints
 
   found : (configs : List (List ℕ)) → All (IsConfig arities) configs → All (λ c. test c ≡ true) configs → Found configs
@@ -130,20 +131,18 @@ module _ {arities : List ℕ} {test : List ℕ → Bool} {list : List ℕ → Li
       let rest = found cs (All-tail (IsConfig arities) c cs listed) (All-tail (λ c. test c ≡ true) c cs among) in
       record { footprints = (c, f.0) ∷ rest.footprints; of = ap (λ l. c ∷ l) rest.of; each = All-cons IsOne (c, f.0) rest.footprints (first, f.1) rest.each }
 
-  pub lists-have : (count : ℕ) → HaveLists arities test list count → HasFootprints arities P count
+  pub lists-have : (count : ℕ) → HaveLists arities test list count → HasFootprints (IsConfig arities) P count
   lists-have count lists =
       let f = found lists.configs lists.listed lists.among in
-      let config : List ℕ × SourceFootprint → List ℕ = λ p. p.0 in
+      let config : List ℕ × V → List ℕ = λ p. p.0 in
       let long = length-map f.footprints config in
       let same = ap length f.of in
       record {
-        chain = [];
-        place = place;
+        at = at;
         footprints = f.footprints;
         many = omega (arith, lists.many, long, same);
         listed = All-weaker IsOne (λ p. IsConfig arities p.0) (λ p is. is.0) f.footprints f.each;
-        each = All-weaker IsOne (λ p. P p.0 p.1) (λ p is. is.1) f.footprints f.each;
-        here = All-weaker IsOne (λ p. (p.1.chain ≡ []) × (p.1.place ≡ place)) (λ p is. here p.0 p.1 is.1) f.footprints f.each;
+        each = All-weaker IsOne (λ p. P p.0 (at, p.1)) (λ p is. is.1) f.footprints f.each;
         apart = pairs-both (λ p q. list p.0 ≡ list q.0 → ⊥) (λ p q. (p.0 ≡ q.0 → ⊥) × (p.1 ≡ q.1 → ⊥)) IsOne
             (λ p q x y differ. (λ e. differ (ap list e), λ e. differ (tells p.0 q.0 p.1 q.1 x.0 y.0 x.1 y.1 e))) f.footprints f.each
             (pairs-unmap (λ c d. list c ≡ list d → ⊥) config f.footprints (subst (AllPairs (λ c d. list c ≡ list d → ⊥)) (sym f.of) lists.apart));
@@ -157,14 +156,13 @@ pub lists-footprints : (s t : Sets) (names files : List (List ℕ)) (macros : Li
     → ((c d : List ℕ) → IsConfig s.arities c → IsConfig s.arities d → test c ≡ true → test d ≡ true → AreAlike s c d list → DefineTextAlike (macros c) (macros d) (map (seen names files) (items_at s list c)) → AreAlike t c d made)
     → ((c : List ℕ) → IsConfig s.arities c → test c ≡ true → (answer : Result (List Token) Fault) × TextExpands (macros c) (map (seen names files) (items_at s list c)) answer)
     → HaveLists s.arities test (λ c. places_at t made c) count
-    → HasFootprints s.arities (λ c f. (test c ≡ true) × TextHas (macros c) (map (seen names files) (items_at s list c)) place f) count
+    → HasFootprints (IsConfig s.arities) (λ c f. (test c ≡ true) × TextHas (macros c) (map (seen names files) (items_at s list c)) place f) count
 lists-footprints s t names files macros list made test place count _ _ _ different alike answers lists =
     let text : List ℕ → List Token = λ c. map (seen names files) (items_at s list c) in
-    lists-have place
+    lists-have (origin_at place)
     (λ c listed among.
     let x = (answers c listed among).1 in
-    (footprint_at place (text c) (definitions_of (macros c) (trace x.expands).looked_up), (among, record { answer = x.answer; expands = x.expands; is = refl })))
-    (λ c f is. (ap (λ (f : SourceFootprint). f.chain) is.1.is, ap (λ (f : SourceFootprint). f.place) is.1.is))
+    (used_as (text c) (definitions_of (macros c) (trace x.expands).looked_up), (among, record { answer = x.answer; expands = x.expands; is = refl })))
     (λ c d f g one two x y same.
     let used = used-alike x.1 y.1 same in
     places-alike t c d 0 made (alike c d one two x.0 y.0 (alike-seen s names files c d list different used.0) used.1))
@@ -173,8 +171,7 @@ lists-footprints s t names files macros list made test place count _ _ _ differe
 -- a line that is not expanded
 pub headers-footprints : (s : Sets) (names files : List (List ℕ)) (list : List (Cond × base.Token)) (test : List ℕ → Bool) (place : Place) (count : ℕ) → AreDifferent names files list
     → HaveLists s.arities test (λ c. places_at s list c) count
-    → HasFootprints s.arities (λ c f. (test c ≡ true) × (f ≡ footprint_at place (map (seen names files) (items_at s list c)) [])) count
+    → HasFootprints (IsConfig s.arities) (λ c f. (test c ≡ true) × (f ≡ footprint_at place (map (seen names files) (items_at s list c)) [])) count
 headers-footprints s names files list test place count different lists =
-    lists-have place (λ c listed among. (footprint_at place (map (seen names files) (items_at s list c)) [], (among, refl)))
-    (λ c f is. (ap (λ (f : SourceFootprint). f.chain) is.1, ap (λ (f : SourceFootprint). f.place) is.1))
-    (λ c d f g one two x y same. places-alike s c d 0 list (alike-seen s names files c d list different (ap (λ (f : SourceFootprint). f.tokens) (sym x.1 ∙ (same ∙ y.1))))) count lists
+    lists-have (origin_at place) (λ c listed among. (used_as (map (seen names files) (items_at s list c)) [], (among, refl)))
+    (λ c d f g one two x y same. places-alike s c d 0 list (alike-seen s names files c d list different (ap (λ (u : Used). u.tokens) (sym (ap (λ (f : SourceFootprint). f.1) x.1) ∙ (same ∙ ap (λ (f : SourceFootprint). f.1) y.1))))) count lists

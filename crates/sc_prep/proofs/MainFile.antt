@@ -24,7 +24,7 @@ use Rattle.sc_model.specs.Bytes.{has_no_newline}
 use Rattle.sc_model.specs.Growth.{Extends}
 use Rattle.sc_model.specs.Outside.{Files}
 use Rattle.sc_model.specs.Sets.{Sets, IsCond, IsConfig, Keeps}
-use Rattle.sc_model.specs.Space.{Space, arities_of}
+use Rattle.sc_model.specs.Space.{IsListed, Space, arities_of}
 use Rattle.sc_model.specs.declared.cause.Cause.{Cause}
 use Rattle.sc_model.specs.Fault.{Fault, fault_at, first_place}
 use Rattle.sc_model.specs.Token as plain
@@ -41,7 +41,7 @@ use Rattle.sc_prep.specs.declared.content.Content.TheVariants as content
 use Rattle.sc_prep.specs.declared.prepared.Prepared.{Prepared}
 use Rattle.sc_prep.specs.declared.content.Contents.{Contents}
 use Rattle.sc_prep.specs.declared.walk.Walk.{Walk}
-use Rattle.sc_prep.specs.Footprints.{Comes, ComesInside, StopsAtPlace}
+use Rattle.sc_prep.specs.Footprints.{Comes, ComesInside, StopsAmong, StopsAtPlace}
 use Rattle.sc_prep.specs.Includes.{EntersAt}
 use Rattle.sc_prep.specs.Machine.{Machine, start}
 use Rattle.sc_prep.specs.Preprocesses.{IsOrdinary, IsRefused, OwnsList, is_accepted}
@@ -122,6 +122,7 @@ end-inside names files (content.Refused cause place) held = held
 
 -- nothing was gathered, put out or refused, and each configuration starts with the first macros
 pub record IsNew (s : Sets) (space : Space) (names files : List (List ℕ)) (walk : Walk) : Type 0 where
+  pub arities : s.arities ≡ arities_of space
   pub owns : Owns s walk
   pub table : IsTable s names walk.table
   pub gathered : walk.gathered ≡ []
@@ -136,6 +137,7 @@ pub begins-new : {s : Sets} {before names : List (List ℕ)} {walk : Walk} {tabl
     → ((names files : List (List ℕ)) (config : List ℕ) (first : State) → IsConfig s.arities config → IsBegun s names table config first → Simulates s names files walk config (start first))
     → IsNew s space names files walk
 begins-new {s} {before} {names} {walk} {table} space files arities owns empty same is initial grows starts = record {
+  arities = arities;
   owns = owns;
   table = subst (IsTable s names) (sym same) (IsTable-Extends grows (is s arities));
   gathered = empty.0;
@@ -257,8 +259,8 @@ module _ {s : Sets} {space : Space} {names files : List (List ℕ)} {walk : Walk
   -- each footprint to which the main file comes is one of the configuration
   pub entered-stops : (main : List ℕ) (outside : Files) (file : FileId) (cond : Cond) → slice_get files file.0 ≡ Some main → (limit : ℕ) (stop : Stop)
       → StopsAtPlace s.arities (Comes s names files walk IsBetweenRuns (λ config m f. (s.has cond.0 config ≡ true) × ComesInside (context_of space outside) (text_at files file.0) 0 m f)) limit stop
-      → StopsAtPlace s.arities (Has space outside main) limit stop
-  entered-stops main outside file cond named limit stop = stops-as limit stop (λ config f listed comes.
+      → StopsAmong (IsListed space) (Has space outside main) limit stop
+  entered-stops main outside file cond named limit stop stops = subst (λ a. StopsAtPlace a (Has space outside main) limit stop) fresh.arities (stops-as limit stop (λ config f listed comes.
       let first = start (initial_state space main config) in
       let inside = subst (λ name. ComesInside (context_of space outside) name 0 first f) (ap (λ (o : Option (List ℕ)). unwrap_or o []) named) (comes first (fresh.starts main config listed) (λ acting. refl)).1 in
-      record { file = inside.file; found = finds-main outside main inside.file inside.named inside.there; has = inside.has })
+      record { file = inside.file; found = finds-main outside main inside.file inside.named inside.there; has = inside.has }) stops)

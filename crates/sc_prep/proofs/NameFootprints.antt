@@ -6,7 +6,7 @@ use Rattle.std.proofs.lemmas.List.Kept.{AllPairs-cons}
 use Rattle.std.proofs.lemmas.Simd.{map-map}
 use Rattle.std.proofs.Math.Seq.{take-nil}
 use Rattle.c11_directives.specs.Footprints as footprints
-use Rattle.c11_directives.specs.Footprints.{DirectiveHas, NameHas, SourceFootprint, TextHas, definitions_of, footprint_at}
+use Rattle.c11_directives.specs.Footprints.{DirectiveHas, NameHas, Origin, SourceFootprint, TextHas, Used, definitions_of, origin_at, used_as}
 use Rattle.c11_directives.specs.Lines.{Line}
 use Rattle.c11_macros.specs.Expansion.{Expands}
 use Rattle.c11_macros.specs.Footprint.{Arrives, Footprint, footprint}
@@ -144,13 +144,19 @@ module _ (s : Sets) (names files : List (List ℕ)) (macros : List ℕ → Macro
   abbrev behind : List ℕ → List Token
   behind c = map (seen names files) (items_behind c)
 
-  abbrev print_by : List ℕ → Token → Footprint → SourceFootprint
-  print_by c name print = footprint_at name.place (name ∷ take (length (behind c) - print.left) (behind c)) (definitions_of (macros c) print.looked_up)
+  abbrev origin_by : Option (Cond × base.Token) → Origin
+  origin_by item = origin_at (place_of names files item)
 
-  abbrev print_at : (c : List ℕ) → Uses c → SourceFootprint
-  print_at c x = print_by c (seen names files x.item.1) (footprint x.expands)
+  abbrev origin : Origin
+  origin = origin_by (slice_get list at)
 
-  has-name : (c : List ℕ) (x : Uses c) → NameHas (macros c) (map (seen names files) (items_at s list c)) (print_at c x)
+  abbrev used_by : List ℕ → Token → Footprint → Used
+  used_by c name print = used_as (name ∷ take (length (behind c) - print.left) (behind c)) (definitions_of (macros c) print.looked_up)
+
+  abbrev used_at : (c : List ℕ) → Uses c → Used
+  used_at c x = used_by c (seen names files x.item.1) (footprint x.expands)
+
+  has-name : (c : List ℕ) (x : Uses c) → NameHas (macros c) (map (seen names files) (items_at s list c)) (origin, used_at c x)
   has-name c x =
       let first = looks x.item.1 in
       let rest : map looks (items_behind c) ≡ map unhidden (behind c) = sym (map-map unhidden (seen names files) (items_behind c)) in
@@ -162,7 +168,7 @@ module _ (s : Sets) (names files : List (List ℕ)) (macros : List ℕ → Macro
         expands = p.expands;
         arrives = subst (λ (ts : List (Hidden Place)). Arrives place_alone (macros c) ts (first ∷ map unhidden (behind c))) (sym (map-map unhidden (seen names files) (items_at s list c)))
             (subst (λ (ts : List (Hidden Place)). Arrives place_alone (macros c) (map looks (items_at s list c)) (first ∷ ts)) rest x.arrives);
-        is = ap (print_by c (seen names files x.item.1)) (sym p.is);
+        is = λ i. (origin_by (x.is i), used_by c (seen names files x.item.1) (sym p.is i));
       }
 
   -- so many items stand behind the name as tokens are seen there
@@ -171,8 +177,8 @@ module _ (s : Sets) (names files : List (List ℕ)) (macros : List ℕ → Macro
       ap (λ n. take (n - print.left) (behind_at s (drop (at + 1) list) c)) (length-behind s c (drop (at + 1) list) ∙ sym (length-map (items_behind c) (seen names files)))
 
   module _ (different : AreDifferent names files list) where
-    same-print : (c d : List ℕ) (x : Uses c) (y : Uses d) → print_at c x ≡ print_at d y → IsSameUse looks place_alone macros s list at c d
-    same-print c d x y same =
+    same-use : (c d : List ℕ) (x : Uses c) (y : Uses d) → used_at c x ≡ used_at d y → IsSameUse looks place_alone macros s list at c d
+    same-use c d x y same =
         let R : Cond × base.Token → Cond × base.Token → Type 0 = λ a b. seen names files a.1 ≡ seen names files b.1 → ⊥ in
         let one = footprint x.expands in
         let other = footprint y.expands in
@@ -181,32 +187,28 @@ module _ (s : Sets) (names files : List (List ℕ)) (macros : List ℕ → Macro
           other = y;
           taken =
               taken-as c one
-              ∙ (same-taken s names files c d (drop (at + 1) list) (pairs-drop R (at + 1) list different) (length (behind c) - one.left) (length (behind d) - other.left) (ap (λ f. drop 1 f.tokens) same)
+              ∙ (same-taken s names files c d (drop (at + 1) list) (pairs-drop R (at + 1) list different) (length (behind c) - one.left) (length (behind d) - other.left) (ap (λ (u : Used). drop 1 u.tokens) same)
               ∙ sym (taken-as d other));
-          agree = same-definitions (macros c) (macros d) one.looked_up other.looked_up (ap (λ f. f.definitions) same);
+          agree = same-definitions (macros c) (macros d) one.looked_up other.looked_up (ap (λ (u : Used). u.definitions) same);
         }
 
     -- configurations with different footprints of the name have them told by tokens
     source-footprints : (cond count : ℕ) (configs : List (List ℕ)) → count ≤ length configs → All (IsConfig s.arities) configs → All (λ c. s.has cond c ≡ true) configs → All Uses configs
         → AllPairs (λ c d. IsSameUse looks place_alone macros s list at c d → ⊥) configs
-        → footprints.HasFootprints s.arities (λ c f. (s.has cond c ≡ true) × NameHas (macros c) (map (seen names files) (items_at s list c)) f) count
+        → footprints.HasFootprints (IsConfig s.arities) (λ c f. (s.has cond c ≡ true) × NameHas (macros c) (map (seen names files) (items_at s list c)) f) count
     source-footprints cond count configs many listed has come apart =
-        let make : (c : List ℕ) → Uses c → List ℕ × SourceFootprint = λ c x. (c, print_at c x) in
-        let place = place_of names files (slice_get list at) in
-        let Is : List ℕ × SourceFootprint → Type 0 = λ p. IsConfig s.arities p.0 in
-        let Has : List ℕ × SourceFootprint → Type 0 = λ p. (s.has cond p.0 ≡ true) × NameHas (macros p.0) (map (seen names files) (items_at s list p.0)) p.1 in
-        let Here : List ℕ × SourceFootprint → Type 0 = λ p. (p.1.chain ≡ []) × (p.1.place ≡ place) in
-        let Apart : List ℕ × SourceFootprint → List ℕ × SourceFootprint → Type 0 = λ p q. (p.0 ≡ q.0 → ⊥) × (p.1 ≡ q.1 → ⊥) in
+        let make : (c : List ℕ) → Uses c → List ℕ × Used = λ c x. (c, used_at c x) in
+        let Is : List ℕ × Used → Type 0 = λ p. IsConfig s.arities p.0 in
+        let Has : List ℕ × Used → Type 0 = λ p. (s.has cond p.0 ≡ true) × NameHas (macros p.0) (map (seen names files) (items_at s list p.0)) (origin, p.1) in
+        let Apart : List ℕ × Used → List ℕ × Used → Type 0 = λ p q. (p.0 ≡ q.0 → ⊥) × (p.1 ≡ q.1 → ⊥) in
         record {
-          chain = [];
-          place = place;
+          at = origin;
           footprints = made_of Uses make configs come;
           many = subst (λ n. count ≤ n) (sym (made-length Uses make configs come)) many;
           listed = made-all Uses make (IsConfig s.arities) Is (λ c x is. is) configs come listed;
           each = made-all Uses make (λ c. s.has cond c ≡ true) Has (λ c x is. (is, has-name c x)) configs come has;
-          here = made-all Uses make (IsConfig s.arities) Here (λ c x is. (refl, sym (ap (place_of names files) x.is))) configs come listed;
           apart = made-pairs Uses make (λ c d. IsSameUse looks place_alone macros s list at c d → ⊥) Apart
-              (λ c d x y other. (λ same. other (one-use looks place_alone x d same), λ same. other (same-print c d x y same))) configs come apart;
+              (λ c d x y other. (λ same. other (one-use looks place_alone x d same), λ same. other (same-use c d x y same))) configs come apart;
         }
 
 pub name-footprints : (s : Sets) (names files : List (List ℕ)) (macros : List ℕ → Macros) (cond : ℕ) (list : List (Cond × base.Token)) (limit : ℕ) (stop : Stop) → AreDifferent names files list

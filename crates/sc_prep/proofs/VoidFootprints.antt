@@ -7,22 +7,22 @@ use Rattle.std.proofs.lemmas.List.Elements.{All-nil, All-cons, All-head, All-tai
 use Rattle.std.proofs.lemmas.List.Kept.{AllPairs-cons, AllPairs-filter}
 use Rattle.std.specs.List.{filter}
 use Rattle.std.specs.Prelude.{AllPairs}
-use Rattle.c11_directives.specs.Footprints.{HasFootprints, SourceFootprint}
+use Rattle.c11_directives.specs.Footprints.{HasFootprints, Used, used_as}
 use Rattle.c11_macros.specs.Macros.{Definition}
 use Rattle.sc_model.specs.Sets.{IsConfig}
 use Rattle.sc_prep.specs.Footprints.{HaveLists}
 use Rattle.sc_prep.proofs.ApartLemmas.{pairs-head, pairs-tail}
 
 -- how many definitions these footprints have in all
-abbrev definition_count : List (List ℕ × SourceFootprint) → ℕ
+abbrev definition_count : List (List ℕ × Used) → ℕ
 definition_count [] = 0
 definition_count (p ∷ ps) = length p.1.definitions + definition_count ps
 
 -- one with more is none of them
-none-like : (f : SourceFootprint) (ps : List (List ℕ × SourceFootprint)) → definition_count ps < length f.definitions → All (λ p. f ≡ p.1 → ⊥) ps
+none-like : (f : Used) (ps : List (List ℕ × Used)) → definition_count ps < length f.definitions → All (λ p. f ≡ p.1 → ⊥) ps
 none-like f [] more = All-nil (λ p. f ≡ p.1 → ⊥)
 none-like f (p ∷ ps) more =
-    All-cons (λ p. f ≡ p.1 → ⊥) p ps (λ e. omega (arith, more, ap (λ (x : SourceFootprint). length x.definitions) e)) (none-like f ps (omega (arith, more)))
+    All-cons (λ p. f ≡ p.1 → ⊥) p ps (λ e. omega (arith, more, ap (λ (x : Used). length x.definitions) e)) (none-like f ps (omega (arith, more)))
 
 -- those that pass, with what holds of all
 passing : {A : Type 0} (p : A → Bool) (P : A → Type 0) (xs : List A) → All P xs → All (λ x. (p x ≡ true) × P x) (filter p xs)
@@ -45,29 +45,27 @@ not-true : (b : Bool) → not b ≡ true → b ≡ false
 not-true true e = absurd (cc)
 not-true false e = refl
 
-module _ (arities : List ℕ) (has : List ℕ → SourceFootprint → Type 0) (live : List ℕ → Bool) where
+module _ {K : Type 0} (arities : List ℕ) (has : List ℕ → K × Used → Type 0) (live : List ℕ → Bool) where
   -- the footprints, with one for each of more configurations, but for no further one that is not
   -- live
   record Filled (voids : List (List ℕ)) (count : ℕ) : Type 0 where
-    all : HasFootprints arities has (length voids + count)
+    all : HasFootprints (IsConfig arities) has (length voids + count)
     others : (c : List ℕ) → live c ≡ false → All (λ v. c ≡ v → ⊥) voids → All (λ p. c ≡ p.0 → ⊥) all.footprints
 
   -- the configuration has any footprint
   record IsVoid (c : List ℕ) : Type 0 where
     dead : live c ≡ false
     listed : IsConfig arities c
-    each : (f : SourceFootprint) → has c f
+    each : (f : K × Used) → has c f
 
-  filled : {count : ℕ} → HasFootprints arities (λ c f. (live c ≡ true) × has c f) count → (voids : List (List ℕ)) → All IsVoid voids → AllPairs (λ c d. c ≡ d → ⊥) voids → Filled voids count
+  filled : {count : ℕ} → HasFootprints (IsConfig arities) (λ c f. (live c ≡ true) × has c f) count → (voids : List (List ℕ)) → All IsVoid voids → AllPairs (λ c d. c ≡ d → ⊥) voids → Filled voids count
   filled h [] each apart = record {
     all = record {
-      chain = h.chain;
-      place = h.place;
+      at = h.at;
       footprints = h.footprints;
       many = omega (arith, h.many);
       listed = h.listed;
       each = λ k d within. (h.each k d within).1;
-      here = h.here;
       apart = h.apart;
     };
     others = λ c dead none. λ k d within e. true≢false (sym (h.each k d within).0 ∙ (ap live (sym e) ∙ dead));
@@ -77,18 +75,16 @@ module _ (arities : List ℕ) (has : List ℕ → SourceFootprint → Type 0) (l
       let it = All-head IsVoid v vs each in
       let ps = rest.all.footprints in
       let more = definition_count ps in
-      let f : SourceFootprint = record { chain = rest.all.chain; place = rest.all.place; tokens = []; definitions = replicate (more + 1) ([], None) } in
+      let f : Used = used_as [] (replicate (more + 1) ([], None)) in
       let other = rest.others v it.dead (pairs-head (λ c d. c ≡ d → ⊥) v vs apart) in
       let fresh = none-like f ps (omega (arith, length-replicate {A = List ℕ × Option Definition} (more + 1) ([], None))) in
       record {
         all = record {
-          chain = rest.all.chain;
-          place = rest.all.place;
+          at = rest.all.at;
           footprints = (v, f) ∷ ps;
           many = omega (arith, rest.all.many);
           listed = All-cons (λ p. IsConfig arities p.0) (v, f) ps it.listed rest.all.listed;
-          each = All-cons (λ p. has p.0 p.1) (v, f) ps (it.each f) rest.all.each;
-          here = All-cons (λ p. (p.1.chain ≡ rest.all.chain) × (p.1.place ≡ rest.all.place)) (v, f) ps (refl, refl) rest.all.here;
+          each = All-cons (λ p. has p.0 (rest.all.at, p.1)) (v, f) ps (it.each (rest.all.at, f)) rest.all.each;
           apart = AllPairs-cons (λ p q. (p.0 ≡ q.0 → ⊥) × (p.1 ≡ q.1 → ⊥)) (v, f) ps (λ k d within. (other k d within, fresh k d within)) rest.all.apart;
         };
         others = λ c dead none. All-cons (λ p. c ≡ p.0 → ⊥) (v, f) ps (All-head (λ u. c ≡ u → ⊥) v vs none) (rest.others c dead (All-tail (λ u. c ≡ u → ⊥) v vs none));
@@ -96,9 +92,9 @@ module _ (arities : List ℕ) (has : List ℕ → SourceFootprint → Type 0) (l
 
   -- Where a configuration that is not live has any footprint, those with different lists have
   -- different footprints, if the live ones among them do.
-  pub void-footprints : (test : List ℕ → Bool) (list : List ℕ → List ℕ) (count : ℕ) → ((c : List ℕ) → IsConfig arities c → test c ≡ true → live c ≡ false → (f : SourceFootprint) → has c f)
-      → ((n : ℕ) → HaveLists arities (λ c. test c && live c) list n → HasFootprints arities (λ c f. (live c ≡ true) × has c f) n)
-      → HaveLists arities test list count → HasFootprints arities has count
+  pub void-footprints : (test : List ℕ → Bool) (list : List ℕ → List ℕ) (count : ℕ) → ((c : List ℕ) → IsConfig arities c → test c ≡ true → live c ≡ false → (f : K × Used) → has c f)
+      → ((n : ℕ) → HaveLists arities (λ c. test c && live c) list n → HasFootprints (IsConfig arities) (λ c f. (live c ≡ true) × has c f) n)
+      → HaveLists arities test list count → HasFootprints (IsConfig arities) has count
   void-footprints test list count void footprints h =
       let Listed : List ℕ → Type 0 = λ c. IsConfig arities c × (test c ≡ true) in
       let Apart : List ℕ → List ℕ → Type 0 = λ c d. list c ≡ list d → ⊥ in
@@ -118,12 +114,10 @@ module _ (arities : List ℕ) (has : List ℕ → SourceFootprint → Type 0) (l
       (λ k d within. let x = dead k d within in let off = not-true (live (get_or voids k d)) x.0 in record { dead = off; listed = x.1.0; each = void (get_or voids k d) x.1.0 x.1.1 off })
       (λ i j d low within e. AllPairs-filter Apart (λ c. not (live c)) h.configs h.apart i j d low within (ap list e)) in
       record {
-        chain = all.all.chain;
-        place = all.all.place;
+        at = all.all.at;
         footprints = all.all.footprints;
         many = omega (arith, all.all.many, h.many, parts-long live h.configs);
         listed = all.all.listed;
         each = all.all.each;
-        here = all.all.here;
         apart = all.all.apart;
       }

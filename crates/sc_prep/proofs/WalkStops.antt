@@ -150,7 +150,7 @@ hash-at names files [] is = absurd (cc)
 hash-at names files (t ∷ ts) is = (_, refl)
 
 included-stops : {A : Type 0} {arities other : List ℕ} {P : List ℕ → SourceFootprint → Type 0} (Q : List ℕ → SourceFootprint → Type 0) (limit : ℕ) (r : Result A Stop) (place : Place) → other ≡ arities
-    → ((c : List ℕ) (f : SourceFootprint) → IsConfig arities c → P c f → Q c (included_at place f)) → IfErr r (StopsAtPlace other P limit) → IfErr r (StopsAtPlace arities Q limit)
+    → ((c : List ℕ) (f : SourceFootprint) → IsConfig arities c → P c f → Q c (included_at place f.0, f.1)) → IfErr r (StopsAtPlace other P limit) → IfErr r (StopsAtPlace arities Q limit)
 included-stops Q limit (Ok x) place same to h = tt
 included-stops {P = P} Q limit (Err (BranchesFull count)) place same to h = footprints-included place to (subst (λ a. StopsAtPlace a P limit (BranchesFull count)) same h)
 included-stops Q limit (Err ReadFault) place same to h = tt

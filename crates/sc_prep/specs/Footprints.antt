@@ -44,12 +44,15 @@ Comes s names files walk from comes config f = (m : Machine) → Simulates s nam
 abbrev pub any_machine : Machine → Type 0
 any_machine m = Unit {0}
 
--- More configurations than the limit have a footprint each at one name, or at one line, and no two
--- of these are the same.
-abbrev pub StopsAtPlace : List ℕ → (List ℕ → SourceFootprint → Type 0) → ℕ → Stop → Type 0
-StopsAtPlace arities has limit (BranchesFull count) = HasFootprints arities has (limit + 1)
-StopsAtPlace arities has limit ReadFault = Unit {0}
-StopsAtPlace arities has limit OutOfMemory = Unit {0}
+-- More of the listed configurations than the limit have something each at one place, no two the
+-- same.
+abbrev pub StopsAmong : {K V : Type 0} → (List ℕ → Type 0) → (List ℕ → K × V → Type 0) → ℕ → Stop → Type 0
+StopsAmong is_listed has limit (BranchesFull count) = HasFootprints is_listed has (limit + 1)
+StopsAmong is_listed has limit ReadFault = Unit {0}
+StopsAmong is_listed has limit OutOfMemory = Unit {0}
+
+abbrev pub StopsAtPlace : {K V : Type 0} → List ℕ → (List ℕ → K × V → Type 0) → ℕ → Stop → Type 0
+StopsAtPlace arities = StopsAmong (IsConfig arities)
 
 -- at least so many configurations of a test of which no two have equal lists
 pub record HaveLists (arities : List ℕ) (test : List ℕ → Bool) (list : List ℕ → List ℕ) (count : ℕ) : Type 0 where

@@ -10,7 +10,7 @@ ghost use Rattle.sc_base.specs.Seen.{IsHeld, seen};
 ghost use Rattle.sc_guarded.specs.Items.{items_at};
 ghost use Rattle.sc_lines.specs.Nests.{seen_line};
 ghost use Rattle.sc_model.specs.Growth.{Extends};
-ghost use Rattle.sc_model.specs.Sets.{IsCond, Keeps};
+ghost use Rattle.sc_model.specs.Sets.{IsCond, IsConfig, Keeps};
 ghost use Rattle.sc_hoist.specs.Places.{places_at};
 ghost use Rattle.sc_prep.specs.Apart.{StandApart};
 ghost use Rattle.sc_prep.specs.Footprints.{Comes, HaveLists, StopsAtPlace, any_machine};
@@ -55,7 +55,7 @@ impl Walk {
         ensures gathered { OnOk result (self.new.gathered ≡ self.old.gathered) }
         ensures lists { IfOk result (λ list. (d : Directive) (count : ℕ) → (seen_line names.old files.now line.now).directive ≡ Some d → is_said d ≡ true → StandApart line.now
             → HaveLists (C.sets conds.old).arities (λ c. (C.sets conds.new).has self.new.acting.0 c) (λ c. places_at (C.sets conds.new) list c) count
-            → HasFootprints (C.sets conds.old).arities (Comes (C.sets conds.old) names.old files.now self.old any_machine (λ config m f. (acts m ≡ true) × DirectiveHas m.state.macros (seen_line names.old files.now line.now) f)) count) }
+            → HasFootprints (IsConfig (C.sets conds.old).arities) (Comes (C.sets conds.old) names.old files.now self.old any_machine (λ config m f. (acts m ≡ true) × DirectiveHas m.state.macros (seen_line names.old files.now line.now) f)) count) }
         ensures footprints { (d : Directive) → (seen_line names.old files.now line.now).directive ≡ Some d → is_said d ≡ true → StandApart line.now → IfErr result (StopsAtPlace (C.sets conds.old).arities
             (Comes (C.sets conds.old) names.old files.now self.old any_machine (λ config m f. (acts m ≡ true) × DirectiveHas m.state.macros (seen_line names.old files.now line.now) f)) limit) }
 

@@ -4,11 +4,11 @@ ghost use Rattle.sc_model.specs.Growth.{Extends};
 ghost use Rattle.sc_model.specs.Outside.{Files as Outside};
 ghost use Rattle.c11_directives.specs.Footprints.{Has};
 ghost use Rattle.sc_model.specs.Sets.{IsConfig, Keeps};
-ghost use Rattle.sc_model.specs.Space.{arities_of};
+ghost use Rattle.sc_model.specs.Space.{IsListed, arities_of};
 ghost use Rattle.sc_space.specs.Seen.{seen_space};
 ghost use Rattle.sc_space.specs.Sound.{IsSound};
 ghost use Rattle.sc_prep.specs.Closes.{has_none};
-ghost use Rattle.sc_prep.specs.Footprints.{StopsAtPlace};
+ghost use Rattle.sc_prep.specs.Footprints.{StopsAmong};
 ghost use Rattle.sc_prep.specs.Preprocesses.{IsPreparedFrom, OwnsList, Stops};
 ghost use Rattle.sc_prep.specs.Printable.{ArePlainPaths, CanBeShown};
 
@@ -43,7 +43,8 @@ pub fn preprocess<C: Conditions, S: Source>(
     ensures owns { IfOk result (OwnsList (C.sets conds.new)) }
     ensures shown { ArePlainPaths files.old → has_no_newline main.now ≡ true → IfOk result (CanBeShown (C.sets conds.new) names.new files.new) }
     ensures stops { IfErr result (Stops (C.sets conds.old).arities (seen_space space.now).branches (S.faults src.old) (S.faults src.new)) }
-    ensures footprints { (outside : Outside) → S.holds src.old ≡ Some outside → IfErr result (StopsAtPlace (C.sets conds.old).arities (Has (seen_space space.now) outside main.now) (seen_space space.now).branches) }
+    ensures footprints { (outside : Outside) → S.holds src.old ≡ Some outside → IfErr result (StopsAmong (IsListed (seen_space space.now))
+        (Has (seen_space space.now) outside main.now) (seen_space space.now).branches) }
 
     // at every outcome
     ensures kept { S.holds src.new ≡ S.holds src.old }
