@@ -50,9 +50,6 @@ module _ {A : Type 0} (R : A → A → Type 0) where
   pub pairs-drop : (n : ℕ) (xs : List A) → AllPairs R xs → AllPairs R (drop n xs)
   pairs-drop n xs pairs = pairs-right (take n xs) (drop n xs) (subst (AllPairs R) (sym (take-append-drop n xs)) pairs)
 
-  pub pairs-take : (n : ℕ) (xs : List A) → AllPairs R xs → AllPairs R (take n xs)
-  pairs-take n xs pairs = pairs-left (take n xs) (drop n xs) (subst (AllPairs R) (sym (take-append-drop n xs)) pairs)
-
   module _ {B : Type 0} (f : B → A) where
     pub pairs-map : (xs : List B) → AllPairs (λ x y. R (f x) (f y)) xs → AllPairs R (map f xs)
     pairs-map [] pairs = λ i j d low below. absurd (omega (arith, below))
@@ -81,12 +78,6 @@ apart-without xs ys zs apart = pairs-without IsApart xs ys zs apart
 
 pub apart-drop : (n : ℕ) (xs : List Token) → StandApart xs → StandApart (drop n xs)
 apart-drop n xs apart = pairs-drop IsApart n xs apart
-
-pub apart-take : (n : ℕ) (xs : List Token) → StandApart xs → StandApart (take n xs)
-apart-take n xs apart = pairs-take IsApart n xs apart
-
-pub apart-slice : (xs : List Token) (from to : ℕ) → StandApart xs → StandApart (slice_range xs from to)
-apart-slice xs from to apart = apart-take (to - from) (drop from xs) (apart-drop from xs apart)
 
 pub different : (names files : List (List ℕ)) (list : List (Cond × Token)) → StandApart (tokens_in list) → AreDifferent names files list
 different names files list apart = λ i j d low below same.

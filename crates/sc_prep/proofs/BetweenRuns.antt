@@ -58,9 +58,6 @@ pub closing-between : (m : Machine) (r : Result (List Token) Fault) → IsBetwee
 closing-between m (Ok output) acting = ap (λ b. (if b then put_out m.state output else m.state).run) acting
 closing-between m (Err fault) acting = absurd (refused-acts m.active m.fault fault acting)
 
-pub closed-between : {m n : Machine} → Closed m n → IsBetweenRuns n
-closed-between {m} was = subst IsBetweenRuns (sym was.is) (closing-between m was.answer)
-
 pub arriving-between : (m : Machine) (r : Result State Fault) → (acts m ≡ true → LeavesNoRun r) → IsBetweenRuns (arriving m r)
 arriving-between m (Ok s) leaves acting = ap (λ b. (if b then s else m.state).run) acting ∙ leaves acting
 arriving-between m (Err fault) leaves acting = absurd (refused-acts m.active m.fault fault acting)

@@ -194,9 +194,6 @@ same_or i j = elim (cases_order i j) [
 
 module _ {names more files : List (List ℕ)} {holds : Option Files} {old : Contents} (new : Contents) (grows : Extends names more) (are : AreContents names files holds old)
     (file : FileId) (c : Option Content) (kept : IsKept old.readings.items file.0 c new.readings.items) where
-  pub keeps-kept : content_at old file.0 ≡ None → KeepsContents old new
-  keeps-kept fresh = record { each = λ i x at. kept.others i (λ is. let no : None ≡ Some x = sym fresh ∙ (ap (content_at old) (sym is) ∙ at) in cc) ∙ at }
-
   module _ (name : List ℕ) (named : slice_get files file.0 ≡ Some name) (has : IsReading more files holds file c) where
     -- what holds of the new reading and of each other one holds of all
     each-kept : (P : ℕ → Option Content → Type 0) → P file.0 c → ((i : ℕ) (x : Option Content) → content_at old i ≡ Some x → (i ≡ file.0 → ⊥) → P i x)
@@ -234,18 +231,6 @@ module _ {names more files : List (List ℕ)} {holds : Option Files} {old : Cont
         }
 
 -- ---- the list of readings
-
-push-unread : (xs : List Reading) (i : ℕ) → option_and_then known (slice_get (xs ++ reading.Unread ∷ []) i) ≡ option_and_then known (slice_get xs i)
-push-unread [] zero = refl
-push-unread [] (suc i) = refl
-push-unread (x ∷ xs) zero = refl
-push-unread (x ∷ xs) (suc i) = push-unread xs i
-
-pub reads-refl : (xs : List Reading) → ReadsSame xs xs
-reads-refl xs = record { each = λ i. refl }
-
-pub reads-push : {old now : List Reading} → ReadsSame old now → ReadsSame old (now ++ reading.Unread ∷ [])
-reads-push {old} {now} same = record { each = λ i. push-unread now i ∙ same.each i }
 
 set-here : (xs : List Reading) (i : ℕ) (r : Reading) → i < length xs → slice_get (slice_set xs i r) i ≡ Some r
 set-here [] i r within = absurd (omega (arith, within))

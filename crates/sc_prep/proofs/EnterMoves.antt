@@ -24,14 +24,6 @@ use Rattle.sc_prep.specs.declared.entering.Around.{Around}
 use Rattle.sc_prep.specs.declared.walk.Walk.{Walk}
 use Rattle.sc_table.specs.Table.{IsTable}
 
--- a machine that does something has no fault, and takes the lines
-pub acts-active : (m : Machine) → acts m ≡ true → m.active ≡ true
-acts-active m e = by m.active m.fault e
-  where
-    by : (a : Bool) (f : Option Fault) → (a && is_none f) ≡ true → a ≡ true
-    by true f e = refl
-    by false f e = e
-
 pub acts-unfaulty : (m : Machine) → acts m ≡ true → m.fault ≡ None
 acts-unfaulty m e = by m.active m.fault e
   where
@@ -55,10 +47,6 @@ resumed m n run = record n { active = m.active; sections = m.sections; state = r
 -- before the first line of the file
 module _ (s : Sets) (names files : List (List ℕ)) (w next : Walk) (within : Cond) (around : Around) (config : List ℕ) (m : Machine)
     (begins : Begins w within next around) (at : Simulates s names files w config m) where
-  -- the walk that begins
-  begun : Walk
-  begun = record w { group = within; acting = within; sections = next.sections; gathered = [] }
-
   none-open : map (section_at s config) (reverse next.sections.items) ≡ []
   none-open = ap (λ xs. map (section_at s config) (reverse xs)) begins.sections
 

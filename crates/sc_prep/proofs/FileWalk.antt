@@ -67,11 +67,3 @@ covers-inert {x} {group = group} m tree e covers =
 
 pub covers-idle : {x : Context} {lines : List Line} {group : Group} (m : Machine) {n : Machine} → IsTree lines group → m.active ≡ false → Covers x lines m n → n ≡ m
 covers-idle m tree inactive covers = covers-inert m tree (ap (λ a. a && is_none m.fault) inactive) covers
-
--- there is such a run
-pub inert-covers : {x : Context} {lines : List Line} {group : Group} (m : Machine) → IsTree lines group → acts m ≡ false → Covers x lines m m
-inert-covers {x} {group = group} m tree e = record {
-  end = m;
-  runs = subst (λ ls. Runs x m ls m) tree.whole (inert_run group tree.grouped m e);
-  closed = record { answer = Ok []; expands = λ here. let both = sym e ∙ here in cc; is = sym (inert_closing m (Ok []) e) };
-}

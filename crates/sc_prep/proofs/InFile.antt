@@ -176,7 +176,3 @@ top-is-in (idles inactive none) ran here =
     let idle = runs-idle (record { active = inactive; sections = subst (Every (λ s. s ≡ (false, false))) (sym none) tt }) ran in
     let both = sym (idle-inert idle) ∙ here in
     cc
-
--- the line leaves the machine in its file
-pub takes-is-in : {x : Context} {files : List (List ℕ)} {entry : Entry} {m n : Machine} {l : Line} → IsInside files entry m.state → Takes x m l n → IsIn files entry n
-takes-is-in inside taking here = inside-as (takes-stays taking) inside

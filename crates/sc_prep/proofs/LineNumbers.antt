@@ -47,13 +47,6 @@ module _ (bs : List ℕ) (n i : ℕ) where
             ∙ (behind_digit n b rest digit ∙ ap (λ d. number_behind Decimal (n * 10 + d) rest) (value_is b digit)));
       }
 
-  -- another byte stands there
-  pub other-read : i < length bs → is_digit (get_or bs i 0) ≡ false → IsRead bs n (drop i bs) → is_line_number bs ≡ false
-  other-read within other read =
-      let rest : List ℕ = drop (i + 1) bs in
-      ap (λ t. t && (nat_le 1 (number_of Decimal bs) && nat_le (number_of Decimal bs) greatest_line))
-      (read.digits ∙ (ap (list_all is_digit) (drop_more bs i 0 within) ∙ ap (λ t. t && list_all is_digit rest) other))
-
   -- nothing is left
   pub all-read : length bs ≤ i → n ≤ greatest_line → IsRead bs n (drop i bs) → is_line_number bs ≡ nat_le 1 n
   all-read end small read =

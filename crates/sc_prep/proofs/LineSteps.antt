@@ -58,19 +58,6 @@ module _ {names more : List (List ℕ)} (files : List (List ℕ)) (grows : Exten
 pub directive-grown : {names more : List (List ℕ)} → Extends names more → (line : List Token) → All (IsHeld names) line → directive_at more line ≡ directive_at names line
 directive-grown grows line held = ap (directive_of c11_directive_names) (tokens-grown [] grows line held)
 
--- nothing is kept yet
-pub none-held : (names : List (List ℕ)) (files : ℕ) (test : Token → Bool) (w : Walk) → w.gathered ≡ [] → w.prepared.list ≡ [] → w.prepared.faults.items ≡ [] → IsHeldWalk names files test w
-none-held names files test w no_text no_list no_faults =
-    let P : Cond × Token → Type 0 = λ item. IsPlaced names files item.1 in
-    let Q : Cond × Token → Type 0 = λ item. test item.1 ≡ true in
-    let F : base.Fault → Type 0 = λ f. f.place.file.0 < files in
-    record {
-      gathered = subst (All P) (sym no_text) (All-nil P);
-      list = subst (All P) (sym no_list) (All-nil P);
-      passed = subst (All Q) (sym no_list) (All-nil Q);
-      faults = subst (All F) (sym no_faults) (All-nil F);
-    }
-
 -- the tokens of a line are of its file
 pub line-of_file : (P : Token → Type 0) (tokens : List Token) (line : declared.Line) → All P tokens → All P (tokens_of tokens line)
 line-of_file P tokens line all = All-take P (line.end - line.first) (drop line.first tokens) (All-drop P line.first tokens all)

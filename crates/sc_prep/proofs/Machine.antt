@@ -261,10 +261,6 @@ and_false true true n e = e
 and_false true false n e = refl
 and_false false t n e = refl
 
-pub and_false_right : (a n : Bool) → n ≡ false → (a && n) ≡ false
-and_false_right true n e = e
-and_false_right false n e = refl
-
 -- The expression of an #elif isn't evaluated whose section took a branch, or that follows a fault.
 pub elif_unasked : (m : Machine) (a u : Bool) (ss : List (Bool × Bool)) → m.sections ≡ (a, u) ∷ ss → (u && is_none m.fault) ≡ false → asks_by m (Some Elif) ≡ false
 elif_unasked m a u ss s e = ap (λ k. acts (next_branch m true k)) s ∙ e
@@ -333,54 +329,6 @@ mutual
       (runs-join (group_lines g) (inert_run g w.1 turn refl) (inert_branches_run bs w.2 a u ss turn refl e))
 
 -- ---- after a fault no line changes the state or the fault
-
-abbrev pub outcome : Machine → State × Option Fault
-outcome m = (m.state, m.fault)
-
-refusing_same : (m : Machine) (l : Line) → is_none m.fault ≡ false → outcome (refusing m l BadDirective) ≡ outcome m
-refusing_same m l e = ap outcome (inert_refusing m l BadDirective (and_false_right m.active (is_none m.fault) e))
-
-opened_by_name_same : (m : Machine) (l : Line) (test : List ℕ → Bool) (operand : Option (List ℕ)) → is_none m.fault ≡ false → outcome (opened_by_name m l test operand) ≡ outcome m
-opened_by_name_same m l test None e = refusing_same m l e
-opened_by_name_same m l test (Some name) e = refl
-
-next_branch_same : (m : Machine) (test : Bool) (ss : List (Bool × Bool)) → outcome (next_branch m test ss) ≡ outcome m
-next_branch_same m test [] = refl
-next_branch_same m true (s ∷ ss) = refl
-next_branch_same m false (s ∷ ss) = refl
-
-ended_same : (m : Machine) (ss : List (Bool × Bool)) → outcome (ended m ss) ≡ outcome m
-ended_same m [] = refl
-ended_same m (s ∷ ss) = refl
-
-step_same : (m : Machine) (l : Line) (c : Option Conditional) → is_none m.fault ≡ false → outcome (step_by m l (Ok false) c) ≡ outcome m
-step_same m l None e = ap outcome (inert_plain m l (and_false_right m.active (is_none m.fault) e))
-step_same m l (Some If) e = refl
-step_same m l (Some Ifdef) e = opened_by_name_same m l (is_taken m.state.macros true) (operand_of l) e
-step_same m l (Some Ifndef) e = opened_by_name_same m l (is_taken m.state.macros false) (operand_of l) e
-step_same m l (Some Elif) e = next_branch_same m false m.sections
-step_same m l (Some Else) e = next_branch_same m true m.sections
-step_same m l (Some Endif) e = ended_same m m.sections
-
--- after a fault no expression is evaluated
-pub fault_unasked : (m : Machine) (c : Option Conditional) → is_none m.fault ≡ false → asks_by m c ≡ false
-fault_unasked m None e = refl
-fault_unasked m (Some If) e = and_false_right m.active (is_none m.fault) e
-fault_unasked m (Some Ifdef) e = refl
-fault_unasked m (Some Ifndef) e = refl
-fault_unasked m (Some Elif) e =
-    let next = next_branch m true m.sections in
-    and_false_right next.active (is_none next.fault) (ap (λ o. is_none o.1) (next_branch_same m true m.sections) ∙ e)
-fault_unasked m (Some Else) e = refl
-fault_unasked m (Some Endif) e = refl
-
--- a machine after the lines, where the first has a fault
-pub run_on : {x : Context} (ls : List Line) (m : Machine) → is_none m.fault ≡ false → (n : Machine) × Runs x m ls n × (outcome n ≡ outcome m)
-run_on [] m e = (m, machine.no_line, refl)
-run_on (l ∷ ls) m e =
-    let first = step_same m l (conditional_of l) e in
-    let rest = run_on ls (step m l (Ok false)) (ap (λ o. is_none o.1) first ∙ e) in
-    (rest.0, machine.line (inert_taken m l (and_false_right m.active (is_none m.fault) e) (fault_unasked m (conditional_of l) e)) rest.1, rest.2 ∙ first)
 
 -- ---- the machine goes as the walk does
 

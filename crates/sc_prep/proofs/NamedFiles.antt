@@ -412,11 +412,6 @@ has-hash texts files (t ∷ ts) long = (seen texts files t, refl)
 
 -- ---- why there is no answer
 
-pub stops-as : (arities : List ℕ) (limit old new : ℕ) (s : Stop) → StopsBy arities limit s → Stops arities limit old new s
-stops-as arities limit old new (BranchesFull count) is = is
-stops-as arities limit old new ReadFault is = absurd is
-stops-as arities limit old new OutOfMemory is = tt
-
 pub reading-stops : (arities : List ℕ) (limit old new : ℕ) (s : Stop) → ReadsNothing old new s → Stops arities limit old new s
 reading-stops arities limit old new (BranchesFull count) is = absurd is
 reading-stops arities limit old new ReadFault is = is

@@ -32,7 +32,3 @@ date-plain (b ∷ bs) all =
 
 pub initial-plain : (space : Space) (config : List ℕ) → list_all is_date_byte space.date ≡ true → list_all is_date_byte space.time ≡ true → AreOneLine (initial_macros space config)
 initial-plain space config date time = initial-one_line space config (date-plain space.date date) (date-plain space.time time)
-
--- macros that define each name as these do
-pub plain-as : (one two : Macros) → ((name : List ℕ) → one name ≡ two name) → AreOneLine one → AreOneLine two
-plain-as one two same lists = record { each = λ name d found. lists.each name d (same name ∙ found) }

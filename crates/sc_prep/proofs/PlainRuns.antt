@@ -206,11 +206,3 @@ pub in-more : {files more : List (List ℕ)} {entry : Entry} (m : Machine) → E
 in-more {files} {entry = entry} m grows is here =
     let inside = is here in
     record { name = grows.kept entry.file.0 (slice_get_within files entry.file.0 _ inside.name) ∙ inside.name; deep = inside.deep }
-
--- after so many lines of a file
-pub each-runs : {x : Context} {old new : Sets} {names files more more_files : List (List ℕ)} {walk next : Walk} {entry : Entry} (lines : List Line) → ArePlainPaths x.include
-    → Every (λ (l : Line). Every IsPlainToken l.tokens) lines → Keeps old new → Extends files more_files
-    → Leads files names old walk more_files more new next (IsAtTop files entry) (λ config m n. Runs x m lines n)
-    → PlainEach old names files walk (IsAtTop files entry) → PlainEach new more more_files next (IsIn more_files entry)
-each-runs lines directories all keeps grows leads plain =
-    each-leads keeps leads (λ config m n ran top plain_there. (in-more n grows (top-is-in top ran), runs-plain directories ran plain_there all)) plain
