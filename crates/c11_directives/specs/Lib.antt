@@ -2,4 +2,5 @@ pub mod Behind
 pub mod Footprints
 pub mod Lines
 pub mod Pre
+pub mod Reaches
 pub mod Sections

@@ -6,9 +6,10 @@ use Rattle.std.specs.Prelude.{IfErr, IfOk, is_none}
 use Rattle.c11_directives.specs.Behind.{begins_with_header, behind_name}
 use Rattle.c11_directives.specs.declared.directive.Conditional.TheVariants.{If, Elif}
 use Rattle.c11_directives.specs.declared.directive.Directive.{Directive}
-use Rattle.c11_directives.specs.Footprints.{DirectiveHas, HasFootprints, NameHas, SourceFootprint, TextHas, expression, footprint_at, of_directive, of_header, of_line, of_name, of_run, said}
+use Rattle.c11_directives.specs.Footprints.{DirectiveHas, HasFootprints, MomentsHave, NameHas, TextHas, Used, expression, footprint_at, of_head, of_header, of_line, of_name, said}
 use Rattle.c11_directives.specs.Lines.{Line, conditional_of, hash_of}
-use Rattle.c11_directives.specs.Pre.{Context, closed, is_barrier, is_said, put_out}
+use Rattle.c11_directives.specs.Pre.{Context, is_barrier, is_said}
+use Rattle.c11_directives.specs.Reaches.{at_head}
 use Rattle.c11_expressions.specs.Lines.{without_defined}
 use Rattle.c11_macros.specs.Text.{TextExpands, unhidden}
 use Rattle.sc_base.specs.declared.id.Cond.{Cond}
@@ -32,16 +33,17 @@ use Rattle.sc_model.specs.Token.{Place, Token}
 use Rattle.sc_prep.specs.Apart.{AreDifferent, StandApart, tokens_in}
 use Rattle.sc_prep.specs.declared.walk.Walk.{Walk}
 use Rattle.sc_prep.specs.Expressions.{ExpandsAt, ReplacesAt, expanding_done, expanding_fails, expanding_idle, replacing_done, replacing_fails, replacing_idle}
-use Rattle.sc_prep.specs.Footprints.{Comes, ComesAt, HaveLists, StopsAtPlace, StopsByLists, any_machine, decides, does}
-use Rattle.sc_prep.specs.Machine.{Machine, RunExpands, acts, asks_by, closing_run, next_branch}
+use Rattle.sc_prep.specs.Footprints.{Comes, ComesAt, HaveLists, StopsAtPlace, StopsByLists, StopsWalk, any_machine, decides}
+use Rattle.sc_prep.specs.Machine.{Machine, acts, asks_by, next_branch}
 use Rattle.sc_prep.specs.Simulates.{Closed, Owns, Simulates, SimulatesOneOf}
 use Rattle.sc_prep.proofs.ApartLemmas.{apart-drop, different}
 use Rattle.sc_prep.proofs.ExpressionMoves.{asked-at, right-none}
+use Rattle.sc_prep.proofs.FileStops.{comes-closing, comes-said}
 use Rattle.sc_prep.proofs.LineFootprints.{headers-footprints, lists-footprints}
 use Rattle.sc_prep.proofs.LineSteps.{line-grown}
 use Rattle.sc_prep.proofs.NameFootprints.{text-as}
 use Rattle.sc_prep.proofs.SaidMoves.{text-at}
-use Rattle.sc_prep.proofs.Stopping.{answer-stops, footprints-as, stops-as}
+use Rattle.sc_prep.proofs.Stopping.{answer-stops, footprints-as, here_at, stops-as}
 use Rattle.sc_prep.proofs.VoidFootprints.{void-footprints}
 use Rattle.sc_prep.proofs.WalkMoves.{simulates-kept}
 use Rattle.sc_table.specs.Table.{IsTable, macros_at}
@@ -100,7 +102,7 @@ module _ (files names : List (List ℕ)) {old s : Sets} (keeps : Keeps old s) (w
       let done = replaced-done (and_from (s.has live.0 c) (is_none m.fault) has clean) (right-none true a.machine.fault on.1) a.done in
       record { simulates = subst (Simulates s1 names1 files w1 c) done.0 a.simulates; asked = asked; text = done.1 }
 
-  abbrev Found : List ℕ → SourceFootprint → Type 0
+  abbrev Found : List ℕ → Place × Used → Type 0
   Found = Comes old names files w any_machine (λ c m f. ((old.has among.0 c && is_none m.fault) ≡ true) × DirectiveHas m.state.macros l f)
 
   -- a name of what is left
@@ -108,7 +110,7 @@ module _ (files names : List (List ℕ)) {old s : Sets} (keeps : Keeps old s) (w
       → StopsAtPlace s1.arities (Comes s1 names1 files w1 any_machine (λ c m f. ((s1.has live.0 c && is_none m.fault) ≡ true) × NameHas m.state.macros (text_at c) f)) limit stop
       → StopsAtPlace old.arities Found limit stop
   name-stops limit stop stops =
-      stops-as limit stop
+      stops-as (λ at. at) _ limit stop
       (λ c f listed has. λ m simulates _.
       let a = replaced-before c m listed simulates (λ n at. (has n at tt).0) in
       (a.asked, of_name (text_at c) (expression (text_at c) conditional a.text) (has m a.simulates tt).1))
@@ -131,7 +133,7 @@ module _ (files names : List (List ℕ)) {old s : Sets} (keeps : Keeps old s) (w
     behind c = s2.has live.0 c && s2.has w2.prepared.live.0 c
 
     -- a machine that was not refused behind the expansion was not before it
-    void : (c : List ℕ) → IsConfig old.arities c → behind c ≡ true → before c ≡ false → (f : SourceFootprint) → Found c f
+    void : (c : List ℕ) → IsConfig old.arities c → behind c ≡ true → before c ≡ false → (f : Place × Used) → Found c f
     void c listed on off f = λ m simulates _.
         let now = IsConfig-Keeps keeps listed in
         let now1 = IsConfig-Keeps k1 now in
@@ -144,7 +146,7 @@ module _ (files names : List (List ℕ)) {old s : Sets} (keeps : Keeps old s) (w
         let lives = a.simulates.prepared.live ∙ ap is_none (ap (λ (n : Machine). n.fault) (sym same) ∙ clean) in
         absurd (true≢false (sym (and_from (s1.has live.0 c) (s1.has w1.prepared.live.0 c) has lives) ∙ off))
 
-    text-found : (c : List ℕ) (f : SourceFootprint) → IsConfig old.arities c → before c ≡ true → TextHas (macros_at s1 names1 w1.table c) (text_at c) hash.place f → Found c f
+    text-found : (c : List ℕ) (f : Place × Used) → IsConfig old.arities c → before c ≡ true → TextHas (macros_at s1 names1 w1.table c) (text_at c) hash.place f → Found c f
     text-found c f listed on has = λ m simulates _.
         let parts = and_parts (s1.has live.0 c) (s1.has w1.prepared.live.0 c) on in
         let a = replaced-before c m listed simulates (λ n at. and_from (s1.has live.0 c) (is_none n.fault) parts.0 (sym at.prepared.live ∙ parts.1)) in
@@ -155,7 +157,7 @@ module _ (files names : List (List ℕ)) {old s : Sets} (keeps : Keeps old s) (w
     texts-found count lists =
         subst (λ a. HasFootprints (IsConfig a) Found count) first
         (void-footprints s1.arities Found before behind (λ c. places_at s2 made c) count (λ c listed. void c (subst (λ a. IsConfig a c) first listed))
-        (λ n h. footprints-as (λ c f listed has. let on = (and_parts (behind c) (before c) has.0).1 in (on, text-found c f (subst (λ a. IsConfig a c) first listed) on has.1))
+        (λ n h. footprints-as (λ at. at) (λ c f listed has. let on = (and_parts (behind c) (before c) has.0).1 in (on, text-found c f (subst (λ a. IsConfig a c) first listed) on has.1))
         (lists-footprints s1 s2 names1 files (macros_at s1 names1 w1.table) list made (λ c. behind c && before c) hash.place n k2 own_list own_made different
         (λ c d here there one other. alike c d here there (and_parts (behind c) (before c) one).1 (and_parts (behind d) (before d) other).1)
         (λ c here one. answers c here (and_parts (behind c) (before c) one).1) h))
@@ -169,20 +171,23 @@ module _ (files names : List (List ℕ)) {old s : Sets} (keeps : Keeps old s) (w
 
 -- ---- a line that begins or goes on with a section
 
+comes-deciding : {x : Context} {l : Line} {m : Machine} {f : Place × Used} → asks_by m (conditional_of l) ≡ true → DirectiveHas m.state.macros l f → MomentsHave (ComesAt x m l) (here_at f.0, f.1)
+comes-deciding {l = l} {m} asks has = record { moment = at_head l m.state; comes = decides asks; has = of_head has }
+
 pub if-stops : (s : Sets) (names files : List (List ℕ)) (w : Walk) (x : Context) (l : Line) → conditional_of l ≡ Some If → (limit : ℕ) (stop : Stop)
     → StopsAtPlace s.arities (Comes s names files w any_machine (λ c m f. ((s.has w.acting.0 c && is_none m.fault) ≡ true) × DirectiveHas m.state.macros l f)) limit stop
-    → StopsAtPlace s.arities (Comes s names files w any_machine (λ c m f. ComesAt x m l f)) limit stop
-if-stops s names files w x l named limit stop = stops-as limit stop (λ c f listed has. λ m simulates _.
+    → StopsAtPlace s.arities (Comes s names files w any_machine (λ c m. MomentsHave (ComesAt x m l))) limit stop
+if-stops s names files w x l named limit stop = stops-as here_at _ limit stop (λ c f listed has. λ m simulates _.
     let it = has m simulates tt in
-    decides (ap (asks_by m) named ∙ (sym simulates.acting ∙ (and_parts (s.has w.acting.0 c) (is_none m.fault) it.0).0)) it.1)
+    comes-deciding (ap (asks_by m) named ∙ (sym simulates.acting ∙ (and_parts (s.has w.acting.0 c) (is_none m.fault) it.0).0)) it.1)
 
 pub elif-stops : (s : Sets) (names files : List (List ℕ)) (w : Walk) (x : Context) (l : Line) → conditional_of l ≡ Some Elif → (among : Cond)
     → ((c : List ℕ) (m : Machine) → Simulates s names files w c m → (s.has among.0 c && is_none m.fault) ≡ acts (next_branch m true m.sections)) → (limit : ℕ) (stop : Stop)
     → StopsAtPlace s.arities (Comes s names files w any_machine (λ c m f. ((s.has among.0 c && is_none m.fault) ≡ true) × DirectiveHas m.state.macros l f)) limit stop
-    → StopsAtPlace s.arities (Comes s names files w any_machine (λ c m f. ComesAt x m l f)) limit stop
-elif-stops s names files w x l named among asked limit stop = stops-as limit stop (λ c f listed has. λ m simulates _.
+    → StopsAtPlace s.arities (Comes s names files w any_machine (λ c m. MomentsHave (ComesAt x m l))) limit stop
+elif-stops s names files w x l named among asked limit stop = stops-as here_at _ limit stop (λ c f listed has. λ m simulates _.
     let it = has m simulates tt in
-    decides (ap (asks_by m) named ∙ (sym (asked c m simulates) ∙ it.0)) it.1)
+    comes-deciding (ap (asks_by m) named ∙ (sym (asked c m simulates) ∙ it.0)) it.1)
 
 -- ---- what a line says
 
@@ -205,7 +210,7 @@ module _ (names files : List (List ℕ)) (s : Sets) (w : Walk) (line : List base
   abbrev this : Line
   this = seen_line names files line
 
-  abbrev Said : List ℕ → SourceFootprint → Type 0
+  abbrev Said : List ℕ → Place × Used → Type 0
   Said = Comes s names files w any_machine (λ c m f. (acts m ≡ true) × DirectiveHas m.state.macros this f)
 
   abbrev behind_at : List ℕ → List Token
@@ -219,7 +224,7 @@ module _ (names files : List (List ℕ)) (s : Sets) (w : Walk) (line : List base
   pub name-said-stops : begins_with_header (behind_name this) ≡ false → (limit : ℕ) (stop : Stop)
       → StopsAtPlace s.arities (Comes s names files w any_machine (λ c m f. ((s.has w.acting.0 c && is_none m.fault) ≡ true) × NameHas m.state.macros (behind_at c) f)) limit stop
       → StopsAtPlace s.arities Said limit stop
-  name-said-stops other limit stop = stops-as limit stop (λ c f listed has. λ m simulates _.
+  name-said-stops other limit stop = stops-as (λ at. at) _ limit stop (λ c f listed has. λ m simulates _.
       let it = has m simulates tt in
       let on = (and_parts (s.has w.acting.0 c) (is_none m.fault) it.0).0 in
       (sym simulates.acting ∙ on, of_name (behind_name this) (said d directed says other) (subst (λ ts. NameHas m.state.macros ts f) (all-behind c on) it.1)))
@@ -234,7 +239,7 @@ module _ (names files : List (List ℕ)) (s : Sets) (w : Walk) (line : List base
     -- the header name that stands there
     pub header-stops : begins_with_header (behind_name this) ≡ true → (count : ℕ) → HaveLists s.arities (s.has w.acting.0) (λ c. places_at s list c) count → HasFootprints (IsConfig s.arities) Said count
     header-stops header count lists =
-        footprints-as (λ c f listed has. λ m simulates _. (sym simulates.acting ∙ has.0, of_header d hash directed says header hashed (has.1 ∙ ap (λ ts. footprint_at hash.place ts []) (all-behind c has.0))))
+        footprints-as (λ at. at) (λ c f listed has. λ m simulates _. (sym simulates.acting ∙ has.0, of_header d hash directed says header hashed (has.1 ∙ ap (λ ts. footprint_at hash.place ts []) (all-behind c has.0))))
         (headers-footprints s names files list (s.has w.acting.0) hash.place count (behind-different names files w line list same apart) lists)
 
     -- or what it expands to
@@ -248,7 +253,7 @@ module _ (names files : List (List ℕ)) (s : Sets) (w : Walk) (line : List base
       abbrev lives : List ℕ → Bool
       lives c = s.has w.acting.0 c && s.has w.prepared.live.0 c
 
-      void-said : (c : List ℕ) → IsConfig s.arities c → new.has next.acting.0 c ≡ true → lives c ≡ false → (f : SourceFootprint) → Said c f
+      void-said : (c : List ℕ) → IsConfig s.arities c → new.has next.acting.0 c ≡ true → lives c ≡ false → (f : Place × Used) → Said c f
       void-said c listed on off f = λ m simulates _.
           let a = expands.at c m listed simulates in
           let parts = and_parts a.machine.active (is_none a.machine.fault) (sym a.simulates.acting ∙ on) in
@@ -258,7 +263,7 @@ module _ (names files : List (List ℕ)) (s : Sets) (w : Walk) (line : List base
           let live = simulates.prepared.live ∙ (ap (λ (n : Machine). is_none n.fault) (sym same) ∙ parts.1) in
           absurd (true≢false (sym (and_from (s.has w.acting.0 c) (s.has w.prepared.live.0 c) acting live) ∙ off))
 
-      text-said : (c : List ℕ) (f : SourceFootprint) → lives c ≡ true → TextHas (macros_at s names w.table c) (behind_at c) hash.place f → Said c f
+      text-said : (c : List ℕ) (f : Place × Used) → lives c ≡ true → TextHas (macros_at s names w.table c) (behind_at c) hash.place f → Said c f
       text-said c f on has = λ m simulates _.
           let parts = and_parts (s.has w.acting.0 c) (s.has w.prepared.live.0 c) on in
           let now = text-as (simulates.macros (right-none true m.fault (sym simulates.prepared.live ∙ parts.1))) has in (
@@ -270,7 +275,7 @@ module _ (names files : List (List ℕ)) (s : Sets) (w : Walk) (line : List base
       said-stops count lists =
           let on = new.has next.acting.0 in
           void-footprints s.arities Said lives on (λ c. places_at new made c) count void-said
-          (λ n h. footprints-as (λ c f listed has. let live = (and_parts (on c) (lives c) has.0).1 in (live, text-said c f live has.1))
+          (λ n h. footprints-as (λ at. at) (λ c f listed has. let live = (and_parts (on c) (lives c) has.0).1 in (live, text-said c f live has.1))
           (lists-footprints s new names files (macros_at s names w.table) list made (λ c. on c && lives c) hash.place n keeps own_list own_made (behind-different names files w line list same apart)
           (λ c d here there one two. alike c d here there (and_parts (on c) (lives c) one).1 (and_parts (on d) (lives d) two).1)
           (λ c here one. answers c here (and_parts (on c) (lives c) one).1) h))
@@ -278,41 +283,31 @@ module _ (names files : List (List ℕ)) (s : Sets) (w : Walk) (line : List base
 
 -- ---- a directive that ends the runs first
 
--- what it comes to once its run was closed is what it comes to before
-pub closed-found : (x : Context) (l : Line) (d : Directive) → l.directive ≡ Some d → is_said d ≡ true → {m n : Machine} {f : SourceFootprint} → Closed m n → acts n ≡ true
-    → DirectiveHas n.state.macros l f → ComesAt x m l f
-closed-found x l d directed says {m} {n} {f} was acting has =
-    by was.answer was.expands (ap acts (sym was.is) ∙ acting) (subst (λ (k : Machine). DirectiveHas k.state.macros l f) was.is has)
-  where
-    refused-none : (fault : Fault) (b : Bool) → acts m ≡ b → (m.active && is_none (if b then Some fault else m.fault)) ≡ true → ⊥
-    refused-none fault true e h = true≢false (sym (and_parts m.active false h).1)
-    refused-none fault false e h = true≢false (sym h ∙ e)
+module _ {A : Type 0} (limit : ℕ) (r : Result A Stop) (names files : List (List ℕ)) (old : Sets) (w : Walk) (from : Machine → Type 0) (x : Context) (line : List base.Token)
+    (d : Directive) (at : Some d ≡ directive_at names line) where
+  abbrev spoken : Line
+  spoken = seen_line names files line
 
-    by : (r : Result (List Token) Fault) → RunExpands m r → acts (closing_run m r) ≡ true → DirectiveHas (closing_run m r).state.macros l f → ComesAt x m l f
-    by (Ok output) expands on has =
-        let s = put_out m.state output in
-        does on (of_directive d s directed says (closed output (expands on)) (subst (λ macros. DirectiveHas macros l f) (ap (λ b. (if b then s else m.state).macros) on) has))
-    by (Err fault) expands on has = absurd (refused-none fault (acts m) refl on)
+  directed-at : spoken.directive ≡ Some d
+  directed-at = directive-files names files line ∙ sym at
 
--- a name in the run that a directive closes
-pub run-stops : (s : Sets) (names files : List (List ℕ)) (w : Walk) (x : Context) (l : Line) (d : Directive) → l.directive ≡ Some d → is_barrier d ≡ true → (limit : ℕ) (stop : Stop)
-    → StopsAtPlace s.arities (Comes s names files w any_machine (λ c m f. (acts m ≡ true) × NameHas m.state.macros m.state.run f)) limit stop
-    → StopsAtPlace s.arities (Comes s names files w any_machine (λ c m f. ComesAt x m l f)) limit stop
-run-stops s names files w x l d directed barrier limit stop = stops-as limit stop (λ c f listed has. λ m simulates _. let it = has m simulates tt in does it.0 (of_run d directed barrier it.1))
+  -- a name in the run that it closes
+  pub closing-stops : is_barrier d ≡ true → IfErr r (StopsWalk old names files w any_machine (λ c m f. (acts m ≡ true) × NameHas m.state.macros m.state.run f) limit)
+      → IfErr r (StopsWalk old names files w from (λ c m. MomentsHave (ComesAt x m spoken)) limit)
+  closing-stops barrier =
+      answer-stops here_at _ limit r refl (λ c f listed has. λ m simulates _. let it = has m simulates tt in comes-closing d directed-at barrier it.0 it.1)
 
--- what the directive says behind it
-pub carried-stops : {A : Type 0} {names more : List (List ℕ)} (files : List (List ℕ)) {old mid : Sets} {w v : Walk} (x : Context) (line : List base.Token) (d : Directive) → Some d ≡ directive_at names line
-    → is_said d ≡ true → Extends names more → All (IsHeld names) line → Keeps old mid → SimulatesOneOf files names old w more mid v (λ c m n. Closed m n) → (limit : ℕ) (r : Result A Stop)
-    → ((d : Directive) → (seen_line more files line).directive ≡ Some d → is_said d ≡ true → IfErr r (StopsAtPlace mid.arities
-    (Comes mid more files v any_machine (λ c m f. (acts m ≡ true) × DirectiveHas m.state.macros (seen_line more files line) f)) limit))
-    → IfErr r (StopsAtPlace old.arities (Comes old names files w any_machine (λ c m f. ComesAt x m (seen_line names files line) f)) limit)
-carried-stops {names = names} {more = more} files x line d at says grows held keeps closing limit r stops =
-    let l = seen_line names files line in
-    let grown = line-grown files grows line held in
-    let directed : l.directive ≡ Some d = directive-files names files line ∙ sym at in
-    answer-stops limit r keeps.arities
-    (λ c f listed has. λ m simulates _.
-    let a = closing.at c m listed simulates in
-    let it = has a.machine a.simulates tt in
-    closed-found x l d directed says a.done it.0 (subst (λ k. DirectiveHas a.machine.state.macros k f) grown it.1))
-    (stops d (ap (λ (k : Line). k.directive) grown ∙ directed) says)
+  -- what it says behind its name
+  pub carried-stops : {more : List (List ℕ)} {mid : Sets} {v : Walk} → is_said d ≡ true → Extends names more → All (IsHeld names) line → Keeps old mid
+      → SimulatesOneOf files names old w more mid v (λ c m n. Closed m n)
+      → ((d : Directive) → (seen_line more files line).directive ≡ Some d → is_said d ≡ true
+      → IfErr r (StopsWalk mid more files v any_machine (λ c m f. (acts m ≡ true) × DirectiveHas m.state.macros (seen_line more files line) f) limit))
+      → IfErr r (StopsWalk old names files w from (λ c m. MomentsHave (ComesAt x m spoken)) limit)
+  carried-stops says grows held keeps closing stops =
+      let grown = line-grown files grows line held in
+      answer-stops here_at _ limit r keeps.arities
+      (λ c f listed has. λ m simulates _.
+      let a = closing.at c m listed simulates in
+      let it = has a.machine a.simulates tt in
+      comes-said d directed-at says a.done it.0 (subst (λ k. DirectiveHas a.machine.state.macros k f) grown it.1))
+      (stops d (ap (λ (k : Line). k.directive) grown ∙ directed-at) says)

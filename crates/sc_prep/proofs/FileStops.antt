@@ -1,5 +1,5 @@
--- Which footprints a machine comes to behind other lines, in a file that it includes, and in one
--- that it enters.
+-- To which moments a machine comes behind other lines, in a file that it includes, and in one that
+-- it enters.
 use Rattle.std.proofs.Common.{◌≡◌, ℕ, ◌+◌, ◌-◌, ◌<◌, ◌&&◌, Bool, true, false, List, [], ◌∷◌, ◌++◌, drop, get_or, length, map, take, Some, Result, Ok, Err, drop-cons, if◌then◌else◌, refl, sym, ap, ◌∙◌, subst, arith}
 use Rattle.std.proofs.lemmas.List.{length-map, take-append-drop}
 use Rattle.std.proofs.lemmas.List.Elements.{All-map}
@@ -8,9 +8,10 @@ use Rattle.std.specs.Prelude.{slice_get, unwrap_or}
 use Rattle.c11_directives.specs.Behind.{Says}
 use Rattle.c11_directives.specs.declared.directive.Directive.{Directive}
 use Rattle.c11_directives.specs.declared.directive.Directive.TheVariants as directive
-use Rattle.c11_directives.specs.Footprints.{DirectiveHas, FileHas, HasFootprints, SourceFootprint, included_at, of_directive, of_file}
+use Rattle.c11_directives.specs.Footprints.{DirectiveHas, MomentsHave, NameHas, SourceFootprint, Used, of_directive, of_run}
 use Rattle.c11_directives.specs.Lines.{Line, c11_directive_names, hash_of, lines_of}
-use Rattle.c11_directives.specs.Pre.{Closes, Context, File, State, c11, closed, deeper, file_lines, file_with, is_said, put_out, search}
+use Rattle.c11_directives.specs.Pre.{Closes, Context, File, State, c11, closed, deeper, file_lines, file_with, is_barrier, is_said, put_out, search}
+use Rattle.c11_directives.specs.Reaches.{FileReaches, Moment, at_line, in_file, itself}
 use Rattle.c11_headers.specs.Headers.{candidates}
 use Rattle.sc_base.specs.declared.id.Cond.{Cond}
 use Rattle.sc_base.specs.declared.id.FileId.{FileId}
@@ -19,14 +20,16 @@ use Rattle.sc_lines.specs.Judges.{line_at, no_line}
 use Rattle.sc_lines.specs.Nests.{seen_lines}
 use Rattle.sc_model.specs.Fault.{Fault}
 use Rattle.sc_model.specs.Sets.{Sets, IsConfig, Denotes, Keeps}
-use Rattle.sc_model.specs.Token.{Place, Token, in_file}
+use Rattle.sc_model.specs.Token as plain
+use Rattle.sc_model.specs.Token.{Place, Token}
 use Rattle.sc_prep.proofs.ApartLemmas.{pairs-map}
 use Rattle.sc_prep.proofs.BetweenRuns.{refused-acts}
 use Rattle.sc_prep.proofs.ComesFrom.{comes-entered, comes-inert}
 use Rattle.sc_prep.proofs.EnterLeads.{HasLines, both-enter, stays}
 use Rattle.sc_prep.proofs.EnterMoves.{begins-idle, begins-start, entering, idle}
 use Rattle.sc_prep.proofs.Going.{Stage, Staged, came, searched, waits}
-use Rattle.sc_prep.proofs.Machine.{runs-more, runs-none}
+use Rattle.sc_prep.proofs.Machine.{barrier-plain, runs-more, runs-none, said-barrier}
+use Rattle.sc_prep.proofs.Stopping.{here_at, moments-as}
 use Rattle.sc_prep.specs.declared.content.FileLines.{FileLines}
 use Rattle.sc_prep.specs.declared.entering.Around.{Around}
 use Rattle.sc_prep.specs.declared.entry.Entry.{Entry}
@@ -50,13 +53,14 @@ comes-then c leads goes joins listed comes m at from =
 
 -- ---- behind the first lines of a file
 
-comes-behind : {x : Context} (ls : List Line) {more : List Line} {m n : Machine} {f : SourceFootprint} → Runs x m ls n → ComesIn x n more f → ComesIn x m (ls ++ more) f
-comes-behind {x} [] {more} {f = f} ran comes = subst (λ k. ComesIn x k more f) (runs-none ran) comes
+comes-behind : {x : Context} {chain : List Place} {k : Moment} (ls : List Line) {more : List Line} {m n : Machine} → Runs x m ls n → ComesIn x chain k n more → ComesIn x chain k m (ls ++ more)
+comes-behind {x} {chain} {k} [] {more} ran comes = subst (λ m. ComesIn x chain k m more) (runs-none ran) comes
 comes-behind (l ∷ ls) ran comes = let parts = runs-more ran in later parts.1 (comes-behind ls parts.2 comes)
 
-pub comes-at : {x : Context} (ls : List Line) (i : ℕ) {m n : Machine} {f : SourceFootprint} → i < length ls → Runs x m (take i ls) n → ComesAt x n (line_at ls i) f → ComesOver x ls m f
-comes-at {x} ls i {m} {f = f} below ran comes =
-    within (subst (λ ks. ComesIn x m ks f) (ap (λ ks. take i ls ++ ks) (sym (drop-cons ls i no_line below)) ∙ take-append-drop i ls) (comes-behind (take i ls) ran (here comes)))
+pub comes-at : {x : Context} {chain : List Place} {k : Moment} (ls : List Line) (i : ℕ) {m n : Machine} → i < length ls → Runs x m (take i ls) n → ComesAt x n (line_at ls i) chain k
+    → ComesOver x ls m chain k
+comes-at {x} {chain} {k} ls i {m} below ran comes =
+    within (subst (λ ks. ComesIn x chain k m ks) (ap (λ ks. take i ls ++ ks) (sym (drop-cons ls i no_line below)) ∙ take-append-drop i ls) (comes-behind (take i ls) ran (here comes)))
 
 -- ---- a line that includes files
 
@@ -74,46 +78,44 @@ closing m n was acting = subst (Closing m) (sym was.is) (by was.answer was.expan
     by (Ok output) expands on = record { acting = on; state = put_out m.state output; closes = closed output (expands on); is = ap (λ b. if b then put_out m.state output else m.state) on }
     by (Err fault) expands on = absurd (refused-acts m.active m.fault fault on)
 
+-- a name in the run that a line ends
+pub comes-closing : {x : Context} {l : Line} {m : Machine} {f : Place × Used} (d : Directive) → l.directive ≡ Some d → is_barrier d ≡ true → acts m ≡ true → NameHas m.state.macros m.state.run f
+    → MomentsHave (ComesAt x m l) (here_at f.0, f.1)
+comes-closing {l = l} {m} d is barrier acting has = record { moment = at_line l m.state; comes = does acting (barrier-plain l d is barrier) itself; has = of_run d is barrier has }
+
 -- what the line comes to itself
-pub comes-said : {x : Context} {l : Line} {m n : Machine} {f : SourceFootprint} (d : Directive) → l.directive ≡ Some d → is_said d ≡ true → Closed m n → acts n ≡ true → DirectiveHas n.state.macros l f
-    → ComesAt x m l f
+pub comes-said : {x : Context} {l : Line} {m n : Machine} {f : Place × Used} (d : Directive) → l.directive ≡ Some d → is_said d ≡ true → Closed m n → acts n ≡ true → DirectiveHas n.state.macros l f
+    → MomentsHave (ComesAt x m l) (here_at f.0, f.1)
 comes-said {l = l} {m} {n} {f} d is said was acting has =
     let c = closing m n was acting in
-    does c.acting (of_directive d c.state is said c.closes (subst (λ (s : State). DirectiveHas s.macros l f) c.is has))
+    record {
+      moment = at_line l m.state;
+      comes = does c.acting (barrier-plain l d is (said-barrier d said)) itself;
+      has = of_directive d c.state is said c.closes (subst (λ (s : State). DirectiveHas s.macros l f) c.is has);
+    }
 
 -- or its file
-comes-waiting : {x : Context} {l : Line} {files : List (List ℕ)} {depth : ℕ} {m k n : Machine} {left rest : List FileId} {g : SourceFootprint} (file : FileId) (hash : Token) → l.directive ≡ Some directive.Include
-    → hash_of l ≡ Some hash → Closed m k → Stage x l files depth k left n → left ≡ file ∷ rest → ComesInside x (text_at files file.0) (depth + 1) n g → ComesAt x m l (included_at hash.place g.0, g.1)
+comes-waiting : {x : Context} {l : Line} {files : List (List ℕ)} {depth : ℕ} {m k n : Machine} {left rest : List FileId} {chain : List Place} {g : Moment} (file : FileId) (hash : Token)
+    → l.directive ≡ Some directive.Include → hash_of l ≡ Some hash → Closed m k → Stage x l files depth k left n → left ≡ file ∷ rest
+    → ComesInside x (text_at files file.0) (depth + 1) n chain g → ComesAt x m l (hash.place ∷ chain) g
 comes-waiting file hash is hashed was (came e carried) left_is inside = absurd (cc)
-comes-waiting {x} {l} {files} {depth} {m} {k} {g = g} file hash is hashed was (waits other ts header first f acting says header_is deep shallow hashed_first searching named) left_is inside =
+comes-waiting {x} {l} {files} {depth} {m} {k} {chain = chain} {g} file hash is hashed was (waits other ts header first f acting says header_is deep shallow hashed_first searching named) left_is inside =
     let c = closing m k was acting in
     let one : other ≡ file = cc in
     let text : text_at files file.0 ≡ f.name = ap (λ (i : FileId). text_at files i.0) (sym one) ∙ ap (λ o. unwrap_or o []) named in
     let bytes : inside.file.bytes ≡ f.bytes = same_Some inside.file.bytes f.bytes (sym inside.there ∙ (ap x.files text ∙ searched x.files (candidates header k.state.file x.include) f searching)) in
     let same : inside.file ≡ f = ap (λ name. file_with name inside.file.bytes) (inside.named ∙ text) ∙ ap (file_with f.name) bytes in
-    let Rest : State → Type 0 = λ s. Says s.macros l (Ok ts) × (s.depth < x.include_depth) × (search x.files (candidates header s.file x.include) ≡ Some f) × FileHas x f (deeper s) g in
-    let has : FileHas x f (deeper k.state) g =
-    subst (λ (h : File). FileHas x h (deeper k.state) g) same (subst (λ d. FileHas x inside.file (record k.state { depth = d + 1 }) g) (sym deep) inside.has) in
-    let at = subst Rest c.is (says, shallow, searching, has) in
-    does c.acting (of_file c.state ts header hash f g is c.closes at.0 header_is at.1 hashed at.2 at.3 refl)
+    let Rest : State → Type 0 = λ s. Says s.macros l (Ok ts) × (s.depth < x.include_depth) × (search x.files (candidates header s.file x.include) ≡ Some f) × FileReaches x f (deeper s) chain g in
+    let reaches : FileReaches x f (deeper k.state) chain g =
+    subst (λ (h : File). FileReaches x h (deeper k.state) chain g) same (subst (λ d. FileReaches x inside.file (record k.state { depth = d + 1 }) chain g) (sym deep) inside.reaches) in
+    let at = subst Rest c.is (says, shallow, searching, reaches) in
+    does c.acting (barrier-plain l directive.Include is refl) (in_file c.state ts header hash f is c.closes at.0 header_is at.1 hashed at.2 at.3)
 
-pub comes-included : {x : Context} {l : Line} {files : List (List ℕ)} {depth : ℕ} {m n : Machine} {left rest : List FileId} {g : SourceFootprint} (file : FileId) (hash : Token)
-    → l.directive ≡ Some directive.Include → hash_of l ≡ Some hash → Staged x l files depth m left n → left ≡ file ∷ rest → ComesInside x (text_at files file.0) (depth + 1) n g
-    → ComesAt x m l (included_at hash.place g.0, g.1)
+pub comes-included : {x : Context} {l : Line} {files : List (List ℕ)} {depth : ℕ} {m n : Machine} {left rest : List FileId} {chain : List Place} {g : Moment} (file : FileId) (hash : Token)
+    → l.directive ≡ Some directive.Include → hash_of l ≡ Some hash → Staged x l files depth m left n → left ≡ file ∷ rest → ComesInside x (text_at files file.0) (depth + 1) n chain g
+    → ComesAt x m l (hash.place ∷ chain) g
 comes-included {m = m} file hash is hashed staged left_is inside =
     comes-waiting {k = closing_run m staged.answer} file hash is hashed (record { answer = staged.answer; expands = staged.expands; is = refl }) staged.stage left_is inside
-
--- configurations with different footprints in a file have different ones at the line
-pub footprints-included : {is_listed : List ℕ → Type 0} {P Q : List ℕ → SourceFootprint → Type 0} {count : ℕ} (place : Place)
-    → ((c : List ℕ) (g : SourceFootprint) → is_listed c → P c g → Q c (included_at place g.0, g.1)) → HasFootprints is_listed P count → HasFootprints is_listed Q count
-footprints-included place to h = record {
-  at = included_at place h.at;
-  footprints = h.footprints;
-  many = h.many;
-  listed = h.listed;
-  each = λ k d within. to _ _ (h.listed k d within) (h.each k d within);
-  apart = h.apart;
-}
 
 -- ---- a file that is entered
 
@@ -126,30 +128,31 @@ module _ {old mid : Sets} {names : List (List ℕ)} {w begun : Walk} {inside : C
 
   -- what every machine at its first line comes to, who enters it does
   pub comes-inside : (config : List ℕ) (f : SourceFootprint) → IsConfig old.arities config
-      → Comes mid names files begun (IsAtTop files entry) (λ config m f. ComesOver x (seen_lines names files lines.tokens.items) m f) config f
-      → Comes old names files w IsBetweenRuns (λ config m f. (old.has cond.0 config ≡ true) × ComesInside x (text_at files entry.file.0) entry.depth m f) config f
+      → Comes mid names files begun (IsAtTop files entry) (λ config m. MomentsHave (ComesOver x (seen_lines names files lines.tokens.items) m)) config f
+      → Comes old names files w IsBetweenRuns (λ config m f. (old.has cond.0 config ≡ true) × MomentsHave (ComesInside x (text_at files entry.file.0) entry.depth m) f) config f
   comes-inside config f listed comes = λ m at between. by m at between (mid.has inside.0 config) refl
     where
       lines-are : seen_lines names files lines.tokens.items ≡ file_lines x file has.are.lexemes
       lines-are =
-          ap (lines_of c11_directive_names) has.are.tokens ∙ ap (λ st. lines_of st.directives (map (in_file (text_at files entry.file.0)) has.are.lexemes)) (sym standard)
+          ap (lines_of c11_directive_names) has.are.tokens ∙ ap (λ st. lines_of st.directives (map (plain.in_file (text_at files entry.file.0)) has.are.lexemes)) (sym standard)
 
       by : (m : Machine) → Simulates old names files w config m → IsBetweenRuns m → (b : Bool) → mid.has inside.0 config ≡ b
-          → (old.has cond.0 config ≡ true) × ComesInside x (text_at files entry.file.0) entry.depth m f
+          → (old.has cond.0 config ≡ true) × MomentsHave (ComesInside x (text_at files entry.file.0) entry.depth m) f
       by m at between true enters =
           let both = both-enter files cond entry keeps inside_is owns is config m listed at enters in
           let first = entering entry.depth (text_at files entry.file.0) m.state in
           let begun_at = begins-start mid names files w begun inside around config m begins (stays files cond entry keeps inside_is owns is config m listed at) enters both.1 between entry.depth (text_at files entry.file.0) in (
             both.0,
-            record {
-              acting = both.1;
-              file = file;
-              named = refl;
-              there = has.is;
-              has = comes-entered x file (record m.state { depth = entry.depth }) has.are.lexemes has.are.group has.are.few has.are.lexed lines-are has.are.tree
-                  (comes (start first) begun_at (simulates.begins first refl (record { name = named; deep = refl })));
-            },
+            moments-as
+                (λ k comes. record {
+                  acting = both.1;
+                  file = file;
+                  named = refl;
+                  there = has.is;
+                  reaches = comes-entered x file (record m.state { depth = entry.depth }) has.are.lexemes has.are.group has.are.few has.are.lexed lines-are has.are.tree comes;
+                })
+                (comes (start first) begun_at (simulates.begins first refl (record { name = named; deep = refl }))),
           )
       by m at between false out =
-          absurd (comes-inert (idle m) has.are.tree refl
-          (comes (idle m) (begins-idle mid names files w begun inside around config m begins (stays files cond entry keeps inside_is owns is config m listed at) out) (simulates.idles refl refl)))
+          let stands = begins-idle mid names files w begun inside around config m begins (stays files cond entry keeps inside_is owns is config m listed at) out in
+          absurd (comes-inert (idle m) has.are.tree refl (comes (idle m) stands (simulates.idles refl refl)).comes)

@@ -1,9 +1,8 @@
 -- Configurations to which a line has different lists of tokens have different footprints at it.
-use Rattle.std.proofs.Common.{◌≡◌, ℕ, suc, ◌+◌, Bool, true, false, List, [], ◌∷◌, All, map, length, get_or, Option, Result, refl, sym, ap, subst, ◌∙◌, arith, if◌then◌else◌}
-use Rattle.std.proofs.lemmas.List.{get_or-map, length-map}
+use Rattle.std.proofs.Common.{◌≡◌, ℕ, ◌+◌, ◌≤◌, Bool, true, false, List, [], ◌∷◌, All, map, length, get_or, Option, Result, refl, sym, ap, subst, ◌∙◌, arith, if◌then◌else◌}
 use Rattle.std.proofs.lemmas.List.Elements.{All-cons, All-head, All-nil, All-tail, All-weaker}
 use Rattle.std.specs.Prelude.{AllPairs}
-use Rattle.c11_directives.specs.Footprints.{HasFootprints, Origin, SourceFootprint, TextHas, Used, definitions_of, footprint_at, origin_at, used_as}
+use Rattle.c11_directives.specs.Footprints.{HasFootprints, TextHas, Used, definitions_of, footprint_at}
 use Rattle.c11_macros.proofs.OneAnswer.{one}
 use Rattle.c11_macros.specs.Expansion.{Expands}
 use Rattle.c11_macros.specs.Hidden.{Failure, Hidden}
@@ -13,7 +12,6 @@ use Rattle.c11_macros.specs.Trace.{Agree, Trace, trace}
 use Rattle.sc_base.specs.declared.id.Cond.{Cond}
 use Rattle.sc_base.specs.declared.token.Token as base
 use Rattle.sc_base.specs.Seen.{seen}
-use Rattle.sc_expand.proofs.FootprintLemmas.{pairs-both}
 use Rattle.sc_expand.specs.Alike.{DefineTextAlike}
 use Rattle.sc_guarded.specs.Items.{items_at}
 use Rattle.sc_hoist.specs.Alike.{AreAlike, IsAlike}
@@ -23,22 +21,8 @@ use Rattle.sc_model.specs.Sets.{Sets, IsCond, IsConfig, Keeps}
 use Rattle.sc_model.specs.Token.{Place, Token}
 use Rattle.sc_prep.specs.Apart.{AreDifferent}
 use Rattle.sc_prep.specs.Footprints.{HaveLists}
-
--- ---- lists of which each two items are so
-
-module _ {A : Type 0} (R : A → A → Type 0) (x : A) (xs : List A) (pairs : AllPairs R (x ∷ xs)) where
-  pairs-head : All (R x) xs
-  pairs-head = λ k d within. pairs 0 (suc k) d (omega arith) (omega (arith, within))
-
-  pairs-tail : AllPairs R xs
-  pairs-tail = λ i j d low within. pairs (suc i) (suc j) d (omega (arith, low)) (omega (arith, within))
-
-pairs-unmap : {A B : Type 0} (R : B → B → Type 0) (f : A → B) (xs : List A) → AllPairs R (map f xs) → AllPairs (λ x y. R (f x) (f y)) xs
-pairs-unmap R f xs pairs i j d low within =
-    let long = length-map xs f in
-    let first : get_or (map f xs) i (f d) ≡ f (get_or xs i d) = get_or-map f xs i d (f d) (omega (arith, low, within)) in
-    let second : get_or (map f xs) j (f d) ≡ f (get_or xs j d) = get_or-map f xs j d (f d) within in
-    subst (λ x. R x (f (get_or xs j d))) first (subst (R (get_or (map f xs) i (f d))) second (pairs i j (f d) low (omega (arith, long, within))))
+use Rattle.sc_prep.proofs.ApartLemmas.{pairs-head, pairs-tail}
+use Rattle.sc_prep.proofs.NameFootprints.{made-all, made-length, made-pairs, made_of, same-definitions}
 
 -- ---- where no two items are seen as one, the tokens tell which items there are
 
@@ -90,24 +74,16 @@ places-alike s c d n (a ∷ list) alike =
 
 -- ---- a footprint tells its tokens and definitions
 
-agree-same : (some other : Macros) (xs ys : List (List ℕ)) → definitions_of some xs ≡ definitions_of other ys → Agree some other xs
-agree-same some other [] ys same = tt
-agree-same some other (x ∷ xs) [] same = absurd (cc)
-agree-same some other (x ∷ xs) (y ∷ ys) same =
-    let first : ◌≡◌ {A = List ℕ × Option Definition} (x, some x) (y, other y) = cc in
-    let rest : definitions_of some xs ≡ definitions_of other ys = cc in
-    (ap (λ (p : List ℕ × Option Definition). p.1) first ∙ ap other (sym (ap (λ (p : List ℕ × Option Definition). p.0) first)), agree-same some other xs ys rest)
-
 define-alike : (some other : Macros) (text : List Token) (answer : Result (List (Hidden Place)) (Failure Place)) (expands : Expands place_alone some (map unhidden text) answer)
     → Agree some other (trace expands).looked_up → DefineTextAlike some other text
 define-alike some other text answer expands agree = record { agree = λ r d. subst (Agree some other) (ap (λ (x : Trace). x.looked_up) (one expands r d).trace) agree }
 
-used-alike : {some other : Macros} {text more : List Token} {place : Place} {at : Origin} {f g : Used} → TextHas some text place (at, f) → TextHas other more place (at, g) → f ≡ g → (text ≡ more) × DefineTextAlike some other text
-used-alike {some} {other} {text} {more} x y same =
-    let used : SourceFootprint → Used = λ f. f.1 in
-    let e : used_as text (definitions_of some (trace x.expands).looked_up) ≡ used_as more (definitions_of other (trace y.expands).looked_up) = sym (ap used x.is) ∙ (same ∙ ap used y.is) in (
-      ap (λ (u : Used). u.tokens) e,
-      define-alike some other text x.answer x.expands (agree-same some other (trace x.expands).looked_up (trace y.expands).looked_up (ap (λ (u : Used). u.definitions) e)),
+used-alike : {some other : Macros} {text more : List Token} {place : Place} {f g : Used} → TextHas some text place (place, f) → TextHas other more place (place, g) → f ≡ g → (text ≡ more) × DefineTextAlike some other text
+used-alike {some} {other} {text} {more} {place} x y same =
+    let e : footprint_at place text (definitions_of some (trace x.expands).looked_up) ≡ footprint_at place more (definitions_of other (trace y.expands).looked_up) =
+    sym x.is ∙ (ap (λ (u : Used). (place, u)) same ∙ y.is) in (
+      ap (λ (f : Place × Used). f.1.tokens) e,
+      define-alike some other text x.answer x.expands (same-definitions some other (trace x.expands).looked_up (trace y.expands).looked_up (ap (λ (f : Place × Used). f.1.definitions) e)),
     )
 
 -- ---- different lists, where one footprint tells one list
@@ -115,37 +91,19 @@ used-alike {some} {other} {text} {more} x y same =
 module _ {K V : Type 0} {arities : List ℕ} {test : List ℕ → Bool} {list : List ℕ → List ℕ} {P : List ℕ → K × V → Type 0} (at : K)
     (has : (c : List ℕ) → IsConfig arities c → test c ≡ true → (f : V) × P c (at, f))
     (tells : (c d : List ℕ) (f g : V) → IsConfig arities c → IsConfig arities d → P c (at, f) → P d (at, g) → f ≡ g → list c ≡ list d) where
-  abbrev IsOne : List ℕ × V → Type 0
-  IsOne p = IsConfig arities p.0 × P p.0 (at, p.1)
-
-  record Found (configs : List (List ℕ)) : Type 0 where
-    footprints : List (List ℕ × V)
-    of : map (λ (p : List ℕ × V). p.0) footprints ≡ configs
-    each : All IsOne footprints
-
-  found : (configs : List (List ℕ)) → All (IsConfig arities) configs → All (λ c. test c ≡ true) configs → Found configs
-  found [] listed among = record { footprints = []; of = refl; each = All-nil IsOne }
-  found (c ∷ cs) listed among =
-      let first = All-head (IsConfig arities) c cs listed in
-      let f = has c first (All-head (λ c. test c ≡ true) c cs among) in
-      let rest = found cs (All-tail (IsConfig arities) c cs listed) (All-tail (λ c. test c ≡ true) c cs among) in
-      record { footprints = (c, f.0) ∷ rest.footprints; of = ap (λ l. c ∷ l) rest.of; each = All-cons IsOne (c, f.0) rest.footprints (first, f.1) rest.each }
-
   pub lists-have : (count : ℕ) → HaveLists arities test list count → HasFootprints (IsConfig arities) P count
   lists-have count lists =
-      let f = found lists.configs lists.listed lists.among in
-      let config : List ℕ × V → List ℕ = λ p. p.0 in
-      let long = length-map f.footprints config in
-      let same = ap length f.of in
+      let Is : List ℕ → Type 0 = λ c. IsConfig arities c × (test c ≡ true) in
+      let make : (c : List ℕ) → Is c → List ℕ × V = λ c is. (c, (has c is.0 is.1).0) in
+      let all : All Is lists.configs = λ k d within. (lists.listed k d within, lists.among k d within) in
       record {
         at = at;
-        footprints = f.footprints;
-        many = omega (arith, lists.many, long, same);
-        listed = All-weaker IsOne (λ p. IsConfig arities p.0) (λ p is. is.0) f.footprints f.each;
-        each = All-weaker IsOne (λ p. P p.0 (at, p.1)) (λ p is. is.1) f.footprints f.each;
-        apart = pairs-both (λ p q. list p.0 ≡ list q.0 → ⊥) (λ p q. (p.0 ≡ q.0 → ⊥) × (p.1 ≡ q.1 → ⊥)) IsOne
-            (λ p q x y differ. (λ e. differ (ap list e), λ e. differ (tells p.0 q.0 p.1 q.1 x.0 y.0 x.1 y.1 e))) f.footprints f.each
-            (pairs-unmap (λ c d. list c ≡ list d → ⊥) config f.footprints (subst (AllPairs (λ c d. list c ≡ list d → ⊥)) (sym f.of) lists.apart));
+        footprints = made_of Is make lists.configs all;
+        many = subst (λ n. count ≤ n) (sym (made-length Is make lists.configs all)) lists.many;
+        listed = made-all Is make Is (λ p. IsConfig arities p.0) (λ c one is. is.0) lists.configs all all;
+        each = made-all Is make Is (λ p. P p.0 (at, p.1)) (λ c one is. (has c one.0 one.1).1) lists.configs all all;
+        apart = made-pairs Is make (λ c d. list c ≡ list d → ⊥) (λ p q. (p.0 ≡ q.0 → ⊥) × (p.1 ≡ q.1 → ⊥))
+            (λ c d x y differ. (λ e. differ (ap list e), λ e. differ (tells c d _ _ x.0 y.0 (has c x.0 x.1).1 (has d y.0 y.1).1 e))) lists.configs all lists.apart;
       }
 
 -- ---- the line
@@ -159,10 +117,10 @@ pub lists-footprints : (s t : Sets) (names files : List (List ℕ)) (macros : Li
     → HasFootprints (IsConfig s.arities) (λ c f. (test c ≡ true) × TextHas (macros c) (map (seen names files) (items_at s list c)) place f) count
 lists-footprints s t names files macros list made test place count _ _ _ different alike answers lists =
     let text : List ℕ → List Token = λ c. map (seen names files) (items_at s list c) in
-    lists-have (origin_at place)
+    lists-have place
     (λ c listed among.
     let x = (answers c listed among).1 in
-    (used_as (text c) (definitions_of (macros c) (trace x.expands).looked_up), (among, record { answer = x.answer; expands = x.expands; is = refl })))
+    ((footprint_at place (text c) (definitions_of (macros c) (trace x.expands).looked_up)).1, (among, record { answer = x.answer; expands = x.expands; is = refl })))
     (λ c d f g one two x y same.
     let used = used-alike x.1 y.1 same in
     places-alike t c d 0 made (alike c d one two x.0 y.0 (alike-seen s names files c d list different used.0) used.1))
@@ -173,5 +131,5 @@ pub headers-footprints : (s : Sets) (names files : List (List ℕ)) (list : List
     → HaveLists s.arities test (λ c. places_at s list c) count
     → HasFootprints (IsConfig s.arities) (λ c f. (test c ≡ true) × (f ≡ footprint_at place (map (seen names files) (items_at s list c)) [])) count
 headers-footprints s names files list test place count different lists =
-    lists-have (origin_at place) (λ c listed among. (used_as (map (seen names files) (items_at s list c)) [], (among, refl)))
-    (λ c d f g one two x y same. places-alike s c d 0 list (alike-seen s names files c d list different (ap (λ (u : Used). u.tokens) (sym (ap (λ (f : SourceFootprint). f.1) x.1) ∙ (same ∙ ap (λ (f : SourceFootprint). f.1) y.1))))) count lists
+    lists-have place (λ c listed among. ((footprint_at place (map (seen names files) (items_at s list c)) []).1, (among, refl)))
+    (λ c d f g one two x y same. places-alike s c d 0 list (alike-seen s names files c d list different (ap (λ (f : Place × Used). f.1.tokens) (sym x.1 ∙ (ap (λ (u : Used). (place, u)) same ∙ y.1))))) count lists

@@ -5,7 +5,7 @@ use Rattle.std.proofs.lemmas.Bool.{both_ways}
 use Rattle.std.specs.Option.{option_to_list}
 use Rattle.std.specs.Prelude.{is_none, unwrap_or, slice_get}
 use Rattle.c11_directives.proofs.PreLaws.{pre-unique}
-use Rattle.c11_directives.specs.Footprints.{Has}
+use Rattle.c11_directives.specs.Footprints.{Has, MomentsHave}
 use Rattle.c11_directives.specs.Pre.{Context, Includes, Pre, State, context_of, entered, file_with, found_or, initial_state}
 use Rattle.c11_macros.specs.Macros.{initial_macros}
 use Rattle.sc_base.specs.declared.fault.Fault as base
@@ -33,7 +33,7 @@ use Rattle.sc_prep.proofs.EnterMoves.{refused-here}
 use Rattle.sc_prep.proofs.FileTokens.{all-shown, faults-few}
 use Rattle.sc_prep.proofs.MainWalk.{begins-as, entered-ordinary, finds-main}
 use Rattle.sc_prep.proofs.Plain.{initial-plain}
-use Rattle.sc_prep.proofs.Stopping.{stops-as}
+use Rattle.sc_prep.proofs.Stopping.{moments-as, stops-as}
 use Rattle.sc_prep.specs.Closes.{RefusesEach, has_none, is_empty}
 use Rattle.sc_prep.specs.Contents.{AreContents, IsContent, IsHeldContent, content_at, end_of_file, end_place}
 use Rattle.sc_prep.specs.declared.content.Content.{Content}
@@ -197,9 +197,6 @@ module _ {s : Sets} {space : Space} {names files : List (List ℕ)} {walk : Walk
     pub refused-live : (config : List ℕ) → IsConfig s.arities config → next_sets.has next.prepared.live.0 config ≡ has_none next_sets next.prepared.faults.items config
     refused-live config listed = live-outcome (ends-refused config listed)
 
-    pub refused-end : next.prepared.end ≡ walk.prepared.end
-    refused-end = ap (λ (w : Walk). w.prepared.end) refuses.same
-
     pub refused-owns : OwnsList next_sets next.prepared
     refused-owns = record {
       list = subst (All (λ (item : Cond × Token). IsCond next_sets item.0.0)) (sym list-empty) (λ k d h. absurd (omega (arith, h)));
@@ -258,9 +255,12 @@ module _ {s : Sets} {space : Space} {names files : List (List ℕ)} {walk : Walk
 
   -- each footprint to which the main file comes is one of the configuration
   pub entered-stops : (main : List ℕ) (outside : Files) (file : FileId) (cond : Cond) → slice_get files file.0 ≡ Some main → (limit : ℕ) (stop : Stop)
-      → StopsAtPlace s.arities (Comes s names files walk IsBetweenRuns (λ config m f. (s.has cond.0 config ≡ true) × ComesInside (context_of space outside) (text_at files file.0) 0 m f)) limit stop
+      → StopsAtPlace s.arities (Comes s names files walk IsBetweenRuns (λ config m f. (s.has cond.0 config ≡ true) × MomentsHave (ComesInside (context_of space outside) (text_at files file.0) 0 m) f)) limit stop
       → StopsAmong (IsListed space) (Has space outside main) limit stop
-  entered-stops main outside file cond named limit stop stops = subst (λ a. StopsAtPlace a (Has space outside main) limit stop) fresh.arities (stops-as limit stop (λ config f listed comes.
+  entered-stops main outside file cond named limit stop stops = subst (λ a. StopsAtPlace a (Has space outside main) limit stop) fresh.arities (stops-as (λ at. at) _ limit stop (λ config f listed comes.
       let first = start (initial_state space main config) in
-      let inside = subst (λ name. ComesInside (context_of space outside) name 0 first f) (ap (λ (o : Option (List ℕ)). unwrap_or o []) named) (comes first (fresh.starts main config listed) (λ acting. refl)).1 in
-      record { file = inside.file; found = finds-main outside main inside.file inside.named inside.there; has = inside.has }) stops)
+      moments-as
+      (λ k comes.
+      let inside = subst (λ name. ComesInside (context_of space outside) name 0 first f.0.chain k) (ap (λ (o : Option (List ℕ)). unwrap_or o []) named) comes in
+      record { file = inside.file; found = finds-main outside main inside.file inside.named inside.there; reaches = inside.reaches })
+      (comes first (fresh.starts main config listed) (λ acting. refl)).1) stops)

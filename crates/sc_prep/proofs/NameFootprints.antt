@@ -6,7 +6,7 @@ use Rattle.std.proofs.lemmas.List.Kept.{AllPairs-cons}
 use Rattle.std.proofs.lemmas.Simd.{map-map}
 use Rattle.std.proofs.Math.Seq.{take-nil}
 use Rattle.c11_directives.specs.Footprints as footprints
-use Rattle.c11_directives.specs.Footprints.{DirectiveHas, NameHas, Origin, SourceFootprint, TextHas, Used, definitions_of, origin_at, used_as}
+use Rattle.c11_directives.specs.Footprints.{DirectiveHas, NameHas, TextHas, Used, definitions_of, footprint_at}
 use Rattle.c11_directives.specs.Lines.{Line}
 use Rattle.c11_macros.specs.Expansion.{Expands}
 use Rattle.c11_macros.specs.Footprint.{Arrives, Footprint, footprint}
@@ -34,14 +34,11 @@ use Rattle.sc_prep.proofs.CloseMoves.{items_at-All}
 
 -- ---- tables that define all names alike give the same footprints
 
-pub name-as : {one other : Macros} {text : List Token} {f : SourceFootprint} → ((name : List ℕ) → one name ≡ other name) → NameHas one text f → NameHas other text f
+pub name-as : {one other : Macros} {text : List Token} {f : Place × Used} → ((name : List ℕ) → one name ≡ other name) → NameHas one text f → NameHas other text f
 name-as {text = text} {f = f} same has = subst (λ macros. NameHas macros text f) (λ i. λ name. same name i) has
 
-pub text-as : {one other : Macros} {text : List Token} {place : Place} {f : SourceFootprint} → ((name : List ℕ) → one name ≡ other name) → TextHas one text place f → TextHas other text place f
+pub text-as : {one other : Macros} {text : List Token} {place : Place} {f : Place × Used} → ((name : List ℕ) → one name ≡ other name) → TextHas one text place f → TextHas other text place f
 text-as {text = text} {place = place} {f = f} same has = subst (λ macros. TextHas macros text place f) (λ i. λ name. same name i) has
-
-pub directive-as : {one other : Macros} {line : Line} {f : SourceFootprint} → ((name : List ℕ) → one name ≡ other name) → DirectiveHas one line f → DirectiveHas other line f
-directive-as {line = line} {f = f} same has = subst (λ macros. DirectiveHas macros line f) (λ i. λ name. same name i) has
 
 -- ---- what is made of a list
 
@@ -144,19 +141,16 @@ module _ (s : Sets) (names files : List (List ℕ)) (macros : List ℕ → Macro
   abbrev behind : List ℕ → List Token
   behind c = map (seen names files) (items_behind c)
 
-  abbrev origin_by : Option (Cond × base.Token) → Origin
-  origin_by item = origin_at (place_of names files item)
+  abbrev place : Place
+  place = place_of names files (slice_get list at)
 
-  abbrev origin : Origin
-  origin = origin_by (slice_get list at)
-
-  abbrev used_by : List ℕ → Token → Footprint → Used
-  used_by c name print = used_as (name ∷ take (length (behind c) - print.left) (behind c)) (definitions_of (macros c) print.looked_up)
+  abbrev print_by : List ℕ → Place → Token → Footprint → Place × Used
+  print_by c place name print = footprint_at place (name ∷ take (length (behind c) - print.left) (behind c)) (definitions_of (macros c) print.looked_up)
 
   abbrev used_at : (c : List ℕ) → Uses c → Used
-  used_at c x = used_by c (seen names files x.item.1) (footprint x.expands)
+  used_at c x = (print_by c place (seen names files x.item.1) (footprint x.expands)).1
 
-  has-name : (c : List ℕ) (x : Uses c) → NameHas (macros c) (map (seen names files) (items_at s list c)) (origin, used_at c x)
+  has-name : (c : List ℕ) (x : Uses c) → NameHas (macros c) (map (seen names files) (items_at s list c)) (place, used_at c x)
   has-name c x =
       let first = looks x.item.1 in
       let rest : map looks (items_behind c) ≡ map unhidden (behind c) = sym (map-map unhidden (seen names files) (items_behind c)) in
@@ -168,7 +162,7 @@ module _ (s : Sets) (names files : List (List ℕ)) (macros : List ℕ → Macro
         expands = p.expands;
         arrives = subst (λ (ts : List (Hidden Place)). Arrives place_alone (macros c) ts (first ∷ map unhidden (behind c))) (sym (map-map unhidden (seen names files) (items_at s list c)))
             (subst (λ (ts : List (Hidden Place)). Arrives place_alone (macros c) (map looks (items_at s list c)) (first ∷ ts)) rest x.arrives);
-        is = λ i. (origin_by (x.is i), used_by c (seen names files x.item.1) (sym p.is i));
+        is = λ i. print_by c (place_of names files (x.is i)) (seen names files x.item.1) (sym p.is i);
       }
 
   -- so many items stand behind the name as tokens are seen there
@@ -199,10 +193,10 @@ module _ (s : Sets) (names files : List (List ℕ)) (macros : List ℕ → Macro
     source-footprints cond count configs many listed has come apart =
         let make : (c : List ℕ) → Uses c → List ℕ × Used = λ c x. (c, used_at c x) in
         let Is : List ℕ × Used → Type 0 = λ p. IsConfig s.arities p.0 in
-        let Has : List ℕ × Used → Type 0 = λ p. (s.has cond p.0 ≡ true) × NameHas (macros p.0) (map (seen names files) (items_at s list p.0)) (origin, p.1) in
+        let Has : List ℕ × Used → Type 0 = λ p. (s.has cond p.0 ≡ true) × NameHas (macros p.0) (map (seen names files) (items_at s list p.0)) (place, p.1) in
         let Apart : List ℕ × Used → List ℕ × Used → Type 0 = λ p q. (p.0 ≡ q.0 → ⊥) × (p.1 ≡ q.1 → ⊥) in
         record {
-          at = origin;
+          at = place;
           footprints = made_of Uses make configs come;
           many = subst (λ n. count ≤ n) (sym (made-length Uses make configs come)) many;
           listed = made-all Uses make (IsConfig s.arities) Is (λ c x is. is) configs come listed;

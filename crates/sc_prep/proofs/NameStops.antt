@@ -1,7 +1,7 @@
 -- Where the expansion of what a walk has stops, each configuration's machine comes to a footprint.
 use Rattle.std.proofs.Common.{◌≡◌, ℕ, ◌&&◌, true, List, All, map, sym, subst, ◌∙◌}
 use Rattle.std.specs.Prelude.{is_none}
-use Rattle.c11_directives.specs.Footprints.{NameHas, SourceFootprint}
+use Rattle.c11_directives.specs.Footprints.{NameHas, Used}
 use Rattle.c11_macros.specs.Text.{place_alone, unhidden}
 use Rattle.sc_base.specs.declared.id.Cond.{Cond}
 use Rattle.sc_base.specs.declared.stop.Stop.{Stop}
@@ -11,6 +11,7 @@ use Rattle.sc_expand.specs.Footprints.{StopsAtName}
 use Rattle.sc_guarded.proofs.ItemLemmas.{items_at-Keeps}
 use Rattle.sc_guarded.specs.Items.{items_at}
 use Rattle.sc_model.specs.Sets.{Sets, Denotes, IsCond, Keeps}
+use Rattle.sc_model.specs.Token.{Place}
 use Rattle.sc_table.proofs.Growth.{macros_at-Keeps}
 use Rattle.sc_table.specs.Table.{IsTable, macros_at}
 use Rattle.sc_prep.specs.Apart.{AreDifferent, StandApart, tokens_in}
@@ -27,7 +28,7 @@ pub run-stops : (s : Sets) (names files : List (List ℕ)) (w : Walk) (limit : �
     → StopsAtName (λ t. unhidden (seen names files t)) place_alone (macros_at s names w.table) s w.acting.0 w.gathered limit stop → StandApart (tokens_in w.gathered)
     → StopsAtPlace s.arities (Comes s names files w any_machine (λ c m f. (acts m ≡ true) × NameHas m.state.macros m.state.run f)) limit stop
 run-stops s names files w limit stop stops apart =
-    stops-as limit stop
+    stops-as (λ at. at) _ limit stop
     (λ c f listed has m simulates _.
     let acting = sym simulates.acting ∙ has.0 in
     let clean = right-none m.active m.fault acting in
@@ -41,8 +42,8 @@ pub list-stops : {old s : Sets} (names files : List (List ℕ)) (keeps : Keeps o
     → StopsAtPlace old.arities (Comes old names files w any_machine
     (λ c m f. ((old.has among.0 c && is_none m.fault) ≡ true) × NameHas m.state.macros (map (seen names files) (items_at old list c)) f)) limit stop
 list-stops {old} {s} names files keeps w among live live_is is list own limit stop stops apart =
-    let Has : List ℕ → SourceFootprint → Type 0 = λ c f. (s.has live.0 c ≡ true) × NameHas (macros_at s names w.table c) (map (seen names files) (items_at s list c)) f in
-    stops-as limit stop
+    let Has : List ℕ → Place × Used → Type 0 = λ c f. (s.has live.0 c ≡ true) × NameHas (macros_at s names w.table c) (map (seen names files) (items_at s list c)) f in
+    stops-as (λ at. at) _ limit stop
     (λ c f listed has m simulates _.
     let asked = sym (asked-at keeps w among live live_is c m listed simulates) ∙ has.0 in
     let clean = right-none (old.has among.0 c) m.fault asked in

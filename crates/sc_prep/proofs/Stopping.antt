@@ -1,19 +1,22 @@
 -- Walks that stop because one place has too many footprints.
-use Rattle.std.proofs.Common.{◌≡◌, ℕ, List, Result, Ok, Err, sym, subst}
+use Rattle.std.proofs.Common.{◌≡◌, ℕ, List, [], ◌∷◌, Result, Ok, Err, sym, subst}
 use Rattle.std.proofs.lemmas.Result.{IfErr-weaker}
 use Rattle.std.specs.Prelude.{IfErr}
-use Rattle.c11_directives.specs.Footprints.{HasFootprints}
+use Rattle.c11_directives.specs.Footprints.{HasFootprints, MomentsHave, Origin, SourceFootprint}
+use Rattle.c11_directives.specs.Reaches.{Moment}
 use Rattle.sc_base.specs.declared.stop.Stop.{Stop}
 use Rattle.sc_base.specs.declared.stop.Stop.TheVariants.{BranchesFull, ReadFault, OutOfMemory}
 use Rattle.sc_model.specs.Sets.{IsConfig}
+use Rattle.sc_model.specs.Token.{Place}
 use Rattle.sc_prep.specs.Footprints.{StopsAmong, StopsAtPlace}
 use Rattle.sc_prep.specs.Preprocesses.{ReadsNothing}
 
--- where each configuration that has a footprint has it in another sense too
-pub footprints-as : {K V : Type 0} {is_listed : List ℕ → Type 0} {P Q : List ℕ → K × V → Type 0} {count : ℕ} → ((c : List ℕ) (f : K × V) → is_listed c → P c f → Q c f)
-    → HasFootprints is_listed P count → HasFootprints is_listed Q count
-footprints-as to h = record {
-  at = h.at;
+-- where each configuration that has a footprint has it in another sense too, at a place that
+-- follows from the one
+pub footprints-as : {K L V : Type 0} {is_listed : List ℕ → Type 0} {P : List ℕ → K × V → Type 0} {Q : List ℕ → L × V → Type 0} {count : ℕ} (at : K → L)
+    → ((c : List ℕ) (f : K × V) → is_listed c → P c f → Q c (at f.0, f.1)) → HasFootprints is_listed P count → HasFootprints is_listed Q count
+footprints-as at to h = record {
+  at = at h.at;
   footprints = h.footprints;
   many = h.many;
   listed = h.listed;
@@ -21,17 +24,29 @@ footprints-as to h = record {
   apart = h.apart;
 }
 
-pub stops-as : {K V : Type 0} {is_listed : List ℕ → Type 0} {P Q : List ℕ → K × V → Type 0} (limit : ℕ) (stop : Stop) → ((c : List ℕ) (f : K × V) → is_listed c → P c f → Q c f)
-    → StopsAmong is_listed P limit stop → StopsAmong is_listed Q limit stop
-stops-as limit (BranchesFull count) to h = footprints-as to h
-stops-as limit ReadFault to h = tt
-stops-as limit OutOfMemory to h = tt
+pub stops-as : {K L V : Type 0} {is_listed : List ℕ → Type 0} {P : List ℕ → K × V → Type 0} (at : K → L) (Q : List ℕ → L × V → Type 0) (limit : ℕ) (stop : Stop)
+    → ((c : List ℕ) (f : K × V) → is_listed c → P c f → Q c (at f.0, f.1)) → StopsAmong is_listed P limit stop → StopsAmong is_listed Q limit stop
+stops-as at Q limit (BranchesFull count) to h = footprints-as at to h
+stops-as at Q limit ReadFault to h = tt
+stops-as at Q limit OutOfMemory to h = tt
 
 -- the same of an answer, where the store may have grown
-pub answer-stops : {A K V : Type 0} {arities other : List ℕ} {P Q : List ℕ → K × V → Type 0} (limit : ℕ) (r : Result A Stop) → other ≡ arities
-    → ((c : List ℕ) (f : K × V) → IsConfig arities c → P c f → Q c f) → IfErr r (StopsAtPlace other P limit) → IfErr r (StopsAtPlace arities Q limit)
-answer-stops limit (Ok x) same to h = tt
-answer-stops {P = P} limit (Err stop) same to h = stops-as limit stop to (subst (λ a. StopsAtPlace a P limit stop) same h)
+pub answer-stops : {A K L V : Type 0} {arities other : List ℕ} {P : List ℕ → K × V → Type 0} (at : K → L) (Q : List ℕ → L × V → Type 0) (limit : ℕ) (r : Result A Stop) → other ≡ arities
+    → ((c : List ℕ) (f : K × V) → IsConfig arities c → P c f → Q c (at f.0, f.1)) → IfErr r (StopsAtPlace other P limit) → IfErr r (StopsAtPlace arities Q limit)
+answer-stops at Q limit (Ok x) same to h = tt
+answer-stops {P = P} at Q limit (Err stop) same to h = stops-as at Q limit stop to (subst (λ a. StopsAtPlace a P limit stop) same h)
+
+-- in the file itself
+abbrev pub here_at : Place → Origin
+here_at place = record { chain = []; place = place }
+
+-- in a file that is included at this place
+abbrev pub included_at : Place → Origin → Origin
+included_at place at = record at { chain = place ∷ at.chain }
+
+-- what is had at a moment is had at the same one in another sense
+pub moments-as : {P Q : List Place → Moment → Type 0} {f : SourceFootprint} → ((k : Moment) → P f.0.chain k → Q f.0.chain k) → MomentsHave P f → MomentsHave Q f
+moments-as to h = record { moment = h.moment; comes = to h.moment h.comes; has = h.has }
 
 -- no memory is left
 pub memory-stops-nowhere : {A K V : Type 0} (arities : List ℕ) (P : List ℕ → K × V → Type 0) (limit : ℕ) (r : Result A Stop) → IfErr r (λ s. s ≡ OutOfMemory) → IfErr r (StopsAtPlace arities P limit)

@@ -7,7 +7,7 @@ use Rattle.std.proofs.lemmas.List.Elements.{All-nil, All-cons, All-head, All-tai
 use Rattle.std.proofs.lemmas.List.Kept.{AllPairs-cons, AllPairs-filter}
 use Rattle.std.specs.List.{filter}
 use Rattle.std.specs.Prelude.{AllPairs}
-use Rattle.c11_directives.specs.Footprints.{HasFootprints, Used, used_as}
+use Rattle.c11_directives.specs.Footprints.{HasFootprints, Used}
 use Rattle.c11_macros.specs.Macros.{Definition}
 use Rattle.sc_model.specs.Sets.{IsConfig}
 use Rattle.sc_prep.specs.Footprints.{HaveLists}
@@ -75,7 +75,7 @@ module _ {K : Type 0} (arities : List ℕ) (has : List ℕ → K × Used → Typ
       let it = All-head IsVoid v vs each in
       let ps = rest.all.footprints in
       let more = definition_count ps in
-      let f : Used = used_as [] (replicate (more + 1) ([], None)) in
+      let f : Used = record { tokens = []; definitions = replicate (more + 1) ([], None) } in
       let other = rest.others v it.dead (pairs-head (λ c d. c ≡ d → ⊥) v vs apart) in
       let fresh = none-like f ps (omega (arith, length-replicate {A = List ℕ × Option Definition} (more + 1) ([], None))) in
       record {

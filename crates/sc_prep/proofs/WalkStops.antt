@@ -3,11 +3,11 @@ use Rattle.std.proofs.Common.{◌≡◌, ℕ, zero, suc, ◌+◌, ◌<◌, ◌�
 use Rattle.std.specs.List.{flat_map}
 use Rattle.std.specs.Prelude.{IfErr}
 use Rattle.c11_directives.specs.declared.directive.Directive.TheVariants as directive
-use Rattle.c11_directives.specs.Footprints.{DirectiveHas, NameHas, SourceFootprint, included_at, of_run}
+use Rattle.c11_directives.specs.Footprints.{MomentsHave, NameHas, SourceFootprint, of_last_run}
 use Rattle.c11_directives.specs.Lines.{Line, hash_of, onto_first}
 use Rattle.c11_directives.specs.Pre.{Context}
+use Rattle.c11_directives.specs.Reaches.{at_end}
 use Rattle.c11_tokens.specs.Lex.{is_newline}
-use Rattle.sc_base.proofs.Growth.{Extends-refl}
 use Rattle.sc_base.specs.declared.id.FileId.{FileId}
 use Rattle.sc_base.specs.declared.stop.Stop.{Stop}
 use Rattle.sc_base.specs.declared.stop.Stop.TheVariants.{BranchesFull, ReadFault, OutOfMemory}
@@ -17,20 +17,18 @@ use Rattle.sc_lines.proofs.SeenLines.{line-seen}
 use Rattle.sc_lines.specs.declared.line.Line as declared
 use Rattle.sc_lines.specs.Nests.{seen_line, seen_lines}
 use Rattle.sc_lines.specs.Split.{token_lines, tokens_of}
-use Rattle.sc_model.specs.Growth.{Extends}
 use Rattle.sc_model.specs.Outside.{Files}
 use Rattle.sc_model.specs.Sets.{Sets, IsConfig, Keeps}
 use Rattle.sc_model.specs.Space.{Space}
 use Rattle.sc_model.specs.Token.{Place, Token}
 use Rattle.sc_prep.proofs.ApartLemmas.{apart-left, apart-without}
-use Rattle.sc_prep.proofs.FileStops.{comes-at, comes-included, comes-said, comes-then, footprints-included}
+use Rattle.sc_prep.proofs.FileStops.{comes-at, comes-included, comes-then}
 use Rattle.sc_prep.proofs.Going.{Gone, Staged, line-later, staged-between}
 use Rattle.sc_prep.proofs.IncludeLeads.{Spelled, files-next}
 use Rattle.sc_prep.proofs.InFile.{top-is-in}
-use Rattle.sc_prep.proofs.LeadMoves.{leads-one}
 use Rattle.sc_prep.proofs.LineSteps.{line-of_file, lines-all, lines-long}
 use Rattle.sc_prep.proofs.PlainRuns.{in-more}
-use Rattle.sc_prep.proofs.Stopping.{answer-stops}
+use Rattle.sc_prep.proofs.Stopping.{answer-stops, here_at, included_at, moments-as}
 use Rattle.sc_prep.specs.Apart.{GathersFrom, StandApart, tokens_in}
 use Rattle.sc_prep.specs.Contents.{AreContents, AreHeldLines}
 use Rattle.sc_prep.specs.declared.content.Contents.{Contents}
@@ -38,11 +36,11 @@ use Rattle.sc_prep.specs.declared.content.FileLines.{FileLines}
 use Rattle.sc_prep.specs.declared.entry.Entry.{Entry}
 use Rattle.sc_prep.specs.declared.including.Part.{Part}
 use Rattle.sc_prep.specs.declared.walk.Walk.{Walk}
-use Rattle.sc_prep.specs.Footprints.{Comes, ComesAt, ComesInside, ComesOver, StopsAtPlace, any_machine, at_end, does}
+use Rattle.sc_prep.specs.Footprints.{Comes, ComesAt, ComesInside, ComesOver, StopsAtPlace, StopsWalk, any_machine, past_all}
 use Rattle.sc_prep.specs.Includes.{files_at}
 use Rattle.sc_prep.specs.Machine.{Runs, acts}
 use Rattle.sc_prep.specs.Printable.{IsPlaced}
-use Rattle.sc_prep.specs.Simulates.{Closed, IsAtTop, IsBetweenRuns, IsContext, IsIn, SimulatesOneOf}
+use Rattle.sc_prep.specs.Simulates.{IsAtTop, IsBetweenRuns, IsContext, IsIn}
 
 -- ---- the tokens of a file that are still to come
 
@@ -117,29 +115,32 @@ module _ {A : Type 0} {space : Space} {a b : Sets} {names files mid mid_files : 
   file_seen = seen_lines names files lines.tokens.items
 
   abbrev Over : List ℕ → SourceFootprint → Type 0
-  Over = Comes a names files u (IsAtTop files entry) (λ config m f. ComesOver x file_seen m f)
+  Over = Comes a names files u (IsAtTop files entry) (λ config m. MomentsHave (ComesOver x file_seen m))
 
   -- one of them stops
   pub line-stops : (d : declared.Line) → number < length lines.lines.items → (spoken : List base.Token) → spoken ≡ tokens_of lines.tokens.items (get_or lines.lines.items number d)
-      → IfErr r (StopsAtPlace b.arities (Comes b mid mid_files v (IsIn mid_files entry) (λ config m f. ComesAt x m (seen_line mid mid_files spoken) f)) limit)
+      → IfErr r (StopsAtPlace b.arities (Comes b mid mid_files v (IsIn mid_files entry) (λ config m. MomentsHave (ComesAt x m (seen_line mid mid_files spoken)))) limit)
       → IfErr r (StopsAtPlace a.arities Over limit)
   line-stops d below spoken same =
       let this = tokens_of lines.tokens.items (get_or lines.lines.items number d) in
       let seen_same = ap (seen_line mid mid_files) same
       ∙ (line-later gone.names_grow gone.files_grow this (line-of_file (IsPlaced names (length files)) lines.tokens.items (get_or lines.lines.items number d) own.placed)
       ∙ sym (line-seen names files lines.tokens.items lines.lines.items own.lines_are number d below)) in
-      answer-stops limit r gone.keeps.arities
+      answer-stops (λ at. at) _ limit r gone.keeps.arities
       (λ config f listed comes. comes-then config (gone.leads x context (held.told x.files told)) (λ m n from ran. in-more n gone.files_grow (top-is-in from ran))
-      (λ m n from ran at. comes-at file_seen number (omega (arith, below, lines-long names lines.tokens.items lines.lines.items own.lines_are files)) ran (subst (λ l. ComesAt x n l f) seen_same at))
+      (λ m n from ran. moments-as (λ k at.
+      comes-at file_seen number (omega (arith, below, lines-long names lines.tokens.items lines.lines.items own.lines_are files)) ran (subst (λ l. ComesAt x n l f.0.chain k) seen_same at)))
       listed comes)
 
   -- the run at the end stops
   pub end-stops : length lines.lines.items ≤ number → IfErr r (StopsAtPlace b.arities (Comes b mid mid_files v any_machine (λ config m f. (acts m ≡ true) × NameHas m.state.macros m.state.run f)) limit)
       → IfErr r (StopsAtPlace a.arities Over limit)
   end-stops past =
-      answer-stops limit r gone.keeps.arities
+      answer-stops here_at _ limit r gone.keeps.arities
       (λ config f listed comes. comes-then config (gone.leads x context (held.told x.files told)) (λ m n from ran. tt)
-      (λ m n from ran at. at_end n (subst (λ ls. Runs x m ls n) (lines-all names files lines.tokens.items lines.lines.items own.lines_are number past) ran) at.0 at.1)
+      (λ m n from ran at.
+      let over = past_all n (subst (λ ls. Runs x m ls n) (lines-all names files lines.tokens.items lines.lines.items own.lines_are number past) ran) at.0 in
+      record { moment = at_end n.state; comes = over; has = of_last_run at.1 })
       listed comes)
 
 -- ---- a line that includes files
@@ -149,47 +150,26 @@ hash-at : (names files : List (List ℕ)) (line : List base.Token) → (seen_lin
 hash-at names files [] is = absurd (cc)
 hash-at names files (t ∷ ts) is = (_, refl)
 
-included-stops : {A : Type 0} {arities other : List ℕ} {P : List ℕ → SourceFootprint → Type 0} (Q : List ℕ → SourceFootprint → Type 0) (limit : ℕ) (r : Result A Stop) (place : Place) → other ≡ arities
-    → ((c : List ℕ) (f : SourceFootprint) → IsConfig arities c → P c f → Q c (included_at place f.0, f.1)) → IfErr r (StopsAtPlace other P limit) → IfErr r (StopsAtPlace arities Q limit)
-included-stops Q limit (Ok x) place same to h = tt
-included-stops {P = P} Q limit (Err (BranchesFull count)) place same to h = footprints-included place to (subst (λ a. StopsAtPlace a P limit (BranchesFull count)) same h)
-included-stops Q limit (Err ReadFault) place same to h = tt
-included-stops Q limit (Err OutOfMemory) place same to h = tt
-
-module _ {A : Type 0} (limit : ℕ) (r : Result A Stop) (names files : List (List ℕ)) (entry : Entry) (line : List base.Token) (placed : All (IsPlaced names (length files)) line)
-    (directive_is : (seen_line names files line).directive ≡ Some directive.Include) (a : Sets) (u : Walk) (x : Context) where
-  abbrev At : List ℕ → SourceFootprint → Type 0
-  At = Comes a names files u (IsIn files entry) (λ config m f. ComesAt x m (seen_line names files line) f)
-
-  -- the run before it stops
-  pub run-stops : IfErr r (StopsAtPlace a.arities (Comes a names files u any_machine (λ config m f. (acts m ≡ true) × NameHas m.state.macros m.state.run f)) limit) → IfErr r (StopsAtPlace a.arities At limit)
-  run-stops =
-      answer-stops limit r refl (λ config f listed comes. λ m at from. let it = comes m at tt in does it.0 (of_run directive.Include directive_is refl it.1))
-
-  -- what it says stops
-  pub said-stops : {b : Sets} {mid : List (List ℕ)} {v : Walk} → Keeps a b → Extends names mid → SimulatesOneOf files names a u mid b v (λ config m n. Closed m n)
-      → IfErr r (StopsAtPlace b.arities (Comes b mid files v any_machine (λ config m f. (acts m ≡ true) × DirectiveHas m.state.macros (seen_line mid files line) f)) limit)
-      → IfErr r (StopsAtPlace a.arities At limit)
-  said-stops keeps grows closes =
-      answer-stops limit r keeps.arities
-      (λ config f listed comes. comes-then config (leads-one (IsIn files entry) closes) (λ m n from was. tt)
-      (λ m n from was it. comes-said directive.Include directive_is refl was it.0 (subst (λ l. DirectiveHas n.state.macros l f) (line-later grows (Extends-refl files) line placed) it.1))
-      listed comes)
-
-  -- a file of it stops
-  pub file-stops : {space : Space} {b : Sets} {mid mid_files : List (List ℕ)} {v : Walk} {one two : Contents} {holds : Option Files} (parts : List Part) (i : ℕ) (part : Part) (depth : ℕ) → part ≡ get_or parts i part
-      → i < length parts → depth ≡ entry.depth + 1
-      → Gone space a names files u one b mid mid_files v two (Spelled names line) (IsIn files entry)
-      (λ x config m n. Staged x (seen_line names files line) mid_files entry.depth m (files_at b (drop i parts) config) n)
-      → AreContents mid mid_files holds two → IsContext space x → holds ≡ Some x.files
-      → IfErr r (StopsAtPlace b.arities (Comes b mid mid_files v IsBetweenRuns (λ config m f. (b.has part.cond.0 config ≡ true) × ComesInside x (text_at mid_files part.file.0) depth m f)) limit)
-      → IfErr r (StopsAtPlace a.arities At limit)
-  file-stops {b = b} {mid_files = mid_files} parts i part depth one_is below deep gone held context told =
-      let hash = hash-at names files line directive_is in
-      let left_at : List ℕ → Bool → List FileId = λ config has. if has then part.file ∷ files_at b (drop (suc i) parts) config else files_at b (drop (suc i) parts) config in
-      included-stops At limit r hash.0.place gone.keeps.arities
-      (λ config g listed comes. comes-then config (gone.leads x context (held.told x.files told)) (λ m n from staged. staged-between staged)
-      (λ m n from staged it.
-      let left = subst (λ (p : Part). files_at b (drop i parts) config ≡ (if b.has p.cond.0 config then p.file ∷ files_at b (drop (suc i) parts) config else files_at b (drop (suc i) parts) config)) (sym one_is) (files-next b config parts i part below) in
-      comes-included part.file hash.0 directive_is hash.1 staged (left ∙ ap (left_at config) it.0) (subst (λ d. ComesInside x (text_at mid_files part.file.0) d n g) deep it.1))
-      listed comes)
+-- a file of it stops
+pub file-stops : {A : Type 0} (limit : ℕ) (r : Result A Stop) (names files : List (List ℕ)) (entry : Entry) (line : List base.Token) → (seen_line names files line).directive ≡ Some directive.Include
+    → (a : Sets) (u : Walk) (x : Context) {space : Space} {b : Sets} {mid mid_files : List (List ℕ)} {v : Walk} {one two : Contents} {holds : Option Files} (parts : List Part) (i : ℕ) (part : Part) (depth : ℕ)
+    → part ≡ get_or parts i part → i < length parts → depth ≡ entry.depth + 1
+    → Gone space a names files u one b mid mid_files v two (Spelled names line) (IsIn files entry)
+    (λ x config m n. Staged x (seen_line names files line) mid_files entry.depth m (files_at b (drop i parts) config) n)
+    → AreContents mid mid_files holds two → IsContext space x → holds ≡ Some x.files
+    → IfErr r (StopsWalk b mid mid_files v IsBetweenRuns (λ config m f. (b.has part.cond.0 config ≡ true) × MomentsHave (ComesInside x (text_at mid_files part.file.0) depth m) f) limit)
+    → IfErr r (StopsWalk a names files u (IsIn files entry) (λ config m. MomentsHave (ComesAt x m (seen_line names files line))) limit)
+file-stops limit r names files entry line directive_is a u x {b = b} {mid_files = mid_files} parts i part depth one_is below deep gone held context told =
+    let hash = hash-at names files line directive_is in
+    let left_at : List ℕ → Bool → List FileId = λ config has. if has then part.file ∷ files_at b (drop (suc i) parts) config else files_at b (drop (suc i) parts) config in
+    answer-stops (included_at hash.0.place) _ limit r gone.keeps.arities
+    (λ config g listed comes. comes-then config (gone.leads x context (held.told x.files told)) (λ m n from staged. staged-between staged)
+    (λ m n from staged it.
+    let left = subst (λ (p : Part). files_at b (drop i parts) config ≡ (if b.has p.cond.0 config then p.file ∷ files_at b (drop (suc i) parts) config else files_at b (drop (suc i) parts) config)) (sym one_is) (files-next b config parts i part below) in
+    record {
+      moment = it.1.moment;
+      comes = comes-included part.file hash.0 directive_is hash.1 staged (left ∙ ap (left_at config) it.0)
+          (subst (λ d. ComesInside x (text_at mid_files part.file.0) d n g.0.chain it.1.moment) deep it.1.comes);
+      has = it.1.has;
+    })
+    listed comes)

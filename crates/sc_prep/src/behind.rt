@@ -13,7 +13,7 @@ ghost use Rattle.sc_model.specs.Growth.{Extends};
 ghost use Rattle.sc_model.specs.Sets.{IsCond, IsConfig, Keeps};
 ghost use Rattle.sc_hoist.specs.Places.{places_at};
 ghost use Rattle.sc_prep.specs.Apart.{StandApart};
-ghost use Rattle.sc_prep.specs.Footprints.{Comes, HaveLists, StopsAtPlace, any_machine};
+ghost use Rattle.sc_prep.specs.Footprints.{Comes, HaveLists, StopsWalk, any_machine};
 ghost use Rattle.sc_prep.specs.Machine.{Carried, SaysAt, acts};
 ghost use Rattle.sc_prep.specs.Printable.{ArePlaced, IsHeldWalk, IsPlaced, any_token};
 ghost use Rattle.sc_prep.specs.Simulates.{Owns, SimulatesOneOf};
@@ -56,8 +56,9 @@ impl Walk {
         ensures lists { IfOk result (λ list. (d : Directive) (count : ℕ) → (seen_line names.old files.now line.now).directive ≡ Some d → is_said d ≡ true → StandApart line.now
             → HaveLists (C.sets conds.old).arities (λ c. (C.sets conds.new).has self.new.acting.0 c) (λ c. places_at (C.sets conds.new) list c) count
             → HasFootprints (IsConfig (C.sets conds.old).arities) (Comes (C.sets conds.old) names.old files.now self.old any_machine (λ config m f. (acts m ≡ true) × DirectiveHas m.state.macros (seen_line names.old files.now line.now) f)) count) }
-        ensures footprints { (d : Directive) → (seen_line names.old files.now line.now).directive ≡ Some d → is_said d ≡ true → StandApart line.now → IfErr result (StopsAtPlace (C.sets conds.old).arities
-            (Comes (C.sets conds.old) names.old files.now self.old any_machine (λ config m f. (acts m ≡ true) × DirectiveHas m.state.macros (seen_line names.old files.now line.now) f)) limit) }
+        ensures footprints { (d : Directive) → (seen_line names.old files.now line.now).directive ≡ Some d → is_said d ≡ true → StandApart line.now
+            → IfErr result (StopsWalk (C.sets conds.old) names.old files.now self.old any_machine
+            (λ config m f. (acts m ≡ true) × DirectiveHas m.state.macros (seen_line names.old files.now line.now) f) limit) }
 
         // at every outcome
         ensures keeps { Keeps (C.sets conds.old) (C.sets conds.new) }
@@ -93,8 +94,9 @@ impl Walk {
         ensures list { OnOk result (self.new.prepared.list ≡ self.old.prepared.list) }
         ensures stops { IfErr result (StopsBy (C.sets conds.old).arities limit) }
         ensures gathered { OnOk result (self.new.gathered ≡ self.old.gathered) }
-        ensures footprints { (d : Directive) → (seen_line names.old files.now line.now).directive ≡ Some d → is_said d ≡ true → StandApart line.now → IfErr result (StopsAtPlace (C.sets conds.old).arities
-            (Comes (C.sets conds.old) names.old files.now self.old any_machine (λ config m f. (acts m ≡ true) × DirectiveHas m.state.macros (seen_line names.old files.now line.now) f)) limit) }
+        ensures footprints { (d : Directive) → (seen_line names.old files.now line.now).directive ≡ Some d → is_said d ≡ true → StandApart line.now
+            → IfErr result (StopsWalk (C.sets conds.old) names.old files.now self.old any_machine
+            (λ config m f. (acts m ≡ true) × DirectiveHas m.state.macros (seen_line names.old files.now line.now) f) limit) }
 
         // at every outcome
         ensures keeps { Keeps (C.sets conds.old) (C.sets conds.new) }

@@ -7,7 +7,7 @@ ghost use Rattle.sc_model.specs.Growth.{Extends};
 ghost use Rattle.sc_model.specs.Sets.{Sets, IsCond, Keeps};
 ghost use Rattle.sc_prep.specs.Closes.{IsWithin, PutsOut, RefusesEach};
 ghost use Rattle.sc_prep.specs.Apart.{GathersFrom, StandApart, tokens_in};
-ghost use Rattle.sc_prep.specs.Footprints.{Comes, StopsAtPlace, any_machine};
+ghost use Rattle.sc_prep.specs.Footprints.{StopsWalk, any_machine};
 ghost use Rattle.sc_prep.specs.Machine.{acts};
 ghost use Rattle.sc_prep.specs.Printable.{AllPass, ClosesPlain, IsHeldWalk, any_token, is_plain};
 ghost use Rattle.sc_prep.specs.Simulates.{Closed, Owns, SimulatesOneOf};
@@ -40,8 +40,9 @@ impl Walk {
             → AllPass (is_plain names.new) self.new.prepared.list) }
         ensures stops { IfErr result (StopsBy (C.sets conds.old).arities limit) }
         ensures gathers { OnOk result (GathersFrom [] self.old self.new) }
-        ensures footprints { StandApart (tokens_in self.old.gathered) → IfErr result (StopsAtPlace (C.sets conds.old).arities (Comes (C.sets conds.old) names.old files.now self.old any_machine
-            (λ config m f. (acts m ≡ true) × NameHas m.state.macros m.state.run f)) limit) }
+        ensures footprints { StandApart (tokens_in self.old.gathered)
+            → IfErr result (StopsWalk (C.sets conds.old) names.old files.now self.old any_machine
+            (λ config m f. (acts m ≡ true) × NameHas m.state.macros m.state.run f) limit) }
 
         // at every outcome
         ensures keeps { Keeps (C.sets conds.old) (C.sets conds.new) }

@@ -1,6 +1,7 @@
 //! The sections that expressions open and go on with (C11 6.10.1).
 ghost use Rattle.std.specs.Prelude.{◌≡◌, ◌<◌, All, List, ℕ, Some, IfErr, OnOk, length};
 ghost use Rattle.c11_directives.specs.declared.directive.Conditional.TheVariants as conditional;
+ghost use Rattle.c11_directives.specs.Footprints.{MomentsHave};
 ghost use Rattle.c11_directives.specs.Lines.{conditional_of};
 ghost use Rattle.c11_directives.specs.Pre.{Context};
 ghost use Rattle.sc_expand.specs.Stops.{StopsBy};
@@ -9,7 +10,7 @@ ghost use Rattle.sc_model.specs.Growth.{Extends};
 ghost use Rattle.sc_model.specs.Sets.{Keeps};
 ghost use Rattle.sc_prep.specs.Machine.{Decided, step};
 ghost use Rattle.sc_prep.specs.Apart.{StandApart};
-ghost use Rattle.sc_prep.specs.Footprints.{Comes, ComesAt, StopsAtPlace, any_machine};
+ghost use Rattle.sc_prep.specs.Footprints.{ComesAt, StopsWalk, any_machine};
 ghost use Rattle.sc_prep.specs.Printable.{IsHeldWalk, IsPlaced, any_token};
 ghost use Rattle.sc_prep.specs.Simulates.{Owns, SimulatesOneOf};
 ghost use Rattle.sc_table.specs.Table.{IsTable};
@@ -41,8 +42,9 @@ impl Walk {
         ensures list { OnOk result (self.new.prepared.list ≡ self.old.prepared.list) }
         ensures stops { IfErr result (StopsBy (C.sets conds.old).arities limit) }
         ensures gathered { OnOk result (self.new.gathered ≡ self.old.gathered) }
-        ensures footprints { (x : Context) → StandApart line.now → IfErr result (StopsAtPlace (C.sets conds.old).arities (Comes (C.sets conds.old) names.old files.now self.old any_machine
-            (λ config m f. ComesAt x m (seen_line names.old files.now line.now) f)) limit) }
+        ensures footprints { (x : Context) → StandApart line.now
+            → IfErr result (StopsWalk (C.sets conds.old) names.old files.now self.old any_machine
+            (λ config m. MomentsHave (ComesAt x m (seen_line names.old files.now line.now))) limit) }
 
         // at every outcome
         ensures keeps { Keeps (C.sets conds.old) (C.sets conds.new) }
@@ -75,8 +77,9 @@ impl Walk {
         ensures list { OnOk result (self.new.prepared.list ≡ self.old.prepared.list) }
         ensures stops { IfErr result (StopsBy (C.sets conds.old).arities limit) }
         ensures gathered { OnOk result (self.new.gathered ≡ self.old.gathered) }
-        ensures footprints { (x : Context) → StandApart line.now → IfErr result (StopsAtPlace (C.sets conds.old).arities (Comes (C.sets conds.old) names.old files.now self.old any_machine
-            (λ config m f. ComesAt x m (seen_line names.old files.now line.now) f)) limit) }
+        ensures footprints { (x : Context) → StandApart line.now
+            → IfErr result (StopsWalk (C.sets conds.old) names.old files.now self.old any_machine
+            (λ config m. MomentsHave (ComesAt x m (seen_line names.old files.now line.now))) limit) }
 
         // at every outcome
         ensures keeps { Keeps (C.sets conds.old) (C.sets conds.new) }

@@ -4,6 +4,7 @@ ghost use Rattle.sc_base.specs.Seen.{IsHeld, text_at};
 ghost use Rattle.sc_base.specs.declared.stop.Stop.TheVariants as stop;
 ghost use Rattle.sc_lines.specs.Split.{directive_at};
 ghost use Rattle.c11_directives.specs.declared.directive.Directive.TheVariants as kind;
+ghost use Rattle.c11_directives.specs.Footprints.{MomentsHave};
 ghost use Rattle.c11_directives.specs.Lines.{conditional_in};
 ghost use Rattle.c11_directives.specs.Pre.{Context, is_barrier, operand_of, undefined};
 ghost use Rattle.sc_base.specs.declared.token.Token as base;
@@ -14,7 +15,7 @@ ghost use Rattle.sc_macro.specs.Seen.{IsHeldDefinition};
 ghost use Rattle.sc_expand.specs.Stops.{StopsBy};
 ghost use Rattle.sc_model.specs.Growth.{Extends};
 ghost use Rattle.sc_prep.specs.Apart.{GathersFrom, StandApart, tokens_in};
-ghost use Rattle.sc_prep.specs.Footprints.{Comes, ComesAt, StopsAtPlace, any_machine};
+ghost use Rattle.sc_prep.specs.Footprints.{ComesAt, StopsWalk, any_machine};
 ghost use Rattle.sc_prep.specs.Machine as machine;
 ghost use Rattle.sc_prep.specs.Machine.{Decided, Takes, acts, changed_by, changing, defined_as, ends_run, is_taken, plain_by, opened_by_name, refusing, opened};
 ghost use Rattle.sc_prep.specs.Simulates.{Owns, SimulatesOneOf, SimulatesStep};
@@ -56,8 +57,9 @@ impl Walk {
             → AllPass (is_plain names.new) self.new.prepared.list) }
         ensures stops { IfErr result (StopsBy (C.sets conds.old).arities limit) }
         ensures gathers { OnOk result (GathersFrom tokens.now self.old self.new) }
-        ensures footprints { (x : Context) → StandApart (tokens_in self.old.gathered ++ tokens.now) → IfErr result (StopsAtPlace (C.sets conds.old).arities (Comes (C.sets conds.old) names.old files.now self.old any_machine
-            (λ config m f. ComesAt x m (seen_line names.old files.now tokens.now) f)) limit) }
+        ensures footprints { (x : Context) → StandApart (tokens_in self.old.gathered ++ tokens.now)
+            → IfErr result (StopsWalk (C.sets conds.old) names.old files.now self.old any_machine
+            (λ config m. MomentsHave (ComesAt x m (seen_line names.old files.now tokens.now))) limit) }
 
         // at every outcome
         ensures keeps { Keeps (C.sets conds.old) (C.sets conds.new) }
@@ -99,8 +101,9 @@ impl Walk {
             → AllPass (is_plain names.new) self.new.prepared.list) }
         ensures stops { IfErr result (StopsBy (C.sets conds.old).arities limit) }
         ensures gathers { OnOk result (GathersFrom line.now self.old self.new) }
-        ensures footprints { (x : Context) → StandApart (tokens_in self.old.gathered ++ line.now) → IfErr result (StopsAtPlace (C.sets conds.old).arities (Comes (C.sets conds.old) names.old files.now self.old any_machine
-            (λ config m f. ComesAt x m (seen_line names.old files.now line.now) f)) limit) }
+        ensures footprints { (x : Context) → StandApart (tokens_in self.old.gathered ++ line.now)
+            → IfErr result (StopsWalk (C.sets conds.old) names.old files.now self.old any_machine
+            (λ config m. MomentsHave (ComesAt x m (seen_line names.old files.now line.now))) limit) }
 
         // at every outcome
         ensures keeps { Keeps (C.sets conds.old) (C.sets conds.new) }
@@ -137,8 +140,9 @@ impl Walk {
             → AllPass (is_plain names.new) self.new.prepared.list) }
         ensures stops { IfErr result (StopsBy (C.sets conds.old).arities limit) }
         ensures gathers { OnOk result (GathersFrom line.now self.old self.new) }
-        ensures footprints { (x : Context) → StandApart (tokens_in self.old.gathered ++ line.now) → IfErr result (StopsAtPlace (C.sets conds.old).arities (Comes (C.sets conds.old) names.old files.now self.old any_machine
-            (λ config m f. ComesAt x m (seen_line names.old files.now line.now) f)) limit) }
+        ensures footprints { (x : Context) → StandApart (tokens_in self.old.gathered ++ line.now)
+            → IfErr result (StopsWalk (C.sets conds.old) names.old files.now self.old any_machine
+            (λ config m. MomentsHave (ComesAt x m (seen_line names.old files.now line.now))) limit) }
 
         // at every outcome
         ensures keeps { Keeps (C.sets conds.old) (C.sets conds.new) }
@@ -173,8 +177,9 @@ impl Walk {
         ensures list { OnOk result (self.new.prepared.list ≡ self.old.prepared.list) }
         ensures stops { IfErr result (StopsBy (C.sets conds.old).arities limit) }
         ensures gathered { OnOk result (self.new.gathered ≡ self.old.gathered) }
-        ensures footprints { (x : Context) → StandApart line.now → IfErr result (StopsAtPlace (C.sets conds.old).arities (Comes (C.sets conds.old) names.old files.now self.old any_machine
-            (λ config m f. ComesAt x m (seen_line names.old files.now line.now) f)) limit) }
+        ensures footprints { (x : Context) → StandApart line.now
+            → IfErr result (StopsWalk (C.sets conds.old) names.old files.now self.old any_machine
+            (λ config m. MomentsHave (ComesAt x m (seen_line names.old files.now line.now))) limit) }
 
         // at every outcome
         ensures keeps { Keeps (C.sets conds.old) (C.sets conds.new) }

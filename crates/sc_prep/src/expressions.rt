@@ -19,7 +19,7 @@ ghost use Rattle.sc_model.specs.Sets.{IsCond, IsConfig, Keeps};
 ghost use Rattle.sc_model.specs.Token as model;
 ghost use Rattle.sc_prep.specs.Expressions.{DecidesAt, EvaluatesAt, ExpandsAt, ReplacesAt};
 ghost use Rattle.sc_prep.specs.Apart.{AreDifferent, StandApart};
-ghost use Rattle.sc_prep.specs.Footprints.{Comes, StopsAtPlace, StopsByLists, any_machine};
+ghost use Rattle.sc_prep.specs.Footprints.{StopsByLists, StopsWalk, any_machine};
 ghost use Rattle.sc_prep.specs.Printable.{ArePlaced, IsHeldWalk, IsPlaced, any_token};
 ghost use Rattle.sc_prep.specs.Simulates.{Owns, SimulatesOneOf};
 ghost use Rattle.sc_table.specs.Table.{IsTable, macros_at};
@@ -60,8 +60,9 @@ impl Walk {
         ensures list { OnOk result (self.new.prepared.list ≡ self.old.prepared.list) }
         ensures stops { IfErr result (StopsBy (C.sets conds.old).arities limit) }
         ensures gathered { OnOk result (self.new.gathered ≡ self.old.gathered) }
-        ensures footprints { StandApart line.now → IfErr result (StopsAtPlace (C.sets conds.old).arities (Comes (C.sets conds.old) names.old files.now self.old any_machine
-            (λ config m f. (((C.sets conds.old).has among.0 config && is_none m.fault) ≡ true) × DirectiveHas m.state.macros (seen_line names.old files.now line.now) f)) limit) }
+        ensures footprints { StandApart line.now
+            → IfErr result (StopsWalk (C.sets conds.old) names.old files.now self.old any_machine
+            (λ config m f. (((C.sets conds.old).has among.0 config && is_none m.fault) ≡ true) × DirectiveHas m.state.macros (seen_line names.old files.now line.now) f) limit) }
 
         // at every outcome
         ensures keeps { Keeps (C.sets conds.old) (C.sets conds.new) }
@@ -151,8 +152,9 @@ impl Walk {
             → AreAlike (C.sets conds.old) c d list.now
             → DefineTextAlike (macros_at (C.sets conds.old) names.old self.old.table c) (macros_at (C.sets conds.old) names.old self.old.table d) (map (seen names.old files.now) (items_at (C.sets conds.old) list.now c))
             → AreAlike (C.sets conds.new) c d r) }
-        ensures footprints { AreDifferent names.old files.now list.now → IfErr result (StopsAtPlace (C.sets conds.old).arities (Comes (C.sets conds.old) names.old files.now self.old any_machine
-            (λ config m f. (((C.sets conds.old).has among.0 config && is_none m.fault) ≡ true) × NameHas m.state.macros (map (seen names.old files.now) (items_at (C.sets conds.old) list.now config)) f)) limit) }
+        ensures footprints { AreDifferent names.old files.now list.now
+            → IfErr result (StopsWalk (C.sets conds.old) names.old files.now self.old any_machine
+            (λ config m f. (((C.sets conds.old).has among.0 config && is_none m.fault) ≡ true) × NameHas m.state.macros (map (seen names.old files.now) (items_at (C.sets conds.old) list.now config)) f) limit) }
 
         // at every outcome
         ensures keeps { Keeps (C.sets conds.old) (C.sets conds.new) }

@@ -12,7 +12,7 @@ ghost use Rattle.sc_model.specs.Space.{arities_of};
 ghost use Rattle.sc_prep.specs.Contents.{Agrees, KeepsContents};
 ghost use Rattle.sc_prep.specs.Includes.{ArePartsOf, Finds, files_at};
 ghost use Rattle.sc_prep.specs.Apart.{StandApart};
-ghost use Rattle.sc_prep.specs.Footprints.{Comes, StopsAtPlace, any_machine};
+ghost use Rattle.sc_prep.specs.Footprints.{StopsWalk, any_machine};
 ghost use Rattle.sc_prep.specs.Machine.{acts, refusing_if};
 ghost use Rattle.sc_prep.specs.Naming.{ArePlainNames, NamesAt, headers_in};
 ghost use Rattle.sc_prep.specs.Preprocesses.{Stops};
@@ -75,8 +75,9 @@ impl Walk {
         ensures read { OnOk result (KeepsContents contents.old contents.new) }
         ensures stops { IfErr result (Stops (C.sets conds.old).arities (seen_space space.now).branches (S.faults src.old) (S.faults src.new)) }
         ensures gathered { OnOk result (self.new.gathered ≡ self.old.gathered) }
-        ensures footprints { (d : Directive) → (seen_line names.old files.old line.now).directive ≡ Some d → is_said d ≡ true → StandApart line.now → IfErr result (StopsAtPlace (C.sets conds.old).arities
-            (Comes (C.sets conds.old) names.old files.old self.old any_machine (λ config m f. (acts m ≡ true) × DirectiveHas m.state.macros (seen_line names.old files.old line.now) f)) (seen_space space.now).branches) }
+        ensures footprints { (d : Directive) → (seen_line names.old files.old line.now).directive ≡ Some d → is_said d ≡ true → StandApart line.now
+            → IfErr result (StopsWalk (C.sets conds.old) names.old files.old self.old any_machine
+            (λ config m f. (acts m ≡ true) × DirectiveHas m.state.macros (seen_line names.old files.old line.now) f) (seen_space space.now).branches) }
 
         // at every outcome
         ensures kept { S.holds src.new ≡ S.holds src.old }
@@ -132,8 +133,9 @@ impl Walk {
         ensures list { OnOk result (self.new.prepared.list ≡ self.old.prepared.list) }
         ensures stops { IfErr result (StopsBy (C.sets conds.old).arities limit) }
         ensures gathered { OnOk result (self.new.gathered ≡ self.old.gathered) }
-        ensures footprints { (d : Directive) → (seen_line names.old files.now line.now).directive ≡ Some d → is_said d ≡ true → StandApart line.now → IfErr result (StopsAtPlace (C.sets conds.old).arities
-            (Comes (C.sets conds.old) names.old files.now self.old any_machine (λ config m f. (acts m ≡ true) × DirectiveHas m.state.macros (seen_line names.old files.now line.now) f)) limit) }
+        ensures footprints { (d : Directive) → (seen_line names.old files.now line.now).directive ≡ Some d → is_said d ≡ true → StandApart line.now
+            → IfErr result (StopsWalk (C.sets conds.old) names.old files.now self.old any_machine
+            (λ config m f. (acts m ≡ true) × DirectiveHas m.state.macros (seen_line names.old files.now line.now) f) limit) }
 
         // at every outcome
         ensures keeps { Keeps (C.sets conds.old) (C.sets conds.new) }

@@ -1,5 +1,6 @@
 //! The walk of a file's lines, and of the files that they include.
 ghost use Rattle.std.specs.Prelude.{◌≡◌, ℕ, ◌<◌, ◌≤◌, ◌++◌, [], List, All, length, OnOk, IfErr, Some, true};
+ghost use Rattle.c11_directives.specs.Footprints.{MomentsHave};
 ghost use Rattle.c11_directives.specs.Pre.{Context};
 ghost use Rattle.c11_directives.specs.declared.directive.Directive.TheVariants as kind;
 ghost use Rattle.sc_base.specs.Seen.{text_at};
@@ -9,7 +10,7 @@ ghost use Rattle.sc_model.specs.Growth.{Extends};
 ghost use Rattle.sc_model.specs.Sets.{IsCond, Keeps};
 ghost use Rattle.sc_prep.specs.Contents.{Agrees, AreHeldLines, KeepsContents, content_at};
 ghost use Rattle.sc_prep.specs.Apart.{GathersFrom, StandApart, tokens_in};
-ghost use Rattle.sc_prep.specs.Footprints.{Comes, ComesAt, ComesInside, ComesOver, StopsAtPlace};
+ghost use Rattle.sc_prep.specs.Footprints.{ComesAt, ComesInside, ComesOver, StopsWalk};
 ghost use Rattle.sc_prep.specs.Includes.{EntersAt};
 ghost use Rattle.sc_prep.specs.Machine.{Takes};
 ghost use Rattle.sc_prep.specs.Preprocesses.{Stops};
@@ -62,8 +63,9 @@ impl Walk {
             → ArePlainPaths files.old → PlainEach (C.sets conds.old) names.old files.old self.old (IsAtTop files.old entry) → ArePlainPaths files.new) }
         ensures read { OnOk result (KeepsContents contents.old contents.new) }
         ensures stops { IfErr result (Stops (C.sets conds.old).arities (seen_space space.now).branches (S.faults src.old) (S.faults src.new)) }
-        ensures footprints { (x : Context) → IsContext (seen_space space.now) x → S.holds src.old ≡ Some x.files → self.old.gathered ≡ [] → StandApart file.now.tokens.items → IfErr result (StopsAtPlace (C.sets conds.old).arities
-            (Comes (C.sets conds.old) names.old files.old self.old (IsAtTop files.old entry) (λ config m f. ComesOver x (seen_lines names.old files.old file.now.tokens.items) m f)) (seen_space space.now).branches) }
+        ensures footprints { (x : Context) → IsContext (seen_space space.now) x → S.holds src.old ≡ Some x.files → self.old.gathered ≡ [] → StandApart file.now.tokens.items
+            → IfErr result (StopsWalk (C.sets conds.old) names.old files.old self.old (IsAtTop files.old entry)
+            (λ config m. MomentsHave (ComesOver x (seen_lines names.old files.old file.now.tokens.items) m)) (seen_space space.now).branches) }
 
         // at every outcome
         ensures kept { S.holds src.new ≡ S.holds src.old }
@@ -119,8 +121,9 @@ impl Walk {
         ensures read { OnOk result (KeepsContents contents.old contents.new) }
         ensures stops { IfErr result (Stops (C.sets conds.old).arities (seen_space space.now).branches (S.faults src.old) (S.faults src.new)) }
         ensures gathers { OnOk result (GathersFrom tokens.now self.old self.new) }
-        ensures footprints { (x : Context) → IsContext (seen_space space.now) x → S.holds src.old ≡ Some x.files → StandApart (tokens_in self.old.gathered ++ tokens.now) → IfErr result (StopsAtPlace (C.sets conds.old).arities
-            (Comes (C.sets conds.old) names.old files.old self.old (IsIn files.old entry) (λ config m f. ComesAt x m (seen_line names.old files.old tokens.now) f)) (seen_space space.now).branches) }
+        ensures footprints { (x : Context) → IsContext (seen_space space.now) x → S.holds src.old ≡ Some x.files → StandApart (tokens_in self.old.gathered ++ tokens.now)
+            → IfErr result (StopsWalk (C.sets conds.old) names.old files.old self.old (IsIn files.old entry)
+            (λ config m. MomentsHave (ComesAt x m (seen_line names.old files.old tokens.now))) (seen_space space.now).branches) }
 
         // at every outcome
         ensures kept { S.holds src.new ≡ S.holds src.old }
@@ -175,8 +178,9 @@ impl Walk {
         ensures read { OnOk result (KeepsContents contents.old contents.new) }
         ensures stops { IfErr result (Stops (C.sets conds.old).arities (seen_space space.now).branches (S.faults src.old) (S.faults src.new)) }
         ensures gathers { OnOk result (GathersFrom line.now self.old self.new) }
-        ensures footprints { (x : Context) → IsContext (seen_space space.now) x → S.holds src.old ≡ Some x.files → StandApart (tokens_in self.old.gathered ++ line.now) → IfErr result (StopsAtPlace (C.sets conds.old).arities
-            (Comes (C.sets conds.old) names.old files.old self.old (IsIn files.old entry) (λ config m f. ComesAt x m (seen_line names.old files.old line.now) f)) (seen_space space.now).branches) }
+        ensures footprints { (x : Context) → IsContext (seen_space space.now) x → S.holds src.old ≡ Some x.files → StandApart (tokens_in self.old.gathered ++ line.now)
+            → IfErr result (StopsWalk (C.sets conds.old) names.old files.old self.old (IsIn files.old entry)
+            (λ config m. MomentsHave (ComesAt x m (seen_line names.old files.old line.now))) (seen_space space.now).branches) }
 
         // at every outcome
         ensures kept { S.holds src.new ≡ S.holds src.old }
@@ -242,8 +246,9 @@ impl Walk {
         ensures read { OnOk result (KeepsContents contents.old contents.new) }
         ensures stops { IfErr result (Stops (C.sets conds.old).arities (seen_space space.now).branches (S.faults src.old) (S.faults src.new)) }
         ensures gathered { OnOk result (self.new.gathered ≡ self.old.gathered) }
-        ensures footprints { (x : Context) → IsContext (seen_space space.now) x → S.holds src.old ≡ Some x.files → IfErr result (StopsAtPlace (C.sets conds.old).arities
-            (Comes (C.sets conds.old) names.old files.old self.old IsBetweenRuns (λ config m f. ((C.sets conds.old).has cond.0 config ≡ true) × ComesInside x (text_at files.old entry.file.0) entry.depth m f)) (seen_space space.now).branches) }
+        ensures footprints { (x : Context) → IsContext (seen_space space.now) x → S.holds src.old ≡ Some x.files
+            → IfErr result (StopsWalk (C.sets conds.old) names.old files.old self.old IsBetweenRuns
+            (λ config m f. ((C.sets conds.old).has cond.0 config ≡ true) × MomentsHave (ComesInside x (text_at files.old entry.file.0) entry.depth m) f) (seen_space space.now).branches) }
 
         // at every outcome
         ensures kept { S.holds src.new ≡ S.holds src.old }

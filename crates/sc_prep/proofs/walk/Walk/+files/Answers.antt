@@ -43,7 +43,8 @@ use Rattle.sc_prep.specs.declared.walk.Walk.{Walk}
 use Rattle.sc_prep.proofs.ApartLemmas.{apart-left, apart-right, lines-apart}
 use Rattle.sc_prep.proofs.FileStops.{comes-inside}
 use Rattle.sc_prep.proofs.Stopping.{answer-stops}
-use Rattle.sc_prep.proofs.WalkStops.{apart-first, apart-line, apart-next, end-stops, file-stops, line-stops, run-stops, said-stops, to_come}
+use Rattle.sc_prep.proofs.DirectiveStops.{carried-stops, closing-stops}
+use Rattle.sc_prep.proofs.WalkStops.{apart-first, apart-line, apart-next, end-stops, file-stops, line-stops, to_come}
 use Rattle.sc_prep.proofs.walk.Walk.+files.Goals as goal
 
 ok-both : {A E P Q R : Type 0} (r : Result A E) → (P → Q → R) → OnOk r P → OnOk r Q → OnOk r R
@@ -554,7 +555,7 @@ include_line-returns-in_err-parts-clause-keeps g t c = Keeps-trans c.in_ok-close
 
 pub take_line-returns-in_default-clause-footprints : goal.take_line-returns-in_default-clause-footprints
 take_line-returns-in_default-clause-footprints g t c = λ x context told apart.
-    answer-stops c.args.space.now.limits.branches c.local_line.result refl (λ config f listed comes. λ m at from. comes m at tt) (c.local_line.ensures.footprints x apart)
+    answer-stops (λ at. at) _ c.args.space.now.limits.branches c.local_line.result refl (λ config f listed comes. λ m at from. comes m at tt) (c.local_line.ensures.footprints x apart)
 
 pub walk_lines-returns-in_err-take_line-clause-footprints : goal.walk_lines-returns-in_err-take_line-clause-footprints
 walk_lines-returns-in_err-take_line-clause-footprints g t c = λ x context told none apart.
@@ -576,24 +577,20 @@ walk_lines-returns-clause-footprints g t c = λ x context told none apart.
 
 pub include_line-returns-in_err-close_runs-clause-footprints : goal.include_line-returns-in_err-close_runs-clause-footprints
 include_line-returns-in_err-close_runs-clause-footprints g t c = λ x context told apart.
-    let names = c.args.names.now in
-    let files = c.args.files.now in
     let line = c.args.line.now in
     let stops = c.in_err-close_runs.ensures.footprints (apart-left _ line apart) in
-    run-stops c.args.space.now.limits.branches c.from_residual.result names files c.args.entry line c.requires.placed (directive-files names files line ∙ c.requires.directive)
-    (g.C.Conditions.sets c.args.conds.now) c.args.self.now x (search (rules, stops))
+    closing-stops c.args.space.now.limits.branches c.from_residual.result c.args.names.now c.args.files.now (g.C.Conditions.sets c.args.conds.now) c.args.self.now
+    (IsIn c.args.files.now c.args.entry) x line kind.Include (sym c.requires.directive) refl
+    (search (rules, stops))
 
 pub include_line-returns-in_err-parts-clause-footprints : goal.include_line-returns-in_err-parts-clause-footprints
 include_line-returns-in_err-parts-clause-footprints g t c = λ x context told apart.
-    let names = c.args.names.now in
-    let files = c.args.files.now in
     let line = c.args.line.now in
-    let directed = directive-files names files line ∙ c.requires.directive in
     let closed = c.in_ok-close_runs.ensures in
-    let stops = c.in_err-parts.ensures.footprints kind.Include (ap (λ (l : seen.Line). l.directive) (line-later closed.names (Extends-refl files) line c.requires.placed) ∙ directed) refl
-    (apart-right (tokens_in c.args.self.now.gathered) line apart) in
-    said-stops c.args.space.now.limits.branches c.from_residual-in_err-parts.result names files c.args.entry line c.requires.placed directed
-    (g.C.Conditions.sets c.args.conds.now) c.args.self.now x closed.keeps closed.names closed.closes (search (rules, stops))
+    carried-stops c.args.space.now.limits.branches c.from_residual-in_err-parts.result c.args.names.now c.args.files.now (g.C.Conditions.sets c.args.conds.now) c.args.self.now
+    (IsIn c.args.files.now c.args.entry) x line kind.Include (sym c.requires.directive) refl
+    closed.names (λ k d h. (c.requires.placed k d h).held) closed.keeps closed.closes
+    (λ d directed says. let stops = c.in_err-parts.ensures.footprints d directed says (apart-right (tokens_in c.args.self.now.gathered) line apart) in search (rules, stops))
 
 pub include_line-returns-in_err-enter-clause-footprints : goal.include_line-returns-in_err-enter-clause-footprints
 include_line-returns-in_err-enter-clause-footprints g t c = λ x context told apart.
@@ -602,7 +599,7 @@ include_line-returns-in_err-enter-clause-footprints g t c = λ x context told ap
     let line = c.args.line.now in
     let inv = c.loop-part.invariant in
     let stops = c.in_err-enter.ensures.footprints x context (inv.kept ∙ told) in
-    file-stops c.args.space.now.limits.branches c.from_residual-in_err-enter.result names files c.args.entry line c.requires.placed (directive-files names files line ∙ c.requires.directive)
+    file-stops c.args.space.now.limits.branches c.from_residual-in_err-enter.result names files c.args.entry line (directive-files names files line ∙ c.requires.directive)
     (g.C.Conditions.sets c.args.conds.now) c.args.self.now x c.deref-part-items.result.now c.loop-part.part-index c.part-item.result c.deeper.result c.part-item.is c.loop-part-test.true c.deeper.ensures
     inv.gone inv.ready.read context (inv.kept ∙ told) (search (rules, stops))
 
@@ -616,7 +613,7 @@ enter-returns-in_err-walk_lines-in-Lines-clause-footprints g t c = λ x context 
     let named = content-named ready.read c.args.entry.file.0 c.requires.content in
     let has = kept-lines c.args.entry.file.0 _ (ready.read.told x.files told) named c.requires.content c.in-Lines.is in
     let stops = c.in_err-walk_lines-in-Lines.ensures.footprints x context told (ap (λ (v : Walk). v.gathered) begins.is) (lines-apart has.are) in
-    answer-stops c.args.space.now.limits.branches c.from_residual-in_err-walk_lines-in-Lines.result keeps.arities
+    answer-stops (λ at. at) _ c.args.space.now.limits.branches c.from_residual-in_err-walk_lines-in-Lines.result keeps.arities
     (comes-inside c.args.files.now c.args.cond c.args.entry keeps
     (c.in_ok-inside.ensures.meaning (old.has c.args.cond.0) (old.has w.acting.0) (Denotes-self old c.args.cond.0 c.requires.own) (Denotes-self old w.acting.0 ready.owns.acting))
     ready.owns ready.table begins x context.standard c.in-Lines.file named has) (search (rules, stops))

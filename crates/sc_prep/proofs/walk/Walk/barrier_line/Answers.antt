@@ -12,9 +12,9 @@ use Rattle.sc_prep.proofs.TakeLine.{barrier-unconditional, memory-stops, stays-p
 use Rattle.sc_lines.proofs.SeenLines.{directive-files}
 use Rattle.sc_lines.specs.Nests.{seen_line}
 use Rattle.sc_prep.specs.Apart.{tokens_in}
-use Rattle.sc_prep.specs.Footprints.{Comes, ComesAt, StopsAtPlace, any_machine}
+use Rattle.sc_prep.specs.Footprints.{any_machine}
 use Rattle.sc_prep.proofs.ApartLemmas.{apart-left, apart-right, gathers-same, gathers-then}
-use Rattle.sc_prep.proofs.DirectiveStops.{carried-stops, run-stops}
+use Rattle.sc_prep.proofs.DirectiveStops.{carried-stops, closing-stops}
 use Rattle.sc_prep.proofs.Stopping.{memory-stops-nowhere}
 use Rattle.sc_prep.proofs.walk.Walk.barrier_line.Goals as goal
 
@@ -90,22 +90,16 @@ returns-in_default-clause-keeps g c = Keeps-trans c.in_ok-close_runs.ensures.kee
 
 pub returns-in_err-close_runs-clause-footprints : goal.returns-in_err-close_runs-clause-footprints
 returns-in_err-close_runs-clause-footprints g c = λ x apart.
-    let s = g.C.Conditions.sets c.args.conds.now in
-    let names = c.args.names.now in
-    let files = c.args.files.now in
     let line = c.args.line.now in
-    let l = seen_line names files line in
-    let kept : StopsAtPlace s.arities (Comes s names files c.args.self.now any_machine (λ config m f. ComesAt x m l f)) c.args.limit c.in_err-close_runs.field-0.0 =
-    run-stops s names files c.args.self.now x l c.args.directive (directive-files names files line ∙ sym c.requires.directive) c.requires.barrier c.args.limit c.in_err-close_runs.field-0.0
-    (c.in_err-close_runs.ensures.footprints (apart-left (tokens_in c.args.self.now.gathered) line apart)) in
-    search rules
+    let stops = c.in_err-close_runs.ensures.footprints (apart-left (tokens_in c.args.self.now.gathered) line apart) in
+    closing-stops c.args.limit c.from_residual.result c.args.names.now c.args.files.now (g.C.Conditions.sets c.args.conds.now) c.args.self.now any_machine x line c.args.directive c.requires.directive c.requires.barrier (search (rules, stops))
 
 pub returns-in-Line-clause-footprints : goal.returns-in-Line-clause-footprints
 returns-in-Line-clause-footprints g c = λ x apart.
     let closed = c.in_ok-close_runs.ensures in
     let line = c.args.line.now in
-    carried-stops c.args.files.now x line kind.Line (ap Some (sym c.in-Line.is) ∙ c.requires.directive) refl closed.names (λ k d h. (c.requires.placed k d h).held) closed.keeps closed.closes
-    c.args.limit c.number_line.result
+    carried-stops c.args.limit c.number_line.result c.args.names.now c.args.files.now (g.C.Conditions.sets c.args.conds.now) c.args.self.now any_machine x line kind.Line (ap Some (sym c.in-Line.is) ∙ c.requires.directive) refl closed.names
+    (λ k d h. (c.requires.placed k d h).held) closed.keeps closed.closes
     (λ d directed says. c.number_line.ensures.footprints d directed says (apart-right (tokens_in c.args.self.now.gathered) line apart))
 
 pub returns-in_default-clause-footprints : goal.returns-in_default-clause-footprints

@@ -2,6 +2,7 @@ use Rattle.std.proofs.Common.{inl, ◌∙◌, length, rules}
 use Rattle.std.proofs.lemmas.List.Elements.{All-nil}
 use Rattle.sc_model.proofs.SetLemmas.{Keeps-trans, Denotes-self}
 use Rattle.sc_lines.specs.Nests.{seen_line}
+use Rattle.c11_directives.specs.Footprints.{MomentsHave}
 use Rattle.sc_prep.specs.Printable.{IsPlaced}
 use Rattle.sc_prep.proofs.ExpressionMoves.{empty_context, section-opened}
 use Rattle.std.specs.Prelude.{[]}
@@ -44,6 +45,6 @@ pub returns-in_err-taken-clause-footprints : goal.returns-in_err-taken-clause-fo
 returns-in_err-taken-clause-footprints g c = λ x apart.
     let s = g.C.Conditions.sets c.args.conds.now in
     let l = seen_line c.args.names.now c.args.files.now c.args.line.now in
-    let kept : StopsAtPlace s.arities (Comes s c.args.names.now c.args.files.now c.args.self.now any_machine (λ config m f. ComesAt x m l f)) c.args.limit c.in_err-taken.field-0.0 =
+    let kept : StopsAtPlace s.arities (Comes s c.args.names.now c.args.files.now c.args.self.now any_machine (λ config m. MomentsHave (ComesAt x m l))) c.args.limit c.in_err-taken.field-0.0 =
     if-stops s c.args.names.now c.args.files.now c.args.self.now x l c.requires.line c.args.limit c.in_err-taken.field-0.0 (c.in_err-taken.ensures.footprints apart) in
     search rules
