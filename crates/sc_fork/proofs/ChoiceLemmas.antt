@@ -9,12 +9,8 @@ use Rattle.sc_base.specs.declared.id.Cond.{Cond}
 use Rattle.sc_base.specs.declared.id.Name.{Name}
 use Rattle.sc_base.specs.declared.id.TreeId.{TreeId}
 use Rattle.sc_base.specs.declared.place.Place.{Place}
-use Rattle.sc_base.proofs.Growth.{Extends-append}
 use Rattle.sc_base.specs.declared.token.Token.{Token}
 use Rattle.sc_fork.specs.Choices.{AddsLeaves, AddsNoChoices}
-use Rattle.sc_fork.specs.Roots.{AddsChoice, no_choice, one_choice}
-use Rattle.sc_merge.specs.Merges.{AddsChoices, IsChoice}
-use Rattle.sc_model.specs.Growth.{Extends}
 use Rattle.sc_model.specs.Sets.{Sets, IsCond}
 use Rattle.sc_tree.specs.Lines.{Line, leaf, node, choice, branches_of, AddsAtMost, OwnsBranches}
 

@@ -1,12 +1,12 @@
 -- What marks do to levels under a condition.
-use Rattle.std.proofs.Common.{◌≡◌, ℕ, ◌<◌, ◌+◌, ◌&&◌, Bool, true, false, List, [], ◌∷◌, ◌++◌, All, length, map, take, drop, get_or, slice_get, Option, Some, refl, sym, ap, ◌∙◌, subst, if◌then◌else◌}
+use Rattle.std.proofs.Common.{◌≡◌, ℕ, ◌<◌, ◌+◌, ◌&&◌, Bool, true, false, List, [], ◌∷◌, ◌++◌, All, length, map, take, get_or, slice_get, Option, Some, refl, sym, ap, ◌∙◌, subst, if◌then◌else◌}
 use Rattle.std.proofs.lemmas.List.{get_or_default}
 use Rattle.c11_parsing.specs.Bindings as plain
 use Rattle.c11_parsing.specs.Bindings.{bind, bind_all, marked, parameters_by}
 use Rattle.c11_parsing.specs.C11.{c11_declarators}
 use Rattle.c11_parsing.specs.Trees.{Tree}
 use Rattle.lr_tables.specs.declared.grammar.Mark.{Mark}
-use Rattle.lr_tables.specs.declared.grammar.Mark.TheVariants.{Push, PushParameters, Pop, Join}
+use Rattle.lr_tables.specs.declared.grammar.Mark.TheVariants.{Push, PushParameters, Join}
 use Rattle.sc_base.specs.declared.id.Cond.{Cond}
 use Rattle.sc_base.specs.declared.id.Name.{Name}
 use Rattle.sc_base.specs.declared.id.TreeId.{TreeId}
@@ -20,7 +20,7 @@ use Rattle.sc_scope.specs.declared.kind.NameKind.{NameKind}
 use Rattle.sc_scope.specs.Levels.{Level, no_bindings, bound, joined}
 use Rattle.sc_scope.specs.Search.{OwnsLevels}
 use Rattle.sc_scope.specs.Shows.{Shows, kind_of}
-use Rattle.sc_scope.proofs.ShowLemmas.{push-shows, pop-shows, join-shows, bind-shows, bind-outside, Shows-Keeps}
+use Rattle.sc_scope.proofs.ShowLemmas.{push-shows, join-shows, bind-shows, bind-outside, Shows-Keeps}
 use Rattle.sc_merge.specs.Merges.{tables_with}
 use Rattle.sc_merge.specs.Shows.{ValueReads, tree_reads}
 use Rattle.sc_tree.specs.Lines.{Line}

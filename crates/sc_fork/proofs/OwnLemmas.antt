@@ -1,7 +1,6 @@
 -- What a core owns after an event, and which event it can do.
-use Rattle.std.proofs.Common.{◌≡◌, ℕ, ◌<◌, true, false, List, [], ◌∷◌, All, length, Option, Some, None, slice_get, sym, ◌∙◌, subst}
+use Rattle.std.proofs.Common.{◌≡◌, ℕ, ◌<◌, false, List, [], ◌∷◌, All, length, Option, Some, None, slice_get, sym, subst}
 use Rattle.std.specs.Prelude.{IfSome, slice_set}
-use Rattle.std.proofs.lemmas.Bool.{true≢false}
 use Rattle.std.proofs.lemmas.List.Elements.{All-nil, All-cons, All-head, All-tail, All-append, All-set, All-weaker}
 use Rattle.std.proofs.lemmas.Option.{slice_get_within, get_or_from_slice_get}
 use Rattle.sc_base.specs.declared.id.Cond.{Cond}

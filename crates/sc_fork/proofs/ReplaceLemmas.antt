@@ -1,5 +1,5 @@
 -- The pieces of an event take the next numbers.
-use Rattle.std.proofs.Common.{◌≡◌, ℕ, ◌+◌, ◌∷◌, [], ◌++◌, List, Option, Some, None, length, refl, sym, ap, ◌∙◌, append_assoc, append-nil, length-append, subst, arith, map-id}
+use Rattle.std.proofs.Common.{◌≡◌, ℕ, ◌+◌, ◌∷◌, [], ◌++◌, List, Option, Some, None, length, refl, sym, ap, ◌∙◌, append_assoc, append-nil, length-append, subst, map-id}
 use Rattle.std.specs.List.{range_with_len}
 use Rattle.std.specs.Prelude.{slice_set}
 use Rattle.std.proofs.lemmas.List.{length-set}

@@ -1,5 +1,5 @@
 -- The values of two stacks, made one.
-use Rattle.std.proofs.Common.{◌≡◌, ℕ, suc, ◌+◌, ◌<◌, ◌≤◌, true, false, List, [], ◌∷◌, ◌++◌, length, map, take, get_or, reverse, Option, Some, None, is_some, Result, Ok, Err, IfSome, OnOk, OnErr, All, slice_get, refl, ap, sym, subst, ◌∙◌, append_assoc, arith, if◌then◌else◌}
+use Rattle.std.proofs.Common.{◌≡◌, ℕ, suc, ◌+◌, ◌<◌, ◌≤◌, true, List, [], ◌∷◌, ◌++◌, length, map, take, get_or, reverse, Option, Some, None, is_some, Result, Ok, Err, IfSome, OnOk, OnErr, All, slice_get, refl, ap, sym, subst, ◌∙◌, append_assoc, arith, if◌then◌else◌}
 use Rattle.std.proofs.lemmas.List.Elements.{All-append, All-cons, All-head, All-nil, All-tail}
 use Rattle.std.proofs.lemmas.List.{append-nil, get_or-map, length-map, map-append, reverse-append, reverse-reverse, take_more}
 use Rattle.c11_parsing.specs.Trees.{Tree}

@@ -30,7 +30,7 @@ use Rattle.sc_parse.proofs.RunLemmas.{goes-nowhere, goes-then}
 use Rattle.sc_parse.specs.declared.rows.Rows.{Rows}
 use Rattle.sc_parse.specs.declared.steps.Steps.{Steps}
 use Rattle.sc_parse.specs.Filed.{AreAllFiled, AreFiled, HasNoneBefore, numbers_in}
-use Rattle.sc_parse.specs.Numbers.{AreNumbers, Each, filled_at, IsBetween, Replaces, times}
+use Rattle.sc_parse.specs.Numbers.{Each, filled_at, IsBetween, Replaces, times}
 use Rattle.sc_parse.specs.Runs.{AreWaiting, EndsBefore, GoesOn, HaveEndedBefore, IsRun, IsWaiting, OwnsSteps}
 use Rattle.sc_parse.specs.Turns.{HasBegun, HasFewAt, IsAtPlace}
 use Rattle.sc_tree.specs.Lines.{Line, OwnsBranches}

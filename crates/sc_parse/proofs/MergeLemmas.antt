@@ -8,7 +8,6 @@ use Rattle.std.specs.Cmp.Lexicographic.{pointwise}
 use Rattle.std.proofs.lemmas.Grind.{get_or-set_at, get_or_default_zero}
 use Rattle.std.proofs.lemmas.List.{get_or-set_other, length-set}
 use Rattle.std.proofs.lemmas.List.Elements.{All-cons, All-contains_itself, All-head, All-nil, All-tail}
-use Rattle.std.proofs.lemmas.List.Quantifiers.{all_pairs_push}
 use Rattle.c11_parsing.specs.Classes.{Class, Input}
 use Rattle.c11_parsing.specs.Core as core
 use Rattle.c11_parsing.specs.Core.{alone, CoreStep, merged, Makes, splits, reduces, shifts, classifies}

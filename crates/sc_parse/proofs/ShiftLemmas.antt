@@ -1,16 +1,14 @@
 -- What shifts make of subparsers.
-use Rattle.std.proofs.Common.{◌≡◌, ℕ, ◌+◌, ◌<◌, ◌≤◌, List, [], ◌∷◌, ◌++◌, All, length, Option, Some, ◌⊎◌, inl, inr, if◌then◌else◌, refl, sym, ap, ◌∙◌, subst, arith, append-nil, append_assoc}
+use Rattle.std.proofs.Common.{◌≡◌, ℕ, ◌+◌, ◌<◌, ◌≤◌, List, [], ◌∷◌, ◌++◌, All, length, Option, ◌⊎◌, inl, inr, if◌then◌else◌, refl, sym, ap, ◌∙◌, subst, arith, append-nil, append_assoc}
 use Rattle.std.proofs.lemmas.Bool.Decides.{eqb_tells}
 use Rattle.std.proofs.lemmas.List.Elements.{All-cons, All-head, All-nil, All-tail}
 use Rattle.c11_parsing.specs.Core.{index_of}
-use Rattle.lr_tables.specs.declared.grammar.Action.TheVariants.{Reduce}
 use Rattle.sc_fork.specs.declared.event.Event.TheVariants.{Shift, Classify}
 use Rattle.sc_fork.specs.declared.event.Fact.{Fact}
 use Rattle.sc_fork.specs.declared.piece.Piece.{Piece}
 use Rattle.sc_fork.specs.declared.source.Source.{Source}
-use Rattle.sc_fork.specs.Enabled.{Has, IsRefused, none_to_shift, none_to_classify, no_lookahead_to_shift, not_named, reduction}
+use Rattle.sc_fork.specs.Enabled.{Has, IsRefused, none_to_classify, not_named}
 use Rattle.sc_fork.specs.Pieces.{HasMade, IfGoing, IsPast, Makes, shifts, classifies}
-use Rattle.sc_fork.specs.Seen.{action_in}
 use Rattle.sc_merge.specs.declared.subparser.Phase.TheVariants.{At, Between, Named}
 use Rattle.sc_merge.specs.declared.subparser.Subparser.{Subparser}
 use Rattle.sc_merge.specs.Phases.{phase_of}

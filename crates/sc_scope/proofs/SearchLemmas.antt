@@ -5,8 +5,8 @@ use Rattle.std.proofs.lemmas.List.Elements.{All-append, All-nil, All-head, All-t
 use Rattle.sc_base.specs.declared.id.Cond.{Cond}
 use Rattle.sc_guarded.specs.Items.{items_at}
 use Rattle.sc_guarded.proofs.ItemLemmas.{items_at-Keeps}
-use Rattle.sc_model.specs.Sets.{Sets, IsConfig, IsCond, Denotes, Keeps, IsNever}
-use Rattle.sc_model.proofs.SetLemmas.{Keeps-refl, Keeps-trans, IsConfig-Keeps, IsConfig-kept}
+use Rattle.sc_model.specs.Sets.{Sets, IsConfig, IsCond, Denotes, Keeps}
+use Rattle.sc_model.proofs.SetLemmas.{Keeps-trans, IsConfig-Keeps, IsConfig-kept}
 use Rattle.sc_scope.specs.declared.kind.NameKind.{NameKind}
 use Rattle.sc_scope.specs.declared.kind.NameKind.TheVariants.{Variable, Typedef}
 use Rattle.sc_scope.specs.declared.search.Search.{Search}

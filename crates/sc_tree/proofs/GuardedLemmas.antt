@@ -14,7 +14,7 @@ use Rattle.sc_model.proofs.SetLemmas.{Denotes-self, IsConfig-Keeps, Keeps-trans}
 use Rattle.sc_tree.proofs.Steps.{line-at}
 use Rattle.sc_tree.proofs.WalkLemmas.{met-has}
 use Rattle.sc_tree.specs.declared.line.Line as kept
-use Rattle.sc_tree.specs.Lines.{Line, node, OwnsBranches}
+use Rattle.sc_tree.specs.Lines.{Line, node}
 use Rattle.sc_tree.specs.Parameters.{list_at, list_of, first_list, is_named}
 use Rattle.sc_tree.specs.Views.{line_of}
 use Rattle.sc_tree.specs.Walks.{listed}
