@@ -1,7 +1,11 @@
 -- Sets of names as lists in rising order: what each step makes, and that a set is one list.
-use Rattle.std.proofs.Common.{◌≡◌, ℕ, ◌<◌, ◌==◌, ◌&&◌, ◌||◌, nat_lt, Bool, true, false, List, [], ◌∷◌, filter, refl, sym, ap, subst, ◌∙◌, inl, inr, ◌⊎◌, arith}
+use Rattle.std.proofs.Common.{◌≡◌, ℕ, ◌<◌, ◌==◌, ◌&&◌, ◌||◌, nat_lt, Bool, true, false, List, [], ◌∷◌, ◌++◌, append_assoc, drop, filter, get_or, length, take, take_all, ◌+◌, ◌-◌, ◌≤◌, add-one, refl, sym, ap, subst, ◌∙◌, inl, inr, ◌⊎◌, arith}
 use Rattle.std.specs.List.{list_any}
-use Rattle.std.proofs.lemmas.Bool.{cases_Bool, cases_order, eqb-true, true≢false, ltb-true}
+use Rattle.std.proofs.Math.ListN.{drop_of_length-le}
+use Rattle.std.proofs.Math.Seq.{drop-cons}
+use Rattle.std.proofs.lemmas.List.{length-drop}
+use Rattle.std.proofs.lemmas.List.Folds.{list_any-append, list_any_more}
+use Rattle.std.proofs.lemmas.Bool.{cases_Bool, cases_lt, cases_order, eqb-true, true≢false, ltb-true}
 use Rattle.std.proofs.lemmas.Bool.Decides.{nat_tests}
 use Rattle.sc_base.specs.declared.id.Name.{Name}
 use Rattle.sc_subst.specs.Rising.{IsRising, has_name, inserted}
@@ -54,6 +58,140 @@ filter_rising test (x ∷ xs) order =
       | inl is ↦ rw is (rising x (filter test xs) (filter_above x.0 test xs (above x xs order) (rest x xs order)) (filter_rising test xs (rest x xs order)))
       | inr other ↦ rw other (filter_rising test xs (rest x xs order))
     ]
+
+-- ---- two sets in one pass
+
+rising_behind : (made : List Name) (x : Name) (xs ys : List Name) → IsRising (made ++ x ∷ xs) → IsAbove x.0 ys → IsRising ys → IsRising (made ++ x ∷ ys)
+rising_behind [] x xs ys up greater order = rising x ys greater order
+rising_behind (a ∷ []) x xs ys up greater order = (up.0, rising x ys greater order)
+rising_behind (a ∷ (b ∷ made)) x xs ys up greater order = (up.0, rising_behind (b ∷ made) x xs ys up.1 greater order)
+
+rising_end : (made xs : List Name) → IsRising (made ++ xs) → IsRising xs
+rising_end [] xs up = up
+rising_end (a ∷ made) xs up = rising_end made xs (rest a (made ++ xs) up)
+
+-- what was made stands before the rest of both
+pub record AreBehind (made xs ys : List Name) : Type 0 where
+  pub one : IsRising (made ++ xs)
+  pub two : IsRising (made ++ ys)
+
+-- the next name of the one is less than those of the other
+next_name : (made : List Name) (x : Name) (xs ys : List Name) → AreBehind made (x ∷ xs) ys → IsAbove x.0 ys → AreBehind (made ++ x ∷ []) xs ys
+next_name made x xs ys both less = record {
+  one = subst IsRising (sym (append_assoc made (x ∷ []) xs)) both.one;
+  two = subst IsRising (sym (append_assoc made (x ∷ []) ys)) (rising_behind made x xs ys both.one less (rising_end made ys both.two));
+}
+
+turned : {made xs ys : List Name} → AreBehind made xs ys → AreBehind made ys xs
+turned both = record { one = both.two; two = both.one }
+
+or_first : (b c : Bool) → (c || b) ≡ (b || c)
+or_first true true = refl
+or_first true false = refl
+or_first false true = refl
+or_first false false = refl
+
+group : (a b c : Bool) → ((a || b) || c) ≡ (a || (b || c))
+group true b c = refl
+group false b c = refl
+
+any_next : (test : Name → Bool) (made : List Name) (x : Name) (xs : List Name) → (list_any test (made ++ x ∷ []) || list_any test xs) ≡ (list_any test made || list_any test (x ∷ xs))
+any_next test [] x xs = group (test x) false (list_any test xs)
+any_next test (a ∷ made) x xs =
+    group (test a) (list_any test (made ++ x ∷ [])) (list_any test xs)
+    ∙ (ap (λ b. test a || b) (any_next test made x xs) ∙ sym (group (test a) (list_any test made) (list_any test (x ∷ xs))))
+
+-- in `made` are the names of `one` and `two` before these places
+pub record IsMerged (made one two : List Name) (next i : ℕ) : Type 0 where
+  pub within : next ≤ length one
+  pub behind : AreBehind made (drop next one) (drop i two)
+  pub exact : (test : Name → Bool) → (list_any test made || list_any test (drop next one)) ≡ (list_any test one || list_any test (take i two))
+
+pub merged-start : (one two : List Name) → IsRising one → IsRising two → IsMerged [] one two 0 0
+merged-start one two up down = record { within = omega arith; behind = record { one = up; two = down }; exact = λ test. or_first (list_any test one) false }
+
+-- a name of the one is less than the next of the other
+pub merged-first : (made one two : List Name) (next i : ℕ) (d : Name) → next < length one → i < length two → (get_or one next d).0 < (get_or two i d).0 → IsMerged made one two next i
+    → IsMerged (made ++ get_or one next d ∷ []) one two (next + 1) i
+merged-first made one two next i d below inside less m =
+    let x = get_or one next d in
+    let here : drop next one ≡ x ∷ drop (next + 1) one = drop-cons one next d below ∙ ap (λ k. x ∷ drop k one) (sym (add-one next)) in
+    let there = drop-cons two i d inside in
+    record {
+      within = omega (arith, below);
+      behind = next_name made x (drop (next + 1) one) (drop i two) (subst (λ xs. AreBehind made xs (drop i two)) here m.behind) (subst (IsAbove x.0) (sym there) less);
+      exact = λ test. any_next test made x (drop (next + 1) one) ∙ (ap (λ xs. list_any test made || list_any test xs) (sym here) ∙ m.exact test);
+    }
+
+or_last : (a b c d e : Bool) → (a || b) ≡ (d || e) → ((a || c) || b) ≡ (d || (e || c))
+or_last a b c d e same = or_swap a b c ∙ (ap (λ p. p || c) same ∙ group d e c)
+  where
+    or_swap : (a b c : Bool) → ((a || c) || b) ≡ ((a || b) || c)
+    or_swap true b c = refl
+    or_swap false b c = or_first b c
+
+-- the next of the other is less
+pub merged-second : (made one two : List Name) (next i : ℕ) (d : Name) → i < length two → (next < length one → (get_or two i d).0 < (get_or one next d).0) → IsMerged made one two next i
+    → IsMerged (made ++ get_or two i d ∷ []) one two next (i + 1)
+merged-second made one two next i d inside less m =
+    let y = get_or two i d in
+    let there : drop i two ≡ y ∷ drop (i + 1) two = drop-cons two i d inside ∙ ap (λ k. y ∷ drop k two) (sym (add-one i)) in
+    let greater : IsAbove y.0 (drop next one) = elim (cases_lt next (length one)) [
+      | inl below ↦ subst (IsAbove y.0) (sym (drop-cons one next d below)) (less below)
+      | inr past ↦ subst (IsAbove y.0) (sym (drop_of_length-le one past)) tt
+    ] in
+    record {
+      within = m.within;
+      behind = turned (next_name made y (drop (i + 1) two) (drop next one) (turned (subst (AreBehind made (drop next one)) there m.behind)) greater);
+      exact = λ test.
+          ap (λ b. b || list_any test (drop next one)) (list_any-append test made (y ∷ []) ∙ ap (λ b. list_any test made || b) (or_first false (test y)))
+          ∙ (or_last (list_any test made) (list_any test (drop next one)) (test y) (list_any test one) (list_any test (take i two)) (m.exact test)
+          ∙ ap (λ b. list_any test one || b) (sym (list_any_more test two i d inside)));
+    }
+
+-- both have the name
+pub merged-both : (made one two : List Name) (next i : ℕ) (d : Name) → next < length one → i < length two → (get_or one next d).0 ≡ (get_or two i d).0 → IsMerged made one two next i
+    → IsMerged (made ++ get_or two i d ∷ []) one two (next + 1) (i + 1)
+merged-both made one two next i d below inside same m =
+    let y = get_or two i d in
+    let here : drop next one ≡ y ∷ drop (next + 1) one =
+    drop-cons one next d below ∙ (ap (λ (k : ℕ). get_or one next d ∷ drop k one) (sym (add-one next)) ∙ ap (λ (n : ℕ). record { 0 = n } ∷ drop (next + 1) one) same) in
+    let there : drop i two ≡ y ∷ drop (i + 1) two = drop-cons two i d inside ∙ ap (λ k. y ∷ drop k two) (sym (add-one i)) in
+    let rises = λ (xs : List Name) (up : IsRising (made ++ y ∷ xs)). subst IsRising (sym (append_assoc made (y ∷ []) xs)) up in
+    record {
+      within = omega (arith, below);
+      behind = record {
+        one = rises (drop (next + 1) one) (subst (λ xs. IsRising (made ++ xs)) here m.behind.one);
+        two = rises (drop (i + 1) two) (subst (λ xs. IsRising (made ++ xs)) there m.behind.two);
+      };
+      exact = λ test.
+          any_next test made y (drop (next + 1) one)
+          ∙ (found (list_any test made) (test y) (list_any test (drop (next + 1) one)) (list_any test one) (list_any test (take i two))
+          (ap (λ xs. list_any test made || list_any test xs) (sym here) ∙ m.exact test)
+          ∙ ap (λ b. list_any test one || b) (sym (list_any_more test two i d inside)));
+    }
+  where
+    found : (a p b d e : Bool) → (a || (p || b)) ≡ (d || e) → (a || (p || b)) ≡ (d || (e || p))
+    found a false b d e same = same ∙ ap (λ q. d || q) (sym (or_first false e))
+    found a true b d e same = same ∙ (keeps (d || e) (sym same ∙ all a) ∙ group d e true)
+      where
+        all : (a : Bool) → (a || true) ≡ true
+        all true = refl
+        all false = refl
+
+        keeps : (q : Bool) → q ≡ true → q ≡ (q || true)
+        keeps true e = refl
+        keeps false e = e
+
+-- all of the other are there
+pub merged-end : (made one two : List Name) (next i : ℕ) → length two ≤ i → IsMerged made one two next i
+    → (whole : List Name) → whole ≡ made ++ take (length one - next) (drop next one)
+    → IsRising whole × ((test : Name → Bool) → list_any test whole ≡ (list_any test one || list_any test two))
+merged-end made one two next i all m whole is =
+    let same : whole ≡ made ++ drop next one = is ∙ ap (λ xs. made ++ xs) (take_all (length one - next) (drop next one) (omega (arith, length-drop next one))) in (
+      subst IsRising (sym same) m.behind.one,
+      λ test. ap (list_any test) same ∙ (list_any-append test made (drop next one) ∙ (m.exact test ∙ ap (λ xs. list_any test one || list_any test xs) (take_all i two all))),
+    )
 
 -- ---- what two sets have in common
 
@@ -112,12 +250,6 @@ or_same : (a b c : Bool) → a ≡ c → (a || b) ≡ ((a || b) || c)
 or_same true b c e = refl
 or_same false true c e = refl
 or_same false false c e = e
-
-or_first : (b c : Bool) → (c || b) ≡ (b || c)
-or_first true true = refl
-or_first true false = refl
-or_first false true = refl
-or_first false false = refl
 
 pub inserted_any : (test : Name → Bool) (xs : List Name) (n : Name) → list_any test (inserted xs n) ≡ (list_any test xs || test n)
 inserted_any test [] n = or_first false (test n)

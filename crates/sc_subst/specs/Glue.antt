@@ -1,5 +1,5 @@
 -- A template in the making: what stands before the pieces that are left.
-use Rattle.std.specs.Prelude.{Bool, true, false, ℕ, List, [], ◌∷◌, ◌++◌, map, Result}
+use Rattle.std.specs.Prelude.{Bool, true, false, ℕ, List, ◌∷◌, ◌++◌, map, Result}
 use Rattle.c11_macros.specs.Hidden as model
 use Rattle.c11_macros.specs.Hidden.{Failure}
 use Rattle.c11_macros.specs.Results.{result_map}

@@ -34,16 +34,26 @@ pub fn insert(alloc: Global, set: &[Name], name: Name) -> Result<Vec<Name>, OutO
     Ok(made)
 }
 
-/// The names that stand in either.
+/// The names that stand in either, in one pass over both.
 pub fn union(alloc: Global, one: &[Name], two: &[Name]) -> Result<Vec<Name>, OutOfMemory>
-    requires { IsRising one.now }
+    requires one { IsRising one.now }
+    requires two { IsRising two.now }
     ensures rising { IfOk result (λ made. IsRising made.items) }
     ensures exact { IfOk result (λ made. (test : declared.Name → Bool) → list_any test made.items ≡ (list_any test one.now || list_any test two.now)) }
 {
-    let mut made = Vec::from_slice(alloc, one)?;
+    let mut made = Vec::new(alloc);
+    let mut next = 0;
     for name in two {
-        made = insert(alloc, &made, *name)?;
+        while next < one.len() && one[next].0 < name.0 {
+            made.push(one[next])?;
+            next += 1;
+        }
+        if next < one.len() && one[next].0 == name.0 {
+            next += 1;
+        }
+        made.push(*name)?;
     }
+    made.extend_from_slice(&one[next..])?;
     Ok(made)
 }
 

@@ -1,12 +1,12 @@
-use Rattle.std.proofs.Common.{◌≡◌, ◌||◌, Bool, take}
-use Rattle.std.specs.List.{list_any}
-use Rattle.sc_base.specs.declared.id.Name.{Name}
-use Rattle.sc_subst.specs.Rising.{IsRising}
+use Rattle.std.proofs.Common.{length, ◌-◌}
+use Rattle.sc_subst.proofs.RisingLaws.{IsMerged}
 use Rattle.sc_subst.proofs.sorted.union.Given as goal
 
--- the names of the one, and those of the other that were gone through
+abbrev pub invariant-loop-next : goal.invariant-loop-next
+invariant-loop-next l = IsMerged l.made.items l.one l.two l.next l.name-index
+
+abbrev pub decreases-loop-next : goal.decreases-loop-next
+decreases-loop-next l = length l.one - l.next
+
 abbrev pub invariant-loop-name : goal.invariant-loop-name
-invariant-loop-name l = record {
-  rising : IsRising l.made.items;
-  exact : (test : Name → Bool) → list_any test l.made.items ≡ (list_any test l.one || list_any test (take l.name-index l.two));
-}
+invariant-loop-name l = IsMerged l.made.items l.one l.two l.next l.name-index
