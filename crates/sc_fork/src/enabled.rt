@@ -4,6 +4,7 @@ ghost use Rattle.sc_fork.specs.declared.source.Source.{Source};
 ghost use Rattle.sc_fork.specs.Enabled.{Has, IsEnabled, IsMissing, IsNotLooking, IsRefused, LooksAt};
 
 use crate::event::{Event, Fact};
+use crate::row::Row;
 use crate::source::Source;
 use lr_tables::Action;
 use sc_merge::{Phase, Subparser};
@@ -21,7 +22,7 @@ pub(crate) enum Enabled<'a> {
 /// The event with its subparsers, or the first fact that stands against it.
 pub(crate) fn enabled_event<'a>(
     source: &Source<'_>,
-    rows: &'a [Option<Subparser>],
+    rows: &'a [Row],
     event: Event,
 ) -> Result<Enabled<'a>, Fact>
     ensures ok { IfOk result (IsEnabled source.now rows.now event) }
@@ -71,24 +72,21 @@ fn reduction(action: Option<Action>) -> Option<usize>
     }
 }
 
-fn with_number(rows: &[Option<Subparser>], number: usize) -> Result<&Subparser, Fact>
+fn with_number(rows: &[Row], number: usize) -> Result<&Subparser, Fact>
     ensures ok { IfOk result (λ subparser. Has rows.now number subparser.now) }
     ensures err { IfErr result (λ fact. IsMissing rows.now number fact) }
 {
     let Some(row) = rows.get(number) else {
         return Err(Fact::NoSuchSubparser);
     };
-    match row {
+    match row.subparser() {
         Some(subparser) => Ok(subparser),
         None => Err(Fact::NoSuchSubparser),
     }
 }
 
 /// The subparser of the number, and the element that comes next.
-pub(crate) fn looking(
-    rows: &[Option<Subparser>],
-    number: usize,
-) -> Result<(&Subparser, usize), Fact>
+pub(crate) fn looking(rows: &[Row], number: usize) -> Result<(&Subparser, usize), Fact>
     ensures ok { IfOk result (λ found. LooksAt rows.now number found.0.now found.1) }
     ensures err { IfErr result (IsNotLooking rows.now number) }
 {
@@ -100,7 +98,7 @@ pub(crate) fn looking(
 }
 
 /// The subparsers of the two numbers, where they can be merged.
-fn mergeable(rows: &[Option<Subparser>], number: usize, other: usize) -> Result<Enabled<'_>, Fact>
+fn mergeable(rows: &[Row], number: usize, other: usize) -> Result<Enabled<'_>, Fact>
     ensures ok { (source : Source) → IfOk result (IsEnabled source rows.now (Event.Merge number other)) }
     ensures err { (source : Source) → IfErr result (IsRefused source rows.now (Event.Merge number other)) }
 {

@@ -27,6 +27,7 @@ use crate::event::{Applied, CoreStop, Event};
 use crate::outcome::{Outcome, faults_of, root_of, roots_of};
 use crate::piece::{Ended, Piece};
 use crate::reducing::reduce;
+use crate::row::Row;
 use crate::shifting::shift;
 use crate::source::Source;
 use crate::splitting::split;
@@ -46,7 +47,7 @@ use std::alloc::Global;
 #[derive(Drop)]
 pub struct Core<'a> {
     pub(crate) source: Source<'a>,
-    pub(crate) rows: Vec<Option<Subparser>>,
+    pub(crate) rows: Vec<Row>,
     pub(crate) ended: Vec<Ended>,
     pub(crate) is_given_up: bool,
 }
@@ -160,7 +161,8 @@ impl<'a> Core<'a> {
             match piece {
                 Piece::Going(subparser) => {
                     made.push(self.rows.len())?;
-                    self.rows.push(Some(subparser))?;
+                    let row = Row::new(alloc, subparser)?;
+                    self.rows.push(row)?;
                 }
                 Piece::Over(ended) => self.ended.push(ended)?,
             }
@@ -178,13 +180,13 @@ impl<'a> Core<'a> {
     {
         match event {
             Event::Merge(number, other) => {
-                self.rows[number] = None;
-                self.rows[other] = None;
+                self.rows[number] = Row::gone();
+                self.rows[other] = Row::gone();
             }
             Event::Split(number)
             | Event::Reduce(number)
             | Event::Shift(number)
-            | Event::Classify(number) => self.rows[number] = None,
+            | Event::Classify(number) => self.rows[number] = Row::gone(),
         }
     }
 
@@ -197,7 +199,7 @@ impl<'a> Core<'a> {
         if self.is_given_up {
             return None;
         }
-        let subparser = self.rows.get(number)?.as_ref()?;
+        let subparser = self.rows.get(number)?.subparser()?;
         Some((subparser.cond, key(subparser)))
     }
 
@@ -216,7 +218,7 @@ impl<'a> Core<'a> {
     pub fn finished(&self) -> bool
         ensures { IsTrue result ↔ IsFinished self.now }
     {
-        !self.is_given_up && self.rows.iter().all(|row| row.is_none())
+        !self.is_given_up && self.rows.iter().all(|row| row.is_gone())
     }
 
     /// What a finished core has come to: one tree with choices, and the faults.
@@ -250,11 +252,7 @@ impl<'a> Core<'a> {
 }
 
 /// The first subparser, for the live configurations, where there are any.
-fn first_rows<C: Conditions>(
-    alloc: Global,
-    conds: &C,
-    live: Cond,
-) -> Result<Vec<Option<Subparser>>, OutOfMemory>
+fn first_rows<C: Conditions>(alloc: Global, conds: &C, live: Cond) -> Result<Vec<Row>, OutOfMemory>
     requires { IsCond (C.sets conds.now) live.0 }
     ensures { IfOk result (λ rows. AreFirst (C.sets conds.now) live rows.items) }
 {
@@ -262,7 +260,8 @@ fn first_rows<C: Conditions>(
         return Ok(Vec::new(alloc));
     }
     let subparser = first(alloc, live)?;
-    Ok(vec![in alloc; Some(subparser)]?)
+    let row = Row::new(alloc, subparser)?;
+    Ok(vec![in alloc; row]?)
 }
 
 /// The subparser before the first element, with one level of scopes.

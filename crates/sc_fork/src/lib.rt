@@ -9,6 +9,7 @@ mod laws;
 mod outcome;
 mod piece;
 mod reducing;
+mod row;
 mod shifting;
 mod source;
 mod splitting;

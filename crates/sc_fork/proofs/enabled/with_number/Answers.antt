@@ -1,3 +1,4 @@
+use Rattle.std.proofs.Common.{sym}
 use Rattle.sc_fork.specs.Enabled.{missing}
 use Rattle.sc_fork.proofs.EnabledLemmas.{none_past, none_at, has_at}
 use Rattle.sc_fork.proofs.enabled.with_number.Goals as goal
@@ -5,9 +6,10 @@ use Rattle.sc_fork.proofs.enabled.with_number.Goals as goal
 pub returns-in_default-clause-err : goal.returns-in_default-clause-err
 returns-in_default-clause-err c = missing (none_past c.args.rows.now c.args.number c.in_default.ensures.lookup.3)
 
-pub returns-in-Some-row-clause-ok : goal.returns-in-Some-row-clause-ok
-returns-in-Some-row-clause-ok c =
-    has_at c.args.rows.now c.args.number c.in-Some.row.now c.in-Some-row.subparser c.in-Some.ensures.lookup.3.0 c.in-Some.ensures.lookup.1 c.in-Some-row.is
+pub returns-in-Some-subparser-clause-ok : goal.returns-in-Some-subparser-clause-ok
+returns-in-Some-subparser-clause-ok c =
+    has_at c.args.rows.now c.args.number c.in-Some.row.now c.in-Some-subparser.subparser.now c.in-Some.ensures.lookup.3.0 c.in-Some.ensures.lookup.1 (sym c.in-Some-subparser.ensures)
 
 pub returns-in-None-clause-err : goal.returns-in-None-clause-err
-returns-in-None-clause-err c = missing (none_at c.args.rows.now c.args.number c.in-Some.row.now c.in-Some.ensures.lookup.3.0 c.in-Some.ensures.lookup.1 c.in-None.is)
+returns-in-None-clause-err c =
+    missing (none_at c.args.rows.now c.args.number c.in-Some.row.now c.in-Some.ensures.lookup.3.0 c.in-Some.ensures.lookup.1 (sym c.in-None.ensures))

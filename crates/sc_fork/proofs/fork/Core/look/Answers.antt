@@ -11,7 +11,7 @@ returns-clause-some c =
       s,
       (
         subst (λ (rows : List (Option Subparser)). Has rows c.args.number s) c.deref.ensures.value
-            (has_at c.deref.result.now c.args.number c.in_ok-get.field-0.now s l.3.0 l.1 (sym c.in_ok-subparser.ensures.value)),
+            (has_at c.deref.result.now c.args.number c.in_ok-get.field-0.now s l.3.0 l.1 (sym c.in_ok-subparser.ensures)),
         refl,
         c.key.ensures,
       ),

@@ -1,16 +1,16 @@
-use Rattle.std.proofs.Common.{◌≡◌, ◌∷◌, length, ap, ◌∙◌, arith}
+use Rattle.std.proofs.Common.{◌≡◌, [], ◌∷◌, ◌++◌, length, ap, ◌∙◌, arith}
 use Rattle.std.specs.Vec.Iter.{into_iter_items}
 use Rattle.sc_fork.proofs.ReplaceLemmas.{placed-going, placed-over, taken-more}
 use Rattle.sc_fork.proofs.fork.Core.replace.Goals as goal
 
-pub loop-piece-preserved-in-Continue-branch-2 : goal.loop-piece-preserved-in-Continue-branch-2
-loop-piece-preserved-in-Continue-branch-2 c =
+pub loop-piece-preserved-in-Continue-branch-3 : goal.loop-piece-preserved-in-Continue-branch-3
+loop-piece-preserved-in-Continue-branch-3 c =
     let at = c.loop-piece in
     let steps : into_iter_items at.piece-iterator ≡ c.in-Some.piece ∷ into_iter_items c.next.new.self = c.in-Some.ensures.steps.0 in
     record {
       placed =
           placed-going c.remove.new.self.rows.items c.remove.new.self.ended.items at.yielded c.in-Some.piece c.in-Going.subparser at.self.rows.items c.push-in-Going.new.self.items at.self.ended.items
-          at.made.items c.push.new.self.items c.len.result at.invariant.placed c.in-Going.is c.in_ok-push-in-Going-2.ensures.items (c.len.ensures ∙ at.self.rows.ok.0) c.in_ok-push-in-Going.ensures.items;
+          at.made.items c.push.new.self.items c.len.result at.invariant.placed c.in-Going.is (c.in_ok-push-in-Going-2.ensures.items ∙ ap (λ row. at.self.rows.items ++ row ∷ []) c.in_ok-row-in-Going.ensures) (c.len.ensures ∙ at.self.rows.ok.0) c.in_ok-push-in-Going.ensures.items;
       source = at.invariant.source;
       given_up = at.invariant.given_up;
       left = taken-more at.yielded c.in-Some.piece (into_iter_items at.piece-iterator) (into_iter_items c.next.new.self) _ steps at.invariant.left;
