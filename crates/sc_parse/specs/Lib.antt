@@ -1,5 +1,6 @@
 pub mod Filed
 pub mod Numbers
+pub mod Packed
 pub mod Parses
 pub mod Places
 pub mod Runs

@@ -1,5 +1,5 @@
+use crate::packed::PackedEvent;
 use sc_base::{Fault, TreeId};
-use sc_fork::Event;
 
 /// What a list becomes under all configurations.
 #[derive(Drop)]
@@ -8,5 +8,5 @@ pub struct Parsed {
     pub root: Option<TreeId>,
     pub faults: Vec<Fault>,
     /// The events that lead to this, in order.
-    pub events: Vec<Event>,
+    pub events: Vec<PackedEvent>,
 }

@@ -14,6 +14,7 @@ ghost use Rattle.sc_parse.specs.Numbers.{AreApart, AreLike, AreNumbers, Replaces
 ghost use Rattle.sc_parse.specs.Runs.{AreWaiting, GoesOn, IsBefore, IsRun, IsStepTo, OwnsSteps};
 ghost use Rattle.sc_tree.specs.Lines.{OwnsBranches};
 
+use crate::packed::PackedEvent;
 use sc_base::OutOfMemory;
 use sc_fork::{Core, CoreStop, Event};
 use sc_merge::Key;
@@ -25,7 +26,7 @@ use std::alloc::Global;
 #[derive(Drop)]
 pub(crate) struct Steps<'a> {
     pub core: Core<'a>,
-    pub events: Vec<Event>,
+    pub events: Vec<PackedEvent>,
 }
 
 impl Steps<'_> {
@@ -53,7 +54,8 @@ impl Steps<'_> {
     {
         match self.core.apply(alloc, conds, trees, event) {
             Ok(applied) => {
-                self.events.push(event)?;
+                let packed = PackedEvent::new(event)?;
+                self.events.push(packed)?;
                 Ok(applied.made)
             }
             Err(CoreStop::OutOfMemory) => Err(OutOfMemory),

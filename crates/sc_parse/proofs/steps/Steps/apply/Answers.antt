@@ -1,4 +1,4 @@
-use Rattle.std.proofs.Common.{◌≡◌, ◌⊎◌, Bool, true, false, [], ◌∷◌, inl, inr, ◌∙◌, sym, refl}
+use Rattle.std.proofs.Common.{◌≡◌, ◌⊎◌, Bool, true, false, [], ◌∷◌, ◌++◌, inl, inr, ap, ◌∙◌, sym, refl}
 use Rattle.std.proofs.lemmas.Bool.{true≢false}
 use Rattle.sc_parse.proofs.EventLemmas.{event-ended, event-run, event-step, events-more, run-stands-seen}
 use Rattle.sc_fork.specs.Cores.{event_of}
@@ -24,6 +24,7 @@ pub returns-in_ok-push-in-Ok-clause-goes_on : goal.returns-in_ok-push-in-Ok-clau
 returns-in_ok-push-in-Ok-clause-goes_on g c = λ place before.
     let s = g.C.Conditions.sets in
     let old = c.args.self.now in
+    let added = c.in_ok-push-in-Ok.ensures.items ∙ ap (λ event. old.events.items ++ event ∷ []) c.in_ok-packed-in-Ok.ensures in
     record {
       keeps = c.apply.ensures.keeps;
       grows = c.apply.ensures.grows;
@@ -35,7 +36,7 @@ returns-in_ok-push-in-Ok-clause-goes_on g c = λ place before.
           let w = tables_with (s c.args.conds.now) c.args.trees.now names files in
           let v = tables_with (s c.apply.new.conds) c.apply.new.trees names files in
           let applied = c.in-Ok.ensures.applied names files input run.last run.is (run-stands-seen w input first old run) in
-          event-run w v input first old c.args.event (record { core = c.apply.new.self; events = c.push.new.self }) c.in-Ok.applied.made.items run applied c.in_ok-push-in-Ok.ensures.items;
+          event-run w v input first old c.args.event (record { core = c.apply.new.self; events = c.push.new.self }) c.in-Ok.applied.made.items run applied added;
       ended = λ names files input first run within ended.
           let w = tables_with (s c.args.conds.now) c.args.trees.now names files in
           let v = tables_with (s c.apply.new.conds) c.apply.new.trees names files in
@@ -45,5 +46,5 @@ returns-in_ok-push-in-Ok-clause-goes_on g c = λ place before.
           let w = tables_with (s c.args.conds.now) c.args.trees.now names files in
           c.apply.ensures.choices names files input run.last run.is (run-stands-seen w input first old run) sound;
       more = event_of c.args.event ∷ [];
-      events = events-more old.events.items c.args.event c.push.new.self.items c.in_ok-push-in-Ok.ensures.items;
+      events = events-more old.events.items c.args.event c.push.new.self.items added;
     }
