@@ -155,3 +155,11 @@ right-merges {s} {t} here there level narrowed n = record {
     on_right = record { same = λ c only. (n.each name).first c only.listed ∙ ap (λ b. if b then first_at s (level name) c else None) only.inside };
   };
 }
+
+-- ---- both sides alike
+
+-- what both sides have does for both
+pub same-merges : {s : Sets} (here there : Cond) (level other : Level) → level ≡ other → OwnsLevel s level → MergesLevel s s here there level other level
+same-merges {s} here there level other same own =
+    subst (λ on_right. MergesLevel s s here there level on_right level) same
+    (record { each = λ name. record { own = own.each name; on_left = record { same = λ c only. refl }; on_right = record { same = λ c only. refl } } })

@@ -1,4 +1,4 @@
-ghost use Rattle.std.specs.Prelude.{◌≡◌, ◌++◌, ◌==◌, ℕ, IfOk, if◌then◌else◌};
+ghost use Rattle.std.specs.Prelude.{◌≡◌, ◌++◌, ◌==◌, ℕ, IfOk, IsTrue, if◌then◌else◌};
 ghost use Rattle.sc_model.specs.Sets.{IsCond, Keeps};
 ghost use Rattle.sc_scope.specs.Kept.{at_branch, bindings_of, bindings_at, bindings_after, level_after};
 ghost use Rattle.sc_scope.specs.Kinds.{MergesLevel, NarrowsLevel, OwnsLevel};
@@ -103,6 +103,21 @@ impl Trie {
         }
     }
 
+    /// Whether each name has the same bindings on both sides, in tries of one shape.
+    fn same(&self, other: &Trie) -> bool
+        ensures { IsTrue result → bindings_at self.now ≡ bindings_at other.now }
+    {
+        match self {
+            Trie::Empty => matches!(other, Trie::Empty),
+            Trie::Full(left, here, right) => match other {
+                Trie::Empty => false,
+                Trie::Full(other_left, other_here, other_right) => {
+                    here.same(other_here) && left.same(other_left) && right.same(other_right)
+                }
+            },
+        }
+    }
+
     /// The bindings as they are in the configurations of a condition, and none in any other.
     fn narrowed<C: Conditions>(
         &self,
@@ -174,6 +189,9 @@ impl Trie {
         // at every outcome
         ensures keeps { Keeps (C.sets conds.old) (C.sets conds.new) }
     {
+        if self.same(other) {
+            return Ok(None);
+        }
         match self {
             Trie::Empty => match other {
                 Trie::Empty => Ok(None),

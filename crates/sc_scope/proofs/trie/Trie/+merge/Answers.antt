@@ -4,8 +4,12 @@ use Rattle.sc_model.proofs.SetLemmas.{Keeps-trans}
 use Rattle.sc_scope.specs.Kept.{bindings_at, bindings_of}
 use Rattle.sc_scope.specs.Kinds.{OwnsLevel}
 use Rattle.sc_scope.proofs.SearchLemmas.{AreOwn-Keeps}
-use Rattle.sc_scope.proofs.TrieLemmas.{height, full-merges, left-merges, own-left, own-level, own-right, own-top, right-merges}
+use Rattle.sc_scope.proofs.TrieLemmas.{height, full-merges, left-merges, own-left, own-level, own-right, own-top, right-merges, same-merges}
 use Rattle.sc_scope.proofs.trie.Trie.+merge.Goals as goal
+
+pub returns-then-same-clause-merges : goal.returns-then-same-clause-merges
+returns-then-same-clause-merges g t c =
+    same-merges c.args.here c.args.there (bindings_at c.args.self.now) (bindings_at c.args.other.now) (c.same.ensures c.if-same.true) c.requires.own
 
 pub merge-requires : goal.merge-requires
 merge-requires g t c =
