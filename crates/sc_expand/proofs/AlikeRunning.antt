@@ -12,7 +12,6 @@ use Rattle.sc_expand.proofs.AlikeGathering.{same-call}
 use Rattle.sc_expand.proofs.AlikeLemmas.{all-of, others-none}
 use Rattle.sc_expand.proofs.MachineLemmas.{pending_at, progress-step, stands-cases, state-top}
 use Rattle.sc_expand.proofs.PlainAgreement.{AgreesFrom, agrees-move, agrees-name, agrees-start, agrees-under}
-use Rattle.sc_expand.proofs.PlainCompletes.{ends, scanned}
 use Rattle.sc_expand.proofs.PlainTurns.{under}
 use Rattle.sc_expand.proofs.Rests.{first-is}
 use Rattle.sc_expand.proofs.RunLemmas.{IsRunning, rests-at, running-stands, start-state, turned-at}
@@ -54,14 +53,14 @@ first-of-all e = record {
 
 -- ---- what is looked up next
 
-module _ (provenance : Provenance Place) (macros other : Macros) (names : List (List ℕ)) (within : IsWithin names macros) where
+module _ (provenance : Provenance Place) (macros other : Macros) where
   abbrev Agrees : State Place → Type 0
-  Agrees = AgreesFrom provenance macros other names within
+  Agrees = AgreesFrom provenance macros other
 
   -- what the next turn looks up
-  agrees-next : (st : Stores) (c : List ℕ) (e : Expansion) → (st.sets.has e.refusals.live.0 c ≡ true → Stands st c e.below.items (view_at st e.top c))
+  agrees-next : (names : List (List ℕ)) → IsWithin names macros → (st : Stores) (c : List ℕ) (e : Expansion) → (st.sets.has e.refusals.live.0 c ≡ true → Stands st c e.below.items (view_at st e.top c))
       → (st.sets.has e.refusals.live.0 c ≡ true → Agrees (state_in st e.below.items (view_at st e.top c) c)) → DefineNextAlike st macros other c e
-  agrees-next st c e stands agrees = record {
+  agrees-next names within st c e stands agrees = record {
     same = λ item first none has live looks.
         let t = seen_hidden st.names st.hides item.1 in
         let out = seen_at st e.top.out c in
@@ -86,15 +85,15 @@ module _ (provenance : Provenance Place) (macros other : Macros) (names : List (
   agrees-progress old new c below later {a} {b} progress stands agrees live =
       let s = progress-step provenance macros old new c below later progress live stands in
       elim s.1.step [
-        | inl m ↦ agrees-move provenance macros other names within (state_in old below a.view c) (state_in new later b.view c) (agrees s.0) m
+        | inl m ↦ agrees-move provenance macros other (state_in old below a.view c) (state_in new later b.view c) (agrees s.0) m
         | inr same ↦ subst Agrees same (agrees s.0)
       ]
 
-module _ (files : List (List ℕ)) (macros : List ℕ → Macros) (names : List (List ℕ)) (within : (c : List ℕ) → IsWithin names (macros c)) where
+module _ (files : List (List ℕ)) (macros : List ℕ → Macros) where
   -- both have the same, and what the one still looks up is defined alike for both
   pub record AreAlikeNow (now : Stores) (e : Expansion) (c d : List ℕ) : Type 0 where
     pub alike : IsAlikeExpansion now.sets c d no_others e
-    pub agrees : now.sets.has e.refusals.live.0 c ≡ true → AgreesFrom (provenance_of files) (macros c) (macros d) names (within c) (state_in now e.below.items (view_at now e.top c) c)
+    pub agrees : now.sets.has e.refusals.live.0 c ≡ true → AgreesFrom (provenance_of files) (macros c) (macros d) (state_in now e.below.items (view_at now e.top c) c)
 
   -- so it is where they began alike
   pub record StayAlike (old now : Stores) (was e : Expansion) : Type 0 where
@@ -106,11 +105,8 @@ module _ (files : List (List ℕ)) (macros : List ℕ → Macros) (names : List 
     at = λ c d p q defines alike. record {
       alike = alike;
       agrees = λ live.
-          let source = seen_at old was.top.work c in
-          let e = ends (provenance_of files) (macros c) names (within c) (scanning [] source) in
-          let s = scanned e.1 in
-          subst (AgreesFrom (provenance_of files) (macros c) (macros d) names (within c)) (sym (start-state files macros old was held fresh c))
-          (agrees-start (provenance_of files) (macros c) (macros d) names (within c) source s.answer s.expands (defines.agree s.answer s.expands));
+          subst (AgreesFrom (provenance_of files) (macros c) (macros d)) (sym (start-state files macros old was held fresh c))
+          (agrees-start (provenance_of files) (macros c) (macros d) (seen_at old was.top.work c) defines.agree);
     };
   }
 
@@ -121,12 +117,12 @@ module _ (files : List (List ℕ)) (macros : List ℕ → Macros) (names : List 
           let a = stay.at c d p q defines alike in
           record {
             alike = rested.alike (length files) c d no_others r.held (IsConfig-Keeps grows.sets p) (IsConfig-Keeps grows.sets q) a.alike;
-            agrees = agrees-progress (provenance_of files) (macros c) (macros d) names (within c) now new c e.below.items after.below.items (rests-at grows r names within began new after rested c p) (running-stands grows r c p) a.agrees;
+            agrees = agrees-progress (provenance_of files) (macros c) (macros d) now new c e.below.items after.below.items (rests-at grows r began new after rested c p) (running-stands grows r c p) a.agrees;
           };
     }
 
-    pub alike-turned : (other : List ℕ → Macros) (same : (c : List ℕ) → IsConfig old.sets.arities c → other c ≡ macros c) {went : Bool} → IsTurned files other now new e after went → StayAlike old new was after
-    alike-turned other same turned = record {
+    pub alike-turned : (names : List (List ℕ)) → ((c : List ℕ) → IsWithin names (macros c)) → (other : List ℕ → Macros) (same : (c : List ℕ) → IsConfig old.sets.arities c → other c ≡ macros c) {went : Bool} → IsTurned files other now new e after went → StayAlike old new was after
+    alike-turned names within other same turned = record {
       at = λ c d p q defines alike.
           let a = stay.at c d p q defines alike in
           let next = agrees-next (provenance_of files) (macros c) (macros d) names (within c) now c e (running-stands grows r c p) a.agrees in
@@ -134,6 +130,6 @@ module _ (files : List (List ℕ)) (macros : List ℕ → Macros) (names : List 
             alike = turned.alike c d no_others (IsConfig-Keeps grows.sets p) (IsConfig-Keeps grows.sets q)
                 (subst (λ m. DefineNextAlike now m (other d) c e) (sym (same c p)) (subst (λ m. DefineNextAlike now (macros c) m c e) (sym (same d q)) next))
                 (record { same = λ takes. whole-call e a.alike }) (first-of-all e) a.alike;
-            agrees = agrees-progress (provenance_of files) (macros c) (macros d) names (within c) now new c e.below.items after.below.items (turned-at grows r names within began new after other same turned c p) (running-stands grows r c p) a.agrees;
+            agrees = agrees-progress (provenance_of files) (macros c) (macros d) now new c e.below.items after.below.items (turned-at grows r began new after other same turned c p) (running-stands grows r c p) a.agrees;
           };
     }

@@ -69,6 +69,7 @@ pub mod PhaseMoves
 pub mod PhaseStops
 pub mod SpanCalls
 pub mod PhaseTurns
+pub mod BetweenTurns
 pub mod PhaseCalls
 pub mod PhaseAlike
 pub mod FirstCallLemmas

@@ -1,7 +1,7 @@
 -- A turn of the frame on top, as a step of the whole.
 use Rattle.std.proofs.Common.{◌≡◌, ◌⊎◌, inl, inr, ℕ, ◌≤◌, Bool, true, false, true≢false, List, [], ◌∷◌, ◌++◌, All, map, length, Err, refl, sym, ap, subst, ◌∙◌, if◌then◌else◌}
 use Rattle.std.proofs.lemmas.List.Elements.{All-cons, All-head, All-nil, All-tail}
-use Rattle.c11_macros.specs.Expansion.{Expands, IsWithin}
+use Rattle.c11_macros.specs.Expansion.{Expands}
 use Rattle.c11_macros.specs.Hidden as model
 use Rattle.c11_macros.specs.Hidden.{Failure, Provenance}
 use Rattle.c11_macros.specs.Macros.{Macros}
@@ -64,15 +64,6 @@ module _ (st : Stores) (c : List ℕ) where
   state-top v (called_in {e} {es} has none top) =
       taken (st.sets.has e.call.cond.0 c) (expanding (seen_at st e.frame.out c) (seen_at st e.frame.work c) (waiting_at st e.call c) e.parameter (state_in st es v c)) (state_of (view_at st e.frame c)) has
       ∙ ap (λ s. expanding (seen_at st e.frame.out c) (seen_at st e.frame.work c) (waiting_at st e.call c) e.parameter s) (state-top v top)
-
-  -- what is on top is not the configuration's
-  pub state-below : {below : List Enclosing} (v w : View) → IsBelow st c below → state_in st below v c ≡ state_in st below w c
-  state-below v w (stops {e} {es} not few absent) =
-      other (st.sets.has e.call.cond.0 c) (expanding (seen_at st e.frame.out c) (seen_at st e.frame.work c) (waiting_at st e.call c) e.parameter (state_in st es v c)) (state_of (view_at st e.frame c)) not
-      ∙ sym (other (st.sets.has e.call.cond.0 c) (expanding (seen_at st e.frame.out c) (seen_at st e.frame.work c) (waiting_at st e.call c) e.parameter (state_in st es w c)) (state_of (view_at st e.frame c)) not)
-  state-below v w (goes {e} {es} has none b) =
-      ap (λ s. if st.sets.has e.call.cond.0 c then expanding (seen_at st e.frame.out c) (seen_at st e.frame.work c) (waiting_at st e.call c) e.parameter s else state_of (view_at st e.frame c))
-      (state-below v w b)
 
 -- ---- the stores grow
 
@@ -185,7 +176,7 @@ module _ (provenance : Provenance Place) (macros : Macros) where
     progress-step (steps was now same move) live stands = (was, record { step = inl (move (stands was)).1; moves = λ yes. (move (stands was)).1 })
     progress-step (fails failure was not same f) live stands = absurd (true≢false (sym live ∙ not))
 
-    module _ (names : List (List ℕ)) (within : IsWithin names macros) (source : List (model.Hidden Place)) where
+    module _ (source : List (model.Hidden Place)) where
       pub told-progress : {a b : At} {started : Bool} (takes : Bool) → Progress provenance macros old new c below later a b takes → IsTold source old c below a started → IsTold source new c later b started
       told-progress {a} {b} takes progress (unasked not none) = by takes progress
         where
@@ -208,6 +199,6 @@ module _ (provenance : Provenance Place) (macros : Macros) where
           by t (gone was ended same) = absurd (true≢false (sym live ∙ was))
           by t (steps was now same move) =
               let l = move stands in
-              going now (same ∙ none) l.0 (reaches-move provenance macros names within source (state_in old below a.view c) (state_in new later b.view c) reaches l.1)
+              going now (same ∙ none) l.0 (reaches-move provenance macros source (state_in old below a.view c) (state_in new later b.view c) reaches l.1)
           by t (fails failure was ended same f) =
-              refused failure ended (same ∙ ap (λ l. l ++ failure ∷ []) none) (reaches-fail provenance macros names within source (state_in old below a.view c) failure reaches (f stands))
+              refused failure ended (same ∙ ap (λ l. l ++ failure ∷ []) none) (reaches-fail provenance macros source (state_in old below a.view c) failure reaches (f stands))

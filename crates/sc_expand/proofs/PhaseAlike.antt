@@ -116,7 +116,7 @@ module _ (files : List (List ℕ)) (macros : List ℕ → Macros) (names : List 
         let left = last_at now e n c in
         let waits : IsPending (scanning out (t ∷ rest)) left = subst (λ s. IsPending s left) state pending in
         let uses = subst (λ s. UsesFrom (provenance_of files) (macros c) s left f) state inside.uses in
-        let takes = closed-takes (provenance_of files) (macros c) names (within c) out rest t defined x.looked_up left f (omega (arith, waits)) uses (ap call_end (sym spelled) ∙ is) in
+        let takes = closed-takes (provenance_of files) (macros c) out rest t defined x.looked_up names (within c) left f (omega (arith, waits)) uses (ap call_end (sym spelled) ∙ is) in
         let count = ap call_length spelled in
         span-closed now.sets c d now.names (length e.top.work - lower_of bound n) e.top.work alike (omega (arith, lower)) is (omega (arith, takes, count, parts, inside.beyond))
 
@@ -127,7 +127,7 @@ module _ (files : List (List ℕ)) (macros : List ℕ → Macros) (names : List 
       steps = subst (λ s. Moves (provenance_of files) (macros c) s (state_now new after c)) state moves
 
       not-still : call_end_at now.sets now.names (tokens_in e.top.work) 0 c ≡ still → ⊥
-      not-still is = still-ends (provenance_of files) (macros c) names (within c) out rest t defined x.looked_up (state_now new after c) (ap call_end (sym spelled) ∙ is) steps
+      not-still is = still-ends (provenance_of files) (macros c) out rest t defined x.looked_up (state_now new after c) (ap call_end (sym spelled) ∙ is) steps
 
       -- the name was not put out with nothing of the span behind it
       not-out : items_at now.sets (drop 1 (take (length e.top.work - lower_of bound n) e.top.work)) c ≡ [] → state_now new after c ≡ scanning (out ++ t ∷ []) rest → ⊥
@@ -175,8 +175,8 @@ module _ (files : List (List ℕ)) (macros : List ℕ → Macros) (names : List 
           by : (end : CallEnd) → End end → (l : List Hidden) → items_at now.sets (drop 1 (take span e.top.work)) c ≡ l → IsSameCall now.sets now.names c d e.top.work
           by closed is l at = closed-in d alike is
           by still is l at = absurd (not-still is)
-          by bare is [] at = absurd (not-out at (bare-moves (provenance_of files) (macros c) names (within c) out rest t defined x.looked_up (state_now new after c) (ap call_end (sym spelled) ∙ is) steps))
-          by alone is [] at = absurd (not-out at (alone-moves (provenance_of files) (macros c) names (within c) out rest t defined x.looked_up (state_now new after c) (ap call_end (sym spelled) ∙ is) steps))
+          by bare is [] at = absurd (not-out at (bare-moves (provenance_of files) (macros c) out rest t defined x.looked_up (state_now new after c) (ap call_end (sym spelled) ∙ is) steps))
+          by alone is [] at = absurd (not-out at (alone-moves (provenance_of files) (macros c) out rest t defined x.looked_up (state_now new after c) (ap call_end (sym spelled) ∙ is) steps))
           by bare is (h ∷ hs) at = followed h hs at (same_bytes (text_at now.names h.token.spelling.0) (codes "(")) refl
           by alone is (h ∷ hs) at = followed h hs at (same_bytes (text_at now.names h.token.spelling.0) (codes "(")) refl
 
@@ -259,7 +259,7 @@ module _ (files : List (List ℕ)) (macros : List ℕ → Macros) (names : List 
             by : TakesName now (macros c) e c → (os : List Enclosing) → e.below.items ≡ os → IsSameCall now.sets now.names c d e.top.work
             by x (o ∷ os) at = same-call e.top.work (in-whole o os at)
             by x [] at =
-                let step = progress-step (provenance_of files) (macros c) now new c e.below.items after.below.items (turned-at grows r names within began new after other same turned c p) still_live (running-stands grows r c p) in
+                let step = progress-step (provenance_of files) (macros c) now new c e.below.items after.below.items (turned-at grows r began new after other same turned c p) still_live (running-stands grows r c p) in
                 let moves = step.1.moves (turned.which x.item.0 (next x) c ∙ x.has) in
                 call-same now e at phase.n (bound_of (phase.come c p k)) (enough at x) c x (print_of (phase.come c p k)) (phase.inside c p k live) pending new after moves (turned.rest c (IsConfig-Keeps grows.sets p)) still_pending d (in-span at)
 
@@ -277,6 +277,6 @@ module _ (files : List (List ℕ)) (macros : List ℕ → Macros) (names : List 
           → IsPending (state_now new after c) (last_at new after phase.n c) → IsPending (state_now new after d) (last_at new after phase.n d)
           → IsAlikeExpansion new.sets c d (record { behind = lower_of (bound_of (phase.come c p k)) phase.n; out = phase.outs; faults = phase.faults }) after
       moved-alike c d p q k l taken agree live live_other pending pending_other =
-          let one = moved-pending files macros names within grows r began phase ready new after other same turned c p live pending in
-          let two = moved-pending files macros names within grows r began phase ready new after other same turned d q live_other pending_other in
+          let one = moved-pending files macros grows r began phase ready new after other same turned c p live pending in
+          let two = moved-pending files macros grows r began phase ready new after other same turned d q live_other pending_other in
           alike-after c d p q k l taken agree one.0 two.0 one.1 two.1 new after other same turned live pending

@@ -54,43 +54,42 @@ module _ {P : Type 0} (provenance : Provenance P) (macros : Macros) where
   unclosed-ends out rest t _ case (plain.object _ _ body _ d is made) = cc
   unclosed-ends out rest t _ case (plain.gather _ _ after _ close d arguments template is stands) = cc
 
-  module _ (names : List (List ℕ)) (within : IsWithin names macros) where
-    -- tables that agree on the names of the footprint define what is scanned first alike
-    pub uses-next : (ps : List (Pending P)) (out rest : List (Hidden P)) (t : Hidden P) (left : ℕ) (whole : Footprint) → IsPending (under ps (scanning out (t ∷ rest))) left
-        → UsesFrom provenance macros (under ps (scanning out (t ∷ rest))) left whole → (other : Macros) → Agree macros other whole.looked_up → is_looked_up t ≡ true → macros t.spelling ≡ other t.spelling
-    uses-next [] out rest t left whole pending uses other agree looks = uses-names provenance macros names within out rest t left whole (omega (arith, pending)) uses other agree looks
-    uses-next (p ∷ ps) out rest t left whole pending uses other agree looks =
-        let inner = uses-inside provenance macros names within p.out p.work p.call p.parameter (under ps (scanning out (t ∷ rest))) left whole uses other agree in
-        agrees-name provenance macros other names within out rest t (agrees-under provenance macros other names within ps (scanning out (t ∷ rest)) inner) looks
+  -- tables that agree on the names of the footprint define what is scanned first alike
+  pub uses-next : (names : List (List ℕ)) (within : IsWithin names macros) (ps : List (Pending P)) (out rest : List (Hidden P)) (t : Hidden P) (left : ℕ) (whole : Footprint) → IsPending (under ps (scanning out (t ∷ rest))) left
+      → UsesFrom provenance macros (under ps (scanning out (t ∷ rest))) left whole → (other : Macros) → Agree macros other whole.looked_up → is_looked_up t ≡ true → macros t.spelling ≡ other t.spelling
+  uses-next names within [] out rest t left whole pending uses other agree looks = uses-names provenance macros names within out rest t left whole (omega (arith, pending)) uses other agree looks
+  uses-next names within (p ∷ ps) out rest t left whole pending uses other agree looks =
+      let inner = uses-inside provenance macros names within p.out p.work p.call p.parameter (under ps (scanning out (t ∷ rest))) left whole uses other agree in
+      agrees-name provenance macros other names within out rest t (agrees-under provenance macros other names within ps (scanning out (t ∷ rest)) inner) looks
 
-    module _ (out rest : List (Hidden P)) (t : Hidden P) (d : Defined (macros t.spelling)) (looked : is_looked_up t ≡ true) where
-      -- a call takes its tokens, whether its arguments fit or not
-      pub closed-takes : (left : ℕ) (whole : Footprint) → left ≤ length rest → UsesFrom provenance macros (scanning out (t ∷ rest)) left whole → call_end (spellings rest) ≡ closed
-          → whole.left + call_length (spellings rest) ≤ length rest
-      closed-takes left whole fits uses ends =
-          let count : length rest ≡ suc (length it.between + suc (length it.after)) = ap length it.call.is ∙ ap suc (length-append it.between (it.close ∷ it.after)) in
-          omega (arith, count, few (arguments_for d.parameters d.variadic (parted (length d.parameters) 0 it.between)) case, it.long)
-        where
-          it : Closed rest
-          it = closed-call rest ends
+  module _ (out rest : List (Hidden P)) (t : Hidden P) (d : Defined (macros t.spelling)) (looked : is_looked_up t ≡ true) where
+    -- a call takes its tokens, whether its arguments fit or not
+    pub closed-takes : (names : List (List ℕ)) (within : IsWithin names macros) (left : ℕ) (whole : Footprint) → left ≤ length rest → UsesFrom provenance macros (scanning out (t ∷ rest)) left whole → call_end (spellings rest) ≡ closed
+        → whole.left + call_length (spellings rest) ≤ length rest
+    closed-takes names within left whole fits uses ends =
+        let count : length rest ≡ suc (length it.between + suc (length it.after)) = ap length it.call.is ∙ ap suc (length-append it.between (it.close ∷ it.after)) in
+        omega (arith, count, few (arguments_for d.parameters d.variadic (parted (length d.parameters) 0 it.between)) case, it.long)
+      where
+        it : Closed rest
+        it = closed-call rest ends
 
-          case : case_of macros t rest ≡ fitted_case d.definition it.close it.after (arguments_for d.parameters d.variadic (parted (length d.parameters) 0 it.between))
-          case = case-closed macros t d.definition looked d.is d.parameters d.variadic d.formed rest it.between it.close it.after it.call
+        case : case_of macros t rest ≡ fitted_case d.definition it.close it.after (arguments_for d.parameters d.variadic (parted (length d.parameters) 0 it.between))
+        case = case-closed macros t d.definition looked d.is d.parameters d.variadic d.formed rest it.between it.close it.after it.call
 
-          few : (o : Option (List (List (Hidden P)))) → case_of macros t rest ≡ fitted_case d.definition it.close it.after o → whole.left ≤ length it.after
-          few None case = uses-misfit provenance macros names within out rest t left whole fits uses it.after case
-          few (Some arguments) case = uses-call provenance macros names within out rest t left whole fits uses d.definition arguments it.close it.after case
+        few : (o : Option (List (List (Hidden P)))) → case_of macros t rest ≡ fitted_case d.definition it.close it.after o → whole.left ≤ length it.after
+        few None case = uses-misfit provenance macros names within out rest t left whole fits uses it.after case
+        few (Some arguments) case = uses-call provenance macros names within out rest t left whole fits uses d.definition arguments it.close it.after case
 
-      -- one that no parenthesis closes makes no step
-      pub still-ends : (s : State P) → call_end (spellings rest) ≡ still → Moves provenance macros (scanning out (t ∷ rest)) s → ⊥
-      still-ends s ends = unclosed-ends out rest t s (case-still macros t d.definition looked d.is d.parameters d.variadic d.formed rest ends)
+    -- one that no parenthesis closes makes no step
+    pub still-ends : (s : State P) → call_end (spellings rest) ≡ still → Moves provenance macros (scanning out (t ∷ rest)) s → ⊥
+    still-ends s ends = unclosed-ends out rest t s (case-still macros t d.definition looked d.is d.parameters d.variadic d.formed rest ends)
 
-      -- the name is put out where it is not called
-      pub bare-moves : (s : State P) → call_end (spellings rest) ≡ bare → Moves provenance macros (scanning out (t ∷ rest)) s → s ≡ scanning (out ++ t ∷ []) rest
-      bare-moves s ends = stays-moves out rest t s (case-uncalled-bare macros t d.definition looked d.is d.parameters d.variadic d.formed rest ends)
+    -- the name is put out where it is not called
+    pub bare-moves : (s : State P) → call_end (spellings rest) ≡ bare → Moves provenance macros (scanning out (t ∷ rest)) s → s ≡ scanning (out ++ t ∷ []) rest
+    bare-moves s ends = stays-moves out rest t s (case-uncalled-bare macros t d.definition looked d.is d.parameters d.variadic d.formed rest ends)
 
-      pub alone-moves : (s : State P) → call_end (spellings rest) ≡ alone → Moves provenance macros (scanning out (t ∷ rest)) s → s ≡ scanning (out ++ t ∷ []) rest
-      alone-moves s ends = stays-moves out rest t s (case-uncalled-alone macros t d.definition looked d.is d.parameters d.variadic d.formed rest ends)
+    pub alone-moves : (s : State P) → call_end (spellings rest) ≡ alone → Moves provenance macros (scanning out (t ∷ rest)) s → s ≡ scanning (out ++ t ∷ []) rest
+    alone-moves s ends = stays-moves out rest t s (case-uncalled-alone macros t d.definition looked d.is d.parameters d.variadic d.formed rest ends)
 
 -- ---- what stands in a span
 

@@ -271,7 +271,7 @@ still not (gone was ended failures) live stands = absurd (true≢false (sym live
 still not (stepped was now failures move) live stands = absurd (true≢false not)
 still not (fails failure was ended failures f) live stands = absurd (true≢false not)
 
-module _ (files : List (List ℕ)) (macros : List ℕ → Macros) (names : List (List ℕ)) (within : (c : List ℕ) → IsWithin names (macros c))
+module _ (files : List (List ℕ)) (macros : List ℕ → Macros)
     {old now : Stores} {was e : Expansion} (grows : Grows old now) (r : IsRunning files macros old now was e) (began : IsHeldExpansion old (length files) was)
     (phase : Phase files macros old now was e) (ready : IsReady files macros phase) where
   never : (item : Cond × Hidden) → Some item ≡ None → ⊥
@@ -322,7 +322,7 @@ module _ (files : List (List ℕ)) (macros : List ℕ → Macros) (names : List 
 
     pub has-moved : (c : List ℕ) → IsConfig old.sets.arities c → new.sets.has after.refusals.live.0 c ≡ true → HasMoved c
     has-moved c listed live =
-        let progress = turned-at grows r names within began new after other same turned c listed in
+        let progress = turned-at grows r began new after other same turned c listed in
         let stands = running-stands grows r c listed in
         let s = progress-step (provenance_of files) (macros c) now new c e.below.items after.below.items progress live stands in
         let own : last_at new after phase.n c ≡ lower_of (length (steps.bottom (state_now new after c))) (last_at now e phase.n c)
@@ -409,14 +409,14 @@ module _ (files : List (List ℕ)) (macros : List ℕ → Macros) (names : List 
             uses : (Moves (provenance_of files) (macros c) (state_now now e c) (state_now new after c) × IsPending (state_now now e c) (last_at now e phase.n c))
                 ⊎ ((state_now now e c ≡ state_now new after c) × (last_at now e phase.n c ≡ last_at new after phase.n c)) → UsesFrom (provenance_of files) (macros c) (state_now new after c) (last_at new after phase.n c) whole
             uses (inl moved) = subst (λ k. UsesFrom (provenance_of files) (macros c) (state_now new after c) k whole) (sym m.own)
-                (uses-move (provenance_of files) (macros c) names (within c) (state_now now e c) (state_now new after c) (last_at now e phase.n c) whole moved.0 moved.1 (last-fits now e phase.n c) inside.uses)
+                (uses-move (provenance_of files) (macros c) (state_now now e c) (state_now new after c) (last_at now e phase.n c) whole moved.0 moved.1 (last-fits now e phase.n c) inside.uses)
             uses (inr stays) = subst (λ k. UsesFrom (provenance_of files) (macros c) (state_now new after c) k whole) stays.1
                 (subst (λ s. UsesFrom (provenance_of files) (macros c) s (last_at now e phase.n c) whole) stays.0 inside.uses)
 
     -- The tokens that the name leaves are still the last that it had.
-    pub moved-own : (c : List ℕ) (p : IsConfig old.sets.arities c) (k : phase.came c ≡ true) → new.sets.has after.refusals.live.0 c ≡ true
+    pub moved-own : (names : List (List ℕ)) → ((c : List ℕ) → IsWithin names (macros c)) → (c : List ℕ) (p : IsConfig old.sets.arities c) (k : phase.came c ≡ true) → new.sets.has after.refusals.live.0 c ≡ true
         → (g : ℕ) × (end_of (print_of (phase.come c p k)).left (seen_at new (bottom after).work c) ≡ drop g (seen_at old was.top.work c))
-    moved-own c listed k live =
+    moved-own names within c listed k live =
         let m = has-moved c listed live in
         let before = phase.own c listed k m.live in
         (before.0, by m (phase.inside c listed k m.live) (moved-inside c listed k live) m.step ∙ before.1)

@@ -117,7 +117,7 @@ module _ (files : List (List ℕ)) (macros : List ℕ → Macros) where
 
 -- ---- what only refused configurations have has gone
 
-module _ {files : List (List ℕ)} {macros : List ℕ → Macros} (names : List (List ℕ)) (within : (c : List ℕ) → IsWithin names (macros c)) {old now : Stores} {was e : Expansion} (grows : Grows old now)
+module _ {files : List (List ℕ)} {macros : List ℕ → Macros} {old now : Stores} {was e : Expansion} (grows : Grows old now)
     (r : IsRunning files macros old now was e) (began : IsHeldExpansion old (length files) was) where
   pub phase-rested : (new : Stores) (after : Expansion) → Phase files macros old now was e → IsRested now new e after → Phase files macros old new was after
   phase-rested new after phase rested = record {
@@ -184,7 +184,7 @@ module _ {files : List (List ℕ)} {macros : List ℕ → Macros} (names : List 
 
       stays : (c : List ℕ) → IsConfig old.sets.arities c → new.sets.has after.refusals.live.0 c ≡ true
           → (now.sets.has e.refusals.live.0 c ≡ true) × (state_now now e c ≡ state_now new after c)
-      stays c p live = rested-state (rests-at grows r names within began new after rested c p) (running-stands grows r c p) live
+      stays c p live = rested-state (rests-at grows r began new after rested c p) (running-stands grows r c p) live
 
       behind : (c : List ℕ) → IsConfig old.sets.arities c → new.sets.has after.refusals.live.0 c ≡ true → behind_at new.sets (bottom after).work c ≡ behind_at now.sets (bottom e).work c
       behind c p live = rested.rest (length files) c r.held (IsConfig-Keeps grows.sets p) (stays c p live).0

@@ -20,15 +20,15 @@ module _ (files : List (List ℕ)) (macros : List ℕ → Macros) (names : List 
   phase-turned = record {
     at = phase.at;
     n = phase.n;
-    fits = moved-fits files macros names within grows r began phase ready new after other same turned;
+    fits = moved-fits files macros grows r began phase ready new after other same turned;
     outs = phase.outs;
     faults = phase.faults;
     came = phase.came;
     come = phase.come;
     live = phase.live;
-    inside = moved-inside files macros names within grows r began phase ready new after other same turned;
-    between = moved-between files macros names within grows r began phase ready new after other same turned;
-    suffix = moved-suffix files macros names within grows r began phase ready new after other same turned;
-    own = moved-own files macros names within grows r began phase ready new after other same turned;
+    inside = moved-inside files macros grows r began phase ready new after other same turned;
+    between = moved-between files macros grows r began phase ready new after other same turned;
+    suffix = moved-suffix files macros grows r began phase ready new after other same turned;
+    own = moved-own files macros grows r began phase ready new after other same turned names within;
     alike = moved-alike files macros names within grows r began phase ready new after other same turned;
   }

@@ -1,5 +1,5 @@
 -- What is to be done at a token, by what is known of it.
-use Rattle.std.proofs.Common.{◌≡◌, ℕ, zero, ◌<◌, Bool, true, false, List, [], ◌∷◌, length, codes, Option, Some, None, refl, ap, ◌∙◌, if◌then◌else◌}
+use Rattle.std.proofs.Common.{◌≡◌, ℕ, zero, Bool, true, false, List, [], ◌∷◌, length, codes, Option, Some, None, refl, ap, ◌∙◌, if◌then◌else◌}
 use Rattle.c11_macros.specs.Call.{Call, call_of}
 use Rattle.c11_macros.specs.Expansion.{call_case, case_of, defined_case, form_case, is_looked_up, looked_up_case, replaced, stays, unclosed}
 use Rattle.c11_macros.specs.Hidden.{Hidden}

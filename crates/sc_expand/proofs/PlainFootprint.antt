@@ -112,13 +112,27 @@ module _ {P : Type 0} (provenance : Provenance P) (macros : Macros) where
   pub uses-start : (out rest : List (Hidden P)) (t : Hidden P) (r : Answer) (d : Expands provenance macros (t ∷ rest) r) → UsesFrom (scanning out (t ∷ rest)) (length rest) (footprint d)
   uses-start out rest t r d = record { each = λ q k. let s = scanned k in rest-same (one_footprint d s.expands ∙ sym (ap (λ f. f (length rest)) s.used)) }
 
-  module _ (names : List (List ℕ)) (within : IsWithin names macros) where
-    pub uses-move : (s t : State P) (left : ℕ) (whole : Footprint) → Moves provenance macros s t → IsPending s left → left ≤ length (bottom s) → UsesFrom s left whole
-        → UsesFrom t (lower_of (length (bottom t)) left) whole
-    uses-move s t left whole m pending fits uses = record {
-      each = λ r k. let e = move-back provenance macros names within s t m r k in rest-then (uses.each r e.completes) (e.rests left pending fits);
-    }
+  pub uses-move : (s t : State P) (left : ℕ) (whole : Footprint) → Moves provenance macros s t → IsPending s left → left ≤ length (bottom s) → UsesFrom s left whole
+      → UsesFrom t (lower_of (length (bottom t)) left) whole
+  uses-move s t left whole m pending fits uses = record {
+    each = λ r k. let e = move-back provenance macros s t m r k in rest-then (uses.each r e.completes) (e.rests left pending fits);
+  }
 
+  pub uses-fails : (s : State P) (failure : Failure P) (left : ℕ) (whole : Footprint) → Fails provenance macros s failure → IsPending s left → UsesFrom s left whole → whole.fails ≡ true
+  uses-fails s failure left whole f pending uses = let e = fails-by provenance macros s failure f in (uses.each (Err failure) e.completes).fails ∙ e.fails left pending
+
+  -- ---- steps until nothing more of the list is used
+
+  pub uses-leads : (s : State P) (left : ℕ) (t : State P) (after : ℕ) (whole : Footprint) → left ≤ length (bottom s) → UsesFrom s left whole → LeadsUntil provenance macros s left t after
+      → UsesFrom t after whole × (after ≤ length (bottom t))
+  uses-leads s left _ _ whole fits uses no_more = (uses, fits)
+  uses-leads s left u after whole fits uses (one_more {t = t} pending m more) =
+      let lower = lower_of (length (bottom t)) left in
+      uses-leads t lower u after whole (lower-le (length (bottom t)) left).1 (uses-move s t left whole m pending fits uses) more
+
+  -- ---- where finitely many names are defined
+
+  module _ (names : List (List ℕ)) (within : IsWithin names macros) where
     -- a list that is scanned uses what its expansion does
     scan-uses : (out work : List (Hidden P)) (left : ℕ) (whole : Footprint) → UsesFrom (scanning out work) left whole
         → (r : Answer) × (d : Expands provenance macros work r) × IsRestOf whole (footprint_from left (trace d).uses)
@@ -133,9 +147,6 @@ module _ {P : Type 0} (provenance : Provenance P) (macros : Macros) where
         let u = scan-uses out work left whole uses in
         let is = nothing-used work u.0 u.1 left over in
         (u.2.left ∙ ap (λ (f : Footprint). f.left) is, u.2.fails ∙ ap (λ (f : Footprint). f.fails) is)
-
-    pub uses-fails : (s : State P) (failure : Failure P) (left : ℕ) (whole : Footprint) → Fails provenance macros s failure → IsPending s left → UsesFrom s left whole → whole.fails ≡ true
-    uses-fails s failure left whole f pending uses = let e = fails-by provenance macros names within s failure f in (uses.each (Err failure) e.completes).fails ∙ e.fails left pending
 
     pub uses-less : (s : State P) (left : ℕ) (whole : Footprint) → UsesFrom s left whole → whole.left ≤ left
     uses-less s left whole uses = let e = ends provenance macros names within s in omega (arith, (uses.each e.0 e.1).left, used-less e.1 left)
@@ -161,7 +172,7 @@ module _ {P : Type 0} (provenance : Provenance P) (macros : Macros) where
 
     -- tables that agree on the names of the footprint agree on all that an argument looks up
     pub uses-inside : (out work : List (Hidden P)) (w : Waiting P) (n : ℕ) (s : State P) (left : ℕ) (whole : Footprint) → UsesFrom (expanding out work w n s) left whole
-        → (other : Macros) → Agree macros other whole.looked_up → AgreesFrom provenance macros other names within s
+        → (other : Macros) → Agree macros other whole.looked_up → AgreesFrom provenance macros other s
     uses-inside out work w n s left whole uses other agree = record { agree = by }
       where
         by : (r : Answer) (c : Completes provenance macros s r) → Agree macros other (looked c)
@@ -169,12 +180,3 @@ module _ {P : Type 0} (provenance : Provenance P) (macros : Macros) where
             let rest = ends provenance macros names within (waiting out work (with_expanded w n list)) in
             (covers-then (uses.each rest.0 (resumes out work w n s list rest.0 c rest.1)).covers (covers-front (looked c) (using rest.1 left).looked_up)).agree macros other agree
         by (Err failure) c = (uses.each (Err failure) (refuses out work w n s failure c)).covers.agree macros other agree
-
-    -- ---- steps until nothing more of the list is used
-
-    pub uses-leads : (s : State P) (left : ℕ) (t : State P) (after : ℕ) (whole : Footprint) → left ≤ length (bottom s) → UsesFrom s left whole → LeadsUntil provenance macros s left t after
-        → UsesFrom t after whole × (after ≤ length (bottom t))
-    uses-leads s left _ _ whole fits uses no_more = (uses, fits)
-    uses-leads s left u after whole fits uses (one_more {t = t} pending m more) =
-        let lower = lower_of (length (bottom t)) left in
-        uses-leads t lower u after whole (lower-le (length (bottom t)) left).1 (uses-move s t left whole m pending fits uses) more

@@ -1,8 +1,8 @@
 -- What the state behind a step comes to, the state before it comes to as well, in more steps.
-use Rattle.std.proofs.Common.{◌≡◌, ℕ, suc, ◌+◌, ◌*◌, ◌<◌, ◌≤◌, nat_le, Bool, true, false, List, [], ◌∷◌, ◌++◌, append_assoc, append-nil, length, length-append, map, is_ok, Result, Ok, Err, refl, sym, ap, ◌∙◌, subst, arith, if◌then◌else◌}
+use Rattle.std.proofs.Common.{◌≡◌, ℕ, suc, ◌*◌, ◌<◌, ◌≤◌, nat_le, Bool, true, false, List, [], ◌∷◌, ◌++◌, append_assoc, append-nil, length, length-append, map, is_ok, Result, Ok, Err, refl, sym, ap, ◌∙◌, subst, arith, if◌then◌else◌}
 use Rattle.std.proofs.lemmas.Bool.{leb-true}
 use Rattle.c11_macros.specs.Expansion as expansion
-use Rattle.c11_macros.specs.Expansion.{Each, Expands, IsWithin, Rescans, asked, call_result, called, case_of, list_of, next, none, object_result, on, refused, stops, with_first}
+use Rattle.c11_macros.specs.Expansion.{Each, Expands, Rescans, asked, call_result, called, case_of, list_of, next, none, object_result, on, refused, stops, with_first}
 use Rattle.c11_macros.specs.Footprint.{Footprint, footprint_from, with_names}
 use Rattle.c11_macros.specs.Hidden.{Failure, Hidden, Provenance, failure_at, meet, with_name}
 use Rattle.c11_macros.specs.Macros.{Definition, Macros}
@@ -160,80 +160,76 @@ module _ {P : Type 0} (provenance : Provenance P) (macros : Macros) where
       (λ left below. call-rest left (length after) t rest e.0 (trace_rescan g.0) (using c (lower_of (length after) left)) below
       ((λ i. with_names (e.1 i).looked_up (footprint_from (lower_of (length after) left) (g.1 i).uses)) ∙ sym (ap (λ f. f (lower_of (length after) left)) s.used)))
 
-  module _ (names : List (List ℕ)) (within : IsWithin names macros) where
-    pub move-back : (s t : State P) → Moves provenance macros s t → (r : Answer) (c : Completes provenance macros t r) → Earlier provenance macros s r (steps c) (looked c) (using c) (length (bottom t))
-    move-back _ _ (plain.stay out rest t is) r c = stay-back out rest t r is c
-    move-back _ _ (plain.object out rest body t d is made) r c = object-back out rest body t d r is made c
-    move-back _ _ (plain.gather out rest after t close d arguments template is stands) r c = gather-back out rest after t close d arguments template r is stands c
-    move-back _ _ (plain.enter out work list w n others is) r c = record { completes = asks out work w (n, list) others r is c; longer = omega arith; covers = covers-same refl; rests = λ left pending fits. lower-rest (length work) left (using c left) (using c) fits (rest-same refl) }
-    move-back _ _ (plain.leave out work list w n) r c = leave-back out work list w n r c
-    move-back _ _ (plain.replace out work body w all made) r c = replace-back out work body w r all made c
-    move-back _ _ (plain.inside out work w n {s} {t} m) r c = inside-back out work w n s t r (move-back s t m) c
-      where
-        inside-back : (out work : List (Hidden P)) (w : Waiting P) (n : ℕ) (s t : State P) (r : Answer) → ((q : Answer) (c : Completes provenance macros t q) → Earlier provenance macros s q (steps c) (looked c) (using c) (length (bottom t)))
-            → (c : Completes provenance macros (expanding out work w n t) r) → Earlier provenance macros (expanding out work w n s) r (steps c) (looked c) (using c) (length work)
-        inside-back out work w n s t r back (resumes o k v m u list q c d) =
-            let e = back (Ok list) c in
-            record {
-              completes = resumes out work w n s list r e.completes d;
-              longer = omega (arith, e.longer);
-              covers = covers-both (covers-then (covers-front (looked e.completes) (looked d)) e.covers) (covers-back (looked e.completes) (looked d));
-              rests = λ left pending fits. lower-rest (length work) left (with_names (looked e.completes) (using d left)) (λ n. with_names (looked c) (using d n)) fits (rest-with e.covers (rest-same refl));
-            }
-        inside-back out work w n s t r back (refuses o k v m u failure c) =
-            let e = back (Err failure) c in
-            record {
-              completes = refuses out work w n s failure e.completes;
-              longer = omega (arith, e.longer);
-              covers = e.covers;
-              rests = λ left pending fits.
-                  lower-rest (length work) left (record { left = left; looked_up = looked e.completes; fails = true }) (λ n. record { left = n; looked_up = looked c; fails = true }) fits
-                  (record { left = refl; fails = refl; covers = e.covers });
-            }
+  pub move-back : (s t : State P) → Moves provenance macros s t → (r : Answer) (c : Completes provenance macros t r) → Earlier provenance macros s r (steps c) (looked c) (using c) (length (bottom t))
+  move-back _ _ (plain.stay out rest t is) r c = stay-back out rest t r is c
+  move-back _ _ (plain.object out rest body t d is made) r c = object-back out rest body t d r is made c
+  move-back _ _ (plain.gather out rest after t close d arguments template is stands) r c = gather-back out rest after t close d arguments template r is stands c
+  move-back _ _ (plain.enter out work list w n others is) r c = record { completes = asks out work w (n, list) others r is c; longer = omega arith; covers = covers-same refl; rests = λ left pending fits. lower-rest (length work) left (using c left) (using c) fits (rest-same refl) }
+  move-back _ _ (plain.leave out work list w n) r c = leave-back out work list w n r c
+  move-back _ _ (plain.replace out work body w all made) r c = replace-back out work body w r all made c
+  move-back _ _ (plain.inside out work w n {s} {t} m) r c = inside-back out work w n s t r (move-back s t m) c
+    where
+      inside-back : (out work : List (Hidden P)) (w : Waiting P) (n : ℕ) (s t : State P) (r : Answer) → ((q : Answer) (c : Completes provenance macros t q) → Earlier provenance macros s q (steps c) (looked c) (using c) (length (bottom t)))
+          → (c : Completes provenance macros (expanding out work w n t) r) → Earlier provenance macros (expanding out work w n s) r (steps c) (looked c) (using c) (length work)
+      inside-back out work w n s t r back (resumes o k v m u list q c d) =
+          let e = back (Ok list) c in
+          record {
+            completes = resumes out work w n s list r e.completes d;
+            longer = omega (arith, e.longer);
+            covers = covers-both (covers-then (covers-front (looked e.completes) (looked d)) e.covers) (covers-back (looked e.completes) (looked d));
+            rests = λ left pending fits. lower-rest (length work) left (with_names (looked e.completes) (using d left)) (λ n. with_names (looked c) (using d n)) fits (rest-with e.covers (rest-same refl));
+          }
+      inside-back out work w n s t r back (refuses o k v m u failure c) =
+          let e = back (Err failure) c in
+          record {
+            completes = refuses out work w n s failure e.completes;
+            longer = omega (arith, e.longer);
+            covers = e.covers;
+            rests = λ left pending fits.
+                lower-rest (length work) left (record { left = left; looked_up = looked e.completes; fails = true }) (λ n. record { left = n; looked_up = looked c; fails = true }) fits
+                (record { left = refl; fails = refl; covers = e.covers });
+          }
 
-    -- ---- failures
+  -- ---- failures
 
-    -- a call whose replacement fails
-    call-fails : (left n : ℕ) (t : Hidden P) (rest : List (Hidden P)) (x : Trace) → left < suc (length rest) → x ≡ failing
-        → (footprint_from left (used.stands (suc (length rest)) ∷ used.looks_up (looked_up_at t) ∷ used.takes n ∷ x.uses)).fails ≡ true
-    call-fails left n t rest x below is =
-        ap (λ (f : Footprint). f.fails) (past-first left (length rest) (looked_up_at t) (used.takes n ∷ x.uses) below) ∙ ap (λ (y : Trace). (footprint_from (lower_of n left) y.uses).fails) is
+  -- a call whose replacement fails
+  call-fails : (left n : ℕ) (t : Hidden P) (rest : List (Hidden P)) (x : Trace) → left < suc (length rest) → x ≡ failing
+      → (footprint_from left (used.stands (suc (length rest)) ∷ used.looks_up (looked_up_at t) ∷ used.takes n ∷ x.uses)).fails ≡ true
+  call-fails left n t rest x below is =
+      ap (λ (f : Footprint). f.fails) (past-first left (length rest) (looked_up_at t) (used.takes n ∷ x.uses) below) ∙ ap (λ (y : Trace). (footprint_from (lower_of n left) y.uses).fails) is
 
-    -- no argument is asked for where a # fails
-    none-asked : (d : Definition) (t : Hidden P) (arguments : List (List (Hidden P))) (failure : Failure P) → slots t arguments (parts d.form neither (list_of provenance d t)) ≡ Err failure
-        → (e : Each provenance macros (asked provenance d t arguments) (map (λ a. []) arguments) (Ok (map (λ a. []) arguments))) × (trace_each e ≡ no_trace)
-    none-asked d t arguments failure is =
-        let same : asked provenance d t arguments ≡ [] = ap (λ made. if is_ok made then map (λ n. (n, argument arguments n)) (wanted_of d.form (list_of provenance d t)) else []) is in
-        subst (λ l. (e : Each provenance macros l (map (λ a. []) arguments) (Ok (map (λ a. []) arguments))) × (trace_each e ≡ no_trace)) (sym same) (none, refl)
+  -- no argument is asked for where a # fails
+  none-asked : (d : Definition) (t : Hidden P) (arguments : List (List (Hidden P))) (failure : Failure P) → slots t arguments (parts d.form neither (list_of provenance d t)) ≡ Err failure
+      → (e : Each provenance macros (asked provenance d t arguments) (map (λ a. []) arguments) (Ok (map (λ a. []) arguments))) × (trace_each e ≡ no_trace)
+  none-asked d t arguments failure is =
+      let same : asked provenance d t arguments ≡ [] = ap (λ made. if is_ok made then map (λ n. (n, argument arguments n)) (wanted_of d.form (list_of provenance d t)) else []) is in
+      subst (λ l. (e : Each provenance macros l (map (λ a. []) arguments) (Ok (map (λ a. []) arguments))) × (trace_each e ≡ no_trace)) (sym same) (none, refl)
 
-    pub fails-by : (s : State P) (failure : Failure P) → Fails provenance macros s failure → Failing provenance macros s failure
-    fails-by _ _ (plain.bad_object out rest t d failure is made) =
-        let g = rescans-as (object_result provenance d t) (Err failure) rest (Err failure) made (refused failure) in
-        record {
-          completes = scans out (t ∷ rest) (Err failure) (expansion.object d is g.0);
-          fails = λ left pending. ap (λ (f : Footprint). f.fails) (past-first left (length rest) (looked_up_at t) (trace_rescan g.0).uses pending) ∙ ap (λ (x : Trace). (footprint_from left x.uses).fails) g.1;
-        }
-    fails-by _ _ (plain.open_call out rest t is) = record {
-      completes = scans out (t ∷ rest) (Err (failure_at UnterminatedCall t)) (expansion.unterminated is);
-      fails = λ left pending. ap (λ (f : Footprint). f.fails) (past-first left (length rest) (looked_up_at t) failing.uses pending);
-    }
-    fails-by _ _ (plain.miscounted out rest after t is) = record {
-      completes = scans out (t ∷ rest) (Err (failure_at WrongArguments t)) (expansion.miscounted after is);
-      fails = λ left pending. call-fails left (length after) t rest failing pending refl;
-    }
-    fails-by _ _ (plain.bad_stringize out rest after t close d arguments failure is hash) =
-        let e = none-asked d t arguments failure hash in
-        let lists = map (λ (a : List (Hidden P)). []) arguments in
-        let made : call_result provenance d t arguments close (Ok lists) ≡ Err failure = ap (result_and_then (put_together provenance t arguments lists (with_name (meet t.hide close.hide) t.spelling))) hash in
-        let g = rescans-as (call_result provenance d t arguments close (Ok lists)) (Err failure) after (Err failure) made (refused failure) in
-        record {
-          completes = scans out (t ∷ rest) (Err failure) (expansion.call d arguments close after (Ok lists) is e.0 g.0);
-          fails = λ left pending. call-fails left (length after) t rest (both (trace_each e.0) (trace_rescan g.0)) pending (λ i. both (e.1 i) (g.1 i));
-        }
-    fails-by _ _ (plain.bad_paste out work w failure all made) =
-        let g = rescans-as (replacement_of provenance w) (Err failure) work (Err failure) made (refused failure) in
-        record { completes = replaces out work w (Err failure) all g.0; fails = λ left pending. ap (λ (x : Trace). (footprint_from left x.uses).fails) g.1 }
-    fails-by _ _ (plain.inside_fails out work w n {s} {failure} inner) = record { completes = refuses out work w n s failure (fails-by s failure inner).completes; fails = λ left pending. refl }
-
-    pub fails-back : (s : State P) (failure : Failure P) → Fails provenance macros s failure → Completes provenance macros s (Err failure)
-    fails-back s failure f = (fails-by s failure f).completes
+  pub fails-by : (s : State P) (failure : Failure P) → Fails provenance macros s failure → Failing provenance macros s failure
+  fails-by _ _ (plain.bad_object out rest t d failure is made) =
+      let g = rescans-as (object_result provenance d t) (Err failure) rest (Err failure) made (refused failure) in
+      record {
+        completes = scans out (t ∷ rest) (Err failure) (expansion.object d is g.0);
+        fails = λ left pending. ap (λ (f : Footprint). f.fails) (past-first left (length rest) (looked_up_at t) (trace_rescan g.0).uses pending) ∙ ap (λ (x : Trace). (footprint_from left x.uses).fails) g.1;
+      }
+  fails-by _ _ (plain.open_call out rest t is) = record {
+    completes = scans out (t ∷ rest) (Err (failure_at UnterminatedCall t)) (expansion.unterminated is);
+    fails = λ left pending. ap (λ (f : Footprint). f.fails) (past-first left (length rest) (looked_up_at t) failing.uses pending);
+  }
+  fails-by _ _ (plain.miscounted out rest after t is) = record {
+    completes = scans out (t ∷ rest) (Err (failure_at WrongArguments t)) (expansion.miscounted after is);
+    fails = λ left pending. call-fails left (length after) t rest failing pending refl;
+  }
+  fails-by _ _ (plain.bad_stringize out rest after t close d arguments failure is hash) =
+      let e = none-asked d t arguments failure hash in
+      let lists = map (λ (a : List (Hidden P)). []) arguments in
+      let made : call_result provenance d t arguments close (Ok lists) ≡ Err failure = ap (result_and_then (put_together provenance t arguments lists (with_name (meet t.hide close.hide) t.spelling))) hash in
+      let g = rescans-as (call_result provenance d t arguments close (Ok lists)) (Err failure) after (Err failure) made (refused failure) in
+      record {
+        completes = scans out (t ∷ rest) (Err failure) (expansion.call d arguments close after (Ok lists) is e.0 g.0);
+        fails = λ left pending. call-fails left (length after) t rest (both (trace_each e.0) (trace_rescan g.0)) pending (λ i. both (e.1 i) (g.1 i));
+      }
+  fails-by _ _ (plain.bad_paste out work w failure all made) =
+      let g = rescans-as (replacement_of provenance w) (Err failure) work (Err failure) made (refused failure) in
+      record { completes = replaces out work w (Err failure) all g.0; fails = λ left pending. ap (λ (x : Trace). (footprint_from left x.uses).fails) g.1 }
+  fails-by _ _ (plain.inside_fails out work w n {s} {failure} inner) = record { completes = refuses out work w n s failure (fails-by s failure inner).completes; fails = λ left pending. refl }

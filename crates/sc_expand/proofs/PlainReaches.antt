@@ -6,7 +6,7 @@ use Rattle.c11_macros.specs.Hidden.{Failure, Hidden, Provenance}
 use Rattle.c11_macros.specs.Macros.{Macros}
 use Rattle.c11_macros.proofs.RunExpands.{these-none}
 use Rattle.sc_expand.proofs.PlainCompletes.{Completes, ends, scanned, scans, size, size-is}
-use Rattle.sc_expand.proofs.PlainMoves.{fails-back, move-back}
+use Rattle.sc_expand.proofs.PlainMoves.{fails-by, move-back}
 use Rattle.sc_expand.specs.Plain.{Fails, Leads, Moves, State, no_step, scanning, step}
 
 module _ {P : Type 0} (provenance : Provenance P) (macros : Macros) where
@@ -23,27 +23,25 @@ module _ {P : Type 0} (provenance : Provenance P) (macros : Macros) where
   pub reaches-end : (source out : List (Hidden P)) → Reaches source (scanning out []) → Expands provenance macros source (Ok out)
   reaches-end source out reaches = reaches.back (Ok out) (subst (λ l. Completes provenance macros (scanning out []) (Ok l)) (append-nil out) (scans out [] (Ok []) empty))
 
+  pub reaches-move : (source : List (Hidden P)) (s t : State P) → Reaches source s → Moves provenance macros s t → Reaches source t
+  reaches-move source s t reaches m = record { back = λ r c. reaches.back r (move-back provenance macros s t m r c).completes }
+
+  pub reaches-fail : (source : List (Hidden P)) (s : State P) (failure : Failure P) → Reaches source s → Fails provenance macros s failure → Expands provenance macros source (Err failure)
+  reaches-fail source s failure reaches f = reaches.back (Err failure) (fails-by provenance macros s failure f).completes
+
+  pub reaches-leads : (source : List (Hidden P)) (s t : State P) → Reaches source s → Leads provenance macros s t → Reaches source t
+  reaches-leads source s _ reaches no_step = reaches
+  reaches-leads source s t reaches (step {t = next} m more) = reaches-leads source next t (reaches-move source s next reaches m) more
+
+  -- ---- how many steps are left
+
   module _ (names : List (List ℕ)) (within : IsWithin names macros) where
-    pub reaches-move : (source : List (Hidden P)) (s t : State P) → Reaches source s → Moves provenance macros s t → Reaches source t
-    reaches-move source s t reaches m = record { back = λ r c. reaches.back r (move-back provenance macros names within s t m r c).completes }
-
-    pub reaches-fail : (source : List (Hidden P)) (s : State P) (failure : Failure P) → Reaches source s → Fails provenance macros s failure → Expands provenance macros source (Err failure)
-    reaches-fail source s failure reaches f = reaches.back (Err failure) (fails-back provenance macros names within s failure f)
-
-    -- ---- how many steps are left
-
     pub size-move : (s t : State P) → Moves provenance macros s t → size provenance macros names within t < size provenance macros names within s
     size-move s t m =
         let e = ends provenance macros names within t in
-        let back = move-back provenance macros names within s t m e.0 e.1 in
+        let back = move-back provenance macros s t m e.0 e.1 in
         omega (arith, back.longer, size-is provenance macros names within s e.0 back.completes, size-is provenance macros names within t e.0 e.1)
 
     pub size-pos : (s : State P) → 0 < size provenance macros names within s
     unfolding size
     size-pos s = omega arith
-
-    -- ---- whole runs
-
-    pub reaches-leads : (source : List (Hidden P)) (s t : State P) → Reaches source s → Leads provenance macros s t → Reaches source t
-    reaches-leads source s _ reaches no_step = reaches
-    reaches-leads source s t reaches (step {t = next} m more) = reaches-leads source next t (reaches-move source s next reaches m) more

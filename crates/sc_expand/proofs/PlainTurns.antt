@@ -1,10 +1,10 @@
 -- A turn of the loop: at each configuration one step, or none.
-use Rattle.std.proofs.Common.{◌≡◌, ◌⊎◌, inl, inr, ℕ, ◌<◌, ◌≤◌, Bool, true, false, true≢false, List, [], ◌∷◌, sym, subst, arith}
+use Rattle.std.proofs.Common.{◌≡◌, ◌⊎◌, inl, inr, ℕ, ◌<◌, ◌≤◌, Bool, true, List, [], ◌∷◌, subst, arith}
 use Rattle.c11_macros.specs.Expansion.{IsWithin}
 use Rattle.c11_macros.specs.Hidden.{Failure, Hidden, Provenance}
 use Rattle.c11_macros.specs.Macros.{Macros}
 use Rattle.sc_expand.proofs.PlainCompletes.{size}
-use Rattle.sc_expand.proofs.PlainReaches.{Reaches, reaches-move, size-move, size-pos}
+use Rattle.sc_expand.proofs.PlainReaches.{size-move, size-pos}
 use Rattle.sc_expand.proofs.PlainTotal.{total_of, total_of-le, total_of-less}
 use Rattle.sc_expand.specs.Plain as plain
 use Rattle.sc_expand.specs.Plain.{Fails, Moves, State, Waiting, expanding}
@@ -69,17 +69,3 @@ module _ {P : Type 0} (arities : List ℕ) (provenance : Provenance P) (macros :
     turn-less has still s t turn config part =
         total_of-less arities has still (left_at s) (left_at t) config part.listed (turn-each has still s t turn) part.here
         (λ here. size-move provenance (macros config) names (within config) (s config) (t config) (part.moves here)) (size-pos provenance (macros config) names (within config) (s config))
-
-    -- where there is a configuration, something is left
-    pub left-pos : (has : List ℕ → Bool) (s : List ℕ → State P) (config : List ℕ) → IsConfig arities config → has config ≡ true → 0 < steps_left has s
-    unfolding steps_left
-    left-pos has s config listed here = let less = turn-less has (λ c. false) s s (record { each = λ c config no. absurd (true≢false (sym no)) }) config (record { listed = listed; here = here; moves = λ no. absurd (true≢false (sym no)) }) in omega arith
-
-    pub turn-reaches : (has still : List ℕ → Bool) (s t : List ℕ → State P) (source : List ℕ → List (Hidden P)) → IsTurn has still s t
-        → ((c : List ℕ) → IsConfig arities c → has c ≡ true → Reaches provenance (macros c) (source c) (s c))
-        → (c : List ℕ) → IsConfig arities c → still c ≡ true → Reaches provenance (macros c) (source c) (t c)
-    turn-reaches has still s t source turn reaches c config here = by (turn.each c config here)
-      where
-        by : (has c ≡ true) × (Moves provenance (macros c) (s c) (t c) ⊎ (s c ≡ t c)) → Reaches provenance (macros c) (source c) (t c)
-        by (was, inl m) = reaches-move provenance (macros c) names (within c) (source c) (s c) (t c) (reaches c config was) m
-        by (was, inr same) = subst (Reaches provenance (macros c) (source c)) same (reaches c config was)

@@ -104,24 +104,24 @@ module _ {files : List (List ℕ)} {macros : List ℕ → Macros} {old now : Sto
 
   -- ---- a turn
 
-  module _ (new : Stores) (after : Expansion) (names : List (List ℕ)) (within : (c : List ℕ) → IsWithin names (macros c)) where
-    module _ (takes : List ℕ → Bool)
-        (progress : (c : List ℕ) → IsConfig old.sets.arities c → Progress (provenance_of files) (macros c) now new c e.below.items after.below.items (at now e c) (at new after c) (takes c)) where
-      told-later : (c : List ℕ) → IsConfig old.sets.arities c → IsTold (provenance_of files) (macros c) (seen_at old was.top.work c) new c after.below.items (at new after c) (old.sets.has was.refusals.live.0 c)
-      told-later c listed =
-          told-progress (provenance_of files) (macros c) now new c e.below.items after.below.items names (within c) (seen_at old was.top.work c) (takes c) (progress c listed) (r.told c listed)
+  module _ (new : Stores) (after : Expansion) (takes : List ℕ → Bool)
+      (progress : (c : List ℕ) → IsConfig old.sets.arities c → Progress (provenance_of files) (macros c) now new c e.below.items after.below.items (at now e c) (at new after c) (takes c)) where
+    told-later : (c : List ℕ) → IsConfig old.sets.arities c → IsTold (provenance_of files) (macros c) (seen_at old was.top.work c) new c after.below.items (at new after c) (old.sets.has was.refusals.live.0 c)
+    told-later c listed =
+        told-progress (provenance_of files) (macros c) now new c e.below.items after.below.items (seen_at old was.top.work c) (takes c) (progress c listed) (r.told c listed)
 
-      is-turn : IsTurn old.sets.arities (provenance_of files) macros (λ c. now.sets.has e.refusals.live.0 c) (λ c. new.sets.has after.refusals.live.0 c)
-          (λ c. state_in now e.below.items (view_at now e.top c) c) (λ c. state_in new after.below.items (view_at new after.top c) c)
-      is-turn = record {
-        each = λ c listed live.
-            let s = progress-step (provenance_of files) (macros c) now new c e.below.items after.below.items (progress c listed) live (running-stands c listed) in
-            (s.0, s.1.step);
-      }
+    is-turn : IsTurn old.sets.arities (provenance_of files) macros (λ c. now.sets.has e.refusals.live.0 c) (λ c. new.sets.has after.refusals.live.0 c)
+        (λ c. state_in now e.below.items (view_at now e.top c) c) (λ c. state_in new after.below.items (view_at new after.top c) c)
+    is-turn = record {
+      each = λ c listed live.
+          let s = progress-step (provenance_of files) (macros c) now new c e.below.items after.below.items (progress c listed) live (running-stands c listed) in
+          (s.0, s.1.step);
+    }
 
-      pub running-later : IsHeldExpansion new (length files) after → PutsOut now new e.refusals.live.0 (put_out e) (put_out after) → (LooksUpNone old.sets old.names macros was → Passes new.sets was after) → IsRunning files macros old new was after
-      running-later held out passes = record { held = held; told = told-later; out = puts-then grows running-fewer r.out out; passes = passes }
+    pub running-later : IsHeldExpansion new (length files) after → PutsOut now new e.refusals.live.0 (put_out e) (put_out after) → (LooksUpNone old.sets old.names macros was → Passes new.sets was after) → IsRunning files macros old new was after
+    running-later held out passes = record { held = held; told = told-later; out = puts-then grows running-fewer r.out out; passes = passes }
 
+    module _ (names : List (List ℕ)) (within : (c : List ℕ) → IsWithin names (macros c)) where
       pub running-le : steps_in old.sets.arities files macros names within new after ≤ steps_in old.sets.arities files macros names within now e
       running-le = turn-le old.sets.arities (provenance_of files) macros names within (λ c. now.sets.has e.refusals.live.0 c) (λ c. new.sets.has after.refusals.live.0 c)
           (λ c. state_in now e.below.items (view_at now e.top c) c) (λ c. state_in new after.below.items (view_at new after.top c) c) is-turn
@@ -148,35 +148,35 @@ module _ {files : List (List ℕ)} {macros : List ℕ → Macros} {old now : Sto
 -- ---- the two parts of a turn
 
 module _ {files : List (List ℕ)} {macros : List ℕ → Macros} {old now : Stores} {was e : Expansion} (grows : Grows old now) (r : IsRunning files macros old now was e)
-    (names : List (List ℕ)) (within : (c : List ℕ) → IsWithin names (macros c)) (began : IsHeldExpansion old (length files) was) (new : Stores) (after : Expansion) where
+    (began : IsHeldExpansion old (length files) was) (new : Stores) (after : Expansion) where
   module _ (rested : IsRested now new e after) where
     pub rests-at : (c : List ℕ) → IsConfig old.sets.arities c → Progress (provenance_of files) (macros c) now new c e.below.items after.below.items (at now e c) (at new after c) false
     rests-at c listed = rested.progress (length files) (provenance_of files) (macros c) c r.held (IsConfig-Keeps grows.sets listed)
 
     pub running-rested : Grows now new → IsRunning files macros old new was after
-    running-rested more = running-later grows r new after names within (λ c. false) rests-at (rested.held (length files) r.held) (puts-same more e.refusals.live.0 e after r.held rested.out)
+    running-rested more = running-later grows r new after (λ c. false) rests-at (rested.held (length files) r.held) (puts-same more e.refusals.live.0 e after r.held rested.out)
         (λ none.
         let p = r.passes none in
         let q = passes-then now.sets was e after p (drops-pass now.sets e after rested.refusals (rested.drops (length files) r.held p.uncalled)) in
         passes-Keeps was after more.sets (grows.sets.own was.refusals.live.0 began.refusals.live) (AreHeld-Grows grows was.top.work began.top.work).own q)
 
-    pub rested-le : steps_in old.sets.arities files macros names within new after ≤ steps_in old.sets.arities files macros names within now e
-    rested-le = running-le grows r new after names within (λ c. false) rests-at
+    pub rested-le : (names : List (List ℕ)) (within : (c : List ℕ) → IsWithin names (macros c)) → steps_in old.sets.arities files macros names within new after ≤ steps_in old.sets.arities files macros names within now e
+    rested-le names within = running-le grows r new after (λ c. false) rests-at names within
 
   module _ (other : List ℕ → Macros) (same : (c : List ℕ) → IsConfig old.sets.arities c → other c ≡ macros c) {went : Bool} (turned : IsTurned files other now new e after went) where
     pub turned-at : (c : List ℕ) → IsConfig old.sets.arities c → Progress (provenance_of files) (macros c) now new c e.below.items after.below.items (at now e c) (at new after c) (turned.takes c)
     turned-at c listed = subst (λ m. Progress (provenance_of files) m now new c e.below.items after.below.items (at now e c) (at new after c) (turned.takes c)) (same c listed) (turned.progress c (IsConfig-Keeps grows.sets listed))
 
     pub running-turned : Keeps now.sets new.sets → IsHeldExpansion new (length files) after → PutsOut now new e.refusals.live.0 (put_out e) (put_out after) → IsRunning files macros old new was after
-    running-turned keeps held out = running-later grows r new after names within turned.takes turned-at held out (λ none.
+    running-turned keeps held out = running-later grows r new after turned.takes turned-at held out (λ none.
         let p = r.passes none in
         let looks = looks-later grows macros other same (length files) was e began none p in
         let live = grows.sets.own was.refusals.live.0 began.refusals.live in
         let own = (AreHeld-Grows grows was.top.work began.top.work).own in
         passes-then new.sets was e after (passes-Keeps was e keeps live own p) (turned.passes p.uncalled looks))
 
-    pub turned-less : went ≡ true → steps_in old.sets.arities files macros names within new after < steps_in old.sets.arities files macros names within now e
-    turned-less there = running-less grows r new after names within turned.takes turned-at (turned.some there)
+    pub turned-less : (names : List (List ℕ)) (within : (c : List ℕ) → IsWithin names (macros c)) → went ≡ true → steps_in old.sets.arities files macros names within new after < steps_in old.sets.arities files macros names within now e
+    turned-less names within there = running-less grows r new after turned.takes turned-at names within (turned.some there)
 
 -- ---- the end
 

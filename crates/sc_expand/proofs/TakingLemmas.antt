@@ -35,7 +35,7 @@ use Rattle.sc_macro.specs.Seen.{AreHeld, text_of}
 use Rattle.sc_model.proofs.ByteLemmas.{same_bytes-refl, same_bytes-true}
 use Rattle.sc_model.specs.Bytes.{same_bytes}
 use Rattle.sc_model.specs.Growth.{IsOneToOne}
-use Rattle.sc_subst.proofs.SeenLaws.{held_tail, held_union, same_sets}
+use Rattle.sc_subst.proofs.SeenLaws.{held_tail, held_union}
 use Rattle.sc_subst.specs.Rising.{has_name}
 use Rattle.sc_subst.specs.Seen.{texts_in}
 use Rattle.std.proofs.lemmas.Bool.{eqb-true}
@@ -74,9 +74,6 @@ module _ (names : List (List ℕ)) (one made : List Name) (name : Name) (exact :
       by : (k : ℕ) (d : Name) → k < 1 → (get_or (name ∷ []) k d).0 < length names
       by zero d h = own
       by (suc k) d h = absurd (omega (arith, h))
-
-  pub seen_with : texts_in names made ≡ with_name (texts_in names one) (text_of names name)
-  seen_with = same_sets _ _ (λ text. exact (λ n. same_bytes (text_of names n) text))
 
 -- the same question of tables that grew
 pub same-result : {P : Type 0} (provenance : Provenance P) (head : model.Hidden P) {f g : Form} {is js : List Item} {m n : HideSet} (r : Result (List (model.Hidden P)) (Failure P))

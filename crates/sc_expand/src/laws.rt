@@ -13,12 +13,11 @@ ghost use Rattle.sc_expand.specs.Plain.{Fails, Leads, Moves, State, scanning};
 ghost use Rattle.sc_model.specs.Bytes.{has_no_newline};
 ghost use Rattle.sc_model.specs.Token.{Token};
 
-/// Where finitely many names are defined, what the steps of a list put out is its expansion, and a
-/// failure that ends them is its first.
+/// What the steps of a list put out is its expansion, and a failure that ends them is its first.
 pub fn steps_give_the_expansion<P>()
-    ensures list { (provenance : Provenance P) (macros : Macros) (names : List (List ℕ)) → IsWithin names macros → (list out : List (Hidden P))
+    ensures list { (provenance : Provenance P) (macros : Macros) (list out : List (Hidden P))
         → Leads provenance macros (scanning [] list) (scanning out []) → Expands provenance macros list (Ok out) }
-    ensures failure { (provenance : Provenance P) (macros : Macros) (names : List (List ℕ)) → IsWithin names macros → (list : List (Hidden P)) (s : State P) (failure : Failure P)
+    ensures failure { (provenance : Provenance P) (macros : Macros) (list : List (Hidden P)) (s : State P) (failure : Failure P)
         → Leads provenance macros (scanning [] list) s → Fails provenance macros s failure → Expands provenance macros list (Err failure) }
 {}
 
@@ -43,7 +42,7 @@ pub fn steps_take_the_footprint<P>()
     ensures ends { (provenance : Provenance P) (macros : Macros) (names : List (List ℕ)) → IsWithin names macros → (t : Hidden P) (rest : List (Hidden P)) (r : Result (List (Hidden P)) (Failure P))
         (d : Expands provenance macros (t ∷ rest) r) → (out work : List (Hidden P)) (left : ℕ) → LeadsUntil provenance macros (scanning [] (t ∷ rest)) (length rest) (scanning out work) left
         → length work ≤ left → ((footprint d).left ≡ length work) × ((footprint d).fails ≡ false) }
-    ensures fails { (provenance : Provenance P) (macros : Macros) (names : List (List ℕ)) → IsWithin names macros → (t : Hidden P) (rest : List (Hidden P)) (r : Result (List (Hidden P)) (Failure P))
+    ensures fails { (provenance : Provenance P) (macros : Macros) (t : Hidden P) (rest : List (Hidden P)) (r : Result (List (Hidden P)) (Failure P))
         (d : Expands provenance macros (t ∷ rest) r) → (s : State P) (left : ℕ) → LeadsUntil provenance macros (scanning [] (t ∷ rest)) (length rest) s left
         → IsPending s left → (failure : Failure P) → Fails provenance macros s failure → (footprint d).fails ≡ true }
 {}

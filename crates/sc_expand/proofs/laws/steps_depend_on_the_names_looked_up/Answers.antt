@@ -1,7 +1,10 @@
-use Rattle.std.proofs.Common.{[]}
+use Rattle.std.proofs.Common.{[], ap, subst}
+use Rattle.c11_macros.proofs.OneAnswer.{one}
+use Rattle.c11_macros.specs.Trace.{Agree}
 use Rattle.sc_expand.proofs.PlainAgreement.{agrees-start, leads-agrees}
 use Rattle.sc_expand.proofs.laws.steps_depend_on_the_names_looked_up.Goals as goal
 use Rattle.sc_expand.specs.Plain.{scanning}
 
 pub returns : goal.returns
-returns g c = λ provenance one two names within list r d agree s leads. leads-agrees provenance one two names within (scanning [] list) s leads (agrees-start provenance one two names within list r d agree)
+returns g c = λ provenance macros other names within list r d agree s leads.
+    leads-agrees provenance macros other names within (scanning [] list) s leads (agrees-start provenance macros other list (λ q e. subst (Agree macros other) (ap (λ x. x.looked_up) (one d q e).trace) agree))

@@ -1,21 +1,13 @@
-use Rattle.sc_expand.proofs.AlikeRunning.{StayAlike}
-use Rattle.sc_expand.proofs.Phases.{Phase}
+use Rattle.sc_expand.proofs.BetweenTurns.{IsBetweenTurns}
 use Rattle.sc_expand.proofs.PlainTables.{entry_names, within-table}
-use Rattle.sc_expand.proofs.RunLemmas.{IsRunning, steps_in}
-use Rattle.sc_expand.specs.Seen.{Grows, stores}
+use Rattle.sc_expand.proofs.RunLemmas.{steps_in}
+use Rattle.sc_expand.specs.Seen.{stores}
 use Rattle.sc_table.specs.Table.{macros_at}
 use Rattle.sc_expand.proofs.expansion.Expansion.run.Given as goal
 
 abbrev pub invariant-loop-self : goal.invariant-loop-self
-invariant-loop-self g l = record {
-  grows : Grows (stores (g.C.Conditions.sets l.initial.conds) l.initial.names l.initial.self.sets) (stores (g.C.Conditions.sets l.conds) l.names l.self.sets);
-  running : IsRunning l.files (macros_at (g.C.Conditions.sets l.initial.conds) l.initial.names l.table)
-      (stores (g.C.Conditions.sets l.initial.conds) l.initial.names l.initial.self.sets) (stores (g.C.Conditions.sets l.conds) l.names l.self.sets) l.initial.self l.self;
-  alike : StayAlike l.files (macros_at (g.C.Conditions.sets l.initial.conds) l.initial.names l.table) (entry_names l.initial.names l.table.entries.entries) (within-table (g.C.Conditions.sets l.initial.conds) l.initial.names l.table)
-      (stores (g.C.Conditions.sets l.initial.conds) l.initial.names l.initial.self.sets) (stores (g.C.Conditions.sets l.conds) l.names l.self.sets) l.initial.self l.self;
-  phase : Phase l.files (macros_at (g.C.Conditions.sets l.initial.conds) l.initial.names l.table)
-      (stores (g.C.Conditions.sets l.initial.conds) l.initial.names l.initial.self.sets) (stores (g.C.Conditions.sets l.conds) l.names l.self.sets) l.initial.self l.self;
-}
+invariant-loop-self g l = IsBetweenTurns l.files (macros_at (g.C.Conditions.sets l.initial.conds) l.initial.names l.table)
+    (stores (g.C.Conditions.sets l.initial.conds) l.initial.names l.initial.self.sets) (stores (g.C.Conditions.sets l.conds) l.names l.self.sets) l.initial.self l.self
 
 abbrev pub decreases-loop-self : goal.decreases-loop-self
 decreases-loop-self g l =
