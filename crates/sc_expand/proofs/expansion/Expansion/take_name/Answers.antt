@@ -53,76 +53,6 @@ take_parts-requires-clause-begun g c = λ x listed one.
 pub returns-in_err-take_parts-clause-keeps : goal.returns-in_err-take_parts-clause-keeps
 returns-in_err-take_parts-clause-keeps g c = Keeps-trans c.lookup.ensures.keeps c.take_parts.ensures.keeps
 
-pub returns-clause-keeps : goal.returns-clause-keeps
-returns-clause-keeps g c = Keeps-trans c.lookup.ensures.keeps c.take_parts.ensures.keeps
-
-pub returns-clause-comes : goal.returns-clause-comes
-returns-clause-comes g c = λ x macros rest listed has work is.
-    let s0 = g.C.Conditions.sets c.args.conds.now in
-    let s1 = g.C.Conditions.sets c.lookup.new.conds in
-    let n = c.args.names.now in
-    let h = c.args.self.now.sets in
-    let text = text_of n c.args.head.token.spelling in
-    let grows : Grows (stores s0 n h) (stores s1 n h) = record { sets = c.lookup.ensures.keeps; names = Extends-refl n; hides = Extends-refl h } in
-    let now = stores (g.C.Conditions.sets c.take_parts.new.conds) c.take_parts.new.names c.take_parts.new.self.sets in
-    let same = at-Grows grows x listed c.args.self.now c.requires.held in
-    let found = ap (λ l. map (seen_by n) (items_at s1 l x)) c.deref.ensures.value
-    ∙ (c.in_ok-parts.ensures.parts x listed ∙ (ap (λ b. if b then macros_at s0 n c.args.table.now x text ∷ [] else []) has ∙ ap (λ m. m ∷ []) (sym is))) in
-    subst (λ a. Comes (provenance_of c.args.files.now) macros (seen_hidden n h c.args.head) rest a (step_at now c.take_parts.new.self c.take_parts.new.taken x)) same
-    (c.in_ok-take_parts.ensures.comes x macros rest (IsConfig-Keeps c.lookup.ensures.keeps listed) (ap (λ (a : At). a.view.work) same ∙ work) found)
-
-pub returns-clause-others : goal.returns-clause-others
-returns-clause-others g c = λ x listed no.
-    let s0 = g.C.Conditions.sets c.args.conds.now in
-    let s1 = g.C.Conditions.sets c.lookup.new.conds in
-    let n = c.args.names.now in
-    let h = c.args.self.now.sets in
-    let text = text_of n c.args.head.token.spelling in
-    let grows : Grows (stores s0 n h) (stores s1 n h) = record { sets = c.lookup.ensures.keeps; names = Extends-refl n; hides = Extends-refl h } in
-    let found = ap (λ l. map (seen_by n) (items_at s1 l x)) c.deref.ensures.value
-    ∙ (c.in_ok-parts.ensures.parts x listed ∙ ap (λ b. if b then macros_at s0 n c.args.table.now x text ∷ [] else []) no) in
-    c.in_ok-take_parts.ensures.others x (IsConfig-Keeps c.lookup.ensures.keeps listed) (none-found (seen_by n) (items_at s1 c.deref.result.now x) found)
-    ∙ still-untaken grows c.args.self.now (record { stays = c.never.result; made = c.new.result }) c.requires.held c.never.ensures.meaning c.new.ensures.items x listed
-
-pub returns-clause-undefined : goal.returns-clause-undefined
-returns-clause-undefined g c = λ undefined.
-    let s0 = g.C.Conditions.sets c.args.conds.now in
-    let s1 = g.C.Conditions.sets c.lookup.new.conds in
-    let n = c.args.names.now in
-    let macro : List ℕ → Option Definition = λ x. macros_at s0 n c.args.table.now x (text_of n c.args.head.token.spelling) in
-    let name = (both_true (is_identifier_kind c.args.head.token.kind) (not (hide_at n c.args.self.now.sets c.args.head.hide.0 (text_of n c.args.head.token.spelling))) c.requires.name).0 in
-    let found = found-none s1 n (s0.has c.args.cond.0) macro c.in_ok-parts.parts.items (λ x listed. c.in_ok-parts.ensures.parts x (IsConfig-kept c.lookup.ensures.keeps listed))
-    (λ x listed has. undefined x (IsConfig-kept c.lookup.ensures.keeps listed) has name) c.in_ok-parts.ensures.some in
-    let told = c.in_ok-take_parts.ensures.undefined (subst (All (λ (part : Cond × Option (Rc declared.Definition Global)). part.1 ≡ None)) (sym c.deref.ensures.value) found) in
-    (told.0, ap (λ (made : Vec (Cond × Hidden)). made.items) told.1 ∙ c.new.ensures.items)
-
-pub returns-clause-alike : goal.returns-clause-alike
-returns-clause-alike g c = λ x y span p q same called defined alike.
-    let s0 = g.C.Conditions.sets c.args.conds.now in
-    let s1 = g.C.Conditions.sets c.lookup.new.conds in
-    let n = c.args.names.now in
-    let h = c.args.self.now.sets in
-    let work = c.args.self.now.top.work in
-    let own = c.requires.held.top.work.own in
-    let keeps = c.lookup.ensures.keeps in
-    let grows : Grows (stores s0 n h) (stores s1 n h) = record { sets = keeps; names = Extends-refl n; hides = Extends-refl h } in
-    let parts = c.in_ok-parts.parts.items in
-    let one = c.in_ok-parts.ensures.parts x p in
-    let both = same-defined (s0.has c.args.cond.0 x) (s0.has c.args.cond.0 y) _ _ same defined in
-    let found = found-alike (seen_by n) s1 parts x y c.in_ok-parts.ensures.differ (one ∙ (both ∙ sym (c.in_ok-parts.ensures.parts y q))) in
-    let never = c.never.ensures.meaning in
-    c.in_ok-take_parts.ensures.alike x y span (IsConfig-Keeps keeps p) (IsConfig-Keeps keeps q) (subst (AreAlike s1 x y) (sym c.deref.ensures.value) found)
-    (λ takes.
-    let function = found-function s1 n parts x _ _ one (subst (λ l. TakesPart s1 n l x) c.deref.ensures.value takes) in
-    each-same-call work work grows c.requires.held.top.work refl (has_each-Keeps work x keeps own p) (has_each-Keeps work y keeps own q) (called function.0 function.1))
-    (record { stays = IsAlike-Keeps keeps p q never.own (alike-of never p q refl); made = subst (AreAlike s1 x y) (sym c.new.ensures.items) (All-nil (λ (item : Cond × Hidden). IsAlike s1 x y item.0)) })
-    (IsAlikeIn-Keeps keeps p q span c.args.self.now c.requires.held alike)
-
-pub returns-clause-rest : goal.returns-clause-rest
-returns-clause-rest g c = λ x listed.
-    let keeps = c.lookup.ensures.keeps in
-    taken-earlier (has_each-Keeps c.args.self.now.top.work x keeps c.requires.held.top.work.own listed) (c.in_ok-take_parts.ensures.rest x (IsConfig-Keeps keeps listed))
-
 pub returns-in_err-take_parts-clause-stops : goal.returns-in_err-take_parts-clause-stops
 returns-in_err-take_parts-clause-stops g c =
     let p = err_from_is_err_and c.from_residual-in_err-take_parts.result c.from_residual-in_err-take_parts.ensures.1 in
@@ -141,3 +71,59 @@ returns-in_err-take_parts-clause-stops g c =
       found-function s1 n c.in_ok-parts.parts.items x _ _ (c.in_ok-parts.ensures.parts x first) (subst (λ l. TakesPart s1 n l x) c.deref.ensures.value takes),
       has_each-Keeps work x keeps c.requires.held.top.work.own first,
     )) c.in_err-take_parts.ensures.stops)
+
+pub returns : goal.returns
+returns g c =
+    let s0 = g.C.Conditions.sets c.args.conds.now in
+    let s1 = g.C.Conditions.sets c.lookup.new.conds in
+    let n = c.args.names.now in
+    let h = c.args.self.now.sets in
+    let e = c.args.self.now in
+    let work = e.top.work in
+    let text = text_of n c.args.head.token.spelling in
+    let keeps = c.lookup.ensures.keeps in
+    let grows : Grows (stores s0 n h) (stores s1 n h) = record { sets = keeps; names = Extends-refl n; hides = Extends-refl h } in
+    let now = stores (g.C.Conditions.sets c.take_parts.new.conds) c.take_parts.new.names c.take_parts.new.self.sets in
+    let found = c.in_ok-parts.ensures in
+    let value = c.deref.ensures.value in
+    let told = c.in_ok-take_parts.ensures in
+    let never = c.never.ensures.meaning in
+    record {
+      held = told.held;
+      taken = told.taken;
+      below = told.below;
+      out = told.out;
+      items = told.items;
+      comes = λ x macros rest listed has work is.
+          let same = at-Grows grows x listed e c.requires.held in
+          let one = ap (λ l. map (seen_by n) (items_at s1 l x)) value ∙ (found.parts x listed ∙ (ap (λ b. if b then macros_at s0 n c.args.table.now x text ∷ [] else []) has ∙ ap (λ m. m ∷ []) (sym is))) in
+          subst (λ a. Comes (provenance_of c.args.files.now) macros (seen_hidden n h c.args.head) rest a (step_at now c.take_parts.new.self c.take_parts.new.taken x)) same
+          (told.comes x macros rest (IsConfig-Keeps keeps listed) (ap (λ (a : At). a.view.work) same ∙ work) one);
+      others = λ x listed no.
+          let none = ap (λ l. map (seen_by n) (items_at s1 l x)) value ∙ (found.parts x listed ∙ ap (λ b. if b then macros_at s0 n c.args.table.now x text ∷ [] else []) no) in
+          told.others x (IsConfig-Keeps keeps listed) (none-found (seen_by n) (items_at s1 c.deref.result.now x) none)
+          ∙ still-untaken grows e (record { stays = c.never.result; made = c.new.result }) c.requires.held never c.new.ensures.items x listed;
+      undefined = λ undefined.
+          let macro : List ℕ → Option Definition = λ x. macros_at s0 n c.args.table.now x text in
+          let name = (both_true (is_identifier_kind c.args.head.token.kind) (not (hide_at n h c.args.head.hide.0 text)) c.requires.name).0 in
+          let none = found-none s1 n (s0.has c.args.cond.0) macro c.in_ok-parts.parts.items (λ x listed. found.parts x (IsConfig-kept keeps listed)) (λ x listed has. undefined x (IsConfig-kept keeps listed) has name) found.some in
+          let same = told.undefined (subst (All (λ (part : Cond × Option (Rc declared.Definition Global)). part.1 ≡ None)) (sym value) none) in
+          (same.0, ap (λ (made : Vec (Cond × Hidden)). made.items) same.1 ∙ c.new.ensures.items);
+      rest = λ x listed. taken-earlier (has_each-Keeps work x keeps c.requires.held.top.work.own listed) (told.rest x (IsConfig-Keeps keeps listed));
+      stops = tt;
+      alike = λ x y span p q same called defined alike.
+          let own = c.requires.held.top.work.own in
+          let parts = c.in_ok-parts.parts.items in
+          let one = found.parts x p in
+          let both = same-defined (s0.has c.args.cond.0 x) (s0.has c.args.cond.0 y) _ _ same defined in
+          let alike_parts = found-alike (seen_by n) s1 parts x y found.differ (one ∙ (both ∙ sym (found.parts y q))) in
+          told.alike x y span (IsConfig-Keeps keeps p) (IsConfig-Keeps keeps q) (subst (AreAlike s1 x y) (sym value) alike_parts)
+          (λ takes.
+          let function = found-function s1 n parts x _ _ one (subst (λ l. TakesPart s1 n l x) value takes) in
+          each-same-call work work grows c.requires.held.top.work refl (has_each-Keeps work x keeps own p) (has_each-Keeps work y keeps own q) (called function.0 function.1))
+          (record { stays = IsAlike-Keeps keeps p q never.own (alike-of never p q refl); made = subst (AreAlike s1 x y) (sym c.new.ensures.items) (All-nil (λ (item : Cond × Hidden). IsAlike s1 x y item.0)) })
+          (IsAlikeIn-Keeps keeps p q span e c.requires.held alike);
+      keeps = Keeps-trans keeps c.take_parts.ensures.keeps;
+      names = c.take_parts.ensures.names;
+      sets = c.take_parts.ensures.sets;
+    }
