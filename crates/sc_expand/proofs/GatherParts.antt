@@ -17,7 +17,7 @@ use Rattle.sc_expand.proofs.LastLemmas.{last-earlier, last-later}
 use Rattle.sc_expand.proofs.SeenLemmas.{Grows-trans, IsHeldExpansion-Grows, at-Grows}
 use Rattle.sc_expand.proofs.TakingSteps.{has_first-Keeps}
 use Rattle.sc_expand.proofs.WorkListLemmas.{has_each-Keeps}
-use Rattle.sc_expand.specs.Called.{AreGathered, IsBranch, IsCalled}
+use Rattle.sc_expand.specs.Called.{AreGathered, IsBranch, IsCalled, IsGathered}
 use Rattle.sc_expand.specs.Alike.{AreAlikeRefusals, IsAlikeIn, IsSameCall, Span}
 use Rattle.sc_expand.specs.Having.{HasLast, has_each, tokens_in}
 use Rattle.sc_expand.specs.Gather.{Gathers}
@@ -285,19 +285,6 @@ parted-by s0 s1 s2 s3 names later files e r cond closes stays_open found branche
   alike = alike;
 }
 
--- what gathering comes to, whatever the configuration
-pub record IsGathered (s0 s5 : Sets) (names last : List (List ℕ)) (files : List (List ℕ)) (e0 e4 : Expansion) (cond uncalled : ℕ) (definition : declared_definition.Definition) (head : Hidden) : Type 0 where
-  pub gathers : (c : List ℕ) (macros : Macros) (rest : List (model.Hidden Place)) → IsConfig s0.arities c → s0.has cond c ≡ true
-      → (at (stores s0 names e0.sets) e0 c).view.work ≡ seen_hidden names e0.sets head ∷ rest → is_looked_up (seen_hidden names e0.sets head) ≡ true
-      → macros (text_of names head.token.spelling) ≡ Some (seen_definition names definition)
-      → Gathers (provenance_of files) macros (seen_hidden names e0.sets head) rest (at (stores s0 names e0.sets) e0 c) (at (stores s5 last e4.sets) e4 c) (s5.has uncalled c)
-  pub others : (c : List ℕ) → IsConfig s0.arities c → s0.has cond c ≡ false
-      → ((at (stores s5 last e4.sets) e4 c ≡ at (stores s0 names e0.sets) e0 c) × (s5.has uncalled c ≡ false)) × (has_each s5 e4.top.work c ≡ has_each s0 e0.top.work c)
-  pub first : (c : List ℕ) → IsConfig s0.arities c → s0.has cond c ≡ true → s5.has e4.refusals.live.0 c ≡ true → has_first s5 e4.top.work c ≡ s5.has uncalled c
-  pub alike : (c d : List ℕ) (span : Span) → IsConfig s0.arities c → IsConfig s0.arities d → s0.has cond c ≡ s0.has cond d → (s0.has cond c ≡ true → IsSameCall s0 names c d e0.top.work)
-      → IsAlikeIn s0 c d span e0 → IsAlikeIn s5 c d span e4 × (s5.has uncalled c ≡ s5.has uncalled d)
-  pub rest : (c : List ℕ) → IsConfig s0.arities c → HasLast s0 s5 e0.top.work e4.top.work c
-
 module _ {s0 s1 s2 s3 : Sets} {names later : List (List ℕ)} {e : Expansion} {r : Refusals} {cond closes stays_open : ℕ} {branches : List Branch} (files : List (List ℕ)) (head : Hidden)
     (parts : Parted s0 s1 s2 s3 names later (length files) e r cond closes stays_open branches (failure_at UnterminatedCall (seen_hidden names e.sets head)))
     (head_held : IsHeldHidden names e.sets head) (definition : declared_definition.Definition) (items made : List declared_item.Item) (is_definition : IsHeldDefinition names definition) (value : items ≡ made) (own : All (IsHeldItem later) made)
@@ -317,8 +304,9 @@ module _ {s0 s1 s2 s3 : Sets} {names later : List (List ℕ)} {e : Expansion} {r
       (call_places s1 names (tokens_in e.top.work) 0 c) (s2.has stays_open c) (s5.has uncalled c) has (call_end_at s0 names (tokens_in e.top.work) 0 c)
   ended = ending parts s4 s5 last e4 uncalled fourth fifth held4 uncalled_is
 
-  pub is-gathered : IsGathered s0 s5 names last files e e4 cond uncalled definition head
+  pub is-gathered : IsGathered files (stores s0 names e.sets) (stores s5 last e4.sets) e e4 cond uncalled definition head
   is-gathered = record {
+    own = uncalled_is.own;
     gathers = λ c macros rest listed has work looked is.
         let st0 = stores s0 names e.sets in
         let provenance = provenance_of files in

@@ -9,20 +9,21 @@ use Rattle.c11_macros.specs.Substitution.{Slot, neither, parts, slots}
 use Rattle.sc_base.specs.declared.place.Place.{Place}
 use Rattle.sc_expand.specs.declared.expansion.Expansion.{Expansion}
 use Rattle.sc_expand.specs.Gather.{Gathers}
-use Rattle.sc_expand.specs.Alike.{IsAlikeIn, Span}
+use Rattle.sc_expand.specs.Alike.{IsAlikeIn, IsSameCall, Span}
 use Rattle.sc_hoist.specs.Alike.{IsAlike}
 use Rattle.sc_expand.specs.Having.{HasLast, has_each, tokens_in}
 use Rattle.sc_expand.specs.Machine.{at, with_call}
 use Rattle.sc_expand.specs.Plain.{IsTemplate, gathered}
-use Rattle.sc_expand.specs.Seen.{Stores, calls_at}
+use Rattle.sc_expand.specs.Seen.{Stores, calls_at, provenance_of}
 use Rattle.sc_expand.specs.Taking.{has_first}
 use Rattle.sc_expand.specs.Turn.{At}
 use Rattle.sc_hoist.specs.Branches.{lists_at}
 use Rattle.sc_hoist.specs.Calls.{call_end_at, call_places, closed}
 use Rattle.sc_hoist.specs.declared.branch.Branch.{Branch}
+use Rattle.sc_macro.specs.declared.definition.Definition as declared_definition
 use Rattle.sc_macro.specs.declared.definition.Item as declared_item
 use Rattle.sc_macro.specs.declared.form.Form as declared_form
-use Rattle.sc_macro.specs.Seen.{seen_form, seen_item, text_of}
+use Rattle.sc_macro.specs.Seen.{seen_definition, seen_form, seen_item, text_of}
 use Rattle.sc_model.specs.Bytes.{same_bytes}
 use Rattle.sc_model.specs.Sets.{IsCond, IsConfig, IsNever}
 use Rattle.sc_subst.specs.declared.hidden.Hidden.{Hidden}
@@ -89,4 +90,21 @@ pub record AreGathered (old st : Stores) (was now : Expansion) (form : declared_
       → (at st now c ≡ at old was c) × (has_each st.sets now.top.work c ≡ has_each old.sets was.top.work c)
   pub alike : (c d : List ℕ) (span : Span) → IsConfig old.sets.arities c → IsConfig old.sets.arities d → All (λ branch. IsAlike old.sets c d branch.cond) branches
       → IsAlikeIn old.sets c d span was → IsAlikeIn st.sets c d span now
+  pub rest : (c : List ℕ) → IsConfig old.sets.arities c → HasLast old.sets st.sets was.top.work now.top.work c
+
+-- The calls of a macro's name were taken out in the configurations of a condition: each of them
+-- made its step, or has the name still, which is no call there. The others are as they were.
+pub record IsGathered (files : List (List ℕ)) (old st : Stores) (was now : Expansion) (cond uncalled : ℕ) (definition : declared_definition.Definition) (head : Hidden) : Type 0 where
+  pub own : IsCond st.sets uncalled
+  pub gathers : (c : List ℕ) (macros : Macros) (rest : List (model.Hidden Place)) → IsConfig old.sets.arities c → old.sets.has cond c ≡ true
+      → (at old was c).view.work ≡ seen_hidden old.names old.hides head ∷ rest → is_looked_up (seen_hidden old.names old.hides head) ≡ true
+      → macros (text_of old.names head.token.spelling) ≡ Some (seen_definition old.names definition)
+      → Gathers (provenance_of files) macros (seen_hidden old.names old.hides head) rest (at old was c) (at st now c) (st.sets.has uncalled c)
+  pub first : (c : List ℕ) → IsConfig old.sets.arities c → old.sets.has cond c ≡ true → st.sets.has now.refusals.live.0 c ≡ true
+      → has_first st.sets now.top.work c ≡ st.sets.has uncalled c
+  pub others : (c : List ℕ) → IsConfig old.sets.arities c → old.sets.has cond c ≡ false
+      → ((at st now c ≡ at old was c) × (st.sets.has uncalled c ≡ false)) × (has_each st.sets now.top.work c ≡ has_each old.sets was.top.work c)
+  pub alike : (c d : List ℕ) (span : Span) → IsConfig old.sets.arities c → IsConfig old.sets.arities d → old.sets.has cond c ≡ old.sets.has cond d
+      → (old.sets.has cond c ≡ true → IsSameCall old.sets old.names c d was.top.work) → IsAlikeIn old.sets c d span was
+      → IsAlikeIn st.sets c d span now × (st.sets.has uncalled c ≡ st.sets.has uncalled d)
   pub rest : (c : List ℕ) → IsConfig old.sets.arities c → HasLast old.sets st.sets was.top.work now.top.work c

@@ -8,7 +8,7 @@ ghost use Rattle.c11_macros.specs.Defines.{is_function_like};
 ghost use Rattle.sc_base.specs.declared.place.Place.{Place};
 ghost use Rattle.sc_expand.specs.Alike.{IsAlikeIn, IsSameCall, Span};
 ghost use Rattle.sc_hoist.specs.Alike.{IsAlike};
-ghost use Rattle.sc_expand.specs.Called.{AreGathered, Begins, IsBranch, IsCall};
+ghost use Rattle.sc_expand.specs.Called.{AreGathered, Begins, IsBranch, IsCall, IsGathered};
 ghost use Rattle.sc_expand.specs.Gather.{Gathers};
 ghost use Rattle.sc_hoist.specs.Branches.{lists_at};
 ghost use Rattle.sc_expand.specs.Machine.{IsHeldExpansion, at};
@@ -61,25 +61,9 @@ impl Expansion {
         ensures below { OnOk result (self.new.below ≡ self.old.below) }
         ensures out { OnOk result (self.new.top.out ≡ self.old.top.out) }
         ensures items { OnOk result (map (λ item. item.1) self.new.top.work ≡ map (λ item. item.1) self.old.top.work) }
-        ensures own { IfOk result (λ uncalled. IsCond (C.sets conds.new) uncalled.0) }
-        ensures gathers { IfOk result (λ uncalled. (c : List ℕ) (macros : Macros) (rest : List (model.Hidden Place)) → IsConfig (C.sets conds.old).arities c
-            → (C.sets conds.old).has cond.0 c ≡ true → (at (stores (C.sets conds.old) names.old self.old.sets) self.old c).view.work ≡ seen_hidden names.old self.old.sets head ∷ rest
-            → is_looked_up (seen_hidden names.old self.old.sets head) ≡ true → macros (text_of names.old head.token.spelling) ≡ Some (seen_definition names.old definition.now)
-            → Gathers (provenance_of files.now) macros (seen_hidden names.old self.old.sets head) rest
-            (at (stores (C.sets conds.old) names.old self.old.sets) self.old c) (at (stores (C.sets conds.new) names.new self.new.sets) self.new c) ((C.sets conds.new).has uncalled.0 c)) }
-        ensures others { IfOk result (λ uncalled. (c : List ℕ) → IsConfig (C.sets conds.old).arities c → (C.sets conds.old).has cond.0 c ≡ false
-            → (at (stores (C.sets conds.new) names.new self.new.sets) self.new c ≡ at (stores (C.sets conds.old) names.old self.old.sets) self.old c) × ((C.sets conds.new).has uncalled.0 c ≡ false)) }
-        ensures first_called { IfOk result (λ uncalled. (c : List ℕ) → IsConfig (C.sets conds.old).arities c → (C.sets conds.old).has cond.0 c ≡ true
-            → (C.sets conds.new).has self.new.refusals.live.0 c ≡ true → has_first (C.sets conds.new) self.new.top.work c ≡ (C.sets conds.new).has uncalled.0 c) }
-        ensures first_others { OnOk result ((c : List ℕ) → IsConfig (C.sets conds.old).arities c → (C.sets conds.old).has cond.0 c ≡ false
-            → has_first (C.sets conds.new) self.new.top.work c ≡ has_first (C.sets conds.old) self.old.top.work c) }
-        ensures rest { OnOk result ((c : List ℕ) → IsConfig (C.sets conds.old).arities c → HasLast (C.sets conds.old) (C.sets conds.new) self.old.top.work self.new.top.work c) }
+        ensures gathered { IfOk result (λ uncalled. IsGathered files.now (stores (C.sets conds.old) names.old self.old.sets) (stores (C.sets conds.new) names.new self.new.sets)
+            self.old self.new cond.0 uncalled.0 definition.now head) }
         ensures stops { IfErr result (StopsAt (C.sets conds.old) names.old (λ c. (C.sets conds.old).has cond.0 c ≡ true) self.old.top.work limit) }
-        ensures alike { IfOk result (λ uncalled. (c d : List ℕ) (span : Span) → IsConfig (C.sets conds.old).arities c → IsConfig (C.sets conds.old).arities d
-            → IsAlike (C.sets conds.old) c d cond → ((C.sets conds.old).has cond.0 c ≡ true → IsSameCall (C.sets conds.old) names.old c d self.old.top.work)
-            → IsAlikeIn (C.sets conds.old) c d span self.old → IsAlikeIn (C.sets conds.new) c d span self.new × IsAlike (C.sets conds.new) c d uncalled) }
-        ensures others_each { OnOk result ((c : List ℕ) → IsConfig (C.sets conds.old).arities c → (C.sets conds.old).has cond.0 c ≡ false
-            → has_each (C.sets conds.new) self.new.top.work c ≡ has_each (C.sets conds.old) self.old.top.work c) }
 
         // at every outcome
         ensures keeps { Keeps (C.sets conds.old) (C.sets conds.new) }

@@ -1,11 +1,10 @@
-use Rattle.std.proofs.Common.{◌<◌, length}
+use Rattle.std.proofs.Common.{◌<◌, length, rules}
 use Rattle.std.proofs.lemmas.List.Elements.{All-map}
 use Rattle.std.proofs.lemmas.Result.{err_from_is_err_and}
 use Rattle.c11_macros.specs.Hidden.{failure_at}
 use Rattle.sc_base.proofs.Growth.{Extends-refl}
 use Rattle.sc_base.specs.declared.id.Cond.{Cond}
 use Rattle.sc_base.specs.declared.token.Token.{Token}
-use Rattle.sc_expand.proofs.GatherBranches.{first-of-each}
 use Rattle.sc_expand.proofs.GatherEnds.{stops-at}
 use Rattle.sc_expand.proofs.GatherParts.{are-branches, is-gathered, one-at-most, parted-by, parted-held}
 use Rattle.sc_expand.proofs.GatherTaking.{head-held}
@@ -60,8 +59,8 @@ items_at-requires-clause-file g c =
 pub returns-in_err-items-clause-keeps : goal.returns-in_err-items-clause-keeps
 returns-in_err-items-clause-keeps g c = Keeps-trans (Keeps-trans c.first_calls.ensures.keeps c.closed_calls.ensures.keeps) c.refuse.ensures.keeps
 
-pub gather_calls-requires-clause-held : goal.gather_calls-requires-clause-held
-gather_calls-requires-clause-held g c =
+pub gather_calls-requires : goal.gather_calls-requires
+gather_calls-requires g c =
     let s0 = g.C.Conditions.sets c.args.conds.now in
     let s1 = g.C.Conditions.sets c.first_calls.new.conds in
     let s2 = g.C.Conditions.sets c.closed_calls.new.conds in
@@ -75,39 +74,16 @@ gather_calls-requires-clause-held g c =
     c.in_ok-found.ensures.closed c.in_ok-found.ensures.still c.in_ok-branches.ensures.lists c.in_ok-branches.ensures.branches c.in_ok-refuse.ensures.live c.in_ok-refuse.ensures.failures
     c.in_ok-branches.ensures.agree c.in_ok-refuse.ensures.alike in
     let head = head-held (IsHeldToken (stores s0 n e0.sets) files) e0.top.work c.args.head c.requires.held.top.work.held c.requires.head in
-    (files, parted-held parts (c.in_ok-refuse.ensures.held files head.file))
-
-pub gather_calls-requires-clause-branches : goal.gather_calls-requires-clause-branches
-gather_calls-requires-clause-branches g c =
-    let s0 = g.C.Conditions.sets c.args.conds.now in
-    let s1 = g.C.Conditions.sets c.first_calls.new.conds in
-    let s2 = g.C.Conditions.sets c.closed_calls.new.conds in
-    let s3 = g.C.Conditions.sets c.refuse.new.conds in
-    let n = c.args.names.now in
-    let e0 = c.args.self.now in
-    let files = length c.args.files.now in
-    let ends = c.in_ok-found.found.ends in
-    let parts = parted-by s0 s1 s2 s3 n c.items_at.new.names files e0 c.refuse.new.self c.args.cond.0 ends.closed.0 ends.still.0 c.in_ok-branches.branches.items c.deref.result.now
-    (failure_at UnterminatedCall (seen_hidden n e0.sets c.args.head)) c.deref.ensures.value c.first_calls.ensures.keeps c.closed_calls.ensures.keeps c.refuse.ensures.keeps c.items_at.ensures.names c.requires.held
-    c.in_ok-found.ensures.closed c.in_ok-found.ensures.still c.in_ok-branches.ensures.lists c.in_ok-branches.ensures.branches c.in_ok-refuse.ensures.live c.in_ok-refuse.ensures.failures
-    c.in_ok-branches.ensures.agree c.in_ok-refuse.ensures.alike in
-    are-branches parts c.requires.stands c.requires.live c.requires.calls
-
-pub gather_calls-requires-clause-one : goal.gather_calls-requires-clause-one
-gather_calls-requires-clause-one g c =
-    let s0 = g.C.Conditions.sets c.args.conds.now in
-    let s1 = g.C.Conditions.sets c.first_calls.new.conds in
-    let s2 = g.C.Conditions.sets c.closed_calls.new.conds in
-    let s3 = g.C.Conditions.sets c.refuse.new.conds in
-    let n = c.args.names.now in
-    let e0 = c.args.self.now in
-    let files = length c.args.files.now in
-    let ends = c.in_ok-found.found.ends in
-    let parts = parted-by s0 s1 s2 s3 n c.items_at.new.names files e0 c.refuse.new.self c.args.cond.0 ends.closed.0 ends.still.0 c.in_ok-branches.branches.items c.deref.result.now
-    (failure_at UnterminatedCall (seen_hidden n e0.sets c.args.head)) c.deref.ensures.value c.first_calls.ensures.keeps c.closed_calls.ensures.keeps c.refuse.ensures.keeps c.items_at.ensures.names c.requires.held
-    c.in_ok-found.ensures.closed c.in_ok-found.ensures.still c.in_ok-branches.ensures.lists c.in_ok-branches.ensures.branches c.in_ok-refuse.ensures.live c.in_ok-refuse.ensures.failures
-    c.in_ok-branches.ensures.agree c.in_ok-refuse.ensures.alike in
-    one-at-most parts
+    let held3 = parted-held parts (c.in_ok-refuse.ensures.held files head.file) in
+    record {
+      held = (files, held3);
+      head = search rules;
+      form = search rules;
+      function = search rules;
+      items = search rules;
+      branches = are-branches parts c.requires.stands c.requires.live c.requires.calls;
+      one = one-at-most parts;
+    }
 
 pub returns-in_err-gather_calls-clause-keeps : goal.returns-in_err-gather_calls-clause-keeps
 returns-in_err-gather_calls-clause-keeps g c = Keeps-trans (Keeps-trans (Keeps-trans c.first_calls.ensures.keeps c.closed_calls.ensures.keeps) c.refuse.ensures.keeps) c.gather_calls.ensures.keeps
@@ -121,11 +97,8 @@ apply_or-requires-clause-b_own g c = (Keeps-trans (Keeps-trans c.closed_calls.en
 pub returns-in_err-uncalled-clause-keeps : goal.returns-in_err-uncalled-clause-keeps
 returns-in_err-uncalled-clause-keeps g c = Keeps-trans (Keeps-trans (Keeps-trans (Keeps-trans c.first_calls.ensures.keeps c.closed_calls.ensures.keeps) c.refuse.ensures.keeps) c.gather_calls.ensures.keeps) c.apply_or.ensures.keeps
 
-pub returns-clause-keeps : goal.returns-clause-keeps
-returns-clause-keeps g c = Keeps-trans (Keeps-trans (Keeps-trans (Keeps-trans c.first_calls.ensures.keeps c.closed_calls.ensures.keeps) c.refuse.ensures.keeps) c.gather_calls.ensures.keeps) c.apply_or.ensures.keeps
-
-pub returns-clause-held : goal.returns-clause-held
-returns-clause-held g c =
+pub returns : goal.returns
+returns g c =
     let s0 = g.C.Conditions.sets c.args.conds.now in
     let s1 = g.C.Conditions.sets c.first_calls.new.conds in
     let s2 = g.C.Conditions.sets c.closed_calls.new.conds in
@@ -139,171 +112,23 @@ returns-clause-held g c =
     c.in_ok-found.ensures.closed c.in_ok-found.ensures.still c.in_ok-branches.ensures.lists c.in_ok-branches.ensures.branches c.in_ok-refuse.ensures.live c.in_ok-refuse.ensures.failures
     c.in_ok-branches.ensures.agree c.in_ok-refuse.ensures.alike in
     let head = head-held (IsHeldToken (stores s0 n e0.sets) files) e0.top.work c.args.head c.requires.held.top.work.held c.requires.head in
+    let held3 = parted-held parts (c.in_ok-refuse.ensures.held files head.file) in
     let s4 = g.C.Conditions.sets c.gather_calls.new.conds in
     let s5 = g.C.Conditions.sets c.apply_or.new.self in
-    let held4 = c.in_ok-gather_calls.ensures.held files (parted-held parts (c.in_ok-refuse.ensures.held files head.file)) in
     let n2 = c.gather_calls.new.names in
     let e4 = c.gather_calls.new.self in
+    let held4 = c.in_ok-gather_calls.ensures.held files held3 in
     let later : Grows (stores s4 n2 e4.sets) (stores s5 n2 e4.sets) = record { sets = c.apply_or.ensures.keeps; names = Extends-refl n2; hides = Extends-refl e4.sets } in
-    IsHeldExpansion-Grows later e4 held4
-
-pub returns-clause-gathers : goal.returns-clause-gathers
-returns-clause-gathers g c =
-    let s0 = g.C.Conditions.sets c.args.conds.now in
-    let s1 = g.C.Conditions.sets c.first_calls.new.conds in
-    let s2 = g.C.Conditions.sets c.closed_calls.new.conds in
-    let s3 = g.C.Conditions.sets c.refuse.new.conds in
-    let n = c.args.names.now in
-    let e0 = c.args.self.now in
-    let files = length c.args.files.now in
-    let ends = c.in_ok-found.found.ends in
-    let parts = parted-by s0 s1 s2 s3 n c.items_at.new.names files e0 c.refuse.new.self c.args.cond.0 ends.closed.0 ends.still.0 c.in_ok-branches.branches.items c.deref.result.now
-    (failure_at UnterminatedCall (seen_hidden n e0.sets c.args.head)) c.deref.ensures.value c.first_calls.ensures.keeps c.closed_calls.ensures.keeps c.refuse.ensures.keeps c.items_at.ensures.names c.requires.held
-    c.in_ok-found.ensures.closed c.in_ok-found.ensures.still c.in_ok-branches.ensures.lists c.in_ok-branches.ensures.branches c.in_ok-refuse.ensures.live c.in_ok-refuse.ensures.failures
-    c.in_ok-branches.ensures.agree c.in_ok-refuse.ensures.alike in
-    let head = head-held (IsHeldToken (stores s0 n e0.sets) files) e0.top.work c.args.head c.requires.held.top.work.held c.requires.head in
-    let s4 = g.C.Conditions.sets c.gather_calls.new.conds in
-    let s5 = g.C.Conditions.sets c.apply_or.new.self in
-    let held4 = c.in_ok-gather_calls.ensures.held files (parted-held parts (c.in_ok-refuse.ensures.held files head.file)) in
-    let all = is-gathered c.args.files.now c.args.head parts head.held c.args.definition.now c.deref-2.result.now _ c.requires.definition c.deref-2.ensures.value c.in_ok-items.ensures.own c.in_ok-items.ensures.is
-    c.requires.function c.requires.stands c.requires.calls s4 s5 c.gather_calls.new.names c.gather_calls.new.self ends.bare.0 ends.alone.0 c.in_ok-uncalled.uncalled.0 c.gather_calls.ensures.keeps c.apply_or.ensures.keeps
-    held4 c.in_ok-found.ensures.bare c.in_ok-found.ensures.alone c.in_ok-uncalled.ensures.meaning c.in_ok-gather_calls.ensures.gathered in
-    all.gathers
-
-pub returns-clause-others : goal.returns-clause-others
-returns-clause-others g c =
-    let s0 = g.C.Conditions.sets c.args.conds.now in
-    let s1 = g.C.Conditions.sets c.first_calls.new.conds in
-    let s2 = g.C.Conditions.sets c.closed_calls.new.conds in
-    let s3 = g.C.Conditions.sets c.refuse.new.conds in
-    let n = c.args.names.now in
-    let e0 = c.args.self.now in
-    let files = length c.args.files.now in
-    let ends = c.in_ok-found.found.ends in
-    let parts = parted-by s0 s1 s2 s3 n c.items_at.new.names files e0 c.refuse.new.self c.args.cond.0 ends.closed.0 ends.still.0 c.in_ok-branches.branches.items c.deref.result.now
-    (failure_at UnterminatedCall (seen_hidden n e0.sets c.args.head)) c.deref.ensures.value c.first_calls.ensures.keeps c.closed_calls.ensures.keeps c.refuse.ensures.keeps c.items_at.ensures.names c.requires.held
-    c.in_ok-found.ensures.closed c.in_ok-found.ensures.still c.in_ok-branches.ensures.lists c.in_ok-branches.ensures.branches c.in_ok-refuse.ensures.live c.in_ok-refuse.ensures.failures
-    c.in_ok-branches.ensures.agree c.in_ok-refuse.ensures.alike in
-    let head = head-held (IsHeldToken (stores s0 n e0.sets) files) e0.top.work c.args.head c.requires.held.top.work.held c.requires.head in
-    let s4 = g.C.Conditions.sets c.gather_calls.new.conds in
-    let s5 = g.C.Conditions.sets c.apply_or.new.self in
-    let held4 = c.in_ok-gather_calls.ensures.held files (parted-held parts (c.in_ok-refuse.ensures.held files head.file)) in
-    let all = is-gathered c.args.files.now c.args.head parts head.held c.args.definition.now c.deref-2.result.now _ c.requires.definition c.deref-2.ensures.value c.in_ok-items.ensures.own c.in_ok-items.ensures.is
-    c.requires.function c.requires.stands c.requires.calls s4 s5 c.gather_calls.new.names c.gather_calls.new.self ends.bare.0 ends.alone.0 c.in_ok-uncalled.uncalled.0 c.gather_calls.ensures.keeps c.apply_or.ensures.keeps
-    held4 c.in_ok-found.ensures.bare c.in_ok-found.ensures.alone c.in_ok-uncalled.ensures.meaning c.in_ok-gather_calls.ensures.gathered in
-    λ x listed lacks. (all.others x listed lacks).0
-
-pub returns-clause-first_others : goal.returns-clause-first_others
-returns-clause-first_others g c =
-    let s0 = g.C.Conditions.sets c.args.conds.now in
-    let s1 = g.C.Conditions.sets c.first_calls.new.conds in
-    let s2 = g.C.Conditions.sets c.closed_calls.new.conds in
-    let s3 = g.C.Conditions.sets c.refuse.new.conds in
-    let n = c.args.names.now in
-    let e0 = c.args.self.now in
-    let files = length c.args.files.now in
-    let ends = c.in_ok-found.found.ends in
-    let parts = parted-by s0 s1 s2 s3 n c.items_at.new.names files e0 c.refuse.new.self c.args.cond.0 ends.closed.0 ends.still.0 c.in_ok-branches.branches.items c.deref.result.now
-    (failure_at UnterminatedCall (seen_hidden n e0.sets c.args.head)) c.deref.ensures.value c.first_calls.ensures.keeps c.closed_calls.ensures.keeps c.refuse.ensures.keeps c.items_at.ensures.names c.requires.held
-    c.in_ok-found.ensures.closed c.in_ok-found.ensures.still c.in_ok-branches.ensures.lists c.in_ok-branches.ensures.branches c.in_ok-refuse.ensures.live c.in_ok-refuse.ensures.failures
-    c.in_ok-branches.ensures.agree c.in_ok-refuse.ensures.alike in
-    let head = head-held (IsHeldToken (stores s0 n e0.sets) files) e0.top.work c.args.head c.requires.held.top.work.held c.requires.head in
-    let s4 = g.C.Conditions.sets c.gather_calls.new.conds in
-    let s5 = g.C.Conditions.sets c.apply_or.new.self in
-    let held4 = c.in_ok-gather_calls.ensures.held files (parted-held parts (c.in_ok-refuse.ensures.held files head.file)) in
-    let all = is-gathered c.args.files.now c.args.head parts head.held c.args.definition.now c.deref-2.result.now _ c.requires.definition c.deref-2.ensures.value c.in_ok-items.ensures.own c.in_ok-items.ensures.is
-    c.requires.function c.requires.stands c.requires.calls s4 s5 c.gather_calls.new.names c.gather_calls.new.self ends.bare.0 ends.alone.0 c.in_ok-uncalled.uncalled.0 c.gather_calls.ensures.keeps c.apply_or.ensures.keeps
-    held4 c.in_ok-found.ensures.bare c.in_ok-found.ensures.alone c.in_ok-uncalled.ensures.meaning c.in_ok-gather_calls.ensures.gathered in
-    λ x listed lacks. first-of-each s5 s0 c.gather_calls.new.self.top.work e0.top.work x (all.others x listed lacks).1
-
-pub returns-clause-first_called : goal.returns-clause-first_called
-returns-clause-first_called g c =
-    let s0 = g.C.Conditions.sets c.args.conds.now in
-    let s1 = g.C.Conditions.sets c.first_calls.new.conds in
-    let s2 = g.C.Conditions.sets c.closed_calls.new.conds in
-    let s3 = g.C.Conditions.sets c.refuse.new.conds in
-    let n = c.args.names.now in
-    let e0 = c.args.self.now in
-    let files = length c.args.files.now in
-    let ends = c.in_ok-found.found.ends in
-    let parts = parted-by s0 s1 s2 s3 n c.items_at.new.names files e0 c.refuse.new.self c.args.cond.0 ends.closed.0 ends.still.0 c.in_ok-branches.branches.items c.deref.result.now
-    (failure_at UnterminatedCall (seen_hidden n e0.sets c.args.head)) c.deref.ensures.value c.first_calls.ensures.keeps c.closed_calls.ensures.keeps c.refuse.ensures.keeps c.items_at.ensures.names c.requires.held
-    c.in_ok-found.ensures.closed c.in_ok-found.ensures.still c.in_ok-branches.ensures.lists c.in_ok-branches.ensures.branches c.in_ok-refuse.ensures.live c.in_ok-refuse.ensures.failures
-    c.in_ok-branches.ensures.agree c.in_ok-refuse.ensures.alike in
-    let head = head-held (IsHeldToken (stores s0 n e0.sets) files) e0.top.work c.args.head c.requires.held.top.work.held c.requires.head in
-    let s4 = g.C.Conditions.sets c.gather_calls.new.conds in
-    let s5 = g.C.Conditions.sets c.apply_or.new.self in
-    let held4 = c.in_ok-gather_calls.ensures.held files (parted-held parts (c.in_ok-refuse.ensures.held files head.file)) in
-    let all = is-gathered c.args.files.now c.args.head parts head.held c.args.definition.now c.deref-2.result.now _ c.requires.definition c.deref-2.ensures.value c.in_ok-items.ensures.own c.in_ok-items.ensures.is
-    c.requires.function c.requires.stands c.requires.calls s4 s5 c.gather_calls.new.names c.gather_calls.new.self ends.bare.0 ends.alone.0 c.in_ok-uncalled.uncalled.0 c.gather_calls.ensures.keeps c.apply_or.ensures.keeps
-    held4 c.in_ok-found.ensures.bare c.in_ok-found.ensures.alone c.in_ok-uncalled.ensures.meaning c.in_ok-gather_calls.ensures.gathered in
-    all.first
-
-pub returns-clause-others_each : goal.returns-clause-others_each
-returns-clause-others_each g c =
-    let s0 = g.C.Conditions.sets c.args.conds.now in
-    let s1 = g.C.Conditions.sets c.first_calls.new.conds in
-    let s2 = g.C.Conditions.sets c.closed_calls.new.conds in
-    let s3 = g.C.Conditions.sets c.refuse.new.conds in
-    let n = c.args.names.now in
-    let e0 = c.args.self.now in
-    let files = length c.args.files.now in
-    let ends = c.in_ok-found.found.ends in
-    let parts = parted-by s0 s1 s2 s3 n c.items_at.new.names files e0 c.refuse.new.self c.args.cond.0 ends.closed.0 ends.still.0 c.in_ok-branches.branches.items c.deref.result.now
-    (failure_at UnterminatedCall (seen_hidden n e0.sets c.args.head)) c.deref.ensures.value c.first_calls.ensures.keeps c.closed_calls.ensures.keeps c.refuse.ensures.keeps c.items_at.ensures.names c.requires.held
-    c.in_ok-found.ensures.closed c.in_ok-found.ensures.still c.in_ok-branches.ensures.lists c.in_ok-branches.ensures.branches c.in_ok-refuse.ensures.live c.in_ok-refuse.ensures.failures
-    c.in_ok-branches.ensures.agree c.in_ok-refuse.ensures.alike in
-    let head = head-held (IsHeldToken (stores s0 n e0.sets) files) e0.top.work c.args.head c.requires.held.top.work.held c.requires.head in
-    let s4 = g.C.Conditions.sets c.gather_calls.new.conds in
-    let s5 = g.C.Conditions.sets c.apply_or.new.self in
-    let held4 = c.in_ok-gather_calls.ensures.held files (parted-held parts (c.in_ok-refuse.ensures.held files head.file)) in
-    let all = is-gathered c.args.files.now c.args.head parts head.held c.args.definition.now c.deref-2.result.now _ c.requires.definition c.deref-2.ensures.value c.in_ok-items.ensures.own c.in_ok-items.ensures.is
-    c.requires.function c.requires.stands c.requires.calls s4 s5 c.gather_calls.new.names c.gather_calls.new.self ends.bare.0 ends.alone.0 c.in_ok-uncalled.uncalled.0 c.gather_calls.ensures.keeps c.apply_or.ensures.keeps
-    held4 c.in_ok-found.ensures.bare c.in_ok-found.ensures.alone c.in_ok-uncalled.ensures.meaning c.in_ok-gather_calls.ensures.gathered in
-    λ x listed lacks. (all.others x listed lacks).1
-
-pub returns-clause-alike : goal.returns-clause-alike
-returns-clause-alike g c =
-    let s0 = g.C.Conditions.sets c.args.conds.now in
-    let s1 = g.C.Conditions.sets c.first_calls.new.conds in
-    let s2 = g.C.Conditions.sets c.closed_calls.new.conds in
-    let s3 = g.C.Conditions.sets c.refuse.new.conds in
-    let n = c.args.names.now in
-    let e0 = c.args.self.now in
-    let files = length c.args.files.now in
-    let ends = c.in_ok-found.found.ends in
-    let parts = parted-by s0 s1 s2 s3 n c.items_at.new.names files e0 c.refuse.new.self c.args.cond.0 ends.closed.0 ends.still.0 c.in_ok-branches.branches.items c.deref.result.now
-    (failure_at UnterminatedCall (seen_hidden n e0.sets c.args.head)) c.deref.ensures.value c.first_calls.ensures.keeps c.closed_calls.ensures.keeps c.refuse.ensures.keeps c.items_at.ensures.names c.requires.held
-    c.in_ok-found.ensures.closed c.in_ok-found.ensures.still c.in_ok-branches.ensures.lists c.in_ok-branches.ensures.branches c.in_ok-refuse.ensures.live c.in_ok-refuse.ensures.failures
-    c.in_ok-branches.ensures.agree c.in_ok-refuse.ensures.alike in
-    let head = head-held (IsHeldToken (stores s0 n e0.sets) files) e0.top.work c.args.head c.requires.held.top.work.held c.requires.head in
-    let s4 = g.C.Conditions.sets c.gather_calls.new.conds in
-    let s5 = g.C.Conditions.sets c.apply_or.new.self in
-    let held4 = c.in_ok-gather_calls.ensures.held files (parted-held parts (c.in_ok-refuse.ensures.held files head.file)) in
-    let all = is-gathered c.args.files.now c.args.head parts head.held c.args.definition.now c.deref-2.result.now _ c.requires.definition c.deref-2.ensures.value c.in_ok-items.ensures.own c.in_ok-items.ensures.is
-    c.requires.function c.requires.stands c.requires.calls s4 s5 c.gather_calls.new.names c.gather_calls.new.self ends.bare.0 ends.alone.0 c.in_ok-uncalled.uncalled.0 c.gather_calls.ensures.keeps c.apply_or.ensures.keeps
-    held4 c.in_ok-found.ensures.bare c.in_ok-found.ensures.alone c.in_ok-uncalled.ensures.meaning c.in_ok-gather_calls.ensures.gathered in
-    all.alike
-
-pub returns-clause-rest : goal.returns-clause-rest
-returns-clause-rest g c =
-    let s0 = g.C.Conditions.sets c.args.conds.now in
-    let s1 = g.C.Conditions.sets c.first_calls.new.conds in
-    let s2 = g.C.Conditions.sets c.closed_calls.new.conds in
-    let s3 = g.C.Conditions.sets c.refuse.new.conds in
-    let n = c.args.names.now in
-    let e0 = c.args.self.now in
-    let files = length c.args.files.now in
-    let ends = c.in_ok-found.found.ends in
-    let parts = parted-by s0 s1 s2 s3 n c.items_at.new.names files e0 c.refuse.new.self c.args.cond.0 ends.closed.0 ends.still.0 c.in_ok-branches.branches.items c.deref.result.now
-    (failure_at UnterminatedCall (seen_hidden n e0.sets c.args.head)) c.deref.ensures.value c.first_calls.ensures.keeps c.closed_calls.ensures.keeps c.refuse.ensures.keeps c.items_at.ensures.names c.requires.held
-    c.in_ok-found.ensures.closed c.in_ok-found.ensures.still c.in_ok-branches.ensures.lists c.in_ok-branches.ensures.branches c.in_ok-refuse.ensures.live c.in_ok-refuse.ensures.failures
-    c.in_ok-branches.ensures.agree c.in_ok-refuse.ensures.alike in
-    let head = head-held (IsHeldToken (stores s0 n e0.sets) files) e0.top.work c.args.head c.requires.held.top.work.held c.requires.head in
-    let s4 = g.C.Conditions.sets c.gather_calls.new.conds in
-    let s5 = g.C.Conditions.sets c.apply_or.new.self in
-    let held4 = c.in_ok-gather_calls.ensures.held files (parted-held parts (c.in_ok-refuse.ensures.held files head.file)) in
-    let all = is-gathered c.args.files.now c.args.head parts head.held c.args.definition.now c.deref-2.result.now _ c.requires.definition c.deref-2.ensures.value c.in_ok-items.ensures.own c.in_ok-items.ensures.is
-    c.requires.function c.requires.stands c.requires.calls s4 s5 c.gather_calls.new.names c.gather_calls.new.self ends.bare.0 ends.alone.0 c.in_ok-uncalled.uncalled.0 c.gather_calls.ensures.keeps c.apply_or.ensures.keeps
-    held4 c.in_ok-found.ensures.bare c.in_ok-found.ensures.alone c.in_ok-uncalled.ensures.meaning c.in_ok-gather_calls.ensures.gathered in
-    all.rest
+    record {
+      held = IsHeldExpansion-Grows later e4 held4;
+      below = search rules;
+      out = search rules;
+      items = search rules;
+      gathered = is-gathered c.args.files.now c.args.head parts head.held c.args.definition.now c.deref-2.result.now _ c.requires.definition c.deref-2.ensures.value c.in_ok-items.ensures.own c.in_ok-items.ensures.is
+          c.requires.function c.requires.stands c.requires.calls s4 s5 n2 e4 ends.bare.0 ends.alone.0 c.in_ok-uncalled.uncalled.0 c.gather_calls.ensures.keeps c.apply_or.ensures.keeps
+          held4 c.in_ok-found.ensures.bare c.in_ok-found.ensures.alone c.in_ok-uncalled.ensures.meaning c.in_ok-gather_calls.ensures.gathered;
+      stops = tt;
+      keeps = Keeps-trans (Keeps-trans (Keeps-trans (Keeps-trans c.first_calls.ensures.keeps c.closed_calls.ensures.keeps) c.refuse.ensures.keeps) c.gather_calls.ensures.keeps) c.apply_or.ensures.keeps;
+      names = search rules;
+      sets = search rules;
+    }

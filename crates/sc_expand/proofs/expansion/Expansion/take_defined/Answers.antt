@@ -15,6 +15,7 @@ use Rattle.sc_subst.specs.Seen.{seen_hidden}
 use Rattle.sc_expand.proofs.AlikeLemmas.{alike-of, AreAlike-Keeps, IsAlike-Keeps, IsAlikeIn-Keeps}
 use Rattle.sc_expand.proofs.WorkListLemmas.{has_each-Keeps}
 use Rattle.sc_expand.specs.Having.{has_each}
+use Rattle.sc_expand.proofs.GatherBranches.{first-of-each}
 use Rattle.sc_expand.proofs.LastLemmas.{last-later}
 use Rattle.sc_expand.proofs.StopsLemmas.{stops-weaker}
 use Rattle.sc_expand.proofs.TakenLemmas.{taken-each}
@@ -55,15 +56,15 @@ returns-then-is_function_like-clause-comes g c = λ x macros rest listed has wor
     let mid = IsConfig-Keeps c.gather.ensures.keeps listed in
     let e = c.gather.new.self in
     let held = c.in_ok-uncalled.ensures.held in
-    let told = c.in_ok-taken.ensures.meaning _ _ (Denotes-self s1 c.args.taken.now.stays.0 (c.gather.ensures.keeps.own _ c.requires.taken.stays)) (Denotes-self s1 c.in_ok-uncalled.uncalled.0 c.in_ok-uncalled.ensures.own) in
+    let told = c.in_ok-taken.ensures.meaning _ _ (Denotes-self s1 c.args.taken.now.stays.0 (c.gather.ensures.keeps.own _ c.requires.taken.stays)) (Denotes-self s1 c.in_ok-uncalled.uncalled.0 c.in_ok-uncalled.ensures.gathered.own) in
     let stays = told.at x (IsConfig-Keeps c.apply_or.ensures.keeps mid)
     ∙ ap (λ b. b || s1.has c.in_ok-uncalled.uncalled.0 x) (c.gather.ensures.keeps.at c.args.taken.now.stays.0 x c.requires.taken.stays listed ∙ begun.stays) in
     called-comes (provenance_of c.args.files.now) macros (seen_hidden c.args.names.now c.args.self.now.sets c.args.head) rest
     (at (stores s0 c.args.names.now c.args.self.now.sets) c.args.self.now x) (at (stores s1 n h) e x) (at (stores s2 n h) e x) (s1.has c.in_ok-uncalled.uncalled.0 x)
     _ _ _ (at-Grows later x mid e held) begun.live
-    (λ live. has_first-Keeps c.apply_or.ensures.keeps e.top.work held.top.work.own x mid ∙ c.in_ok-uncalled.ensures.first_called x listed has live)
+    (λ live. has_first-Keeps c.apply_or.ensures.keeps e.top.work held.top.work.own x mid ∙ c.in_ok-uncalled.ensures.gathered.first x listed has live)
     stays (seen_at-Grows all x listed c.args.taken.now.made.items c.requires.taken.made ∙ begun.made)
-    (c.in_ok-uncalled.ensures.gathers x macros rest listed has work c.requires.name is)
+    (c.in_ok-uncalled.ensures.gathered.gathers x macros rest listed has work c.requires.name is)
 
 pub returns-then-is_function_like-clause-others : goal.returns-then-is_function_like-clause-others
 returns-then-is_function_like-clause-others g c = λ x listed no.
@@ -77,11 +78,12 @@ returns-then-is_function_like-clause-others g c = λ x listed no.
     let mid = IsConfig-Keeps c.gather.ensures.keeps listed in
     let e = c.gather.new.self in
     let held = c.in_ok-uncalled.ensures.held in
-    let other = c.in_ok-uncalled.ensures.others x listed no in
+    let gathered = c.in_ok-uncalled.ensures.gathered.others x listed no in
+    let other = gathered.0 in
     let was = c.gather.ensures.keeps.at c.args.taken.now.stays.0 x c.requires.taken.stays listed in
-    let told = c.in_ok-taken.ensures.meaning _ _ (Denotes-self s1 c.args.taken.now.stays.0 (c.gather.ensures.keeps.own _ c.requires.taken.stays)) (Denotes-self s1 c.in_ok-uncalled.uncalled.0 c.in_ok-uncalled.ensures.own) in
+    let told = c.in_ok-taken.ensures.meaning _ _ (Denotes-self s1 c.args.taken.now.stays.0 (c.gather.ensures.keeps.own _ c.requires.taken.stays)) (Denotes-self s1 c.in_ok-uncalled.uncalled.0 c.in_ok-uncalled.ensures.gathered.own) in
     same-step (at-Grows later x mid e held ∙ other.0)
-    (has_first-Keeps c.apply_or.ensures.keeps e.top.work held.top.work.own x mid ∙ c.in_ok-uncalled.ensures.first_others x listed no)
+    (has_first-Keeps c.apply_or.ensures.keeps e.top.work held.top.work.own x mid ∙ first-of-each s1 s0 e.top.work c.args.self.now.top.work x gathered.1)
     (told.at x (IsConfig-Keeps c.apply_or.ensures.keeps mid) ∙ (ap (λ b. b || s1.has c.in_ok-uncalled.uncalled.0 x) was ∙ (ap (λ b. s0.has c.args.taken.now.stays.0 x || b) other.1 ∙ or_false (s0.has c.args.taken.now.stays.0 x))))
     (seen_at-Grows all x listed c.args.taken.now.made.items c.requires.taken.made)
 
@@ -116,8 +118,8 @@ returns-then-is_function_like-clause-alike g c = λ x y span p q same called tak
     let stays = c.args.taken.now.stays in
     let own = c.requires.taken.stays in
     let function = sym (c.is_function_like.ensures c.args.names.now) ∙ c.if-is_function_like.true in
-    let came = c.in_ok-uncalled.ensures.alike x y span p q same (λ has. called has function) alike in
-    let told = c.in_ok-taken.ensures.meaning _ _ (Denotes-self s1 stays.0 (first.own _ own)) (Denotes-self s1 c.in_ok-uncalled.uncalled.0 c.in_ok-uncalled.ensures.own) in
+    let came = c.in_ok-uncalled.ensures.gathered.alike x y span p q same (λ has. called has function) alike in
+    let told = c.in_ok-taken.ensures.meaning _ _ (Denotes-self s1 stays.0 (first.own _ own)) (Denotes-self s1 c.in_ok-uncalled.uncalled.0 c.in_ok-uncalled.ensures.gathered.own) in
     let stayed = IsAlike-Keeps first p q own taken.stays in (
       IsAlikeIn-Keeps second p1 q1 span c.gather.new.self c.in_ok-uncalled.ensures.held came.0,
       record {
@@ -129,7 +131,7 @@ returns-then-is_function_like-clause-alike g c = λ x y span p q same called tak
 pub returns-then-is_function_like-clause-others_each : goal.returns-then-is_function_like-clause-others_each
 returns-then-is_function_like-clause-others_each g c = λ x listed no.
     let work = c.gather.new.self.top.work in
-    has_each-Keeps work x c.apply_or.ensures.keeps c.in_ok-uncalled.ensures.held.top.work.own (IsConfig-Keeps c.gather.ensures.keeps listed) ∙ c.in_ok-uncalled.ensures.others_each x listed no
+    has_each-Keeps work x c.apply_or.ensures.keeps c.in_ok-uncalled.ensures.held.top.work.own (IsConfig-Keeps c.gather.ensures.keeps listed) ∙ (c.in_ok-uncalled.ensures.gathered.others x listed no).1
 
 pub returns-clause-alike : goal.returns-clause-alike
 returns-clause-alike g c = on-ok c.put_object.result
@@ -164,10 +166,10 @@ returns-then-is_function_like-clause-rest g c = λ x listed.
     let gathered = c.in_ok-uncalled.ensures in
     let later = has_each-Keeps c.gather.new.self.top.work x c.apply_or.ensures.keeps gathered.held.top.work.own (IsConfig-Keeps c.gather.ensures.keeps listed) in
     record {
-      rest = last-later (gathered.rest x listed) later;
+      rest = last-later (gathered.gathered.rest x listed) later;
       made = elim (cases_Bool (s0.has c.args.cond.0 x)) [
         | inl has ↦ inl (items_at-Keeps made x (Keeps-trans c.gather.ensures.keeps c.apply_or.ensures.keeps) c.requires.taken.made.own listed ∙ none-found (seen_hidden n c.args.self.now.sets) (items_at s0 made x) (c.requires.begun x listed has).made)
-        | inr lacks ↦ inr (later ∙ gathered.others_each x listed lacks)
+        | inr lacks ↦ inr (later ∙ (gathered.gathered.others x listed lacks).1)
       ];
     }
 
