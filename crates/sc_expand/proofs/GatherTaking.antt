@@ -20,7 +20,7 @@ use Rattle.sc_expand.proofs.TakingSteps.{has_first-Keeps, seen-first, state-scan
 use Rattle.sc_expand.proofs.WorkListLemmas.{has_each-Keeps}
 use Rattle.sc_expand.specs.Alike.{IsAlikeIn, Span}
 use Rattle.sc_expand.specs.Arguments.{parted}
-use Rattle.sc_expand.specs.Called.{AreGathered, Begins, IsBranch, IsCall, IsMacro, refused, waits}
+use Rattle.sc_expand.specs.Called.{AreGathered, Begins, HasLeft, IsBranch, IsMacro, refused, waits}
 use Rattle.sc_expand.specs.declared.expansion.Expansion.{Expansion}
 use Rattle.sc_expand.specs.Gather as gathers
 use Rattle.sc_expand.specs.Gather.{Gathers}
@@ -130,32 +130,6 @@ seen_fit names sets (Some raw) = Some (seen_arguments names sets raw)
 
 -- ---- the call has left the list
 
-pub record HasLeft (s0 s1 : Sets) (names : List (List ℕ)) (e0 e1 : Expansion) (branch : Branch) (between : List Hidden) (close : Hidden) : Type 0 where
-  pub keeps : Keeps s0 s1
-  pub sets : e1.sets ≡ e0.sets
-  pub top : e1.top ≡ record e0.top { work = e1.top.work }
-  pub refusals : e1.refusals ≡ e0.refusals
-  pub below : e1.below ≡ e0.below
-  pub call : (c : List ℕ) → IsConfig s0.arities c → s0.has branch.cond.0 c ≡ true
-      → IsCall (seen_at (stores s0 names e0.sets) (drop 1 e0.top.work) c) (seen_list names e0.sets between) (seen_hidden names e0.sets close) (seen_at (stores s1 names e1.sets) e1.top.work c)
-  pub others : (c : List ℕ) → IsConfig s0.arities c → s0.has branch.cond.0 c ≡ false
-      → (seen_at (stores s1 names e1.sets) e1.top.work c ≡ seen_at (stores s0 names e0.sets) e0.top.work c) × (has_each s1 e1.top.work c ≡ has_each s0 e0.top.work c)
-  pub first : (c : List ℕ) → IsConfig s0.arities c → s0.has branch.cond.0 c ≡ true → has_first s1 e1.top.work c ≡ false
-  pub rest : (c : List ℕ) → IsConfig s0.arities c → HasLast s0 s1 e0.top.work e1.top.work c
-  pub alike : (c d : List ℕ) (span : Span) → IsConfig s0.arities c → IsConfig s0.arities d → IsAlike s0 c d branch.cond → IsAlikeIn s0 c d span e0 → IsAlikeIn s1 c d span e1
-
-pub left-by : (s0 s1 : Sets) (names : List (List ℕ)) (e0 e1 : Expansion) (branch : Branch) (between : List Hidden) (close : Hidden) → Keeps s0 s1 → e1.sets ≡ e0.sets → e1.top ≡ record e0.top { work = e1.top.work }
-    → e1.refusals ≡ e0.refusals → e1.below ≡ e0.below
-    → ((c : List ℕ) → IsConfig s0.arities c → s0.has branch.cond.0 c ≡ true
-    → IsCall (seen_at (stores s0 names e0.sets) (drop 1 e0.top.work) c) (seen_list names e0.sets between) (seen_hidden names e0.sets close) (seen_at (stores s1 names e1.sets) e1.top.work c))
-    → ((c : List ℕ) → IsConfig s0.arities c → s0.has branch.cond.0 c ≡ false
-    → (seen_at (stores s1 names e1.sets) e1.top.work c ≡ seen_at (stores s0 names e0.sets) e0.top.work c) × (has_each s1 e1.top.work c ≡ has_each s0 e0.top.work c))
-    → ((c : List ℕ) → IsConfig s0.arities c → s0.has branch.cond.0 c ≡ true → has_first s1 e1.top.work c ≡ false)
-    → ((c : List ℕ) → IsConfig s0.arities c → HasLast s0 s1 e0.top.work e1.top.work c)
-    → ((c d : List ℕ) (span : Span) → IsConfig s0.arities c → IsConfig s0.arities d → IsAlike s0 c d branch.cond → IsAlikeIn s0 c d span e0 → IsAlikeIn s1 c d span e1) → HasLeft s0 s1 names e0 e1 branch between close
-left-by s0 s1 names e0 e1 branch between close keeps sets top refusals below call others first rest alike =
-    record { keeps = keeps; sets = sets; top = top; refusals = refusals; below = below; call = call; others = others; first = first; rest = rest; alike = alike }
-
 module _ {s0 s1 : Sets} {names : List (List ℕ)} {e0 e1 : Expansion} {branch : Branch} {between : List Hidden} {close : Hidden} (left : HasLeft s0 s1 names e0 e1 branch between close)
     (files : ℕ) (held : IsHeldExpansion (stores s0 names e0.sets) files e0) where
   abbrev old : Stores
@@ -167,12 +141,15 @@ module _ {s0 s1 : Sets} {names : List (List ℕ)} {e0 e1 : Expansion} {branch : 
   pub left-grows : Grows old mid
   left-grows = record { sets = left.keeps; names = Extends-refl names; hides = subst (Extends e0.sets) (sym left.sets) (Extends-refl e0.sets) }
 
-  pub left-held : AreHeld mid files e1.top.work → IsHeldExpansion mid files e1
-  left-held work =
+  left-work : AreHeld mid files e1.top.work
+  left-work = left.held files held.top.work
+
+  pub left-held : IsHeldExpansion mid files e1
+  left-held =
       let later = IsHeldExpansion-Grows left-grows e0 held in
       record {
         refusals = subst (IsHeldRefusals s1 files) (sym left.refusals) later.refusals;
-        top = subst (IsHeldFrame mid files) (sym left.top) (record { work = work; out = later.top.out; calls = later.top.calls });
+        top = subst (IsHeldFrame mid files) (sym left.top) (record { work = left-work; out = later.top.out; calls = later.top.calls });
         below = subst (λ b. All (IsHeldEnclosing mid files) b.items) (sym left.below) later.below;
       }
 
@@ -202,7 +179,7 @@ module _ {s0 s1 : Sets} {names : List (List ℕ)} {e0 e1 : Expansion} {branch : 
         ∙ (case-closed macros t d is.looked_up is.defined f.parameters f.variadic (is.formed ∙ f.is) (seen_at old (drop 1 e0.top.work) c) (seen_list names e0.sets between) (seen_hidden names e0.sets close) after (left.call c listed has)
         ∙ ap (fitted_case d (seen_hidden names e0.sets close) after) (sym (fits f.parameters f.variadic f.is)))
 
-    module _ (here : AreHeld mid files e1.top.work) (names2 : List (List ℕ)) (s2 : Sets) (e2 : Expansion) (grows : Grows mid (stores s2 names2 e2.sets)) (same : e2.top.work ≡ e1.top.work)
+    module _ (names2 : List (List ℕ)) (s2 : Sets) (e2 : Expansion) (grows : Grows mid (stores s2 names2 e2.sets)) (same : e2.top.work ≡ e1.top.work)
         (others : (c : List ℕ) → IsConfig s1.arities c → s1.has branch.cond.0 c ≡ false → at (stores s2 names2 e2.sets) e2 c ≡ at mid e1 c)
         (alike : (c d : List ℕ) (span : Span) → IsConfig s1.arities c → IsConfig s1.arities d → IsAlike s1 c d branch.cond → IsAlikeIn s1 c d span e1 → IsAlikeIn s2 c d span e2) where
       abbrev new : Stores
@@ -213,18 +190,18 @@ module _ {s0 s1 : Sets} {names : List (List ℕ)} {e0 e1 : Expansion} {branch : 
 
       gathered-first : (c place : List ℕ) → IsConfig s0.arities c → lists_at s0 (branch ∷ []) c ≡ place ∷ [] → has_first s2 e2.top.work c ≡ false
       gathered-first c place listed lists =
-          ap (λ l. has_first s2 l c) same ∙ (has_first-Keeps grows.sets e1.top.work here.own c (IsConfig-Keeps left.keeps listed) ∙ left.first c listed (one-has (s0.has branch.cond.0 c) branch.places.items place lists))
+          ap (λ l. has_first s2 l c) same ∙ (has_first-Keeps grows.sets e1.top.work left-work.own c (IsConfig-Keeps left.keeps listed) ∙ left.first c listed (one-has (s0.has branch.cond.0 c) branch.places.items place lists))
 
       gathered-others : (c : List ℕ) → IsConfig s0.arities c → lists_at s0 (branch ∷ []) c ≡ [] → (at new e2 c ≡ at old e0 c) × (has_each s2 e2.top.work c ≡ has_each s0 e0.top.work c)
       gathered-others c listed lists =
           let lacks = none-has (s0.has branch.cond.0 c) branch.places.items lists in
           let listed1 = IsConfig-Keeps left.keeps listed in (
             others c listed1 (has-later c listed ∙ lacks) ∙ left-other c listed lacks,
-            ap (λ l. has_each s2 l c) same ∙ (has_each-Keeps e1.top.work c grows.sets here.own listed1 ∙ (left.others c listed lacks).1),
+            ap (λ l. has_each s2 l c) same ∙ (has_each-Keeps e1.top.work c grows.sets left-work.own listed1 ∙ (left.others c listed lacks).1),
           )
 
       gathered-rest : (c : List ℕ) → IsConfig s0.arities c → HasLast s0 s2 e0.top.work e2.top.work c
-      gathered-rest c listed = last-later (left.rest c listed) (ap (λ l. has_each s2 l c) same ∙ has_each-Keeps e1.top.work c grows.sets here.own (IsConfig-Keeps left.keeps listed))
+      gathered-rest c listed = last-later (left.rest c listed) (ap (λ l. has_each s2 l c) same ∙ has_each-Keeps e1.top.work c grows.sets left-work.own (IsConfig-Keeps left.keeps listed))
 
       gathered-alike : (c d : List ℕ) (span : Span) → IsConfig s0.arities c → IsConfig s0.arities d → All (λ b. IsAlike s0 c d b.cond) (branch ∷ []) → IsAlikeIn s0 c d span e0 → IsAlikeIn s2 c d span e2
       gathered-alike c d span at_c at_d branches was =

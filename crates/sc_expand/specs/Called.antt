@@ -1,5 +1,5 @@
 -- Calls that are taken out of a list, each in the configurations that have its tokens.
-use Rattle.std.specs.Prelude.{◌≡◌, ℕ, true, false, List, [], ◌∷◌, ◌++◌, All, Some, Result, Err, codes, map}
+use Rattle.std.specs.Prelude.{◌≡◌, ℕ, true, false, List, [], ◌∷◌, ◌++◌, All, Some, Result, Err, codes, drop, map}
 use Rattle.c11_macros.specs.Call.{Call, call_of}
 use Rattle.c11_macros.specs.Expansion.{is_looked_up, list_of}
 use Rattle.c11_macros.specs.Hidden as model
@@ -14,7 +14,7 @@ use Rattle.sc_hoist.specs.Alike.{IsAlike}
 use Rattle.sc_expand.specs.Having.{HasLast, has_each, tokens_in}
 use Rattle.sc_expand.specs.Machine.{at, with_call}
 use Rattle.sc_expand.specs.Plain.{IsTemplate, gathered}
-use Rattle.sc_expand.specs.Seen.{Stores, calls_at, provenance_of}
+use Rattle.sc_expand.specs.Seen.{AreHeld, IsHeldToken, Stores, calls_at, provenance_of, seen_at, stores}
 use Rattle.sc_expand.specs.Taking.{has_first}
 use Rattle.sc_expand.specs.Turn.{At}
 use Rattle.sc_hoist.specs.Branches.{lists_at}
@@ -25,8 +25,9 @@ use Rattle.sc_macro.specs.declared.definition.Item as declared_item
 use Rattle.sc_macro.specs.declared.form.Form as declared_form
 use Rattle.sc_macro.specs.Seen.{seen_definition, seen_form, seen_item, text_of}
 use Rattle.sc_model.specs.Bytes.{same_bytes}
-use Rattle.sc_model.specs.Sets.{IsCond, IsConfig, IsNever}
+use Rattle.sc_model.specs.Sets.{IsCond, IsConfig, IsNever, Keeps, Sets}
 use Rattle.sc_subst.specs.declared.hidden.Hidden.{Hidden}
+use Rattle.sc_subst.specs.Parts.{seen_list}
 use Rattle.sc_subst.specs.Seen.{seen_hidden}
 
 -- ---- the call behind a name
@@ -63,6 +64,24 @@ pub record IsBranch (st : Stores) (e : Expansion) (branch : Branch) : Type 0 whe
   pub each : (c : List ℕ) → IsConfig st.sets.arities c → st.sets.has branch.cond.0 c ≡ true → IsCalled st e branch.places.items c
 
 -- ---- what taking a call out does
+
+-- the call of a branch was taken out of the list on top
+pub record HasLeft (old new : Sets) (names : List (List ℕ)) (was now : Expansion) (branch : Branch) (between : List Hidden) (close : Hidden) : Type 0 where
+  pub keeps : Keeps old new
+  pub sets : now.sets ≡ was.sets
+  pub top : now.top ≡ record was.top { work = now.top.work }
+  pub refusals : now.refusals ≡ was.refusals
+  pub below : now.below ≡ was.below
+  pub tokens : map (λ item. item.1) now.top.work ≡ map (λ item. item.1) was.top.work
+  pub call : (c : List ℕ) → IsConfig old.arities c → old.has branch.cond.0 c ≡ true
+      → IsCall (seen_at (stores old names was.sets) (drop 1 was.top.work) c) (seen_list names was.sets between) (seen_hidden names was.sets close) (seen_at (stores new names now.sets) now.top.work c)
+  pub first : (c : List ℕ) → IsConfig old.arities c → old.has branch.cond.0 c ≡ true → has_first new now.top.work c ≡ false
+  pub others : (c : List ℕ) → IsConfig old.arities c → old.has branch.cond.0 c ≡ false
+      → (seen_at (stores new names now.sets) now.top.work c ≡ seen_at (stores old names was.sets) was.top.work c) × (has_each new now.top.work c ≡ has_each old was.top.work c)
+  pub alike : (c d : List ℕ) (span : Span) → IsConfig old.arities c → IsConfig old.arities d → IsAlike old c d branch.cond → IsAlikeIn old c d span was → IsAlikeIn new c d span now
+  pub rest : (c : List ℕ) → IsConfig old.arities c → HasLast old new was.top.work now.top.work c
+  pub own : (files : ℕ) → AreHeld (stores old names was.sets) files was.top.work → All (IsHeldToken (stores old names was.sets) files) (close ∷ between)
+  pub held : (files : ℕ) → AreHeld (stores old names was.sets) files was.top.work → AreHeld (stores new names now.sets) files now.top.work
 
 -- the call of the name with these arguments begins to wait for them, or a # in the macro's list
 -- fails

@@ -1,25 +1,22 @@
-ghost use Rattle.std.specs.Prelude.{◌≡◌, ℕ, ◌≤◌, ◌∷◌, [], List, All, true, false, Some, length, drop, map, slice_get, IfOk, IfErr, OnOk, IsTrue};
-ghost use Rattle.c11_macros.specs.Expansion.{is_looked_up, list_of};
+ghost use Rattle.std.specs.Prelude.{◌≡◌, ℕ, ◌≤◌, ◌∷◌, [], List, All, true, false, Some, length, map, slice_get, IfOk, IfErr, OnOk, IsTrue};
+ghost use Rattle.c11_macros.specs.Expansion.{list_of};
 ghost use Rattle.c11_macros.specs.Hidden as model;
 ghost use Rattle.c11_macros.specs.Hidden.{Provenance};
 ghost use Rattle.c11_macros.specs.Macros as model_macros;
-ghost use Rattle.c11_macros.specs.Macros.{Macros};
 ghost use Rattle.c11_macros.specs.Defines.{is_function_like};
 ghost use Rattle.sc_base.specs.declared.place.Place.{Place};
-ghost use Rattle.sc_expand.specs.Alike.{IsAlikeIn, IsSameCall, Span};
+ghost use Rattle.sc_expand.specs.Alike.{IsAlikeIn, Span};
 ghost use Rattle.sc_hoist.specs.Alike.{IsAlike};
-ghost use Rattle.sc_expand.specs.Called.{AreGathered, Begins, IsBranch, IsCall, IsGathered};
-ghost use Rattle.sc_expand.specs.Gather.{Gathers};
+ghost use Rattle.sc_expand.specs.Called.{AreGathered, Begins, HasLeft, IsBranch, IsGathered};
 ghost use Rattle.sc_hoist.specs.Branches.{lists_at};
 ghost use Rattle.sc_expand.specs.Machine.{IsHeldExpansion, at};
-ghost use Rattle.sc_expand.specs.Having.{HasLast, has_each};
-ghost use Rattle.sc_expand.specs.Seen.{AreHeld, IsHeldToken, provenance_of, seen_at, stores};
+ghost use Rattle.sc_expand.specs.Seen.{IsHeldToken, stores};
 ghost use Rattle.sc_expand.specs.CallStops.{StopsAt};
 ghost use Rattle.sc_expand.specs.Taking.{has_first};
-ghost use Rattle.sc_macro.specs.Seen.{IsHeldDefinition, IsHeldForm, IsHeldItem, seen_definition, seen_form, seen_item, text_of};
+ghost use Rattle.sc_macro.specs.Seen.{IsHeldDefinition, IsHeldForm, IsHeldItem, seen_definition, seen_form, seen_item};
 ghost use Rattle.sc_model.specs.Growth.{Extends};
 ghost use Rattle.sc_model.specs.Sets.{IsConfig, IsCond, Keeps};
-ghost use Rattle.sc_subst.specs.Parts.{AreHeldArguments, seen_arguments, seen_list};
+ghost use Rattle.sc_subst.specs.Parts.{AreHeldArguments, seen_arguments};
 ghost use Rattle.sc_subst.specs.Seen.{IsHeldHidden, seen_hidden};
 
 use crate::arguments::arguments;
@@ -183,23 +180,7 @@ impl Expansion {
     ) -> Result<CallTokens, OutOfMemory>
         requires held { (files : ℕ) × IsHeldExpansion (stores (C.sets conds.old) names.now self.old.sets) files self.old }
         requires branch { IsBranch (stores (C.sets conds.old) names.now self.old.sets) self.old branch.now }
-        ensures call { IfOk result (λ call. (c : List ℕ) → IsConfig (C.sets conds.old).arities c → (C.sets conds.old).has branch.now.cond.0 c ≡ true
-            → IsCall (seen_at (stores (C.sets conds.old) names.now self.old.sets) (drop 1 self.old.top.work) c) (seen_list names.now self.old.sets call.between) (seen_hidden names.now self.old.sets call.close)
-            (seen_at (stores (C.sets conds.new) names.now self.new.sets) self.new.top.work c)) }
-        ensures own { IfOk result (λ call. (files : ℕ) → AreHeld (stores (C.sets conds.old) names.now self.old.sets) files self.old.top.work → All (IsHeldToken (stores (C.sets conds.old) names.now self.old.sets) files) (call.close ∷ call.between)) }
-        ensures held { OnOk result ((files : ℕ) → AreHeld (stores (C.sets conds.old) names.now self.old.sets) files self.old.top.work → AreHeld (stores (C.sets conds.new) names.now self.new.sets) files self.new.top.work) }
-        ensures others { OnOk result ((c : List ℕ) → IsConfig (C.sets conds.old).arities c → (C.sets conds.old).has branch.now.cond.0 c ≡ false
-            → (seen_at (stores (C.sets conds.new) names.now self.new.sets) self.new.top.work c ≡ seen_at (stores (C.sets conds.old) names.now self.old.sets) self.old.top.work c)
-            × (has_each (C.sets conds.new) self.new.top.work c ≡ has_each (C.sets conds.old) self.old.top.work c)) }
-        ensures first { OnOk result ((c : List ℕ) → IsConfig (C.sets conds.old).arities c → (C.sets conds.old).has branch.now.cond.0 c ≡ true
-            → has_first (C.sets conds.new) self.new.top.work c ≡ false) }
-        ensures top { OnOk result (self.new.top ≡ record self.old.top { work = self.new.top.work }) }
-        ensures refusals { OnOk result (self.new.refusals ≡ self.old.refusals) }
-        ensures below { OnOk result (self.new.below ≡ self.old.below) }
-        ensures tokens { OnOk result (map (λ item. item.1) self.new.top.work ≡ map (λ item. item.1) self.old.top.work) }
-        ensures rest { OnOk result ((c : List ℕ) → IsConfig (C.sets conds.old).arities c → HasLast (C.sets conds.old) (C.sets conds.new) self.old.top.work self.new.top.work c) }
-        ensures alike { OnOk result ((c d : List ℕ) (span : Span) → IsConfig (C.sets conds.old).arities c → IsConfig (C.sets conds.old).arities d → IsAlike (C.sets conds.old) c d branch.now.cond
-            → IsAlikeIn (C.sets conds.old) c d span self.old → IsAlikeIn (C.sets conds.new) c d span self.new) }
+        ensures left { IfOk result (λ call. HasLeft (C.sets conds.old) (C.sets conds.new) names.now self.old self.new branch.now call.between call.close) }
 
         // at every outcome
         ensures keeps { Keeps (C.sets conds.old) (C.sets conds.new) }

@@ -1,9 +1,14 @@
-use Rattle.std.proofs.Common.{ℕ, ◌+◌, ◌-◌, ◌<◌, All, length, drop, take, map, sym, ap, subst, ◌∙◌, arith, if◌then◌else◌}
+use Rattle.std.proofs.Common.{◌≡◌, ℕ, ◌+◌, ◌-◌, ◌<◌, Bool, true, false, List, refl, All, length, drop, take, map, sym, ap, subst, ◌∙◌, arith, if◌then◌else◌}
 use Rattle.std.proofs.lemmas.List.Elements.{All-cons, All-drop, All-take}
+use Rattle.c11_macros.specs.Hidden as model
+use Rattle.sc_base.specs.declared.id.Cond.{Cond}
+use Rattle.sc_base.specs.declared.place.Place.{Place}
 use Rattle.sc_expand.proofs.AlikeLemmas.{IsAlikeIn-Keeps}
 use Rattle.sc_expand.proofs.GatherPlaces.{branch-placed, call-taken, held-at, held-same, held-tokens, places-below, places-three}
 use Rattle.sc_expand.specs.Beginning.{token_at}
+use Rattle.sc_expand.specs.Called.{HasLeft}
 use Rattle.sc_guarded.specs.Items.{items_at}
+use Rattle.sc_model.specs.Sets.{IsConfig}
 use Rattle.sc_subst.specs.declared.hidden.Hidden.{Hidden}
 use Rattle.sc_subst.specs.Seen.{seen_hidden}
 use Rattle.sc_expand.specs.Seen.{IsHeldToken, stores}
@@ -54,39 +59,47 @@ take_out-requires-clause-count g c =
     let low = subst P (sym c.index-end.ensures) (places-below st c.args.self.now c.args.branch.now c.requires.branch (c.len-last.result - 1) end (omega (arith, three, c.len-last.ensures, c.deref.ensures.len, ap length c.deref.ensures.value))) in
     omega (arith, low)
 
-pub returns-clause-call : goal.returns-clause-call
-returns-clause-call g c = λ x listed has.
+pub returns : goal.returns
+returns g c =
     let s = g.C.Conditions.sets c.args.conds.now in
     let st = stores s c.args.names.now c.args.self.now.sets in
+    let branch = c.args.branch.now in
     let list = c.args.self.now.top.work in
     let end = c.index-end.result.now in
-    let counted = c.len-last.ensures ∙ (sym c.deref.ensures.len ∙ ap length c.deref.ensures.value) in
-    let follows = c.in_ok-take_out.ensures.taken x listed ∙ ap (λ b. if b then items_at s (drop (end + 1) list) x else items_at s list x) has in
-    call-taken st list _ c.args.branch.now.places.items x c.in_ok-between.between c.item.result end c.len-last.result (branch-placed st c.args.self.now c.args.branch.now c.requires.branch x listed has)
-    counted c.index-end.ensures (λ other. c.in_ok-between.ensures other ∙ ap (λ l. map (token_at list other) (take (c.len-last.result - 1 - 2) (drop 2 l))) c.deref.ensures.value) c.item.ensures
-    (ap (map (seen_hidden st.names st.hides)) follows)
-
-pub returns-clause-own : goal.returns-clause-own
-returns-clause-own g c = λ files held.
-    let st = stores (g.C.Conditions.sets c.args.conds.now) c.args.names.now c.args.self.now.sets in
-    let list = c.args.self.now.top.work in
-    let P : ℕ → Type 0 = λ p. p < length list in
-    let H : Hidden → Type 0 = IsHeldToken st files in
-    let below = places-below st c.args.self.now c.args.branch.now c.requires.branch in
-    let places = take (c.len-last.result - 1 - 2) (drop 2 c.deref.result.now) in
-    let all = All-take P (c.len-last.result - 1 - 2) (drop 2 c.deref.result.now) (All-drop P 2 c.deref.result.now (subst (All P) (sym c.deref.ensures.value) below)) in
-    All-cons H c.item.result.1 c.in_ok-between.between (held-at H list c.index-end.result.now c.item.result held.held c.item.ensures)
-    (subst (All H) (sym (c.in_ok-between.ensures c.item.result)) (held-tokens H list c.item.result places held.held all))
-
-pub returns-clause-held : goal.returns-clause-held
-returns-clause-held g c = λ files held.
-    let st = stores (g.C.Conditions.sets c.args.conds.now) c.args.names.now c.args.self.now.sets in
-    record {
-      own = c.in_ok-take_out.ensures.own;
-      held = λ k d h. (let it = held-same (IsHeldToken st files) c.args.self.now.top.work c.take_out.new.list c.take_out.ensures.items held.held k d h in record { held = it.held; file = it.file });
-    }
-
-pub returns-clause-alike : goal.returns-clause-alike
-returns-clause-alike g c = λ x y span at_x at_y same alike.
-    let kept = IsAlikeIn-Keeps c.take_out.ensures.keeps at_x at_y span c.args.self.now c.requires.held.1 alike in
-    record { refusals = kept.refusals; work = c.in_ok-take_out.ensures.alike x y span.work at_x at_y same alike.work; out = kept.out; calls = kept.calls }
+    let value = c.deref.ensures.value in
+    let count = c.len-last.result - 1 - 2 in
+    let out = c.in_ok-take_out.ensures in
+    let see : List Hidden → List (model.Hidden Place) = map (seen_hidden st.names st.hides) in
+    let counted = c.len-last.ensures ∙ (sym c.deref.ensures.len ∙ ap length value) in
+    let follows : (x : List ℕ) → IsConfig s.arities x → (b : Bool) → s.has branch.cond.0 x ≡ b
+    → items_at (g.C.Conditions.sets c.take_out.new.conds) c.take_out.new.list x ≡ (if b then items_at s (drop (end + 1) list) x else items_at s list x) = λ x listed b is. out.taken x listed ∙ ap (λ b. if b then items_at s (drop (end + 1) list) x else items_at s list x) is in
+    let left : HasLeft s (g.C.Conditions.sets c.take_out.new.conds) c.args.names.now c.args.self.now (record c.args.self.now { top = record c.args.self.now.top { work = c.take_out.new.list } }) branch c.in_ok-between.between c.item.result.1
+    = record {
+      keeps = c.take_out.ensures.keeps;
+      sets = refl;
+      top = refl;
+      refusals = refl;
+      below = refl;
+      tokens = out.items;
+      call = λ x listed has.
+          call-taken st list _ branch.places.items x c.in_ok-between.between c.item.result end c.len-last.result (branch-placed st c.args.self.now branch c.requires.branch x listed has)
+          counted c.index-end.ensures (λ other. c.in_ok-between.ensures other ∙ ap (λ l. map (token_at list other) (take count (drop 2 l))) value) c.item.ensures (ap see (follows x listed true has));
+      first = λ x listed has. out.first x listed has (omega arith);
+      others = λ x listed lacks. (ap see (follows x listed false lacks), out.others x listed lacks);
+      alike = λ x y span at_x at_y same alike.
+          let kept = IsAlikeIn-Keeps c.take_out.ensures.keeps at_x at_y span c.args.self.now c.requires.held.1 alike in
+          record { refusals = kept.refusals; work = out.alike x y span.work at_x at_y same alike.work; out = kept.out; calls = kept.calls };
+      rest = out.rest;
+      own = λ files held.
+          let P : ℕ → Type 0 = λ p. p < length list in
+          let H : Hidden → Type 0 = IsHeldToken st files in
+          let below = subst (All P) (sym value) (places-below st c.args.self.now branch c.requires.branch) in
+          let all = All-take P count (drop 2 c.deref.result.now) (All-drop P 2 c.deref.result.now below) in
+          All-cons H c.item.result.1 c.in_ok-between.between (held-at H list end c.item.result held.held c.item.ensures)
+          (subst (All H) (sym (c.in_ok-between.ensures c.item.result)) (held-tokens H list c.item.result (take count (drop 2 c.deref.result.now)) held.held all));
+      held = λ files held. record {
+        own = out.own;
+        held = λ k d h. (let it = held-same (IsHeldToken st files) list c.take_out.new.list out.items held.held k d h in record { held = it.held; file = it.file });
+      };
+    } in
+    record { left = left; keeps = left.keeps; sets = refl }
