@@ -17,6 +17,7 @@ pub mod WorkListLemmas
 pub mod RestrictLemmas
 pub mod LastLemmas
 pub mod SeenLemmas
+pub mod KeepingLists
 pub mod BeginningLemmas
 pub mod FillingLemmas
 pub mod AlikeFilling

@@ -1,5 +1,5 @@
 -- The expansion of a list under all configurations at once, seen at one.
-use Rattle.std.specs.Prelude.{◌≡◌, ℕ, ◌≤◌, Bool, true, false, List, [], ◌∷◌, ◌++◌, All, length, slice_set, if◌then◌else◌}
+use Rattle.std.specs.Prelude.{◌≡◌, ℕ, ◌≤◌, Bool, true, false, List, [], ◌∷◌, ◌++◌, All, length, map, slice_set, if◌then◌else◌}
 use Rattle.c11_macros.specs.Hidden.{Failure, Provenance}
 use Rattle.c11_macros.specs.Macros.{Macros}
 use Rattle.sc_base.specs.declared.id.Cond.{Cond}
@@ -18,6 +18,12 @@ pub record IsHeldExpansion (st : Stores) (files : ℕ) (e : Expansion) : Type 0 
   pub refusals : IsHeldRefusals st.sets files e.refusals
   pub top : IsHeldFrame st files e.top
   pub below : All (IsHeldEnclosing st files) e.below.items
+
+-- the lists below, what was put out and the tokens of the list on top are as they were
+pub record KeepsLists (was now : Expansion) : Type 0 where
+  pub below : now.below ≡ was.below
+  pub out : now.top.out ≡ was.top.out
+  pub tokens : map (λ item. item.1) now.top.work ≡ map (λ item. item.1) was.top.work
 
 -- what the configuration has on top
 abbrev pub at : Stores → Expansion → List ℕ → At

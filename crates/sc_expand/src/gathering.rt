@@ -9,7 +9,7 @@ ghost use Rattle.sc_expand.specs.Alike.{IsAlikeIn, Span};
 ghost use Rattle.sc_hoist.specs.Alike.{IsAlike};
 ghost use Rattle.sc_expand.specs.Called.{AreGathered, Begins, HasLeft, IsBranch, IsGathered};
 ghost use Rattle.sc_hoist.specs.Branches.{lists_at};
-ghost use Rattle.sc_expand.specs.Machine.{IsHeldExpansion, at};
+ghost use Rattle.sc_expand.specs.Machine.{IsHeldExpansion, KeepsLists, at};
 ghost use Rattle.sc_expand.specs.Seen.{IsHeldToken, stores};
 ghost use Rattle.sc_expand.specs.CallStops.{StopsAt};
 ghost use Rattle.sc_expand.specs.Taking.{has_first};
@@ -55,9 +55,7 @@ impl Expansion {
         requires calls { (c : List ℕ) → IsConfig (C.sets conds.old).arities c → (C.sets conds.old).has cond.0 c ≡ true
             → (at (stores (C.sets conds.old) names.old self.old.sets) self.old c).view.calls ≡ [] }
         ensures held { OnOk result (IsHeldExpansion (stores (C.sets conds.new) names.new self.new.sets) (length files.now) self.new) }
-        ensures below { OnOk result (self.new.below ≡ self.old.below) }
-        ensures out { OnOk result (self.new.top.out ≡ self.old.top.out) }
-        ensures items { OnOk result (map (λ item. item.1) self.new.top.work ≡ map (λ item. item.1) self.old.top.work) }
+        ensures lists { OnOk result (KeepsLists self.old self.new) }
         ensures gathered { IfOk result (λ uncalled. IsGathered files.now (stores (C.sets conds.old) names.old self.old.sets) (stores (C.sets conds.new) names.new self.new.sets)
             self.old self.new cond.0 uncalled.0 definition.now head) }
         ensures stops { IfErr result (StopsAt (C.sets conds.old) names.old (λ c. (C.sets conds.old).has cond.0 c ≡ true) self.old.top.work limit) }
@@ -108,9 +106,7 @@ impl Expansion {
         requires branches { All (IsBranch (stores (C.sets conds.old) names.old self.old.sets) self.old) branches.now }
         requires one { (c : List ℕ) → IsConfig (C.sets conds.old).arities c → length (lists_at (C.sets conds.old) branches.now c) ≤ 1 }
         ensures held { OnOk result ((files : ℕ) → IsHeldExpansion (stores (C.sets conds.old) names.old self.old.sets) files self.old → IsHeldExpansion (stores (C.sets conds.new) names.new self.new.sets) files self.new) }
-        ensures below { OnOk result (self.new.below ≡ self.old.below) }
-        ensures out { OnOk result (self.new.top.out ≡ self.old.top.out) }
-        ensures tokens { OnOk result (map (λ item. item.1) self.new.top.work ≡ map (λ item. item.1) self.old.top.work) }
+        ensures lists { OnOk result (KeepsLists self.old self.new) }
         ensures gathered { OnOk result (AreGathered (stores (C.sets conds.old) names.old self.old.sets) (stores (C.sets conds.new) names.new self.new.sets) self.old self.new form.now items.now head branches.now) }
 
         // at every outcome
@@ -141,9 +137,7 @@ impl Expansion {
         requires items { All (IsHeldItem names.old) items.now }
         requires branch { IsBranch (stores (C.sets conds.old) names.old self.old.sets) self.old branch.now }
         ensures held { OnOk result ((files : ℕ) → IsHeldExpansion (stores (C.sets conds.old) names.old self.old.sets) files self.old → IsHeldExpansion (stores (C.sets conds.new) names.new self.new.sets) files self.new) }
-        ensures below { OnOk result (self.new.below ≡ self.old.below) }
-        ensures out { OnOk result (self.new.top.out ≡ self.old.top.out) }
-        ensures tokens { OnOk result (map (λ item. item.1) self.new.top.work ≡ map (λ item. item.1) self.old.top.work) }
+        ensures lists { OnOk result (KeepsLists self.old self.new) }
         ensures gathered { OnOk result (AreGathered (stores (C.sets conds.old) names.old self.old.sets) (stores (C.sets conds.new) names.new self.new.sets) self.old self.new form.now items.now head (branch.now ∷ [])) }
 
         // at every outcome

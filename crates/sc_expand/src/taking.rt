@@ -12,17 +12,17 @@ ghost use Rattle.sc_base.specs.declared.stop.Stop.TheVariants as declared_stop;
 ghost use Rattle.sc_expand.specs.Alike.{CallNextAlike, DefineNextAlike, IsAlikeExpansion, IsAlikeIn, IsAlikeTaken, IsFirstIn, IsFunctionLike, IsSameCall, Others, Span, TakesName};
 ghost use Rattle.sc_hoist.specs.Alike.{AreAlike, IsAlike};
 ghost use Rattle.sc_expand.specs.Having.{HasLast, has_each};
-ghost use Rattle.sc_expand.specs.Machine.{IsHeldExpansion, at};
+ghost use Rattle.sc_expand.specs.Machine.{IsHeldExpansion, KeepsLists, at};
 ghost use Rattle.sc_expand.specs.Running.{PutsOut};
 ghost use Rattle.sc_expand.specs.Seen.{AreHeld, IsHeldToken, provenance_of, seen_at, stores};
 ghost use Rattle.sc_expand.specs.CallStops.{StopsAt};
-ghost use Rattle.sc_expand.specs.Taking.{Comes, HasTaken, IsBegun, IsFunction, IsHeldTaken, Replaces, TakesPart, step_at, untaken};
+ghost use Rattle.sc_expand.specs.Taking.{AreTaken, Comes, HasTaken, IsBegun, IsFunction, IsHeldTaken, Replaces, TakesPart, step_at, untaken};
 ghost use Rattle.sc_expand.specs.Turn.{Turn};
 ghost use Rattle.sc_expand.specs.Unchanged.{IsPushed, IsUncalled, IsUndefined, LooksUpNone, Passes};
 ghost use Rattle.sc_guarded.specs.Items.{items_at};
 ghost use Rattle.sc_macro.specs.Seen.{IsHeldDefinition, seen_definition, text_of};
 ghost use Rattle.sc_model.specs.Growth.{Extends};
-ghost use Rattle.sc_model.specs.Sets.{Sets, IsConfig, IsCond, IsNever, Keeps};
+ghost use Rattle.sc_model.specs.Sets.{IsConfig, IsCond, IsNever, Keeps};
 ghost use Rattle.sc_subst.specs.Seen.{IsHeldHidden, IsHeldSet, hide_at, seen_hidden};
 ghost use Rattle.sc_subst.specs.Stops.{OnFault};
 ghost use Rattle.sc_table.specs.Table.{IsTable, macros_at};
@@ -108,9 +108,7 @@ impl Expansion {
             → IsBegun (seen_hidden names.old self.old.sets token) (untaken (stores (C.sets conds.old) names.old self.old.sets) self.old c) }
         ensures held { IfOk result (λ taken. IsHeldExpansion (stores (C.sets conds.new) names.new self.new.sets) (length files.now) self.new) }
         ensures taken { IfOk result (λ taken. IsHeldTaken (stores (C.sets conds.new) names.new self.new.sets) (length files.now) taken) }
-        ensures below { IfOk result (λ taken. self.new.below ≡ self.old.below) }
-        ensures out { OnOk result (self.new.top.out ≡ self.old.top.out) }
-        ensures items { IfOk result (λ taken. map (λ item. item.1) self.new.top.work ≡ map (λ item. item.1) self.old.top.work) }
+        ensures lists { OnOk result (KeepsLists self.old self.new) }
         ensures comes { IfOk result (λ taken. (c : List ℕ) (macros : Macros) (rest : List (model.Hidden Place)) → IsConfig (C.sets conds.old).arities c → (C.sets conds.old).has cond.0 c ≡ true
             → (at (stores (C.sets conds.old) names.old self.old.sets) self.old c).view.work ≡ seen_hidden names.old self.old.sets token ∷ rest
             → macros (text_of names.old token.token.spelling) ≡ macros_at (C.sets conds.old) names.old table.now c (text_of names.old token.token.spelling)
@@ -165,9 +163,7 @@ impl Expansion {
             → IsBegun (seen_hidden names.old self.old.sets head) (untaken (stores (C.sets conds.old) names.old self.old.sets) self.old c) }
         ensures held { IfOk result (λ taken. IsHeldExpansion (stores (C.sets conds.new) names.new self.new.sets) (length files.now) self.new) }
         ensures taken { IfOk result (λ taken. IsHeldTaken (stores (C.sets conds.new) names.new self.new.sets) (length files.now) taken) }
-        ensures below { IfOk result (λ taken. self.new.below ≡ self.old.below) }
-        ensures out { OnOk result (self.new.top.out ≡ self.old.top.out) }
-        ensures items { IfOk result (λ taken. map (λ item. item.1) self.new.top.work ≡ map (λ item. item.1) self.old.top.work) }
+        ensures lists { OnOk result (KeepsLists self.old self.new) }
         ensures comes { IfOk result (λ taken. (c : List ℕ) (macros : Macros) (rest : List (model.Hidden Place)) → IsConfig (C.sets conds.old).arities c → (C.sets conds.old).has cond.0 c ≡ true
             → (at (stores (C.sets conds.old) names.old self.old.sets) self.old c).view.work ≡ seen_hidden names.old self.old.sets head ∷ rest
             → macros (text_of names.old head.token.spelling) ≡ macros_at (C.sets conds.old) names.old table.now c (text_of names.old head.token.spelling)
@@ -253,22 +249,11 @@ impl Expansion {
             → IsBegun (seen_hidden names.old self.old.sets head) (step_at (stores (C.sets conds.old) names.old self.old.sets) self.old taken.old c) }
         ensures held { OnOk result (IsHeldExpansion (stores (C.sets conds.new) names.new self.new.sets) (length files.now) self.new) }
         ensures taken { OnOk result (IsHeldTaken (stores (C.sets conds.new) names.new self.new.sets) (length files.now) taken.new) }
-        ensures below { OnOk result (self.new.below ≡ self.old.below) }
-        ensures out { OnOk result (self.new.top.out ≡ self.old.top.out) }
-        ensures items { OnOk result (map (λ item. item.1) self.new.top.work ≡ map (λ item. item.1) self.old.top.work) }
-        ensures comes { OnOk result ((c : List ℕ) (macros : Macros) (rest : List (model.Hidden Place)) → IsConfig (C.sets conds.old).arities c
-            → (at (stores (C.sets conds.old) names.old self.old.sets) self.old c).view.work ≡ seen_hidden names.old self.old.sets head ∷ rest
-            → map (option_map (λ shared. seen_definition names.old shared.value)) (items_at (C.sets conds.old) parts.now c) ≡ macros (text_of names.old head.token.spelling) ∷ []
-            → Comes (provenance_of files.now) macros (seen_hidden names.old self.old.sets head) rest
-            (at (stores (C.sets conds.old) names.old self.old.sets) self.old c) (step_at (stores (C.sets conds.new) names.new self.new.sets) self.new taken.new c)) }
-        ensures others { OnOk result ((c : List ℕ) → IsConfig (C.sets conds.old).arities c → items_at (C.sets conds.old) parts.now c ≡ []
-            → step_at (stores (C.sets conds.new) names.new self.new.sets) self.new taken.new c ≡ step_at (stores (C.sets conds.old) names.old self.old.sets) self.old taken.old c) }
+        ensures lists { OnOk result (KeepsLists self.old self.new) }
+        ensures done { OnOk result (AreTaken files.now (stores (C.sets conds.old) names.old self.old.sets) (stores (C.sets conds.new) names.new self.new.sets)
+            self.old self.new taken.old taken.new head parts.now) }
         ensures undefined { OnOk result (All (λ part. part.1 ≡ None) parts.now → (self.new ≡ self.old) × (taken.new.made ≡ taken.old.made)) }
-        ensures rest { OnOk result ((c : List ℕ) → IsConfig (C.sets conds.old).arities c → HasTaken (C.sets conds.old) (C.sets conds.new) self.old.top.work self.new.top.work taken.new.made.items c) }
         ensures stops { IfErr result (StopsAt (C.sets conds.old) names.old (λ c. TakesPart (C.sets conds.old) names.old parts.now c) self.old.top.work limit) }
-        ensures alike { OnOk result ((c d : List ℕ) (span : Span) → IsConfig (C.sets conds.old).arities c → IsConfig (C.sets conds.old).arities d
-            → AreAlike (C.sets conds.old) c d parts.now → (TakesPart (C.sets conds.old) names.old parts.now c → IsSameCall (C.sets conds.old) names.old c d self.old.top.work) → IsAlikeTaken (C.sets conds.old) c d taken.old
-            → IsAlikeIn (C.sets conds.old) c d span self.old → IsAlikeIn (C.sets conds.new) c d span self.new × IsAlikeTaken (C.sets conds.new) c d taken.new) }
 
         // at every outcome
         ensures keeps { Keeps (C.sets conds.old) (C.sets conds.new) }
@@ -304,9 +289,7 @@ impl Expansion {
             → IsBegun (seen_hidden names.old self.old.sets head) (step_at (stores (C.sets conds.old) names.old self.old.sets) self.old taken.old c) }
         ensures held { OnOk result (IsHeldExpansion (stores (C.sets conds.new) names.new self.new.sets) (length files.now) self.new) }
         ensures taken { OnOk result (IsHeldTaken (stores (C.sets conds.new) names.new self.new.sets) (length files.now) taken.new) }
-        ensures below { OnOk result (self.new.below ≡ self.old.below) }
-        ensures out { OnOk result (self.new.top.out ≡ self.old.top.out) }
-        ensures items { OnOk result (map (λ item. item.1) self.new.top.work ≡ map (λ item. item.1) self.old.top.work) }
+        ensures lists { OnOk result (KeepsLists self.old self.new) }
         ensures comes { OnOk result ((c : List ℕ) (macros : Macros) (rest : List (model.Hidden Place)) → IsConfig (C.sets conds.old).arities c → (C.sets conds.old).has cond.0 c ≡ true
             → (at (stores (C.sets conds.old) names.old self.old.sets) self.old c).view.work ≡ seen_hidden names.old self.old.sets head ∷ rest
             → macros (text_of names.old head.token.spelling) ≡ option_map (λ shared. seen_definition names.old shared.value) definition.now
@@ -362,9 +345,7 @@ impl Expansion {
             → IsBegun (seen_hidden names.old self.old.sets head) (step_at (stores (C.sets conds.old) names.old self.old.sets) self.old taken.old c) }
         ensures held { OnOk result (IsHeldExpansion (stores (C.sets conds.new) names.new self.new.sets) (length files.now) self.new) }
         ensures taken { OnOk result (IsHeldTaken (stores (C.sets conds.new) names.new self.new.sets) (length files.now) taken.new) }
-        ensures below { OnOk result (self.new.below ≡ self.old.below) }
-        ensures out { OnOk result (self.new.top.out ≡ self.old.top.out) }
-        ensures items { OnOk result (map (λ item. item.1) self.new.top.work ≡ map (λ item. item.1) self.old.top.work) }
+        ensures lists { OnOk result (KeepsLists self.old self.new) }
         ensures comes { OnOk result ((c : List ℕ) (macros : Macros) (rest : List (model.Hidden Place)) → IsConfig (C.sets conds.old).arities c → (C.sets conds.old).has cond.0 c ≡ true
             → (at (stores (C.sets conds.old) names.old self.old.sets) self.old c).view.work ≡ seen_hidden names.old self.old.sets head ∷ rest
             → macros (text_of names.old head.token.spelling) ≡ Some (seen_definition names.old definition.now)

@@ -118,12 +118,11 @@ returns g c =
     let n2 = c.gather_calls.new.names in
     let e4 = c.gather_calls.new.self in
     let held4 = c.in_ok-gather_calls.ensures.held files held3 in
+    let lists = c.in_ok-gather_calls.ensures.lists in
     let later : Grows (stores s4 n2 e4.sets) (stores s5 n2 e4.sets) = record { sets = c.apply_or.ensures.keeps; names = Extends-refl n2; hides = Extends-refl e4.sets } in
     record {
       held = IsHeldExpansion-Grows later e4 held4;
-      below = search rules;
-      out = search rules;
-      items = search rules;
+      lists = record { below = lists.below; out = lists.out; tokens = lists.tokens };
       gathered = is-gathered c.args.files.now c.args.head parts head.held c.args.definition.now c.deref-2.result.now _ c.requires.definition c.deref-2.ensures.value c.in_ok-items.ensures.own c.in_ok-items.ensures.is
           c.requires.function c.requires.stands c.requires.calls s4 s5 n2 e4 ends.bare.0 ends.alone.0 c.in_ok-uncalled.uncalled.0 c.gather_calls.ensures.keeps c.apply_or.ensures.keeps
           held4 c.in_ok-found.ensures.bare c.in_ok-found.ensures.alone c.in_ok-uncalled.ensures.meaning c.in_ok-gather_calls.ensures.gathered;

@@ -1,4 +1,4 @@
-use Rattle.std.proofs.Common.{◌≡◌, ℕ, Bool, List, All, Some, None, length, refl, sym, ap, subst, ◌∙◌}
+use Rattle.std.proofs.Common.{◌≡◌, ℕ, Bool, List, All, Some, None, length, map, refl, sym, ap, subst, ◌∙◌}
 use Rattle.std.proofs.lemmas.List.Elements.{All-head, All-tail}
 use Rattle.std.specs.Option.{option_map}
 use Rattle.c11_macros.specs.Call.{arguments_for}
@@ -13,6 +13,8 @@ use Rattle.sc_expand.proofs.GatherSteps.{refused-failures, refused-live, refused
 use Rattle.sc_expand.proofs.GatherTaking.{begun-gathered, function-form, head-held, left-grows, left-held, four-on-ok, misfit-gathered, seen_fit, three-on-ok}
 use Rattle.sc_expand.proofs.SeenLemmas.{IsHeldExpansion-Grows, token-Grows}
 use Rattle.sc_expand.proofs.TakingSteps.{on-ok}
+use Rattle.sc_base.specs.declared.id.Cond.{Cond}
+use Rattle.sc_expand.specs.declared.frame.Frame.{Frame}
 use Rattle.sc_expand.specs.Arguments.{parted}
 use Rattle.sc_expand.specs.Called.{Begins}
 use Rattle.sc_expand.specs.Machine.{at}
@@ -140,6 +142,14 @@ returns-in-Some-clause-gathered g c = four-on-ok c.begin.result
     (at (stores s1 n e1.sets) e1 x) (at (stores s2 n2 e2.sets) e2 x)) c.deref.ensures.value (begins x provenance d listed has formed list)))
     c.begin.ensures.begins c.begin.ensures.others c.begin.ensures.work c.begin.ensures.alike
 
+pub returns-in-Some-clause-lists : goal.returns-in-Some-clause-lists
+returns-in-Some-clause-lists g c = three-on-ok c.begin.result
+    (λ below out work.
+    let left = c.in_ok-call.ensures.left in
+    let tokens = λ (l : List (Cond × Hidden)). map (λ (item : Cond × Hidden). item.1) l in
+    record { below = below ∙ left.below; out = out ∙ ap (λ (f : Frame). f.out) left.top; tokens = ap tokens work ∙ left.tokens })
+    c.begin.ensures.below c.begin.ensures.out c.begin.ensures.work
+
 pub returns-in-Some-clause-keeps : goal.returns-in-Some-clause-keeps
 returns-in-Some-clause-keeps g c = Keeps-trans c.take_call.ensures.keeps c.begin.ensures.keeps
 
@@ -192,6 +202,13 @@ returns-clause-gathered g c = three-on-ok c.refuse.result
     misfit-gathered left files held c.args.form.now c.args.items.now c.args.head c.requires.branch c.requires.function None fits n s2 (record e1 { refusals = r }) grows refl
     (refused-other grows e1 mid r cond failure live failures) (refused-alike grows.sets e1 r cond mid alike) refl (refused-live grows e1 mid r cond failure live failures) (refused-failures grows e1 mid r cond failure live failures))
     c.refuse.ensures.live c.refuse.ensures.failures c.refuse.ensures.alike
+
+pub returns-clause-lists : goal.returns-clause-lists
+returns-clause-lists g c = on-ok c.refuse.result
+    (λ refused.
+    let left = c.in_ok-call.ensures.left in
+    record { below = left.below; out = ap (λ (f : Frame). f.out) left.top; tokens = left.tokens })
+    c.refuse.ensures.held
 
 pub returns-clause-keeps : goal.returns-clause-keeps
 returns-clause-keeps g c = Keeps-trans c.take_call.ensures.keeps c.refuse.ensures.keeps

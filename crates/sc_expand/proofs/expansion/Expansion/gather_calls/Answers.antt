@@ -1,6 +1,7 @@
 use Rattle.std.proofs.Common.{◌∙◌, refl, sym, subst}
 use Rattle.sc_expand.proofs.GatherBranches.{branch-later, gathered-more, gathered-none}
 use Rattle.sc_expand.proofs.GatherTaking.{head-held}
+use Rattle.sc_expand.proofs.KeepingLists.{lists-same, lists-then}
 use Rattle.sc_expand.proofs.SeenLemmas.{Grows-refl, Grows-trans}
 use Rattle.sc_expand.specs.Called.{IsBranch}
 use Rattle.sc_expand.specs.Seen.{Grows, IsHeldToken, stores}
@@ -13,9 +14,7 @@ loop-branch-init g c =
     record {
       grows = Grows-refl st;
       held = λ files held. held;
-      below = refl;
-      out = refl;
-      tokens = refl;
+      lists = lists-same c.args.self.now;
       gathered = gathered-none st c.args.self.now c.args.form.now c.args.items.now c.args.head;
     }
 
@@ -52,9 +51,7 @@ loop-branch-preserved g c =
     record {
       grows = Grows-trans was.grows step;
       held = λ files held. told.held files (was.held files held);
-      below = told.below ∙ was.below;
-      out = told.out ∙ was.out;
-      tokens = told.tokens ∙ was.tokens;
+      lists = lists-then was.lists told.lists;
       gathered = gathered-more was.grows c.args.form.now c.args.items.now c.args.head head.held c.requires.form c.requires.items c.args.self.now c.loop-branch.self c.args.branches.now i b within c.branch-item.is
           was.gathered c.requires.one st c.gather_call.new.self told.gathered is.own;
     }

@@ -109,17 +109,17 @@ returns g c =
     let all : Grows (stores s0 n h) st = record { sets = Keeps-trans first second; names = grows.names; hides = grows.hides } in
     let own = first-own (stores s0 n h) (length files) work item c.requires.first held.top.work in
     let meets = c.in_ok-cond.ensures.meaning _ _ (Denotes-self s0 c.args.has.0 own) (Denotes-self s0 was.refusals.live.0 held.refusals.live) in
-    let long = same-long work now.top.work told.items in
+    let long = same-long work now.top.work told.lists.tokens in
     let SomeHas : List (Cond × Hidden) → Type 0 = All (λ (item : Cond × Hidden). IsNever s2 item.0.0 → ⊥) in
     record {
       held =
           let token = token-Grows all c.args.token (first-held (stores s0 n h) (length files) work item c.requires.first held.top.work) in
           subst (λ hides. IsHeldExpansion (stores s2 n2 hides) (length files) next) (sym put.sets)
           (put-held st now next taken c.args.token put.refusals put.calls put.work (length files) put.below told.held told.taken (put.held n2 (length files) token told.held.top.out));
-      below = put.below ∙ told.below;
+      below = put.below ∙ told.lists.below;
       turns = λ x listed.
           let listed2 = IsConfig-Keeps second (IsConfig-Keeps first listed) in
-          let at_first = ap (λ l. slice_get l 0) told.items ∙ first-token work item c.requires.first in
+          let at_first = ap (λ l. slice_get l 0) told.lists.tokens ∙ first-token work item c.requires.first in
           let ends = put-ends st now next taken c.args.token put.refusals put.calls put.work x at_first (put.out n2 x listed2) (seen_at-append st taken.made.items (drop 1 now.top.work) x) in
           subst (λ hides. Turn (provenance_of files) (macros_at s0 n table x) (at (stores s0 n h) was x) (at (stores s2 n2 hides) next x) (s0.has c.args.has.0 x)) (sym put.sets)
           (take-turn s0 s1 n h st files table first grows was now next taken item cond held c.requires.table c.requires.first c.requires.calls meets told.comes told.others x (seen_at st (drop 1 now.top.work) x) listed ends);
@@ -128,7 +128,7 @@ returns g c =
             let listed2 = IsConfig-Keeps second (IsConfig-Keeps first listed) in
             subst (λ hides. seen_at (stores s2 n2 hides) next.top.out x ≡ seen_at (stores s0 n h) was.top.out x) (sym put.sets)
             (refused-out s0 s1 n h st files table first grows was now next taken item cond held meets told.others x listed dead (put.out n2 x listed2));
-        some = λ before. put.some (subst SomeHas (sym told.out) (some-Keeps all.sets was.top.out held.top.out.own before));
+        some = λ before. put.some (subst SomeHas (sym told.lists.out) (some-Keeps all.sets was.top.out held.top.out.own before));
       };
       passes = λ uncalled looks.
           let undefined = first-undefined s0 s1 n h st files table first grows was now taken item cond held c.requires.first meets c.requires.table looks in
@@ -155,9 +155,9 @@ returns g c =
           let both = both_true (s0.has c.args.has.0 x) (s0.has was.refusals.live.0 x) (sym (meets.at x p1) ∙ has) in
           macros_at-Grows grew c.requires.table x text p ∙ (defined.same item c.requires.first c.requires.calls both.0 both.1 looked ∙ sym (macros_at-Grows grew c.requires.table y text q)))
           (IsAlikeIn-Keeps first p q span was held (in-whole others was alike)) in
-          let below = subst (λ l. (i : ℕ) (o : Enclosing) → slice_get l.items i ≡ Some o → IsAlikeEnclosing s2 x y (others_at others i) o) (sym told.below)
+          let below = subst (λ l. (i : ℕ) (o : Enclosing) → slice_get l.items i ≡ Some o → IsAlikeEnclosing s2 x y (others_at others i) o) (sym told.lists.below)
           (IsAlikeExpansion-Keeps all.sets p q others was held alike).below in
-          let same = whole-same others was now told.below long in
+          let same = whole-same others was now told.lists.below long in
           let few = ap (λ (s : Span). s.work) same in
           put-alike s2 x y others now next taken c.args.token put.refusals put.below put.calls put.work put.pushed came.1
           (whole-in others span now (omega (arith, few)) (ap (λ (s : Span). s.out) (sym same)) refl came.0 below);

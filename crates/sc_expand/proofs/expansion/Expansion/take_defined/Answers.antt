@@ -1,4 +1,4 @@
-use Rattle.std.proofs.Common.{◌≡◌, ◌∙◌, ◌||◌, ℕ, true, List, IsTrue, inl, inr, ap, sym}
+use Rattle.std.proofs.Common.{◌≡◌, ◌∙◌, ◌||◌, ℕ, true, List, IsTrue, inl, inr, ap, map, sym}
 use Rattle.std.proofs.lemmas.Bool.{cases_Bool}
 use Rattle.std.proofs.lemmas.Result.{err_from_is_err_and}
 use Rattle.c11_macros.specs.Defines.{is_function_like}
@@ -6,6 +6,9 @@ use Rattle.sc_base.proofs.Growth.{Extends-refl}
 use Rattle.sc_expand.proofs.SeenLemmas.{AreHeld-Grows, IsHeldExpansion-Grows, at-Grows, seen_at-Grows}
 use Rattle.sc_expand.proofs.TakingLemmas.{or_false}
 use Rattle.sc_expand.proofs.TakingSteps.{both-on-ok, called-comes, has_first-Keeps, object-comes, same-step, on-ok}
+use Rattle.sc_base.specs.declared.id.Cond.{Cond}
+use Rattle.sc_expand.specs.declared.frame.Frame.{Frame}
+use Rattle.sc_subst.specs.declared.hidden.Hidden.{Hidden}
 use Rattle.sc_expand.specs.Machine.{at}
 use Rattle.sc_expand.specs.Seen.{Grows, provenance_of, stores}
 use Rattle.sc_expand.specs.Taking.{has_first}
@@ -179,3 +182,8 @@ returns-clause-rest g c = on-ok c.put_object.result
     let work = c.args.self.now.top.work in
     taken-each (ap (λ f. has_each (g.C.Conditions.sets c.put_object.new.conds) f.work x) top ∙ has_each-Keeps work x c.put_object.ensures.keeps c.requires.held.top.work.own listed))
     c.put_object.ensures.top
+
+pub returns-clause-lists : goal.returns-clause-lists
+returns-clause-lists g c = both-on-ok c.put_object.result
+    (λ below top. record { below = below; out = ap (λ (f : Frame). f.out) top; tokens = ap (λ (f : Frame). map (λ (item : Cond × Hidden). item.1) f.work) top })
+    c.put_object.ensures.below c.put_object.ensures.top

@@ -91,17 +91,15 @@ returns g c =
     record {
       held = told.held;
       taken = told.taken;
-      below = told.below;
-      out = told.out;
-      items = told.items;
+      lists = told.lists;
       comes = λ x macros rest listed has work is.
           let same = at-Grows grows x listed e c.requires.held in
           let one = ap (λ l. map (seen_by n) (items_at s1 l x)) value ∙ (found.parts x listed ∙ (ap (λ b. if b then macros_at s0 n c.args.table.now x text ∷ [] else []) has ∙ ap (λ m. m ∷ []) (sym is))) in
           subst (λ a. Comes (provenance_of c.args.files.now) macros (seen_hidden n h c.args.head) rest a (step_at now c.take_parts.new.self c.take_parts.new.taken x)) same
-          (told.comes x macros rest (IsConfig-Keeps keeps listed) (ap (λ (a : At). a.view.work) same ∙ work) one);
+          (told.done.comes x macros rest (IsConfig-Keeps keeps listed) (ap (λ (a : At). a.view.work) same ∙ work) one);
       others = λ x listed no.
           let none = ap (λ l. map (seen_by n) (items_at s1 l x)) value ∙ (found.parts x listed ∙ ap (λ b. if b then macros_at s0 n c.args.table.now x text ∷ [] else []) no) in
-          told.others x (IsConfig-Keeps keeps listed) (none-found (seen_by n) (items_at s1 c.deref.result.now x) none)
+          told.done.others x (IsConfig-Keeps keeps listed) (none-found (seen_by n) (items_at s1 c.deref.result.now x) none)
           ∙ still-untaken grows e (record { stays = c.never.result; made = c.new.result }) c.requires.held never c.new.ensures.items x listed;
       undefined = λ undefined.
           let macro : List ℕ → Option Definition = λ x. macros_at s0 n c.args.table.now x text in
@@ -109,7 +107,7 @@ returns g c =
           let none = found-none s1 n (s0.has c.args.cond.0) macro c.in_ok-parts.parts.items (λ x listed. found.parts x (IsConfig-kept keeps listed)) (λ x listed has. undefined x (IsConfig-kept keeps listed) has name) found.some in
           let same = told.undefined (subst (All (λ (part : Cond × Option (Rc declared.Definition Global)). part.1 ≡ None)) (sym value) none) in
           (same.0, ap (λ (made : Vec (Cond × Hidden)). made.items) same.1 ∙ c.new.ensures.items);
-      rest = λ x listed. taken-earlier (has_each-Keeps work x keeps c.requires.held.top.work.own listed) (told.rest x (IsConfig-Keeps keeps listed));
+      rest = λ x listed. taken-earlier (has_each-Keeps work x keeps c.requires.held.top.work.own listed) (told.done.rest x (IsConfig-Keeps keeps listed));
       stops = tt;
       alike = λ x y span p q same called defined alike.
           let own = c.requires.held.top.work.own in
@@ -117,7 +115,7 @@ returns g c =
           let one = found.parts x p in
           let both = same-defined (s0.has c.args.cond.0 x) (s0.has c.args.cond.0 y) _ _ same defined in
           let alike_parts = found-alike (seen_by n) s1 parts x y found.differ (one ∙ (both ∙ sym (found.parts y q))) in
-          told.alike x y span (IsConfig-Keeps keeps p) (IsConfig-Keeps keeps q) (subst (AreAlike s1 x y) (sym value) alike_parts)
+          told.done.alike x y span (IsConfig-Keeps keeps p) (IsConfig-Keeps keeps q) (subst (AreAlike s1 x y) (sym value) alike_parts)
           (λ takes.
           let function = found-function s1 n parts x _ _ one (subst (λ l. TakesPart s1 n l x) value takes) in
           each-same-call work work grows c.requires.held.top.work refl (has_each-Keeps work x keeps own p) (has_each-Keeps work y keeps own q) (called function.0 function.1))

@@ -3,6 +3,7 @@ use Rattle.c11_macros.specs.Defines.{is_function_like}
 use Rattle.std.specs.Option.{option_map}
 use Rattle.sc_base.proofs.Growth.{Extends-refl}
 use Rattle.sc_expand.proofs.PlainCases.{case-undefined}
+use Rattle.sc_expand.proofs.KeepingLists.{lists-same}
 use Rattle.sc_expand.proofs.SeenLemmas.{IsHeldExpansion-Grows, at-Grows, seen_at-Grows}
 use Rattle.sc_expand.proofs.TakingLemmas.{or_false, or_true}
 use Rattle.sc_expand.proofs.TakingSteps.{has_first-Keeps, on-ok, same-step}
@@ -94,3 +95,6 @@ returns-in-Some-clause-stops g c = if_err _ _ c.take_defined.result
     stops-weaker s n One Part c.args.self.now.top.work c.args.limit stop
     (λ x listed takes. (takes.0, subst (IsFunction n) (sym c.in-Some.is) (ap (λ d. is_function_like (seen_definition n d).form) (sym c.deref.ensures) ∙ takes.1))) is)
     c.take_defined.ensures.stops
+
+pub returns-in_ok-taken-in-None-clause-lists : goal.returns-in_ok-taken-in-None-clause-lists
+returns-in_ok-taken-in-None-clause-lists g c = lists-same c.args.self.now

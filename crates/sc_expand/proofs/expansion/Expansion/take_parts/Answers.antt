@@ -5,12 +5,13 @@ use Rattle.std.proofs.lemmas.Result.{err_from_is_err_and}
 use Rattle.std.specs.Prelude.{IfSome, slice_get}
 use Rattle.c11_macros.specs.Expansion.{is_looked_up}
 use Rattle.sc_expand.proofs.AlikeTaking.{function-earlier}
+use Rattle.sc_expand.proofs.KeepingLists.{lists-same, lists-then}
 use Rattle.sc_expand.proofs.SeenLemmas.{Grows-refl, Grows-trans, seen_hidden-Grows, token-Grows}
 use Rattle.sc_expand.proofs.StopsLemmas.{stops-earlier}
 use Rattle.sc_expand.proofs.TakingParts.{none-taken, part-taken, seen_by}
 use Rattle.sc_expand.proofs.TakingSteps.{none-before}
 use Rattle.sc_expand.specs.Seen.{Grows, stores}
-use Rattle.sc_expand.specs.Taking.{IsBegun, IsFunction, TakesPart, step_at}
+use Rattle.sc_expand.specs.Taking.{AreTaken, IsBegun, IsFunction, TakesPart, step_at}
 use Rattle.sc_guarded.specs.Items.{items_at}
 use Rattle.sc_macro.specs.Seen.{IsHeldDefinition}
 use Rattle.sc_model.proofs.SetLemmas.{IsConfig-kept, Keeps-trans}
@@ -36,7 +37,7 @@ take_part-requires-clause-begun g c = λ x listed has.
     (subst (λ u. IsBegun u (step_at (stores s c.args.names.now c.args.self.now.sets) c.args.self.now c.args.taken.now x)) (sym (seen_hidden-Grows was.grows c.args.head c.requires.head)) (c.requires.begun x first none.1))
 
 pub take_part-requires-clause-first : goal.take_part-requires-clause-first
-take_part-requires-clause-first g c = ap (λ l. slice_get l 0) c.loop-part.invariant.items ∙ c.requires.first
+take_part-requires-clause-first g c = ap (λ l. slice_get l 0) c.loop-part.invariant.lists.tokens ∙ c.requires.first
 
 pub take_part-requires-clause-head : goal.take_part-requires-clause-head
 take_part-requires-clause-head g c = token-Grows c.loop-part.invariant.grows c.args.head c.requires.head
@@ -52,9 +53,7 @@ loop-part-preserved g c =
       grows = Grows-trans was.grows step;
       held = ensures.held;
       taken = ensures.taken;
-      below = ensures.below ∙ was.below;
-      out = ensures.out ∙ was.out;
-      items = ensures.items ∙ was.items;
+      lists = lists-then was.lists ensures.lists;
       undefined = λ none.
           let so_far = was.undefined none in
           let here = ensures.undefined (ap (λ p. p.1) c.part-item.is ∙ none c.loop-part.part-index c.part-item.result c.loop-part-test.true) in
@@ -63,17 +62,8 @@ loop-part-preserved g c =
           (length c.args.files.now) c.loop-part-test.true c.part-item.is was.grows c.requires.head
           (subst (λ p. IsCond s0 p.0.0) (sym c.part-item.is) (c.requires.own c.loop-part.part-index c.part-item.result c.loop-part-test.true))
           (subst (λ p. IfSome p.1 (λ shared. IsHeldDefinition c.args.names.now shared.value)) (sym c.part-item.is) (c.requires.definitions c.loop-part.part-index c.part-item.result c.loop-part-test.true))
-          c.requires.one was.done ensures.comes ensures.others c.requires.held.top.work was.items ensures.others_each ensures.alike ensures.rest;
+          c.requires.one was.done ensures.comes ensures.others c.requires.held.top.work was.lists.tokens ensures.others_each ensures.alike ensures.rest;
     }
-
-pub returns-clause-items : goal.returns-clause-items
-returns-clause-items g c = c.loop-part.invariant.items
-
-pub returns-clause-comes : goal.returns-clause-comes
-returns-clause-comes g c = λ x macros rest listed work found.
-    let all : take c.loop-part.part-index c.args.parts.now ≡ c.args.parts.now = take_all c.loop-part.part-index c.args.parts.now c.loop-part-test.false in
-    c.loop-part.invariant.done.comes x macros rest listed work
-    (ap (λ l. map (seen_by c.args.names.now) (items_at (g.C.Conditions.sets c.args.conds.now) l x)) all ∙ found)
 
 pub take_part-requires-clause-definition : goal.take_part-requires-clause-definition
 take_part-requires-clause-definition g c =
@@ -84,12 +74,6 @@ take_part-requires-clause-definition g c =
 pub returns-in_err-take_part-clause-keeps : goal.returns-in_err-take_part-clause-keeps
 returns-in_err-take_part-clause-keeps g c = Keeps-trans c.loop-part.invariant.grows.sets c.take_part.ensures.keeps
 
-pub returns-clause-alike : goal.returns-clause-alike
-returns-clause-alike g c = λ x y span p q alike called taken start.
-    let s = g.C.Conditions.sets c.args.conds.now in
-    let all : take c.loop-part.part-index c.args.parts.now ≡ c.args.parts.now = take_all c.loop-part.part-index c.args.parts.now c.loop-part-test.false in
-    c.loop-part.invariant.done.alike x y span p q (subst (AreAlike s x y) (sym all) alike) (λ takes. called (subst (λ l. TakesPart s c.args.names.now l x) all takes)) taken start
-
 pub loop-part-init : goal.loop-part-init
 loop-part-init g c =
     let st = stores (g.C.Conditions.sets c.args.conds.now) c.args.names.now c.args.self.now.sets in
@@ -97,15 +81,10 @@ loop-part-init g c =
       grows = Grows-refl st;
       held = c.requires.held;
       taken = c.requires.taken;
-      below = refl;
-      out = refl;
-      items = refl;
+      lists = lists-same c.args.self.now;
       undefined = λ none. (refl, refl);
       done = none-taken c.args.files.now st c.args.self.now c.args.taken.now c.args.head;
     }
-
-pub returns-clause-rest : goal.returns-clause-rest
-returns-clause-rest g c = c.loop-part.invariant.done.rest
 
 pub returns-in_err-take_part-clause-stops : goal.returns-in_err-take_part-clause-stops
 returns-in_err-take_part-clause-stops g c =
@@ -120,7 +99,7 @@ returns-in_err-take_part-clause-stops g c =
     let definition = subst (λ p. IfSome p.1 (λ shared. IsHeldDefinition c.args.names.now shared.value)) (sym c.part-item.is) (c.requires.definitions c.loop-part.part-index part within) in
     let One : List ℕ → Type 0 = λ x. (mid.has part.0.0 x ≡ true) × IsFunction c.loop-part.names part.1 in
     let All : List ℕ → Type 0 = λ x. TakesPart s c.args.names.now parts x in
-    rw (p.1, p.2) (stops-earlier One All c.args.self.now.top.work c.loop-part.self.top.work c.args.limit _ was.grows c.requires.held.top.work was.items
+    rw (p.1, p.2) (stops-earlier One All c.args.self.now.top.work c.loop-part.self.top.work c.args.limit _ was.grows c.requires.held.top.work was.lists.tokens
     (λ x listed takes.
     let first = IsConfig-kept was.grows.sets listed in
     let here : s.has part.0.0 x ≡ true = sym (was.grows.sets.at part.0.0 x own first) ∙ takes.0 in
@@ -133,3 +112,9 @@ returns-in_err-take_part-clause-stops g c =
       },
       was.done.others_each x first none.0,
     )) c.in_err-take_part.ensures.stops)
+
+pub returns-clause-done : goal.returns-clause-done
+returns-clause-done g c =
+    let old = stores (g.C.Conditions.sets c.args.conds.now) c.args.names.now c.args.self.now.sets in
+    let st = stores (g.C.Conditions.sets c.loop-part.conds) c.loop-part.names c.loop-part.self.sets in
+    subst (AreTaken c.args.files.now old st c.args.self.now c.loop-part.self c.args.taken.now c.loop-part.taken c.args.head) (take_all c.loop-part.part-index c.args.parts.now c.loop-part-test.false) c.loop-part.invariant.done

@@ -1,11 +1,10 @@
-use Rattle.std.proofs.Common.{◌≡◌, All, Global, None, Option, length, map, take}
+use Rattle.std.proofs.Common.{◌≡◌, All, Global, None, Option, length, take}
 use Rattle.std.specs.declared.rc.Rc.{Rc}
 use Rattle.sc_base.specs.declared.id.Cond.{Cond}
-use Rattle.sc_expand.specs.Machine.{IsHeldExpansion}
+use Rattle.sc_expand.specs.Machine.{IsHeldExpansion, KeepsLists}
 use Rattle.sc_expand.specs.Seen.{Grows, stores}
 use Rattle.sc_expand.specs.Taking.{AreTaken, IsHeldTaken}
 use Rattle.sc_macro.specs.declared.definition.Definition.{Definition}
-use Rattle.sc_subst.specs.declared.hidden.Hidden.{Hidden}
 use Rattle.sc_expand.proofs.expansion.Expansion.take_parts.Given as goal
 
 abbrev pub invariant-loop-part : goal.invariant-loop-part
@@ -16,9 +15,7 @@ invariant-loop-part g l =
       grows : Grows old now;
       held : IsHeldExpansion now (length l.files) l.self;
       taken : IsHeldTaken now (length l.files) l.taken;
-      below : l.self.below ≡ l.fn.self.below;
-      out : l.self.top.out ≡ l.fn.self.top.out;
-      items : map (λ (item : Cond × Hidden). item.1) l.self.top.work ≡ map (λ (item : Cond × Hidden). item.1) l.fn.self.top.work;
+      lists : KeepsLists l.fn.self l.self;
       undefined : All (λ (part : Cond × Option (Rc Definition Global)). part.1 ≡ None) l.parts → (l.self ≡ l.fn.self) × (l.taken.made ≡ l.fn.taken.made);
       done : AreTaken l.files old now l.fn.self l.self l.fn.taken l.taken l.head (take l.part-index l.parts);
     }

@@ -1,6 +1,7 @@
 use Rattle.std.proofs.Common.{◌≡◌, ◌∙◌, ℕ, true, List, refl, sym}
 use Rattle.c11_macros.specs.Expansion.{is_looked_up}
 use Rattle.sc_expand.proofs.BeginningLemmas.{map_ok}
+use Rattle.sc_expand.proofs.KeepingLists.{lists-same}
 use Rattle.sc_expand.proofs.StopsLemmas.{stops-weaker}
 use Rattle.sc_expand.proofs.TakenLemmas.{taken-each}
 use Rattle.sc_expand.specs.Alike.{IsFunctionLike}
@@ -30,3 +31,6 @@ returns-then-is_looked_up-clause-stops g c = if_err _ _ c.take_name.result
 
 pub returns-clause-rest : goal.returns-clause-rest
 returns-clause-rest g c = λ x listed. taken-each refl
+
+pub returns-clause-lists : goal.returns-clause-lists
+returns-clause-lists g c = lists-same c.args.self.now

@@ -1,0 +1,10 @@
+-- Steps that keep the lists below, what was put out and the tokens of the list on top.
+use Rattle.std.proofs.Common.{refl, ◌∙◌}
+use Rattle.sc_expand.specs.declared.expansion.Expansion.{Expansion}
+use Rattle.sc_expand.specs.Machine.{KeepsLists}
+
+pub lists-same : (e : Expansion) → KeepsLists e e
+lists-same e = record { below = refl; out = refl; tokens = refl }
+
+pub lists-then : {was mid now : Expansion} → KeepsLists was mid → KeepsLists mid now → KeepsLists was now
+lists-then one two = record { below = two.below ∙ one.below; out = two.out ∙ one.out; tokens = two.tokens ∙ one.tokens }
