@@ -1,13 +1,17 @@
--- The tokens at the places of a branch, and what a line with them comes to.
+-- Tokens at places, and what a line with them comes to.
 use Rattle.std.proofs.Common.{◌≡◌, ℕ, suc, ◌+◌, ◌∷◌, ◌++◌, ◌&&◌, ◌||◌, not, Bool, true, false, List, [], All, map, slice_get, Option, Some, None, Result, Ok, Err, codes, refl, sym, ap, subst, ◌∙◌, arith, if◌then◌else◌}
 use Rattle.std.proofs.lemmas.List.Elements.{All-cons, All-nil}
 use Rattle.std.proofs.lemmas.Option.{get_or_from_slice_get, slice_get_within}
 use Rattle.std.specs.List.{list_any}
+use Rattle.c11_expressions.proofs.Evaluating.{evaluates_err, evaluates_ok}
+use Rattle.c11_expressions.proofs.Reader.{reading_tokens, result_of_operand, run_tokens, wanting}
 use Rattle.c11_expressions.specs.Arithmetic.{Typed, is_zero}
 use Rattle.c11_expressions.specs.Evaluates.{Evaluates, Spelled}
 use Rattle.c11_expressions.specs.Lines as lines
 use Rattle.c11_expressions.specs.Lines.{Comes, evaluated, is_defined, left_over}
+use Rattle.c11_expressions.specs.Waiting.{Operand}
 use Rattle.c11_macros.specs.Hidden.{Failure, Hidden}
+use Rattle.c11_macros.specs.Results.{result_map}
 use Rattle.c11_macros.specs.Text.{token_of, unhidden}
 use Rattle.c11_tokens.specs.Lex.{is_identifier_kind}
 use Rattle.sc_base.specs.declared.id.Cond.{Cond}
@@ -15,10 +19,11 @@ use Rattle.sc_base.specs.declared.token.Token.{Token}
 use Rattle.sc_guarded.specs.Items.{items_at}
 use Rattle.sc_hoist.specs.Places.{places_from}
 use Rattle.sc_if.specs.Decided.{IsAnswer, is_left_over, line_of, picked, tokens_at}
+use Rattle.sc_if.specs.Readings.{answer_of, verdict_on}
 use Rattle.sc_if.specs.Symbols.{spelled}
 use Rattle.sc_model.specs.Bytes.{same_bytes}
 use Rattle.sc_model.specs.declared.cause.Cause.{Cause}
-use Rattle.sc_model.specs.declared.cause.Cause.TheVariants.{DefinedFromMacro}
+use Rattle.sc_model.specs.declared.cause.Cause.TheVariants.{BadIf, DefinedFromMacro}
 use Rattle.sc_model.specs.Sets.{Sets}
 use Rattle.sc_model.specs.Token.{Place}
 
@@ -89,6 +94,18 @@ module _ (names : List (List ℕ)) (ts : List Token) where
   answer-cause cause is value = record {
     comes = λ files hash. evaluated (line_of names files ts) (Err cause) (left_over-line names files ts ∙ is) (subst (λ l. Evaluates l (Err cause)) (spelled-line names files ts) value);
   }
+
+-- and so what was read of it says
+answer-verdict : (names : List (List ℕ)) (ts : List Token) (o : Option Operand) → list_any (is_left_over names) ts ≡ false → reading_tokens (map (spelled names) ts) ≡ o → IsAnswer names ts (verdict_on o)
+answer-verdict names ts None is read = answer-cause names ts BadIf is (evaluates_err (map (spelled names) ts) read)
+answer-verdict names ts (Some x) is read = by (result_of_operand x) (evaluates_ok (map (spelled names) ts) x read)
+  where
+    by : (r : Result Typed Cause) → Evaluates (map (spelled names) ts) r → IsAnswer names ts (result_map (λ v. not (is_zero v.number)) r)
+    by (Ok v) value = answer-value names ts v is value
+    by (Err cause) value = answer-cause names ts cause is value
+
+pub answer-read : (names : List (List ℕ)) (ts : List Token) → list_any (is_left_over names) ts ≡ false → IsAnswer names ts (answer_of (run_tokens (wanting []) (map (spelled names) ts)))
+answer-read names ts is = answer-verdict names ts (reading_tokens (map (spelled names) ts)) is refl
 
 -- ---- only kinds and spellings tell
 

@@ -2,9 +2,13 @@ pub mod AnswerLemmas
 pub mod DecidedLemmas
 pub mod Division
 pub mod EnteringLemmas
+pub mod LineAnswers
 pub mod LineLemmas
 pub mod Numbers
 pub mod Refusals
+pub mod PutLemmas
+pub mod ReadingLemmas
+pub mod SameReadings
 pub mod Stacks
 pub mod Pieces
 pub mod Replacements

@@ -1,5 +1,5 @@
 -- Which configurations take the group of an #if or #elif, seen at one.
-use Rattle.std.specs.Prelude.{◌≡◌, ℕ, ◌≤◌, ◌&&◌, ◌||◌, Bool, true, false, List, [], ◌∷◌, ◌++◌, All, Contains, codes, length, map, slice_get, Option, Some, None, Result, Ok, Err, if◌then◌else◌}
+use Rattle.std.specs.Prelude.{◌≡◌, ℕ, ◌&&◌, ◌||◌, Bool, true, false, List, [], ◌∷◌, ◌++◌, All, codes, map, slice_get, Option, Some, None, Result, Ok, Err, if◌then◌else◌}
 use Rattle.c11_expressions.specs.Lines.{Comes, failure}
 use Rattle.c11_macros.specs.Hidden.{Failure, Hidden}
 use Rattle.c11_macros.specs.Text.{fault_of, unhidden}
@@ -10,9 +10,7 @@ use Rattle.sc_base.specs.declared.place.Place as declared_place
 use Rattle.sc_base.specs.declared.token.Token.{Token}
 use Rattle.sc_base.specs.Seen.{seen, seen_place, text_at}
 use Rattle.sc_guarded.specs.Items.{faults_at, items_at, seen_fault}
-use Rattle.sc_hoist.specs.Alike.{AreAlikeFaults, IsAlike}
-use Rattle.sc_hoist.specs.Branches.{lists_at}
-use Rattle.sc_hoist.specs.declared.branch.Branch.{Branch}
+use Rattle.sc_hoist.specs.Alike.{AreAlike, AreAlikeFaults, IsAlike}
 use Rattle.sc_if.specs.declared.deciding.Decided.{Decided}
 use Rattle.sc_model.specs.Bytes.{same_bytes}
 use Rattle.sc_model.specs.declared.cause.Cause.{Cause}
@@ -38,18 +36,12 @@ pub record IsDecided (old new : Sets) (names files : List (List ℕ)) (list : Li
   pub comes : Comes (seen_place files hash) (Ok (line_of names files (items_at old list c))) answer
   pub stands : Stands answer (new.has d.taken.0 c) (map (seen_fault files) (faults_at new d.faults.items c))
 
--- the configurations of the condition have no more different lists than the limit
-pub record HasFewLists (s : Sets) (cond : ℕ) (list : List ℕ → List ℕ) (limit : ℕ) : Type 0 where
-  pub lists : List (List ℕ)
-  pub few : length lists ≤ limit
-  pub each : (c : List ℕ) → IsConfig s.arities c → s.has cond c ≡ true → Contains lists (list c)
-
 -- both configurations take the group or neither does, and both have each fault or neither
 pub record AreDecidedAlike (s : Sets) (a b : List ℕ) (d : Decided) : Type 0 where
   pub taken : IsAlike s a b d.taken
   pub faults : AreAlikeFaults s a b d.faults.items
 
--- ---- the tokens of one branch
+-- ---- tokens at indexes
 
 abbrev pub picked : Option (Cond × Token) → List Token → List Token
 picked None ts = ts
@@ -59,6 +51,8 @@ picked (Some item) ts = item.1 ∷ ts
 abbrev pub tokens_at : List (Cond × Token) → List ℕ → List Token
 tokens_at list [] = []
 tokens_at list (place ∷ places) = picked (slice_get list place) (tokens_at list places)
+
+-- ---- what a line with these tokens comes to
 
 -- a `defined` that was not replaced
 abbrev pub is_left_over : List (List ℕ) → Token → Bool
@@ -73,7 +67,19 @@ at_hash hash (Err cause) = Err (failure cause hash)
 pub record IsAnswer (names : List (List ℕ)) (ts : List Token) (answer : Result Bool Cause) : Type 0 where
   pub comes : (files : List (List ℕ)) (hash : Place) → Comes hash (Ok (line_of names files ts)) (at_hash hash answer)
 
--- ---- branch by branch
+-- each configuration of the condition has one answer, that to its tokens, and the others none
+pub record IsAnswered (names : List (List ℕ)) (ts : List Token) (given : List (Result Bool Cause)) : Type 0 where
+  pub answer : Result Bool Cause
+  pub answers : IsAnswer names ts answer
+  pub is : given ≡ answer ∷ []
+
+pub record AreAnswers (old new : Sets) (names : List (List ℕ)) (list : List (Cond × Token)) (live : ℕ) (answers : List (Cond × Result Bool Cause)) : Type 0 where
+  pub own : All (λ answer. IsCond new answer.0.0) answers
+  pub each : (c : List ℕ) → IsConfig old.arities c → old.has live c ≡ true → IsAnswered names (items_at old list c) (items_at new answers c)
+  pub others : (c : List ℕ) → IsConfig old.arities c → old.has live c ≡ false → items_at new answers c ≡ []
+  pub alike : (a b : List ℕ) → IsConfig old.arities a → IsConfig old.arities b → old.has live a ≡ old.has live b → AreAlike old a b list → AreAlike new a b answers
+
+-- ---- answer by answer
 
 abbrev pub takes : Result Bool Cause → Bool
 takes (Ok is_taken) = is_taken
@@ -100,26 +106,13 @@ pub record IsEntered (old new : Sets) (hash : declared_place.Place) (cond : Cond
   pub alike : (a b : List ℕ) → IsConfig old.arities a → IsConfig old.arities b → All (λ f. IsCond old f.cond.0) d.faults.items → IsAlike old a b cond
       → AreDecidedAlike old a b d → AreDecidedAlike new a b e
 
--- those of a branch have what its tokens come to
-pub record IsAdded (old new : Sets) (names : List (List ℕ)) (list : List (Cond × Token)) (hash : declared_place.Place) (branch : Branch) (d e : Decided) : Type 0 where
-  pub answer : Result Bool Cause
-  pub answers : IsAnswer names (tokens_at list branch.places.items) answer
-  pub entered : IsEntered old new hash branch.cond answer d e
-
--- at a configuration with these places the answer to its tokens stands
-pub record IsPlaced (names : List (List ℕ)) (list : List (Cond × Token)) (hash : declared_place.Place) (places : List ℕ) (is_taken : Bool) (refusals : List (Failure declared_place.Place)) : Type 0 where
-  pub answer : Result Bool Cause
-  pub answers : IsAnswer names (tokens_at list places) answer
-  pub taken : is_taken ≡ takes answer
-  pub failures : refusals ≡ failures_of hash answer
-
--- the configurations of the branches have the answers to their tokens, and the others none
-pub record AreDecided (old new : Sets) (names : List (List ℕ)) (list : List (Cond × Token)) (hash : declared_place.Place) (branches : List Branch) (d : Decided) : Type 0 where
+-- the configurations have the answers that the list says, and the others none
+pub record AreDecided (old new : Sets) (hash : declared_place.Place) (answers : List (Cond × Result Bool Cause)) (d : Decided) : Type 0 where
   pub own : IsCond new d.taken.0
   pub faults_own : All (λ f. IsCond new f.cond.0) d.faults.items
   pub places : All (λ f. f.place ≡ hash) d.faults.items
-  pub each : (c places : List ℕ) → IsConfig old.arities c → lists_at old branches c ≡ places ∷ []
-      → IsPlaced names list hash places (new.has d.taken.0 c) (failures_at new d.faults.items c)
-  pub others : (c : List ℕ) → IsConfig old.arities c → lists_at old branches c ≡ []
+  pub each : (c : List ℕ) (answer : Result Bool Cause) → IsConfig old.arities c → items_at old answers c ≡ answer ∷ []
+      → (new.has d.taken.0 c ≡ takes answer) × (failures_at new d.faults.items c ≡ failures_of hash answer)
+  pub others : (c : List ℕ) → IsConfig old.arities c → items_at old answers c ≡ []
       → (new.has d.taken.0 c ≡ false) × (failures_at new d.faults.items c ≡ [])
-  pub alike : (a b : List ℕ) → IsConfig old.arities a → IsConfig old.arities b → All (λ branch. IsAlike old a b branch.cond) branches → AreDecidedAlike new a b d
+  pub alike : (a b : List ℕ) → IsConfig old.arities a → IsConfig old.arities b → AreAlike old a b answers → AreDecidedAlike new a b d

@@ -2,6 +2,7 @@
 //! comes to, and which configurations take the group.
 #![tactic(auto)]
 
+mod answers;
 mod character;
 mod deciding;
 mod expression;
@@ -11,6 +12,8 @@ mod operand;
 mod pair;
 mod piece;
 mod reader;
+mod reading;
+mod readings;
 mod replacing;
 mod stop;
 mod symbol;

@@ -1,0 +1,327 @@
+-- Readings by condition: what adding some, joining some and parting some leaves.
+use Rattle.std.proofs.Common.{◌≡◌, ℕ, zero, suc, ◌<◌, ◌&&◌, ◌||◌, not, Bool, true, false, List, [], ◌∷◌, ◌++◌, All, length, map, set, get_or, Option, None, Result, Ok, Err, OnOk, refl, sym, ap, ◌∙◌, arith, inl, inr, append-nil, append_assoc, if◌then◌else◌}
+use Rattle.std.proofs.lemmas.Bool.{cases_eq}
+use Rattle.std.proofs.lemmas.List.{get_or-set_other, get_or-set_same, length-set, map-append}
+use Rattle.std.proofs.lemmas.List.Elements.{All-append, All-cons, All-head, All-nil, All-push, All-set, All-tail}
+use Rattle.std.proofs.lemmas.List.Quantifiers.{all_pairs_push}
+use Rattle.c11_expressions.proofs.Reader.{State}
+use Rattle.c11_expressions.specs.Grammar as grammar
+use Rattle.sc_base.specs.declared.id.Cond.{Cond}
+use Rattle.sc_guarded.proofs.ItemLemmas.{items_at-Keeps, items_at-append, map-one}
+use Rattle.sc_guarded.specs.Items.{items_at}
+use Rattle.sc_hoist.specs.Alike.{AreAlike, IsAlike}
+use Rattle.sc_if.specs.declared.reading.Reading.{Reading}
+use Rattle.sc_if.specs.declared.readings.Readings.{Readings}
+use Rattle.sc_if.specs.Readings.{AreApart, ArePartedBy, IsPut, all_of, moved, readings_at, seen_reading}
+use Rattle.sc_model.proofs.SetLemmas.{IsConfig-Keeps}
+use Rattle.sc_model.specs.Sets.{Sets, IsCond, IsConfig, IsNever, Keeps}
+
+abbrev pub Entry : Type 0
+Entry = Cond × Option Reading
+
+-- ---- lists
+
+pub all-parts : {A : Type 0} (P : A → Type 0) (xs ys : List A) → All P (xs ++ ys) → All P xs × All P ys
+all-parts P [] ys h = (All-nil P, h)
+all-parts P (x ∷ xs) ys h =
+    let rest = all-parts P xs ys (All-tail P x (xs ++ ys) h) in
+    (All-cons P x xs (All-head P x (xs ++ ys) h) rest.0, rest.1)
+
+pub same-default : {A : Type 0} (xs : List A) (i : ℕ) (x d : A) → i < length xs → get_or xs i x ≡ get_or xs i d
+same-default [] i x d within = absurd (omega arith)
+same-default (y ∷ ys) zero x d within = refl
+same-default (y ∷ ys) (suc i) x d within = same-default ys i x d (omega arith)
+
+pub none-both : {A : Type 0} (xs ys : List A) → xs ++ ys ≡ [] → (xs ≡ []) × (ys ≡ [])
+none-both [] ys e = (refl, e)
+none-both (x ∷ xs) ys e = absurd (cc)
+
+-- ---- what is read at a configuration
+
+module _ (s : Sets) (c : List ℕ) where
+  pub readings_at-append : (xs ys : List Entry) → readings_at s (xs ++ ys) c ≡ readings_at s xs c ++ readings_at s ys c
+  readings_at-append xs ys = ap (map seen_reading) (items_at-append s xs ys c) ∙ map-append seen_reading (items_at s xs c) (items_at s ys c)
+
+  pub readings_at-one : (cond : Cond) (r : Option Reading) → readings_at s ((cond, r) ∷ []) c ≡ (if s.has cond.0 c then seen_reading r ∷ [] else [])
+  readings_at-one cond r = map-one seen_reading (s.has cond.0 c) r
+
+  pub readings_at-cons : (x : Entry) (xs : List Entry) → readings_at s (x ∷ xs) c ≡ (if s.has x.0.0 c then seen_reading x.1 ∷ readings_at s xs c else readings_at s xs c)
+  readings_at-cons x xs = by (s.has x.0.0 c)
+    where
+      by : (b : Bool) → map seen_reading (if b then x.1 ∷ items_at s xs c else items_at s xs c) ≡ (if b then seen_reading x.1 ∷ readings_at s xs c else readings_at s xs c)
+      by true = refl
+      by false = refl
+
+module _ {old new : Sets} (keeps : Keeps old new) where
+  pub readings_at-Keeps : (xs : List Entry) (c : List ℕ) → All (λ (x : Entry). IsCond old x.0.0) xs → IsConfig old.arities c → readings_at new xs c ≡ readings_at old xs c
+  readings_at-Keeps xs c own listed = ap (map seen_reading) (items_at-Keeps xs c keeps own listed)
+
+  pub own-Keeps : {T : Type 0} (xs : List (Cond × T)) → All (λ (x : Cond × T). IsCond old x.0.0) xs → All (λ (x : Cond × T). IsCond new x.0.0) xs
+  own-Keeps xs own = λ k d h. keeps.own _ (own k d h)
+
+  pub alike-Keeps : {T : Type 0} (xs : List (Cond × T)) (a b : List ℕ) → All (λ (x : Cond × T). IsCond old x.0.0) xs → IsConfig old.arities a → IsConfig old.arities b → AreAlike old a b xs → AreAlike new a b xs
+  alike-Keeps xs a b own la lb were = λ k d h. keeps.at _ a (own k d h) la ∙ (were k d h ∙ sym (keeps.at _ b (own k d h) lb))
+
+  pub apart-Keeps : (xs : List Entry) → All (λ (x : Entry). IsCond old x.0.0) xs → AreApart old xs → AreApart new xs
+  apart-Keeps xs own were = record {
+    some = λ k d h never. were.some k d h (record { none = λ c listed. sym (keeps.at _ c (own k d h) listed) ∙ never.none c (IsConfig-Keeps keeps listed) });
+    apart = were.apart;
+  }
+
+-- ---- one reading more
+
+pub put-pushed : (s : Sets) (xs : List Entry) (cond : Cond) (r : Option Reading) → All (λ (x : Entry). IsCond s x.0.0) xs → IsCond s cond.0 → IsPut s s cond.0 (seen_reading r) xs (xs ++ (cond, r) ∷ [])
+put-pushed s xs cond r own cond_own = record {
+  own = All-push (λ (x : Entry). IsCond s x.0.0) xs (cond, r) own cond_own;
+  at = λ c listed none. readings_at-append s c xs ((cond, r) ∷ []) ∙ ap (λ l. readings_at s xs c ++ l) (readings_at-one s c cond r);
+  alike = λ a b la lb same were. All-push (λ (x : Entry). IsAlike s a b x.0) xs (cond, r) were same;
+}
+
+pub apart-pushed : (s : Sets) (xs : List Entry) (cond : Cond) (r : Option Reading) → (IsNever s cond.0 → ⊥) → All (λ (x : Entry). seen_reading x.1 ≡ seen_reading r → ⊥) xs → AreApart s xs → AreApart s (xs ++ (cond, r) ∷ [])
+apart-pushed s xs cond r some other were = record {
+  some = All-push (λ (x : Entry). IsNever s x.0.0 → ⊥) xs (cond, r) were.some some;
+  apart = all_pairs_push (λ (a b : Entry). seen_reading a.1 ≡ seen_reading b.1 → ⊥) xs (cond, r) were.apart other;
+}
+
+-- ---- configurations joined to those at an index
+
+join-here : (h m : Bool) (R : List (Option State)) (x : Option State) → (m ≡ true → (if h then x ∷ R else R) ≡ []) → (if h || m then x ∷ R else R) ≡ (if h then x ∷ R else R) ++ (if m then x ∷ [] else [])
+join-here true true R x none = absurd (let e = none refl in cc)
+join-here false true R x none = let e : R ≡ [] = none refl in ap (λ l. x ∷ l) e ∙ ap (λ l. l ++ x ∷ []) (sym e)
+join-here true false R x none = sym (append-nil (x ∷ R))
+join-here false false R x none = sym (append-nil R)
+
+join-later : (h m : Bool) (R S : List (Option State)) (x y : Option State) → (m ≡ true → (if h then y ∷ R else R) ≡ []) → ((m ≡ true → R ≡ []) → S ≡ R ++ (if m then x ∷ [] else []))
+    → (if h then y ∷ S else S) ≡ (if h then y ∷ R else R) ++ (if m then x ∷ [] else [])
+join-later true true R S x y none rest = absurd (let e = none refl in cc)
+join-later true false R S x y none rest = ap (λ l. y ∷ l) (rest (λ e. absurd (cc)))
+join-later false m R S x y none rest = rest none
+
+readings_at-joined : (s : Sets) (c : List ℕ) (xs : List Entry) (i : ℕ) (e x : Entry) (m : Bool) → i < length xs → e.1 ≡ (get_or xs i x).1 → s.has e.0.0 c ≡ (s.has (get_or xs i x).0.0 c || m)
+    → (m ≡ true → readings_at s xs c ≡ []) → readings_at s (set xs i e) c ≡ readings_at s xs c ++ (if m then seen_reading e.1 ∷ [] else [])
+readings_at-joined s c [] i e x m within same joined none = absurd (omega arith)
+readings_at-joined s c (y ∷ ys) zero e x m within same joined none =
+    let R = readings_at s ys c in
+    let v = seen_reading e.1 in
+    let first : readings_at s (y ∷ ys) c ≡ (if s.has y.0.0 c then v ∷ R else R) = readings_at-cons s c y ys ∙ ap (λ r. if s.has y.0.0 c then seen_reading r ∷ R else R) (sym same) in
+    readings_at-cons s c e ys ∙ (ap (λ b. if b then v ∷ R else R) joined
+    ∙ (join-here (s.has y.0.0 c) m R v (λ t. sym first ∙ none t) ∙ ap (λ l. l ++ (if m then v ∷ [] else [])) (sym first)))
+readings_at-joined s c (y ∷ ys) (suc i) e x m within same joined none =
+    let R = readings_at s ys c in
+    let first = readings_at-cons s c y ys in
+    readings_at-cons s c y (set ys i e) ∙ (join-later (s.has y.0.0 c) m R (readings_at s (set ys i e) c) (seen_reading e.1) (seen_reading y.1) (λ t. sym first ∙ none t)
+    (λ empty. readings_at-joined s c ys i e x m (omega arith) same joined empty)
+    ∙ ap (λ l. l ++ (if m then seen_reading e.1 ∷ [] else [])) (sym first))
+
+-- the union of the conditions, at a configuration
+abbrev IsEither : Sets → Sets → (a b e : ℕ) → Type 0
+IsEither old new a b e = (c : List ℕ) → IsConfig old.arities c → new.has e c ≡ (old.has a c || old.has b c)
+
+module _ {old new : Sets} (keeps : Keeps old new) (xs : List Entry) (i : ℕ) (e x : Entry) (cond : Cond) (within : i < length xs) (own : All (λ (x : Entry). IsCond old x.0.0) xs)
+    (same : e.1 ≡ (get_or xs i x).1) (made : IsCond new e.0.0) (either : IsEither old new (get_or xs i x).0.0 cond.0 e.0.0) where
+  pub put-joined : IsPut old new cond.0 (seen_reading (get_or xs i x).1) xs (set xs i e)
+  put-joined = record {
+    own = All-set (λ (x : Entry). IsCond new x.0.0) xs i e made (own-Keeps keeps xs own);
+    at = λ c listed none.
+        let was = readings_at-Keeps keeps xs c own listed in
+        let here : new.has e.0.0 c ≡ (new.has (get_or xs i x).0.0 c || old.has cond.0 c) = either c listed ∙ ap (λ b. b || old.has cond.0 c) (sym (keeps.at _ c (own i x within) listed)) in
+        readings_at-joined new c xs i e x (old.has cond.0 c) within same here (λ t. was ∙ none t)
+        ∙ (ap (λ l. l ++ (if old.has cond.0 c then seen_reading e.1 ∷ [] else [])) was ∙ ap (λ r. readings_at old xs c ++ (if old.has cond.0 c then seen_reading r ∷ [] else [])) same);
+    alike = λ a b la lb equal were.
+        All-set (λ (x : Entry). IsAlike new a b x.0) xs i e
+        (either a la ∙ (ap (λ t. t || old.has cond.0 a) (were i x within) ∙ (ap (λ t. old.has (get_or xs i x).0.0 b || t) equal ∙ sym (either b lb))))
+        (alike-Keeps keeps xs a b own la lb were);
+  }
+
+  seen-same : (j : ℕ) (d : Entry) → j < length xs → seen_reading (get_or (set xs i e) j d).1 ≡ seen_reading (get_or xs j d).1
+  seen-same j d below = elim (cases_eq j i) [
+    | inl equal ↦ rw equal (ap (λ (r : Entry). seen_reading r.1) (get_or-set_same xs i e d within) ∙ (ap seen_reading same ∙ ap (λ (r : Entry). seen_reading r.1) (same-default xs i x d within)))
+    | inr other ↦ ap (λ (r : Entry). seen_reading r.1) (get_or-set_other xs i j e d other)
+  ]
+
+  pub apart-joined : AreApart old xs → AreApart new (set xs i e)
+  apart-joined were =
+      let now = apart-Keeps keeps xs own were in
+      let long = length-set xs i e in
+      record {
+        some = All-set (λ (x : Entry). IsNever new x.0.0 → ⊥) xs i e
+            (λ never. were.some i x within (record { none = λ c listed. left-false _ _ (sym (either c listed) ∙ never.none c (IsConfig-Keeps keeps listed)) })) now.some;
+        apart = λ j k d order below equal.
+            let in_k : k < length xs = omega (arith, long, below) in
+            were.apart j k d order in_k (sym (seen-same j d (omega (arith, in_k, order))) ∙ (equal ∙ seen-same k d in_k));
+      }
+    where
+      left-false : (a b : Bool) → (a || b) ≡ false → a ≡ false
+      left-false true b e = e
+      left-false false b e = refl
+
+-- ---- one of two lists
+
+swap : (h : Bool) (w m : List (Option State)) (x : Option State) → (h ≡ true → w ++ m ≡ []) → (w ++ (if h then x ∷ [] else [])) ++ m ≡ (w ++ m) ++ (if h then x ∷ [] else [])
+swap true w m x none = let both = none-both w m (none refl) in ap (λ l. (w ++ x ∷ []) ++ l) both.1 ∙ (append-nil (w ++ x ∷ []) ∙ ap (λ l. l ++ x ∷ []) (sym (append-nil w) ∙ ap (λ l. w ++ l) (sym both.1)))
+swap false w m x none = ap (λ l. l ++ m) (append-nil w) ∙ sym (append-nil (w ++ m))
+
+module _ {old new : Sets} {cond : ℕ} {r : Option State} (keeps : Keeps old new) (xs after others : List Entry) (own : All (λ (x : Entry). IsCond old x.0.0) others) where
+  module _ (c : List ℕ) (listed : IsConfig old.arities c) where
+    pub at-front : IsPut old new cond r xs after → (old.has cond c ≡ true → readings_at old (xs ++ others) c ≡ []) → readings_at new (after ++ others) c ≡ readings_at old (xs ++ others) c ++ (if old.has cond c then r ∷ [] else [])
+    at-front put none =
+        let w = readings_at old xs c in
+        let m = readings_at old others c in
+        let split = readings_at-append old c xs others in
+        let empty : old.has cond c ≡ true → w ++ m ≡ [] = λ t. sym split ∙ none t in
+        readings_at-append new c after others
+        ∙ (ap (λ l. l ++ readings_at new others c) (put.at c listed (λ t. (none-both w m (empty t)).0))
+        ∙ (ap (λ l. (w ++ (if old.has cond c then r ∷ [] else [])) ++ l) (readings_at-Keeps keeps others c own listed)
+        ∙ (swap (old.has cond c) w m r empty ∙ ap (λ l. l ++ (if old.has cond c then r ∷ [] else [])) (sym split))))
+
+    pub at-back : IsPut old new cond r xs after → (old.has cond c ≡ true → readings_at old (others ++ xs) c ≡ []) → readings_at new (others ++ after) c ≡ readings_at old (others ++ xs) c ++ (if old.has cond c then r ∷ [] else [])
+    at-back put none =
+        let w = readings_at old others c in
+        let m = readings_at old xs c in
+        let split = readings_at-append old c others xs in
+        let empty : old.has cond c ≡ true → w ++ m ≡ [] = λ t. sym split ∙ none t in
+        readings_at-append new c others after
+        ∙ (ap (λ l. l ++ readings_at new after c) (readings_at-Keeps keeps others c own listed)
+        ∙ (ap (λ l. w ++ l) (put.at c listed (λ t. (none-both w m (empty t)).1))
+        ∙ (sym (append_assoc w m (if old.has cond c then r ∷ [] else [])) ∙ ap (λ l. l ++ (if old.has cond c then r ∷ [] else [])) (sym split))))
+
+  pub put-front : IsPut old new cond r xs after → IsPut old new cond r (xs ++ others) (after ++ others)
+  put-front put = record {
+    own = All-append (λ (x : Entry). IsCond new x.0.0) after others put.own (own-Keeps keeps others own);
+    at = λ c listed none. at-front c listed put none;
+    alike = λ a b la lb same were.
+        let both = all-parts (λ (x : Entry). IsAlike old a b x.0) xs others were in
+        All-append (λ (x : Entry). IsAlike new a b x.0) after others (put.alike a b la lb same both.0) (alike-Keeps keeps others a b own la lb both.1);
+  }
+
+  pub put-back : IsPut old new cond r xs after → IsPut old new cond r (others ++ xs) (others ++ after)
+  put-back put = record {
+    own = All-append (λ (x : Entry). IsCond new x.0.0) others after (own-Keeps keeps others own) put.own;
+    at = λ c listed none. at-back c listed put none;
+    alike = λ a b la lb same were.
+        let both = all-parts (λ (x : Entry). IsAlike old a b x.0) others xs were in
+        All-append (λ (x : Entry). IsAlike new a b x.0) others after (alike-Keeps keeps others a b own la lb both.0) (put.alike a b la lb same both.1);
+  }
+
+-- ---- configurations that are parted by an element
+
+both : (symbol : Option grammar.Symbol) (reading : Option State) (t i l h : Bool) (L : List (Option State)) → l ≡ (t && not i) → h ≡ (t && i)
+    → (L ++ (if l then reading ∷ [] else [])) ++ (if h then moved true symbol reading ∷ [] else []) ≡ L ++ (if t then moved i symbol reading ∷ [] else [])
+both symbol reading true true l h L is_l is_h = rw (is_l, is_h) (ap (λ z. z ++ moved true symbol reading ∷ []) (append-nil L))
+both symbol reading true false l h L is_l is_h = rw (is_l, is_h) (append-nil (L ++ reading ∷ []))
+both symbol reading false i l h L is_l is_h = rw (is_l, is_h) (ap (λ z. z ++ []) (append-nil L))
+
+lack-cond : (t i l : Bool) → l ≡ (t && not i) → l ≡ true → t ≡ true
+lack-cond true i l e is = refl
+lack-cond false i l e is = sym e ∙ is
+
+have-cond : (t i h : Bool) → h ≡ (t && i) → h ≡ true → (t ≡ true) × (i ≡ true)
+have-cond true true h e is = (refl, refl)
+have-cond true false h e is = absurd (cc)
+have-cond false i h e is = absurd (cc)
+
+no-lack : (t i l : Bool) → l ≡ (t && not i) → i ≡ true → l ≡ false
+no-lack true true l e is = e
+no-lack false i l e is = e
+no-lack true false l e is = absurd (cc)
+
+pub and-not : (a b : Bool) → (a && not (a && b)) ≡ (a && not b)
+and-not true b = refl
+and-not false b = refl
+
+module _ {old new : Sets} {item cond : ℕ} {symbol : Option grammar.Symbol} {reading : Option State} {before after : Readings} where
+  -- where all of them have it or none
+  pub parted-one : {r : Option State} → ((c : List ℕ) → IsConfig old.arities c → old.has cond c ≡ true → r ≡ moved (old.has item c) symbol reading) → (AreApart old before.moved.items → AreApart new after.moved.items)
+      → IsPut old new cond r (all_of before) (all_of after) → ArePartedBy old new item symbol cond reading before after
+  parted-one {r} same apart put = record {
+    own = put.own;
+    apart = apart;
+    at = λ c listed none. put.at c listed none ∙ ap (λ l. readings_at old (all_of before) c ++ l) (by c (old.has cond c) (same c listed));
+    alike = λ a b la lb item cond were. put.alike a b la lb cond were;
+  }
+    where
+      by : (c : List ℕ) (h : Bool) → (h ≡ true → r ≡ moved (old.has item c) symbol reading) → (if h then r ∷ [] else []) ≡ (if h then moved (old.has item c) symbol reading ∷ [] else [])
+      by c true is = ap (λ x. x ∷ []) (is refl)
+      by c false is = refl
+
+  module _ {mid : Sets} {between : List Entry} {lacking having : ℕ} (keeps : Keeps old mid)
+      (lack : (c : List ℕ) → IsConfig old.arities c → mid.has lacking c ≡ (old.has cond c && not (old.has item c)))
+      (have : (c : List ℕ) → IsConfig old.arities c → mid.has having c ≡ (old.has cond c && old.has item c))
+      (own : All (λ (x : Entry). IsCond old x.0.0) (all_of before)) (first : IsPut mid mid lacking reading (all_of before) between) (second : IsPut mid new having (moved true symbol reading) between (all_of after)) where
+    pub parted-two : (AreApart old before.moved.items → AreApart new after.moved.items) → ArePartedBy old new item symbol cond reading before after
+    parted-two apart = record {
+      own = second.own;
+      apart = apart;
+      at = λ c listed none.
+          let t = old.has cond c in
+          let i = old.has item c in
+          let here = IsConfig-Keeps keeps listed in
+          let was = readings_at-Keeps keeps (all_of before) c own listed in
+          let one = first.at c here (λ is. was ∙ none (lack-cond t i (mid.has lacking c) (lack c listed) is)) ∙ ap (λ l. l ++ (if mid.has lacking c then reading ∷ [] else [])) was in
+          let two = second.at c here (λ is.
+          let parts = have-cond t i (mid.has having c) (have c listed) is in
+          one ∙ (ap (λ b. readings_at old (all_of before) c ++ (if b then reading ∷ [] else [])) (no-lack t i (mid.has lacking c) (lack c listed) parts.1) ∙ ap (λ l. l ++ []) (none parts.0))) in
+          two ∙ (ap (λ l. l ++ (if mid.has having c then moved true symbol reading ∷ [] else [])) one ∙ both symbol reading t i (mid.has lacking c) (mid.has having c) (readings_at old (all_of before) c) (lack c listed) (have c listed));
+      alike = λ a b la lb same_item same_cond were.
+          let ha = IsConfig-Keeps keeps la in
+          let hb = IsConfig-Keeps keeps lb in
+          let lacks = lack a la ∙ ((λ j. same_cond j && not (same_item j)) ∙ sym (lack b lb)) in
+          let has = have a la ∙ ((λ j. same_cond j && same_item j) ∙ sym (have b lb)) in
+          second.alike a b ha hb has (first.alike a b ha hb lacks (alike-Keeps keeps (all_of before) a b own la lb were));
+    }
+
+pub no-readings : (r : Readings) → r.left.items ≡ [] → r.moved.items ≡ [] → all_of r ≡ []
+no-readings r left moved = ap (λ l. l ++ r.moved.items) left ∙ moved
+
+pub apart-nil : (s : Sets) → AreApart s []
+apart-nil s = record { some = All-nil (λ (x : Entry). IsNever s x.0.0 → ⊥); apart = λ i j d low high. absurd (omega arith) }
+
+-- the same, from an earlier state of the store
+pub put-before : {old mid new : Sets} {cond : ℕ} {r : Option State} {before after : List Entry} → Keeps old mid → All (λ (x : Entry). IsCond old x.0.0) before → IsCond old cond → IsPut mid new cond r before after → IsPut old new cond r before after
+put-before {old} {mid} {new} {cond} {r} {before} {after} keeps own cond_own put = record {
+  own = put.own;
+  at = λ c listed none.
+      let was = readings_at-Keeps keeps before c own listed in
+      let same = keeps.at cond c cond_own listed in
+      put.at c (IsConfig-Keeps keeps listed) (λ t. was ∙ none (sym same ∙ t)) ∙ (λ j. was j ++ (if same j then r ∷ [] else []));
+  alike = λ a b la lb equal were. put.alike a b (IsConfig-Keeps keeps la) (IsConfig-Keeps keeps lb) (keeps.at cond a cond_own la ∙ (equal ∙ sym (keeps.at cond b cond_own lb))) (alike-Keeps keeps before a b own la lb were);
+}
+
+pub moved-none : (h : Bool) (symbol : Option grammar.Symbol) → None ≡ moved h symbol None
+moved-none true symbol = refl
+moved-none false symbol = refl
+
+pub moved-all : (h : Bool) (symbol : Option grammar.Symbol) (o : Option State) → h ≡ true → moved true symbol o ≡ moved h symbol o
+moved-all h symbol o is = ap (λ b. moved b symbol o) (sym is)
+
+pub moved-no : (h : Bool) (symbol : Option grammar.Symbol) (o : Option State) → h ≡ false → o ≡ moved h symbol o
+moved-no h symbol o is = ap (λ b. moved b symbol o) (sym is)
+
+pub none-had : (t i : Bool) → t ≡ true → (t && i) ≡ false → i ≡ false
+none-had true i t e = e
+none-had false i t e = absurd (cc)
+
+pub all-had : (t i h : Bool) → h ≡ (t && i) → h ≡ t → t ≡ true → i ≡ true
+all-had true true h e f t = refl
+all-had true false h e f t = absurd (cc)
+all-had false i h e f t = absurd (cc)
+
+pub on_ok_both : {T E : Type 0} {P Q R : Type 0} (r : Result T E) → OnOk r P → OnOk r Q → (P → Q → R) → OnOk r R
+on_ok_both (Ok x) p q f = f p q
+on_ok_both (Err e) p q f = p
+
+-- the same, from an earlier state of the store
+pub parted-before : {old mid new : Sets} {item cond : ℕ} {symbol : Option grammar.Symbol} {reading : Option State} {before after : Readings} → Keeps old mid → All (λ (x : Entry). IsCond old x.0.0) (all_of before) → All (λ (x : Entry). IsCond old x.0.0) before.moved.items
+    → IsCond old cond → IsCond old item → ArePartedBy mid new item symbol cond reading before after → ArePartedBy old new item symbol cond reading before after
+parted-before {old} {mid} {new} {item} {cond} {symbol} {reading} {before} {after} keeps own moved_own cond_own item_own parted = record {
+  own = parted.own;
+  apart = λ were. parted.apart (apart-Keeps keeps before.moved.items moved_own were);
+  at = λ c listed none.
+      let was = readings_at-Keeps keeps (all_of before) c own listed in
+      let same = keeps.at cond c cond_own listed in
+      let item_same = keeps.at item c item_own listed in
+      parted.at c (IsConfig-Keeps keeps listed) (λ t. was ∙ none (sym same ∙ t)) ∙ (λ j. was j ++ (if same j then moved (item_same j) symbol reading ∷ [] else []));
+  alike = λ a b la lb equal_item equal were.
+      let kept = λ (k : ℕ) (made : IsCond old k) (e : old.has k a ≡ old.has k b). keeps.at k a made la ∙ (e ∙ sym (keeps.at k b made lb)) in
+      parted.alike a b (IsConfig-Keeps keeps la) (IsConfig-Keeps keeps lb) (kept item item_own equal_item) (kept cond cond_own equal) (alike-Keeps keeps (all_of before) a b own la lb were);
+}

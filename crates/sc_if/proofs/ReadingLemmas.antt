@@ -1,0 +1,224 @@
+-- A line that is read element by element.
+use Rattle.std.proofs.Common.{◌≡◌, ℕ, zero, suc, ◌+◌, ◌<◌, ◌≤◌, Bool, true, false, List, [], ◌∷◌, ◌++◌, All, length, map, take, get_or, Option, Some, None, refl, sym, ap, subst, ◌∙◌, arith, append-nil, append_assoc, if◌then◌else◌}
+use Rattle.std.proofs.lemmas.Bool.{true≢false}
+use Rattle.std.proofs.lemmas.List.{length-append, length-map, map-append, take_all, take_more}
+use Rattle.std.proofs.lemmas.List.Elements.{All-cons, All-head, All-nil, All-push, All-tail, All-take}
+use Rattle.std.specs.Option.{option_and_then}
+use Rattle.c11_expressions.proofs.Reader.{State, read_token, run_tokens, wanting}
+use Rattle.c11_expressions.specs.Evaluates.{Spelled}
+use Rattle.c11_expressions.specs.Grammar as grammar
+use Rattle.c11_expressions.specs.Symbols.{symbol_of}
+use Rattle.sc_base.specs.declared.id.Cond.{Cond}
+use Rattle.sc_base.specs.declared.token.Token.{Token}
+use Rattle.sc_base.specs.Seen.{text_at}
+use Rattle.sc_guarded.proofs.ItemLemmas.{items_at-take, map-one}
+use Rattle.sc_guarded.specs.Items.{items_at}
+use Rattle.sc_hoist.proofs.PartLemmas.{met}
+use Rattle.sc_hoist.proofs.PlaceLemmas.{same_places}
+use Rattle.sc_hoist.specs.Alike.{AreAlike, IsAlike}
+use Rattle.sc_hoist.specs.Branches.{HasLists}
+use Rattle.sc_hoist.specs.Places.{places_at}
+use Rattle.sc_if.proofs.PutLemmas.{Entry, all-parts, readings_at-append, readings_at-cons}
+use Rattle.sc_if.specs.declared.reading.Reading.{Reading}
+use Rattle.sc_if.specs.declared.readings.Readings.{Readings}
+use Rattle.sc_if.specs.Readings.{AreApart, AreMoved, AreReadings, all_of, moved, read_at, read_behind, readings_at, seen_reading}
+use Rattle.sc_if.specs.Symbols.{spelled}
+use Rattle.sc_model.proofs.SetLemmas.{IsConfig-Keeps, IsConfig-kept}
+use Rattle.sc_model.specs.Sets.{Sets, HasOptions, IsCond, IsConfig, IsNever, Keeps}
+
+-- ---- one that is moved more
+
+pub moved-more : (f : Option State → Option State) (s : Sets) (left rest : List Entry) (x : Entry) (found next answer : List (Option State)) (c : List ℕ) → left ≡ x ∷ rest → length answer ≤ 1
+    → found ++ map f (readings_at s left c) ≡ answer → ((s.has x.0.0 c ≡ true → found ≡ []) → next ≡ found ++ (if s.has x.0.0 c then f (seen_reading x.1) ∷ [] else []))
+    → next ++ map f (readings_at s rest c) ≡ answer
+moved-more f s left rest x found next answer c is few was made =
+    by (s.has x.0.0 c) (ap (λ l. found ++ map f l) (sym (ap (λ l. readings_at s l c) is ∙ readings_at-cons s c x rest)) ∙ was) made
+  where
+    R : List (Option State)
+    R = readings_at s rest c
+
+    nothing : (fs : List (Option State)) → fs ++ (f (seen_reading x.1) ∷ map f R) ≡ answer → fs ≡ []
+    nothing [] e = refl
+    nothing (y ∷ ys) e = let long = ap length e in absurd (omega (arith, long, few, length-append (y ∷ ys) (f (seen_reading x.1) ∷ map f R)))
+
+    by : (b : Bool) → found ++ map f (if b then seen_reading x.1 ∷ R else R) ≡ answer → ((b ≡ true → found ≡ []) → next ≡ found ++ (if b then f (seen_reading x.1) ∷ [] else [])) → next ++ map f R ≡ answer
+    by true e made = ap (λ l. l ++ map f R) (made (λ t. nothing found e)) ∙ (append_assoc found (f (seen_reading x.1) ∷ []) (map f R) ∙ e)
+    by false e made = ap (λ l. l ++ map f R) (made (λ t. absurd (cc)) ∙ append-nil found) ∙ e
+
+pub few-moved : (f : Option State → Option State) (xs : List (Option State)) → length xs ≤ 1 → length (map f xs) ≤ 1
+few-moved f xs few = omega (arith, few, length-map xs f)
+
+-- ---- one token more
+
+and-some : (o : Option State) → option_and_then (λ n. Some n) o ≡ o
+and-some None = refl
+and-some (Some n) = refl
+
+run-push : (s : State) (ts : List Spelled) (t : Spelled) → run_tokens s (ts ++ t ∷ []) ≡ read_behind (symbol_of t.kind t.spelling) (run_tokens s ts)
+run-push s [] t = and-some (read_token s t)
+run-push s (u ∷ us) t = by (read_token s u) (λ n. run-push n us t)
+  where
+    by : (o : Option State) → ((n : State) → run_tokens n (us ++ t ∷ []) ≡ read_behind (symbol_of t.kind t.spelling) (run_tokens n us))
+        → option_and_then (λ n. run_tokens n (us ++ t ∷ [])) o ≡ read_behind (symbol_of t.kind t.spelling) (option_and_then (λ n. run_tokens n us) o)
+    by None more = refl
+    by (Some n) more = more n
+
+read_at-take : (s : Sets) (names : List (List ℕ)) (list : List (Cond × Token)) (i : ℕ) (x : Cond × Token) (c : List ℕ) → i < length list → x ≡ get_or list i x
+    → read_at s names (take (i + 1) list) c ≡ moved (s.has x.0.0 c) (symbol_of x.1.kind (text_at names x.1.spelling.0)) (read_at s names (take i list) c)
+read_at-take s names list i x c within is = ap (λ ts. run_tokens (wanting []) (map (spelled names) ts)) (items_at-take s list i x c within is) ∙ by (s.has x.0.0 c) (items_at s (take i list) c)
+  where
+    by : (b : Bool) (ts : List Token) → run_tokens (wanting []) (map (spelled names) (ts ++ (if b then x.1 ∷ [] else [])))
+        ≡ moved b (symbol_of x.1.kind (text_at names x.1.spelling.0)) (run_tokens (wanting []) (map (spelled names) ts))
+    by true ts = ap (run_tokens (wanting [])) (map-append (spelled names) ts (x.1 ∷ [])) ∙ run-push (wanting []) (map (spelled names) ts) (spelled names x.1)
+    by false ts = ap (λ us. run_tokens (wanting []) (map (spelled names) us)) (append-nil ts)
+
+few-one : (b : Bool) (x : Option State) → length (let l : List (Option State) = if b then x ∷ [] else [] in l) ≤ 1
+few-one true x = omega arith
+few-one false x = omega arith
+
+module _ {old mid new : Sets} {names : List (List ℕ)} {live : ℕ} {readings : List Entry} {next : Readings} {symbol : Option grammar.Symbol} (list : List (Cond × Token)) (i : ℕ) (x : Cond × Token) (within : i < length list) (is : x ≡ get_or list i x)
+    (keeps : Keeps old mid) (own : IsCond old x.0.0) (is_symbol : symbol ≡ symbol_of x.1.kind (text_at names x.1.spelling.0)) (was : AreReadings old mid names (take i list) live readings) (step : AreMoved mid new x.0.0 symbol readings next) where
+  pub read-more : AreReadings old new names (take (i + 1) list) live (all_of next)
+  read-more = record {
+    own = step.own;
+    at = λ c listed.
+        let before = was.at c listed in
+        let h = old.has live c in
+        let r = read_at old names (take i list) c in
+        let f : Bool → Option grammar.Symbol → Option State = λ b o. moved b o r in
+        step.at c (IsConfig-Keeps keeps listed) (subst (λ l. length l ≤ 1) (sym before) (few-one h r))
+        ∙ (ap (map (moved (mid.has x.0.0 c) symbol)) before
+        ∙ (map-one (moved (mid.has x.0.0 c) symbol) h r
+        ∙ ap (λ o. if h then o ∷ [] else []) (ap (λ b. f b symbol) (keeps.at _ c own listed) ∙ (ap (λ o. f (old.has x.0.0 c) o) is_symbol ∙ sym (read_at-take old names list i x c within is)))));
+    alike = λ a b la lb same all.
+        let both = all-parts (λ (y : Cond × Token). IsAlike old a b y.0) (take i list) (get_or list i x ∷ []) (subst (AreAlike old a b) (take_more list i x within) all) in
+        let here : IsAlike old a b x.0 = subst (λ (y : Cond × Token). IsAlike old a b y.0) (sym is) (All-head (λ (y : Cond × Token). IsAlike old a b y.0) (get_or list i x) [] both.1) in
+        step.alike a b (IsConfig-Keeps keeps la) (IsConfig-Keeps keeps lb) (keeps.at _ a own la ∙ (here ∙ sym (keeps.at _ b own lb))) (was.alike a b la lb same both.0);
+  }
+
+-- all of them were read
+pub read-all : {old new : Sets} {names : List (List ℕ)} {live : ℕ} {readings : List Entry} (list : List (Cond × Token)) (i : ℕ) → length list ≤ i → AreReadings old new names (take i list) live readings → AreReadings old new names list live readings
+read-all {old} {new} {names} {live} {readings} list i past was = subst (λ l. AreReadings old new names l live readings) (take_all i list past) was
+
+-- before any is read
+pub unread-none : (s : Sets) (names : List (List ℕ)) (live : ℕ) → IsNever s live → AreReadings s s names [] live []
+unread-none s names live never = record {
+  own = All-nil (λ (x : Entry). IsCond s x.0.0);
+  at = λ c listed. ap (λ b. let l : List (Option State) = if b then Some (wanting []) ∷ [] else [] in l) (sym (never.none c listed));
+  alike = λ a b la lb same all. All-nil (λ (x : Entry). IsAlike s a b x.0);
+}
+
+pub unread-one : (s : Sets) (names : List (List ℕ)) (live : Cond) (r : Option Reading) → IsCond s live.0 → seen_reading r ≡ Some (wanting []) → AreReadings s s names [] live.0 ((live, r) ∷ [])
+unread-one s names live r own start = record {
+  own = All-push (λ (x : Entry). IsCond s x.0.0) [] (live, r) (All-nil (λ (x : Entry). IsCond s x.0.0)) own;
+  at = λ c listed. readings_at-cons s c (live, r) [] ∙ ap (λ o. if s.has live.0 c then o ∷ [] else []) start;
+  alike = λ a b la lb same all. All-push (λ (x : Entry). IsAlike s a b x.0) [] (live, r) (All-nil (λ (x : Entry). IsAlike s a b x.0)) same;
+}
+
+-- ---- configurations with the same items
+
+pub items-alike : (s : Sets) (a b : List ℕ) (xs : List (Cond × Token)) → AreAlike s a b xs → items_at s xs a ≡ items_at s xs b
+items-alike s a b [] same = refl
+items-alike s a b (x ∷ xs) same =
+    let Same : Cond × Token → Type 0 = λ y. IsAlike s a b y.0 in
+    by _ _ _ _ (All-head Same x xs same) (items-alike s a b xs (All-tail Same x xs same))
+  where
+    by : (p q : Bool) (us vs : List Token) → p ≡ q → us ≡ vs → (if p then x.1 ∷ us else us) ≡ (if q then x.1 ∷ vs else vs)
+    by true true us vs same more = ap (λ l. x.1 ∷ l) more
+    by false false us vs same more = more
+    by true false us vs same more = absurd (cc)
+    by false true us vs same more = absurd (cc)
+
+tested : (s : Sets) (a b : List ℕ) (xs : List (Cond × Token)) → All (λ (x : Cond). s.has x.0 a ≡ s.has x.0 b) (map (λ (x : Cond × Token). x.0) xs) → AreAlike s a b xs
+tested s a b [] all = All-nil (λ (x : Cond × Token). IsAlike s a b x.0)
+tested s a b (x ∷ xs) all =
+    let P : Cond → Type 0 = λ y. s.has y.0 a ≡ s.has y.0 b in
+    let conds = map (λ (x : Cond × Token). x.0) xs in
+    All-cons (λ (x : Cond × Token). IsAlike s a b x.0) x xs (All-head P x.0 conds all) (tested s a b xs (All-tail P x.0 conds all))
+
+pub places-tell : (s : Sets) (list : List (Cond × Token)) (a b : List ℕ) → places_at s list a ≡ places_at s list b → AreAlike s a b list
+places-tell s list a b same = tested s a b list (λ k x within. same_places s 0 (map (λ (x : Cond × Token). x.0) list) a b same k x within)
+
+read-alike : (s : Sets) (names : List (List ℕ)) (list : List (Cond × Token)) (n : ℕ) (a b : List ℕ) → places_at s list a ≡ places_at s list b → read_at s names (take n list) a ≡ read_at s names (take n list) b
+read-alike s names list n a b same =
+    ap (λ ts. run_tokens (wanting []) (map (spelled names) ts))
+    (items-alike s a b (take n list) (All-take (λ (x : Cond × Token). IsAlike s a b x.0) n list (places-tell s list a b same)))
+
+-- ---- why there are too many
+
+-- a configuration of each
+record Chosen (s : Sets) (xs : List Entry) : Type 0 where
+  configs : List (List ℕ)
+  long : length configs ≡ length xs
+  each : (k : ℕ) (x : Entry) (c : List ℕ) → k < length xs → IsConfig s.arities (get_or configs k c) × (s.has (get_or xs k x).0.0 (get_or configs k c) ≡ true)
+
+chosen : (s : Sets) (xs : List Entry) → HasOptions s.arities → All (λ (x : Entry). IsNever s x.0.0 → ⊥) xs → Chosen s xs
+chosen s [] options some = record { configs = []; long = refl; each = λ k x c within. absurd (omega arith) }
+chosen s (y ∷ ys) options some =
+    let P : Entry → Type 0 = λ x. IsNever s x.0.0 → ⊥ in
+    let first = met s y.0.0 options (All-head P y ys some) in
+    let rest = chosen s ys options (All-tail P y ys some) in
+    record { configs = first.config ∷ rest.configs; long = ap suc rest.long; each = λ k x c within. at first.config first.listed first.has rest k x c within }
+  where
+    at : (config : List ℕ) → IsConfig s.arities config → s.has y.0.0 config ≡ true → (rest : Chosen s ys) (k : ℕ) (x : Entry) (c : List ℕ) → k < length (y ∷ ys)
+        → IsConfig s.arities (get_or (config ∷ rest.configs) k c) × (s.has (get_or (y ∷ ys) k x).0.0 (get_or (config ∷ rest.configs) k c) ≡ true)
+    at config listed has rest zero x c within = (listed, has)
+    at config listed has rest (suc k) x c within = rest.each k x c (omega arith)
+
+-- what holds of all that is read at a configuration holds of each that has it
+read-each : (s : Sets) (c : List ℕ) (P : Option State → Type 0) (xs : List Entry) → All P (readings_at s xs c) → (k : ℕ) (x : Entry) → k < length xs → s.has (get_or xs k x).0.0 c ≡ true → P (seen_reading (get_or xs k x).1)
+read-each s c P [] all k x within has = absurd (omega arith)
+read-each s c P (y ∷ ys) all k x within has = by (s.has y.0.0 c) refl (subst (All P) (readings_at-cons s c y ys) all) (λ rest j below had. read-each s c P ys rest j x below had) k within has
+  where
+    by : (b : Bool) → s.has y.0.0 c ≡ b → All P (if b then seen_reading y.1 ∷ readings_at s ys c else readings_at s ys c)
+        → (All P (readings_at s ys c) → (j : ℕ) → j < length ys → s.has (get_or ys j x).0.0 c ≡ true → P (seen_reading (get_or ys j x).1))
+        → (k : ℕ) → k < length (y ∷ ys) → s.has (get_or (y ∷ ys) k x).0.0 c ≡ true → P (seen_reading (get_or (y ∷ ys) k x).1)
+    by true is all later zero within has = All-head P (seen_reading y.1) (readings_at s ys c) all
+    by true is all later (suc k) within has = later (All-tail P (seen_reading y.1) (readings_at s ys c) all) k (omega arith) has
+    by false is all later zero within has = absurd (true≢false (sym has ∙ is))
+    by false is all later (suc k) within has = later all k (omega arith) has
+
+first-of : (xs : List Entry) (k : ℕ) → k < length xs → Entry
+first-of [] k within = absurd (omega arith)
+first-of (x ∷ xs) k within = x
+
+module _ {old new : Sets} {names : List (List ℕ)} {live : ℕ} (next : Readings) (list : List (Cond × Token)) (n : ℕ) (keeps : Keeps old new) (options : HasOptions old.arities) (apart : AreApart new next.moved.items)
+    (read : AreReadings old new names (take n list) live (all_of next)) where
+  -- a configuration of one that has read the last element
+  one-moved : (k : ℕ) (x : Entry) (c : List ℕ) → k < length next.moved.items → IsConfig old.arities c → new.has (get_or next.moved.items k x).0.0 c ≡ true
+      → (old.has live c ≡ true) × (seen_reading (get_or next.moved.items k x).1 ≡ read_at old names (take n list) c)
+  one-moved k x c within listed has =
+      let r = read_at old names (take n list) c in
+      let P : Option State → Type 0 = λ o. (old.has live c ≡ true) × (o ≡ r) in
+      let all : All P (readings_at new (all_of next) c) = subst (All P) (sym (read.at c listed)) (by (old.has live c) refl) in
+      read-each new c P next.moved.items (all-parts P (readings_at new next.left.items c) (readings_at new next.moved.items c) (subst (All P) (readings_at-append new c next.left.items next.moved.items) all)).1 k x within has
+    where
+      by : (b : Bool) → old.has live c ≡ b → All (λ o. (old.has live c ≡ true) × (o ≡ read_at old names (take n list) c)) (if b then read_at old names (take n list) c ∷ [] else [])
+      by true is = All-cons (λ o. (old.has live c ≡ true) × (o ≡ read_at old names (take n list) c)) (read_at old names (take n list) c) [] (is, refl) (All-nil (λ o. (old.has live c ≡ true) × (o ≡ read_at old names (take n list) c)))
+      by false is = All-nil (λ o. (old.has live c ≡ true) × (o ≡ read_at old names (take n list) c))
+
+  pub many-lists : (count : ℕ) → count ≤ length next.moved.items → HasLists old live (λ c. places_at old list c) count
+  many-lists count most =
+      let xs = next.moved.items in
+      let picked = chosen new xs (subst HasOptions (sym keeps.arities) options) apart.some in
+      record {
+        configs = picked.configs;
+        many = omega (arith, picked.long, most);
+        listed = λ k c within.
+            let below : k < length xs = omega (arith, picked.long, within) in
+            IsConfig-kept keeps (picked.each k (first-of xs k below) c below).0;
+        has = λ k c within.
+            let below : k < length xs = omega (arith, picked.long, within) in
+            let x = first-of xs k below in
+            let one = picked.each k x c below in
+            (one-moved k x (get_or picked.configs k c) below (IsConfig-kept keeps one.0) one.1).0;
+        apart = λ i j c order within same.
+            let in_j : j < length xs = omega (arith, picked.long, within) in
+            let in_i : i < length xs = omega (arith, in_j, order) in
+            let x = first-of xs j in_j in
+            let a = picked.each i x c in_i in
+            let b = picked.each j x c in_j in
+            let one = one-moved i x (get_or picked.configs i c) in_i (IsConfig-kept keeps a.0) a.1 in
+            let other = one-moved j x (get_or picked.configs j c) in_j (IsConfig-kept keeps b.0) b.1 in
+            apart.apart i j x order in_j (one.1 ∙ (read-alike old names list n (get_or picked.configs i c) (get_or picked.configs j c) same ∙ sym other.1));
+      }
