@@ -15,11 +15,10 @@ use Rattle.sc_model.specs.Fault.{Fault}
 use Rattle.sc_model.specs.Sets.{Sets, IsConfig, Keeps}
 use Rattle.sc_model.specs.Space.{Space, IsListed, arities_of}
 use Rattle.sc_show.proofs.TreeResults.{choice-stored}
-use Rattle.sc_show.proofs.TreeTextLaws.{tree-reads-unique}
-use Rattle.sc_show.specs.TreeLayout.{HasSoundChoices, IsRooted, PartsConfigs}
+use Rattle.sc_text.proofs.TextLaws.{reads-unique}
+use Rattle.sc_text.specs.Answer.{Answer, At, HasSoundChoices, IsRooted, PartsConfigs, accepted, choice_part, project, refused, tree_parts}
+use Rattle.sc_text.specs.Text.{Reads}
 use Rattle.sc_show.specs.TreeShows.{AreBranchesOf, IsChoiceOf, IsRootOf, ShowsTree, more_branches, no_branches, no_root, root_of}
-use Rattle.sc_show.specs.TreeText.{IsResultAt, ReadsTree, TreeAnswer, accepted, choice_part, refused}
-use Rattle.sc_text.specs.Text.{project}
 use Rattle.sc_tree.specs.Lines.{Line}
 
 -- ---- choices
@@ -62,18 +61,18 @@ module _ {s : Sets} (space : Space) (store : List Line) (ids : List TreeId) (ari
 
 module _ {s new : Sets} (keeps : Keeps s new) (names files : List (List ℕ)) (space : Space) (p : ParsedFile) (text : Output) (shows : ShowsTree space new names files p.trees p.root p.faults.items text.lines.items)
     (shown : CanShowTree s names files p) (arities : s.arities ≡ arities_of space) where
-  pub choices-sound : AreSound new p.trees → HasSoundChoices space shows.answer.parts
+  pub choices-sound : AreSound new p.trees → HasSoundChoices space shows.answer.body.parts
   choices-sound sound = record {
     each = λ id branches at. parts-configs space p.trees shows.ids (keeps.arities ∙ arities) sound branches (choice-stored new names files p.trees shows.ids shows.parts id branches at);
   }
 
   -- ---- the root
 
-  unrefused : (config : List ℕ) (o : Result Tree Fault) → IsResultAt shows.answer config (shown_result o) → project shows.answer.faults config ≡ [] → shows.answer.root ≡ None → ⊥
-  unrefused config (Ok tree) (accepted root _ _ at _) none rootless = let bad = sym rootless ∙ at in cc
+  unrefused : (config : List ℕ) (o : Result Tree Fault) → At shows.answer config (shown_result o) → project shows.answer.faults config ≡ [] → shows.answer.body.root ≡ None → ⊥
+  unrefused config (Ok tree) (accepted _ _ (root, (at, _))) none rootless = let bad = sym rootless ∙ at in cc
   unrefused config (Err fault) (refused _ is) none rootless = let bad = sym none ∙ is in cc
 
-  rooted-by : (number : ℕ) {root : Option TreeId} → IsRootOf shows.ids root shows.answer.root → shows.answer.root ≡ Some number → (id : TreeId) × (root ≡ Some id)
+  rooted-by : (number : ℕ) {root : Option TreeId} → IsRootOf shows.ids root shows.answer.body.root → shows.answer.body.root ≡ Some number → (id : TreeId) × (root ≡ Some id)
   rooted-by number is at = by is at
     where
       by : {root : Option TreeId} {told : Option ℕ} → IsRootOf shows.ids root told → told ≡ Some number → (id : TreeId) × (root ≡ Some id)
@@ -94,18 +93,18 @@ module _ {s new : Sets} (keeps : Keeps s new) (names files : List (List ℕ)) (s
 
 -- ---- texts that are none of parsing
 
-module _ {of : Setting} {pieces : List (List ℕ)} {told : Bool} (text : IsParseText of pieces told) {answer : TreeAnswer} (reads : ReadsTree of.space pieces answer) where
+module _ {of : Setting} {pieces : List (List ℕ)} {told : Bool} (text : IsParseText of pieces told) {answer : Answer tree_parts} (reads : Reads of.space pieces answer) where
   -- the text reads as one answer
   same : text.answer ≡ answer
-  same = tree-reads-unique refl text.text.reads reads
+  same = reads-unique refl text.text.reads reads
 
-  sound : HasSoundChoices of.space answer.parts
-  sound = subst (λ (a : TreeAnswer). HasSoundChoices of.space a.parts) same text.choices
+  sound : HasSoundChoices of.space answer.body.parts
+  sound = subst (λ (a : Answer tree_parts). HasSoundChoices of.space a.body.parts) same text.choices
 
-  pub two-branches : (number : ℕ) (branch : Condition × ℕ) → slice_get answer.parts number ≡ Some (choice_part (branch ∷ [])) → ⊥
+  pub two-branches : (number : ℕ) (branch : Condition × ℕ) → slice_get answer.body.parts number ≡ Some (choice_part (branch ∷ [])) → ⊥
   two-branches number branch at = let several = (sound.each number (branch ∷ []) at).several in omega arith
 
-  pub two-conditions : (number a b : ℕ) (test : Condition) → slice_get answer.parts number ≡ Some (choice_part ((test, a) ∷ (test, b) ∷ [])) → ⊥
+  pub two-conditions : (number a b : ℕ) (test : Condition) → slice_get answer.body.parts number ≡ Some (choice_part ((test, a) ∷ (test, b) ∷ [])) → ⊥
   two-conditions number a b test at =
       let parts = sound.each number ((test, a) ∷ (test, b) ∷ []) at in
       parts.possible 0 (test, a) (omega arith) (λ c listed. never (test c) (λ has. parts.apart 0 1 (test, a) (omega arith) (omega arith) c listed has has))
@@ -114,12 +113,12 @@ module _ {of : Setting} {pieces : List (List ℕ)} {told : Bool} (text : IsParse
       never true lacks = absurd (lacks refl)
       never false lacks = refl
 
-  pub root-accepted : ((config : List ℕ) → IsListed of.space config → project answer.faults config ≡ [] → ⊥) → answer.root ≡ None
-  root-accepted refuses = by answer.root refl
+  pub root-accepted : ((config : List ℕ) → IsListed of.space config → project answer.faults config ≡ [] → ⊥) → answer.body.root ≡ None
+  root-accepted refuses = by answer.body.root refl
     where
       is : IsRooted of.space answer
       is = subst (IsRooted of.space) same text.rooted
 
-      by : (root : Option ℕ) → answer.root ≡ root → answer.root ≡ None
+      by : (root : Option ℕ) → answer.body.root ≡ root → answer.body.root ≡ None
       by None at = at
       by (Some number) at = let some = is.some number at in absurd (refuses some.0 some.1.0 some.1.1)

@@ -15,7 +15,7 @@ use Rattle.sc_show.proofs.TreeNumbers.{number_at}
 use Rattle.sc_show.proofs.TreeShown.{shown_token}
 use Rattle.sc_show.specs.PlainText.{all_parts_from, behind, parts_from, root_from, roots_from}
 use Rattle.sc_show.specs.TreeShows.{FinishesIn, nowhere_in, was_there_in, comes_in, AreNumbersOf, no_numbers, more_numbers, ArePartsOf, no_parts, more_parts, IsPartOf, leaf_shown, node_shown, choice_shown, shown_forest, shown_tree}
-use Rattle.sc_show.specs.TreeText.{Part, leaf_part, node_part, choice_part}
+use Rattle.sc_text.specs.Answer.{Part, choice_part, leaf_part, node_part}
 use Rattle.sc_tree.specs.Lines.{Line, leaf, node, choice, children_of}
 use Rattle.sc_tree.specs.Reads.{AllRead, Reads, Tables, leaf_reads, node_reads, choice_reads, none_read, more_read}
 use Rattle.sc_tree.specs.Walks.{is_choice}

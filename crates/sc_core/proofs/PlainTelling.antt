@@ -1,6 +1,7 @@
 -- That the text of one configuration is its tree laid out, or its fault alone.
 use Rattle.std.proofs.Common.{◌≡◌, ◌∙◌, ℕ, Bool, true, false, List, [], ◌∷◌, All, length, map, slice_get, Option, Some, None, Result, Ok, Err, arith, refl, sym, ap, subst}
 use Rattle.std.proofs.lemmas.List.Elements.{All-head, All-tail}
+use Rattle.std.specs.Option.{option_to_list}
 use Rattle.std.specs.Prelude.{if◌then◌else◌}
 use Rattle.c11_parsing.specs.Trees.{Tree}
 use Rattle.sc_base.specs.declared.fault.Fault as base
@@ -21,13 +22,11 @@ use Rattle.sc_model.specs.Sets.{Sets, IsConfig, IsNever, Keeps}
 use Rattle.sc_model.specs.Space.{Space, IsListed, arities_of}
 use Rattle.sc_project.proofs.Laying.{Stand-whole}
 use Rattle.sc_project.specs.Layout.{LaysOut}
-use Rattle.sc_show.proofs.TreeResults.{no-tree-faults, text_faults_shown}
 use Rattle.sc_show.specs.PlainText.{IsPlainAnswer, fault_alone, tree_alone}
-use Rattle.sc_show.specs.TreeLayout.{listed}
+use Rattle.sc_text.specs.Answer.{Answer, At, Condition, Part, project, tree_parts}
 use Rattle.sc_show.specs.TreeShows.{ArePartsOf, FinishesIn, IsRootOf, ShowsTree, no_parts, no_root, shown_tree}
-use Rattle.sc_show.specs.TreeText.{IsResultAt, Part, TreeAnswer}
 use Rattle.sc_text.proofs.OneAnswer.{IsShown}
-use Rattle.sc_text.specs.Text.{Condition, project}
+use Rattle.sc_text.proofs.OneText.{faults_shown, no-faults}
 use Rattle.sc_tree.specs.Lines.{Line}
 use Rattle.sc_tree.specs.Reads.{Reads}
 
@@ -80,21 +79,21 @@ module _ {s new : Sets} (keeps : Keeps s new) (names files : List (List ℕ)) (s
       → IsPlainAnswer shows.answer c (Ok (shown_tree tree))
   tree-told id root tree is laid reads none =
       let n = length p.trees in
-      let ids = laid-ids s old.trees c id.0 root p.trees shows.ids laid (subst (λ (o : Option TreeId). FinishesIn p.trees [] (listed o) shows.ids) is shows.finished) in
-      let parts = subst (λ (xs : List TreeId). ArePartsOf new names files p.trees xs xs shows.answer.parts) ids shows.parts in
+      let ids = laid-ids s old.trees c id.0 root p.trees shows.ids laid (subst (λ (o : Option TreeId). FinishesIn p.trees [] (option_to_list o) shows.ids) is shows.finished) in
+      let parts = subst (λ (xs : List TreeId). ArePartsOf new names files p.trees xs xs shows.answer.body.parts) ids shows.parts in
       let seen = shown-as (seen_by s names files old) c id.0 0 root.0 p.trees tree reads laid in
       let number = root-numbered root shows.root_is is in
       let same : number.0 ≡ root.0 = sym (id-at 0 n number.0 root (ap (λ (xs : List TreeId). slice_get xs number.0) (sym ids) ∙ number.1.1) ∙ omega arith) in
       tree_alone (shown_tree tree) (parts-are n 0 p.trees (Stand-whole p.trees) plain.plain parts ∙ seen.parts) (number.1.0 ∙ ap (λ (k : ℕ). Some k) (same ∙ seen.number))
-      (no-tree-faults shows.text_of (λ d listed. ap (project shows.answer.faults) (one d listed) ∙ (faults-told ∙ ap (map (seen_fault files)) none)))
+      (no-faults shows.text_of (λ d listed. ap (project shows.answer.faults) (one d listed) ∙ (faults-told ∙ ap (map (seen_fault files)) none)))
 
   -- its fault, where there is no tree
   fault-told : (fault : Fault) → p.root ≡ None → map (seen_fault files) (faults_at s p.faults.items c) ≡ fault ∷ [] → IsPlainAnswer shows.answer c (Err fault)
   fault-told fault is stands =
-      let ids = nothing-more (subst (λ (o : Option TreeId). FinishesIn p.trees [] (listed o) shows.ids) is shows.finished) in
-      let parts = subst (λ (xs : List TreeId). ArePartsOf new names files p.trees xs xs shows.answer.parts) ids shows.parts in
-      let only = only-fault c one shows.answer.faults (text_faults_shown shows.text_of) fault (faults-told ∙ stands) in
-      fault_alone only.0 fault (nothing-shown parts) (rootless (subst (λ (o : Option TreeId). IsRootOf shows.ids o shows.answer.root) is shows.root_is)) only.1.0 only.1.1
+      let ids = nothing-more (subst (λ (o : Option TreeId). FinishesIn p.trees [] (option_to_list o) shows.ids) is shows.finished) in
+      let parts = subst (λ (xs : List TreeId). ArePartsOf new names files p.trees xs xs shows.answer.body.parts) ids shows.parts in
+      let only = only-fault c one shows.answer.faults (faults_shown shows.text_of) fault (faults-told ∙ stands) in
+      fault_alone only.0 fault (nothing-shown parts) (rootless (subst (λ (o : Option TreeId). IsRootOf shows.ids o shows.answer.body.root) is shows.root_is)) only.1.0 only.1.1
 
   module _ (answers : HasAnswers (seen_by s names files old) old.root old.faults.items) where
     abbrev Old : Result Tree Fault → Type 0
@@ -144,6 +143,6 @@ module _ {s new : Sets} (keeps : Keeps s new) (names files : List (List ℕ)) (s
       record {
         tells = tells-tree keeps names files space p text shows shown arities none some holds main of_plain;
         result = shown_result at.0;
-        same = subst (λ (answer : TreeAnswer). IsResultAt answer c (shown_result at.0)) told (result-at keeps names files space p text shows shown arities c here at.0 (stands-plain c plain c refl at.0 at.1));
-        plain = subst (λ (answer : TreeAnswer). IsPlainAnswer answer c (shown_result at.0)) told (plain-told keeps names files space old p text shows shown arities c here one plain answers at.0 at.1);
+        same = subst (λ (answer : Answer tree_parts). At answer c (shown_result at.0)) told (result-at keeps names files space p text shows shown arities c here at.0 (stands-plain c plain c refl at.0 at.1));
+        plain = subst (λ (answer : Answer tree_parts). IsPlainAnswer answer c (shown_result at.0)) told (plain-told keeps names files space old p text shows shown arities c here one plain answers at.0 at.1);
       }

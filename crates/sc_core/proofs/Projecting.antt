@@ -9,9 +9,9 @@ use Rattle.sc_core.specs.Ordinary.{Setting, Translates, not_prepared, parsed}
 use Rattle.sc_core.specs.Outcome.{AcceptsAll, IsProjected, IsTranslation, Tells, shown_result}
 use Rattle.sc_model.specs.Fault.{Fault}
 use Rattle.sc_model.specs.Space.{IsListed}
-use Rattle.sc_show.proofs.TreeResults.{tree-result-unique}
+use Rattle.sc_text.proofs.TextLaws.{result-unique}
 use Rattle.sc_show.specs.PlainText.{IsPlainAnswer}
-use Rattle.sc_show.specs.TreeText.{ShownTree, TreeAnswer, IsResultAt}
+use Rattle.sc_text.specs.Answer.{Answer, At, ShownTree, tree_parts}
 
 -- the setting with the space that has the configuration alone
 abbrev pub cut_setting : Setting → List ℕ → Setting
@@ -34,15 +34,15 @@ module _ (s : Setting) (config : List ℕ) (listed : IsListed s.space config) wh
       let same = translates-unique is all.1 in cc
   accepted-as false (Ok tree) is tells = absurd (tells (λ c here. (tree, subst (λ (d : List ℕ). Translates only d (Ok tree)) (sym (one-config s.space config listed c here)) is)))
 
-  pub projected : (answer : TreeAnswer) (accepted : Bool) (result : Result ShownTree Fault) → IsResultAt answer (first_config s.space) result → IsPlainAnswer answer (first_config s.space) result
+  pub projected : (answer : Answer tree_parts) (accepted : Bool) (result : Result ShownTree Fault) → At answer (first_config s.space) result → IsPlainAnswer answer (first_config s.space) result
       → IsTranslation only answer accepted → IsProjected s config answer accepted
   projected answer accepted result here plain is =
       let at = is.each (first_config only.space) (first-listed s.space config listed) in
-      let same = subst (λ (c : List ℕ). IsResultAt answer c (shown_result at.ordinary)) (first-cut s.space config listed) at.said in
+      let same = subst (λ (c : List ℕ). At answer c (shown_result at.ordinary)) (first-cut s.space config listed) at.said in
       record {
         ordinary = at.ordinary;
         translated = translates-cut at.given;
         same = same;
-        exact = subst (IsPlainAnswer answer (first_config s.space)) (tree-result-unique answer (first_config s.space) result (shown_result at.ordinary) here same) plain;
+        exact = subst (IsPlainAnswer answer (first_config s.space)) (result-unique answer (first_config s.space) result (shown_result at.ordinary) here same) plain;
         verdict = accepted-as accepted at.ordinary at.given is.verdict;
       }

@@ -22,13 +22,13 @@ use Rattle.sc_text.proofs.Alike.{AreAlike-project}
 use Rattle.sc_text.proofs.OneText.{no-faults}
 use Rattle.c11_directives.proofs.PreLaws.{pre-unique}
 use Rattle.sc_model.proofs.SetLemmas.{IsConfig-Keeps}
+use Rattle.sc_text.specs.Answer.{Answer, At, accepted, project, refused, token_list}
 use Rattle.sc_text.specs.Layout.{IsTextOf}
 use Rattle.sc_model.specs.Outside.{Files}
 use Rattle.sc_model.specs.Fault.{Fault}
 use Rattle.c11_directives.specs.Pre.{Pre}
 use Rattle.sc_model.specs.Sets.{Sets, IsConfig, IsNever, Keeps}
 use Rattle.sc_model.specs.Space.{Space, IsListed, arities_of}
-use Rattle.sc_text.specs.Text.{token_list, Answer, project, At, accepted, refused}
 use Rattle.sc_model.specs.Bytes.{has_no_newline}
 use Rattle.sc_model.specs.Token.{Token, shown}
 use Rattle.sc_show.proofs.ShownItems.{project-shown_items}
@@ -38,8 +38,7 @@ use Rattle.sc_show.specs.Shows.{Shows}
 
 told : (answer : Answer token_list) (config : List ℕ) (ordinary : Result (List Token) Fault) (items : List Token) (refusals : List Fault)
     → project answer.body config ≡ map shown items → project answer.faults config ≡ refusals → Stands ordinary items refusals → At answer config (shown_answer ordinary)
-told answer config (Ok ts) items refusals same_tokens same_faults stands =
-    subst (λ shown_tokens. At answer config (Ok shown_tokens)) (same_tokens ∙ ap (map shown) stands.0) (accepted (same_faults ∙ stands.1))
+told answer config (Ok ts) items refusals same_tokens same_faults stands = accepted (map shown ts) (same_faults ∙ stands.1) (same_tokens ∙ ap (map shown) stands.0)
 told answer config (Err fault) items refusals same_tokens same_faults stands = refused fault (same_faults ∙ stands)
 
 -- ---- whether a configuration is refused

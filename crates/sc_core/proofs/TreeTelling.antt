@@ -22,19 +22,18 @@ use Rattle.sc_model.specs.Fault.{Fault}
 use Rattle.sc_model.specs.Outside.{Files}
 use Rattle.sc_model.specs.Sets.{Sets, IsCond, IsConfig, IsNever, Keeps}
 use Rattle.sc_model.specs.Space.{Space, IsListed, arities_of}
-use Rattle.sc_show.proofs.TreeReading.{tree_text_lines}
+use Rattle.sc_show.proofs.Pieces.{text_lines}
 use Rattle.sc_show.specs.Pieces.{IsLine, split_lines_after}
-use Rattle.sc_show.specs.TreeLayout.{IsTreeTextOf}
+use Rattle.sc_text.specs.Answer.{At, accepted, project, refused}
+use Rattle.sc_text.specs.Layout.{IsTextOf}
 use Rattle.sc_show.specs.TreeShows.{ShowsTree, IsRootOf, no_root, root_of, shown_tree}
-use Rattle.sc_show.specs.TreeText.{IsResultAt, accepted, refused}
-use Rattle.sc_text.specs.Text.{project}
 use Rattle.sc_tree.proofs.ReadLemmas.{Reads-Grows}
 use Rattle.sc_tree.specs.Reads.{Reads}
 
 -- each piece of the text is a line
 pub tree-lines : {space : Space} {s : Sets} {names files : List (List ℕ)} (p : ParsedFile) (text : List ℕ) → ShowsTree space s names files p.trees p.root p.faults.items text
     → All IsLine (split_lines_after text)
-tree-lines p text shows = subst (All IsLine) (sym (shows.cut ∙ shows.text_of.reads.written)) (tree_text_lines shows.text_of.reads.lines shows.text_of.reads.clear)
+tree-lines p text shows = subst (All IsLine) (sym (shows.cut ∙ shows.text_of.reads.written)) (text_lines shows.text_of.reads.lines shows.text_of.reads.clear)
 
 -- the number of the root
 pub root-numbered : {ids : List TreeId} {root : Option TreeId} {number : Option ℕ} (id : TreeId) → IsRootOf ids root number → root ≡ Some id → (n : ℕ) × ((number ≡ Some n) × (slice_get ids n ≡ Some id))
@@ -74,14 +73,14 @@ module _ {s new : Sets} (keeps : Keeps s new) (names files : List (List ℕ)) (s
       Reads-Grows (seen_by s names files p) (seen_by new names files p) config id tree
       (record { sets = keeps; names = Extends-refl names; files = Extends-refl files; lines = Extends-refl p.trees }) listed reads
 
-  pub result-at : (config : List ℕ) → IsListed space config → (o : Result Tree Fault) → Stands (seen_by s names files p) p.root p.faults.items config o → IsResultAt shows.answer config (shown_result o)
+  pub result-at : (config : List ℕ) → IsListed space config → (o : Result Tree Fault) → Stands (seen_by s names files p) p.root p.faults.items config o → At shows.answer config (shown_result o)
   result-at config listed (Ok tree) stands = by p.root refl stands.1
     where
-      by : (root : Option TreeId) → p.root ≡ root → RootReads (seen_by s names files p) config root tree → IsResultAt shows.answer config (Ok (shown_tree tree))
+      by : (root : Option TreeId) → p.root ≡ root → RootReads (seen_by s names files p) config root tree → At shows.answer config (Ok (shown_tree tree))
       by _ is (root_reads id _ reads) =
           let number = root-numbered id shows.root_is is in
-          accepted number.0 (shown_tree tree) (shown-faults config listed ∙ ap (map (seen_fault files)) stands.0) number.1.0
-          (shows.trees config (IsConfig-Keeps keeps (here config listed)) id number.0 tree is number.1.0 (reads-now config id.0 tree (here config listed) reads))
+          accepted (shown_tree tree) (shown-faults config listed ∙ ap (map (seen_fault files)) stands.0)
+          (number.0, (number.1.0, shows.trees config (IsConfig-Keeps keeps (here config listed)) id number.0 tree is number.1.0 (reads-now config id.0 tree (here config listed) reads)))
   result-at config listed (Err fault) stands = refused fault (shown-faults config listed ∙ stands)
 
   accepted-by : (config : List ℕ) (P : Result Tree Fault → Type 0) (o : Result Tree Fault) → P o → Stands (seen_by s names files p) p.root p.faults.items config o
@@ -121,7 +120,7 @@ module _ {s new : Sets} (keeps : Keeps s new) (names files : List (List ℕ)) (s
     pub tells-tree : (holds : Option Files) (main : List ℕ) → AreTranslated holds space main (seen_by s names files p) p.root p.faults.items → TellsTree holds space main text
     tells-tree holds main are = record {
       answer = shows.answer;
-      text_of = subst (λ pieces. IsTreeTextOf space pieces shows.answer) (sym shows.cut) shows.text_of;
+      text_of = subst (λ pieces. IsTextOf space pieces shows.answer) (sym shows.cut) shows.text_of;
       verdict = tells-by text.is_refused NoFault (HasNoFault space shows.answer) none some none-shown none-had;
       parser = are.parser;
       c11 = are.c11;

@@ -11,18 +11,16 @@ use Rattle.sc_core.specs.Cut.{cut_space, first_config}
 use Rattle.sc_core.specs.Ordinary.{HasFewClasses, HasManyBranches, HasManyConfigs, HasManyFootprints, Preprocesses, Setting, Translates}
 use Rattle.sc_core.specs.RunError.{branches_line, line_of, status_of, space_line}
 use Rattle.sc_fork.specs.Parsers.{IsC11Parser}
+use Rattle.sc_text.specs.Answer.{Answer, At, HasSoundChoices, IsRooted, ShownTree, project, token_list, tree_parts}
 use Rattle.sc_text.specs.Layout.{IsTextOf}
 use Rattle.sc_model.specs.Outside.{Files, Rose, Write, Writes, WritesPart, whole_write}
 use Rattle.sc_model.specs.Fault.{Fault}
 use Rattle.sc_model.specs.Space.{Space, IsListed}
-use Rattle.sc_text.specs.Text.{token_list, Answer, At, project}
 use Rattle.sc_model.specs.Token.{Shown, Token, shown}
 use Rattle.sc_show.specs.Conflicts.{conflict_pieces}
 use Rattle.sc_show.specs.Pieces.{IsLine}
 use Rattle.sc_show.specs.PlainText.{IsPlainAnswer}
-use Rattle.sc_show.specs.TreeLayout.{HasSoundChoices, IsRooted, IsTreeTextOf}
 use Rattle.sc_show.specs.TreeShows.{shown_tree}
-use Rattle.sc_show.specs.TreeText.{ShownTree, TreeAnswer, IsResultAt}
 use Rattle.sc_source.specs.Sink.{WritesCut}
 use Rattle.sc_space.specs.Config.{read_config}
 use Rattle.sc_space.specs.SpaceFile as file
@@ -96,21 +94,21 @@ shown_result (Ok tree) = Ok (shown_tree tree)
 shown_result (Err fault) = Err fault
 
 -- no listed configuration has a fault
-abbrev pub HasNoFault : Space → TreeAnswer → Type 0
+abbrev pub HasNoFault : Space → Answer tree_parts → Type 0
 HasNoFault space answer = (config : List ℕ) → IsListed space config → project answer.faults config ≡ []
 
 -- the answer says what ordinary translation gives
-abbrev pub IsTranslation : Setting → TreeAnswer → Bool → Type 0
-IsTranslation s answer accepted = IsRight s.space (Translates s) (λ config ordinary. IsResultAt answer config (shown_result ordinary)) accepted
+abbrev pub IsTranslation : Setting → Answer tree_parts → Bool → Type 0
+IsTranslation s answer accepted = IsRight s.space (Translates s) (λ config ordinary. At answer config (shown_result ordinary)) accepted
 
 -- The pieces are the lines of a text that keeps the rules of the format, and a configuration has a
 -- fault exactly where it is told that not all are accepted. Its choices are sound, and it has a
 -- root exactly where some configuration is accepted. It says what ordinary translation gives, as
 -- C11 is parsed, of a file that has no more classes than branches.
 pub record IsParseText (s : Setting) (pieces : List (List ℕ)) (accepted : Bool) : Type 0 where
-  pub answer : TreeAnswer
-  pub text : IsTreeTextOf s.space pieces answer
-  pub choices : HasSoundChoices s.space answer.parts
+  pub answer : Answer tree_parts
+  pub text : IsTextOf s.space pieces answer
+  pub choices : HasSoundChoices s.space answer.body.parts
   pub rooted : IsRooted s.space answer
   pub verdict : Tells accepted (HasNoFault s.space answer)
   pub right : IsTranslation s answer accepted
@@ -120,10 +118,10 @@ pub record IsParseText (s : Setting) (pieces : List (List ℕ)) (accepted : Bool
 
 -- The answer of one configuration is exactly what ordinary translation gives at another of the
 -- setting, and it is told whether that is accepted.
-pub record IsProjected (s : Setting) (config : List ℕ) (answer : TreeAnswer) (accepted : Bool) : Type 0 where
+pub record IsProjected (s : Setting) (config : List ℕ) (answer : Answer tree_parts) (accepted : Bool) : Type 0 where
   pub ordinary : Result Tree Fault
   pub translated : Translates s config ordinary
-  pub same : IsResultAt answer (first_config s.space) (shown_result ordinary)
+  pub same : At answer (first_config s.space) (shown_result ordinary)
   pub exact : IsPlainAnswer answer (first_config s.space) (shown_result ordinary)
   pub verdict : accepted ≡ is_ok ordinary
 
@@ -132,8 +130,8 @@ pub record IsProjected (s : Setting) (config : List ℕ) (answer : TreeAnswer) (
 pub record IsProjectText (choices : List (List ℕ)) (s : Setting) (pieces : List (List ℕ)) (accepted : Bool) : Type 0 where
   pub config : List ℕ
   pub chosen : read_config s.space choices ≡ Ok config
-  pub answer : TreeAnswer
-  pub text : IsTreeTextOf (cut_space s.space config) pieces answer
+  pub answer : Answer tree_parts
+  pub text : IsTextOf (cut_space s.space config) pieces answer
   pub verdict : Tells accepted (HasNoFault (cut_space s.space config) answer)
   pub c11 : IsC11Parser s.parser
   pub right : IsProjected s config answer accepted

@@ -21,9 +21,9 @@ use Rattle.sc_model.specs.Fault.{Fault}
 use Rattle.sc_model.specs.Sets.{Sets, IsConfig}
 use Rattle.sc_project.specs.Layout.{LaysOut}
 use Rattle.sc_show.specs.PlainText.{IsPlainAnswer}
-use Rattle.sc_show.specs.TreeLayout.{HasSoundChoices, IsRooted, IsTreeTextOf}
+use Rattle.sc_text.specs.Answer.{Answer, At, HasSoundChoices, IsRooted, ShownTree, tree_parts}
+use Rattle.sc_text.specs.Layout.{IsTextOf}
 use Rattle.sc_show.specs.TreeShows.{AreShowableLeaves}
-use Rattle.sc_show.specs.TreeText.{ShownTree, TreeAnswer, IsResultAt}
 use Rattle.sc_space.specs.Config.{read_config}
 use Rattle.sc_space.specs.declared.fault.SpaceStop.{SpaceStop}
 use Rattle.sc_space.specs.declared.fault.SpaceStop.TheVariants as stop
@@ -154,8 +154,8 @@ pub record IsPlain (w : Tables) (config : List ℕ) (old p : ParsedFile) : Type 
 
 -- the text of a tree in this space, and whether some configuration has a fault
 pub record TellsTree (holds : Option Files) (space : Space) (main : List ℕ) (text : Output) : Type 0 where
-  pub answer : TreeAnswer
-  pub text_of : IsTreeTextOf space (lines_of text) answer
+  pub answer : Answer tree_parts
+  pub text_of : IsTextOf space (lines_of text) answer
   pub verdict : Tells (not text.is_refused) (HasNoFault space answer)
   pub parser : Parser
   pub c11 : IsC11Parser parser
@@ -167,14 +167,14 @@ pub record TellsTree (holds : Option Files) (space : Space) (main : List ℕ) (t
 -- The choices of such a text are sound, and it has a root where a configuration is accepted.
 pub record TellsChoices (holds : Option Files) (space : Space) (main : List ℕ) (text : Output) : Type 0 where
   pub tells : TellsTree holds space main text
-  pub choices : HasSoundChoices space tells.answer.parts
+  pub choices : HasSoundChoices space tells.answer.body.parts
   pub rooted : IsRooted space tells.answer
 
 -- In a space of one configuration the text is that of its result, a tree or a fault.
 pub record TellsPlain (holds : Option Files) (space : Space) (main : List ℕ) (text : Output) : Type 0 where
   pub tells : TellsTree holds space main text
   pub result : Result ShownTree Fault
-  pub same : IsResultAt tells.answer (first_config space) result
+  pub same : At tells.answer (first_config space) result
   pub plain : IsPlainAnswer tells.answer (first_config space) result
 
 -- ---- too many branches

@@ -1,9 +1,9 @@
 pub mod ConflictLines
+pub mod Ending
 pub mod LinesChoices
 pub mod MergeFaults
 pub mod MergeOrdering
 pub mod OneShownTree
-pub mod OneTreeText
 pub mod Pieces
 pub mod PrinterChildren
 pub mod PrinterIntroducing
@@ -20,9 +20,7 @@ pub mod TreeLines
 pub mod TreeNumbers
 pub mod TreeOrder
 pub mod TreePrinting
-pub mod TreeReading
 pub mod TreeResults
 pub mod TreeShown
 pub mod TreeTasks
-pub mod TreeTextLaws
 pub mod TreeWeights

@@ -9,12 +9,11 @@ use Rattle.sc_base.specs.Seen.{text_at, seen_place}
 use Rattle.sc_model.specs.Growth.{IsOneToOne}
 use Rattle.sc_model.specs.Sets.{Sets, IsConfig}
 use Rattle.sc_model.specs.Space.{Space, arities_of}
-use Rattle.sc_text.specs.Text.{Condition}
+use Rattle.sc_text.specs.Answer.{Condition, Part}
+use Rattle.sc_text.specs.Layout.{IsSameBranch, IsSamePart, IsSameAnswer}
+use Rattle.sc_text.proofs.OneText.{one_text}
 use Rattle.sc_tree.specs.Lines.{Line, children_of}
-use Rattle.sc_show.specs.TreeLayout.{IsSameBranch, IsSamePart, IsSameTreeAnswer}
 use Rattle.sc_show.specs.TreeShows.{FinishesIn, nowhere_in, was_there_in, comes_in, AreNumbersOf, no_numbers, more_numbers, AreBranchesOf, no_branches, more_branches, IsPartOf, leaf_shown, node_shown, choice_shown, ArePartsOf, no_parts, more_parts, IsRootOf, no_root, root_of, ShowsTree}
-use Rattle.sc_show.specs.TreeText.{Part}
-use Rattle.sc_show.proofs.OneTreeText.{one_tree_text}
 
 -- a walk to the same trees of one store comes to the same ones, in one order
 one_walk : {store : List Line} {done was roots others now late : List TreeId} → done ≡ was → roots ≡ others → FinishesIn store done roots now → FinishesIn store was others late → now ≡ late
@@ -100,13 +99,12 @@ pub one_shown_tree : {space : Space} {s : Sets} {names files : List (List ℕ)} 
     → ShowsTree space s names files store root faults p → ShowsTree space s names files store root faults q → p ≡ q
 one_shown_tree {space} {s} {names} {files} {store} {root} arities x y =
     let ids = one_walk refl refl x.finished y.finished in
-    let parts = subst (λ trees. ArePartsOf s names files store trees trees y.answer.parts) (sym ids) y.parts in
-    let root_is = subst (λ trees. IsRootOf trees root y.answer.root) (sym ids) y.root_is in
-    let same : IsSameTreeAnswer space x.answer y.answer = record {
-      parts = one_parts space s names files store x.ids x.once arities refl x.parts parts;
-      root = one_root space s names files store x.ids x.once arities refl x.root_is root_is;
+    let parts = subst (λ trees. ArePartsOf s names files store trees trees y.answer.body.parts) (sym ids) y.parts in
+    let root_is = subst (λ trees. IsRootOf trees root y.answer.body.root) (sym ids) y.root_is in
+    let same : IsSameAnswer space x.answer y.answer = record {
+      body = (one_parts space s names files store x.ids x.once arities refl x.parts parts, one_root space s names files store x.ids x.once arities refl x.root_is root_is);
       faults = λ config listed.
           let here = subst (λ ns. IsConfig ns config) (sym arities) listed in
           x.faults_are config here ∙ sym (y.faults_are config here);
     } in
-    x.whole ∙ (ap concat (one_tree_text x.text_of y.text_of same) ∙ sym y.whole)
+    x.whole ∙ (ap concat (one_text x.text_of y.text_of same) ∙ sym y.whole)

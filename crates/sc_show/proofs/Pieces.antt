@@ -1,5 +1,5 @@
 -- The pieces of a text are its lines.
-use Rattle.std.proofs.Common.{◌≡◌, ℕ, suc, ◌==◌, ◌&&◌, ◌||◌, not, Bool, true, false, List, [], ◌∷◌, ◌++◌, map, codes, All, refl, sym, ap, ◌∙◌, arith, append_assoc, if◌then◌else◌}
+use Rattle.std.proofs.Common.{◌≡◌, ℕ, suc, ◌==◌, ◌&&◌, ◌||◌, not, Bool, true, false, List, [], ◌∷◌, ◌++◌, map, codes, All, Some, None, refl, sym, ap, ◌∙◌, arith, append_assoc, if◌then◌else◌}
 use Rattle.std.specs.List.{concat, flat_map, list_all, list_any}
 use Rattle.std.proofs.lemmas.List.Folds.{list_any-append}
 use Rattle.std.proofs.lemmas.List.Elements.{All-cons}
@@ -7,7 +7,7 @@ use Rattle.std.proofs.lemmas.Bool.{true≢false, and_parts, or_parts, or_from, n
 use Rattle.sc_model.specs.declared.cause.Cause.{Cause}
 use Rattle.sc_model.specs.declared.cause.Cause.TheVariants.{NotFound}
 use Rattle.sc_model.specs.Cause.{code_of, name_of}
-use Rattle.sc_text.specs.Text.{TextLine, condition_line, file_line, token_line, fault_line, end_line, numeral, place_text, choice_text, line_text, is_word, is_wordless, is_clear}
+use Rattle.sc_text.specs.Text.{TextLine, condition_line, file_line, token_line, leaf_line, node_line, choice_line, root_line, fault_line, end_line, numeral, place_text, choice_text, child_text, branch_text, line_text, is_word, is_wordless, is_clear}
 use Rattle.sc_text.proofs.Numerals.{numeral-digits, is_no_digit}
 use Rattle.sc_show.specs.Pieces.{IsLine, byte_before, split_lines_after}
 
@@ -62,6 +62,14 @@ choices_one_line (o ∷ os) h =
     let word = word_one_line o.0 (and_parts (is_word o.0) _ parts.0).0 in
     simp (newline-append, numeral_one_line, word, choices_one_line os parts.1)
 
+children_one_line : (children : List ℕ) → has_newline (flat_map child_text children) ≡ false
+children_one_line [] = refl
+children_one_line (child ∷ children) = simp (newline-append, numeral_one_line, children_one_line children)
+
+branches_one_line : (branches : List (ℕ × ℕ)) → has_newline (flat_map branch_text branches) ≡ false
+branches_one_line [] = refl
+branches_one_line (branch ∷ branches) = simp (newline-append, numeral_one_line, branches_one_line branches)
+
 -- a text without a newline, and one behind it
 pub is_line : (front : List ℕ) → has_newline front ≡ false → IsLine (front ++ codes "\n")
 is_line front h = record { front = front; one_line = not_from_false (has_newline front) h; whole = refl }
@@ -75,6 +83,13 @@ line_text_is_line (file_line id name) h = is_line (codes "s " ++ numeral id ++ c
 line_text_is_line (token_line cond place spelling) h =
     is_line (codes "t " ++ numeral cond ++ codes " " ++ place_text place ++ codes " " ++ spelling)
     (simp (newline-append, numeral_one_line, not-true (has_newline spelling) h))
+line_text_is_line (leaf_line id place spelling) h =
+    is_line (codes "l " ++ numeral id ++ codes " " ++ place_text place ++ codes " " ++ spelling) (simp (newline-append, numeral_one_line, not-true (has_newline spelling) h))
+line_text_is_line (node_line id production children) h =
+    is_line (codes "n " ++ numeral id ++ codes " " ++ numeral production ++ flat_map child_text children) (simp (newline-append, numeral_one_line, children_one_line children))
+line_text_is_line (choice_line id branches) h = is_line (codes "x " ++ numeral id ++ flat_map branch_text branches) (simp (newline-append, numeral_one_line, branches_one_line branches))
+line_text_is_line (root_line None) h = is_line (codes "root -") refl
+line_text_is_line (root_line (Some number)) h = is_line (codes "root " ++ numeral number) (numeral_one_line number)
 line_text_is_line (fault_line cond cause place) h =
     is_line (codes "f " ++ numeral cond ++ codes " " ++ numeral (code_of cause) ++ codes " " ++ name_of cause ++ codes " " ++ place_text place)
     (simp (newline-append, numeral_one_line, name_one_line cause))

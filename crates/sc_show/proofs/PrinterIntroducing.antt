@@ -12,10 +12,10 @@ use Rattle.sc_base.specs.declared.id.Cond.{Cond}
 use Rattle.sc_base.specs.declared.id.FileId.{FileId}
 use Rattle.sc_base.proofs.Growth.{Extends-refl, Extends-trans, Extends-push}
 use Rattle.sc_model.specs.Growth.{Extends}
-use Rattle.sc_text.specs.Layout.{Need, condition_numbered, file_numbered, Counts, next_condition, next_file, Introduces, nothing, known, new, HasOrder}
+use Rattle.sc_text.specs.Layout.{Counts, next_condition, next_file, Introduces, nothing, known, new, HasOrder}
 use Rattle.sc_model.specs.Sets.{Sets, IsConfig, IsCond, Denotes, Keeps, IsCanonical, IsNever, IsAlways, DependsFrom, IsTop}
 use Rattle.sc_model.specs.Space.{Space, Variable, arities_of}
-use Rattle.sc_text.specs.Text.{TextLine, condition_line, file_line, line_text}
+use Rattle.sc_text.specs.Text.{TextLine, condition_line, file_line, Need, condition_numbered, file_numbered, line_text}
 use Rattle.sc_model.specs.Bytes.{has_no_newline}
 use Rattle.sc_model.proofs.ListLemmas.{slice_get-front, slice_get-seam}
 use Rattle.sc_model.proofs.SetLemmas.{Keeps-trans, DependsFrom-Keeps}
@@ -78,7 +78,7 @@ Introduces-append {n = n} {i = i} {ms = ms} {more = more0} (new n1 before after 
 pub Introduced-trans : {space : Space} {s t u : Sets} {p q r : Printer} {ns ms : List ℕ} → Keeps t u → Introduced space s t p q ns → Introduced space t u q r ms → Introduced space s u p r (ns ++ ms)
 Introduced-trans {space} {s} {t} {u} {p} {q} {r} {ns} {ms} keeps a b = record {
   lines = a.lines ++ b.lines;
-  wrote = wrote-more line_text p.text.items a.lines b.lines a.wrote b.wrote;
+  wrote = wrote-more p.text.items a.lines b.lines a.wrote b.wrote;
   introduces = subst (λ needed. Introduces (counts_of p) needed (a.lines ++ b.lines) (counts_of r)) (sym (map-append condition_numbered ns ms)) (Introduces-append a.introduces b.introduces);
   ordered = λ v ks kept grows. All-append (HasOrder space (tests_of v ks)) a.lines b.lines (a.ordered v ks (Keeps-trans keeps kept) (Extends-trans b.grows grows)) (b.ordered v ks kept grows);
   table = b.table;
@@ -92,7 +92,7 @@ Introduced-trans {space} {s} {t} {u} {p} {q} {r} {ns} {ms} keeps a b = record {
 pub Introduced-nothing : {space : Space} {old new : Sets} {p : Printer} → Keeps old new → IsTable old p.conditions.keys → Introduced space old new p p []
 Introduced-nothing {space} {old} {new} {p} keeps table = record {
   lines = [];
-  wrote = wrote-nothing line_text p.text.items refl;
+  wrote = wrote-nothing p.text.items refl;
   introduces = nothing (counts_of p);
   ordered = λ s ks kept grows. All-nil (HasOrder space (tests_of s ks));
   table = IsTable-Keeps keeps table;
@@ -106,7 +106,7 @@ Introduced-nothing {space} {old} {new} {p} keeps table = record {
 pub Introduced-known : {space : Space} {s : Sets} {p : Printer} (a : Cond) (n : ℕ) → IsTable s p.conditions.keys → slice_get p.conditions.keys n ≡ Some a → Introduced space s s p p (n ∷ [])
 Introduced-known {space} {s} {p} a n table at = record {
   lines = [];
-  wrote = wrote-nothing line_text p.text.items refl;
+  wrote = wrote-nothing p.text.items refl;
   introduces = known (counts_of p) (counts_of p) (condition_numbered n) [] [] (slice_get_within p.conditions.keys n a at) (nothing (counts_of p));
   ordered = λ t ks kept grows. All-nil (HasOrder space (tests_of t ks));
   table = table;
@@ -123,8 +123,8 @@ pub Introduced-node : {space : Space} {old s : Sets} {p q r : Printer} {ns : Lis
     → r.text.items ≡ q.text.items ++ line_text (condition_line number variable.name (choices_of variable.options shown)) → Introduced space old s p r (number ∷ [])
 Introduced-node {space} {old} {s} {p} {q} {r} {ns} a variable v number shown words arities named within own parts has count at keys same_files same_trees same written = record {
   lines = parts.lines ++ line ∷ [];
-  wrote = wrote-more line_text p.text.items parts.lines (line ∷ []) parts.wrote
-      (wrote-line line_text q.text.items line (written ∙ ap (λ ms. q.text.items ++ line_text (condition_line number variable.name (choices_of variable.options ms))) same));
+  wrote = wrote-more p.text.items parts.lines (line ∷ []) parts.wrote
+      (wrote-line q.text.items line (written ∙ ap (λ ms. q.text.items ++ line_text (condition_line number variable.name (choices_of variable.options ms))) same));
   introduces = placed;
   ordered = λ t ks kept grows.
       All-append (HasOrder space (tests_of t ks)) parts.lines (line ∷ []) (parts.ordered t ks kept (Extends-trans longer grows))
@@ -192,7 +192,7 @@ pub IntroducedFile-known : {files : List (List ℕ)} {p q : Printer} (number : �
     → q.conditions.keys ≡ p.conditions.keys → q.trees.keys ≡ p.trees.keys → q.text.items ≡ p.text.items → IntroducedFile files p q number
 IntroducedFile-known {files} {p} {q} number within keys same same_trees same_text = record {
   lines = [];
-  wrote = wrote-nothing line_text p.text.items same_text;
+  wrote = wrote-nothing p.text.items same_text;
   introduces =
       let conditions = ap length (sym same) in
       let files_are = ap length (sym keys) in
@@ -216,7 +216,7 @@ IntroducedFile-new {files} {p} {q} file name number one_line named at keys same 
     let counted : after ≡ counts_of q = λ i. record { conditions = conditions i; files = files_are i } in
     record {
       lines = file_line number name ∷ [];
-      wrote = wrote-line line_text p.text.items (file_line number name) written;
+      wrote = wrote-line p.text.items (file_line number name) written;
       introduces = subst (Introduces (counts_of p) (file_numbered number ∷ []) (file_line number name ∷ [])) counted
           (subst (λ n. Introduces (counts_of p) (file_numbered n ∷ []) (file_line n name ∷ []) after) (sym at)
           (new (counts_of p) (counts_of p) after after (file_line (length p.files.keys) name) (file_numbered (length p.files.keys)) [] [] [] (nothing (counts_of p)) (next_file (counts_of p) name) (nothing after)));

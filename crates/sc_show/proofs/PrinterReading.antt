@@ -10,23 +10,23 @@ use Rattle.sc_model.specs.declared.variable_option.VariableOption.{VariableOptio
 use Rattle.sc_model.specs.Bytes.{same_bytes}
 use Rattle.sc_model.specs.Growth.{IsOneToOne}
 use Rattle.sc_model.specs.Space.{Variable, Space, option_text}
-use Rattle.sc_text.specs.Text.{BodyKind, Reading, TextLine, read_lines, read_line, is_clear, variable_from, are_options}
+use Rattle.sc_text.specs.Text.{Reading, TextLine, line_text, read_lines, read_line, is_clear, variable_from, are_options}
 use Rattle.sc_model.proofs.ByteLemmas.{same_bytes-refl, same_bytes-true}
 use Rattle.sc_show.specs.Prints.{choices_of}
 use Rattle.sc_show.proofs.LinesChoices.{both}
 
 -- the last line is read at what was read before it
-pub read_lines-push : {kind : BodyKind} (space : Space) (lines : List TextLine) (r t u : Reading kind) (line : TextLine) → read_lines space r lines ≡ Some t → t.ended ≡ false
+pub read_lines-push : (space : Space) (lines : List TextLine) (r t u : Reading) (line : TextLine) → read_lines space r lines ≡ Some t → t.ended ≡ false
     → read_line space t line ≡ Some u → read_lines space r (lines ++ line ∷ []) ≡ Some u
-read_lines-push {kind = kind} space [] r t u line before unended now =
+read_lines-push space [] r t u line before unended now =
     subst (λ x. read_lines space x (line ∷ []) ≡ Some u) (sym (same_Some r t before)) (by t.ended (read_line space t line) unended now)
   where
-    by : (b : Bool) (o : Option (Reading kind)) → b ≡ false → o ≡ Some u → (if b then None else option_and_then (λ s. Some s) o) ≡ Some u
+    by : (b : Bool) (o : Option Reading) → b ≡ false → o ≡ Some u → (if b then None else option_and_then (λ s. Some s) o) ≡ Some u
     by b o p q = rw (p, q) refl
-read_lines-push {kind = kind} space (l ∷ ls) r t u line before unended now =
+read_lines-push space (l ∷ ls) r t u line before unended now =
     by r.ended (read_line space r l) (λ s h. read_lines-push space ls s t u line h unended now) before
   where
-    by : (b : Bool) (o : Option (Reading kind)) → ((s : Reading kind) → read_lines space s ls ≡ Some t → read_lines space s (ls ++ line ∷ []) ≡ Some u)
+    by : (b : Bool) (o : Option Reading) → ((s : Reading) → read_lines space s ls ≡ Some t → read_lines space s (ls ++ line ∷ []) ≡ Some u)
         → (if b then None else option_and_then (λ s. read_lines space s ls) o) ≡ Some t
         → (if b then None else option_and_then (λ s. read_lines space s (ls ++ line ∷ [])) o) ≡ Some u
     by true o ih h = absurd (cc)
@@ -34,17 +34,17 @@ read_lines-push {kind = kind} space (l ∷ ls) r t u line before unended now =
     by false (Some s) ih h = ih s h
 
 -- a text after more lines
-module _ {L : Type 0} (text_of : L → List ℕ) (p : List ℕ) {q : List ℕ} where
-  pub wrote-nothing : q ≡ p → q ≡ p ++ concat (map text_of [])
+module _ (p : List ℕ) {q : List ℕ} where
+  pub wrote-nothing : q ≡ p → q ≡ p ++ concat (map line_text [])
   wrote-nothing same = same ∙ sym (append-nil p)
 
-  pub wrote-line : (line : L) → q ≡ p ++ text_of line → q ≡ p ++ concat (map text_of (line ∷ []))
-  wrote-line line wrote = wrote ∙ ap (λ t. p ++ t) (sym (append-nil (text_of line)))
+  pub wrote-line : (line : TextLine) → q ≡ p ++ line_text line → q ≡ p ++ concat (map line_text (line ∷ []))
+  wrote-line line wrote = wrote ∙ ap (λ t. p ++ t) (sym (append-nil (line_text line)))
 
-  pub wrote-more : {r : List ℕ} (lines more : List L) → q ≡ p ++ concat (map text_of lines) → r ≡ q ++ concat (map text_of more) → r ≡ p ++ concat (map text_of (lines ++ more))
+  pub wrote-more : {r : List ℕ} (lines more : List TextLine) → q ≡ p ++ concat (map line_text lines) → r ≡ q ++ concat (map line_text more) → r ≡ p ++ concat (map line_text (lines ++ more))
   wrote-more lines more first rest =
-      rest ∙ ap (λ t. t ++ concat (map text_of more)) first ∙ append_assoc p (concat (map text_of lines)) (concat (map text_of more))
-      ∙ ap (λ t. p ++ t) (sym (ap concat (map-append text_of lines more) ∙ concat-append (map text_of lines) (map text_of more)))
+      rest ∙ ap (λ t. t ++ concat (map line_text more)) first ∙ append_assoc p (concat (map line_text lines)) (concat (map line_text more))
+      ∙ ap (λ t. p ++ t) (sym (ap concat (map-append line_text lines more) ∙ concat-append (map line_text lines) (map line_text more)))
 
 pub clear-push : (lines : List TextLine) (line : TextLine) → list_all is_clear lines ≡ true → is_clear line ≡ true → list_all is_clear (lines ++ line ∷ []) ≡ true
 clear-push lines line h k = list_all-append is_clear lines (line ∷ []) ∙ both h (both k refl)

@@ -1,21 +1,19 @@
 -- What was printed, with one line more.
-use Rattle.std.proofs.Common.{◌≡◌, ℕ, zero, suc, ◌+◌, ◌<◌, ◌≤◌, ◌⊎◌, inl, inr, ◌==◌, ◌||◌, nat_lt, unwrap_or, Bool, true, false, List, [], ◌∷◌, ◌++◌, length, map, slice_get, slice_index, get_or, Some, None, option_map, All, refl, sym, ap, subst, ◌∙◌, arith, length-append, if◌then◌else◌}
-use Rattle.std.proofs.lemmas.Bool.{true≢false, eq-eqb, eqb-true, lt-ltb, cases_lt}
+use Rattle.std.proofs.Common.{◌≡◌, ℕ, zero, suc, ◌+◌, ◌<◌, ◌≤◌, ◌⊎◌, inl, inr, ◌==◌, ◌||◌, unwrap_or, Bool, true, false, List, [], ◌∷◌, ◌++◌, length, map, slice_get, slice_index, get_or, Some, None, option_map, All, refl, sym, ap, subst, ◌∙◌, arith, length-append, if◌then◌else◌}
+use Rattle.std.proofs.lemmas.Bool.{true≢false, eq-eqb, eqb-true, cases_lt}
 use Rattle.std.proofs.lemmas.List.{map-append, length-map, get_or-map}
 use Rattle.std.proofs.lemmas.Option.{slice_get-map, slice_get_within, same_Some, slice_get-get_or, get_or_from_slice_get}
 use Rattle.sc_base.specs.declared.id.Cond.{Cond}
 use Rattle.sc_base.specs.declared.id.FileId.{FileId}
-use Rattle.sc_base.specs.declared.place.Place as declared_place
-use Rattle.sc_base.specs.Seen.{text_at, seen_place}
-use Rattle.sc_base.specs.Seen.{position_of}
+use Rattle.sc_base.specs.Seen.{text_at}
 use Rattle.indexmap.specs.IndexSet.{insert_key}
-use Rattle.sc_model.specs.declared.cause.Cause.{Cause}
-use Rattle.sc_model.specs.Fault.{Fault}
 use Rattle.sc_model.specs.Sets.{Sets, IsConfig, IsCond, HasOptions, Denotes, Keeps}
 use Rattle.sc_model.specs.Space.{Space, Variable, arities_of}
-use Rattle.sc_text.specs.Text.{Condition, token_list, Reading, TextLine, condition_line, file_line, token_line, fault_line, is_clear, is_word, read_line, condition_at, chosen, read_condition, variable_from, with_condition, with_file, with_token, with_fault, place_of, nothing_read}
+use Rattle.sc_text.specs.Answer.{Condition}
+use Rattle.sc_text.specs.Layout.{Counts, Introduces, is_item}
+use Rattle.sc_text.specs.Text.{Reading, TextLine, condition_line, file_line, needs, is_clear, is_end, is_word, read_line, condition_at, chosen, read_condition, variable_from, with_condition, with_file, with_line, nothing_read}
+use Rattle.sc_text.proofs.LayoutLemmas.{read_item}
 use Rattle.sc_model.specs.Bytes.{has_no_newline}
-use Rattle.sc_model.specs.Token.{Place, Shown}
 use Rattle.sc_model.proofs.ListLemmas.{slice_get-front, slice_get-seam}
 use Rattle.sc_text.proofs.ConditionLemmas.{condition_at-push, condition_at-last}
 use Rattle.sc_model.proofs.SetLemmas.{IsConfig-kept}
@@ -23,14 +21,15 @@ use Rattle.sc_space.specs.Seen.{seen_space, seen_variable}
 use Rattle.sc_space.specs.declared.space.Space as declared_space
 use Rattle.sc_space.specs.declared.space.Variable as declared_variable
 use Rattle.sc_show.specs.declared.printer.Printer.{Printer}
-use Rattle.sc_show.specs.Prints.{HasWordNames, Prints, Agrees, IsTable, choices_of, printed_place}
+use Rattle.sc_show.specs.Prints.{HasWordNames, Prints, Agrees, IsTable, choices_of}
+use Rattle.sc_show.specs.Rules.{counts_of}
 use Rattle.sc_show.proofs.PrinterChildren.{HasChildren}
 use Rattle.sc_show.proofs.LinesChoices.{both, clear_choices, numbers-choices_of}
 use Rattle.sc_show.proofs.PrinterReading.{read_lines-push, clear-push, variable_from-found, are_options-choices_of}
 use Rattle.sc_show.proofs.PrinterNumbers.{owned_at}
 
 -- one line more
-Prints-push : {space : Space} {s : Sets} {files : List (List ℕ)} {p q : Printer} {before : List TextLine} (was : Prints space s files p before) (line : TextLine) (reading : Reading token_list)
+Prints-push : {space : Space} {s : Sets} {files : List (List ℕ)} {p q : Printer} {before : List TextLine} (was : Prints space s files p before) (line : TextLine) (reading : Reading)
     → is_clear line ≡ true → read_line space was.reading line ≡ Some reading → reading.ended ≡ false
     → Agrees s q.conditions.keys reading.conditions → reading.files ≡ map (λ (f : FileId). text_at files f.0) q.files.keys → Prints space s files q (before ++ line ∷ [])
 Prints-push {space} {before = before} was line reading clear read unended conditions names = record {
@@ -162,42 +161,14 @@ Prints-file {space} {s} {files} {p} {q} file name number one_line named at keys 
     ∙ sym (ap (map (λ (f : FileId). text_at files f.0)) keys ∙ map-append (λ (f : FileId). text_at files f.0) p.files.keys (file ∷ [])) in
     Prints-push was (file_line number name) (with_file was.reading name) clear read was.unended (subst (λ ks. Agrees s ks was.reading.conditions) (sym same) was.conditions) names
 
--- the place that is read is the one that was printed
-pub place_of-printed : (files : List (List ℕ)) (keys : List FileId) (r : Reading token_list) (m : ℕ) (place : declared_place.Place) → r.files ≡ map (λ (f : FileId). text_at files f.0) keys
-    → slice_get keys m ≡ Some place.file → place_of r (printed_place m place) ≡ Some (seen_place files place)
-place_of-printed files keys r m place names at =
-    ap (option_map (λ (name : List ℕ). let x : Place = record { file = name; position = position_of place } in x))
-    (ap (λ fs. slice_get fs m) names ∙ slice_get-map (λ (f : FileId). text_at files f.0) keys m ∙ ap (option_map (λ (f : FileId). text_at files f.0)) at)
-
-module _ {space : Space} {s : Sets} {files : List (List ℕ)} {p : Printer} {cond : Cond} (q : Printer) (n m : ℕ) (place : declared_place.Place) (number : slice_get p.conditions.keys n ≡ Some cond)
-    (file : slice_get p.files.keys m ≡ Some place.file) (kept : q.conditions.keys ≡ p.conditions.keys) (kept_files : q.files.keys ≡ p.files.keys) {before : List TextLine} (was : Prints space s files p before) where
-  agrees_still : Agrees s q.conditions.keys was.reading.conditions
-  agrees_still = subst (λ ks. Agrees s ks was.reading.conditions) (sym kept) was.conditions
-
-  below : nat_lt n (length was.reading.conditions) ≡ true
-  below = lt-ltb n (length was.reading.conditions) (subst (λ k. n < k) (sym was.conditions.long) (slice_get_within p.conditions.keys n cond number))
-
-  named_still : was.reading.files ≡ map (λ (f : FileId). text_at files f.0) q.files.keys
-  named_still = was.names ∙ ap (map (λ (f : FileId). text_at files f.0)) (sym kept_files)
-
-  -- a token's line
-  pub Prints-token : (spelling : List ℕ) → has_no_newline spelling ≡ true
-      → Prints space s files q (before ++ token_line n (printed_place m place) spelling ∷ [])
-  Prints-token spelling one_line =
-      let it : Shown = record { place = seen_place files place; spelling = spelling } in
-      let read =
-      ap (λ b. if b then option_map (λ at. with_token was.reading (condition_at was.reading.conditions n) (record { place = at; spelling = spelling })) (place_of was.reading (printed_place m place)) else None) below
-      ∙ ap (option_map (λ at. with_token was.reading (condition_at was.reading.conditions n) (record { place = at; spelling = spelling }))) (place_of-printed files p.files.keys was.reading m place was.names file) in
-      Prints-push was (token_line n (printed_place m place) spelling) (with_token was.reading (condition_at was.reading.conditions n) it) one_line read was.unended agrees_still named_still
-
-  -- a fault's line
-  pub Prints-fault : (cause : Cause) → Prints space s files q (before ++ fault_line n cause (printed_place m place) ∷ [])
-  Prints-fault cause =
-      let it : Fault = record { cause = cause; place = seen_place files place } in
-      let read =
-      ap (λ b. if b then option_map (λ at. with_fault was.reading (condition_at was.reading.conditions n) (record { cause = cause; place = at })) (place_of was.reading (printed_place m place)) else None) below
-      ∙ ap (option_map (λ at. with_fault was.reading (condition_at was.reading.conditions n) (record { cause = cause; place = at }))) (place_of-printed files p.files.keys was.reading m place was.names file) in
-      Prints-push was (fault_line n cause (printed_place m place)) (with_fault was.reading (condition_at was.reading.conditions n) it) refl read was.unended agrees_still named_still
+-- an item's line, below those that it needs
+pub Prints-item : {space : Space} {s : Sets} {files : List (List ℕ)} {p q : Printer} {before : List TextLine} {counts : Counts} {first : List TextLine} (line : TextLine) → is_item line ≡ true → is_end line ≡ false → is_clear line ≡ true
+    → Introduces counts (needs line) first (counts_of p) → q.conditions.keys ≡ p.conditions.keys → q.files.keys ≡ p.files.keys → Prints space s files p before → Prints space s files q (before ++ line ∷ [])
+Prints-item {space} {s} {files} {p} {q} line right unended clear introduced kept kept_files was =
+    let named = ap length was.names ∙ length-map p.files.keys (λ (f : FileId). text_at files f.0) in
+    Prints-push was line (with_line was.reading line) clear (read_item was.reading space line right introduced (sym was.conditions.long) (sym named)) unended
+    (subst (λ ks. Agrees s ks was.reading.conditions) (sym kept) was.conditions)
+    (was.names ∙ ap (map (λ (f : FileId). text_at files f.0)) (sym kept_files))
 
 -- nothing was printed yet
 pub Prints-nothing : {space : Space} {s : Sets} {files : List (List ℕ)} {p : Printer} (never always : Cond) → Denotes s never.0 (λ _. false) → Denotes s always.0 (λ _. true)
@@ -211,7 +182,7 @@ Prints-nothing {space} {s} {files} {p} never always none all keys no_files = rec
   names = sym (ap (map (λ (f : FileId). text_at files f.0)) no_files);
 }
   where
-    by : (n : ℕ) (cond : Cond) → slice_get (never ∷ always ∷ []) n ≡ Some cond → (c : List ℕ) → IsConfig s.arities c → condition_at (nothing_read {kind = token_list}).conditions n c ≡ s.has cond.0 c
+    by : (n : ℕ) (cond : Cond) → slice_get (never ∷ always ∷ []) n ≡ Some cond → (c : List ℕ) → IsConfig s.arities c → condition_at nothing_read.conditions n c ≡ s.has cond.0 c
     by zero cond at c listed = sym (none.at c listed) ∙ ap (λ (k : Cond). s.has k.0 c) (same_Some never cond at)
     by (suc zero) cond at c listed = sym (all.at c listed) ∙ ap (λ (k : Cond). s.has k.0 c) (same_Some always cond at)
     by (suc (suc n)) cond at c listed = absurd (cc)

@@ -5,7 +5,7 @@ use Rattle.sc_guarded.specs.Items.{items_at}
 use Rattle.sc_base.specs.declared.token.Token.{Token}
 use Rattle.sc_base.specs.Seen.{seen}
 use Rattle.sc_model.specs.Sets.{Sets}
-use Rattle.sc_text.specs.Text.{project}
+use Rattle.sc_text.specs.Answer.{project}
 use Rattle.sc_model.specs.Token.{Shown, shown}
 use Rattle.sc_show.specs.Shows.{shown_items}
 

@@ -1,6 +1,7 @@
 -- A tree is printed, task by task.
 use Rattle.std.proofs.Common.{◌≡◌, ℕ, ◌<◌, List, [], ◌∷◌, ◌++◌, length, map, reverse, Option, Some, None, slice_get, All, refl, sym, ap, subst, ◌∙◌, arith}
 use Rattle.std.specs.List.{Contains}
+use Rattle.std.specs.Option.{option_to_list}
 use Rattle.std.proofs.lemmas.List.{reverse-append}
 use Rattle.std.proofs.lemmas.List.Elements.{All-nil, All-cons, All-head, All-tail, All-append}
 use Rattle.std.proofs.lemmas.Option.{slice_get_within}
@@ -15,7 +16,6 @@ use Rattle.sc_show.specs.declared.tree.Task.{Task}
 use Rattle.sc_show.specs.declared.tree.Task.TheVariants as task
 use Rattle.sc_show.specs.Prints.{IsTable}
 use Rattle.sc_show.specs.TreeRules.{LaidOutTree, PrintedTree, IsReady}
-use Rattle.sc_show.specs.TreeLayout.{listed}
 use Rattle.sc_show.specs.TreeShows.{FinishesIn, nowhere_in, AreShowableLeaves}
 use Rattle.sc_show.proofs.TreeLines.{LaidOutTree-nothing, LaidOutTree-trans}
 use Rattle.sc_show.proofs.TreeTasks.{Completes, AreReady, task_id, completes_known, completes_new, ready_known, ready_new, ready_line, below_printed}
@@ -113,8 +113,8 @@ underway_done {q = q} root [] none was = record { trees = was.trees; laid = was.
 
 -- no tree is printed
 pub printed_nothing : {space : Space} {s : Sets} {names files : List (List ℕ)} {store : List Line} {p : Printer} (root : Option TreeId) → root ≡ None → IsTable s p.conditions.keys
-    → PrintedTree space s s names files store p p (listed root)
-printed_nothing {space} {s} {names} {files} {store} {p} root none table = subst (λ (r : Option TreeId). PrintedTree space s s names files store p p (listed r)) (sym none) (record {
+    → PrintedTree space s s names files store p p (option_to_list root)
+printed_nothing {space} {s} {names} {files} {store} {p} root none table = subst (λ (r : Option TreeId). PrintedTree space s s names files store p p (option_to_list r)) (sym none) (record {
   trees = [];
   laid = LaidOutTree-nothing table;
   of_store = All-nil (λ (tree : TreeId × Line). slice_get store tree.0.0 ≡ Some tree.1);

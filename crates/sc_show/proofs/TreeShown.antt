@@ -1,5 +1,6 @@
 -- The trees that parts show.
-use Rattle.std.proofs.Common.{◌≡◌, ℕ, zero, suc, Bool, true, false, List, [], ◌∷◌, map, slice_get, unwrap_or, Some, option_map, All, refl, sym, ap, subst, ◌∙◌, if◌then◌else◌}
+use Rattle.std.proofs.Common.{◌≡◌, ℕ, zero, suc, Bool, true, false, List, [], ◌∷◌, map, slice_get, unwrap_or, Some, All, refl, sym, ap, subst, ◌∙◌, if◌then◌else◌}
+use Rattle.std.specs.List.{cons_option, filter_map}
 use Rattle.std.proofs.lemmas.List.Elements.{All-head, All-tail}
 use Rattle.std.proofs.lemmas.Option.{same_Some}
 use Rattle.c11_parsing.specs.Trees.{Tree, Forest}
@@ -8,19 +9,19 @@ use Rattle.sc_base.specs.declared.id.FileId.{FileId}
 use Rattle.sc_base.specs.declared.id.Name.{Name}
 use Rattle.sc_base.specs.declared.id.TreeId.{TreeId}
 use Rattle.sc_base.specs.declared.place.Place as declared_place
-use Rattle.sc_base.specs.Seen.{text_at, seen_place}
+use Rattle.sc_base.specs.Seen.{text_at, seen_place, position_of}
 use Rattle.sc_guarded.specs.Items.{items_at}
 use Rattle.sc_model.specs.Sets.{Sets, IsConfig}
-use Rattle.sc_model.specs.Token.{Place, Shown, Token, shown}
-use Rattle.sc_text.specs.Text.{Condition, token_list, Reading, condition_at, project}
+use Rattle.sc_model.specs.Token.{Shown, Token, shown}
+use Rattle.sc_text.specs.Answer.{Condition, project, Part, leaf_part, node_part, choice_part, TreeAt, leaf_at, node_at, choice_at, TreesAt, none_at, more_at}
+use Rattle.sc_text.specs.Text.{TextLine, Reading, condition_at, branches_of, part_said, parts_said, says}
 use Rattle.sc_tree.specs.Lines.{Line, leaf, node, choice}
 use Rattle.sc_tree.specs.Reads.{Tables, IsTokenAt, Reads, leaf_reads, node_reads, choice_reads, AllRead, none_read, more_read}
 use Rattle.sc_show.specs.Prints.{Agrees}
 use Rattle.sc_show.specs.TreeRules as rules
 use Rattle.sc_show.specs.TreeRules.{AreBranchNumbers, IsLineOf, of_leaf, of_node, of_choice, AreTreeLines, no_lines, more_lines}
 use Rattle.sc_show.specs.TreeShows.{shown_tree, shown_forest, AreNumbersOf, no_numbers, more_numbers, AreBranchesOf, no_branches, more_branches, IsPartOf, leaf_shown, node_shown, choice_shown, ArePartsOf, no_parts, more_parts}
-use Rattle.sc_show.specs.TreeText.{Part, leaf_part, node_part, choice_part, TreeAt, leaf_at, node_at, choice_at, TreesAt, none_at, more_at, TreeLine, part_of}
-use Rattle.sc_show.proofs.PrinterSteps.{place_of-printed}
+use Rattle.sc_show.proofs.TokensItemLines.{name_read}
 
 -- ---- the part of an id
 
@@ -32,7 +33,7 @@ pub record PartAt (s : Sets) (names files : List (List ℕ)) (store : List Line)
   pub is : IsPartOf s names files ids line part
 
 module _ (s : Sets) (names files : List (List ℕ)) (store : List Line) (ids : List TreeId) where
-  part_at : {others : List TreeId} {parts : List Part} → ArePartsOf s names files store ids others parts → (n : ℕ) (id : TreeId) → slice_get others n ≡ Some id → PartAt s names files store ids parts n id
+  pub part_at : {others : List TreeId} {parts : List Part} → ArePartsOf s names files store ids others parts → (n : ℕ) (id : TreeId) → slice_get others n ≡ Some id → PartAt s names files store ids parts n id
   part_at no_parts n id at = absurd (cc)
   part_at (more_parts x line part others parts in_store is rest) zero id at =
       record { line = line; part = part; in_store = ap (λ (y : TreeId). slice_get store y.0) (sym (same_Some x id at)) ∙ in_store; at = refl; is = is }
@@ -131,42 +132,36 @@ module _ (s : Sets) (names files : List (List ℕ)) (store : List Line) (ids : L
       trees_at _ _ _ (more_read child children tree forest first rest) (more_numbers _ number _ numbers at others) =
           more_at number numbers (shown_tree tree) (shown_forest forest) (tree_at child.0 number tree first at) (trees_at children forest numbers rest others)
 
--- ---- what is read of the lines of parts
+-- ---- what the lines of parts say
 
--- the parts of lines, and what they show
-pub record PartsRead (s : Sets) (names files : List (List ℕ)) (store : List Line) (ids : List TreeId) (r : Reading token_list) (trees : List (TreeId × Line)) (shown : List TreeLine) : Type 0 where
+pub record PartsSaid (s : Sets) (names files : List (List ℕ)) (store : List Line) (ids : List TreeId) (r : Reading) (next : ℕ) (trees : List (TreeId × Line)) (shown : List TextLine) : Type 0 where
   pub parts : List Part
-  pub read : map (part_of r) shown ≡ map Some parts
+  pub said : filter_map (says r.conditions r.files) shown ≡ parts_said next parts
   pub are : ArePartsOf s names files store ids (map (λ (tree : TreeId × Line). tree.0) trees) parts
 
-module _ (s : Sets) (names files : List (List ℕ)) (store : List Line) (ks : List Cond) (fs : List FileId) (ids : List TreeId) (r : Reading token_list) (agrees : Agrees s ks r.conditions)
+module _ (s : Sets) (names files : List (List ℕ)) (store : List Line) (ks : List Cond) (fs : List FileId) (ids : List TreeId) (r : Reading) (agrees : Agrees s ks r.conditions)
     (named : r.files ≡ map (λ (f : FileId). text_at files f.0) fs) where
-  branches_read : {branches : List (Cond × TreeId)} {numbers : List (ℕ × ℕ)} → AreBranchNumbers ks ids branches numbers
-      → AreBranchesOf s ids branches (map (λ (branch : ℕ × ℕ). (condition_at r.conditions branch.0, branch.1)) numbers)
+  branches_read : {branches : List (Cond × TreeId)} {numbers : List (ℕ × ℕ)} → AreBranchNumbers ks ids branches numbers → AreBranchesOf s ids branches (branches_of r.conditions numbers)
   branches_read rules.no_numbers = no_branches
   branches_read (rules.more_numbers branch condition number branches numbers at numbered rest) =
-      more_branches branch (condition_at r.conditions condition) number branches (map (λ (branch : ℕ × ℕ). (condition_at r.conditions branch.0, branch.1)) numbers)
+      more_branches branch (condition_at r.conditions condition) number branches (branches_of r.conditions numbers)
       (λ c listed. agrees.each condition branch.0 at c listed) numbered (branches_read rest)
 
-  part_read : {number : ℕ} {line : Line} {shown : TreeLine} → IsLineOf names ks fs ids number line shown → (part : Part) × ((part_of r shown ≡ Some part) × IsPartOf s names files ids line part)
-  part_read (of_leaf place spelling file at) =
-      let it : Shown = record { place = seen_place files place; spelling = text_at names spelling.0 } in
-      (leaf_part it, (ap (option_map (λ (at : Place). leaf_part (record { place = at; spelling = text_at names spelling.0 }))) (place_of-printed files fs r file place named at), leaf_shown place spelling))
-  part_read (of_node production children numbers are) = (node_part production numbers, (refl, node_shown production children numbers are))
-  part_read (of_choice branches numbers are) =
-      let tests = map (λ (branch : ℕ × ℕ). (condition_at r.conditions branch.0, branch.1)) numbers in
-      (choice_part tests, (refl, choice_shown branches tests (branches_read are)))
+  part_said_by : {number : ℕ} {line : Line} {shown : TextLine} → IsLineOf names ks fs ids number line shown → (part : Part) × ((says r.conditions r.files shown ≡ Some (part_said number part)) × IsPartOf s names files ids line part)
+  part_said_by {number} (of_leaf place spelling file at) =
+      let name = name_read files fs r.files named file place.file at in
+      (_, (λ i. Some (part_said number (leaf_part (record { place = record { file = name i; position = position_of place }; spelling = text_at names spelling.0 }))), leaf_shown place spelling))
+  part_said_by (of_node production children numbers are) = (node_part production numbers, (refl, node_shown production children numbers are))
+  part_said_by (of_choice branches numbers are) = (choice_part (branches_of r.conditions numbers), (refl, choice_shown branches (branches_of r.conditions numbers) (branches_read are)))
 
-  pub parts_read : {next : ℕ} {trees : List (TreeId × Line)} {shown : List TreeLine} → AreTreeLines names ks fs ids next trees shown → All (λ (tree : TreeId × Line). slice_get store tree.0.0 ≡ Some tree.1) trees
-      → PartsRead s names files store ids r trees shown
-  parts_read (no_lines next) held = record { parts = []; read = refl; are = no_parts }
-  parts_read (more_lines next tree line trees lines is rest) held =
-      let one = part_read is in
-      let others = parts_read rest (All-tail (λ (t : TreeId × Line). slice_get store t.0.0 ≡ Some t.1) tree trees held) in
-      let first = one.1.0 in
-      let more = others.read in
+  pub parts_told : {next : ℕ} {trees : List (TreeId × Line)} {shown : List TextLine} → AreTreeLines names ks fs ids next trees shown → All (λ (tree : TreeId × Line). slice_get store tree.0.0 ≡ Some tree.1) trees
+      → PartsSaid s names files store ids r next trees shown
+  parts_told (no_lines next) held = record { parts = []; said = refl; are = no_parts }
+  parts_told (more_lines next tree line trees lines is rest) held =
+      let one = part_said_by is in
+      let others = parts_told rest (All-tail (λ (t : TreeId × Line). slice_get store t.0.0 ≡ Some t.1) tree trees held) in
       record {
         parts = one.0 ∷ others.parts;
-        read = λ i. first i ∷ more i;
+        said = ap (λ o. cons_option o (filter_map (says r.conditions r.files) lines)) one.1.0 ∙ ap (λ said. part_said next one.0 ∷ said) others.said;
         are = more_parts tree.0 tree.1 one.0 (map (λ (t : TreeId × Line). t.0) trees) others.parts (All-head (λ (t : TreeId × Line). slice_get store t.0.0 ≡ Some t.1) tree trees held) one.1.1 others.are;
       }

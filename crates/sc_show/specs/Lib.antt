@@ -5,7 +5,5 @@ pub mod PlainText
 pub mod Prints
 pub mod Rules
 pub mod Shows
-pub mod TreeLayout
 pub mod TreeRules
 pub mod TreeShows
-pub mod TreeText

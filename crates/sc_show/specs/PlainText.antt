@@ -1,8 +1,7 @@
 -- The text of one configuration: its tree laid out, or its fault alone.
 use Rattle.std.specs.Prelude.{◌≡◌, ℕ, ◌+◌, true, List, [], ◌∷◌, ◌++◌, Some, None, Result, Ok, Err}
 use Rattle.sc_model.specs.Fault.{Fault}
-use Rattle.sc_text.specs.Text.{Condition}
-use Rattle.sc_show.specs.TreeText.{Part, leaf_part, node_part, TreeAnswer, ShownTree, shown_leaf, shown_node, ShownForest, no_shown, more_shown}
+use Rattle.sc_text.specs.Answer.{Condition, Part, leaf_part, node_part, ShownTree, shown_leaf, shown_node, ShownForest, no_shown, more_shown, tree_parts, Answer}
 
 -- The number of a tree's root, where the numbers of its parts begin with this one: the root is the
 -- last part. So the next tree's numbers begin behind it.
@@ -34,7 +33,7 @@ abbrev mutual
 
 -- The answer that a result has at its only configuration: the parts of the tree and no fault, or no
 -- tree and this one fault.
-pub data IsPlainAnswer (answer : TreeAnswer) (config : List ℕ) : Result ShownTree Fault → Type 0 where
-  tree_alone : (tree : ShownTree) → answer.parts ≡ parts_from 0 tree → answer.root ≡ Some (root_from 0 tree) → answer.faults ≡ [] → IsPlainAnswer answer config (Ok tree)
-  fault_alone : (test : Condition) (fault : Fault) → answer.parts ≡ [] → answer.root ≡ None → answer.faults ≡ (test, fault) ∷ [] → test config ≡ true
+pub data IsPlainAnswer (answer : Answer tree_parts) (config : List ℕ) : Result ShownTree Fault → Type 0 where
+  tree_alone : (tree : ShownTree) → answer.body.parts ≡ parts_from 0 tree → answer.body.root ≡ Some (root_from 0 tree) → answer.faults ≡ [] → IsPlainAnswer answer config (Ok tree)
+  fault_alone : (test : Condition) (fault : Fault) → answer.body.parts ≡ [] → answer.body.root ≡ None → answer.faults ≡ (test, fault) ∷ [] → test config ≡ true
       → IsPlainAnswer answer config (Err fault)

@@ -10,7 +10,8 @@ use Rattle.sc_model.specs.declared.variable_option.VariableOption.{VariableOptio
 use Rattle.sc_model.specs.Growth.{IsOneToOne}
 use Rattle.sc_model.specs.Sets.{Sets, IsConfig, IsCond, Denotes}
 use Rattle.sc_model.specs.Space.{Space, Variable, option_text}
-use Rattle.sc_text.specs.Text.{Condition, Printed, token_list, Reading, TextLine, nothing_read, read_lines, condition_at, is_clear, is_word}
+use Rattle.sc_text.specs.Answer.{Condition}
+use Rattle.sc_text.specs.Text.{Printed, Reading, TextLine, nothing_read, read_lines, condition_at, is_clear, is_word}
 use Rattle.sc_show.specs.declared.printer.Printer.{Printer}
 
 -- each name can stand in a line, and names one variable
@@ -48,7 +49,7 @@ pub record Agrees (s : Sets) (conditions : List Cond) (tests : List Condition) :
 -- files their numbers.
 pub record Prints (space : Space) (s : Sets) (files : List (List ℕ)) (printer : Printer) (lines : List TextLine) : Type 0 where
   pub clear : list_all is_clear lines ≡ true
-  pub reading : Reading token_list
+  pub reading : Reading
   pub read : read_lines space nothing_read lines ≡ Some reading
   pub unended : reading.ended ≡ false
   pub conditions : Agrees s printer.conditions.keys reading.conditions

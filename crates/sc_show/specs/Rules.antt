@@ -12,10 +12,11 @@ use Rattle.sc_guarded.specs.Items.{faults_at, seen_fault}
 use Rattle.sc_base.specs.declared.token.Token.{Token}
 use Rattle.sc_base.specs.Seen.{text_at}
 use Rattle.sc_model.specs.Growth.{Extends}
-use Rattle.sc_text.specs.Layout.{condition_numbered, file_numbered, Counts, Introduces, LaysOut, HasOrder, IsAscending}
+use Rattle.sc_text.specs.Answer.{Condition}
+use Rattle.sc_text.specs.Layout.{Counts, Introduces, LaysOut, HasOrder, IsAscending}
 use Rattle.sc_model.specs.Sets.{Sets, IsConfig, IsNever, Keeps, DependsFrom}
 use Rattle.sc_model.specs.Space.{Space}
-use Rattle.sc_text.specs.Text.{Condition, TextLine, line_text, token_line, fault_line}
+use Rattle.sc_text.specs.Text.{TextLine, line_text, token_line, fault_line, condition_numbered, file_numbered}
 use Rattle.sc_show.specs.declared.printer.Printer.{Printer}
 use Rattle.sc_show.specs.Prints.{IsTable, Prints, printed_place}
 
@@ -80,20 +81,24 @@ pub record IntroducedFile (files : List (List ℕ)) (p q : Printer) (number : �
   pub same_trees : q.trees.keys ≡ p.trees.keys
   pub prints : (space : Space) (s : Sets) (before : List TextLine) → Prints space s files p before → Prints space s files q (before ++ lines)
 
--- the items were printed, each after the lines that it needs; the lines say the same as the store
--- and the numbers grow
-pub record LaidOut (space : Space) (old new : Sets) (files : List (List ℕ)) (p q : Printer) (items : List Item) : Type 0 where
+-- lines were printed that show these, each after the lines that it needs, which keep their order as
+-- the store and the numbers grow
+pub record LaidLines (space : Space) (old new : Sets) (files : List (List ℕ)) (p q : Printer) (shown : List TextLine) : Type 0 where
   pub lines : List TextLine
-  pub shown : List TextLine
   pub wrote : q.text.items ≡ p.text.items ++ concat (map line_text lines)
   pub laid : LaysOut (counts_of p) shown lines (counts_of q)
-  pub are : (s : Sets) (conditions : List Cond) (names : List FileId) → Keeps new s → Extends q.conditions.keys conditions → Extends q.files.keys names → AreLinesOf s conditions names items shown
   pub ordered : (s : Sets) (conditions : List Cond) → Keeps new s → Extends q.conditions.keys conditions → All (HasOrder space (tests_of s conditions)) lines
   pub table : IsTable new q.conditions.keys
   pub grows : Extends p.conditions.keys q.conditions.keys
   pub files_grow : Extends p.files.keys q.files.keys
-  pub same_trees : q.trees.keys ≡ p.trees.keys
   pub prints : (before : List TextLine) → Prints space old files p before → Prints space new files q (before ++ lines)
+
+-- the items were printed; their lines say the same as the store and the numbers grow
+pub record LaidOut (space : Space) (old new : Sets) (files : List (List ℕ)) (p q : Printer) (items : List Item) : Type 0 where
+  pub shown : List TextLine
+  pub laid : LaidLines space old new files p q shown
+  pub are : (s : Sets) (conditions : List Cond) (names : List FileId) → Keeps new s → Extends q.conditions.keys conditions → Extends q.files.keys names → AreLinesOf s conditions names items shown
+  pub same_trees : q.trees.keys ≡ p.trees.keys
 
 -- The faults as they are printed: ordered by the bytes of the name of the file, line, column and
 -- code, one for each pair of cause and place, so that its condition is the whole set.

@@ -9,7 +9,7 @@ use Rattle.sc_base.specs.Seen.{seen}
 use Rattle.sc_text.specs.Layout.{IsTextOf, AreAlike}
 use Rattle.sc_model.specs.Sets.{Sets, IsConfig}
 use Rattle.sc_model.specs.Space.{Space}
-use Rattle.sc_text.specs.Text.{Condition, token_list, Answer, project}
+use Rattle.sc_text.specs.Answer.{Condition, project, token_list, Answer}
 use Rattle.sc_model.specs.Token.{Shown, shown}
 use Rattle.sc_show.specs.Pieces.{split_lines_after}
 

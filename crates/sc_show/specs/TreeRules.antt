@@ -1,6 +1,6 @@
 -- What a printer adds to its text for trees, and the lines of the trees that it prints.
-use Rattle.std.specs.Prelude.{◌≡◌, ℕ, ◌+◌, true, List, [], ◌∷◌, ◌++◌, length, map, All, Some, slice_get}
-use Rattle.std.specs.List.{concat, list_all, Contains}
+use Rattle.std.specs.Prelude.{◌≡◌, ℕ, ◌+◌, List, [], ◌∷◌, ◌++◌, length, map, All, Some, slice_get}
+use Rattle.std.specs.List.{Contains}
 use Rattle.sc_base.specs.declared.id.Cond.{Cond}
 use Rattle.sc_base.specs.declared.id.FileId.{FileId}
 use Rattle.sc_base.specs.declared.id.Name.{Name}
@@ -8,17 +8,14 @@ use Rattle.sc_base.specs.declared.id.TreeId.{TreeId}
 use Rattle.sc_base.specs.declared.place.Place.{Place}
 use Rattle.sc_base.specs.Seen.{text_at}
 use Rattle.sc_model.specs.Growth.{Extends}
-use Rattle.sc_model.specs.Sets.{Sets, IsCond, Keeps}
+use Rattle.sc_model.specs.Sets.{Sets, IsCond}
 use Rattle.sc_model.specs.Space.{Space}
-use Rattle.sc_text.specs.Layout.{HasOrder}
-use Rattle.sc_text.specs.Text.{TextLine}
+use Rattle.sc_text.specs.Text.{TextLine, leaf_line, node_line, choice_line}
 use Rattle.sc_tree.specs.Lines.{Line, leaf, node, choice, children_of}
 use Rattle.sc_show.specs.declared.printer.Printer.{Printer}
-use Rattle.sc_show.specs.Prints.{IsTable, Prints, printed_place}
-use Rattle.sc_show.specs.Rules.{counts_of, tests_of}
-use Rattle.sc_show.specs.TreeLayout.{LaysOutTree}
+use Rattle.sc_show.specs.Prints.{printed_place}
+use Rattle.sc_show.specs.Rules.{LaidLines}
 use Rattle.sc_show.specs.TreeShows.{AreNumbersOf, FinishesIn, IsShowableLeaf}
-use Rattle.sc_show.specs.TreeText.{TreeLine, leaf_line, node_line, choice_line, tree_line_text, is_clear_line, common_lines}
 
 -- the numbers of the conditions and of the trees of branches
 pub data AreBranchNumbers (conditions : List Cond) (ids : List TreeId) : List (Cond × TreeId) → List (ℕ × ℕ) → Type 0 where
@@ -28,7 +25,7 @@ pub data AreBranchNumbers (conditions : List Cond) (ids : List TreeId) : List (C
       → AreBranchNumbers conditions ids (branch ∷ branches) ((condition, number) ∷ numbers)
 
 -- the line of a text that shows a line of the store under this number
-pub data IsLineOf (names : List (List ℕ)) (conditions : List Cond) (files : List FileId) (ids : List TreeId) (number : ℕ) : Line → TreeLine → Type 0 where
+pub data IsLineOf (names : List (List ℕ)) (conditions : List Cond) (files : List FileId) (ids : List TreeId) (number : ℕ) : Line → TextLine → Type 0 where
   of_leaf : (place : Place) (spelling : Name) (file : ℕ) → slice_get files file ≡ Some place.file
       → IsLineOf names conditions files ids number (leaf place spelling) (leaf_line number (printed_place file place) (text_at names spelling.0))
   of_node : (production : ℕ) (children : List TreeId) (numbers : List ℕ) → AreNumbersOf ids children numbers
@@ -37,27 +34,18 @@ pub data IsLineOf (names : List (List ℕ)) (conditions : List Cond) (files : Li
       → IsLineOf names conditions files ids number (choice branches) (choice_line number numbers)
 
 -- the lines of trees, whose numbers count on from this one
-pub data AreTreeLines (names : List (List ℕ)) (conditions : List Cond) (files : List FileId) (ids : List TreeId) : ℕ → List (TreeId × Line) → List TreeLine → Type 0 where
+pub data AreTreeLines (names : List (List ℕ)) (conditions : List Cond) (files : List FileId) (ids : List TreeId) : ℕ → List (TreeId × Line) → List TextLine → Type 0 where
   no_lines : (next : ℕ) → AreTreeLines names conditions files ids next [] []
-  more_lines : (next : ℕ) (tree : TreeId × Line) (line : TreeLine) (trees : List (TreeId × Line)) (lines : List TreeLine) → IsLineOf names conditions files ids next tree.1 line
+  more_lines : (next : ℕ) (tree : TreeId × Line) (line : TextLine) (trees : List (TreeId × Line)) (lines : List TextLine) → IsLineOf names conditions files ids next tree.1 line
       → AreTreeLines names conditions files ids (next + 1) trees lines → AreTreeLines names conditions files ids next (tree ∷ trees) (line ∷ lines)
 
--- the trees were printed, each after the lines that it needs; the lines say the same as the store
--- and the numbers grow
+-- the trees were printed; their lines say the same as the store and the numbers grow
 pub record LaidOutTree (space : Space) (old new : Sets) (names files : List (List ℕ)) (p q : Printer) (trees : List (TreeId × Line)) : Type 0 where
-  pub lines : List TreeLine
-  pub shown : List TreeLine
-  pub wrote : q.text.items ≡ p.text.items ++ concat (map tree_line_text lines)
-  pub clear : list_all is_clear_line shown ≡ true
-  pub laid : LaysOutTree (counts_of p) shown lines (counts_of q)
+  pub shown : List TextLine
+  pub laid : LaidLines space old new files p q shown
   pub are : (conditions : List Cond) (file_ids : List FileId) (ids : List TreeId) → Extends q.conditions.keys conditions → Extends q.files.keys file_ids → Extends q.trees.keys ids
       → AreTreeLines names conditions file_ids ids (length p.trees.keys) trees shown
-  pub ordered : (s : Sets) (conditions : List Cond) → Keeps new s → Extends q.conditions.keys conditions → All (HasOrder space (tests_of s conditions)) (common_lines lines)
-  pub table : IsTable new q.conditions.keys
-  pub grows : Extends p.conditions.keys q.conditions.keys
-  pub files_grow : Extends p.files.keys q.files.keys
   pub keys : q.trees.keys ≡ p.trees.keys ++ map (λ (tree : TreeId × Line). tree.0) trees
-  pub prints : (before : List TextLine) → Prints space old files p before → Prints space new files q (before ++ common_lines lines)
 
 -- a line can be printed: what it names is held, and the trees below it are printed
 pub record IsReady (s : Sets) (names files : List (List ℕ)) (ids : List TreeId) (line : Line) : Type 0 where

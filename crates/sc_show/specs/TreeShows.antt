@@ -1,6 +1,7 @@
 -- What the text of a tree shows of a store of trees.
 use Rattle.std.specs.Prelude.{◌≡◌, ℕ, ◌<◌, true, List, [], ◌∷◌, ◌++◌, length, map, Option, Some, None, slice_get}
 use Rattle.std.specs.List.{concat, Contains}
+use Rattle.std.specs.Option.{option_to_list}
 use Rattle.c11_parsing.specs.Trees as plain
 use Rattle.c11_parsing.specs.Trees.{Tree, Forest, no_trees, trees}
 use Rattle.sc_base.specs.declared.fault.Fault as base
@@ -15,12 +16,11 @@ use Rattle.sc_model.specs.Growth.{IsOneToOne}
 use Rattle.sc_model.specs.Sets.{Sets, IsConfig}
 use Rattle.sc_model.specs.Space.{Space}
 use Rattle.sc_model.specs.Token.{shown}
-use Rattle.sc_text.specs.Text.{Condition, project}
+use Rattle.sc_text.specs.Answer.{Condition, project, Part, leaf_part, node_part, choice_part, ShownTree, shown_leaf, shown_node, ShownForest, no_shown, more_shown, TreeAt, tree_parts, Answer}
+use Rattle.sc_text.specs.Layout.{IsTextOf}
 use Rattle.sc_tree.specs.Lines.{Line, leaf, node, choice, children_of}
 use Rattle.sc_tree.specs.Reads.{Reads}
 use Rattle.sc_show.specs.Pieces.{split_lines_after}
-use Rattle.sc_show.specs.TreeLayout.{IsTreeTextOf, listed}
-use Rattle.sc_show.specs.TreeText.{Part, leaf_part, node_part, choice_part, TreeAnswer, ShownTree, shown_leaf, shown_node, ShownForest, no_shown, more_shown, TreeAt}
 
 -- ---- what can be shown
 
@@ -99,15 +99,15 @@ pub data IsRootOf (ids : List TreeId) : Option TreeId → Option ℕ → Type 0 
 -- a configuration its tree is the one for which the root stands.
 pub record ShowsTree (space : Space) (s : Sets) (names files : List (List ℕ)) (store : List Line) (root : Option TreeId) (faults : List base.Fault) (text : List ℕ) : Type 0 where
   pub pieces : List (List ℕ)
-  pub answer : TreeAnswer
+  pub answer : Answer tree_parts
   pub whole : text ≡ concat pieces
   pub cut : split_lines_after text ≡ pieces
-  pub text_of : IsTreeTextOf space pieces answer
+  pub text_of : IsTextOf space pieces answer
   pub ids : List TreeId
   pub once : IsOneToOne ids
-  pub finished : FinishesIn store [] (listed root) ids
-  pub parts : ArePartsOf s names files store ids ids answer.parts
-  pub root_is : IsRootOf ids root answer.root
-  pub trees : (c : List ℕ) → IsConfig s.arities c → (id : TreeId) (number : ℕ) (tree : Tree) → root ≡ Some id → answer.root ≡ Some number
-      → Reads (record { sets = s; names = names; files = files; lines = store }) c id.0 tree → TreeAt answer.parts c number (shown_tree tree)
+  pub finished : FinishesIn store [] (option_to_list root) ids
+  pub parts : ArePartsOf s names files store ids ids answer.body.parts
+  pub root_is : IsRootOf ids root answer.body.root
+  pub trees : (c : List ℕ) → IsConfig s.arities c → (id : TreeId) (number : ℕ) (tree : Tree) → root ≡ Some id → answer.body.root ≡ Some number
+      → Reads (record { sets = s; names = names; files = files; lines = store }) c id.0 tree → TreeAt answer.body.parts c number (shown_tree tree)
   pub faults_are : (c : List ℕ) → IsConfig s.arities c → project answer.faults c ≡ map (seen_fault files) (faults_at s faults c)

@@ -10,9 +10,6 @@ mod tokens;
 mod tree;
 
 pub use conflicts::show_conflicts;
-pub use laws::{
-    shown_choice_is_stored, shown_tree_has_one_text, tree_answer_has_one_result,
-    tree_result_has_one_text, tree_text_has_one_answer,
-};
+pub use laws::{shown_choice_is_stored, shown_tree_has_one_text};
 pub use tokens::show_tokens;
 pub use tree::show_tree;

@@ -1,9 +1,8 @@
 //! The lines of a text, each written at its end.
 ghost use Rattle.std.specs.Prelude.{◌≡◌, ◌++◌, length, codes, string_bytes, OnOk};
 ghost use Rattle.sc_model.specs.Space.{option_text};
-ghost use Rattle.sc_text.specs.Text.{numeral, place_text, choice_text, line_text, condition_line, file_line, token_line, fault_line, end_line};
+ghost use Rattle.sc_text.specs.Text.{numeral, place_text, choice_text, child_text, branch_text, line_text, condition_line, file_line, token_line, leaf_line, node_line, choice_line, root_line, fault_line, end_line};
 ghost use Rattle.sc_show.specs.Prints.{choices_of, printed_place};
-ghost use Rattle.sc_show.specs.TreeText.{child_text, branch_text, tree_line_text, leaf_line, node_line, choice_line, root_line};
 
 use itoa::Buffer;
 use sc_base::{Cause, OutOfMemory, Place};
@@ -107,7 +106,7 @@ pub fn write_leaf(
     place: Place,
     spelling: &[u8],
 ) -> Result<(), OutOfMemory>
-    ensures { OnOk result (text.new.items ≡ text.old.items ++ tree_line_text (leaf_line number (printed_place file place) spelling.now)) }
+    ensures { OnOk result (text.new.items ≡ text.old.items ++ line_text (leaf_line number (printed_place file place) spelling.now)) }
 {
     text.extend_from_slice(b"l ")?;
     write_number(text, number)?;
@@ -132,7 +131,7 @@ pub fn write_node(
     production: usize,
     children: &[usize],
 ) -> Result<(), OutOfMemory>
-    ensures { OnOk result (text.new.items ≡ text.old.items ++ tree_line_text (node_line number production children.now)) }
+    ensures { OnOk result (text.new.items ≡ text.old.items ++ line_text (node_line number production children.now)) }
 {
     text.extend_from_slice(b"n ")?;
     write_number(text, number)?;
@@ -160,7 +159,7 @@ pub fn write_branches(
     number: usize,
     branches: &[(usize, usize)],
 ) -> Result<(), OutOfMemory>
-    ensures { OnOk result (text.new.items ≡ text.old.items ++ tree_line_text (choice_line number branches.now)) }
+    ensures { OnOk result (text.new.items ≡ text.old.items ++ line_text (choice_line number branches.now)) }
 {
     text.extend_from_slice(b"x ")?;
     write_number(text, number)?;
@@ -172,7 +171,7 @@ pub fn write_branches(
 }
 
 pub fn write_root(text: &mut Vec<u8>, root: Option<usize>) -> Result<(), OutOfMemory>
-    ensures { OnOk result (text.new.items ≡ text.old.items ++ tree_line_text (root_line root)) }
+    ensures { OnOk result (text.new.items ≡ text.old.items ++ line_text (root_line root)) }
 {
     text.extend_from_slice(b"root ")?;
     match root {

@@ -5,13 +5,12 @@ ghost use Rattle.sc_model.specs.Sets.{Sets, IsCond, Keeps, DependsFrom};
 ghost use Rattle.sc_model.specs.Space as model;
 ghost use Rattle.sc_model.specs.Space.{arities_of};
 ghost use Rattle.sc_model.specs.Bytes.{has_no_newline};
-ghost use Rattle.sc_text.specs.Text.{line_text, end_line};
+ghost use Rattle.sc_text.specs.Text.{line_text, root_line, end_line};
 ghost use Rattle.sc_space.specs.Seen.{seen_space};
 ghost use Rattle.sc_show.specs.Rules.{token_item, fault_item, AreFrom, Introduced, IntroducedFile, LaidOut};
 ghost use Rattle.sc_show.specs.Prints.{HasWordNames, IsTable, Prints};
 ghost use Rattle.sc_show.specs.TreeRules.{LaidOutTree};
 ghost use Rattle.sc_show.specs.TreeShows.{AreNumbersOf, IsRootOf, IsShowableLeaf};
-ghost use Rattle.sc_show.specs.TreeText.{tree_line_text, root_line};
 ghost use Rattle.sc_tree.specs.Lines.{leaf, node, choice};
 
 use crate::lines;
@@ -273,7 +272,7 @@ impl Printer {
     /// Prints which of the trees that are printed is the whole one.
     pub fn print_root(&mut self, root: Option<TreeId>) -> Result<(), OutOfMemory>
         requires { IfSome root (Contains self.old.trees.keys) }
-        ensures lines { OnOk result ((number : Option ℕ) × (IsRootOf self.old.trees.keys root number × (self.new.text.items ≡ self.old.text.items ++ tree_line_text (root_line number)))) }
+        ensures lines { OnOk result ((number : Option ℕ) × (IsRootOf self.old.trees.keys root number × (self.new.text.items ≡ self.old.text.items ++ line_text (root_line number)))) }
         ensures same { OnOk result ((self.new.conditions.keys ≡ self.old.conditions.keys) × ((self.new.files.keys ≡ self.old.files.keys) × (self.new.trees.keys ≡ self.old.trees.keys))) }
     {
         let number = match root {

@@ -1,12 +1,12 @@
 //! The text of a tree with choices.
 ghost use Rattle.std.specs.Prelude.{◌≡◌, ◌<◌, ◌++◌, ◌∷◌, [], true, All, IfSome, IfOk, OnOk, length, map, reverse};
 ghost use Rattle.std.specs.List.{Contains};
+ghost use Rattle.std.specs.Option.{option_to_list};
 ghost use Rattle.sc_guarded.specs.Printable.{IsShowableFault, AreApart};
 ghost use Rattle.sc_model.specs.Bytes.{has_no_newline};
 ghost use Rattle.sc_model.specs.Sets.{Keeps};
 ghost use Rattle.sc_model.specs.Space.{arities_of};
 ghost use Rattle.sc_show.specs.Prints.{HasWordNames, IsTable};
-ghost use Rattle.sc_show.specs.TreeLayout.{listed};
 ghost use Rattle.sc_show.specs.TreeRules.{IsReady, LaidOutTree, PrintedTree};
 ghost use Rattle.sc_show.specs.TreeShows.{AreShowableLeaves, ShowsTree};
 ghost use Rattle.sc_space.specs.Seen.{seen_space};
@@ -83,7 +83,7 @@ fn print_whole<C: Conditions>(
     requires branches { OwnsBranches (C.sets conds.old) trees.now }
     requires root { IfSome root (λ id. id.0 < length trees.now) }
     requires table { IsTable (C.sets conds.old) printer.old.conditions.keys }
-    ensures lines { OnOk result (PrintedTree (seen_space space.now) (C.sets conds.old) (C.sets conds.new) names.now files.now trees.now printer.old printer.new (listed root)) }
+    ensures lines { OnOk result (PrintedTree (seen_space space.now) (C.sets conds.old) (C.sets conds.new) names.now files.now trees.now printer.old printer.new (option_to_list root)) }
 
     // at every outcome
     ensures keeps { Keeps (C.sets conds.old) (C.sets conds.new) }

@@ -1,9 +1,9 @@
 -- Lists of the same items.
-use Rattle.std.proofs.Common.{◌≡◌, ℕ, List, ◌∷◌, ◌++◌, refl, sym, ap, ◌∙◌, if◌then◌else◌}
+use Rattle.std.proofs.Common.{◌≡◌, ℕ, List, ◌∷◌, refl, sym, ap, ◌∙◌, if◌then◌else◌}
 use Rattle.sc_text.specs.Layout.{AreAlike, no_item, left_out, left_out_there, both}
 use Rattle.sc_model.specs.Sets.{IsConfig}
 use Rattle.sc_model.specs.Space.{Space, arities_of}
-use Rattle.sc_text.specs.Text.{Condition, project}
+use Rattle.sc_text.specs.Answer.{Condition, project}
 
 -- the same items give each configuration the same list
 pub AreAlike-project : {T : Type 0} {space : Space} {xs ys : List (Condition × T)} (config : List ℕ) → IsConfig (arities_of space) config → AreAlike space xs ys → project xs config ≡ project ys config

@@ -3,7 +3,8 @@ use Rattle.std.proofs.Common.{◌≡◌, ℕ, zero, suc, ◌<◌, ◌≤◌, ◌
 use Rattle.std.proofs.lemmas.Bool.{ltb-true, true≢false, and_parts}
 use Rattle.sc_model.proofs.ByteLemmas.{same_bytes-true}
 use Rattle.sc_model.specs.Bytes.{same_bytes}
-use Rattle.sc_text.specs.Text.{Condition, condition_at, are_options, chosen}
+use Rattle.sc_text.specs.Answer.{Condition}
+use Rattle.sc_text.specs.Text.{condition_at, are_options, chosen}
 
 -- the condition of a number stays as conditions are read
 pub condition_at-push : (tests : List Condition) (test : Condition) (n : ℕ) → n < length tests → condition_at (tests ++ test ∷ []) n ≡ condition_at tests n

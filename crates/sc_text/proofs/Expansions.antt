@@ -7,7 +7,8 @@ use Rattle.std.specs.Prelude.{slice_index, slice_set}
 use Rattle.sc_text.specs.Layout.{sets_of, AreSame}
 use Rattle.sc_model.specs.Sets.{Sets, IsConfig, IsCond, IsCanonical, DependsFrom}
 use Rattle.sc_model.specs.Space.{Space, arities_of}
-use Rattle.sc_text.specs.Text.{Condition, condition_at}
+use Rattle.sc_text.specs.Answer.{Condition}
+use Rattle.sc_text.specs.Text.{condition_at}
 use Rattle.sc_model.proofs.SetLemmas.{IsConfig-set, has-DependsFrom, DependsFrom-same}
 
 -- each option of the variable has a condition of a smaller number, which depends on later variables

@@ -1,13 +1,16 @@
 -- Laid-out lines: one list after another, what each file's number stands in, and what the order of
 -- the nodes rests on.
-use Rattle.std.proofs.Common.{◌≡◌, ℕ, ◌<◌, ◌≤◌, inl, inr, List, [], ◌∷◌, ◌++◌, All, refl, sym, subst, arith, append_assoc}
-use Rattle.std.proofs.lemmas.Bool.{cases_lt}
+use Rattle.std.proofs.Common.{◌≡◌, ℕ, ◌<◌, ◌≤◌, inl, inr, true, List, [], ◌∷◌, ◌++◌, length, All, Some, None, refl, sym, ap, subst, arith, append_assoc, if◌then◌else◌}
+use Rattle.std.specs.List.{list_all}
+use Rattle.std.proofs.lemmas.Bool.{and_from, cases_lt, lt-ltb, true≢false}
 use Rattle.std.proofs.lemmas.List.Elements.{All-nil, All-map, All-head, All-tail}
-use Rattle.sc_text.specs.Layout.{Need, condition_numbered, file_numbered, needs, Counts, Gives, next_condition, next_file, Introduces, nothing, known, new, LaysOut, done, shows, HasOrder}
+use Rattle.sc_text.specs.Answer.{Condition}
+use Rattle.sc_text.specs.Layout.{Counts, IsKnown, Gives, next_condition, next_file, Introduces, nothing, known, new, LaysOut, done, shows, is_item, HasOrder}
 use Rattle.sc_model.specs.Sets.{IsConfig}
 use Rattle.sc_model.specs.Space.{Space, arities_of}
-use Rattle.sc_text.specs.Text.{Condition, TextLine, condition_line, end_line, condition_at}
+use Rattle.sc_text.specs.Text.{TextLine, condition_line, file_line, end_line, Need, condition_numbered, file_numbered, needs, condition_at, Reading, with_line, is_read, read_line}
 use Rattle.sc_model.proofs.SetLemmas.{DependsFrom-same}
+use Rattle.sc_text.proofs.OneLayout.{IsKnown-Introduces}
 
 pub LaysOut-append : {n m k : Counts} {items others lines more : List TextLine} → LaysOut n items lines m → LaysOut m others more k → LaysOut n (items ++ others) (lines ++ more) k
 LaysOut-append (done n) later = later
@@ -17,6 +20,38 @@ LaysOut-append {n} {k = k} {others = others} {more = more} (shows n1 after m ite
 -- the last line needs no other
 pub LaysOut-end : {n m : Counts} {items lines : List TextLine} → LaysOut n items lines m → LaysOut n (items ++ end_line ∷ []) (lines ++ end_line ∷ []) m
 LaysOut-end {m = m} laid = LaysOut-append laid (shows m m m end_line [] [] [] (nothing m) (done m))
+
+-- ---- items
+
+-- what is needed stands, and so was read
+given_stands : {n m : Counts} {line : TextLine} {need : Need} → Gives n line need m → IsKnown m need
+given_stands (next_condition n variable options) = omega arith
+given_stands (next_file n name) = omega arith
+
+module _ (r : Reading) where
+  stands_read : {m : Counts} (need : Need) → m.conditions ≡ length r.conditions → m.files ≡ length r.files → IsKnown m need → is_read r need ≡ true
+  stands_read (condition_numbered number) same same_files stands = lt-ltb number (length r.conditions) (omega (arith, same, stands))
+  stands_read (file_numbered number) same same_files stands = lt-ltb number (length r.files) (omega (arith, same_files, stands))
+
+  introduced_read : {n m : Counts} {needed : List Need} {lines : List TextLine} → Introduces n needed lines m → m.conditions ≡ length r.conditions → m.files ≡ length r.files → list_all (is_read r) needed ≡ true
+  introduced_read (nothing n) same same_files = refl
+  introduced_read (known n m need needed lines stands rest) same same_files =
+      and_from (is_read r need) (list_all (is_read r) needed) (stands_read need same same_files (IsKnown-Introduces need rest stands)) (introduced_read rest same same_files)
+  introduced_read (new n before after m line need needed lines more introduced gives rest) same same_files =
+      and_from (is_read r need) (list_all (is_read r) needed) (stands_read need same same_files (IsKnown-Introduces need rest (given_stands gives))) (introduced_read rest same same_files)
+
+  -- an item is read below the lines that it needs
+  pub read_item : {n m : Counts} {lines : List TextLine} (space : Space) (line : TextLine) → is_item line ≡ true → Introduces n (needs line) lines m → m.conditions ≡ length r.conditions → m.files ≡ length r.files
+      → read_line space r line ≡ Some (with_line r line)
+  read_item space (condition_line id name options) right introduced same same_files = absurd (true≢false (sym right))
+  read_item space (file_line id name) right introduced same same_files = absurd (true≢false (sym right))
+  read_item space line right introduced same same_files = ap (λ b. if b then Some (with_line r line) else None) (introduced_read introduced same same_files)
+
+pub item_ordered : (space : Space) (tests : List Condition) (line : TextLine) → is_item line ≡ true → HasOrder space tests line
+item_ordered space tests (condition_line id name options) right = absurd (true≢false (sym right))
+item_ordered space tests line right = tt
+
+-- ---- files
 
 -- of what is needed, the files
 abbrev pub OfFiles : (ℕ → Type 0) → Need → Type 0

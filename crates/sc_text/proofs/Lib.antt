@@ -3,7 +3,6 @@ pub mod Ascending
 pub mod ConditionLemmas
 pub mod Expansions
 pub mod FaultOrder
-pub mod ItemsRead
 pub mod LayoutLemmas
 pub mod LayoutReading
 pub mod ListLemmas

@@ -10,7 +10,8 @@ use Rattle.sc_model.specs.Bytes.{same_bytes}
 use Rattle.sc_text.specs.Layout.{sets_of, IsOrdered}
 use Rattle.sc_model.specs.Sets.{IsCanonical, DependsFrom}
 use Rattle.sc_model.specs.Space.{Variable, Space, arities_of, option_text}
-use Rattle.sc_text.specs.Text.{Condition, variable_from, are_options}
+use Rattle.sc_text.specs.Answer.{Condition}
+use Rattle.sc_text.specs.Text.{variable_from, are_options}
 use Rattle.sc_model.proofs.ByteLemmas.{same_bytes-true}
 use Rattle.sc_text.proofs.ConditionLemmas.{are_options-cons}
 use Rattle.sc_text.proofs.Expansions.{IsExpansion, Corresponds, one_variable, parts_correspond}

@@ -11,7 +11,7 @@ use Rattle.sc_text.specs.Layout.{fault_order, IsAscending, AreSame, IsEmpty, Are
 use Rattle.sc_model.specs.Fault.{Fault}
 use Rattle.sc_model.specs.Sets.{IsConfig}
 use Rattle.sc_model.specs.Space.{Space, arities_of}
-use Rattle.sc_text.specs.Text.{Condition, project}
+use Rattle.sc_text.specs.Answer.{Condition, project}
 use Rattle.sc_text.proofs.Ascending.{IsBefore, All-before, IsAscending-tail, IsAscending-head, fault_total}
 use Rattle.sc_text.proofs.FaultOrder.{faults_equal}
 

@@ -4,11 +4,12 @@ use Rattle.std.proofs.lemmas.Bool.{cases_lt}
 use Rattle.std.proofs.lemmas.List.Elements.{All-head, All-tail}
 use Rattle.std.proofs.lemmas.Option.{same_Some}
 use Rattle.std.specs.List.{AllZip}
-use Rattle.sc_text.specs.Layout.{Need, condition_numbered, file_numbered, needs, Counts, IsKnown, Gives, next_condition, next_file, Introduces, nothing, known, new, LaysOut, done, shows, sets_of, HasOrder}
+use Rattle.sc_text.specs.Answer.{Condition}
+use Rattle.sc_text.specs.Layout.{Counts, IsKnown, Gives, next_condition, next_file, Introduces, nothing, known, new, LaysOut, done, shows, sets_of, HasOrder}
 use Rattle.sc_model.specs.Growth.{IsOneToOne}
 use Rattle.sc_model.specs.Sets.{IsCanonical}
 use Rattle.sc_model.specs.Space.{Space}
-use Rattle.sc_text.specs.Text.{Condition, TextLine, condition_line, file_line}
+use Rattle.sc_text.specs.Text.{TextLine, condition_line, file_line, Need, condition_numbered, file_numbered, needs}
 use Rattle.sc_text.proofs.Expansions.{Corresponds}
 use Rattle.sc_text.proofs.LayoutReading.{Holds}
 use Rattle.sc_text.proofs.ListLemmas.{All-front, All-back}

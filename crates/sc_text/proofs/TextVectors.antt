@@ -3,11 +3,12 @@ use Rattle.std.proofs.Common.{◌≡◌, ℕ, refl, arith, codes, List, [], ◌�
 use Rattle.std.specs.List.{flat_map}
 use Rattle.std.specs.Fmt.{digits}
 use Rattle.sc_model.specs.declared.variable_option.VariableOption.TheVariants.{Undefined, Number}
-use Rattle.sc_text.specs.Layout.{condition_numbered, file_numbered, Counts, at_start, next_condition, next_file, nothing, known, new, LaysOut, done, shows}
+use Rattle.sc_text.specs.Answer.{Condition, token_list, Answer, At, accepted}
+use Rattle.sc_text.specs.Layout.{Counts, at_start, next_condition, next_file, nothing, known, new, LaysOut, done, shows}
 use Rattle.sc_model.specs.Fault.{Fault}
 use Rattle.sc_model.specs.Space.{Space}
 use Rattle.sc_model.specs.Token.{Shown}
-use Rattle.sc_text.specs.Text.{TextLine, condition_line, file_line, token_line, end_line, line_text, Printed, token_list, Reading, At, accepted, nothing_read, read_lines, numeral}
+use Rattle.sc_text.specs.Text.{TextLine, condition_line, file_line, token_line, end_line, line_text, Printed, condition_numbered, file_numbered, answer_said, Reading, nothing_read, read_lines, numeral}
 
 abbrev space : Space
 space = record { variables = record { name = codes "A"; options = Undefined ∷ Number 1 ∷ [] } ∷ []; include = []; branches = 4096; include_depth = 64; date = []; time = [] }
@@ -30,19 +31,24 @@ example-text = refl
 abbrev shown_at : ℕ → List ℕ → Shown
 shown_at line spelling = record { place = record { file = codes "m.c"; position = record { line = line; column = 1 } }; spelling = spelling }
 
+abbrev example_answer : Condition → Condition → Answer token_list
+example_answer defined undefined = record { body = (defined, shown_at 2 (codes "x")) ∷ (undefined, shown_at 4 (codes "y")) ∷ []; faults = [] }
+
 -- what is read of the lines, and what that is at a configuration
 record IsAt (config : List ℕ) (result : Result (List Shown) Fault) : Type 0 where
-  reading : Reading token_list
+  reading : Reading
   read : read_lines space nothing_read example ≡ Some reading
-  at : At reading.answer config result
+  answer : Answer token_list
+  says : reading.said ≡ answer_said answer
+  at : At answer config result
 
 example-defined : IsAt (1 ∷ []) (Ok (shown_at 2 (codes "x") ∷ []))
 unfolding digits numeral
-example-defined = record { reading = _; read = refl; at = accepted refl }
+example-defined = record { reading = _; read = refl; answer = example_answer _ _; says = refl; at = accepted _ refl refl }
 
 example-undefined : IsAt (0 ∷ []) (Ok (shown_at 4 (codes "y") ∷ []))
 unfolding digits numeral
-example-undefined = record { reading = _; read = refl; at = accepted refl }
+example-undefined = record { reading = _; read = refl; answer = example_answer _ _; says = refl; at = accepted _ refl refl }
 
 -- the lines of the example stand where the rules want them
 abbrev counts : ℕ → ℕ → Counts

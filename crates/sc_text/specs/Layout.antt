@@ -5,7 +5,8 @@
 -- later variables alone.
 use Rattle.std.specs.Prelude.{◌≡◌, ℕ, ◌+◌, ◌<◌, nat_lt, Bool, true, false, List, [], ◌∷◌, ◌++◌, length, map, All, Some, slice_get}
 use Rattle.std.specs.Cmp.Lexicographic.{slice_cmp}
-use Rattle.std.specs.List.{list_all}
+use Rattle.std.specs.List.{AllZip, list_all}
+use Rattle.std.specs.Option.{option_to_list}
 use Rattle.std.specs.Ordering.{nat_cmp, ordering_then}
 use Rattle.std.specs.declared.cmp.Ordering.{Ordering}
 use Rattle.std.specs.declared.cmp.Ordering.TheVariants.{Less}
@@ -14,21 +15,10 @@ use Rattle.sc_model.specs.Growth.{IsOneToOne}
 use Rattle.sc_model.specs.Fault.{Fault}
 use Rattle.sc_model.specs.Sets.{Sets, IsConfig, IsCanonical, DependsFrom}
 use Rattle.sc_model.specs.Space.{Space, Variable, arities_of}
-use Rattle.sc_text.specs.Text.{Condition, BodyKind, token_list, Body, Answer, TextLine, condition_line, file_line, token_line, fault_line, end_line, Reading, condition_at, variable_from, project, Reads}
+use Rattle.sc_text.specs.Answer.{Condition, Part, leaf_part, node_part, choice_part, BodyKind, token_list, tree_parts, Body, Answer, project}
+use Rattle.sc_text.specs.Text.{TextLine, condition_line, file_line, token_line, fault_line, Need, condition_numbered, file_numbered, needs, Reading, condition_at, variable_from, Reads}
 
 -- ---- the order of the lines
-
--- a line that another needs before it: that of a condition, or of a file, with this number
-pub data Need : Type 0 where
-  condition_numbered : ℕ → Need
-  file_numbered : ℕ → Need
-
--- what a line needs before it, in order
-abbrev pub needs : TextLine → List Need
-needs (condition_line id variable options) = map (λ (option : List ℕ × ℕ). condition_numbered option.1) options
-needs (token_line cond place spelling) = condition_numbered cond ∷ file_numbered place.file ∷ []
-needs (fault_line cond cause place) = condition_numbered cond ∷ file_numbered place.file ∷ []
-needs line = []
 
 -- how many conditions and files have a number
 pub record Counts : Type 0 where
@@ -91,38 +81,53 @@ fault_order f g =
 pub record IsAscending (faults : List Fault) : Type 0 where
   pub each : (k : ℕ) (f g : Fault) → slice_get faults k ≡ Some f → slice_get faults (k + 1) ≡ Some g → fault_order f g ≡ Less
 
+-- ---- the order of the parts
+
+-- the numbers of the parts that a part names
+abbrev pub children_named : Part → List ℕ
+children_named (leaf_part shown) = []
+children_named (node_part production children) = children
+children_named (choice_part branches) = map (λ (branch : Condition × ℕ). branch.1) branches
+
+-- A walk to parts that goes children first and from left to right, and comes to each part once,
+-- gives the next numbers. The last number is the next one afterwards.
+pub data Finishes (parts : List Part) : ℕ → List ℕ → ℕ → Type 0 where
+  nowhere : (next : ℕ) → Finishes parts next [] next
+  was_there : (next now id : ℕ) (others : List ℕ) → id < next → Finishes parts next others now → Finishes parts next (id ∷ others) now
+  comes : (next id now : ℕ) (others : List ℕ) (part : Part) → slice_get parts id ≡ Some part
+      → Finishes parts next (children_named part) id → Finishes parts (id + 1) others now → Finishes parts next (id ∷ others) now
+
+-- tokens stand as they are, and parts as a walk from the root finishes them
+abbrev pub IsInOrder : (kind : BodyKind) → Body kind → Type 0
+IsInOrder token_list items = Unit {0}
+IsInOrder tree_parts body = Finishes body.parts 0 (option_to_list body.root) (length body.parts)
+
 -- ---- the rules
 
--- a token, or a fault, that some configuration has
-abbrev pub is_token : TextLine → Bool
-is_token (token_line cond place spelling) = nat_lt 0 cond
-is_token line = false
-
-abbrev pub is_fault : TextLine → Bool
-is_fault (fault_line cond cause place) = nat_lt 0 cond
-is_fault line = false
-
--- the lines of a body
-abbrev pub are_body : BodyKind → List TextLine → Bool
-are_body token_list lines = list_all is_token lines
+-- a line of a body, a fault or the end, but no token or fault that no configuration has
+abbrev pub is_item : TextLine → Bool
+is_item (condition_line id variable options) = false
+is_item (file_line id name) = false
+is_item (token_line cond place spelling) = nat_lt 0 cond
+is_item (fault_line cond cause place) = nat_lt 0 cond
+is_item line = true
 
 -- The lines of a text that were read so keep the rules.
-pub record KeepsRules {kind : BodyKind} (space : Space) (lines : List TextLine) (reading : Reading kind) : Type 0 where
-  pub body : List TextLine
-  pub faults : List TextLine
+pub record KeepsRules (space : Space) (lines : List TextLine) (reading : Reading) : Type 0 where
+  pub items : List TextLine
   pub now : Counts
-  pub right_body : are_body kind body ≡ true
-  pub right_faults : list_all is_fault faults ≡ true
-  pub laid : LaysOut at_start (body ++ (faults ++ end_line ∷ [])) lines now
+  pub right : list_all is_item items ≡ true
+  pub laid : LaysOut at_start items lines now
   pub reduced : IsCanonical (sets_of space reading.conditions)
   pub ordered : All (HasOrder space reading.conditions) lines
   pub named_once : IsOneToOne reading.files
-  pub ascending : IsAscending (map (λ fault. fault.1) reading.answer.faults)
 
 -- The pieces are the lines of a text that keeps the rules and reads as this answer.
 pub record IsTextOf {kind : BodyKind} (space : Space) (pieces : List (List ℕ)) (answer : Answer kind) : Type 0 where
   pub reads : Reads space pieces answer
   pub rules : KeepsRules space reads.lines reads.reading
+  pub in_order : IsInOrder kind answer.body
+  pub ascending : IsAscending (map (λ fault. fault.1) answer.faults)
 
 -- ---- what has one text
 
@@ -144,11 +149,24 @@ pub data AreAlike {T : Type 0} (space : Space) : List (Condition × T) → List 
   left_out_there : (f : Condition) (item : T) (xs ys : List (Condition × T)) → IsEmpty space f → AreAlike space xs ys → AreAlike space xs ((f, item) ∷ ys)
   both : (f g : Condition) (item : T) (xs ys : List (Condition × T)) → AreSame space f g → AreAlike space xs ys → AreAlike space ((f, item) ∷ xs) ((g, item) ∷ ys)
 
--- the same bodies, in these terms
+-- the same child under the same configurations
+pub record IsSameBranch (space : Space) (x y : Condition × ℕ) : Type 0 where
+  pub cond : AreSame space x.0 y.0
+  pub child : x.1 ≡ y.1
+
+-- parts that are one but for how their conditions are made
+abbrev pub IsSamePart : Space → Part → Part → Type 0
+IsSamePart space (leaf_part shown) (leaf_part other) = shown ≡ other
+IsSamePart space (node_part production children) (node_part other others) = (production ≡ other) × (children ≡ others)
+IsSamePart space (choice_part branches) (choice_part others) = AllZip (IsSameBranch space) branches others
+IsSamePart space part other = ⊥
+
+-- the same items, or the same parts under the same numbers
 abbrev pub AreAlikeBodies : (kind : BodyKind) → Space → Body kind → Body kind → Type 0
 AreAlikeBodies token_list space items others = AreAlike space items others
+AreAlikeBodies tree_parts space body other = AllZip (IsSamePart space) body.parts other.parts × (body.root ≡ other.root)
 
--- bodies of the same items under the same conditions, and at each configuration the same faults
+-- the same bodies, and at each configuration the same faults
 pub record IsSameAnswer {kind : BodyKind} (space : Space) (a b : Answer kind) : Type 0 where
   pub body : AreAlikeBodies kind space a.body b.body
   pub faults : (config : List ℕ) → IsConfig (arities_of space) config → project a.faults config ≡ project b.faults config

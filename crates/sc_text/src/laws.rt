@@ -3,15 +3,16 @@ ghost use Rattle.std.specs.Prelude.{List, ℕ, Result, ◌≡◌};
 ghost use Rattle.std.specs.List.{concat};
 ghost use Rattle.sc_model.specs.Fault.{Fault};
 ghost use Rattle.sc_model.specs.Space.{Space};
+ghost use Rattle.sc_text.specs.Answer.{Answer, At, BodyAt, BodyKind};
 ghost use Rattle.sc_text.specs.Layout.{IsSameAnswer, IsTextOf};
-ghost use Rattle.sc_text.specs.Text.{Answer, At, BodyAt, BodyKind, Reads};
+ghost use Rattle.sc_text.specs.Text.{Reads};
 
 /// A text reads as one answer, however it is cut into pieces.
 pub fn text_has_one_answer()
     ensures { (kind : BodyKind) (space : Space) (p q : List (List ℕ)) (a b : Answer kind) → concat p ≡ concat q → Reads space p a → Reads space q b → a ≡ b }
 {}
 
-/// A result has one text: two texts that keep the rules and read as the same tokens and faults are
+/// A result has one text: two texts that keep the rules and read as the same body and faults are
 /// one.
 pub fn result_has_one_text()
     ensures { (kind : BodyKind) (space : Space) (p q : List (List ℕ)) (a b : Answer kind) → IsTextOf space p a → IsTextOf space q b → IsSameAnswer space a b → p ≡ q }

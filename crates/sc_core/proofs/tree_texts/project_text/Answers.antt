@@ -15,8 +15,8 @@ use Rattle.sc_model.specs.Outside.{Rose}
 use Rattle.sc_model.specs.Sets.{IsConfig}
 use Rattle.sc_model.specs.Space.{IsListed, Space, arities_of}
 use Rattle.sc_show.specs.PlainText.{IsPlainAnswer}
-use Rattle.sc_show.specs.TreeLayout.{IsTreeTextOf}
-use Rattle.sc_show.specs.TreeText.{IsResultAt}
+use Rattle.sc_text.specs.Answer.{At}
+use Rattle.sc_text.specs.Layout.{IsTextOf}
 use Rattle.sc_space.specs.Seen.{seen_space}
 use Rattle.sc_space.specs.Sound.{IsSound}
 
@@ -68,7 +68,7 @@ returns-in-Ok-clause-text g c =
     let answer = tells.answer in
     let is = c.in_ok-only.ensures in
     let first = ap (λ (only : Space). first_config only) is ∙ first-cut space config listed in
-    let same = subst (λ (d : List ℕ). IsResultAt answer d told.result) first told.same in
+    let same = subst (λ (d : List ℕ). At answer d told.result) first told.same in
     let plain = subst (λ (d : List ℕ). IsPlainAnswer answer d told.result) first told.plain in
     let text = c.in-Ok.text in
     let found = c.in_ok-space.ensures.space in
@@ -82,7 +82,7 @@ returns-in-Ok-clause-text g c =
         config = config;
         chosen = c.in_ok-config.ensures.config ∙ ap (λ (d : List ℕ). Ok d) (sym c.deref.ensures.value);
         answer = answer;
-        text = subst (λ (only : Space). IsTreeTextOf only (lines_of text) answer) is tells.text_of;
+        text = subst (λ (only : Space). IsTextOf only (lines_of text) answer) is tells.text_of;
         verdict = subst (λ (only : Space). Tells (not text.is_refused) (HasNoFault only answer)) is tells.verdict;
         c11 = tells.c11;
         right = projected setting config listed answer (not text.is_refused) told.result same plain

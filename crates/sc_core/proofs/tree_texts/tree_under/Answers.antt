@@ -7,8 +7,7 @@ use Rattle.sc_core.proofs.tree_texts.tree_under.Goals as goal
 use Rattle.sc_model.specs.Bytes.{has_no_newline}
 use Rattle.sc_prep.specs.Printable.{ArePlainPaths}
 use Rattle.sc_fork.proofs.OutcomeLemmas.{sound-same}
-use Rattle.sc_show.specs.TreeLayout.{HasSoundChoices, IsRooted}
-use Rattle.sc_show.specs.TreeText.{TreeAnswer}
+use Rattle.sc_text.specs.Answer.{Answer, HasSoundChoices, IsRooted, tree_parts}
 use Rattle.sc_space.specs.Seen.{seen_space}
 
 pub parsed-requires-clause-paths : goal.parsed-requires-clause-paths
@@ -35,7 +34,7 @@ returns-clause-tree g c =
     let told = answer-told text.keeps names files space p out text.text made.shown arities text.none text.some holds main made.translated in
     record {
       tells = tells-tree text.keeps names files space p out text.text made.shown arities text.none text.some holds main made.translated;
-      choices = subst (λ (answer : TreeAnswer). HasSoundChoices space answer.parts) told (choices-sound text.keeps names files space p out text.text made.shown arities sound);
+      choices = subst (λ (answer : Answer tree_parts). HasSoundChoices space answer.body.parts) told (choices-sound text.keeps names files space p out text.text made.shown arities sound);
       rooted = subst (IsRooted space) told (rooted text.keeps names files space p out text.text made.shown arities made.answered);
     }
 

@@ -1,6 +1,6 @@
 use Rattle.std.proofs.Common.{◌≡◌, ◌++◌, take}
 use Rattle.std.specs.List.{flat_map}
-use Rattle.sc_show.specs.TreeText.{branch_text}
+use Rattle.sc_text.specs.Text.{branch_text}
 use Rattle.sc_show.proofs.lines.write_branches.Given as goal
 
 abbrev pub invariant-loop-branch : goal.invariant-loop-branch

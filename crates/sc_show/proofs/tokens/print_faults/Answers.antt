@@ -29,7 +29,7 @@ print_fault-requires g c =
       arities = was.keeps.arities ∙ c.requires.arities;
       names = c.requires.names;
       one_line = c.requires.one_line;
-      table = was.lines.table;
+      table = was.lines.laid.table;
     }
 
 pub returns-in_err-print_fault-clause-keeps : goal.returns-in_err-print_fault-clause-keeps

@@ -35,7 +35,7 @@ print_token-requires g c =
       arities = was.keeps.arities ∙ c.requires.arities;
       names = c.requires.names;
       one_line = c.requires.one_line;
-      table = was.lines.table;
+      table = was.lines.laid.table;
     }
 
 pub returns-in_err-print_token-clause-keeps : goal.returns-in_err-print_token-clause-keeps

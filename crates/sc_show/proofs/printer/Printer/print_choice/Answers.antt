@@ -9,7 +9,7 @@ use Rattle.sc_model.proofs.SetLemmas.{Keeps-refl, Keeps-trans}
 use Rattle.sc_space.specs.Seen.{seen_space}
 use Rattle.sc_show.specs.Rules.{Introduced}
 use Rattle.sc_show.specs.TreeRules.{AreBranchNumbers, no_numbers}
-use Rattle.sc_show.specs.TreeText.{tree_line_text, choice_line}
+use Rattle.sc_text.specs.Text.{line_text, choice_line}
 use Rattle.sc_show.proofs.PrinterIntroducing.{Introduced-nothing, Introduced-trans}
 use Rattle.sc_show.proofs.PrinterNumbers.{pushed, pushed_at}
 use Rattle.sc_show.proofs.TreeLines.{LaidOutTree-choice}
@@ -61,4 +61,4 @@ returns-clause-lines g c =
     λ names files. LaidOutTree-choice c.args.tree c.args.branches.now c.loop-branch.numbers.items c.in_ok-number.number was.lines numbers
     (pushed_at (λ (a b : TreeId). a.0 == b.0) _ _ c.insert_full.new.self.keys _ fresh c.in_ok-number.ensures.index)
     (pushed (λ (a b : TreeId). a.0 == b.0) _ _ _ c.in_ok-number.number fresh c.in_ok-number.ensures.keys) refl refl
-    (c.in_ok-write_branches.ensures ∙ ap (λ (ns : List (ℕ × ℕ)). c.loop-branch.self.text.items ++ tree_line_text (choice_line c.in_ok-number.number ns)) c.deref.ensures.value)
+    (c.in_ok-write_branches.ensures ∙ ap (λ (ns : List (ℕ × ℕ)). c.loop-branch.self.text.items ++ line_text (choice_line c.in_ok-number.number ns)) c.deref.ensures.value)
