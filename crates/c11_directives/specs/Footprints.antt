@@ -8,7 +8,7 @@ use Rattle.c11_directives.specs.Lines.{Line, conditional_of, hash_of}
 use Rattle.c11_directives.specs.Pre.{Closes, State, is_barrier, is_said}
 use Rattle.c11_directives.specs.Reaches.{Moment, Reaches, at_end, at_head, at_line}
 use Rattle.c11_expressions.specs.Lines.{without_defined}
-use Rattle.c11_macros.specs.Expansion.{Expands}
+use Rattle.c11_macros.specs.Expansion.{Expands, case_of, stays}
 use Rattle.c11_macros.specs.Footprint.{Arrives, footprint}
 use Rattle.c11_macros.specs.Hidden.{Failure, Hidden}
 use Rattle.c11_macros.specs.Macros.{Definition, Macros}
@@ -39,14 +39,15 @@ footprint_at place tokens definitions = (place, record { tokens = tokens; defini
 abbrev pub definitions_of : Macros → List (List ℕ) → List (List ℕ × Option Definition)
 definitions_of macros names = map (λ name. (name, macros name)) names
 
--- The expansion of a text comes to a name, which has this footprint: it and what it takes behind
--- it.
+-- The expansion of a text comes to a name that it replaces, or whose call it replaces. The name
+-- has this footprint: it and what it takes behind it.
 pub record NameHas (macros : Macros) (text : List Token) (f : Place × Used) : Type 0 where
   pub name : Token
   pub behind : List Token
   pub answer : Result (List (Hidden Place)) (Failure Place)
   pub expands : Expands place_alone macros (map unhidden (name ∷ behind)) answer
   pub arrives : Arrives place_alone macros (map unhidden text) (map unhidden (name ∷ behind))
+  pub replaces : case_of macros (unhidden name) (map unhidden behind) ≡ stays → ⊥
   pub is : f ≡ footprint_at name.place (name ∷ take (length behind - (footprint expands).left) behind) (definitions_of macros (footprint expands).looked_up)
 
 -- The expansion of a whole text for the line with its # at a place has this footprint.

@@ -13,7 +13,7 @@ use Rattle.sc_base.specs.declared.stop.Stop.TheVariants.{BranchesFull, ReadFault
 use Rattle.sc_base.specs.declared.token.Token.{Token}
 use Rattle.sc_base.specs.Seen.{seen}
 use Rattle.sc_expand.proofs.Phases.{print_of}
-use Rattle.sc_expand.specs.Footprints.{HasFootprints, IsSameUse, StopsAtName, UsesAt, taken_behind}
+use Rattle.sc_expand.specs.Footprints.{HasFootprints, IsSameUse, ReplacesAt, StopsAtName, UsesAt, taken_behind}
 use Rattle.sc_expand.specs.Stops.{HasConfigs, StopsBy}
 use Rattle.sc_guarded.specs.Items.{items_at}
 use Rattle.sc_model.specs.Sets.{Sets}
@@ -65,8 +65,8 @@ module _ {T P : Type 0} (see : T → Hidden P) (provenance : Provenance P) where
     configs = has.configs;
     many = has.many;
     listed = has.listed;
-    apart = pairs (λ c d. IsSameUse see provenance macros s list has.at c d → ⊥) (λ a b. a ≡ b → ⊥) (λ c. UsesAt see provenance (macros c) s list has.at c)
-        (λ c d come apart same. apart (one-use come d same)) has.configs has.come has.apart;
+    apart = pairs (λ c d. IsSameUse see provenance macros s list has.at c d → ⊥) (λ a b. a ≡ b → ⊥) (λ c. ReplacesAt see provenance (macros c) s list has.at c)
+        (λ c d come apart same. apart (one-use come.uses d same)) has.configs has.come has.apart;
   }
 
   pub stops-configs : (macros : List ℕ → Macros) (s : Sets) (cond : ℕ) (list : List (Cond × T)) (limit : ℕ) (stop : Stop) → StopsAtName see provenance macros s cond list limit stop → StopsBy s.arities limit stop

@@ -4,7 +4,7 @@ use Rattle.std.proofs.lemmas.List.{drop-map, length-map}
 use Rattle.std.proofs.lemmas.List.Elements.{All-head, All-tail, All-weaker}
 use Rattle.std.proofs.lemmas.Option.{slice_get-map}
 use Rattle.std.specs.Option.{option_map}
-use Rattle.c11_macros.specs.Expansion.{Expands}
+use Rattle.c11_macros.specs.Expansion.{Case, Expands, case_of, stays}
 use Rattle.c11_macros.specs.Footprint.{Arrives, Footprint, begins, footprint, footprint_from, goes_on}
 use Rattle.c11_macros.specs.Hidden.{Failure, Hidden, Provenance}
 use Rattle.c11_macros.specs.Macros.{Macros}
@@ -19,9 +19,9 @@ use Rattle.sc_base.specs.Seen.{seen, seen_place}
 use Rattle.sc_expand.proofs.Ending.{bared}
 use Rattle.sc_expand.proofs.FootprintLemmas.{pairs-both, same-use}
 use Rattle.sc_expand.proofs.Phases.{print_of}
-use Rattle.sc_expand.proofs.PlainPlaces.{expands-moved}
+use Rattle.sc_expand.proofs.PlainPlaces.{case_of-moved, expands-moved, moved_case, stays-moved}
 use Rattle.sc_expand.proofs.TextLemmas.{places-kept, seen_hidden-begun}
-use Rattle.sc_expand.specs.Footprints.{HasFootprints, IsSameUse, StopsAtName, UsesAt, taken_behind}
+use Rattle.sc_expand.specs.Footprints.{HasFootprints, IsSameUse, ReplacesAt, StopsAtName, UsesAt, taken_behind}
 use Rattle.sc_expand.specs.Having.{behind_at}
 use Rattle.sc_expand.specs.Moved.{IsKept, moved, moved_answer}
 use Rattle.sc_expand.specs.Seen.{provenance_of}
@@ -92,12 +92,13 @@ module _ {T U P Q : Type 0} (see : T → Hidden P) (look : U → Hidden Q) (g : 
       subst (λ (y : Cond × T). look (g y.1) ≡ moved f (see y.1)) first (All-head (λ (x : Cond × T). look (g x.1) ≡ moved f (see x.1)) x xs same)
   at-item (x ∷ xs) (suc n) item same is = at-item xs n item (All-tail (λ (x : Cond × T). look (g x.1) ≡ moved f (see x.1)) x xs same) is
 
-  -- the use of a list, where its tokens are mapped, with the same footprint
-  pub record UsesAs (macros : Macros) (list : List (Cond × T)) (at : ℕ) (c : List ℕ) (print : Footprint) : Type 0 where
+  -- the use of a list, where its tokens are mapped, with the same footprint and the same case
+  pub record UsesAs (macros : Macros) (list : List (Cond × T)) (at : ℕ) (c : List ℕ) (print : Footprint) (case : Case P) : Type 0 where
     pub uses : UsesAt look two macros s (each_as g list) at c
     pub is : print_of uses ≡ print
+    pub case_is : case_of macros (look uses.item.1) (map look (items_at s (drop (at + 1) (each_as g list)) c)) ≡ moved_case f case
 
-  pub uses-moved : (macros : Macros) (list : List (Cond × T)) (at : ℕ) (c : List ℕ) → AreMoved list → (x : UsesAt see one macros s list at c) → UsesAs macros list at c (print_of x)
+  pub uses-moved : (macros : Macros) (list : List (Cond × T)) (at : ℕ) (c : List ℕ) → AreMoved list → (x : UsesAt see one macros s list at c) → UsesAs macros list at c (print_of x) (case_of macros (see x.item.1) (map see (items_at s (drop (at + 1) list) c)))
   uses-moved macros list at c same x =
       let behind = items_at s (drop (at + 1) list) c in
       let first : look (g x.item.1) ≡ moved f (see x.item.1) = at-item list at x.item same x.is in
@@ -115,7 +116,14 @@ module _ {T U P Q : Type 0} (see : T → Hidden P) (look : U → Hidden Q) (g : 
           arrives = same-arrives two macros (sym (seen-moved list c same)) (λ i. sym first i ∷ sym rest i) (arrives-moved f kept macros x.arrives);
         };
         is = p.is;
+        case_is = (λ i. case_of macros (first i) (rest i)) ∙ case_of-moved f macros (see x.item.1) (map see behind);
       }
+
+  pub replaces-moved : (macros : Macros) (list : List (Cond × T)) (at : ℕ) (c : List ℕ) → AreMoved list → ReplacesAt see one macros s list at c → ReplacesAt look two macros s (each_as g list) at c
+  replaces-moved macros list at c same x =
+      let u = uses-moved macros list at c same x.uses in
+      let case = case_of macros (see x.uses.item.1) (map see (items_at s (drop (at + 1) list) c)) in
+      record { uses = u.uses; replaces = λ stay. x.replaces (stays-moved f case (sym u.case_is ∙ stay)) }
 
   taken-as : (list : List (Cond × T)) (at : ℕ) (print : Footprint) (c : List ℕ) → taken_behind s (each_as g list) at print c ≡ taken_behind s list at print c
   taken-as list at print c =
@@ -129,21 +137,21 @@ module _ {T U P Q : Type 0} (see : T → Hidden P) (look : U → Hidden Q) (g : 
     many = has.many;
     listed = has.listed;
     has = has.has;
-    come = λ k d within. (uses-moved (macros _) list has.at _ same (has.come k d within)).uses;
-    apart = pairs-both (λ c d. IsSameUse see one macros s list has.at c d → ⊥) (λ c d. IsSameUse look two macros s (each_as g list) has.at c d → ⊥) (λ c. UsesAt see one (macros c) s list has.at c)
+    come = λ k d within. replaces-moved (macros _) list has.at _ same (has.come k d within);
+    apart = pairs-both (λ c d. IsSameUse see one macros s list has.at c d → ⊥) (λ c d. IsSameUse look two macros s (each_as g list) has.at c d → ⊥) (λ c. ReplacesAt see one (macros c) s list has.at c)
         (λ c d x y apart also.
-        let u = uses-moved (macros c) list has.at c same x in
-        let v = uses-moved (macros d) list has.at d same y in
+        let u = uses-moved (macros c) list has.at c same x.uses in
+        let v = uses-moved (macros d) list has.at d same y.uses in
         let both = same-use look two u.uses v.uses also in
         apart (record {
-          one = x;
-          other = y;
+          one = x.uses;
+          other = y.uses;
           taken =
-              sym (taken-as list has.at (print_of x) c)
+              sym (taken-as list has.at (print_of x.uses) c)
               ∙ ap (λ p. taken_behind s (each_as g list) has.at p c) (sym u.is)
               ∙ both.0
               ∙ ap (λ p. taken_behind s (each_as g list) has.at p d) v.is
-              ∙ taken-as list has.at (print_of y) d;
+              ∙ taken-as list has.at (print_of y.uses) d;
           agree = subst (λ (p : Footprint). Agree (macros c) (macros d) p.looked_up) u.is both.1;
         })) has.configs has.come has.apart;
   }

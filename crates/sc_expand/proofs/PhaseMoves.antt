@@ -4,7 +4,8 @@ use Rattle.std.proofs.Common.{◌≡◌, ◌⊎◌, inl, inr, ℕ, suc, ◌+◌,
 use Rattle.std.proofs.lemmas.Bool.{leb-true}
 use Rattle.std.proofs.lemmas.List.{drop-drop, length-map}
 use Rattle.std.proofs.lemmas.List.Elements.{All-pop}
-use Rattle.c11_macros.specs.Expansion.{IsWithin}
+use Rattle.c11_macros.specs.Expansion as expansion
+use Rattle.c11_macros.specs.Expansion.{IsWithin, case_of}
 use Rattle.c11_macros.specs.Footprint.{Arrives, Footprint}
 use Rattle.c11_macros.specs.Hidden as model
 use Rattle.c11_macros.specs.Hidden.{Provenance}
@@ -14,7 +15,7 @@ use Rattle.sc_base.specs.declared.place.Place.{Place}
 use Rattle.sc_expand.proofs.Behind.{below, below-not, last-below, last-fewer, last-suffix, length-behind, more-same}
 use Rattle.sc_expand.proofs.MachineCalls.{calls_at-append}
 use Rattle.sc_expand.proofs.MachineLemmas.{IsBelow, IsOnTop, alone, called_in, goes, progress-step, stands-cases, stops}
-use Rattle.sc_expand.proofs.Phases.{IsBetween, IsInside, IsReady, Phase, bound_of, end_of, last_at, print_of, state_now}
+use Rattle.sc_expand.proofs.Phases.{IsAtName, IsBetween, IsInside, IsReady, Phase, bound_of, end_of, last_at, name_of, print_of, rest_of, state_now}
 use Rattle.sc_expand.proofs.PlainEnds.{move-ends}
 use Rattle.sc_expand.proofs.PlainFootprint.{UsesFrom, uses-less, uses-move}
 use Rattle.sc_expand.proofs.Rests.{next-argument, next-call, next-token}
@@ -137,6 +138,28 @@ no-move (plain.enter out work list w n others is) o e = absurd (cc)
 no-move (plain.leave out work list w n) o e = absurd (cc)
 no-move (plain.replace out work body w is made) o e = absurd (cc)
 no-move (plain.inside out work w n m) o e = absurd (cc)
+
+-- a name that stays leaves nothing but what stands behind it
+name-moved : {provenance : Provenance Place} {macros : Macros} {s t : State Place} → Moves provenance macros s t → (out : List (model.Hidden Place)) (name : model.Hidden Place) (behind : List (model.Hidden Place)) (last : ℕ) → s ≡ scanning out (name ∷ behind)
+    → IsPending t last → last ≡ lower_of (length (steps.bottom t)) (length behind) → case_of macros name behind ≡ expansion.stays → ⊥
+name-moved (plain.stay o rest t is) out name behind last e pending own stay =
+    let same : rest ≡ behind = cc in
+    let lower = lower-all (length rest) (length behind) (omega (arith, ap length same)) in
+    omega (arith, pending, own, lower, ap length same)
+name-moved {macros = macros} (plain.object o rest body t d is made) out name behind last e pending own stay =
+    let first : t ≡ name = cc in
+    let same : rest ≡ behind = cc in
+    let both : expansion.replaced d ≡ expansion.stays = sym is ∙ ((λ i. case_of macros (first i) (same i)) ∙ stay) in
+    absurd (cc)
+name-moved {macros = macros} (plain.gather o rest after t close d arguments template is makes) out name behind last e pending own stay =
+    let first : t ≡ name = cc in
+    let same : rest ≡ behind = cc in
+    let both : expansion.called d arguments close after ≡ expansion.stays = sym is ∙ ((λ i. case_of macros (first i) (same i)) ∙ stay) in
+    absurd (cc)
+name-moved (plain.enter o work list w n others is) out name behind last e pending own stay = absurd (cc)
+name-moved (plain.leave o work list w n) out name behind last e pending own stay = absurd (cc)
+name-moved (plain.replace o work body w is made) out name behind last e pending own stay = absurd (cc)
+name-moved (plain.inside o work w n m) out name behind last e pending own stay = absurd (cc)
 
 ends-with : {A : Type 0} (xs : List A) → (xs ≡ []) ⊎ ((front : List A) × (last : A) × (xs ≡ front ++ last ∷ []))
 ends-with [] = inl refl
@@ -357,6 +380,28 @@ module _ (files : List (List ℕ)) (macros : List ℕ → Macros)
             ⊎ ((state_now now e c ≡ state_now new after c) × (last_at now e phase.n c ≡ last_at new after phase.n c)) → IsPending (state_now now e c) (last_at now e phase.n c)
         by (inl m) = m.1
         by (inr s) = subst (λ k. IsPending (state_now now e c) k) (sym s.1) (subst (λ s. IsPending s (last_at new after phase.n c)) (sym s.0) pending)
+
+    -- who has something left of the name has it still, or has replaced it
+    pub moved-named : (c : List ℕ) (p : IsConfig old.sets.arities c) (k : phase.came c ≡ true) → new.sets.has after.refusals.live.0 c ≡ true → IsPending (state_now new after c) (last_at new after phase.n c)
+        → IsAtName files macros new after phase.n (name_of (phase.come c p k)) (rest_of (phase.come c p k)) c ⊎ (case_of (macros c) (name_of (phase.come c p k)) (rest_of (phase.come c p k)) ≡ expansion.stays → ⊥)
+    moved-named c listed k live pending =
+        let m = has-moved c listed live in
+        let before = moved-pending c listed live pending in
+        by m (phase.named c listed k before.0 before.1) m.step
+      where
+        name : model.Hidden Place
+        name = name_of (phase.come c listed k)
+
+        behind : List (model.Hidden Place)
+        behind = rest_of (phase.come c listed k)
+
+        by : HasMoved c → IsAtName files macros now e phase.n name behind c ⊎ (case_of (macros c) name behind ≡ expansion.stays → ⊥)
+            → (Moves (provenance_of files) (macros c) (state_now now e c) (state_now new after c) × IsPending (state_now now e c) (last_at now e phase.n c))
+            ⊎ ((state_now now e c ≡ state_now new after c) × (last_at now e phase.n c ≡ last_at new after phase.n c))
+            → IsAtName files macros new after phase.n name behind c ⊎ (case_of (macros c) name behind ≡ expansion.stays → ⊥)
+        by m (inr replaces) step = inr replaces
+        by m (inl a) (inr stays) = inl (record { out = a.out; is = sym stays.0 ∙ a.is; own = sym stays.1 ∙ a.own })
+        by m (inl a) (inl moved) = inr (name-moved moved.0 a.out name behind (last_at new after phase.n c) a.is pending (m.own ∙ ap (lower_of (length (steps.bottom (state_now new after c)))) a.own))
 
     -- its own items are still the last that it had
     pub moved-suffix : (c : List ℕ) → IsConfig old.sets.arities c → new.sets.has after.refusals.live.0 c ≡ true

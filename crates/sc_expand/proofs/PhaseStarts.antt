@@ -16,7 +16,7 @@ use Rattle.sc_expand.proofs.MachineLemmas as told
 use Rattle.sc_expand.proofs.MachineLemmas.{IsTold}
 use Rattle.sc_expand.proofs.PhaseLists.{arrives-end, below-from, below-same, first-had, length-seen, lower-bounds, lower-le, lower-least, lower-less, same-end, seen-drop, seen-name, slice-drop}
 use Rattle.sc_expand.proofs.PhaseMoves.{state-bottom}
-use Rattle.sc_expand.proofs.Phases.{IsInside, IsReady, Phase, Uses, bound_of, end_of, last_at, print_of, state_now, taken_by}
+use Rattle.sc_expand.proofs.Phases.{IsAtName, IsInside, IsReady, Phase, Uses, rest_of, bound_of, end_of, last_at, name_of, print_of, state_now, taken_by}
 use Rattle.sc_expand.proofs.PlainCompletes.{ends, scanned}
 use Rattle.sc_expand.proofs.PlainFootprint.{UsesFrom, uses-less, uses-over, uses-start}
 use Rattle.sc_expand.proofs.RunLemmas.{IsRunning, rests-at, running-stands, start-state}
@@ -104,6 +104,7 @@ module _ (files : List (List ℕ)) (macros : List ℕ → Macros) where
           all = ap length (all c) ∙ (sym (length-seen old was.top.work c) ∙ sym (ap length work));
           arrives = subst (Arrives (provenance_of files) (macros c) (seen_at old was.top.work c)) (sym work) begins;
         };
+    named = λ c p k. absurd (true≢false (sym k));
     suffix = λ c p live. (0, all c);
     own = λ c p k live. absurd (true≢false (sym k));
     alike = λ c d p q k. absurd (true≢false (sym k));
@@ -150,6 +151,10 @@ module _ {files : List (List ℕ)} {macros : List ℕ → Macros} {old now : Sto
           all = last c p live ∙ (b.all ∙ sym (ap length work));
           arrives = subst (Arrives (provenance_of files) (macros c) (seen_at old was.top.work c)) (sym work) b.arrives;
         };
+    named = λ c p k live pending.
+        let s = stays c p live in
+        let was_pending = subst (λ m. IsPending (state_now now e c) m) (last c p live) (subst (λ x. IsPending x (last_at new after n c)) (sym s.1) pending) in
+        still-named (name_of (phase.come c p k)) (rest_of (phase.come c p k)) s.1 (last c p live) (phase.named c p k s.0 was_pending);
     suffix = λ c p live. let it = phase.suffix c p (stays c p live).0 in (it.0, own c p live ∙ it.1);
     own = λ c p k live. let it = phase.own c p k (stays c p live).0 in (it.0, ap (end_of (print_of (phase.come c p k)).left) (seen c p live) ∙ it.1);
     alike = λ c d p q k l taken agree live live_d pending pending_d.
@@ -197,6 +202,11 @@ module _ {files : List (List ℕ)} {macros : List ℕ → Macros} {old now : Sto
 
       seen : (c : List ℕ) → IsConfig old.sets.arities c → new.sets.has after.refusals.live.0 c ≡ true → seen_at new (bottom after).work c ≡ seen_at now (bottom e).work c
       seen c p live = sym (state-bottom new after c) ∙ (ap steps.bottom (sym (stays c p live).1) ∙ state-bottom now e c)
+
+      still-named : {Replaced : Type 0} {c : List ℕ} (t : model.Hidden Place) (rest : List (model.Hidden Place)) → state_now now e c ≡ state_now new after c → last_at new after n c ≡ last_at now e phase.n c
+          → IsAtName files macros now e phase.n t rest c ⊎ Replaced → IsAtName files macros new after n t rest c ⊎ Replaced
+      still-named t rest state last (inl at_name) = inl (record { out = at_name.out; is = sym state ∙ at_name.is; own = last ∙ at_name.own })
+      still-named t rest state last (inr replaced) = inr replaced
 
 -- ---- the next name of the list
 
@@ -377,6 +387,13 @@ module _ {files : List (List ℕ)} {macros : List ℕ → Macros} (names : List 
       list : List (Cond × Hidden)
       list = drop (at_now + 1) was.top.work
 
+  at-name : (c : List ℕ) (it : Comes c) → IsAtName files macros now e (length rest) (name_of it.uses) (rest_of it.uses) c
+  at-name c it = record {
+    out = seen_at now e.top.out c;
+    is = state-is c ∙ ap (scanning (seen_at now e.top.out c)) it.seen;
+    own = ap length (behind-name c ∙ sym it.behind) ∙ sym (length-seen old (drop (at_now + 1) was.top.work) c);
+  }
+
   -- with the same footprint they have the same up to the last that it takes
   alike-name : (c d : List ℕ) (it : Comes c) (jt : Comes d) → taken_by it.uses ≡ taken_by jt.uses → now.sets.has item.0.0 c ≡ now.sets.has item.0.0 d
       → now.sets.has e.refusals.live.0 c ≡ now.sets.has e.refusals.live.0 d
@@ -454,6 +471,7 @@ module _ {files : List (List ℕ)} {macros : List ℕ → Macros} (names : List 
               all = ap length (behind-name c ∙ ap (λ (b : Bool). if b then length rest ∷ behind_at now.sets rest c else behind_at now.sets rest c) (sym none_first)) ∙ (sym (length-seen now (item ∷ rest) c) ∙ ap length (sym seen));
               arrives = subst (Arrives (provenance_of files) (macros c) (seen_at old was.top.work c)) (sym seen) (arrived c p live);
             };
+        named = λ c p k live pending. inl (at-name c (comes c p k));
         suffix = λ c p live.
             let whole = suffix-is c p live in
             let more = behind-drop c in

@@ -1,20 +1,26 @@
 -- Where the name that stands first has so many different calls, so many configurations come to one
 -- name of the list with different footprints.
-use Rattle.std.proofs.Common.{◌≡◌, ◌⊎◌, inl, inr, ℕ, ◌+◌, ◌<◌, ◌≤◌, Bool, true, false, List, [], ◌∷◌, All, drop, length, refl, sym, ap, subst, ◌∙◌, arith}
-use Rattle.c11_macros.specs.Expansion.{IsWithin}
-use Rattle.c11_macros.specs.Macros.{Macros}
+use Rattle.std.proofs.Common.{◌≡◌, ◌⊎◌, inl, inr, ℕ, ◌+◌, ◌<◌, ◌≤◌, Bool, true, false, List, [], ◌∷◌, All, Option, None, Some, drop, length, refl, sym, ap, subst, ◌∙◌, arith}
+use Rattle.c11_macros.specs.Call.{arguments_for}
+use Rattle.c11_macros.specs.Expansion.{IsWithin, case_of, fitted_case, is_looked_up, stays}
+use Rattle.c11_macros.specs.Hidden as model
+use Rattle.c11_macros.specs.Macros.{Definition, Macros}
+use Rattle.sc_base.specs.declared.place.Place.{Place}
 use Rattle.sc_base.specs.declared.stop.Stop.{Stop}
 use Rattle.sc_base.specs.declared.stop.Stop.TheVariants.{BranchesFull, ReadFault, OutOfMemory}
 use Rattle.sc_expand.proofs.AlikeRunning.{seen-first}
 use Rattle.sc_expand.proofs.Behind.{below}
 use Rattle.sc_expand.proofs.FootprintLemmas.{pairs-both, same-use}
+use Rattle.sc_expand.proofs.GatherCases.{case-closed, closed-call, spellings}
+use Rattle.sc_expand.proofs.GatherEnds.{end-behind}
+use Rattle.sc_expand.proofs.GatherTaking.{function-form}
 use Rattle.sc_expand.proofs.MachineLemmas.{IsBelow, IsOnTop, stands-cases}
 use Rattle.sc_expand.proofs.PhaseAlike.{same-called}
 use Rattle.sc_expand.proofs.PhaseMoves.{Waits, first-more, length-seen, on-top, waits-pending}
-use Rattle.sc_expand.proofs.Phases.{IsReady, Phase, last_at, state_now}
+use Rattle.sc_expand.proofs.Phases.{IsAtName, IsReady, Phase, last_at, name_of, rest_of, state_now}
 use Rattle.sc_expand.proofs.Rests.{first-is}
 use Rattle.sc_expand.proofs.RunLemmas.{IsRunning, running-stands}
-use Rattle.sc_expand.specs.Alike.{TakesName}
+use Rattle.sc_expand.specs.Alike.{IsFunctionLike, TakesName}
 use Rattle.sc_expand.specs.declared.expansion.Expansion.{Expansion}
 use Rattle.sc_expand.specs.declared.frame.Enclosing.{Enclosing}
 use Rattle.sc_expand.specs.Footprints.{HasFootprints, IsSameUse, StopsAtName}
@@ -24,11 +30,25 @@ use Rattle.sc_expand.specs.Machine.{IsHeldExpansion, no_view, state_in}
 use Rattle.sc_expand.specs.Plain.{scanning}
 use Rattle.sc_expand.specs.Running.{bottom, bottom_by}
 use Rattle.sc_expand.specs.Seen.{Grows, Stores, View, calls_at, provenance_of, seen_at, state_by, view_at}
+use Rattle.sc_expand.specs.Taking.{has_first}
 use Rattle.sc_expand.specs.CallStops.{HasCalls, StopsAt}
-use Rattle.sc_hoist.specs.Calls.{call_end_at, call_places, closed}
+use Rattle.sc_hoist.specs.Calls.{call_end, call_end_at, call_places, closed}
 use Rattle.sc_model.proofs.SetLemmas.{IsConfig-kept}
 use Rattle.sc_model.specs.Sets.{IsConfig}
 use Rattle.sc_subst.specs.Seen.{seen_hidden}
+
+-- a name whose call is closed doesn't stay
+closed-replaces : (macros : Macros) (t : model.Hidden Place) (rest : List (model.Hidden Place)) (o : Option Definition) → macros t.spelling ≡ o → IsFunctionLike o → is_looked_up t ≡ true → call_end (spellings rest) ≡ closed
+    → case_of macros t rest ≡ stays → ⊥
+closed-replaces macros t rest None defined function looked ends stay = function
+closed-replaces macros t rest (Some d) defined function looked ends stay =
+    let f = function-form d.form function in
+    let call = closed-call rest ends in
+    fits call.close call.after _ (sym (case-closed macros t d looked defined f.parameters f.variadic f.is rest call.between call.close call.after call.call) ∙ stay)
+  where
+    fits : (close : model.Hidden Place) (after : List (model.Hidden Place)) (o : Option (List (List (model.Hidden Place)))) → fitted_case d close after o ≡ stays → ⊥
+    fits close after None is = absurd (cc)
+    fits close after (Some arguments) is = absurd (cc)
 
 nothing-first : {A : Type 0} (x : A) (xs : List A) → x ∷ xs ≡ [] → ⊥
 nothing-first x xs none = cc
@@ -90,6 +110,38 @@ module _ {files : List (List ℕ)} {macros : List ℕ → Macros} (names : List 
         let takes = subst (λ (m : Macros). TakesName now m e c) (same c listed) t in
         record { listed = listed; came = pending-came c listed t.live (name-pending c listed takes); takes = takes; ends = ends }
 
+    -- the name that it came to is replaced or called
+    come-replaces : (c : List ℕ) (h : HasCome c) → case_of (macros c) (name_of (phase.come c h.listed h.came)) (rest_of (phase.come c h.listed h.came)) ≡ stays → ⊥
+    come-replaces c h = by (phase.named c h.listed h.came h.takes.live (name-pending c h.listed h.takes))
+      where
+        name : model.Hidden Place
+        name = name_of (phase.come c h.listed h.came)
+
+        behind : List (model.Hidden Place)
+        behind = rest_of (phase.come c h.listed h.came)
+
+        item-is : seen_at now e.top.work c ≡ seen_hidden now.names now.hides h.takes.item.1 ∷ seen_at now (drop 1 e.top.work) c
+        item-is = seen-first now c e.top.work h.takes.item h.takes.first h.takes.has
+
+        first : seen_at now e.top.work c ≡ name ∷ behind → case_of (macros c) name behind ≡ stays → ⊥
+        first is =
+            let same : seen_hidden now.names now.hides h.takes.item.1 ≡ name = cc (is, item-is) in
+            let has = ap (λ l. has_first now.sets l c) (first-is e.top.work h.takes.item h.takes.first) ∙ h.takes.has in
+            closed-replaces (macros c) name behind _ (ap (λ (t : model.Hidden Place). macros c t.spelling) (sym same)) h.takes.function (ap is_looked_up (sym same) ∙ h.takes.looked_up)
+            (end-behind now e.top.work c name behind has is ∙ h.ends)
+
+        at-top : IsAtName files macros now e phase.n name behind c → (e.below.items ≡ []) ⊎ Waits (state_now now e c) → case_of (macros c) name behind ≡ stays → ⊥
+        at-top a (inr waits) = absurd (subst Waits a.is waits)
+        at-top a (inl none) =
+            let calls : calls_at now e.top.calls.items c ≡ [] = ap (λ l. calls_at now l c) h.takes.calls in
+            let state : state_now now e c ≡ scanning (seen_at now e.top.out c) (seen_at now e.top.work c)
+            = ap (λ bs. state_in now bs (view_at now e.top c) c) none ∙ ap (state_by (seen_at now e.top.out c) (seen_at now e.top.work c)) calls in
+            first (cc (sym state ∙ a.is))
+
+        by : IsAtName files macros now e phase.n name behind c ⊎ (case_of (macros c) name behind ≡ stays → ⊥) → case_of (macros c) name behind ≡ stays → ⊥
+        by (inr replaces) = replaces
+        by (inl a) = at-top a (on-top now c (view_at now e.top c) (takes-on-top c h.listed h.takes))
+
     -- with different calls they have different footprints of the name that they came to
     pub phase-stops : (other : List ℕ → Macros) → ((c : List ℕ) → IsConfig old.sets.arities c → other c ≡ macros c) → (count : ℕ) → HasCalls now.sets now.names (λ c. TakesName now (other c) e c) e.top.work count
         → HasFootprints (seen_hidden old.names old.hides) (provenance_of files) macros old.sets was.refusals.live.0 was.top.work count
@@ -99,7 +151,7 @@ module _ {files : List (List ℕ)} {macros : List ℕ → Macros} (names : List 
       many = calls.many;
       listed = λ k d within. (each k d within).listed;
       has = λ k d within. let h = each k d within in phase.live _ h.listed h.came;
-      come = λ k d within. let h = each k d within in phase.come _ h.listed h.came;
+      come = λ k d within. let h = each k d within in record { uses = phase.come _ h.listed h.came; replaces = come-replaces _ h };
       apart = pairs-both (λ c d. call_places now.sets now.names (tokens_in e.top.work) 0 c ≡ call_places now.sets now.names (tokens_in e.top.work) 0 d → ⊥)
           (λ c d. IsSameUse (seen_hidden old.names old.hides) (provenance_of files) macros old.sets was.top.work phase.at c d → ⊥) HasCome
           (λ c d x y apart also.

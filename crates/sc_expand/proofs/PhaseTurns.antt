@@ -3,7 +3,7 @@ use Rattle.std.proofs.Common.{◌≡◌, ℕ, Bool, List, length}
 use Rattle.c11_macros.specs.Expansion.{IsWithin}
 use Rattle.c11_macros.specs.Macros.{Macros}
 use Rattle.sc_expand.proofs.PhaseAlike.{moved-alike}
-use Rattle.sc_expand.proofs.PhaseMoves.{moved-between, moved-fits, moved-inside, moved-own, moved-suffix}
+use Rattle.sc_expand.proofs.PhaseMoves.{moved-between, moved-fits, moved-inside, moved-named, moved-own, moved-suffix}
 use Rattle.sc_expand.proofs.Phases.{IsReady, Phase}
 use Rattle.sc_expand.proofs.RunLemmas.{IsRunning}
 use Rattle.sc_expand.specs.declared.expansion.Expansion.{Expansion}
@@ -28,6 +28,7 @@ module _ (files : List (List ℕ)) (macros : List ℕ → Macros) (names : List 
     live = phase.live;
     inside = moved-inside files macros grows r began phase ready new after other same turned;
     between = moved-between files macros grows r began phase ready new after other same turned;
+    named = moved-named files macros grows r began phase ready new after other same turned;
     suffix = moved-suffix files macros grows r began phase ready new after other same turned;
     own = moved-own files macros grows r began phase ready new after other same turned names within;
     alike = moved-alike files macros names within grows r began phase ready new after other same turned;

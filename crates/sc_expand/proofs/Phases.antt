@@ -1,6 +1,7 @@
 -- The expansion of one name of the list under all configurations that come to it: where each
 -- stands, and what those with the same footprint have alike.
-use Rattle.std.proofs.Common.{◌≡◌, ℕ, ◌+◌, ◌-◌, ◌≤◌, suc, Bool, true, false, List, [], drop, length}
+use Rattle.std.proofs.Common.{◌≡◌, ◌⊎◌, ℕ, ◌+◌, ◌-◌, ◌≤◌, suc, Bool, true, false, List, [], ◌∷◌, drop, length, map}
+use Rattle.c11_macros.specs.Expansion.{case_of, stays}
 use Rattle.c11_macros.specs.Footprint.{Arrives, Footprint, footprint}
 use Rattle.c11_macros.specs.Hidden as model
 use Rattle.c11_macros.specs.Hidden.{Provenance}
@@ -19,6 +20,7 @@ use Rattle.sc_expand.specs.Machine.{state_in}
 use Rattle.sc_expand.specs.Plain.{State, scanning}
 use Rattle.sc_expand.specs.Running.{bottom}
 use Rattle.sc_expand.specs.Seen.{Stores, provenance_of, seen_at, view_at}
+use Rattle.sc_guarded.specs.Items.{items_at}
 use Rattle.sc_model.specs.Sets.{IsConfig, Sets}
 use Rattle.sc_subst.specs.Seen.{seen_hidden}
 
@@ -32,6 +34,13 @@ module _ {T P : Type 0} {see : T → model.Hidden P} {provenance : Provenance P}
   -- how many items of the list stand behind the last that the name took, or behind the name
   abbrev pub bound_of : UsesAt see provenance macros s list at c → ℕ
   bound_of x = last_taken (length (drop (at + 1) list)) (taken_behind s list at (footprint x.expands) c)
+
+  -- the name, and what stands behind it
+  abbrev pub name_of : UsesAt see provenance macros s list at c → model.Hidden P
+  name_of x = see x.item.1
+
+  abbrev pub rest_of : UsesAt see provenance macros s list at c → List (model.Hidden P)
+  rest_of x = map see (items_at s (drop (at + 1) list) c)
 
 -- so many items at the end of a list
 abbrev pub end_of : {A : Type 0} → ℕ → List A → List A
@@ -62,6 +71,12 @@ module _ (files : List (List ℕ)) (macros : List ℕ → Macros) where
     pub all : last_at st e n c ≡ length (seen_at st (bottom e).work c)
     pub arrives : Arrives (provenance_of files) (macros c) (seen_at old was.top.work c) (seen_at st (bottom e).work c)
 
+  -- the name is still to be scanned, and what stands behind it are its own items
+  pub record IsAtName (st : Stores) (e : Expansion) (n : ℕ) (t : model.Hidden Place) (behind : List (model.Hidden Place)) (c : List ℕ) : Type 0 where
+    pub out : List (model.Hidden Place)
+    pub is : state_now st e c ≡ scanning out (t ∷ behind)
+    pub own : last_at st e n c ≡ length behind
+
   -- The list began as `was`, and the name at an index of it is being expanded. The last n items are
   -- its own.
   pub record Phase (old now : Stores) (was e : Expansion) : Type 0 where
@@ -76,6 +91,9 @@ module _ (files : List (List ℕ)) (macros : List ℕ → Macros) where
     pub inside : (c : List ℕ) (p : IsConfig old.sets.arities c) (k : came c ≡ true) → now.sets.has e.refusals.live.0 c ≡ true
         → IsInside now e n (bound_of (come c p k)) (print_of (come c p k)) c
     pub between : (c : List ℕ) → IsConfig old.sets.arities c → came c ≡ false → now.sets.has e.refusals.live.0 c ≡ true → IsBetween old now was e n c
+    -- who has something left of the name has the name still, or has replaced it
+    pub named : (c : List ℕ) (p : IsConfig old.sets.arities c) (k : came c ≡ true) → now.sets.has e.refusals.live.0 c ≡ true → IsPending (state_now now e c) (last_at now e n c)
+        → IsAtName now e n (name_of (come c p k)) (rest_of (come c p k)) c ⊎ (case_of (macros c) (name_of (come c p k)) (rest_of (come c p k)) ≡ stays → ⊥)
     -- its own items are the last that it had
     pub suffix : (c : List ℕ) → IsConfig old.sets.arities c → now.sets.has e.refusals.live.0 c ≡ true
         → (g : ℕ) × (below n (behind_at now.sets (bottom e).work c) ≡ drop g (behind_at old.sets was.top.work c))

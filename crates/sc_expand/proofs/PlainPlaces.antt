@@ -186,7 +186,7 @@ module _ {P Q : Type 0} (f : P → Q) where
   abbrev moved_call : Call P → Call Q
   moved_call found = record { arguments = map all found.arguments; close = moved f found.close; rest = all found.rest }
 
-  abbrev moved_case : Case P → Case Q
+  abbrev pub moved_case : Case P → Case Q
   moved_case stays = stays
   moved_case (replaced d) = replaced d
   moved_case unclosed = unclosed
@@ -283,6 +283,14 @@ module _ {P Q : Type 0} (f : P → Q) where
 
   pub case_of-moved : (macros : Macros) (t : Hidden P) (rest : List (Hidden P)) → case_of macros (moved f t) (all rest) ≡ moved_case (case_of macros t rest)
   case_of-moved macros t rest = looked_up_case-moved macros (is_looked_up t) t.spelling rest
+
+  -- and it stays just if it did
+  pub stays-moved : (k : Case P) → moved_case k ≡ stays → k ≡ stays
+  stays-moved stays is = refl
+  stays-moved (replaced d) is = absurd (cc)
+  stays-moved unclosed is = absurd (cc)
+  stays-moved (misfit after) is = absurd (cc)
+  stays-moved (called d arguments close after) is = absurd (cc)
 
   -- an argument that is asked for, with its parameter
   abbrev moved_ask : ℕ × List (Hidden P) → ℕ × List (Hidden Q)

@@ -1,6 +1,6 @@
 -- Configurations that expand one name of a list with different footprints.
 use Rattle.std.specs.Prelude.{◌≡◌, ℕ, ◌+◌, ◌-◌, ◌≤◌, true, List, ◌∷◌, All, AllPairs, Result, Some, drop, length, map, slice_get, take}
-use Rattle.c11_macros.specs.Expansion.{Expands}
+use Rattle.c11_macros.specs.Expansion.{Expands, case_of, stays}
 use Rattle.c11_macros.specs.Footprint.{Arrives, Footprint, footprint}
 use Rattle.c11_macros.specs.Hidden.{Failure, Hidden, Provenance}
 use Rattle.c11_macros.specs.Macros.{Macros}
@@ -22,6 +22,11 @@ pub record UsesAt {T P : Type 0} (see : T → Hidden P) (provenance : Provenance
   pub expands : Expands provenance macros (see item.1 ∷ map see (items_at s (drop (at + 1) list) c)) answer
   pub arrives : Arrives provenance macros (map see (items_at s list c)) (see item.1 ∷ map see (items_at s (drop (at + 1) list) c))
 
+-- It is replaced there, or called.
+pub record ReplacesAt {T P : Type 0} (see : T → Hidden P) (provenance : Provenance P) (macros : Macros) (s : Sets) (list : List (Cond × T)) (at : ℕ) (c : List ℕ) : Type 0 where
+  pub uses : UsesAt see provenance macros s list at c
+  pub replaces : case_of macros (see uses.item.1) (map see (items_at s (drop (at + 1) list) c)) ≡ stays → ⊥
+
 -- The tokens that a name at this index took behind it, each as how many items of the list stand
 -- behind that token.
 abbrev pub taken_behind : {T : Type 0} → Sets → List (Cond × T) → ℕ → Footprint → List ℕ → List ℕ
@@ -34,15 +39,15 @@ pub record IsSameUse {T P : Type 0} (see : T → Hidden P) (provenance : Provena
   pub taken : taken_behind s list at (footprint one.expands) c ≡ taken_behind s list at (footprint other.expands) d
   pub agree : Agree (macros c) (macros d) (footprint one.expands).looked_up
 
--- at least so many configurations of a condition come to one name of the list, with different
--- footprints each
+-- at least so many configurations of a condition come to one name of the list, which each of them
+-- replaces or calls, with different footprints
 pub record HasFootprints {T P : Type 0} (see : T → Hidden P) (provenance : Provenance P) (macros : List ℕ → Macros) (s : Sets) (cond : ℕ) (list : List (Cond × T)) (count : ℕ) : Type 0 where
   pub at : ℕ
   pub configs : List (List ℕ)
   pub many : count ≤ length configs
   pub listed : All (IsConfig s.arities) configs
   pub has : All (λ c. s.has cond c ≡ true) configs
-  pub come : All (λ c. UsesAt see provenance (macros c) s list at c) configs
+  pub come : All (λ c. ReplacesAt see provenance (macros c) s list at c) configs
   pub apart : AllPairs (λ c d. IsSameUse see provenance macros s list at c d → ⊥) configs
 
 -- one name has more different footprints than the limit, or there is no memory

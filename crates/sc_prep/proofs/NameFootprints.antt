@@ -8,7 +8,7 @@ use Rattle.std.proofs.Math.Seq.{take-nil}
 use Rattle.c11_directives.specs.Footprints as footprints
 use Rattle.c11_directives.specs.Footprints.{DirectiveHas, NameHas, TextHas, Used, definitions_of, footprint_at}
 use Rattle.c11_directives.specs.Lines.{Line}
-use Rattle.c11_macros.specs.Expansion.{Expands}
+use Rattle.c11_macros.specs.Expansion.{Expands, case_of, stays}
 use Rattle.c11_macros.specs.Footprint.{Arrives, Footprint, footprint}
 use Rattle.c11_macros.specs.Hidden.{Failure, Hidden}
 use Rattle.c11_macros.specs.Macros.{Definition, Macros}
@@ -21,7 +21,7 @@ use Rattle.sc_base.specs.declared.token.Token as base
 use Rattle.sc_base.specs.Seen.{seen}
 use Rattle.sc_expand.proofs.Behind.{length-behind}
 use Rattle.sc_expand.proofs.FootprintLemmas.{one-use}
-use Rattle.sc_expand.specs.Footprints.{HasFootprints, IsSameUse, StopsAtName, UsesAt, taken_behind}
+use Rattle.sc_expand.specs.Footprints.{HasFootprints, IsSameUse, ReplacesAt, StopsAtName, UsesAt, taken_behind}
 use Rattle.sc_expand.specs.Having.{behind_at}
 use Rattle.sc_guarded.specs.Items.{items_at}
 use Rattle.sc_model.specs.Fault.{first_place}
@@ -135,6 +135,9 @@ module _ (s : Sets) (names files : List (List ℕ)) (macros : List ℕ → Macro
   abbrev Uses : List ℕ → Type 0
   Uses c = UsesAt looks place_alone (macros c) s list at c
 
+  abbrev Replaces : List ℕ → Type 0
+  Replaces c = ReplacesAt looks place_alone (macros c) s list at c
+
   abbrev items_behind : List ℕ → List base.Token
   items_behind c = items_at s (drop (at + 1) list) c
 
@@ -150,8 +153,9 @@ module _ (s : Sets) (names files : List (List ℕ)) (macros : List ℕ → Macro
   abbrev used_at : (c : List ℕ) → Uses c → Used
   used_at c x = (print_by c place (seen names files x.item.1) (footprint x.expands)).1
 
-  has-name : (c : List ℕ) (x : Uses c) → NameHas (macros c) (map (seen names files) (items_at s list c)) (place, used_at c x)
-  has-name c x =
+  has-name : (c : List ℕ) (r : Replaces c) → NameHas (macros c) (map (seen names files) (items_at s list c)) (place, used_at c r.uses)
+  has-name c r =
+      let x = r.uses in
       let first = looks x.item.1 in
       let rest : map looks (items_behind c) ≡ map unhidden (behind c) = sym (map-map unhidden (seen names files) (items_behind c)) in
       let p = subst (λ (ts : List (Hidden Place)). HasPrint (macros c) first ts (footprint x.expands)) rest (record { answer = x.answer; expands = x.expands; is = refl }) in
@@ -162,6 +166,7 @@ module _ (s : Sets) (names files : List (List ℕ)) (macros : List ℕ → Macro
         expands = p.expands;
         arrives = subst (λ (ts : List (Hidden Place)). Arrives place_alone (macros c) ts (first ∷ map unhidden (behind c))) (sym (map-map unhidden (seen names files) (items_at s list c)))
             (subst (λ (ts : List (Hidden Place)). Arrives place_alone (macros c) (map looks (items_at s list c)) (first ∷ ts)) rest x.arrives);
+        replaces = subst (λ (ts : List (Hidden Place)). case_of (macros c) first ts ≡ stays → ⊥) rest r.replaces;
         is = λ i. print_by c (place_of names files (x.is i)) (seen names files x.item.1) (sym p.is i);
       }
 
@@ -187,22 +192,22 @@ module _ (s : Sets) (names files : List (List ℕ)) (macros : List ℕ → Macro
         }
 
     -- configurations with different footprints of the name have them told by tokens
-    source-footprints : (cond count : ℕ) (configs : List (List ℕ)) → count ≤ length configs → All (IsConfig s.arities) configs → All (λ c. s.has cond c ≡ true) configs → All Uses configs
+    source-footprints : (cond count : ℕ) (configs : List (List ℕ)) → count ≤ length configs → All (IsConfig s.arities) configs → All (λ c. s.has cond c ≡ true) configs → All Replaces configs
         → AllPairs (λ c d. IsSameUse looks place_alone macros s list at c d → ⊥) configs
         → footprints.HasFootprints (IsConfig s.arities) (λ c f. (s.has cond c ≡ true) × NameHas (macros c) (map (seen names files) (items_at s list c)) f) count
     source-footprints cond count configs many listed has come apart =
-        let make : (c : List ℕ) → Uses c → List ℕ × Used = λ c x. (c, used_at c x) in
+        let make : (c : List ℕ) → Replaces c → List ℕ × Used = λ c x. (c, used_at c x.uses) in
         let Is : List ℕ × Used → Type 0 = λ p. IsConfig s.arities p.0 in
         let Has : List ℕ × Used → Type 0 = λ p. (s.has cond p.0 ≡ true) × NameHas (macros p.0) (map (seen names files) (items_at s list p.0)) (place, p.1) in
         let Apart : List ℕ × Used → List ℕ × Used → Type 0 = λ p q. (p.0 ≡ q.0 → ⊥) × (p.1 ≡ q.1 → ⊥) in
         record {
           at = place;
-          footprints = made_of Uses make configs come;
-          many = subst (λ n. count ≤ n) (sym (made-length Uses make configs come)) many;
-          listed = made-all Uses make (IsConfig s.arities) Is (λ c x is. is) configs come listed;
-          each = made-all Uses make (λ c. s.has cond c ≡ true) Has (λ c x is. (is, has-name c x)) configs come has;
-          apart = made-pairs Uses make (λ c d. IsSameUse looks place_alone macros s list at c d → ⊥) Apart
-              (λ c d x y other. (λ same. other (one-use looks place_alone x d same), λ same. other (same-use c d x y same))) configs come apart;
+          footprints = made_of Replaces make configs come;
+          many = subst (λ n. count ≤ n) (sym (made-length Replaces make configs come)) many;
+          listed = made-all Replaces make (IsConfig s.arities) Is (λ c x is. is) configs come listed;
+          each = made-all Replaces make (λ c. s.has cond c ≡ true) Has (λ c x is. (is, has-name c x)) configs come has;
+          apart = made-pairs Replaces make (λ c d. IsSameUse looks place_alone macros s list at c d → ⊥) Apart
+              (λ c d x y other. (λ same. other (one-use looks place_alone x.uses d same), λ same. other (same-use c d x.uses y.uses same))) configs come apart;
         }
 
 pub name-footprints : (s : Sets) (names files : List (List ℕ)) (macros : List ℕ → Macros) (cond : ℕ) (list : List (Cond × base.Token)) (limit : ℕ) (stop : Stop) → AreDifferent names files list
