@@ -3,6 +3,7 @@ ghost use Rattle.std.specs.Option.{option_and_then, option_map};
 ghost use Rattle.sc_base.specs.Seen.{seen_place};
 ghost use Rattle.sc_model.specs.Fault as model;
 ghost use Rattle.sc_model.specs.Growth.{Extends};
+ghost use Rattle.sc_model.specs.Outside.{Files as Outside};
 ghost use Rattle.sc_prep.specs.Contents.{AreContents, IsContent, IsHeldContent, IsKept, IsReading, KeepsContents, content_at, end_place, known, ReadsSame};
 ghost use Rattle.sc_prep.specs.Preprocesses.{ReadsNothing};
 
@@ -103,11 +104,24 @@ fn read_file<S: Source>(
     ensures counted { S.faults src.old ≤ S.faults src.new }
     ensures names { Extends names.old names.new }
 {
-    let Some(bytes) = src.read(alloc, files.text(file))? else {
+    let Some(bytes) = read_bytes(alloc, src, files.text(file))? else {
         return Ok(None);
     };
     let content = read_content(alloc, names, file, &bytes)?;
     Ok(Some(Rc::new(alloc, content)?))
+}
+
+/// The bytes of the file of a name, or `None` where no file has it.
+fn read_bytes<S: Source>(alloc: Global, src: &mut S, name: &str) -> Result<Option<Vec<u8>>, Stop>
+    ensures answer { (outside : Outside) → S.holds src.old ≡ Some outside
+        → IfOk result (λ found. option_map (λ bytes. bytes.items) found ≡ outside name.now) }
+    ensures stops { IfErr result (ReadsNothing (S.faults src.old) (S.faults src.new)) }
+
+    // at every outcome
+    ensures kept { S.holds src.new ≡ S.holds src.old }
+    ensures counted { S.faults src.old ≤ S.faults src.new }
+{
+    Ok(src.read(alloc, name)?)
 }
 
 /// What is known of a file's name.
