@@ -13,16 +13,16 @@ use Rattle.c11_expressions.proofs.Reading.{Found, found, reads}
 use Rattle.sc_model.specs.declared.cause.Cause.{Cause}
 use Rattle.sc_model.specs.declared.cause.Cause.TheVariants.{BadIf}
 
-abbrev symbols_of : List Spelled → List (Option Symbol)
+abbrev pub symbols_of : List Spelled → List (Option Symbol)
 symbols_of ts = map (λ t. symbol_of t.kind t.spelling) ts
 
 -- the symbols that tokens are, and what reading them gives
-record Symbols (s n : State) (ts : List Spelled) : Type 0 where
-  symbols : List Symbol
-  each : symbols_of ts ≡ map Some symbols
-  runs : run s symbols ≡ Some n
+pub record Symbols (s n : State) (ts : List Spelled) : Type 0 where
+  pub symbols : List Symbol
+  pub each : symbols_of ts ≡ map Some symbols
+  pub runs : run s symbols ≡ Some n
 
-run-symbols : (s : State) (ts : List Spelled) (ss : List Symbol) → symbols_of ts ≡ map Some ss → run_tokens s ts ≡ run s ss
+pub run-symbols : (s : State) (ts : List Spelled) (ss : List Symbol) → symbols_of ts ≡ map Some ss → run_tokens s ts ≡ run s ss
 run-symbols s [] [] e = refl
 run-symbols s [] (y ∷ ys) e = absurd (cc)
 run-symbols s (t ∷ ts) [] e = absurd (cc)
@@ -45,7 +45,7 @@ symbols-none s n t ts (Some y) is go e = by (step s y) refl e
     by None k e = absurd (cc)
     by (Some m) k e = go y m k e is
 
-symbols-run : (s n : State) (ts : List Spelled) → run_tokens s ts ≡ Some n → Symbols s n ts
+pub symbols-run : (s n : State) (ts : List Spelled) → run_tokens s ts ≡ Some n → Symbols s n ts
 symbols-run s n [] e = record { symbols = []; each = refl; runs = e }
 symbols-run s n (t ∷ ts) e = symbols-none s n t ts (symbol_of t.kind t.spelling) refl (λ y m k r is. onto s n t ts y m k is (symbols-run m n ts r)) e
   where

@@ -9,7 +9,7 @@ use Rattle.c11_expressions.specs.Waiting.{AreWaiting, Operand, Waiting, asked, b
 use Rattle.c11_expressions.proofs.Reader.{Held, State, at_colon, at_infix, at_question, having, held, run, settled, step, wanting}
 use Rattle.c11_expressions.proofs.Reading.{Waits, arrives, begun-prefix, kept, level-least, level-most, settled-waits}
 
-waits-needed : (n : ℕ) (ws : List Waiting) → needed ws ≤ n → Waits n ws
+pub waits-needed : (n : ℕ) (ws : List Waiting) → needed ws ≤ n → Waits n ws
 waits-needed n [] h = tt
 waits-needed n (parenthesis ∷ ws) h = λ p a b c. refl
 waits-needed n (prefix op ∷ ws) h = λ p a b c. absurd (omega arith)
@@ -17,7 +17,7 @@ waits-needed n (left op x ∷ ws) h = λ p a b c. grind (arith, nat_tests)
 waits-needed n (condition x ∷ ws) h = λ p a b c. refl
 waits-needed n (branch x y ∷ ws) h = λ p a b c. grind (arith, nat_tests)
 
-run-append : (s : State) (ts us : List Symbol) → run s (ts ++ us) ≡ option_and_then (λ n. run n us) (run s ts)
+pub run-append : (s : State) (ts us : List Symbol) → run s (ts ++ us) ≡ option_and_then (λ n. run n us) (run s ts)
 run-append s [] us = refl
 run-append s (t ∷ ts) us = by (step s t) (λ n. run-append n ts us)
   where
@@ -41,7 +41,7 @@ then-colon ws x y xs a form same =
     let b = arrives 0 xs a form (condition x ∷ ws) (λ p i j k. refl) in
     b.runs (mark punctuator.Colon ∷ []) ∙ (ap (λ (h : Held). option_and_then (λ n. run n []) (at_colon h.frames h.operand)) (b.settles 0 (omega arith)) ∙ ap (λ k. Some (wanting (branch x k ∷ ws))) (sym same))
 
-reads-waiting : (ws : List Waiting) (ts : List Symbol) → AreWaiting ws ts → run (wanting []) ts ≡ Some (wanting ws)
+pub reads-waiting : (ws : List Waiting) (ts : List Symbol) → AreWaiting ws ts → run (wanting []) ts ≡ Some (wanting ws)
 reads-waiting ws ts start = refl
 reads-waiting ws ts (opened vs us d) = run-append (wanting []) us (mark punctuator.Open ∷ []) ∙ ap (option_and_then (λ n. run n (mark punctuator.Open ∷ []))) (reads-waiting vs us d)
 reads-waiting ws ts (before vs us p op d is) =

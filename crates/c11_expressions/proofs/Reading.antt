@@ -134,23 +134,23 @@ reads ts e d =
 
 -- the symbols are those of the frames, and then an operand that they take, of this level or a
 -- tighter one
-record Has (p : ℕ) (fs : List Waiting) (x : Operand) (ts : List Symbol) : Type 0 where
-  first : List Symbol
-  last : List Symbol
-  level : ℕ
-  expression : Expression
-  under : AreWaiting fs first
-  form : Phrase level last expression
-  fits : needed fs ≤ level
-  tight : p ≤ level
-  is : x ≡ kept fs expression
-  whole : ts ≡ first ++ last
+pub record Has (p : ℕ) (fs : List Waiting) (x : Operand) (ts : List Symbol) : Type 0 where
+  pub first : List Symbol
+  pub last : List Symbol
+  pub level : ℕ
+  pub expression : Expression
+  pub under : AreWaiting fs first
+  pub form : Phrase level last expression
+  pub fits : needed fs ≤ level
+  pub tight : p ≤ level
+  pub is : x ≡ kept fs expression
+  pub whole : ts ≡ first ++ last
 
 looser_by : (k m n : ℕ) (ts : List Symbol) (e : Expression) → n ≡ m + k → Phrase n ts e → Phrase m ts e
 looser_by zero m n ts e is d = let same : n ≡ m = omega arith in subst (λ l. Phrase l ts e) same d
 looser_by (suc k) m n ts e is d = tighter m ts e (looser_by k (suc m) n ts e (omega arith) d)
 
-looser : (m n : ℕ) (ts : List Symbol) (e : Expression) → m ≤ n → Phrase n ts e → Phrase m ts e
+pub looser : (m n : ℕ) (ts : List Symbol) (e : Expression) → m ≤ n → Phrase n ts e → Phrase m ts e
 looser m n ts e h d = looser_by (n - m) m n ts e (omega arith) d
 
 needed-most : (fs : List Waiting) → needed fs ≤ 11
@@ -162,7 +162,7 @@ needed-most (condition c ∷ fs) = omega arith
 needed-most (branch c x ∷ fs) = omega arith
 
 -- no frame takes just the operators
-needed-none : (fs : List Waiting) → needed fs ≤ 1 → needed fs ≡ 0
+pub needed-none : (fs : List Waiting) → needed fs ≤ 1 → needed fs ≡ 0
 needed-none [] h = refl
 needed-none (parenthesis ∷ fs) h = refl
 needed-none (prefix op ∷ fs) h = absurd (omega arith)
@@ -232,7 +232,7 @@ closes p (condition c) fs x ts low b h = absurd (cc)
 closes p (branch c y) fs x ts low b h = closes-branch p c y fs x ts h.first h.last h.level h.expression h.under (leb-true p 0 b) h.form h.is h.whole
 
 -- settled frames take this level
-settles : (p : ℕ) (fs : List Waiting) (x : Operand) (ts : List Symbol) → p ≤ 10 → Has p fs x ts
+pub settles : (p : ℕ) (fs : List Waiting) (x : Operand) (ts : List Symbol) → p ≤ 10 → Has p fs x ts
     → Has p (settled p fs x).frames (settled p fs x).operand ts × (needed (settled p fs x).frames ≤ p)
 settles p [] x ts low h = (h, omega arith)
 settles p (f ∷ fs) x ts low h = by (binds p f) refl (λ e. settles p fs (closed f x) ts low (closes p f fs x ts low e h))
@@ -245,7 +245,7 @@ settles p (f ∷ fs) x ts low h = by (binds p f) refl (λ e. settles p fs (close
     by false e lower = (h, unbound p f fs e)
 
 -- the symbols bring the reader to this state
-abbrev Stands : State → List Symbol → Type 0
+abbrev pub Stands : State → List Symbol → Type 0
 Stands (wanting fs) ts = AreWaiting fs ts
 Stands (having fs x) ts = Has 12 fs x ts
 
@@ -317,7 +317,7 @@ goes-close : (fs : List Waiting) (y : Operand) (ts : List Symbol) → Has 0 fs y
 goes-close (parenthesis ∷ fs) y ts h = goes-out fs y ts h.first h.last h.expression h.under (looser 0 h.level h.last h.expression (omega arith) h.form) h.is h.whole
 goes-close _ y ts h = tt
 
-weaker : (p : ℕ) (fs : List Waiting) (x : Operand) (ts : List Symbol) → p ≤ 10 → Has 12 fs x ts → Has p fs x ts
+pub weaker : (p : ℕ) (fs : List Waiting) (x : Operand) (ts : List Symbol) → p ≤ 10 → Has 12 fs x ts → Has p fs x ts
 weaker p fs x ts low h = record {
   first = h.first;
   last = h.last;
@@ -345,7 +345,7 @@ steps : (s : State) (ts : List Symbol) (t : Symbol) → Stands s ts → IfSome (
 steps (wanting fs) ts t h = begins fs ts t h
 steps (having fs x) ts t h = goes fs x ts t h
 
-runs : (s : State) (ts us : List Symbol) → Stands s ts → IfSome (run s us) (λ n. Stands n (ts ++ us))
+pub runs : (s : State) (ts us : List Symbol) → Stands s ts → IfSome (run s us) (λ n. Stands n (ts ++ us))
 runs s ts [] h = subst (λ vs. Stands s vs) (sym (append-nil ts)) h
 runs s ts (u ∷ us) h = by (step s u) (steps s ts u h) (λ n k. runs n (ts ++ u ∷ []) us k)
   where

@@ -4,5 +4,6 @@ pub mod Evaluates
 pub mod Expressions
 pub mod Grammar
 pub mod Lines
+pub mod Parts
 pub mod Symbols
 pub mod Waiting

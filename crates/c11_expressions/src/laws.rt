@@ -1,10 +1,11 @@
 //! Laws about the definitions, each the contract of a function without code.
-ghost use Rattle.std.specs.Prelude.{◌≡◌, ℕ, Bool, List, Result};
+ghost use Rattle.std.specs.Prelude.{◌≡◌, ◌++◌, ◌∷◌, ℕ, Bool, List, Result};
 ghost use Rattle.c11_expressions.specs.Arithmetic.{Typed};
-ghost use Rattle.c11_expressions.specs.Evaluates.{Evaluates, Spelled};
+ghost use Rattle.c11_expressions.specs.Evaluates.{Evaluates, IsExpression, Spelled};
 ghost use Rattle.c11_expressions.specs.Expressions.{Expression, outcome};
 ghost use Rattle.c11_expressions.specs.Grammar.{Phrase, Symbol};
 ghost use Rattle.c11_expressions.specs.Lines.{Decides};
+ghost use Rattle.c11_expressions.specs.Parts.{IsPart, Part};
 ghost use Rattle.c11_expressions.specs.Waiting.{AreWaiting, Waiting};
 ghost use Rattle.c11_macros.specs.Expansion.{IsWithin};
 ghost use Rattle.c11_macros.specs.Hidden.{Failure, Hidden, Provenance};
@@ -19,6 +20,16 @@ pub fn symbols_have_one_outcome()
 /// What waits behind symbols is one list.
 pub fn symbols_wait_in_one_way()
     ensures { (ts : List Symbol) (ws vs : List Waiting) → AreWaiting ws ts → AreWaiting vs ts → ws ≡ vs }
+{}
+
+/// What waits behind tokens where one comes next is one part.
+pub fn tokens_have_one_part()
+    ensures { (next : Spelled) (ts : List Spelled) (p q : Part) → IsPart next ts p → IsPart next ts q → p ≡ q }
+{}
+
+/// Before each token of an expression there is a part.
+pub fn expressions_have_parts()
+    ensures { (ts : List Spelled) (next : Spelled) (rest : List Spelled) (e : Expression) → IsExpression (ts ++ next ∷ rest) e → (p : Part) × IsPart next ts p }
 {}
 
 /// Tokens come to one result.

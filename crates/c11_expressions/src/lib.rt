@@ -10,8 +10,8 @@ mod unary;
 pub use base::Base;
 pub use binary::Binary;
 pub use laws::{
-    lines_have_an_answer, lines_have_one_answer, symbols_have_one_outcome, symbols_wait_in_one_way,
-    tokens_have_a_result, tokens_have_one_result,
+    expressions_have_parts, lines_have_an_answer, lines_have_one_answer, symbols_have_one_outcome,
+    symbols_wait_in_one_way, tokens_have_a_result, tokens_have_one_part, tokens_have_one_result,
 };
 pub use punctuator::Punctuator;
 pub use unary::Unary;
