@@ -1,89 +1,130 @@
--- What a configuration uses of the source at one name or one line: its footprint there (6.10.1 to
--- 6.10.4).
-use Rattle.std.specs.Prelude.{◌≡◌, ℕ, ◌-◌, ◌⊎◌, ◌≤◌, true, false, List, [], ◌∷◌, All, AllPairs, length, map, take, Option, Some, Result, Ok}
+-- What a configuration uses of the source at one name or one line, and what waits at a place of an
+-- expression: its footprint there (6.10.1 to 6.10.4).
+use Rattle.std.specs.Prelude.{◌≡◌, ℕ, ◌-◌, ◌⊎◌, ◌≤◌, true, false, List, [], ◌∷◌, ◌++◌, All, AllPairs, length, map, take, Option, Some, Result, Ok}
 use Rattle.c11_directives.specs.declared.directive.Conditional.TheVariants.{If, Elif}
 use Rattle.c11_directives.specs.declared.directive.Directive.{Directive}
 use Rattle.c11_directives.specs.Behind.{begins_with_header, behind_name}
 use Rattle.c11_directives.specs.Lines.{Line, conditional_of, hash_of}
 use Rattle.c11_directives.specs.Pre.{Closes, State, is_barrier, is_said}
 use Rattle.c11_directives.specs.Reaches.{Moment, Reaches, at_end, at_head, at_line}
+use Rattle.c11_expressions.specs.Evaluates.{Spelled}
 use Rattle.c11_expressions.specs.Lines.{without_defined}
+use Rattle.c11_expressions.specs.Parts.{IsPart, Part}
 use Rattle.c11_macros.specs.Expansion.{Expands, case_of, stays}
 use Rattle.c11_macros.specs.Footprint.{Arrives, footprint}
 use Rattle.c11_macros.specs.Hidden.{Failure, Hidden}
 use Rattle.c11_macros.specs.Macros.{Definition, Macros}
-use Rattle.c11_macros.specs.Text.{place_alone, unhidden}
+use Rattle.c11_macros.specs.Text.{TextExpands, place_alone, unhidden}
 use Rattle.c11_macros.specs.Trace.{trace}
 use Rattle.sc_model.specs.Outside.{Files}
 use Rattle.sc_model.specs.Space.{Space}
 use Rattle.sc_model.specs.Token.{Place, Token}
 
--- Where the name stands, or the # of the line: behind which #includes, the outermost first, and its
--- place.
+-- a name or the # of a line, or the place before a token of what an expression expands to
+pub data Spot : Type 0 where
+  token_itself : Token → Spot
+  before_token : Token → Spot
+
+-- behind which #includes it is, the outermost first
 pub record Origin : Type 0 where
   pub chain : List Place
-  pub place : Place
+  pub spot : Spot
 
--- the tokens that were used, and of each name that was looked up the definition, or none
-pub record Used : Type 0 where
-  pub tokens : List Token
-  pub definitions : List (List ℕ × Option Definition)
+-- What is used: tokens, and of each name that was looked up the definition, or none. Of an
+-- expression it is what waits.
+pub data Used : Type 0 where
+  source : List Token → List (List ℕ × Option Definition) → Used
+  waiting : Part → Used
+
+abbrev pub tokens_used : Used → List Token
+tokens_used (source tokens definitions) = tokens
+tokens_used (waiting part) = []
+
+abbrev pub looked_up_in : Used → List (List ℕ × Option Definition)
+looked_up_in (source tokens definitions) = definitions
+looked_up_in (waiting part) = []
 
 abbrev pub SourceFootprint : Type 0
 SourceFootprint = Origin × Used
 
 -- in the file itself
-abbrev pub footprint_at : Place → List Token → List (List ℕ × Option Definition) → Place × Used
-footprint_at place tokens definitions = (place, record { tokens = tokens; definitions = definitions })
+abbrev pub footprint_at : Token → List Token → List (List ℕ × Option Definition) → Spot × Used
+footprint_at token tokens definitions = (token_itself token, source tokens definitions)
 
 abbrev pub definitions_of : Macros → List (List ℕ) → List (List ℕ × Option Definition)
 definitions_of macros names = map (λ name. (name, macros name)) names
 
 -- The expansion of a text comes to a name that it replaces, or whose call it replaces. The name
 -- has this footprint: it and what it takes behind it.
-pub record NameHas (macros : Macros) (text : List Token) (f : Place × Used) : Type 0 where
+pub record NameHas (macros : Macros) (text : List Token) (f : Spot × Used) : Type 0 where
   pub name : Token
   pub behind : List Token
   pub answer : Result (List (Hidden Place)) (Failure Place)
   pub expands : Expands place_alone macros (map unhidden (name ∷ behind)) answer
   pub arrives : Arrives place_alone macros (map unhidden text) (map unhidden (name ∷ behind))
   pub replaces : case_of macros (unhidden name) (map unhidden behind) ≡ stays → ⊥
-  pub is : f ≡ footprint_at name.place (name ∷ take (length behind - (footprint expands).left) behind) (definitions_of macros (footprint expands).looked_up)
+  pub is : f ≡ footprint_at name (name ∷ take (length behind - (footprint expands).left) behind) (definitions_of macros (footprint expands).looked_up)
 
--- The expansion of a whole text for the line with its # at a place has this footprint.
-pub record TextHas (macros : Macros) (text : List Token) (place : Place) (f : Place × Used) : Type 0 where
+-- The expansion of a whole text for the line with this # has this footprint.
+pub record TextHas (macros : Macros) (text : List Token) (hash : Token) (f : Spot × Used) : Type 0 where
   pub answer : Result (List (Hidden Place)) (Failure Place)
   pub expands : Expands place_alone macros (map unhidden text) answer
-  pub is : f ≡ footprint_at place text (definitions_of macros (trace expands).looked_up)
+  pub is : f ≡ footprint_at hash text (definitions_of macros (trace expands).looked_up)
 
--- the text that is expanded for a line (6.10.1p4, 6.10.2p4, 6.10.4p5)
+-- a token as an expression knows it
+abbrev pub spelled : Token → Spelled
+spelled t = record { kind = t.kind; spelling = t.spelling }
+
+-- A text expands, and before a token of what it comes to this waits (6.10.1p4).
+pub record PartHas (macros : Macros) (text : List Token) (f : Spot × Used) : Type 0 where
+  pub before : List Token
+  pub next : Token
+  pub rest : List Token
+  pub part : Part
+  pub expands : TextExpands macros text (Ok (before ++ next ∷ rest))
+  pub waits : IsPart (spelled next) (map spelled before) part
+  pub is : f ≡ (before_token next, waiting part)
+
+-- the expression of an #if or #elif, each `defined` replaced (6.10.1p4)
+pub record IsExpressionOf (macros : Macros) (line : Line) (text : List Token) : Type 0 where
+  pub conditional : (conditional_of line ≡ Some If) ⊎ (conditional_of line ≡ Some Elif)
+  pub replaced : without_defined macros (map unhidden (behind_name line)) ≡ Ok (map unhidden text)
+
+-- the line says something without a header name (6.10.2p4, 6.10.4p5)
+pub record IsSaid (line : Line) : Type 0 where
+  pub directive : Directive
+  pub is : line.directive ≡ Some directive
+  pub says : is_said directive ≡ true
+  pub other : begins_with_header (behind_name line) ≡ false
+
+-- the text that is expanded for a line
 pub data IsExpandedFor (macros : Macros) (line : Line) : List Token → Type 0 where
-  expression : (text : List Token) → (conditional_of line ≡ Some If) ⊎ (conditional_of line ≡ Some Elif)
-      → without_defined macros (map unhidden (behind_name line)) ≡ Ok (map unhidden text) → IsExpandedFor macros line text
-  said : (d : Directive) → line.directive ≡ Some d → is_said d ≡ true → begins_with_header (behind_name line) ≡ false → IsExpandedFor macros line (behind_name line)
+  expression : (text : List Token) → IsExpressionOf macros line text → IsExpandedFor macros line text
+  said : IsSaid line → IsExpandedFor macros line (behind_name line)
 
--- A line has this footprint, or a name in it; one with a header name looks nothing up.
-pub data DirectiveHas (macros : Macros) (line : Line) (f : Place × Used) : Type 0 where
+-- A name in a line has this footprint, or a place of its expression, or the line. One with a header
+-- name looks nothing up.
+pub data DirectiveHas (macros : Macros) (line : Line) (f : Spot × Used) : Type 0 where
   of_name : (text : List Token) → IsExpandedFor macros line text → NameHas macros text f → DirectiveHas macros line f
-  of_line : (text : List Token) (hash : Token) → IsExpandedFor macros line text → hash_of line ≡ Some hash → TextHas macros text hash.place f
-      → DirectiveHas macros line f
+  of_part : (text : List Token) → IsExpressionOf macros line text → PartHas macros text f → DirectiveHas macros line f
+  of_line : (hash : Token) → IsSaid line → hash_of line ≡ Some hash → TextHas macros (behind_name line) hash f → DirectiveHas macros line f
   of_header : (d : Directive) (hash : Token) → line.directive ≡ Some d → is_said d ≡ true → begins_with_header (behind_name line) ≡ true → hash_of line ≡ Some hash
-      → f ≡ footprint_at hash.place (behind_name line) [] → DirectiveHas macros line f
+      → f ≡ footprint_at hash (behind_name line) [] → DirectiveHas macros line f
 
 -- What is had at a moment: the footprint of a name in the run that ends there, or one of the line.
-pub data MomentHas : Moment → Place × Used → Type 0 where
-  of_run : {line : Line} {s : State} {f : Place × Used} (d : Directive) → line.directive ≡ Some d → is_barrier d ≡ true → NameHas s.macros s.run f
+pub data MomentHas : Moment → Spot × Used → Type 0 where
+  of_run : {line : Line} {s : State} {f : Spot × Used} (d : Directive) → line.directive ≡ Some d → is_barrier d ≡ true → NameHas s.macros s.run f
       → MomentHas (at_line line s) f
-  of_last_run : {s : State} {f : Place × Used} → NameHas s.macros s.run f → MomentHas (at_end s) f
-  of_directive : {line : Line} {s : State} {f : Place × Used} (d : Directive) (t : State) → line.directive ≡ Some d → is_said d ≡ true → Closes s (Ok t)
+  of_last_run : {s : State} {f : Spot × Used} → NameHas s.macros s.run f → MomentHas (at_end s) f
+  of_directive : {line : Line} {s : State} {f : Spot × Used} (d : Directive) (t : State) → line.directive ≡ Some d → is_said d ≡ true → Closes s (Ok t)
       → DirectiveHas t.macros line f → MomentHas (at_line line s) f
-  of_head : {head : Line} {s : State} {f : Place × Used} → DirectiveHas s.macros head f → MomentHas (at_head head s) f
+  of_head : {head : Line} {s : State} {f : Spot × Used} → DirectiveHas s.macros head f → MomentHas (at_head head s) f
 
 -- one of these moments, told behind which #includes, has this footprint
 pub record MomentsHave (reaches : List Place → Moment → Type 0) (f : SourceFootprint) : Type 0 where
   pub moment : Moment
   pub comes : reaches f.0.chain moment
-  pub has : MomentHas moment (f.0.place, f.1)
+  pub has : MomentHas moment (f.0.spot, f.1)
 
 -- a configuration has this footprint somewhere in what is preprocessed
 abbrev pub Has : Space → Files → (main config : List ℕ) → SourceFootprint → Type 0

@@ -1,5 +1,5 @@
--- What waits at a place of the line of an #if: what stands before a token, as far as that token lets
--- it be read (C11 6.5, 6.6).
+-- What waits at a place of the line of an #if: what stands before a token, as far as that token
+-- lets it be read (C11 6.5, 6.6).
 use Rattle.std.specs.Prelude.{◌≡◌, ℕ, ◌≤◌, List, ◌∷◌, ◌++◌, map, Option, Some, None}
 use Rattle.c11_expressions.specs.declared.binary.Binary.{Binary}
 use Rattle.c11_expressions.specs.declared.punctuator.Punctuator.TheVariants.{Close, Question, Colon, Binary as Infix}

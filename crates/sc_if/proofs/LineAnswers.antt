@@ -1,22 +1,22 @@
 -- The answers of a line, where a `defined` is left over and elsewhere.
-use Rattle.std.proofs.Common.{◌≡◌, ℕ, ◌+◌, ◌<◌, ◌&&◌, ◌||◌, not, Bool, true, false, List, [], ◌∷◌, ◌++◌, All, length, map, take, get_or, Option, Result, Err, refl, sym, ap, ◌∙◌, arith, if◌then◌else◌}
-use Rattle.std.proofs.lemmas.List.Elements.{All-map, All-push}
+use Rattle.std.proofs.Common.{◌≡◌, ℕ, ◌+◌, ◌<◌, ◌&&◌, ◌||◌, not, Bool, true, false, List, [], ◌∷◌, ◌++◌, All, length, map, take, get_or, Option, Result, Err, refl, sym, ap, subst, ◌∙◌, if◌then◌else◌}
+use Rattle.std.proofs.lemmas.List.Elements.{All-map, All-push, All-take}
+use Rattle.std.proofs.lemmas.Option.{get_or_from_slice_get, slice_get_within}
 use Rattle.std.specs.List.{list_any}
 use Rattle.c11_expressions.proofs.Reader.{State, run_tokens, wanting}
+use Rattle.c11_expressions.specs.Parts.{IsPart}
 use Rattle.sc_base.specs.declared.id.Cond.{Cond}
 use Rattle.sc_base.specs.declared.stop.Stop.{Stop}
 use Rattle.sc_base.specs.declared.stop.Stop.TheVariants.{BranchesFull, OutOfMemory, ReadFault}
 use Rattle.sc_base.specs.declared.token.Token.{Token}
 use Rattle.sc_guarded.proofs.ItemLemmas.{items_at-Keeps, items_at-append, items_at-take}
 use Rattle.sc_guarded.specs.Items.{items_at}
-use Rattle.sc_hoist.proofs.ItemLemmas.{places_from-Keeps}
 use Rattle.sc_hoist.specs.Alike.{AreAlike, IsAlike}
-use Rattle.sc_hoist.specs.Branches.{Refuses}
-use Rattle.sc_hoist.specs.Places.{places_at, places_from}
 use Rattle.sc_if.proofs.AnswerLemmas.{answer-left_over, answer-read}
 use Rattle.sc_if.proofs.PutLemmas.{Entry, alike-Keeps, readings_at-cons}
 use Rattle.sc_if.proofs.ReadingLemmas.{items-alike}
 use Rattle.sc_if.specs.Decided.{AreAnswers, IsAnswered, is_left_over}
+use Rattle.sc_if.specs.Parts.{RefusesAt}
 use Rattle.sc_if.specs.Readings.{AreReadings, answer_of, read_at, readings_at, seen_reading}
 use Rattle.sc_if.specs.Symbols.{spelled}
 use Rattle.sc_model.proofs.SetLemmas.{IsConfig-Keeps, IsConfig-kept}
@@ -152,24 +152,32 @@ left-more names s list i x c live was within is e =
 
 -- ---- why there are too many
 
-places-kept : {old new : Sets} (list : List (Cond × Token)) (n : ℕ) (c : List ℕ) → Keeps old new → All (λ (x : Cond × Token). IsCond old x.0.0) list → IsConfig old.arities c
-    → places_from new n (map (λ (x : Cond × Token). x.0) list) c ≡ places_from old n (map (λ (x : Cond × Token). x.0) list) c
-places-kept {old} {new} list n c keeps own listed = places_from-Keeps n (map (λ (x : Cond × Token). x.0) list) c keeps (All-map (λ (x : Cond). IsCond old x.0) (λ (x : Cond × Token). x.0) list own) listed
-
 -- so it was of a condition that has all of them, in an earlier state of the store
-pub refuses-before : {old mid : Sets} (list : List (Cond × Token)) (live rest limit : ℕ) → Keeps old mid → All (λ (x : Cond × Token). IsCond old x.0.0) list → ((c : List ℕ) → IsConfig old.arities c → mid.has rest c ≡ true → old.has live c ≡ true)
-    → (stop : Stop) → Refuses mid rest (λ c. places_at mid list c) limit stop → Refuses old live (λ c. places_at old list c) limit stop
-refuses-before {old} {mid} list live rest limit keeps own within (BranchesFull count) refuses =
-    let was = refuses.1 in (
+pub refuses-before : {old mid : Sets} (names : List (List ℕ)) (list : List (Cond × Token)) (live rest : List ℕ → Bool) (limit : ℕ) → Keeps old mid → All (λ (x : Cond × Token). IsCond old x.0.0) list
+    → ((c : List ℕ) → IsConfig old.arities c → rest c ≡ true → live c ≡ true) → (stop : Stop) → RefusesAt mid names list rest limit stop → RefusesAt old names list live limit stop
+refuses-before {old} {mid} names list live rest limit keeps own within (BranchesFull count) refuses =
+    let was = refuses.1 in
+    let i = was.index in
+    let Own : Cond × Token → Type 0 = λ x. IsCond old x.0.0 in
+    let item_own : IsCond old was.item.0.0 = subst Own (get_or_from_slice_get list i was.item was.item was.is) (own i was.item (slice_get_within list i was.item was.is)) in (
       refuses.0,
       record {
-        configs = was.configs;
+        index = i;
+        item = was.item;
+        is = was.is;
+        parts = was.parts;
         many = was.many;
         listed = λ k d h. IsConfig-kept keeps (was.listed k d h);
-        has = λ k d h. within _ (IsConfig-kept keeps (was.listed k d h)) (was.has k d h);
-        apart = λ i j d order h same. was.apart i j d order h
-            (places-kept list 0 _ keeps own (IsConfig-kept keeps (was.listed i d (omega (arith, order, h)))) ∙ (same ∙ sym (places-kept list 0 _ keeps own (IsConfig-kept keeps (was.listed j d h)))));
+        among = λ k d h. within _ (IsConfig-kept keeps (was.listed k d h)) (was.among k d h);
+        each = λ k d h.
+            let listed = IsConfig-kept keeps (was.listed k d h) in
+            let p = get_or was.parts k d in
+            record {
+              has = sym (keeps.at _ _ item_own listed) ∙ (was.each k d h).has;
+              part = subst (λ ts. IsPart (spelled names was.item.1) (map (spelled names) ts) p.1) (items_at-Keeps (take i list) p.0 keeps (All-take Own i list own) listed) (was.each k d h).part;
+            };
+        apart = was.apart;
       },
     )
-refuses-before list live rest limit keeps own within ReadFault refuses = refuses
-refuses-before list live rest limit keeps own within OutOfMemory refuses = tt
+refuses-before names list live rest limit keeps own within ReadFault refuses = refuses
+refuses-before names list live rest limit keeps own within OutOfMemory refuses = tt

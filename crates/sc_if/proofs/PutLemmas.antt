@@ -1,9 +1,10 @@
 -- Readings by condition: what adding some, joining some and parting some leaves.
-use Rattle.std.proofs.Common.{◌≡◌, ℕ, zero, suc, ◌<◌, ◌&&◌, ◌||◌, not, Bool, true, false, List, [], ◌∷◌, ◌++◌, All, length, map, set, get_or, Option, None, Result, Ok, Err, OnOk, refl, sym, ap, ◌∙◌, arith, inl, inr, append-nil, append_assoc, if◌then◌else◌}
-use Rattle.std.proofs.lemmas.Bool.{cases_eq}
+use Rattle.std.proofs.Common.{◌≡◌, ℕ, zero, suc, ◌<◌, ◌&&◌, ◌||◌, not, Bool, true, false, List, [], ◌∷◌, ◌++◌, All, length, map, set, get_or, Option, Some, None, Result, Ok, Err, OnOk, refl, sym, ap, ◌∙◌, arith, inl, inr, append-nil, append_assoc, if◌then◌else◌}
+use Rattle.std.proofs.lemmas.Bool.{and_parts, cases_eq}
 use Rattle.std.proofs.lemmas.List.{get_or-set_other, get_or-set_same, length-set, map-append}
 use Rattle.std.proofs.lemmas.List.Elements.{All-append, All-cons, All-head, All-nil, All-push, All-set, All-tail}
 use Rattle.std.proofs.lemmas.List.Quantifiers.{all_pairs_push}
+use Rattle.std.specs.Option.{is_some}
 use Rattle.c11_expressions.proofs.Reader.{State}
 use Rattle.c11_expressions.specs.Grammar as grammar
 use Rattle.sc_base.specs.declared.id.Cond.{Cond}
@@ -12,8 +13,8 @@ use Rattle.sc_guarded.specs.Items.{items_at}
 use Rattle.sc_hoist.specs.Alike.{AreAlike, IsAlike}
 use Rattle.sc_if.specs.declared.reading.Reading.{Reading}
 use Rattle.sc_if.specs.declared.readings.Readings.{Readings}
-use Rattle.sc_if.specs.Readings.{AreApart, ArePartedBy, IsPut, all_of, moved, readings_at, seen_reading}
-use Rattle.sc_model.proofs.SetLemmas.{IsConfig-Keeps}
+use Rattle.sc_if.specs.Readings.{ArePartedBy, HaveRead, IsPut, IsWithin, all_of, moved, readings_at, seen_reading}
+use Rattle.sc_model.proofs.SetLemmas.{IsConfig-Keeps, IsConfig-kept}
 use Rattle.sc_model.specs.Sets.{Sets, IsCond, IsConfig, IsNever, Keeps}
 
 abbrev pub Entry : Type 0
@@ -42,9 +43,6 @@ module _ (s : Sets) (c : List ℕ) where
   pub readings_at-append : (xs ys : List Entry) → readings_at s (xs ++ ys) c ≡ readings_at s xs c ++ readings_at s ys c
   readings_at-append xs ys = ap (map seen_reading) (items_at-append s xs ys c) ∙ map-append seen_reading (items_at s xs c) (items_at s ys c)
 
-  pub readings_at-one : (cond : Cond) (r : Option Reading) → readings_at s ((cond, r) ∷ []) c ≡ (if s.has cond.0 c then seen_reading r ∷ [] else [])
-  readings_at-one cond r = map-one seen_reading (s.has cond.0 c) r
-
   pub readings_at-cons : (x : Entry) (xs : List Entry) → readings_at s (x ∷ xs) c ≡ (if s.has x.0.0 c then seen_reading x.1 ∷ readings_at s xs c else readings_at s xs c)
   readings_at-cons x xs = by (s.has x.0.0 c)
     where
@@ -62,9 +60,17 @@ module _ {old new : Sets} (keeps : Keeps old new) where
   pub alike-Keeps : {T : Type 0} (xs : List (Cond × T)) (a b : List ℕ) → All (λ (x : Cond × T). IsCond old x.0.0) xs → IsConfig old.arities a → IsConfig old.arities b → AreAlike old a b xs → AreAlike new a b xs
   alike-Keeps xs a b own la lb were = λ k d h. keeps.at _ a (own k d h) la ∙ (were k d h ∙ sym (keeps.at _ b (own k d h) lb))
 
-  pub apart-Keeps : (xs : List Entry) → All (λ (x : Entry). IsCond old x.0.0) xs → AreApart old xs → AreApart new xs
-  apart-Keeps xs own were = record {
+  pub IsWithin-Keeps : {cond item : ℕ} → IsCond old cond → IsWithin old cond item → IsWithin new cond item
+  IsWithin-Keeps own within = record {
+    own = keeps.own _ within.own;
+    at = λ c listed has. let was = IsConfig-kept keeps listed in keeps.at _ c within.own was ∙ within.at c was (sym (keeps.at _ c own was) ∙ has);
+  }
+
+  pub HaveRead-Keeps : {item : ℕ} (xs : List Entry) → All (λ (x : Entry). IsCond old x.0.0) xs → HaveRead old item xs → HaveRead new item xs
+  HaveRead-Keeps xs own were = record {
     some = λ k d h never. were.some k d h (record { none = λ c listed. sym (keeps.at _ c (own k d h) listed) ∙ never.none c (IsConfig-Keeps keeps listed) });
+    within = λ k d h. IsWithin-Keeps (own k d h) (were.within k d h);
+    going = were.going;
     apart = were.apart;
   }
 
@@ -73,13 +79,16 @@ module _ {old new : Sets} (keeps : Keeps old new) where
 pub put-pushed : (s : Sets) (xs : List Entry) (cond : Cond) (r : Option Reading) → All (λ (x : Entry). IsCond s x.0.0) xs → IsCond s cond.0 → IsPut s s cond.0 (seen_reading r) xs (xs ++ (cond, r) ∷ [])
 put-pushed s xs cond r own cond_own = record {
   own = All-push (λ (x : Entry). IsCond s x.0.0) xs (cond, r) own cond_own;
-  at = λ c listed none. readings_at-append s c xs ((cond, r) ∷ []) ∙ ap (λ l. readings_at s xs c ++ l) (readings_at-one s c cond r);
+  at = λ c listed none. readings_at-append s c xs ((cond, r) ∷ []) ∙ ap (λ l. readings_at s xs c ++ l) (map-one seen_reading (s.has cond.0 c) r);
   alike = λ a b la lb same were. All-push (λ (x : Entry). IsAlike s a b x.0) xs (cond, r) were same;
 }
 
-pub apart-pushed : (s : Sets) (xs : List Entry) (cond : Cond) (r : Option Reading) → (IsNever s cond.0 → ⊥) → All (λ (x : Entry). seen_reading x.1 ≡ seen_reading r → ⊥) xs → AreApart s xs → AreApart s (xs ++ (cond, r) ∷ [])
-apart-pushed s xs cond r some other were = record {
+pub HaveRead-pushed : (s : Sets) (item : ℕ) (xs : List Entry) (cond : Cond) (r : Option Reading) → IsWithin s cond.0 item → (IsNever s cond.0 → ⊥) → (seen_reading r ≡ None → ⊥)
+    → All (λ (x : Entry). seen_reading x.1 ≡ seen_reading r → ⊥) xs → HaveRead s item xs → HaveRead s item (xs ++ (cond, r) ∷ [])
+HaveRead-pushed s item xs cond r within some going other were = record {
   some = All-push (λ (x : Entry). IsNever s x.0.0 → ⊥) xs (cond, r) were.some some;
+  within = All-push (λ (x : Entry). IsWithin s x.0.0 item) xs (cond, r) were.within within;
+  going = All-push (λ (x : Entry). seen_reading x.1 ≡ None → ⊥) xs (cond, r) were.going going;
   apart = all_pairs_push (λ (a b : Entry). seen_reading a.1 ≡ seen_reading b.1 → ⊥) xs (cond, r) were.apart other;
 }
 
@@ -139,11 +148,19 @@ module _ {old new : Sets} (keeps : Keeps old new) (xs : List Entry) (i : ℕ) (e
     | inr other ↦ ap (λ (r : Entry). seen_reading r.1) (get_or-set_other xs i j e d other)
   ]
 
-  pub apart-joined : AreApart old xs → AreApart new (set xs i e)
-  apart-joined were =
-      let now = apart-Keeps keeps xs own were in
+  pub HaveRead-joined : (item : ℕ) → IsWithin old cond.0 item → HaveRead old item xs → HaveRead new item (set xs i e)
+  HaveRead-joined item in_item were =
+      let now = HaveRead-Keeps keeps xs own were in
       let long = length-set xs i e in
       record {
+        within = All-set (λ (x : Entry). IsWithin new x.0.0 item) xs i e
+            (record {
+              own = keeps.own _ in_item.own;
+              at = λ c listed has.
+                  let was = IsConfig-kept keeps listed in
+                  keeps.at _ c in_item.own was ∙ either-true _ _ (sym (either c was) ∙ has) ((were.within i x within).at c was) (in_item.at c was);
+            }) now.within;
+        going = All-set (λ (x : Entry). seen_reading x.1 ≡ None → ⊥) xs i e (λ none. were.going i x within (sym (ap seen_reading same) ∙ none)) now.going;
         some = All-set (λ (x : Entry). IsNever new x.0.0 → ⊥) xs i e
             (λ never. were.some i x within (record { none = λ c listed. left-false _ _ (sym (either c listed) ∙ never.none c (IsConfig-Keeps keeps listed)) })) now.some;
         apart = λ j k d order below equal.
@@ -154,6 +171,10 @@ module _ {old new : Sets} (keeps : Keeps old new) (xs : List Entry) (i : ℕ) (e
       left-false : (a b : Bool) → (a || b) ≡ false → a ≡ false
       left-false true b e = e
       left-false false b e = refl
+
+      either-true : {P : Type 0} (a b : Bool) → (a || b) ≡ true → (a ≡ true → P) → (b ≡ true → P) → P
+      either-true true b e left right = left refl
+      either-true false b e left right = right e
 
 -- ---- one of two lists
 
@@ -211,31 +232,23 @@ both symbol reading true true l h L is_l is_h = rw (is_l, is_h) (ap (λ z. z ++ 
 both symbol reading true false l h L is_l is_h = rw (is_l, is_h) (append-nil (L ++ reading ∷ []))
 both symbol reading false i l h L is_l is_h = rw (is_l, is_h) (ap (λ z. z ++ []) (append-nil L))
 
-lack-cond : (t i l : Bool) → l ≡ (t && not i) → l ≡ true → t ≡ true
-lack-cond true i l e is = refl
-lack-cond false i l e is = sym e ∙ is
-
-have-cond : (t i h : Bool) → h ≡ (t && i) → h ≡ true → (t ≡ true) × (i ≡ true)
-have-cond true true h e is = (refl, refl)
-have-cond true false h e is = absurd (cc)
-have-cond false i h e is = absurd (cc)
+pub and-not : (a b : Bool) → (a && not (a && b)) ≡ (a && not b)
+and-not true b = refl
+and-not false b = refl
 
 no-lack : (t i l : Bool) → l ≡ (t && not i) → i ≡ true → l ≡ false
 no-lack true true l e is = e
 no-lack false i l e is = e
 no-lack true false l e is = absurd (cc)
 
-pub and-not : (a b : Bool) → (a && not (a && b)) ≡ (a && not b)
-and-not true b = refl
-and-not false b = refl
-
 module _ {old new : Sets} {item cond : ℕ} {symbol : Option grammar.Symbol} {reading : Option State} {before after : Readings} where
   -- where all of them have it or none
-  pub parted-one : {r : Option State} → ((c : List ℕ) → IsConfig old.arities c → old.has cond c ≡ true → r ≡ moved (old.has item c) symbol reading) → (AreApart old before.moved.items → AreApart new after.moved.items)
+  pub parted-one : {r : Option State} → ((c : List ℕ) → IsConfig old.arities c → old.has cond c ≡ true → r ≡ moved (old.has item c) symbol reading)
+      → (HaveRead old item before.moved.items → HaveRead new item after.moved.items)
       → IsPut old new cond r (all_of before) (all_of after) → ArePartedBy old new item symbol cond reading before after
-  parted-one {r} same apart put = record {
+  parted-one {r} same read put = record {
     own = put.own;
-    apart = apart;
+    read = read;
     at = λ c listed none. put.at c listed none ∙ ap (λ l. readings_at old (all_of before) c ++ l) (by c (old.has cond c) (same c listed));
     alike = λ a b la lb item cond were. put.alike a b la lb cond were;
   }
@@ -248,18 +261,18 @@ module _ {old new : Sets} {item cond : ℕ} {symbol : Option grammar.Symbol} {re
       (lack : (c : List ℕ) → IsConfig old.arities c → mid.has lacking c ≡ (old.has cond c && not (old.has item c)))
       (have : (c : List ℕ) → IsConfig old.arities c → mid.has having c ≡ (old.has cond c && old.has item c))
       (own : All (λ (x : Entry). IsCond old x.0.0) (all_of before)) (first : IsPut mid mid lacking reading (all_of before) between) (second : IsPut mid new having (moved true symbol reading) between (all_of after)) where
-    pub parted-two : (AreApart old before.moved.items → AreApart new after.moved.items) → ArePartedBy old new item symbol cond reading before after
-    parted-two apart = record {
+    pub parted-two : (HaveRead old item before.moved.items → HaveRead new item after.moved.items) → ArePartedBy old new item symbol cond reading before after
+    parted-two read = record {
       own = second.own;
-      apart = apart;
+      read = read;
       at = λ c listed none.
           let t = old.has cond c in
           let i = old.has item c in
           let here = IsConfig-Keeps keeps listed in
           let was = readings_at-Keeps keeps (all_of before) c own listed in
-          let one = first.at c here (λ is. was ∙ none (lack-cond t i (mid.has lacking c) (lack c listed) is)) ∙ ap (λ l. l ++ (if mid.has lacking c then reading ∷ [] else [])) was in
+          let one = first.at c here (λ is. was ∙ none (and_parts t (not i) (sym (lack c listed) ∙ is)).0) ∙ ap (λ l. l ++ (if mid.has lacking c then reading ∷ [] else [])) was in
           let two = second.at c here (λ is.
-          let parts = have-cond t i (mid.has having c) (have c listed) is in
+          let parts = and_parts t i (sym (have c listed) ∙ is) in
           one ∙ (ap (λ b. readings_at old (all_of before) c ++ (if b then reading ∷ [] else [])) (no-lack t i (mid.has lacking c) (lack c listed) parts.1) ∙ ap (λ l. l ++ []) (none parts.0))) in
           two ∙ (ap (λ l. l ++ (if mid.has having c then moved true symbol reading ∷ [] else [])) one ∙ both symbol reading t i (mid.has lacking c) (mid.has having c) (readings_at old (all_of before) c) (lack c listed) (have c listed));
       alike = λ a b la lb same_item same_cond were.
@@ -273,8 +286,13 @@ module _ {old new : Sets} {item cond : ℕ} {symbol : Option grammar.Symbol} {re
 pub no-readings : (r : Readings) → r.left.items ≡ [] → r.moved.items ≡ [] → all_of r ≡ []
 no-readings r left moved = ap (λ l. l ++ r.moved.items) left ∙ moved
 
-pub apart-nil : (s : Sets) → AreApart s []
-apart-nil s = record { some = All-nil (λ (x : Entry). IsNever s x.0.0 → ⊥); apart = λ i j d low high. absurd (omega arith) }
+pub HaveRead-nil : (s : Sets) (item : ℕ) → HaveRead s item []
+HaveRead-nil s item = record {
+  some = All-nil (λ (x : Entry). IsNever s x.0.0 → ⊥);
+  within = All-nil (λ (x : Entry). IsWithin s x.0.0 item);
+  going = All-nil (λ (x : Entry). seen_reading x.1 ≡ None → ⊥);
+  apart = λ i j d low high. absurd (omega arith);
+}
 
 -- the same, from an earlier state of the store
 pub put-before : {old mid new : Sets} {cond : ℕ} {r : Option State} {before after : List Entry} → Keeps old mid → All (λ (x : Entry). IsCond old x.0.0) before → IsCond old cond → IsPut mid new cond r before after → IsPut old new cond r before after
@@ -301,10 +319,9 @@ pub none-had : (t i : Bool) → t ≡ true → (t && i) ≡ false → i ≡ fals
 none-had true i t e = e
 none-had false i t e = absurd (cc)
 
-pub all-had : (t i h : Bool) → h ≡ (t && i) → h ≡ t → t ≡ true → i ≡ true
-all-had true true h e f t = refl
-all-had true false h e f t = absurd (cc)
-all-had false i h e f t = absurd (cc)
+pub some-seen : (r : Option Reading) → is_some r ≡ true → seen_reading r ≡ None → ⊥
+some-seen None e none = absurd (cc)
+some-seen (Some r) e none = absurd (cc)
 
 pub on_ok_both : {T E : Type 0} {P Q R : Type 0} (r : Result T E) → OnOk r P → OnOk r Q → (P → Q → R) → OnOk r R
 on_ok_both (Ok x) p q f = f p q
@@ -315,7 +332,7 @@ pub parted-before : {old mid new : Sets} {item cond : ℕ} {symbol : Option gram
     → IsCond old cond → IsCond old item → ArePartedBy mid new item symbol cond reading before after → ArePartedBy old new item symbol cond reading before after
 parted-before {old} {mid} {new} {item} {cond} {symbol} {reading} {before} {after} keeps own moved_own cond_own item_own parted = record {
   own = parted.own;
-  apart = λ were. parted.apart (apart-Keeps keeps before.moved.items moved_own were);
+  read = λ were. parted.read (HaveRead-Keeps keeps before.moved.items moved_own were);
   at = λ c listed none.
       let was = readings_at-Keeps keeps (all_of before) c own listed in
       let same = keeps.at cond c cond_own listed in

@@ -2,11 +2,14 @@
 use Rattle.std.proofs.Common.{◌≡◌, ℕ, zero, suc, ◌+◌, ◌<◌, ◌≤◌, Bool, true, false, List, [], ◌∷◌, ◌++◌, All, length, map, take, get_or, Option, Some, None, refl, sym, ap, subst, ◌∙◌, arith, append-nil, append_assoc, if◌then◌else◌}
 use Rattle.std.proofs.lemmas.Bool.{true≢false}
 use Rattle.std.proofs.lemmas.List.{length-append, length-map, map-append, take_all, take_more}
-use Rattle.std.proofs.lemmas.List.Elements.{All-cons, All-head, All-nil, All-push, All-tail, All-take}
+use Rattle.std.proofs.lemmas.List.Elements.{All-cons, All-head, All-nil, All-push, All-tail}
+use Rattle.std.specs.Prelude.{slice_get}
 use Rattle.std.specs.Option.{option_and_then}
+use Rattle.c11_expressions.proofs.PartLemmas.{part-there, read_behind as read_behind_tokens, same-part}
 use Rattle.c11_expressions.proofs.Reader.{State, read_token, run_tokens, wanting}
 use Rattle.c11_expressions.specs.Evaluates.{Spelled}
 use Rattle.c11_expressions.specs.Grammar as grammar
+use Rattle.c11_expressions.specs.Parts.{IsPart, Part}
 use Rattle.c11_expressions.specs.Symbols.{symbol_of}
 use Rattle.sc_base.specs.declared.id.Cond.{Cond}
 use Rattle.sc_base.specs.declared.token.Token.{Token}
@@ -14,16 +17,14 @@ use Rattle.sc_base.specs.Seen.{text_at}
 use Rattle.sc_guarded.proofs.ItemLemmas.{items_at-take, map-one}
 use Rattle.sc_guarded.specs.Items.{items_at}
 use Rattle.sc_hoist.proofs.PartLemmas.{met}
-use Rattle.sc_hoist.proofs.PlaceLemmas.{same_places}
 use Rattle.sc_hoist.specs.Alike.{AreAlike, IsAlike}
-use Rattle.sc_hoist.specs.Branches.{HasLists}
-use Rattle.sc_hoist.specs.Places.{places_at}
 use Rattle.sc_if.proofs.PutLemmas.{Entry, all-parts, readings_at-append, readings_at-cons}
 use Rattle.sc_if.specs.declared.reading.Reading.{Reading}
 use Rattle.sc_if.specs.declared.readings.Readings.{Readings}
-use Rattle.sc_if.specs.Readings.{AreApart, AreMoved, AreReadings, all_of, moved, read_at, read_behind, readings_at, seen_reading}
+use Rattle.sc_if.specs.Parts.{HasPart, HasParts}
+use Rattle.sc_if.specs.Readings.{AreMoved, AreReadings, all_of, moved, read_at, read_behind, readings_at, seen_reading}
 use Rattle.sc_if.specs.Symbols.{spelled}
-use Rattle.sc_model.proofs.SetLemmas.{IsConfig-Keeps, IsConfig-kept}
+use Rattle.sc_model.proofs.SetLemmas.{IsConfig-Keeps, IsConfig-kept, Keeps-trans}
 use Rattle.sc_model.specs.Sets.{Sets, HasOptions, IsCond, IsConfig, IsNever, Keeps}
 
 -- ---- one that is moved more
@@ -76,26 +77,6 @@ few-one : (b : Bool) (x : Option State) → length (let l : List (Option State) 
 few-one true x = omega arith
 few-one false x = omega arith
 
-module _ {old mid new : Sets} {names : List (List ℕ)} {live : ℕ} {readings : List Entry} {next : Readings} {symbol : Option grammar.Symbol} (list : List (Cond × Token)) (i : ℕ) (x : Cond × Token) (within : i < length list) (is : x ≡ get_or list i x)
-    (keeps : Keeps old mid) (own : IsCond old x.0.0) (is_symbol : symbol ≡ symbol_of x.1.kind (text_at names x.1.spelling.0)) (was : AreReadings old mid names (take i list) live readings) (step : AreMoved mid new x.0.0 symbol readings next) where
-  pub read-more : AreReadings old new names (take (i + 1) list) live (all_of next)
-  read-more = record {
-    own = step.own;
-    at = λ c listed.
-        let before = was.at c listed in
-        let h = old.has live c in
-        let r = read_at old names (take i list) c in
-        let f : Bool → Option grammar.Symbol → Option State = λ b o. moved b o r in
-        step.at c (IsConfig-Keeps keeps listed) (subst (λ l. length l ≤ 1) (sym before) (few-one h r))
-        ∙ (ap (map (moved (mid.has x.0.0 c) symbol)) before
-        ∙ (map-one (moved (mid.has x.0.0 c) symbol) h r
-        ∙ ap (λ o. if h then o ∷ [] else []) (ap (λ b. f b symbol) (keeps.at _ c own listed) ∙ (ap (λ o. f (old.has x.0.0 c) o) is_symbol ∙ sym (read_at-take old names list i x c within is)))));
-    alike = λ a b la lb same all.
-        let both = all-parts (λ (y : Cond × Token). IsAlike old a b y.0) (take i list) (get_or list i x ∷ []) (subst (AreAlike old a b) (take_more list i x within) all) in
-        let here : IsAlike old a b x.0 = subst (λ (y : Cond × Token). IsAlike old a b y.0) (sym is) (All-head (λ (y : Cond × Token). IsAlike old a b y.0) (get_or list i x) [] both.1) in
-        step.alike a b (IsConfig-Keeps keeps la) (IsConfig-Keeps keeps lb) (keeps.at _ a own la ∙ (here ∙ sym (keeps.at _ b own lb))) (was.alike a b la lb same both.0);
-  }
-
 -- all of them were read
 pub read-all : {old new : Sets} {names : List (List ℕ)} {live : ℕ} {readings : List Entry} (list : List (Cond × Token)) (i : ℕ) → length list ≤ i → AreReadings old new names (take i list) live readings → AreReadings old new names list live readings
 read-all {old} {new} {names} {live} {readings} list i past was = subst (λ l. AreReadings old new names l live readings) (take_all i list past) was
@@ -129,41 +110,24 @@ items-alike s a b (x ∷ xs) same =
     by true false us vs same more = absurd (cc)
     by false true us vs same more = absurd (cc)
 
-tested : (s : Sets) (a b : List ℕ) (xs : List (Cond × Token)) → All (λ (x : Cond). s.has x.0 a ≡ s.has x.0 b) (map (λ (x : Cond × Token). x.0) xs) → AreAlike s a b xs
-tested s a b [] all = All-nil (λ (x : Cond × Token). IsAlike s a b x.0)
-tested s a b (x ∷ xs) all =
-    let P : Cond → Type 0 = λ y. s.has y.0 a ≡ s.has y.0 b in
-    let conds = map (λ (x : Cond × Token). x.0) xs in
-    All-cons (λ (x : Cond × Token). IsAlike s a b x.0) x xs (All-head P x.0 conds all) (tested s a b xs (All-tail P x.0 conds all))
-
-pub places-tell : (s : Sets) (list : List (Cond × Token)) (a b : List ℕ) → places_at s list a ≡ places_at s list b → AreAlike s a b list
-places-tell s list a b same = tested s a b list (λ k x within. same_places s 0 (map (λ (x : Cond × Token). x.0) list) a b same k x within)
-
-read-alike : (s : Sets) (names : List (List ℕ)) (list : List (Cond × Token)) (n : ℕ) (a b : List ℕ) → places_at s list a ≡ places_at s list b → read_at s names (take n list) a ≡ read_at s names (take n list) b
-read-alike s names list n a b same =
-    ap (λ ts. run_tokens (wanting []) (map (spelled names) ts))
-    (items-alike s a b (take n list) (All-take (λ (x : Cond × Token). IsAlike s a b x.0) n list (places-tell s list a b same)))
-
 -- ---- why there are too many
 
--- a configuration of each
-record Chosen (s : Sets) (xs : List Entry) : Type 0 where
-  configs : List (List ℕ)
-  long : length configs ≡ length xs
-  each : (k : ℕ) (x : Entry) (c : List ℕ) → k < length xs → IsConfig s.arities (get_or configs k c) × (s.has (get_or xs k x).0.0 (get_or configs k c) ≡ true)
+-- something for each of a list
+pub record Chosen {A B : Type 0} (Q : A → B → Type 0) (xs : List A) : Type 0 where
+  pub all : List B
+  pub long : length all ≡ length xs
+  pub each : (k : ℕ) (x : A) (y : B) → k < length xs → Q (get_or xs k x) (get_or all k y)
 
-chosen : (s : Sets) (xs : List Entry) → HasOptions s.arities → All (λ (x : Entry). IsNever s x.0.0 → ⊥) xs → Chosen s xs
-chosen s [] options some = record { configs = []; long = refl; each = λ k x c within. absurd (omega arith) }
-chosen s (y ∷ ys) options some =
-    let P : Entry → Type 0 = λ x. IsNever s x.0.0 → ⊥ in
-    let first = met s y.0.0 options (All-head P y ys some) in
-    let rest = chosen s ys options (All-tail P y ys some) in
-    record { configs = first.config ∷ rest.configs; long = ap suc rest.long; each = λ k x c within. at first.config first.listed first.has rest k x c within }
+chosen : {A B : Type 0} (Q : A → B → Type 0) (xs : List A) → ((k : ℕ) (x : A) → k < length xs → (y : B) × Q (get_or xs k x) y) → Chosen Q xs
+chosen {A = A} {B = B} Q [] some = record { all = []; long = refl; each = λ k x y within. absurd (omega arith) }
+chosen {A = A} {B = B} Q (a ∷ more) some =
+    let first = some 0 a (omega arith) in
+    let rest = chosen Q more (λ k x within. some (suc k) x (omega arith)) in
+    record { all = first.0 ∷ rest.all; long = ap suc rest.long; each = λ k x y within. at first rest k x y within }
   where
-    at : (config : List ℕ) → IsConfig s.arities config → s.has y.0.0 config ≡ true → (rest : Chosen s ys) (k : ℕ) (x : Entry) (c : List ℕ) → k < length (y ∷ ys)
-        → IsConfig s.arities (get_or (config ∷ rest.configs) k c) × (s.has (get_or (y ∷ ys) k x).0.0 (get_or (config ∷ rest.configs) k c) ≡ true)
-    at config listed has rest zero x c within = (listed, has)
-    at config listed has rest (suc k) x c within = rest.each k x c (omega arith)
+    at : (first : (y : B) × Q a y) (rest : Chosen Q more) (k : ℕ) (x : A) (y : B) → k < length (a ∷ more) → Q (get_or (a ∷ more) k x) (get_or (first.0 ∷ rest.all) k y)
+    at first rest zero x y within = first.1
+    at first rest (suc k) x y within = rest.each k x y (omega arith)
 
 -- what holds of all that is read at a configuration holds of each that has it
 read-each : (s : Sets) (c : List ℕ) (P : Option State → Type 0) (xs : List Entry) → All P (readings_at s xs c) → (k : ℕ) (x : Entry) → k < length xs → s.has (get_or xs k x).0.0 c ≡ true → P (seen_reading (get_or xs k x).1)
@@ -178,47 +142,83 @@ read-each s c P (y ∷ ys) all k x within has = by (s.has y.0.0 c) refl (subst (
     by false is all later zero within has = absurd (true≢false (sym has ∙ is))
     by false is all later (suc k) within has = later all k (omega arith) has
 
-first-of : (xs : List Entry) (k : ℕ) → k < length xs → Entry
-first-of [] k within = absurd (omega arith)
-first-of (x ∷ xs) k within = x
+-- there is a reading, and it is this
+abbrev Is : Bool → Option State → Option State → Type 0
+Is there r o = (there ≡ true) × (o ≡ r)
 
-module _ {old new : Sets} {names : List (List ℕ)} {live : ℕ} (next : Readings) (list : List (Cond × Token)) (n : ℕ) (keeps : Keeps old new) (options : HasOptions old.arities) (apart : AreApart new next.moved.items)
-    (read : AreReadings old new names (take n list) live (all_of next)) where
-  -- a configuration of one that has read the last element
-  one-moved : (k : ℕ) (x : Entry) (c : List ℕ) → k < length next.moved.items → IsConfig old.arities c → new.has (get_or next.moved.items k x).0.0 c ≡ true
-      → (old.has live c ≡ true) × (seen_reading (get_or next.moved.items k x).1 ≡ read_at old names (take n list) c)
-  one-moved k x c within listed has =
-      let r = read_at old names (take n list) c in
-      let P : Option State → Type 0 = λ o. (old.has live c ≡ true) × (o ≡ r) in
-      let all : All P (readings_at new (all_of next) c) = subst (All P) (sym (read.at c listed)) (by (old.has live c) refl) in
-      read-each new c P next.moved.items (all-parts P (readings_at new next.left.items c) (readings_at new next.moved.items c) (subst (All P) (readings_at-append new c next.left.items next.moved.items) all)).1 k x within has
-    where
-      by : (b : Bool) → old.has live c ≡ b → All (λ o. (old.has live c ≡ true) × (o ≡ read_at old names (take n list) c)) (if b then read_at old names (take n list) c ∷ [] else [])
-      by true is = All-cons (λ o. (old.has live c ≡ true) × (o ≡ read_at old names (take n list) c)) (read_at old names (take n list) c) [] (is, refl) (All-nil (λ o. (old.has live c ≡ true) × (o ≡ read_at old names (take n list) c)))
-      by false is = All-nil (λ o. (old.has live c ≡ true) × (o ≡ read_at old names (take n list) c))
+all-is : (there : Bool) (r : Option State) → All (Is there r) (if there then r ∷ [] else [])
+all-is true r = All-cons (Is true r) r [] (refl, refl) (All-nil (Is true r))
+all-is false r = All-nil (Is false r)
 
-  pub many-lists : (count : ℕ) → count ≤ length next.moved.items → HasLists old live (λ c. places_at old list c) count
-  many-lists count most =
-      let xs = next.moved.items in
-      let picked = chosen new xs (subst HasOptions (sym keeps.arities) options) apart.some in
-      record {
-        configs = picked.configs;
-        many = omega (arith, picked.long, most);
-        listed = λ k c within.
-            let below : k < length xs = omega (arith, picked.long, within) in
-            IsConfig-kept keeps (picked.each k (first-of xs k below) c below).0;
-        has = λ k c within.
-            let below : k < length xs = omega (arith, picked.long, within) in
-            let x = first-of xs k below in
-            let one = picked.each k x c below in
-            (one-moved k x (get_or picked.configs k c) below (IsConfig-kept keeps one.0) one.1).0;
-        apart = λ i j c order within same.
-            let in_j : j < length xs = omega (arith, picked.long, within) in
-            let in_i : i < length xs = omega (arith, in_j, order) in
-            let x = first-of xs j in_j in
-            let a = picked.each i x c in_i in
-            let b = picked.each j x c in_j in
-            let one = one-moved i x (get_or picked.configs i c) in_i (IsConfig-kept keeps a.0) a.1 in
-            let other = one-moved j x (get_or picked.configs j c) in_j (IsConfig-kept keeps b.0) b.1 in
-            apart.apart i j x order in_j (one.1 ∙ (read-alike old names list n (get_or picked.configs i c) (get_or picked.configs j c) same ∙ sym other.1));
-      }
+-- ---- one element more
+
+module _ {old mid new : Sets} {names : List (List ℕ)} {live : ℕ} {readings : List Entry} {next : Readings} {symbol : Option grammar.Symbol} (list : List (Cond × Token)) (i : ℕ) (x : Cond × Token) (within : i < length list) (is : x ≡ get_or list i x)
+    (keeps : Keeps old mid) (own : IsCond old x.0.0) (is_symbol : symbol ≡ symbol_of x.1.kind (text_at names x.1.spelling.0)) (was : AreReadings old mid names (take i list) live readings) (step : AreMoved mid new x.0.0 symbol readings next) where
+  pub read-more : AreReadings old new names (take (i + 1) list) live (all_of next)
+  read-more = record {
+    own = step.own;
+    at = λ c listed.
+        let before = was.at c listed in
+        let h = old.has live c in
+        let r = read_at old names (take i list) c in
+        let f : Bool → Option grammar.Symbol → Option State = λ b o. moved b o r in
+        step.at c (IsConfig-Keeps keeps listed) (subst (λ l. length l ≤ 1) (sym before) (few-one h r))
+        ∙ (ap (map (moved (mid.has x.0.0 c) symbol)) before
+        ∙ (map-one (moved (mid.has x.0.0 c) symbol) h r
+        ∙ ap (λ o. if h then o ∷ [] else []) (ap (λ b. f b symbol) (keeps.at _ c own listed) ∙ (ap (λ o. f (old.has x.0.0 c) o) is_symbol ∙ sym (read_at-take old names list i x c within is)))));
+    alike = λ a b la lb same all.
+        let both = all-parts (λ (y : Cond × Token). IsAlike old a b y.0) (take i list) (get_or list i x ∷ []) (subst (AreAlike old a b) (take_more list i x within) all) in
+        let here : IsAlike old a b x.0 = subst (λ (y : Cond × Token). IsAlike old a b y.0) (sym is) (All-head (λ (y : Cond × Token). IsAlike old a b y.0) (get_or list i x) [] both.1) in
+        step.alike a b (IsConfig-Keeps keeps la) (IsConfig-Keeps keeps lb) (keeps.at _ a own la ∙ (here ∙ sym (keeps.at _ b own lb))) (was.alike a b la lb same both.0);
+  }
+
+  -- what waits before the item, one for each that has read it
+  module _ (grows : Keeps mid new) where
+    abbrev whole : Keeps old new
+    whole = Keeps-trans keeps grows
+
+    abbrev front : List ℕ → List Spelled
+    front c = map (spelled names) (items_at old (take i list) c)
+
+    -- a configuration that has the reading, and its part
+    record IsOne (entry : Entry) (p : List ℕ × Part) : Type 0 where
+      listed : IsConfig old.arities p.0
+      among : old.has live p.0 ≡ true
+      has : HasPart old names (take i list) x p
+      read : seen_reading entry.1 ≡ read_behind_tokens (spelled names x.1) (front p.0)
+
+    one : HasOptions old.arities → (k : ℕ) (d : Entry) → k < length next.moved.items → (p : List ℕ × Part) × IsOne (get_or next.moved.items k d) p
+    one options k d below =
+        let met_by = met new (get_or next.moved.items k d).0.0 (subst HasOptions (sym whole.arities) options) (step.read.some k d below) in
+        let c = met_by.config in
+        let listed = IsConfig-kept whole met_by.listed in
+        let in_item = sym (whole.at _ c own listed) ∙ (step.read.within k d below).at c met_by.listed met_by.has in
+        let P = Is (old.has live c) (read_at old names (take (i + 1) list) c) in
+        let all = subst (All P) (sym (read-more.at c listed) ∙ readings_at-append new c next.left.items next.moved.items) (all-is (old.has live c) (read_at old names (take (i + 1) list) c)) in
+        let found = read-each new c P next.moved.items (all-parts P (readings_at new next.left.items c) (readings_at new next.moved.items c) all).1 k d below met_by.has in
+        let read = found.1 ∙ (read_at-take old names list i x c within is ∙ ap (λ b. moved b (symbol_of x.1.kind (text_at names x.1.spelling.0)) (read_at old names (take i list) c)) in_item) in
+        let part = part-there (spelled names x.1) (front c) (λ none. step.read.going k d below (read ∙ none)) in
+        ((c, part.0), record { listed = listed; among = found.0; has = record { has = in_item; part = part.1 }; read = read })
+
+    pub many-parts : HasOptions old.arities → slice_get list i ≡ Some x → (count : ℕ) → count ≤ length next.moved.items → HasParts old names list (old.has live) count
+    many-parts options got count most =
+        let xs = next.moved.items in
+        let picked = chosen IsOne xs (one options) in
+        let none : Entry = (x.0, None) in
+        let at = λ (k : ℕ) (p : List ℕ × Part) (h : k < length picked.all). picked.each k none p (omega (arith, picked.long)) in
+        record {
+          index = i;
+          item = x;
+          is = got;
+          parts = picked.all;
+          many = omega (arith, picked.long, most);
+          listed = λ k p h. (at k p h).listed;
+          among = λ k p h. (at k p h).among;
+          each = λ k p h. (at k p h).has;
+          apart = λ j k p order h same.
+              let a = at j p (omega (arith, order, h)) in
+              let b = at k p h in
+              let alike = same-part (spelled names x.1) (front (get_or picked.all j p).0) (front (get_or picked.all k p).0) (get_or picked.all j p).1 a.has.part
+              (subst (IsPart (spelled names x.1) (front (get_or picked.all k p).0)) (sym same) b.has.part) in
+              step.read.apart j k none order (omega (arith, picked.long, h)) (a.read ∙ (alike ∙ sym b.read));
+        }

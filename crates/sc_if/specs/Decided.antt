@@ -67,12 +67,13 @@ at_hash hash (Err cause) = Err (failure cause hash)
 pub record IsAnswer (names : List (List ℕ)) (ts : List Token) (answer : Result Bool Cause) : Type 0 where
   pub comes : (files : List (List ℕ)) (hash : Place) → Comes hash (Ok (line_of names files ts)) (at_hash hash answer)
 
--- each configuration of the condition has one answer, that to its tokens, and the others none
+-- one answer is given, that to these tokens
 pub record IsAnswered (names : List (List ℕ)) (ts : List Token) (given : List (Result Bool Cause)) : Type 0 where
   pub answer : Result Bool Cause
   pub answers : IsAnswer names ts answer
   pub is : given ≡ answer ∷ []
 
+-- each configuration of the condition has one answer, that to its tokens, and the others none
 pub record AreAnswers (old new : Sets) (names : List (List ℕ)) (list : List (Cond × Token)) (live : ℕ) (answers : List (Cond × Result Bool Cause)) : Type 0 where
   pub own : All (λ answer. IsCond new answer.0.0) answers
   pub each : (c : List ℕ) → IsConfig old.arities c → old.has live c ≡ true → IsAnswered names (items_at old list c) (items_at new answers c)

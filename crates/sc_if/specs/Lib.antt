@@ -1,6 +1,7 @@
 pub mod Decided
 pub mod Frames
 pub mod Operands
+pub mod Parts
 pub mod Readings
 pub mod Seen
 pub mod Stops

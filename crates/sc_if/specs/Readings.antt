@@ -58,9 +58,16 @@ answer_of state = verdict_on (option_and_then finished state)
 
 -- ---- under conditions
 
--- each has a configuration, and no two are the same
-pub record AreApart (s : Sets) (readings : List (Cond × Option Reading)) : Type 0 where
+-- each configuration of the condition has the item
+pub record IsWithin (s : Sets) (cond item : ℕ) : Type 0 where
+  pub own : IsCond s item
+  pub at : (c : List ℕ) → IsConfig s.arities c → s.has cond c ≡ true → s.has item c ≡ true
+
+-- Each has configurations, which all have the item, and they go on behind it; no two are the same.
+pub record HaveRead (s : Sets) (item : ℕ) (readings : List (Cond × Option Reading)) : Type 0 where
   pub some : All (λ reading. IsNever s reading.0.0 → ⊥) readings
+  pub within : All (λ reading. IsWithin s reading.0.0 item) readings
+  pub going : All (λ reading. seen_reading reading.1 ≡ None → ⊥) readings
   pub apart : AllPairs (λ a b. seen_reading a.1 ≡ seen_reading b.1 → ⊥) readings
 
 -- The configurations of a condition have this reading more, those of them that had none.
@@ -77,7 +84,7 @@ all_of r = r.left.items ++ r.moved.items
 -- the same, where those that have an element have read its symbol too
 pub record ArePartedBy (old new : Sets) (item : ℕ) (symbol : Option grammar.Symbol) (cond : ℕ) (reading : Option State) (before after : Readings) : Type 0 where
   pub own : All (λ reading. IsCond new reading.0.0) (all_of after)
-  pub apart : AreApart old before.moved.items → AreApart new after.moved.items
+  pub read : HaveRead old item before.moved.items → HaveRead new item after.moved.items
   pub at : (c : List ℕ) → IsConfig old.arities c → (old.has cond c ≡ true → readings_at old (all_of before) c ≡ [])
       → readings_at new (all_of after) c ≡ readings_at old (all_of before) c ++ (if old.has cond c then moved (old.has item c) symbol reading ∷ [] else [])
   pub alike : (a b : List ℕ) → IsConfig old.arities a → IsConfig old.arities b → old.has item a ≡ old.has item b → old.has cond a ≡ old.has cond b
@@ -86,7 +93,7 @@ pub record ArePartedBy (old new : Sets) (item : ℕ) (symbol : Option grammar.Sy
 -- those that have an element have read its symbol
 pub record AreMoved (old new : Sets) (item : ℕ) (symbol : Option grammar.Symbol) (before : List (Cond × Option Reading)) (after : Readings) : Type 0 where
   pub own : All (λ reading. IsCond new reading.0.0) (all_of after)
-  pub apart : AreApart new after.moved.items
+  pub read : HaveRead new item after.moved.items
   pub at : (c : List ℕ) → IsConfig old.arities c → length (readings_at old before c) ≤ 1
       → readings_at new (all_of after) c ≡ map (moved (old.has item c) symbol) (readings_at old before c)
   pub alike : (a b : List ℕ) → IsConfig old.arities a → IsConfig old.arities b → old.has item a ≡ old.has item b → AreAlike old a b before → AreAlike new a b (all_of after)

@@ -3,9 +3,8 @@ ghost use Rattle.std.specs.Prelude.{◌≡◌, ℕ, ◌&&◌, ◌||◌, not, Lis
 ghost use Rattle.std.specs.List.{list_any};
 ghost use Rattle.sc_base.specs.Seen.{IsHeld};
 ghost use Rattle.sc_guarded.specs.Items.{items_at};
-ghost use Rattle.sc_hoist.specs.Branches.{Refuses};
-ghost use Rattle.sc_hoist.specs.Places.{places_at};
 ghost use Rattle.sc_if.specs.Decided.{AreAnswers, is_left_over};
+ghost use Rattle.sc_if.specs.Parts.{RefusesAt};
 ghost use Rattle.sc_if.specs.Readings.{answer_of, seen_reading};
 ghost use Rattle.sc_model.specs.Sets.{IsConfig, IsCond, Keeps};
 
@@ -30,7 +29,7 @@ pub(crate) fn answers<C: Conditions>(
     requires held { All (λ item. IsHeld names.now item.1) list.now }
     requires live_own { IsCond (C.sets conds.old) live.0 }
     ensures answers { IfOk result (λ answers. AreAnswers (C.sets conds.old) (C.sets conds.new) names.now list.now live.0 answers.items) }
-    ensures refused { IfErr result (λ stop. Refuses (C.sets conds.old) live.0 (λ c. places_at (C.sets conds.old) list.now c) limit stop) }
+    ensures refused { IfErr result (RefusesAt (C.sets conds.old) names.now list.now ((C.sets conds.old).has live.0) limit) }
 
     // at every outcome
     ensures keeps { Keeps (C.sets conds.old) (C.sets conds.new) }

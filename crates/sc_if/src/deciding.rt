@@ -2,11 +2,10 @@
 ghost use Rattle.std.specs.Prelude.{◌≡◌, ℕ, true, false, [], List, All, IfOk, IfErr, OnOk};
 ghost use Rattle.sc_guarded.specs.Items.{faults_at};
 ghost use Rattle.sc_hoist.specs.Alike.{AreAlike};
-ghost use Rattle.sc_hoist.specs.Branches.{Refuses};
-ghost use Rattle.sc_hoist.specs.Places.{places_at};
 ghost use Rattle.sc_base.specs.declared.place.Place.{Place};
 ghost use Rattle.sc_base.specs.Seen.{IsHeld};
 ghost use Rattle.sc_if.specs.Decided.{AreDecided, AreDecidedAlike, IsDecided, IsEntered};
+ghost use Rattle.sc_if.specs.Parts.{RefusesAt};
 ghost use Rattle.sc_model.specs.Sets.{Sets, IsConfig, IsCond, Keeps};
 
 use crate::answers::answers;
@@ -49,8 +48,8 @@ pub fn decide<C: Conditions>(
     ensures alike { IfOk result (λ x. (c d : List ℕ) → IsConfig (C.sets conds.old).arities c → IsConfig (C.sets conds.old).arities d
         → (C.sets conds.old).has live.0 c ≡ true → (C.sets conds.old).has live.0 d ≡ true → AreAlike (C.sets conds.old) c d list.now → AreDecidedAlike (C.sets conds.new) c d x) }
 
-    // only where there are more different lists than the limit
-    ensures refused { IfErr result (λ stop. Refuses (C.sets conds.old) live.0 (λ c. places_at (C.sets conds.old) list.now c) limit stop) }
+    // only where before one item more configurations than the limit have different parts
+    ensures refused { IfErr result (RefusesAt (C.sets conds.old) names.now list.now ((C.sets conds.old).has live.0) limit) }
 
     // at every outcome
     ensures keeps { Keeps (C.sets conds.old) (C.sets conds.new) }

@@ -1,10 +1,9 @@
 //! The line of an `#if` read from left to right under all conditions at once.
-ghost use Rattle.std.specs.Prelude.{◌≡◌, ℕ, ◌<◌, ◌++◌, ◌∷◌, ◌&&◌, [], List, All, length, slice_index_or, IfOk, IfErr, IfNone, IfSome, OnOk, Option, Some, option_map};
+ghost use Rattle.std.specs.Prelude.{◌≡◌, ℕ, ◌<◌, ◌++◌, ◌∷◌, ◌&&◌, [], List, All, length, slice_index_or, IfOk, IfErr, IfNone, IfSome, OnOk, None, Option, Some, option_map};
 ghost use Rattle.c11_expressions.specs.Symbols.{symbol_of};
 ghost use Rattle.sc_base.specs.Seen.{IsHeld, text_at};
-ghost use Rattle.sc_hoist.specs.Branches.{Refuses};
-ghost use Rattle.sc_hoist.specs.Places.{places_at};
-ghost use Rattle.sc_if.specs.Readings.{AreApart, AreMoved, ArePartedBy, AreReadings, IsPut, all_of, seen_reading, state_in};
+ghost use Rattle.sc_if.specs.Parts.{RefusesAt};
+ghost use Rattle.sc_if.specs.Readings.{AreMoved, ArePartedBy, AreReadings, HaveRead, IsPut, IsWithin, all_of, seen_reading, state_in};
 ghost use Rattle.sc_if.specs.Symbols.{seen_symbol};
 ghost use Rattle.sc_model.specs.Sets.{Denotes, Sets, IsCond, IsNever, Keeps};
 
@@ -38,7 +37,7 @@ pub(crate) fn read_line<C: Conditions>(
     requires held { All (λ item. IsHeld names.now item.1) list.now }
     requires live_own { IsCond (C.sets conds.old) live.0 }
     ensures read { IfOk result (λ readings. AreReadings (C.sets conds.old) (C.sets conds.new) names.now list.now live.0 readings.items) }
-    ensures refused { IfErr result (λ stop. Refuses (C.sets conds.old) live.0 (λ c. places_at (C.sets conds.old) list.now c) limit stop) }
+    ensures refused { IfErr result (RefusesAt (C.sets conds.old) names.now list.now ((C.sets conds.old).has live.0) limit) }
 
     // at every outcome
     ensures keeps { Keeps (C.sets conds.old) (C.sets conds.new) }
@@ -176,6 +175,7 @@ impl Readings {
     ) -> Result<(), OutOfMemory>
         requires own { All (λ reading. IsCond (C.sets conds.old) reading.0.0) (all_of self.old) }
         requires cond_own { IsCond (C.sets conds.old) cond.0 }
+        requires item_own { IsCond (C.sets conds.old) item.0 }
         requires having { Denotes (C.sets conds.old) having.0 (λ c. (C.sets conds.old).has cond.0 c && (C.sets conds.old).has item.0 c) }
         requires some { IsNever (C.sets conds.old) having.0 → ⊥ }
         ensures parted { OnOk result (ArePartedBy (C.sets conds.old) (C.sets conds.new) item.0 (option_map seen_symbol symbol) cond.0 (Some (state_in before)) self.old self.new) }
@@ -201,7 +201,8 @@ impl Readings {
         requires cond_own { IsCond (C.sets conds.old) cond.0 }
         requires some { IsNever (C.sets conds.old) cond.0 → ⊥ }
         ensures put { OnOk result (IsPut (C.sets conds.old) (C.sets conds.new) cond.0 (seen_reading reading) (all_of self.old) (all_of self.new)) }
-        ensures apart { OnOk result (AreApart (C.sets conds.old) self.old.moved.items → AreApart (C.sets conds.new) self.new.moved.items) }
+        ensures read { OnOk result ((item : ℕ) → IsWithin (C.sets conds.old) cond.0 item
+            → HaveRead (C.sets conds.old) item self.old.moved.items → HaveRead (C.sets conds.new) item self.new.moved.items) }
 
         // at every outcome
         ensures keeps { Keeps (C.sets conds.old) (C.sets conds.new) }
@@ -224,7 +225,8 @@ fn put<C: Conditions>(
     requires own { All (λ reading. IsCond (C.sets conds.old) reading.0.0) readings.old.items }
     requires cond_own { IsCond (C.sets conds.old) cond.0 }
     ensures put { OnOk result (IsPut (C.sets conds.old) (C.sets conds.new) cond.0 (seen_reading reading) readings.old.items readings.new.items) }
-    ensures apart { OnOk result ((IsNever (C.sets conds.old) cond.0 → ⊥) → AreApart (C.sets conds.old) readings.old.items → AreApart (C.sets conds.new) readings.new.items) }
+    ensures read { OnOk result ((item : ℕ) → IsWithin (C.sets conds.old) cond.0 item → (IsNever (C.sets conds.old) cond.0 → ⊥) → (seen_reading reading ≡ None → ⊥)
+        → HaveRead (C.sets conds.old) item readings.old.items → HaveRead (C.sets conds.new) item readings.new.items) }
 
     // at every outcome
     ensures keeps { Keeps (C.sets conds.old) (C.sets conds.new) }
@@ -264,7 +266,7 @@ fn join<C: Conditions>(
     requires cond_own { IsCond (C.sets conds.old) cond.0 }
     ensures put { OnOk result ((other : Cond × Option Reading)
         → IsPut (C.sets conds.old) (C.sets conds.new) cond.0 (seen_reading (slice_index_or readings.old.items index other).1) readings.old.items readings.new.items) }
-    ensures apart { OnOk result (AreApart (C.sets conds.old) readings.old.items → AreApart (C.sets conds.new) readings.new.items) }
+    ensures read { OnOk result ((item : ℕ) → IsWithin (C.sets conds.old) cond.0 item → HaveRead (C.sets conds.old) item readings.old.items → HaveRead (C.sets conds.new) item readings.new.items) }
 
     // at every outcome
     ensures keeps { Keeps (C.sets conds.old) (C.sets conds.new) }

@@ -1,16 +1,17 @@
 -- Why a directive stops: the footprints of which a stage tells are those of the machine before its
 -- line.
-use Rattle.std.proofs.Common.{◌≡◌, ℕ, ◌+◌, ◌&&◌, ◌⊎◌, Bool, true, false, All, List, [], ◌∷◌, drop, map, Some, None, Result, Ok, Err, refl, sym, ap, subst, ◌∙◌, if◌then◌else◌}
+use Rattle.std.proofs.Common.{◌≡◌, ℕ, ◌+◌, ◌&&◌, ◌⊎◌, Bool, true, false, All, List, [], ◌∷◌, drop, map, take, Some, None, Result, Ok, Err, refl, sym, ap, subst, ◌∙◌, if◌then◌else◌}
 use Rattle.std.proofs.lemmas.Bool.{and_from, and_parts, true≢false}
 use Rattle.std.specs.Prelude.{IfErr, IfOk, is_none}
 use Rattle.c11_directives.specs.Behind.{begins_with_header, behind_name}
 use Rattle.c11_directives.specs.declared.directive.Conditional.TheVariants.{If, Elif}
 use Rattle.c11_directives.specs.declared.directive.Directive.{Directive}
-use Rattle.c11_directives.specs.Footprints.{DirectiveHas, HasFootprints, MomentsHave, NameHas, TextHas, Used, expression, footprint_at, of_head, of_header, of_line, of_name, said}
+use Rattle.c11_directives.specs.Footprints.{DirectiveHas, HasFootprints, MomentsHave, NameHas, TextHas, Used, expression, IsSaid, Spot, before_token, footprint_at, of_head, of_header, of_line, of_name, of_part, said, waiting}
 use Rattle.c11_directives.specs.Lines.{Line, conditional_of, hash_of}
 use Rattle.c11_directives.specs.Pre.{Context, is_barrier, is_said}
 use Rattle.c11_directives.specs.Reaches.{at_head}
 use Rattle.c11_expressions.specs.Lines.{without_defined}
+use Rattle.c11_expressions.specs.Parts.{Part}
 use Rattle.c11_macros.specs.Text.{TextExpands, unhidden}
 use Rattle.sc_base.specs.declared.id.Cond.{Cond}
 use Rattle.sc_base.specs.declared.stop.Stop.{Stop}
@@ -22,10 +23,11 @@ use Rattle.sc_guarded.proofs.ItemLemmas.{under}
 use Rattle.sc_guarded.specs.Items.{items_at}
 use Rattle.sc_hoist.specs.Alike.{AreAlike}
 use Rattle.sc_hoist.specs.Places.{places_at}
+use Rattle.sc_if.specs.Parts.{HasPart, HasParts, RefusesAt}
 use Rattle.sc_lines.proofs.SeenLines.{directive-files}
 use Rattle.sc_lines.specs.Nests.{seen_line}
 use Rattle.sc_lines.specs.Split.{directive_at}
-use Rattle.sc_model.proofs.SetLemmas.{IsConfig-Keeps}
+use Rattle.sc_model.proofs.SetLemmas.{IsConfig-Keeps, IsConfig-kept}
 use Rattle.sc_model.specs.Fault.{Fault}
 use Rattle.sc_model.specs.Growth.{Extends}
 use Rattle.sc_model.specs.Sets.{Sets, Denotes, IsCond, IsConfig, Keeps}
@@ -42,6 +44,7 @@ use Rattle.sc_prep.proofs.FileStops.{comes-closing, comes-said}
 use Rattle.sc_prep.proofs.LineFootprints.{headers-footprints, lists-footprints}
 use Rattle.sc_prep.proofs.LineSteps.{line-grown}
 use Rattle.sc_prep.proofs.NameFootprints.{text-as}
+use Rattle.sc_prep.proofs.PartFootprints.{part-footprints, part-has}
 use Rattle.sc_prep.proofs.SaidMoves.{text-at}
 use Rattle.sc_prep.proofs.Stopping.{answer-stops, footprints-as, here_at, stops-as}
 use Rattle.sc_prep.proofs.VoidFootprints.{void-footprints}
@@ -69,9 +72,9 @@ replaced-done asks clean (replacing_idle quiet none) = let both = sym asks ∙ q
 replaced-done asks clean (replacing_done asked is) = (refl, is)
 replaced-done asks clean (replacing_fails cause asked is) = absurd (cc)
 
-expanded-done : {text ts : List Token} {asked : Bool} {m n : Machine} → n.fault ≡ None → ExpandsAt text asked m ts n → n ≡ m
-expanded-done clean (expanding_idle quiet none) = refl
-expanded-done clean (expanding_done asked is) = refl
+expanded-done : {text ts : List Token} {asked : Bool} {m n : Machine} → n.fault ≡ None → ExpandsAt text asked m ts n → (n ≡ m) × (asked ≡ true → TextExpands m.state.macros text (Ok ts))
+expanded-done clean (expanding_idle quiet none) = (refl, λ asks. absurd (cc))
+expanded-done clean (expanding_done asked is) = (refl, λ asks. is)
 expanded-done clean (expanding_fails fault asked is) = absurd (cc)
 
 -- ---- the line of an expression
@@ -102,7 +105,7 @@ module _ (files names : List (List ℕ)) {old s : Sets} (keeps : Keeps old s) (w
       let done = replaced-done (and_from (s.has live.0 c) (is_none m.fault) has clean) (right-none true a.machine.fault on.1) a.done in
       record { simulates = subst (Simulates s1 names1 files w1 c) done.0 a.simulates; asked = asked; text = done.1 }
 
-  abbrev Found : List ℕ → Place × Used → Type 0
+  abbrev Found : List ℕ → Spot × Used → Type 0
   Found = Comes old names files w any_machine (λ c m f. ((old.has among.0 c && is_none m.fault) ≡ true) × DirectiveHas m.state.macros l f)
 
   -- a name of what is left
@@ -113,65 +116,44 @@ module _ (files names : List (List ℕ)) {old s : Sets} (keeps : Keeps old s) (w
       stops-as (λ at. at) _ limit stop
       (λ c f listed has. λ m simulates _.
       let a = replaced-before c m listed simulates (λ n at. (has n at tt).0) in
-      (a.asked, of_name (text_at c) (expression (text_at c) conditional a.text) (has m a.simulates tt).1))
+      (a.asked, of_name (text_at c) (expression (text_at c) (record { conditional = conditional; replaced = a.text })) (has m a.simulates tt).1))
       (subst
       (λ a. StopsAtPlace a (Comes s1 names1 files w1 any_machine (λ c m f. ((s1.has live.0 c && is_none m.fault) ≡ true) × NameHas m.state.macros (text_at c) f)) limit stop)
       (k1.arities ∙ keeps.arities) stops)
 
-  -- or all of it
-  module _ (hashed : hash_of l ≡ Some hash) {names2 : List (List ℕ)} {s2 : Sets} {w2 : Walk} (k2 : Keeps s1 s2) (made : List (Cond × base.Token)) (left : List ℕ → List Token)
-      (own_list : All (λ (item : Cond × base.Token). IsCond s1 item.0.0) list) (own_made : All (λ (item : Cond × base.Token). IsCond s2 item.0.0) made) (different : AreDifferent names1 files list)
-      (expands : SimulatesOneOf files names1 s1 w1 names2 s2 w2 (λ c m n. ExpandsAt (text_at c) (s1.has live.0 c && is_none m.fault) m (left c) n))
-      (answers : (c : List ℕ) → IsConfig s1.arities c → (s1.has live.0 c && s1.has w1.prepared.live.0 c) ≡ true
-      → (answer : Result (List Token) Fault) × TextExpands (macros_at s1 names1 w1.table c) (text_at c) answer)
-      (alike : (c d : List ℕ) → IsConfig s1.arities c → IsConfig s1.arities d → (s1.has live.0 c && s1.has w1.prepared.live.0 c) ≡ true → (s1.has live.0 d && s1.has w1.prepared.live.0 d) ≡ true
-      → AreAlike s1 c d list → DefineTextAlike (macros_at s1 names1 w1.table c) (macros_at s1 names1 w1.table d) (text_at c) → AreAlike s2 c d made) where
-    abbrev before : List ℕ → Bool
-    before c = s1.has live.0 c && s1.has w1.prepared.live.0 c
-
+  -- or a place of what it expands to
+  module _ (limit : ℕ) {names2 : List (List ℕ)} {s2 : Sets} {w2 : Walk} (k2 : Keeps s1 s2) (made : List (Cond × base.Token))
+      (expands : SimulatesOneOf files names1 s1 w1 names2 s2 w2 (λ c m n. ExpandsAt (text_at c) (s1.has live.0 c && is_none m.fault) m (map (seen names2 files) (items_at s2 made c)) n)) where
     abbrev behind : List ℕ → Bool
     behind c = s2.has live.0 c && s2.has w2.prepared.live.0 c
 
-    -- a machine that was not refused behind the expansion was not before it
-    void : (c : List ℕ) → IsConfig old.arities c → behind c ≡ true → before c ≡ false → (f : Place × Used) → Found c f
-    void c listed on off f = λ m simulates _.
-        let now = IsConfig-Keeps keeps listed in
-        let now1 = IsConfig-Keeps k1 now in
-        let a = replaces.at c m now (simulates-kept keeps w owns names files c m listed is simulates) in
-        let b = expands.at c a.machine now1 a.simulates in
+    -- a machine that is not refused behind the expansion was asked before it
+    expanded-before : (c : List ℕ) (m : Machine) → IsConfig s1.arities c → behind c ≡ true → Simulates s1 names1 files w1 c m
+        → ((s1.has live.0 c && is_none m.fault) ≡ true) × TextExpands m.state.macros (text_at c) (Ok (map (seen names2 files) (items_at s2 made c)))
+    expanded-before c m listed on simulates =
+        let b = expands.at c m listed simulates in
         let parts = and_parts (s2.has live.0 c) (s2.has w2.prepared.live.0 c) on in
         let clean = right-none true b.machine.fault (sym b.simulates.prepared.live ∙ parts.1) in
-        let same = expanded-done clean b.done in
-        let has = sym (k2.at live.0 c (k1.own live.0 live_is.own) now1) ∙ parts.0 in
-        let lives = a.simulates.prepared.live ∙ ap is_none (ap (λ (n : Machine). n.fault) (sym same) ∙ clean) in
-        absurd (true≢false (sym (and_from (s1.has live.0 c) (s1.has w1.prepared.live.0 c) has lives) ∙ off))
+        let done = expanded-done clean b.done in
+        let asked = and_from (s1.has live.0 c) (is_none m.fault) (sym (k2.at live.0 c (k1.own live.0 live_is.own) listed) ∙ parts.0) (ap is_none (ap (λ (n : Machine). n.fault) (sym done.0) ∙ clean)) in
+        (asked, done.1 asked)
 
-    text-found : (c : List ℕ) (f : Place × Used) → IsConfig old.arities c → before c ≡ true → TextHas (macros_at s1 names1 w1.table c) (text_at c) hash.place f → Found c f
-    text-found c f listed on has = λ m simulates _.
-        let parts = and_parts (s1.has live.0 c) (s1.has w1.prepared.live.0 c) on in
-        let a = replaced-before c m listed simulates (λ n at. and_from (s1.has live.0 c) (is_none n.fault) parts.0 (sym at.prepared.live ∙ parts.1)) in
-        let clean = right-none true m.fault (and_parts (old.has among.0 c) (is_none m.fault) a.asked).1 in
-        (a.asked, of_line (text_at c) hash (expression (text_at c) conditional a.text) hashed (text-as (a.simulates.macros clean) has))
+    part-found : (h : HasParts s2 names2 made behind (limit + 1)) (p : List ℕ × Part) → IsConfig s2.arities p.0 → behind p.0 ≡ true → HasPart s2 names2 (take h.index made) h.item p
+        → Found p.0 (before_token (seen names2 files h.item.1), waiting p.1)
+    part-found h p there on has = λ m simulates _.
+        let now = IsConfig-kept k2 there in
+        let a = replaced-before p.0 m (IsConfig-kept keeps (IsConfig-kept k1 now)) simulates (λ n at. (expanded-before p.0 n now on at).0) in
+        (a.asked, of_part (text_at p.0) (record { conditional = conditional; replaced = a.text }) (part-has s2 names2 files made h.index h.item h.is p has (expanded-before p.0 m now on a.simulates).1))
 
-    texts-found : (count : ℕ) → HaveLists s1.arities behind (λ c. places_at s2 made c) count → HasFootprints (IsConfig old.arities) Found count
-    texts-found count lists =
-        subst (λ a. HasFootprints (IsConfig a) Found count) first
-        (void-footprints s1.arities Found before behind (λ c. places_at s2 made c) count (λ c listed. void c (subst (λ a. IsConfig a c) first listed))
-        (λ n h. footprints-as (λ at. at) (λ c f listed has. let on = (and_parts (behind c) (before c) has.0).1 in (on, text-found c f (subst (λ a. IsConfig a c) first listed) on has.1))
-        (lists-footprints s1 s2 names1 files (macros_at s1 names1 w1.table) list made (λ c. behind c && before c) hash.place n k2 own_list own_made different
-        (λ c d here there one other. alike c d here there (and_parts (behind c) (before c) one).1 (and_parts (behind d) (before d) other).1)
-        (λ c here one. answers c here (and_parts (behind c) (before c) one).1) h))
-        lists)
-      where
-        first : s1.arities ≡ old.arities
-        first = k1.arities ∙ keeps.arities
-
-    pub text-stops : (limit : ℕ) (stop : Stop) → StopsByLists s2.arities behind (λ c. places_at s2 made c) limit stop → StopsAtPlace old.arities Found limit stop
-    text-stops limit stop stops = lists-stop limit stop k2.arities (texts-found (limit + 1)) stops
+    pub part-stops : (stop : Stop) → RefusesAt s2 names2 made behind limit stop → StopsAtPlace old.arities Found limit stop
+    part-stops (BranchesFull count) is =
+        subst (λ arities. HasFootprints (IsConfig arities) Found (limit + 1)) (k2.arities ∙ (k1.arities ∙ keeps.arities)) (part-footprints is.1 files Found (part-found is.1))
+    part-stops ReadFault is = tt
+    part-stops OutOfMemory is = tt
 
 -- ---- a line that begins or goes on with a section
 
-comes-deciding : {x : Context} {l : Line} {m : Machine} {f : Place × Used} → asks_by m (conditional_of l) ≡ true → DirectiveHas m.state.macros l f → MomentsHave (ComesAt x m l) (here_at f.0, f.1)
+comes-deciding : {x : Context} {l : Line} {m : Machine} {f : Spot × Used} → asks_by m (conditional_of l) ≡ true → DirectiveHas m.state.macros l f → MomentsHave (ComesAt x m l) (here_at f.0, f.1)
 comes-deciding {l = l} {m} asks has = record { moment = at_head l m.state; comes = decides asks; has = of_head has }
 
 pub if-stops : (s : Sets) (names files : List (List ℕ)) (w : Walk) (x : Context) (l : Line) → conditional_of l ≡ Some If → (limit : ℕ) (stop : Stop)
@@ -210,7 +192,10 @@ module _ (names files : List (List ℕ)) (s : Sets) (w : Walk) (line : List base
   abbrev this : Line
   this = seen_line names files line
 
-  abbrev Said : List ℕ → Place × Used → Type 0
+  is_said_line : begins_with_header (behind_name this) ≡ false → IsSaid this
+  is_said_line other = record { directive = d; is = directed; says = says; other = other }
+
+  abbrev Said : List ℕ → Spot × Used → Type 0
   Said = Comes s names files w any_machine (λ c m f. (acts m ≡ true) × DirectiveHas m.state.macros this f)
 
   abbrev behind_at : List ℕ → List Token
@@ -227,7 +212,7 @@ module _ (names files : List (List ℕ)) (s : Sets) (w : Walk) (line : List base
   name-said-stops other limit stop = stops-as (λ at. at) _ limit stop (λ c f listed has. λ m simulates _.
       let it = has m simulates tt in
       let on = (and_parts (s.has w.acting.0 c) (is_none m.fault) it.0).0 in
-      (sym simulates.acting ∙ on, of_name (behind_name this) (said d directed says other) (subst (λ ts. NameHas m.state.macros ts f) (all-behind c on) it.1)))
+      (sym simulates.acting ∙ on, of_name (behind_name this) (said (is_said_line other)) (subst (λ ts. NameHas m.state.macros ts f) (all-behind c on) it.1)))
 
   module _ (apart : StandApart line) where
     abbrev hash : Token
@@ -239,8 +224,8 @@ module _ (names files : List (List ℕ)) (s : Sets) (w : Walk) (line : List base
     -- the header name that stands there
     pub header-stops : begins_with_header (behind_name this) ≡ true → (count : ℕ) → HaveLists s.arities (s.has w.acting.0) (λ c. places_at s list c) count → HasFootprints (IsConfig s.arities) Said count
     header-stops header count lists =
-        footprints-as (λ at. at) (λ c f listed has. λ m simulates _. (sym simulates.acting ∙ has.0, of_header d hash directed says header hashed (has.1 ∙ ap (λ ts. footprint_at hash.place ts []) (all-behind c has.0))))
-        (headers-footprints s names files list (s.has w.acting.0) hash.place count (behind-different names files w line list same apart) lists)
+        footprints-as (λ at. at) (λ c f listed has. λ m simulates _. (sym simulates.acting ∙ has.0, of_header d hash directed says header hashed (has.1 ∙ ap (λ ts. footprint_at hash ts []) (all-behind c has.0))))
+        (headers-footprints s names files list (s.has w.acting.0) hash count (behind-different names files w line list same apart) lists)
 
     -- or what it expands to
     module _ (other : begins_with_header (behind_name this) ≡ false) {more : List (List ℕ)} {new : Sets} {next : Walk} (keeps : Keeps s new) (made : List (Cond × base.Token)) (left : List ℕ → List Token)
@@ -253,22 +238,22 @@ module _ (names files : List (List ℕ)) (s : Sets) (w : Walk) (line : List base
       abbrev lives : List ℕ → Bool
       lives c = s.has w.acting.0 c && s.has w.prepared.live.0 c
 
-      void-said : (c : List ℕ) → IsConfig s.arities c → new.has next.acting.0 c ≡ true → lives c ≡ false → (f : Place × Used) → Said c f
+      void-said : (c : List ℕ) → IsConfig s.arities c → new.has next.acting.0 c ≡ true → lives c ≡ false → (f : Spot × Used) → Said c f
       void-said c listed on off f = λ m simulates _.
           let a = expands.at c m listed simulates in
           let parts = and_parts a.machine.active (is_none a.machine.fault) (sym a.simulates.acting ∙ on) in
           let clean = right-none true a.machine.fault parts.1 in
-          let same = expanded-done clean a.done in
+          let same = (expanded-done clean a.done).0 in
           let acting = simulates.acting ∙ (ap acts (sym same) ∙ (sym a.simulates.acting ∙ on)) in
           let live = simulates.prepared.live ∙ (ap (λ (n : Machine). is_none n.fault) (sym same) ∙ parts.1) in
           absurd (true≢false (sym (and_from (s.has w.acting.0 c) (s.has w.prepared.live.0 c) acting live) ∙ off))
 
-      text-said : (c : List ℕ) (f : Place × Used) → lives c ≡ true → TextHas (macros_at s names w.table c) (behind_at c) hash.place f → Said c f
+      text-said : (c : List ℕ) (f : Spot × Used) → lives c ≡ true → TextHas (macros_at s names w.table c) (behind_at c) hash f → Said c f
       text-said c f on has = λ m simulates _.
           let parts = and_parts (s.has w.acting.0 c) (s.has w.prepared.live.0 c) on in
           let now = text-as (simulates.macros (right-none true m.fault (sym simulates.prepared.live ∙ parts.1))) has in (
             sym simulates.acting ∙ parts.0,
-            of_line (behind_name this) hash (said d directed says other) hashed (subst (λ ts. TextHas m.state.macros ts hash.place f) (all-behind c parts.0) now),
+            of_line hash (is_said_line other) hashed (subst (λ ts. TextHas m.state.macros ts hash f) (all-behind c parts.0) now),
           )
 
       pub said-stops : (count : ℕ) → HaveLists s.arities (new.has next.acting.0) (λ c. places_at new made c) count → HasFootprints (IsConfig s.arities) Said count
@@ -276,7 +261,7 @@ module _ (names files : List (List ℕ)) (s : Sets) (w : Walk) (line : List base
           let on = new.has next.acting.0 in
           void-footprints s.arities Said lives on (λ c. places_at new made c) count void-said
           (λ n h. footprints-as (λ at. at) (λ c f listed has. let live = (and_parts (on c) (lives c) has.0).1 in (live, text-said c f live has.1))
-          (lists-footprints s new names files (macros_at s names w.table) list made (λ c. on c && lives c) hash.place n keeps own_list own_made (behind-different names files w line list same apart)
+          (lists-footprints s new names files (macros_at s names w.table) list made (λ c. on c && lives c) hash n keeps own_list own_made (behind-different names files w line list same apart)
           (λ c d here there one two. alike c d here there (and_parts (on c) (lives c) one).1 (and_parts (on d) (lives d) two).1)
           (λ c here one. answers c here (and_parts (on c) (lives c) one).1) h))
           lists

@@ -12,16 +12,12 @@ use Rattle.c11_macros.specs.Results.{result_map}
 use Rattle.c11_macros.specs.Text.{TextExpands, fault_of, unhidden}
 use Rattle.sc_base.specs.declared.id.Cond.{Cond}
 use Rattle.sc_base.specs.declared.place.Place as base_place
-use Rattle.sc_base.specs.declared.stop.Stop.{Stop}
-use Rattle.sc_base.specs.declared.stop.Stop.TheVariants.{BranchesFull, ReadFault, OutOfMemory}
 use Rattle.sc_base.specs.declared.token.Token as base_token
 use Rattle.sc_base.specs.Seen.{seen, seen_place}
 use Rattle.sc_expand.specs.Answers.{IsEmpty, IsExpanded, IsHeldAnswer, Stands}
-use Rattle.sc_expand.specs.Stops.{StopsBy}
 use Rattle.sc_guarded.proofs.ItemLemmas.{items_at-Keeps}
 use Rattle.sc_guarded.specs.Items.{faults_at, items_at, seen_fault}
 use Rattle.sc_guarded.specs.declared.expanded.Expanded.{Expanded}
-use Rattle.sc_hoist.specs.Branches.{Refuses}
 use Rattle.sc_if.specs.declared.deciding.Decided.{Decided}
 use Rattle.sc_if.specs.Decided as decided
 use Rattle.sc_if.specs.Replaced as replaced
@@ -40,20 +36,6 @@ use Rattle.sc_table.specs.Table.{IsTable, macros_at}
 use Rattle.sc_prep.proofs.ExpressionSteps.{at_place, decided-by, decided-elif, decided-if, faults-seen, moved-seen, without-moved}
 use Rattle.sc_prep.proofs.StageRefusals.{FaultsAt}
 use Rattle.sc_prep.proofs.WalkMoves.{owns-kept, simulates-kept}
-
--- different lists of places are those of different configurations
-pub stops-by : (s : Sets) (arities : List ℕ) (cond : ℕ) (list : List ℕ → List ℕ) (limit : ℕ) (stop : Stop) → s.arities ≡ arities → Refuses s cond list limit stop → StopsBy arities limit stop
-stops-by s arities cond list limit (BranchesFull count) same is = (
-  is.0,
-  record {
-    configs = is.1.configs;
-    many = is.1.many;
-    listed = subst (λ n. All (IsConfig n) is.1.configs) same is.1.listed;
-    apart = λ i j d first within e. is.1.apart i j d first within (ap list e);
-  },
-)
-stops-by s arities cond list limit ReadFault same is = is
-stops-by s arities cond list limit OutOfMemory same is = tt
 
 pub right-none : {F : Type 0} (a : Bool) (f : Option F) → (a && is_none f) ≡ true → f ≡ None
 right-none true None e = refl

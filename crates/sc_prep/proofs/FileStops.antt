@@ -1,14 +1,13 @@
 -- To which moments a machine comes behind other lines, in a file that it includes, and in one that
 -- it enters.
-use Rattle.std.proofs.Common.{◌≡◌, ℕ, ◌+◌, ◌-◌, ◌<◌, ◌&&◌, Bool, true, false, List, [], ◌∷◌, ◌++◌, drop, get_or, length, map, take, Some, Result, Ok, Err, drop-cons, if◌then◌else◌, refl, sym, ap, ◌∙◌, subst, arith}
-use Rattle.std.proofs.lemmas.List.{length-map, take-append-drop}
-use Rattle.std.proofs.lemmas.List.Elements.{All-map}
+use Rattle.std.proofs.Common.{◌≡◌, ℕ, ◌+◌, ◌<◌, ◌&&◌, Bool, true, false, List, [], ◌∷◌, ◌++◌, length, map, take, Some, Result, Ok, Err, drop-cons, if◌then◌else◌, refl, sym, ap, ◌∙◌, subst}
+use Rattle.std.proofs.lemmas.List.{take-append-drop}
 use Rattle.std.proofs.lemmas.Option.{same_Some}
 use Rattle.std.specs.Prelude.{slice_get, unwrap_or}
 use Rattle.c11_directives.specs.Behind.{Says}
 use Rattle.c11_directives.specs.declared.directive.Directive.{Directive}
 use Rattle.c11_directives.specs.declared.directive.Directive.TheVariants as directive
-use Rattle.c11_directives.specs.Footprints.{DirectiveHas, MomentsHave, NameHas, SourceFootprint, Used, of_directive, of_run}
+use Rattle.c11_directives.specs.Footprints.{DirectiveHas, MomentsHave, NameHas, SourceFootprint, Spot, Used, of_directive, of_run}
 use Rattle.c11_directives.specs.Lines.{Line, c11_directive_names, hash_of, lines_of}
 use Rattle.c11_directives.specs.Pre.{Closes, Context, File, State, c11, closed, deeper, file_lines, file_with, is_barrier, is_said, put_out, search}
 use Rattle.c11_directives.specs.Reaches.{FileReaches, Moment, at_line, in_file, itself}
@@ -22,7 +21,6 @@ use Rattle.sc_model.specs.Fault.{Fault}
 use Rattle.sc_model.specs.Sets.{Sets, IsConfig, Denotes, Keeps}
 use Rattle.sc_model.specs.Token as plain
 use Rattle.sc_model.specs.Token.{Place, Token}
-use Rattle.sc_prep.proofs.ApartLemmas.{pairs-map}
 use Rattle.sc_prep.proofs.BetweenRuns.{refused-acts}
 use Rattle.sc_prep.proofs.ComesFrom.{comes-entered, comes-inert}
 use Rattle.sc_prep.proofs.EnterLeads.{HasLines, both-enter, stays}
@@ -79,12 +77,12 @@ closing m n was acting = subst (Closing m) (sym was.is) (by was.answer was.expan
     by (Err fault) expands on = absurd (refused-acts m.active m.fault fault on)
 
 -- a name in the run that a line ends
-pub comes-closing : {x : Context} {l : Line} {m : Machine} {f : Place × Used} (d : Directive) → l.directive ≡ Some d → is_barrier d ≡ true → acts m ≡ true → NameHas m.state.macros m.state.run f
+pub comes-closing : {x : Context} {l : Line} {m : Machine} {f : Spot × Used} (d : Directive) → l.directive ≡ Some d → is_barrier d ≡ true → acts m ≡ true → NameHas m.state.macros m.state.run f
     → MomentsHave (ComesAt x m l) (here_at f.0, f.1)
 comes-closing {l = l} {m} d is barrier acting has = record { moment = at_line l m.state; comes = does acting (barrier-plain l d is barrier) itself; has = of_run d is barrier has }
 
 -- what the line comes to itself
-pub comes-said : {x : Context} {l : Line} {m n : Machine} {f : Place × Used} (d : Directive) → l.directive ≡ Some d → is_said d ≡ true → Closed m n → acts n ≡ true → DirectiveHas n.state.macros l f
+pub comes-said : {x : Context} {l : Line} {m n : Machine} {f : Spot × Used} (d : Directive) → l.directive ≡ Some d → is_said d ≡ true → Closed m n → acts n ≡ true → DirectiveHas n.state.macros l f
     → MomentsHave (ComesAt x m l) (here_at f.0, f.1)
 comes-said {l = l} {m} {n} {f} d is said was acting has =
     let c = closing m n was acting in

@@ -32,6 +32,7 @@ pub mod NameFootprints
 pub mod NameStops
 pub mod NamedFiles
 pub mod NumberMoves
+pub mod PartFootprints
 pub mod Passing
 pub mod Plain
 pub mod PlainRuns

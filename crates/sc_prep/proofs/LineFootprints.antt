@@ -1,12 +1,11 @@
 -- Configurations to which a line has different lists of tokens have different footprints at it.
-use Rattle.std.proofs.Common.{◌≡◌, ℕ, ◌+◌, ◌≤◌, Bool, true, false, List, [], ◌∷◌, All, map, length, get_or, Option, Result, refl, sym, ap, subst, ◌∙◌, arith, if◌then◌else◌}
-use Rattle.std.proofs.lemmas.List.Elements.{All-cons, All-head, All-nil, All-tail, All-weaker}
-use Rattle.std.specs.Prelude.{AllPairs}
-use Rattle.c11_directives.specs.Footprints.{HasFootprints, TextHas, Used, definitions_of, footprint_at}
+use Rattle.std.proofs.Common.{◌≡◌, ℕ, ◌+◌, ◌≤◌, Bool, true, false, List, [], ◌∷◌, All, map, Result, refl, sym, ap, subst, ◌∙◌, if◌then◌else◌}
+use Rattle.std.proofs.lemmas.List.Elements.{All-cons, All-head, All-nil, All-tail}
+use Rattle.c11_directives.specs.Footprints.{HasFootprints, TextHas, Spot, Used, definitions_of, footprint_at, looked_up_in, token_itself, tokens_used}
 use Rattle.c11_macros.proofs.OneAnswer.{one}
 use Rattle.c11_macros.specs.Expansion.{Expands}
 use Rattle.c11_macros.specs.Hidden.{Failure, Hidden}
-use Rattle.c11_macros.specs.Macros.{Definition, Macros}
+use Rattle.c11_macros.specs.Macros.{Macros}
 use Rattle.c11_macros.specs.Text.{TextExpands, place_alone, unhidden}
 use Rattle.c11_macros.specs.Trace.{Agree, Trace, trace}
 use Rattle.sc_base.specs.declared.id.Cond.{Cond}
@@ -78,12 +77,12 @@ define-alike : (some other : Macros) (text : List Token) (answer : Result (List 
     → Agree some other (trace expands).looked_up → DefineTextAlike some other text
 define-alike some other text answer expands agree = record { agree = λ r d. subst (Agree some other) (ap (λ (x : Trace). x.looked_up) (one expands r d).trace) agree }
 
-used-alike : {some other : Macros} {text more : List Token} {place : Place} {f g : Used} → TextHas some text place (place, f) → TextHas other more place (place, g) → f ≡ g → (text ≡ more) × DefineTextAlike some other text
-used-alike {some} {other} {text} {more} {place} x y same =
-    let e : footprint_at place text (definitions_of some (trace x.expands).looked_up) ≡ footprint_at place more (definitions_of other (trace y.expands).looked_up) =
-    sym x.is ∙ (ap (λ (u : Used). (place, u)) same ∙ y.is) in (
-      ap (λ (f : Place × Used). f.1.tokens) e,
-      define-alike some other text x.answer x.expands (same-definitions some other (trace x.expands).looked_up (trace y.expands).looked_up (ap (λ (f : Place × Used). f.1.definitions) e)),
+used-alike : {some other : Macros} {text more : List Token} {hash : Token} {f g : Used} → TextHas some text hash (token_itself hash, f) → TextHas other more hash (token_itself hash, g) → f ≡ g → (text ≡ more) × DefineTextAlike some other text
+used-alike {some} {other} {text} {more} {hash} x y same =
+    let e : footprint_at hash text (definitions_of some (trace x.expands).looked_up) ≡ footprint_at hash more (definitions_of other (trace y.expands).looked_up) =
+    sym x.is ∙ (ap (λ (u : Used). (token_itself hash, u)) same ∙ y.is) in (
+      ap (λ (f : Spot × Used). tokens_used f.1) e,
+      define-alike some other text x.answer x.expands (same-definitions some other (trace x.expands).looked_up (trace y.expands).looked_up (ap (λ (f : Spot × Used). looked_up_in f.1) e)),
     )
 
 -- ---- different lists, where one footprint tells one list
@@ -109,27 +108,27 @@ module _ {K V : Type 0} {arities : List ℕ} {test : List ℕ → Bool} {list : 
 -- ---- the line
 
 -- what the text of a line expands to is listed differently
-pub lists-footprints : (s t : Sets) (names files : List (List ℕ)) (macros : List ℕ → Macros) (list made : List (Cond × base.Token)) (test : List ℕ → Bool) (place : Place) (count : ℕ) → Keeps s t
+pub lists-footprints : (s t : Sets) (names files : List (List ℕ)) (macros : List ℕ → Macros) (list made : List (Cond × base.Token)) (test : List ℕ → Bool) (hash : Token) (count : ℕ) → Keeps s t
     → All (λ (item : Cond × base.Token). IsCond s item.0.0) list → All (λ (item : Cond × base.Token). IsCond t item.0.0) made → AreDifferent names files list
     → ((c d : List ℕ) → IsConfig s.arities c → IsConfig s.arities d → test c ≡ true → test d ≡ true → AreAlike s c d list → DefineTextAlike (macros c) (macros d) (map (seen names files) (items_at s list c)) → AreAlike t c d made)
     → ((c : List ℕ) → IsConfig s.arities c → test c ≡ true → (answer : Result (List Token) Fault) × TextExpands (macros c) (map (seen names files) (items_at s list c)) answer)
     → HaveLists s.arities test (λ c. places_at t made c) count
-    → HasFootprints (IsConfig s.arities) (λ c f. (test c ≡ true) × TextHas (macros c) (map (seen names files) (items_at s list c)) place f) count
-lists-footprints s t names files macros list made test place count _ _ _ different alike answers lists =
+    → HasFootprints (IsConfig s.arities) (λ c f. (test c ≡ true) × TextHas (macros c) (map (seen names files) (items_at s list c)) hash f) count
+lists-footprints s t names files macros list made test hash count _ _ _ different alike answers lists =
     let text : List ℕ → List Token = λ c. map (seen names files) (items_at s list c) in
-    lists-have place
+    lists-have (token_itself hash)
     (λ c listed among.
     let x = (answers c listed among).1 in
-    ((footprint_at place (text c) (definitions_of (macros c) (trace x.expands).looked_up)).1, (among, record { answer = x.answer; expands = x.expands; is = refl })))
+    ((footprint_at hash (text c) (definitions_of (macros c) (trace x.expands).looked_up)).1, (among, record { answer = x.answer; expands = x.expands; is = refl })))
     (λ c d f g one two x y same.
     let used = used-alike x.1 y.1 same in
     places-alike t c d 0 made (alike c d one two x.0 y.0 (alike-seen s names files c d list different used.0) used.1))
     count lists
 
 -- a line that is not expanded
-pub headers-footprints : (s : Sets) (names files : List (List ℕ)) (list : List (Cond × base.Token)) (test : List ℕ → Bool) (place : Place) (count : ℕ) → AreDifferent names files list
+pub headers-footprints : (s : Sets) (names files : List (List ℕ)) (list : List (Cond × base.Token)) (test : List ℕ → Bool) (hash : Token) (count : ℕ) → AreDifferent names files list
     → HaveLists s.arities test (λ c. places_at s list c) count
-    → HasFootprints (IsConfig s.arities) (λ c f. (test c ≡ true) × (f ≡ footprint_at place (map (seen names files) (items_at s list c)) [])) count
-headers-footprints s names files list test place count different lists =
-    lists-have place (λ c listed among. ((footprint_at place (map (seen names files) (items_at s list c)) []).1, (among, refl)))
-    (λ c d f g one two x y same. places-alike s c d 0 list (alike-seen s names files c d list different (ap (λ (f : Place × Used). f.1.tokens) (sym x.1 ∙ (ap (λ (u : Used). (place, u)) same ∙ y.1))))) count lists
+    → HasFootprints (IsConfig s.arities) (λ c f. (test c ≡ true) × (f ≡ footprint_at hash (map (seen names files) (items_at s list c)) [])) count
+headers-footprints s names files list test hash count different lists =
+    lists-have (token_itself hash) (λ c listed among. ((footprint_at hash (map (seen names files) (items_at s list c)) []).1, (among, refl)))
+    (λ c d f g one two x y same. places-alike s c d 0 list (alike-seen s names files c d list different (ap (λ (f : Spot × Used). tokens_used f.1) (sym x.1 ∙ (ap (λ (u : Used). (token_itself hash, u)) same ∙ y.1))))) count lists

@@ -6,8 +6,7 @@ use Rattle.std.proofs.lemmas.List.Kept.{AllPairs-cons}
 use Rattle.std.proofs.lemmas.Simd.{map-map}
 use Rattle.std.proofs.Math.Seq.{take-nil}
 use Rattle.c11_directives.specs.Footprints as footprints
-use Rattle.c11_directives.specs.Footprints.{DirectiveHas, NameHas, TextHas, Used, definitions_of, footprint_at}
-use Rattle.c11_directives.specs.Lines.{Line}
+use Rattle.c11_directives.specs.Footprints.{DirectiveHas, NameHas, TextHas, Spot, Used, definitions_of, footprint_at, looked_up_in, token_itself, tokens_used}
 use Rattle.c11_macros.specs.Expansion.{Expands, case_of, stays}
 use Rattle.c11_macros.specs.Footprint.{Arrives, Footprint, footprint}
 use Rattle.c11_macros.specs.Hidden.{Failure, Hidden}
@@ -21,9 +20,10 @@ use Rattle.sc_base.specs.declared.token.Token as base
 use Rattle.sc_base.specs.Seen.{seen}
 use Rattle.sc_expand.proofs.Behind.{length-behind}
 use Rattle.sc_expand.proofs.FootprintLemmas.{one-use}
-use Rattle.sc_expand.specs.Footprints.{HasFootprints, IsSameUse, ReplacesAt, StopsAtName, UsesAt, taken_behind}
+use Rattle.sc_expand.specs.Footprints.{IsSameUse, ReplacesAt, StopsAtName, UsesAt, taken_behind}
 use Rattle.sc_expand.specs.Having.{behind_at}
 use Rattle.sc_guarded.specs.Items.{items_at}
+use Rattle.sc_model.specs.declared.kind.Kind.TheVariants.{Other}
 use Rattle.sc_model.specs.Fault.{first_place}
 use Rattle.sc_model.specs.Sets.{Sets, IsConfig}
 use Rattle.sc_model.specs.Token.{Place, Token}
@@ -34,11 +34,11 @@ use Rattle.sc_prep.proofs.CloseMoves.{items_at-All}
 
 -- ---- tables that define all names alike give the same footprints
 
-pub name-as : {one other : Macros} {text : List Token} {f : Place × Used} → ((name : List ℕ) → one name ≡ other name) → NameHas one text f → NameHas other text f
+pub name-as : {one other : Macros} {text : List Token} {f : Spot × Used} → ((name : List ℕ) → one name ≡ other name) → NameHas one text f → NameHas other text f
 name-as {text = text} {f = f} same has = subst (λ macros. NameHas macros text f) (λ i. λ name. same name i) has
 
-pub text-as : {one other : Macros} {text : List Token} {place : Place} {f : Place × Used} → ((name : List ℕ) → one name ≡ other name) → TextHas one text place f → TextHas other text place f
-text-as {text = text} {place = place} {f = f} same has = subst (λ macros. TextHas macros text place f) (λ i. λ name. same name i) has
+pub text-as : {one other : Macros} {text : List Token} {hash : Token} {f : Spot × Used} → ((name : List ℕ) → one name ≡ other name) → TextHas one text hash f → TextHas other text hash f
+text-as {text = text} {hash = hash} {f = f} same has = subst (λ macros. TextHas macros text hash f) (λ i. λ name. same name i) has
 
 -- ---- what is made of a list
 
@@ -116,10 +116,10 @@ module _ (s : Sets) (names files : List (List ℕ)) where
       by false true m (suc n) rest same = absurd (not-later c item items different m _ (sym same))
       by false false m n rest same = rest m n same
 
--- where an item stands, if there is one
-abbrev place_of : (names files : List (List ℕ)) → Option (Cond × base.Token) → Place
-place_of names files None = first_place []
-place_of names files (Some item) = (seen names files item.1).place
+-- the token of an item, if there is one
+abbrev token_of : (names files : List (List ℕ)) → Option (Cond × base.Token) → Token
+token_of names files None = record { kind = Other; spelling = []; space = false; place = first_place [] }
+token_of names files (Some item) = seen names files item.1
 
 -- ---- the name at an index of a list
 
@@ -144,16 +144,16 @@ module _ (s : Sets) (names files : List (List ℕ)) (macros : List ℕ → Macro
   abbrev behind : List ℕ → List Token
   behind c = map (seen names files) (items_behind c)
 
-  abbrev place : Place
-  place = place_of names files (slice_get list at)
+  abbrev token : Token
+  token = token_of names files (slice_get list at)
 
-  abbrev print_by : List ℕ → Place → Token → Footprint → Place × Used
-  print_by c place name print = footprint_at place (name ∷ take (length (behind c) - print.left) (behind c)) (definitions_of (macros c) print.looked_up)
+  abbrev print_by : List ℕ → (at name : Token) → Footprint → Spot × Used
+  print_by c at name print = footprint_at at (name ∷ take (length (behind c) - print.left) (behind c)) (definitions_of (macros c) print.looked_up)
 
   abbrev used_at : (c : List ℕ) → Uses c → Used
-  used_at c x = (print_by c place (seen names files x.item.1) (footprint x.expands)).1
+  used_at c x = (print_by c token (seen names files x.item.1) (footprint x.expands)).1
 
-  has-name : (c : List ℕ) (r : Replaces c) → NameHas (macros c) (map (seen names files) (items_at s list c)) (place, used_at c r.uses)
+  has-name : (c : List ℕ) (r : Replaces c) → NameHas (macros c) (map (seen names files) (items_at s list c)) (token_itself token, used_at c r.uses)
   has-name c r =
       let x = r.uses in
       let first = looks x.item.1 in
@@ -167,7 +167,7 @@ module _ (s : Sets) (names files : List (List ℕ)) (macros : List ℕ → Macro
         arrives = subst (λ (ts : List (Hidden Place)). Arrives place_alone (macros c) ts (first ∷ map unhidden (behind c))) (sym (map-map unhidden (seen names files) (items_at s list c)))
             (subst (λ (ts : List (Hidden Place)). Arrives place_alone (macros c) (map looks (items_at s list c)) (first ∷ ts)) rest x.arrives);
         replaces = subst (λ (ts : List (Hidden Place)). case_of (macros c) first ts ≡ stays → ⊥) rest r.replaces;
-        is = λ i. print_by c (place_of names files (x.is i)) (seen names files x.item.1) (sym p.is i);
+        is = λ i. print_by c (token_of names files (x.is i)) (seen names files x.item.1) (sym p.is i);
       }
 
   -- so many items stand behind the name as tokens are seen there
@@ -186,9 +186,9 @@ module _ (s : Sets) (names files : List (List ℕ)) (macros : List ℕ → Macro
           other = y;
           taken =
               taken-as c one
-              ∙ (same-taken s names files c d (drop (at + 1) list) (pairs-drop R (at + 1) list different) (length (behind c) - one.left) (length (behind d) - other.left) (ap (λ (u : Used). drop 1 u.tokens) same)
+              ∙ (same-taken s names files c d (drop (at + 1) list) (pairs-drop R (at + 1) list different) (length (behind c) - one.left) (length (behind d) - other.left) (ap (λ (u : Used). drop 1 (tokens_used u)) same)
               ∙ sym (taken-as d other));
-          agree = same-definitions (macros c) (macros d) one.looked_up other.looked_up (ap (λ (u : Used). u.definitions) same);
+          agree = same-definitions (macros c) (macros d) one.looked_up other.looked_up (ap looked_up_in same);
         }
 
     -- configurations with different footprints of the name have them told by tokens
@@ -198,10 +198,10 @@ module _ (s : Sets) (names files : List (List ℕ)) (macros : List ℕ → Macro
     source-footprints cond count configs many listed has come apart =
         let make : (c : List ℕ) → Replaces c → List ℕ × Used = λ c x. (c, used_at c x.uses) in
         let Is : List ℕ × Used → Type 0 = λ p. IsConfig s.arities p.0 in
-        let Has : List ℕ × Used → Type 0 = λ p. (s.has cond p.0 ≡ true) × NameHas (macros p.0) (map (seen names files) (items_at s list p.0)) (place, p.1) in
+        let Has : List ℕ × Used → Type 0 = λ p. (s.has cond p.0 ≡ true) × NameHas (macros p.0) (map (seen names files) (items_at s list p.0)) (token_itself token, p.1) in
         let Apart : List ℕ × Used → List ℕ × Used → Type 0 = λ p q. (p.0 ≡ q.0 → ⊥) × (p.1 ≡ q.1 → ⊥) in
         record {
-          at = place;
+          at = token_itself token;
           footprints = made_of Replaces make configs come;
           many = subst (λ n. count ≤ n) (sym (made-length Replaces make configs come)) many;
           listed = made-all Replaces make (IsConfig s.arities) Is (λ c x is. is) configs come listed;

@@ -1,7 +1,7 @@
 -- Where the expansion of what a walk has stops, each configuration's machine comes to a footprint.
 use Rattle.std.proofs.Common.{◌≡◌, ℕ, ◌&&◌, true, List, All, map, sym, subst, ◌∙◌}
 use Rattle.std.specs.Prelude.{is_none}
-use Rattle.c11_directives.specs.Footprints.{NameHas, Used}
+use Rattle.c11_directives.specs.Footprints.{NameHas, Spot, Used}
 use Rattle.c11_macros.specs.Text.{place_alone, unhidden}
 use Rattle.sc_base.specs.declared.id.Cond.{Cond}
 use Rattle.sc_base.specs.declared.stop.Stop.{Stop}
@@ -11,7 +11,6 @@ use Rattle.sc_expand.specs.Footprints.{StopsAtName}
 use Rattle.sc_guarded.proofs.ItemLemmas.{items_at-Keeps}
 use Rattle.sc_guarded.specs.Items.{items_at}
 use Rattle.sc_model.specs.Sets.{Sets, Denotes, IsCond, Keeps}
-use Rattle.sc_model.specs.Token.{Place}
 use Rattle.sc_table.proofs.Growth.{macros_at-Keeps}
 use Rattle.sc_table.specs.Table.{IsTable, macros_at}
 use Rattle.sc_prep.specs.Apart.{AreDifferent, StandApart, tokens_in}
@@ -42,7 +41,7 @@ pub list-stops : {old s : Sets} (names files : List (List ℕ)) (keeps : Keeps o
     → StopsAtPlace old.arities (Comes old names files w any_machine
     (λ c m f. ((old.has among.0 c && is_none m.fault) ≡ true) × NameHas m.state.macros (map (seen names files) (items_at old list c)) f)) limit stop
 list-stops {old} {s} names files keeps w among live live_is is list own limit stop stops apart =
-    let Has : List ℕ → Place × Used → Type 0 = λ c f. (s.has live.0 c ≡ true) × NameHas (macros_at s names w.table c) (map (seen names files) (items_at s list c)) f in
+    let Has : List ℕ → Spot × Used → Type 0 = λ c f. (s.has live.0 c ≡ true) × NameHas (macros_at s names w.table c) (map (seen names files) (items_at s list c)) f in
     stops-as (λ at. at) _ limit stop
     (λ c f listed has m simulates _.
     let asked = sym (asked-at keeps w among live live_is c m listed simulates) ∙ has.0 in

@@ -2,7 +2,7 @@
 use Rattle.std.proofs.Common.{◌≡◌, ℕ, List, [], ◌∷◌, Result, Ok, Err, sym, subst}
 use Rattle.std.proofs.lemmas.Result.{IfErr-weaker}
 use Rattle.std.specs.Prelude.{IfErr}
-use Rattle.c11_directives.specs.Footprints.{HasFootprints, MomentsHave, Origin, SourceFootprint}
+use Rattle.c11_directives.specs.Footprints.{HasFootprints, MomentsHave, Origin, SourceFootprint, Spot}
 use Rattle.c11_directives.specs.Reaches.{Moment}
 use Rattle.sc_base.specs.declared.stop.Stop.{Stop}
 use Rattle.sc_base.specs.declared.stop.Stop.TheVariants.{BranchesFull, ReadFault, OutOfMemory}
@@ -37,8 +37,8 @@ answer-stops at Q limit (Ok x) same to h = tt
 answer-stops {P = P} at Q limit (Err stop) same to h = stops-as at Q limit stop to (subst (λ a. StopsAtPlace a P limit stop) same h)
 
 -- in the file itself
-abbrev pub here_at : Place → Origin
-here_at place = record { chain = []; place = place }
+abbrev pub here_at : Spot → Origin
+here_at spot = record { chain = []; spot = spot }
 
 -- in a file that is included at this place
 abbrev pub included_at : Place → Origin → Origin

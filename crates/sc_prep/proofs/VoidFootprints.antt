@@ -7,7 +7,7 @@ use Rattle.std.proofs.lemmas.List.Elements.{All-nil, All-cons, All-head, All-tai
 use Rattle.std.proofs.lemmas.List.Kept.{AllPairs-cons, AllPairs-filter}
 use Rattle.std.specs.List.{filter}
 use Rattle.std.specs.Prelude.{AllPairs}
-use Rattle.c11_directives.specs.Footprints.{HasFootprints, Used}
+use Rattle.c11_directives.specs.Footprints.{HasFootprints, Used, looked_up_in, source}
 use Rattle.c11_macros.specs.Macros.{Definition}
 use Rattle.sc_model.specs.Sets.{IsConfig}
 use Rattle.sc_prep.specs.Footprints.{HaveLists}
@@ -16,13 +16,13 @@ use Rattle.sc_prep.proofs.ApartLemmas.{pairs-head, pairs-tail}
 -- how many definitions these footprints have in all
 abbrev definition_count : List (List ℕ × Used) → ℕ
 definition_count [] = 0
-definition_count (p ∷ ps) = length p.1.definitions + definition_count ps
+definition_count (p ∷ ps) = length (looked_up_in p.1) + definition_count ps
 
 -- one with more is none of them
-none-like : (f : Used) (ps : List (List ℕ × Used)) → definition_count ps < length f.definitions → All (λ p. f ≡ p.1 → ⊥) ps
+none-like : (f : Used) (ps : List (List ℕ × Used)) → definition_count ps < length (looked_up_in f) → All (λ p. f ≡ p.1 → ⊥) ps
 none-like f [] more = All-nil (λ p. f ≡ p.1 → ⊥)
 none-like f (p ∷ ps) more =
-    All-cons (λ p. f ≡ p.1 → ⊥) p ps (λ e. omega (arith, more, ap (λ (x : Used). length x.definitions) e)) (none-like f ps (omega (arith, more)))
+    All-cons (λ p. f ≡ p.1 → ⊥) p ps (λ e. omega (arith, more, ap (λ (x : Used). length (looked_up_in x)) e)) (none-like f ps (omega (arith, more)))
 
 -- those that pass, with what holds of all
 passing : {A : Type 0} (p : A → Bool) (P : A → Type 0) (xs : List A) → All P xs → All (λ x. (p x ≡ true) × P x) (filter p xs)
@@ -75,7 +75,7 @@ module _ {K : Type 0} (arities : List ℕ) (has : List ℕ → K × Used → Typ
       let it = All-head IsVoid v vs each in
       let ps = rest.all.footprints in
       let more = definition_count ps in
-      let f : Used = record { tokens = []; definitions = replicate (more + 1) ([], None) } in
+      let f : Used = source [] (replicate (more + 1) ([], None)) in
       let other = rest.others v it.dead (pairs-head (λ c d. c ≡ d → ⊥) v vs apart) in
       let fresh = none-like f ps (omega (arith, length-replicate {A = List ℕ × Option Definition} (more + 1) ([], None))) in
       record {

@@ -11,7 +11,7 @@ ghost use Rattle.sc_expand.specs.Alike.{DefineTextAlike};
 ghost use Rattle.sc_expand.specs.Stops.{StopsBy};
 ghost use Rattle.sc_guarded.specs.Items.{items_at};
 ghost use Rattle.sc_hoist.specs.Alike.{AreAlike};
-ghost use Rattle.sc_hoist.specs.Places.{places_at};
+ghost use Rattle.sc_if.specs.Parts.{RefusesAt};
 ghost use Rattle.sc_lines.specs.Nests.{seen_line};
 ghost use Rattle.sc_model.specs.Fault.{Fault};
 ghost use Rattle.sc_model.specs.Growth.{Extends};
@@ -19,7 +19,7 @@ ghost use Rattle.sc_model.specs.Sets.{IsCond, IsConfig, Keeps};
 ghost use Rattle.sc_model.specs.Token as model;
 ghost use Rattle.sc_prep.specs.Expressions.{DecidesAt, EvaluatesAt, ExpandsAt, ReplacesAt};
 ghost use Rattle.sc_prep.specs.Apart.{AreDifferent, StandApart};
-ghost use Rattle.sc_prep.specs.Footprints.{StopsByLists, StopsWalk, any_machine};
+ghost use Rattle.sc_prep.specs.Footprints.{StopsWalk, any_machine};
 ghost use Rattle.sc_prep.specs.Printable.{ArePlaced, IsHeldWalk, IsPlaced, any_token};
 ghost use Rattle.sc_prep.specs.Simulates.{Owns, SimulatesOneOf};
 ghost use Rattle.sc_table.specs.Table.{IsTable, macros_at};
@@ -193,7 +193,7 @@ impl Walk {
         ensures list { OnOk result (self.new.prepared.list ≡ self.old.prepared.list) }
         ensures stops { IfErr result (StopsBy (C.sets conds.old).arities limit) }
         ensures gathered { OnOk result (self.new.gathered ≡ self.old.gathered) }
-        ensures lists { IfErr result (StopsByLists (C.sets conds.old).arities (λ c. (C.sets conds.old).has among.0 c && (C.sets conds.old).has self.old.prepared.live.0 c) (λ c. places_at (C.sets conds.old) list.now c) limit) }
+        ensures parts { IfErr result (RefusesAt (C.sets conds.old) names.now list.now (λ c. (C.sets conds.old).has among.0 c && (C.sets conds.old).has self.old.prepared.live.0 c) limit) }
 
         // at every outcome
         ensures keeps { Keeps (C.sets conds.old) (C.sets conds.new) }

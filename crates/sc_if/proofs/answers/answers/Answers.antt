@@ -22,7 +22,7 @@ returns-in_err-readings-clause-refused g c =
     let found = c.having_defined.ensures.keeps in
     let keeps = Keeps-trans found c.without.ensures.keeps in
     let p = err_from_is_err_and c.from_residual-in_err-readings.result c.from_residual-in_err-readings.ensures.1 in
-    rw (p.1, p.2) (refuses-before c.args.list.now c.args.live.0 c.in_ok-rest.rest.0 c.args.limit keeps c.requires.own
+    rw (p.1, p.2) (refuses-before c.args.names.now c.args.list.now ((g.C.Conditions.sets c.args.conds.now).has c.args.live.0) ((g.C.Conditions.sets c.without.new.conds).has c.in_ok-rest.rest.0) c.args.limit keeps c.requires.own
     (λ x listed has. sym (found.at _ x c.requires.live_own listed) ∙ left-true _ _ (sym (c.in_ok-rest.ensures.meaning x (IsConfig-Keeps found listed)) ∙ has)) _ c.in_err-readings.ensures.refused)
   where
     left-true : (a b : Bool) → (a && b) ≡ true → a ≡ true

@@ -3,9 +3,9 @@ use Rattle.std.proofs.lemmas.List.Elements.{All-head, All-nil, All-tail}
 use Rattle.std.specs.Vec.Iter.{into_iter_items}
 use Rattle.c11_expressions.proofs.Reader.{State}
 use Rattle.sc_hoist.specs.Alike.{AreAlike, IsAlike}
-use Rattle.sc_if.proofs.PutLemmas.{Entry, apart-nil, no-readings}
+use Rattle.sc_if.proofs.PutLemmas.{Entry, HaveRead-nil, no-readings}
 use Rattle.sc_if.proofs.ReadingLemmas.{few-moved, moved-more}
-use Rattle.sc_if.specs.Readings.{AreApart, all_of, moved, readings_at, seen_reading}
+use Rattle.sc_if.specs.Readings.{HaveRead, all_of, moved, readings_at, seen_reading}
 use Rattle.sc_if.specs.Symbols.{seen_symbol}
 use Rattle.sc_model.proofs.SetLemmas.{Keeps-refl, Keeps-trans, IsConfig-Keeps}
 use Rattle.sc_model.specs.Sets.{IsCond}
@@ -27,7 +27,7 @@ loop-reading-init g c =
       long = c.into_iter-reading-iterator.ensures.into_iter_gives.1 ∙ omega (arith, ap length all, c.args.readings.ok.0);
       keeps = Keeps-refl s;
       own = subst (All Own) (sym {A = List Entry} none) (All-nil Own);
-      apart = subst (AreApart s) (sym {A = List Entry} c.new-2.ensures.items) (apart-nil s);
+      read = subst (HaveRead s c.args.item.0) (sym {A = List Entry} c.new-2.ensures.items) (HaveRead-nil s c.args.item.0);
       rest = subst (All Own) (sym {A = List Entry} all) c.requires.own;
       at = λ x listed few.
           let f : Option State → Option State = moved (s.has c.args.item.0 x) (option_map seen_symbol c.args.symbol) in
@@ -70,7 +70,7 @@ loop-reading-preserved g c =
       long = omega (arith, ap length steps, c.in-Some.ensures.steps.1, was.long);
       keeps = Keeps-trans was.keeps c.part.ensures.keeps;
       own = parted.own;
-      apart = parted.apart was.apart;
+      read = parted.read was.read;
       rest = All-tail Own reading rest owned;
       at = λ x listed few.
           let f : Option State → Option State = moved (s.has c.args.item.0 x) symbol in
@@ -101,7 +101,7 @@ returns g c =
     record {
       moved = record {
         own = was.own;
-        apart = was.apart;
+        read = was.read;
         at = λ x listed few.
             let f : Option State → Option State = moved (s.has c.args.item.0 x) (option_map seen_symbol c.args.symbol) in
             let found = readings_at mid (all_of c.loop-reading.next) x in

@@ -3,7 +3,7 @@ use Rattle.std.specs.Vec.Iter.{into_iter_items, into_iter_len}
 use Rattle.sc_base.specs.declared.id.Cond.{Cond}
 use Rattle.sc_hoist.specs.Alike.{AreAlike}
 use Rattle.sc_if.specs.declared.reading.Reading.{Reading}
-use Rattle.sc_if.specs.Readings.{AreApart, all_of, moved, readings_at}
+use Rattle.sc_if.specs.Readings.{HaveRead, all_of, moved, readings_at}
 use Rattle.sc_if.specs.Symbols.{seen_symbol}
 use Rattle.sc_model.specs.Sets.{IsCond, IsConfig, Keeps}
 use Rattle.sc_if.proofs.readings.advance.Given as goal
@@ -19,7 +19,7 @@ invariant-loop-reading g l =
       long : into_iter_len l.reading-iterator ≡ length (into_iter_items l.reading-iterator);
       keeps : Keeps old now;
       own : All (λ (x : Cond × Option Reading). IsCond now x.0.0) (all_of l.next);
-      apart : AreApart now l.next.moved.items;
+      read : HaveRead now l.item.0 l.next.moved.items;
       rest : All (λ (x : Cond × Option Reading). IsCond old x.0.0) (into_iter_items l.reading-iterator);
       at : (c : List ℕ) → IsConfig old.arities c → length (readings_at old l.fn.readings.items c) ≤ 1
           → readings_at now (all_of l.next) c ++ map (moved (old.has l.item.0 c) symbol) (readings_at old (into_iter_items l.reading-iterator) c)

@@ -1,5 +1,5 @@
 use Rattle.std.proofs.Common.{◌≡◌, ◌||◌, ◌∙◌, ap, get_or, subst, sym}
-use Rattle.sc_if.proofs.PutLemmas.{Entry, apart-joined, put-joined, same-default}
+use Rattle.sc_if.proofs.PutLemmas.{Entry, HaveRead-joined, put-joined, same-default}
 use Rattle.sc_model.proofs.SetLemmas.{Denotes-self, IsConfig-Keeps}
 use Rattle.sc_model.specs.Sets.{IsCond}
 use Rattle.sc_if.proofs.readings.join.Goals as goal
@@ -18,8 +18,8 @@ returns-clause-put g c = λ other.
     put-joined keeps xs i e other c.args.cond c.requires.index c.requires.own (ap (λ (y : Entry). y.1) (c.index_mut.ensures.value ∙ same-default xs i c.index_mut.result.now other c.requires.index)) c.in_ok-either.ensures.own
     (λ y listed. told.at y (IsConfig-Keeps keeps listed) ∙ ap (λ (z : Entry). s.has z.0.0 y || s.has c.args.cond.0 y) read)
 
-pub returns-clause-apart : goal.returns-clause-apart
-returns-clause-apart g c =
+pub returns-clause-read : goal.returns-clause-read
+returns-clause-read g c = λ item in_item.
     let s = g.C.Conditions.sets c.args.conds.now in
     let keeps = c.apply_or.ensures.keeps in
     let xs = c.args.readings.now.items in
@@ -29,5 +29,6 @@ returns-clause-apart g c =
     let read : x ≡ get_or xs i x = c.index.ensures in
     let own = subst (λ (y : Entry). IsCond s y.0.0) (sym read) (c.requires.own i x c.requires.index) in
     let told = c.in_ok-either.ensures.meaning _ _ (Denotes-self s x.0.0 own) (Denotes-self s c.args.cond.0 c.requires.cond_own) in
-    apart-joined keeps xs i e x c.args.cond c.requires.index c.requires.own (ap (λ (y : Entry). y.1) (c.index_mut.ensures.value ∙ same-default xs i c.index_mut.result.now x c.requires.index)) c.in_ok-either.ensures.own
+    HaveRead-joined keeps xs i e x c.args.cond c.requires.index c.requires.own (ap (λ (y : Entry). y.1) (c.index_mut.ensures.value ∙ same-default xs i c.index_mut.result.now x c.requires.index)) c.in_ok-either.ensures.own
     (λ y listed. told.at y (IsConfig-Keeps keeps listed) ∙ ap (λ (z : Entry). s.has z.0.0 y || s.has c.args.cond.0 y) read)
+    item in_item

@@ -4,7 +4,7 @@ use Rattle.sc_base.specs.declared.id.Cond.{Cond}
 use Rattle.sc_base.specs.declared.token.Token.{Token}
 use Rattle.sc_base.specs.Seen.{IsHeld}
 use Rattle.sc_if.proofs.PutLemmas.{Entry}
-use Rattle.sc_if.proofs.ReadingLemmas.{many-lists, read-all, read-more}
+use Rattle.sc_if.proofs.ReadingLemmas.{many-parts, read-all, read-more}
 use Rattle.sc_if.specs.Readings.{AreReadings}
 use Rattle.sc_model.proofs.SetLemmas.{Keeps-refl, Keeps-trans}
 use Rattle.sc_model.specs.Sets.{IsCond}
@@ -68,10 +68,11 @@ returns-then-len-limit-clause-refused g c =
     let x : Cond × Token = (c.item.result.0, c.item.result.1.now) in
     let is = get_or_from_slice_get list i x x c.item.ensures in
     let Own : Cond × Token → Type 0 = λ y. IsCond s y.0.0 in
-    let own = subst Own is (c.requires.own i x (omega (arith, c.loop-index-test.true, c.len-index-end.ensures))) in
-    let moved = c.in_ok-next.ensures.moved in
-    let more = read-more list i x (omega (arith, c.loop-index-test.true, c.len-index-end.ensures)) (sym is) was.keeps own c.symbol_at-symbol.ensures was.read moved in
-    (refl, many-lists c.in_ok-next.next list (i + 1) (Keeps-trans was.keeps c.advance.ensures.keeps) c.has_options.ensures moved.apart more (c.args.limit + 1) (omega arith))
+    let own = subst Own is (c.requires.own i x (omega (arith, c.loop-index-test.true, c.len-index-end.ensures))) in (
+      refl,
+      many-parts list i x (omega (arith, c.loop-index-test.true, c.len-index-end.ensures)) (sym is) was.keeps own c.symbol_at-symbol.ensures was.read c.in_ok-next.ensures.moved c.advance.ensures.keeps
+          c.has_options.ensures c.item.ensures (c.args.limit + 1) (omega arith),
+    )
 
 pub returns-clause-read : goal.returns-clause-read
 returns-clause-read g c = read-all c.args.list.now c.loop-index.index (omega arith) c.loop-index.invariant.read

@@ -1,12 +1,12 @@
-use Rattle.std.proofs.Common.{◌&&◌, ◌++◌, ◌∷◌, [], ◌∙◌, List, Option, Some, option_map, ap, subst, sym}
-use Rattle.std.proofs.lemmas.Bool.{eqb-true, true≢false}
+use Rattle.std.proofs.Common.{◌≡◌, ℕ, ◌&&◌, true, ◌++◌, ◌∷◌, [], ◌∙◌, List, Option, Some, option_map, ap, subst, sym}
+use Rattle.std.proofs.lemmas.Bool.{and_parts, eqb-true, true≢false}
 use Rattle.std.proofs.lemmas.Result.{on_ok_weaker}
 use Rattle.c11_expressions.proofs.Reader.{State}
-use Rattle.sc_if.proofs.PutLemmas.{Entry, all-had, all-parts, apart-Keeps, moved-all, moved-no, none-had, on_ok_both, own-Keeps, parted-before, parted-one, put-before, put-front, put-pushed}
+use Rattle.sc_if.proofs.PutLemmas.{Entry, HaveRead-Keeps, IsWithin-Keeps, all-parts, moved-all, moved-no, none-had, on_ok_both, own-Keeps, parted-before, parted-one, put-before, put-front, put-pushed}
 use Rattle.sc_if.specs.Readings.{IsPut, state_in}
 use Rattle.sc_if.specs.Symbols.{seen_symbol}
 use Rattle.sc_model.proofs.SetLemmas.{Denotes-self, IsConfig-Keeps, IsConfig-kept, Keeps-refl, Keeps-trans}
-use Rattle.sc_model.specs.Sets.{IsCond, IsNever}
+use Rattle.sc_model.specs.Sets.{IsCond, IsConfig, IsNever}
 use Rattle.sc_if.proofs.readings.Readings.divide.Goals as goal
 
 pub returns-then-is_never-clause-parted : goal.returns-then-is_never-clause-parted
@@ -26,7 +26,7 @@ returns-then-is_never-clause-parted g c =
     let put = subst (λ (l : List Entry). IsPut mid mid c.args.cond.0 (Some (state_in c.args.before)) (left ++ gone) (l ++ gone)) (sym {A = List Entry} c.in_ok-push.ensures.items) pushed in
     parted-one
     (λ x listed has. moved-no (s.has c.args.item.0 x) symbol (Some (state_in c.args.before)) (none-had _ _ has (sym (both.at x (IsConfig-Keeps keeps listed)) ∙ never.none x (IsConfig-Keeps keeps listed))))
-    (λ were. apart-Keeps keeps gone own.1 were) (put-before keeps c.requires.own c.requires.cond_own put)
+    (λ were. HaveRead-Keeps keeps gone own.1 were) (put-before keeps c.requires.own c.requires.cond_own put)
 
 pub go_on-requires : goal.go_on-requires
 go_on-requires g c =
@@ -52,12 +52,13 @@ returns-then-eq-clause-parted g c =
     let st : Option State = Some (state_in c.args.before) in
     let both = c.in_ok-having.ensures.meaning _ _ (Denotes-self s c.args.cond.0 c.requires.cond_own) (Denotes-self s c.args.item.0 c.requires.item_own) in
     let equal = eqb-true c.in_ok-having.having.0 c.args.cond.0 (sym c.eq.ensures ∙ c.if-eq.true) in
-    on_ok_both c.go_on.result c.go_on.ensures.put c.go_on.ensures.apart
-    (λ put apart. parted-one
-    (λ x listed has. c.in_ok-after.ensures ∙ moved-all (s.has c.args.item.0 x) symbol st
-    (all-had (s.has c.args.cond.0 x) (s.has c.args.item.0 x) (mid.has c.in_ok-having.having.0 x) (both.at x (IsConfig-Keeps keeps listed))
-    (ap (λ k. mid.has k x) equal ∙ keeps.at c.args.cond.0 x c.requires.cond_own listed) has))
-    (λ were. apart (apart-Keeps keeps gone own.1 were)) (put-before keeps c.requires.own c.requires.cond_own put))
+    let had : (x : List ℕ) → IsConfig s.arities x → s.has c.args.cond.0 x ≡ true → s.has c.args.item.0 x ≡ true = λ x listed has.
+    let all = ap (λ k. mid.has k x) equal ∙ (keeps.at c.args.cond.0 x c.requires.cond_own listed ∙ has) in
+    (and_parts (s.has c.args.cond.0 x) (s.has c.args.item.0 x) (sym (both.at x (IsConfig-Keeps keeps listed)) ∙ all)).1 in
+    on_ok_both c.go_on.result c.go_on.ensures.put c.go_on.ensures.read
+    (λ put read. parted-one (λ x listed has. c.in_ok-after.ensures ∙ moved-all (s.has c.args.item.0 x) symbol st (had x listed has))
+    (λ were. read c.args.item.0 (IsWithin-Keeps keeps c.requires.cond_own (record { own = c.requires.item_own; at = had })) (HaveRead-Keeps keeps gone own.1 were))
+    (put-before keeps c.requires.own c.requires.cond_own put))
 
 pub halve-requires : goal.halve-requires
 halve-requires g c =
@@ -68,6 +69,7 @@ halve-requires g c =
     record {
       own = own-Keeps keeps (c.args.self.now.left.items ++ c.args.self.now.moved.items) c.requires.own;
       cond_own = keeps.own _ c.requires.cond_own;
+      item_own = keeps.own _ c.requires.item_own;
       having = record {
         own = both.own;
         at = λ x listed. let was = IsConfig-kept keeps listed in both.at x listed ∙ (λ j. sym (keeps.at _ x c.requires.cond_own was) j && sym (keeps.at _ x c.requires.item_own was) j);

@@ -1,5 +1,6 @@
+use Rattle.std.proofs.Common.{◌∙◌, sym}
 use Rattle.std.proofs.lemmas.Result.{on_ok_weaker}
-use Rattle.sc_if.proofs.PutLemmas.{Entry, all-parts, apart-Keeps, put-back, put-front}
+use Rattle.sc_if.proofs.PutLemmas.{Entry, HaveRead-Keeps, all-parts, put-back, put-front, some-seen}
 use Rattle.sc_model.specs.Sets.{IsCond}
 use Rattle.sc_if.proofs.readings.Readings.go_on.Goals as goal
 
@@ -21,7 +22,7 @@ returns-then-is_some g c =
     let own = all-parts Own left moved c.requires.own in
     record {
       put = on_ok_weaker c.put.result (put-back c.put.ensures.keeps moved c.put.new.readings.items left own.0) c.put.ensures.put;
-      apart = on_ok_weaker c.put.result (λ f. f c.requires.some) c.put.ensures.apart;
+      read = on_ok_weaker c.put.result (λ f item within. f item within c.requires.some (some-seen c.args.reading (sym c.is_some.ensures ∙ c.if-is_some.true))) c.put.ensures.read;
       keeps = c.put.ensures.keeps;
     }
 
@@ -33,6 +34,6 @@ returns-else-is_some g c =
     let own = all-parts Own left moved c.requires.own in
     record {
       put = on_ok_weaker c.put-else-is_some.result (put-front c.put-else-is_some.ensures.keeps left c.put-else-is_some.new.readings.items moved own.1) c.put-else-is_some.ensures.put;
-      apart = on_ok_weaker c.put-else-is_some.result (λ p were. apart-Keeps c.put-else-is_some.ensures.keeps moved own.1 were) c.put-else-is_some.ensures.put;
+      read = on_ok_weaker c.put-else-is_some.result (λ p item within were. HaveRead-Keeps c.put-else-is_some.ensures.keeps moved own.1 were) c.put-else-is_some.ensures.put;
       keeps = c.put-else-is_some.ensures.keeps;
     }

@@ -1,6 +1,7 @@
 use Rattle.std.proofs.Common.{◌++◌, ◌∷◌, [], ◌∙◌, All, List, Some, option_map, ap, subst, sym}
 use Rattle.std.proofs.lemmas.List.Elements.{All-append, All-push}
-use Rattle.sc_if.proofs.PutLemmas.{Entry, all-parts, and-not, apart-Keeps, on_ok_both, own-Keeps, parted-two, put-front, put-pushed}
+use Rattle.std.proofs.lemmas.Bool.{and_parts}
+use Rattle.sc_if.proofs.PutLemmas.{Entry, HaveRead-Keeps, IsWithin-Keeps, all-parts, and-not, on_ok_both, own-Keeps, parted-two, put-front, put-pushed}
 use Rattle.sc_if.specs.Readings.{IsPut, all_of, read_behind, state_in}
 use Rattle.sc_if.specs.Symbols.{seen_symbol}
 use Rattle.sc_model.proofs.SetLemmas.{Denotes-Keeps, Denotes-self, IsConfig-Keeps, Keeps-refl, Keeps-trans}
@@ -45,12 +46,14 @@ returns-clause-parted g c =
     let first = subst (λ (l : List Entry). IsPut mid mid less.0 (Some st) (left ++ gone) (l ++ gone)) (sym {A = List Entry} c.in_ok-push.ensures.items)
     (put-front (Keeps-refl mid) left (left ++ (less, Some c.args.before) ∷ []) gone (own-Keeps keeps gone own.1)
     (put-pushed mid left less (Some c.args.before) (own-Keeps keeps left own.0) c.in_ok-lacking.ensures.own)) in
-    on_ok_both c.go_on.result c.go_on.ensures.put c.go_on.ensures.apart
-    (λ put apart. parted-two keeps
+    on_ok_both c.go_on.result c.go_on.ensures.put c.go_on.ensures.read
+    (λ put read. parted-two keeps
     (λ x listed. lacking.at x (IsConfig-Keeps keeps listed) ∙ and-not (s.has c.args.cond.0 x) (s.has c.args.item.0 x))
     (λ x listed. (Denotes-Keeps keeps having).at x (IsConfig-Keeps keeps listed))
     c.requires.own first (subst (λ r. IsPut mid new c.args.having.0 r (c.push.new.self.items ++ gone) (all_of c.go_on.new.self)) after put)
-    (λ were. apart (apart-Keeps keeps gone own.1 were)))
+    (λ were. read c.args.item.0
+    (IsWithin-Keeps keeps having.own (record { own = c.requires.item_own; at = λ x listed has. (and_parts (s.has c.args.cond.0 x) (s.has c.args.item.0 x) (sym (having.at x listed) ∙ has)).1 }))
+    (HaveRead-Keeps keeps gone own.1 were)))
 
 pub returns-clause-keeps : goal.returns-clause-keeps
 returns-clause-keeps g c = Keeps-trans (Keeps-trans c.negate.ensures.keeps c.apply_and.ensures.keeps) c.go_on.ensures.keeps

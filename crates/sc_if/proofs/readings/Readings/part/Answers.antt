@@ -1,6 +1,6 @@
 use Rattle.std.proofs.Common.{subst, sym, option_map}
 use Rattle.std.proofs.lemmas.Result.{on_ok_weaker}
-use Rattle.sc_if.proofs.PutLemmas.{Entry, all-parts, apart-Keeps, moved-none, parted-one, put-front}
+use Rattle.sc_if.proofs.PutLemmas.{Entry, all-parts, HaveRead-Keeps, moved-none, parted-one, put-front}
 use Rattle.sc_if.specs.Readings.{ArePartedBy, seen_reading}
 use Rattle.sc_if.specs.Symbols.{seen_symbol}
 use Rattle.sc_model.specs.Sets.{IsCond}
@@ -33,6 +33,6 @@ returns-in-None g c =
     record {
       parted = on_ok_weaker c.put.result
           (λ p. subst (λ r. ArePartedBy s now c.args.item.0 symbol c.args.cond.0 (seen_reading r) c.args.self.now (record c.args.self.now { left = c.put.new.readings })) (sym c.in-None.is)
-          (parted-one (λ x listed has. moved-none (s.has c.args.item.0 x) symbol) (λ were. apart-Keeps c.put.ensures.keeps moved own.1 were) (put-front c.put.ensures.keeps left c.put.new.readings.items moved own.1 p))) c.put.ensures.put;
+          (parted-one (λ x listed has. moved-none (s.has c.args.item.0 x) symbol) (λ were. HaveRead-Keeps c.put.ensures.keeps moved own.1 were) (put-front c.put.ensures.keeps left c.put.new.readings.items moved own.1 p))) c.put.ensures.put;
       keeps = c.put.ensures.keeps;
     }

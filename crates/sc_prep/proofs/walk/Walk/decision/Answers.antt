@@ -24,7 +24,7 @@ use Rattle.sc_prep.specs.Footprints.{Comes, StopsAtPlace, any_machine}
 use Rattle.sc_prep.specs.Printable.{IsPlaced}
 use Rattle.sc_prep.specs.Simulates.{SimulatesOneOf}
 use Rattle.sc_prep.proofs.ApartLemmas.{apart-drop}
-use Rattle.sc_prep.proofs.DirectiveStops.{name-stops, text-stops}
+use Rattle.sc_prep.proofs.DirectiveStops.{name-stops, part-stops}
 use Rattle.sc_prep.proofs.ExpressionMoves.{decides-by, decides-none}
 use Rattle.sc_prep.proofs.ExpressionSteps.{conditional-long, hash-line}
 use Rattle.sc_prep.proofs.WalkMoves.{owns-kept}
@@ -193,15 +193,13 @@ returns-clause-footprints g c = λ apart.
     let names = c.args.names.now in
     let files = c.args.files.now in
     let line = c.args.line.now in
-    let k1 = c.in_ok-live.ensures.keeps in
     let a = c.in_ok-replaced.ensures in
     let b = c.in_ok-expanded.ensures in
     let s = g.C.Conditions.sets c.apply_and.new.self in
-    let s2 = g.C.Conditions.sets c.expanded.new.conds in
     let live = c.in_ok-live.ensures.meaning (old.has c.args.among.0) (old.has w.prepared.live.0) (Denotes-self old c.args.among.0 c.requires.among_own) (Denotes-self old w.prepared.live.0 c.requires.owns.prepared.live) in
     IfErr-weaker c.evaluated.result _ _
-    (text-stops files names k1 w c.requires.owns c.requires.table c.args.among c.in_ok-live.live live (seen_line names files line) (seen names files (get_or line 0 no_token)) c.requires.line a.keeps c.in_ok-replaced.replaced
+    (part-stops files names c.in_ok-live.ensures.keeps w c.requires.owns c.requires.table c.args.among c.in_ok-live.live live (seen_line names files line) (seen names files (get_or line 0 no_token)) c.requires.line a.keeps
+    c.in_ok-replaced.replaced
     (replaces-behind files names line s (g.C.Conditions.sets c.replaced.new.conds) w c.replaced.new.self c.behind_name-behind.result.now c.behind_name-behind.ensures c.in_ok-live.live c.in_ok-replaced.replaced (a.replaces files c.requires.walk))
-    (hash-line names files line no_token (long names files line c.requires.line)) b.keeps c.in_ok-expanded.expanded (λ config. map (seen c.expanded.new.names files) (items_at s2 c.in_ok-expanded.expanded config))
-    a.own b.own (a.different files (subst StandApart (sym c.behind_name-behind.ensures) (apart-drop 2 line apart))) b.expands b.answers b.alike c.args.limit)
-    c.evaluated.ensures.lists
+    c.args.limit b.keeps c.in_ok-expanded.expanded b.expands)
+    c.evaluated.ensures.parts

@@ -1,4 +1,4 @@
-use Rattle.std.proofs.Common.{◌≡◌, List, rules, sym, subst}
+use Rattle.std.proofs.Common.{◌≡◌, ◌∙◌, ℕ, Bool, List, rules, sym, subst}
 use Rattle.std.proofs.lemmas.List.Elements.{All-weaker}
 use Rattle.std.specs.Prelude.{◌&&◌, is_none, map, ◌<◌}
 use Rattle.sc_base.proofs.Growth.{Extends-refl}
@@ -6,16 +6,16 @@ use Rattle.sc_base.specs.declared.fault.Fault.{Fault}
 use Rattle.sc_base.specs.Seen.{seen, seen_place}
 use Rattle.sc_expand.specs.Stops.{StopsBy}
 use Rattle.sc_guarded.specs.Items.{items_at}
-use Rattle.sc_hoist.specs.Places.{places_at}
-use Rattle.sc_model.proofs.SetLemmas.{Keeps-trans, Denotes-self}
+use Rattle.sc_model.proofs.SetLemmas.{IsConfig-Keeps, Keeps-trans, Denotes-self}
 use Rattle.sc_prep.specs.Closes.{RefusesEach}
 use Rattle.sc_prep.specs.Expressions.{EvaluatesAt}
-use Rattle.sc_prep.proofs.ExpressionMoves.{evaluates-at, stops-by}
+use Rattle.sc_prep.proofs.ExpressionMoves.{evaluates-at}
 use Rattle.sc_prep.proofs.StageRefusals.{refused-as-told, refused-each-held, refused-each-list, refused-each-gathered}
 use Rattle.sc_prep.proofs.WalkMoves.{owns-kept}
 use Rattle.sc_table.proofs.Growth.{IsTable-Keeps, macros_at-Keeps}
-use Rattle.sc_prep.specs.Footprints.{StopsByLists}
-use Rattle.sc_prep.proofs.Refusing.{stops-by-lists}
+use Rattle.sc_if.proofs.LineAnswers.{refuses-before}
+use Rattle.sc_if.specs.Parts.{RefusesAt}
+use Rattle.sc_prep.proofs.PartFootprints.{parts-stop}
 use Rattle.sc_prep.proofs.walk.Walk.evaluated.Goals as goal
 
 pub decide-requires-clause-own : goal.decide-requires-clause-own
@@ -24,8 +24,10 @@ decide-requires-clause-own g c = λ k d h. c.in_ok-live.ensures.keeps.own _ (c.r
 pub returns-in_err-decided-clause-stops : goal.returns-in_err-decided-clause-stops
 returns-in_err-decided-clause-stops g c =
     let s = g.C.Conditions.sets c.apply_and.new.self in
-    let kept : StopsBy (g.C.Conditions.sets c.args.conds.now).arities c.args.limit c.in_err-decided.field-0.0 =
-    stops-by s _ c.in_ok-live.live.0 (λ config. places_at s c.args.list.now config) c.args.limit c.in_err-decided.field-0.0 c.in_ok-live.ensures.keeps.arities c.in_err-decided.ensures.refused in
+    let limit = c.args.limit in
+    let stop = c.in_err-decided.field-0.0 in
+    let kept : StopsBy (g.C.Conditions.sets c.args.conds.now).arities limit stop =
+    subst (λ arities. StopsBy arities limit stop) c.in_ok-live.ensures.keeps.arities (parts-stop s c.args.names.now c.args.list.now (s.has c.in_ok-live.live.0) limit stop c.in_err-decided.ensures.refused) in
     search rules
 
 pub returns-clause-evaluates : goal.returns-clause-evaluates
@@ -75,11 +77,15 @@ returns-in_err-refuse_each-clause-keeps g c = Keeps-trans c.in_ok-live.ensures.k
 pub returns-clause-keeps : goal.returns-clause-keeps
 returns-clause-keeps g c = Keeps-trans c.in_ok-live.ensures.keeps (Keeps-trans c.in_ok-decided.ensures.keeps c.in_ok-refuse_each.ensures.keeps)
 
-pub returns-in_err-decided-clause-lists : goal.returns-in_err-decided-clause-lists
-returns-in_err-decided-clause-lists g c =
+pub returns-in_err-decided-clause-parts : goal.returns-in_err-decided-clause-parts
+returns-in_err-decided-clause-parts g c =
     let old = g.C.Conditions.sets c.args.conds.now in
+    let s = g.C.Conditions.sets c.apply_and.new.self in
     let w = c.args.self.now in
+    let keeps = c.in_ok-live.ensures.keeps in
     let live = c.in_ok-live.ensures.meaning (old.has c.args.among.0) (old.has w.prepared.live.0) (Denotes-self old c.args.among.0 c.requires.among_own) (Denotes-self old w.prepared.live.0 c.requires.owns.prepared.live) in
-    let kept : StopsByLists old.arities (λ config. old.has c.args.among.0 config && old.has w.prepared.live.0 config) (λ config. places_at old c.args.list.now config) c.args.limit c.in_err-decided.field-0.0 =
-    stops-by-lists c.in_ok-live.ensures.keeps live c.args.list.now c.requires.list_own c.args.limit c.in_err-decided.field-0.0 c.in_err-decided.ensures.refused in
+    let test : List ℕ → Bool = λ config. old.has c.args.among.0 config && old.has w.prepared.live.0 config in
+    let kept : RefusesAt old c.args.names.now c.args.list.now test c.args.limit c.in_err-decided.field-0.0 =
+    refuses-before c.args.names.now c.args.list.now test (s.has c.in_ok-live.live.0) c.args.limit keeps c.requires.list_own (λ config listed has. sym (live.at config (IsConfig-Keeps keeps listed)) ∙ has)
+    c.in_err-decided.field-0.0 c.in_err-decided.ensures.refused in
     search rules
