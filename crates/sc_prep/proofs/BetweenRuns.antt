@@ -1,5 +1,5 @@
 -- Where the run of a machine was closed.
-use Rattle.std.proofs.Common.{◌≡◌, ◌&&◌, Bool, true, false, List, [], Option, Some, None, Result, Ok, Err, if◌then◌else◌, refl, sym, ap, ◌∙◌, subst}
+use Rattle.std.proofs.Common.{◌≡◌, ◌&&◌, Bool, true, false, List, [], Option, Some, None, Result, Ok, Err, if◌then◌else◌, refl, ap, ◌∙◌}
 use Rattle.std.specs.Prelude.{IfOk, ℕ, is_none}
 use Rattle.c11_directives.specs.declared.directive.Directive.{Directive}
 use Rattle.c11_directives.specs.Lines.{Line}
@@ -8,7 +8,7 @@ use Rattle.c11_macros.specs.Results.{result_map}
 use Rattle.sc_model.specs.Fault.{Fault}
 use Rattle.sc_model.specs.Token.{Place, Token}
 use Rattle.sc_prep.specs.Machine.{Machine, acts, arriving, closing_run}
-use Rattle.sc_prep.specs.Simulates.{Closed, IsBetweenRuns}
+use Rattle.sc_prep.specs.Simulates.{IsBetweenRuns}
 
 -- ---- the run of a state
 

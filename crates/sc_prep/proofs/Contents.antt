@@ -1,5 +1,5 @@
 -- What was read of files stays while the tables of names and of texts grow.
-use Rattle.std.proofs.Common.{◌≡◌, ℕ, zero, suc, ◌++◌, ◌<◌, ◌⊎◌, inl, inr, ◌||◌, get_or, Bool, true, false, List, [], ◌∷◌, All, length, map, slice_get, Option, Some, None, Err, refl, sym, ap, ◌∙◌, subst, arith}
+use Rattle.std.proofs.Common.{◌≡◌, ℕ, zero, suc, ◌<◌, ◌⊎◌, inl, inr, ◌||◌, get_or, Bool, true, false, List, [], ◌∷◌, All, length, map, slice_get, Option, Some, None, Err, refl, sym, ap, ◌∙◌, subst, arith}
 use Rattle.std.proofs.lemmas.Bool.{cases_order}
 use Rattle.std.proofs.lemmas.List.Elements.{All-drop, All-head, All-tail, All-take, All-weaker}
 use Rattle.std.proofs.lemmas.Option.{none-some, same_Some, slice_get_within}
@@ -28,7 +28,6 @@ use Rattle.sc_prep.specs.declared.content.Content.{Content}
 use Rattle.sc_prep.specs.declared.content.Content.TheVariants as content
 use Rattle.sc_prep.specs.declared.content.Contents.{Contents}
 use Rattle.sc_prep.specs.declared.content.Reading.{Reading}
-use Rattle.sc_prep.specs.declared.content.Reading.TheVariants as reading
 use Rattle.sc_prep.specs.Contents.{Agrees, AreContents, IsContent, IsHeldContent, IsKept, IsReading, KeepsContents, ReadsSame, absent, content_at, known, nested, refused}
 use Rattle.sc_prep.specs.Printable.{IsPlaced, IsPlainOrNewline}
 

@@ -3,7 +3,7 @@ use Rattle.std.proofs.Common.{◌≡◌, ◌<◌, ◌&&◌, true, false, List, [
 use Rattle.std.specs.Prelude.{length, is_none}
 use Rattle.sc_prep.specs.Machine.{Machine, acts, closing_run, RunExpands, Runs, start}
 use Rattle.sc_prep.specs.Simulates.{Covers}
-use Rattle.sc_prep.proofs.Machine.{HaveHashes, after, given, inert, inert_closing, inert_run, follows, lines-hashes}
+use Rattle.sc_prep.proofs.Machine.{HaveHashes, after, given, inert, inert_closing, follows, lines-hashes}
 use Rattle.c11_tokens.specs.Lex.{Lexed, is_newline}
 use Rattle.c11_directives.specs.Lines.{Line, Group, IsTree, nested, split_lines}
 use Rattle.sc_model.specs.Outside.{largest_file}

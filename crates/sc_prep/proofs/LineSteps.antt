@@ -1,10 +1,9 @@
 -- The line of one step: its directive, and its tokens as the table of texts grows.
-use Rattle.std.proofs.Common.{◌≡◌, ℕ, ◌-◌, take, drop, ◌<◌, ◌≤◌, Bool, true, List, [], ◌∷◌, length, map, Option, None, Result, get_or, refl, sym, ap, ◌∙◌, subst, arith}
+use Rattle.std.proofs.Common.{◌≡◌, ℕ, ◌-◌, take, drop, ◌<◌, ◌≤◌, Bool, List, [], ◌∷◌, length, map, Option, None, Result, get_or, refl, sym, ap, ◌∙◌, arith}
 use Rattle.std.proofs.lemmas.List.{length-map, take_all}
-use Rattle.std.proofs.lemmas.List.Elements.{All-nil, All-head, All-tail, All-take, All-drop}
+use Rattle.std.proofs.lemmas.List.Elements.{All-head, All-tail, All-take, All-drop}
 use Rattle.std.specs.Prelude.{All, unwrap_or}
 use Rattle.sc_prep.specs.Machine.{Machine, plain_by, step_by, step}
-use Rattle.sc_prep.specs.declared.walk.Walk.{Walk}
 use Rattle.sc_lines.specs.declared.line.Line as declared
 use Rattle.sc_lines.specs.Branches.{HasBranches}
 use Rattle.sc_prep.specs.Passes.{StandFor}
@@ -13,9 +12,6 @@ use Rattle.sc_model.specs.Fault.{Fault}
 use Rattle.sc_model.specs.Growth.{Extends}
 use Rattle.sc_base.specs.declared.token.Token.{Token}
 use Rattle.sc_base.specs.Seen.{IsHeld, seen, seen_place}
-use Rattle.sc_prep.specs.Printable.{IsHeldWalk, IsPlaced}
-use Rattle.sc_base.specs.declared.fault.Fault as base
-use Rattle.sc_base.specs.declared.id.Cond.{Cond}
 use Rattle.sc_lines.specs.Split.{AreLines, directive_at, tokens_of}
 use Rattle.sc_lines.proofs.SeenLines.{conditionals-seen, directive-files, directive-own, lines-seen}
 use Rattle.c11_directives.specs.declared.directive.Conditional.{Conditional}

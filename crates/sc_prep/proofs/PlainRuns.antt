@@ -35,8 +35,7 @@ use Rattle.sc_prep.specs.Machine.{Machine, acts, closing_run, opened_as, opened_
 use Rattle.sc_prep.specs.Machine as machine
 use Rattle.sc_prep.specs.declared.entry.Entry.{Entry}
 use Rattle.sc_prep.specs.Printable.{ArePlainPaths, IsPlaced, IsPlainOrNewline, IsPlainState, IsPlainToken, ClosesPlain}
-use Rattle.sc_prep.specs.Simulates.{Covers, IsAtTop, IsIn, Leads, PlainEach, Simulates}
-use Rattle.sc_prep.proofs.InFile.{top-is-in}
+use Rattle.sc_prep.specs.Simulates.{Covers, IsIn, Leads, PlainEach, Simulates}
 use Rattle.sc_prep.proofs.Plain.{expands-plain}
 use Rattle.sc_prep.proofs.PlainWalks.{IsPlainAt, PlainChange, every-append, lines-plain, read-plain, undefined-plain, carries-plain}
 use Rattle.sc_table.specs.Table.{macros_at}

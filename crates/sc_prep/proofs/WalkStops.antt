@@ -1,5 +1,5 @@
 -- What stops the walk of a file: footprints that its machines come to, where a later call stops.
-use Rattle.std.proofs.Common.{◌≡◌, ℕ, zero, suc, ◌+◌, ◌<◌, ◌≤◌, Bool, true, false, List, [], ◌∷◌, ◌++◌, All, drop, get_or, length, map, take, Option, Some, Result, Ok, Err, append_assoc, drop-cons, refl, sym, ap, ◌∙◌, subst, arith, if◌then◌else◌}
+use Rattle.std.proofs.Common.{◌≡◌, ℕ, zero, suc, ◌+◌, ◌<◌, ◌≤◌, Bool, true, false, List, [], ◌∷◌, ◌++◌, drop, get_or, length, map, take, Option, Some, Result, append_assoc, drop-cons, refl, sym, ap, ◌∙◌, subst, arith, if◌then◌else◌}
 use Rattle.std.specs.List.{flat_map}
 use Rattle.std.specs.Prelude.{IfErr}
 use Rattle.c11_directives.specs.declared.directive.Directive.TheVariants as directive
@@ -10,7 +10,6 @@ use Rattle.c11_directives.specs.Reaches.{at_end}
 use Rattle.c11_tokens.specs.Lex.{is_newline}
 use Rattle.sc_base.specs.declared.id.FileId.{FileId}
 use Rattle.sc_base.specs.declared.stop.Stop.{Stop}
-use Rattle.sc_base.specs.declared.stop.Stop.TheVariants.{BranchesFull, ReadFault, OutOfMemory}
 use Rattle.sc_base.specs.declared.token.Token as base
 use Rattle.sc_base.specs.Seen.{text_at}
 use Rattle.sc_lines.proofs.SeenLines.{line-seen}
@@ -18,9 +17,9 @@ use Rattle.sc_lines.specs.declared.line.Line as declared
 use Rattle.sc_lines.specs.Nests.{seen_line, seen_lines}
 use Rattle.sc_lines.specs.Split.{token_lines, tokens_of}
 use Rattle.sc_model.specs.Outside.{Files}
-use Rattle.sc_model.specs.Sets.{Sets, IsConfig, Keeps}
+use Rattle.sc_model.specs.Sets.{Sets}
 use Rattle.sc_model.specs.Space.{Space}
-use Rattle.sc_model.specs.Token.{Place, Token}
+use Rattle.sc_model.specs.Token.{Token}
 use Rattle.sc_prep.proofs.ApartLemmas.{apart-left, apart-without}
 use Rattle.sc_prep.proofs.FileStops.{comes-at, comes-included, comes-then}
 use Rattle.sc_prep.proofs.Going.{Gone, Staged, line-later, staged-between}

@@ -8,7 +8,7 @@ use Rattle.sc_model.proofs.SetLemmas.{Denotes-self, Keeps-trans}
 use Rattle.sc_prep.proofs.Contents.{agrees-back}
 use Rattle.sc_prep.proofs.EnterLeads.{begun-plain, held-lines, held-refusal, kept-lines, kept-refusal, leads-inside, leads-nowhere, leads-refused, left-plain, refused-list}
 use Rattle.sc_prep.proofs.LeadMoves.{content-named, contents-stay, leads-one, limit-stops, ready-moved, ready-begun, ready-kept, ready-left, ready-refused, stops-later}
-use Rattle.sc_prep.proofs.Going.{entry-within, line-later}
+use Rattle.sc_prep.proofs.Going.{entry-within}
 use Rattle.sc_prep.proofs.IncludeLeads.{gone-closed, gone-entered, gone-found, gone-taken, parts-later}
 use Rattle.sc_prep.proofs.ApartLemmas.{gathers-same, gathers-then}
 use Rattle.sc_prep.proofs.NamedFiles.{held-later}
@@ -37,7 +37,6 @@ use Rattle.sc_prep.specs.declared.entering.Around.{Around}
 use Rattle.sc_prep.specs.declared.including.Part.{Part}
 use Rattle.c11_directives.specs.declared.directive.Directive.TheVariants as kind
 use Rattle.std.proofs.lemmas.List.Elements.{All-get_or, All-weaker}
-use Rattle.c11_directives.specs.Lines as seen
 use Rattle.sc_prep.specs.Apart.{tokens_in}
 use Rattle.sc_prep.specs.declared.walk.Walk.{Walk}
 use Rattle.sc_prep.proofs.ApartLemmas.{apart-left, apart-right, lines-apart}

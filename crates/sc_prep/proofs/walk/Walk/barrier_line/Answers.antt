@@ -9,8 +9,6 @@ use Rattle.sc_prep.specs.Printable.{AllPass, any_token, is_plain}
 use Rattle.sc_prep.proofs.CloseMoves.{placed-grown, plain-grown}
 use Rattle.sc_prep.proofs.LineSteps.{directive-long}
 use Rattle.sc_prep.proofs.TakeLine.{barrier-unconditional, memory-stops, stays-plain, takes-carried, takes-closed, unsaid}
-use Rattle.sc_lines.proofs.SeenLines.{directive-files}
-use Rattle.sc_lines.specs.Nests.{seen_line}
 use Rattle.sc_prep.specs.Apart.{tokens_in}
 use Rattle.sc_prep.specs.Footprints.{any_machine}
 use Rattle.sc_prep.proofs.ApartLemmas.{apart-left, apart-right, gathers-same, gathers-then}
