@@ -1,5 +1,5 @@
 -- Readings by condition: what adding some, joining some and parting some leaves.
-use Rattle.std.proofs.Common.{◌≡◌, ℕ, zero, suc, ◌<◌, ◌&&◌, ◌||◌, not, Bool, true, false, List, [], ◌∷◌, ◌++◌, All, length, map, set, get_or, Option, Some, None, Result, Ok, Err, OnOk, refl, sym, ap, ◌∙◌, arith, inl, inr, append-nil, append_assoc, if◌then◌else◌}
+use Rattle.std.proofs.Common.{◌≡◌, ℕ, zero, suc, ◌<◌, ◌&&◌, ◌||◌, not, Bool, true, false, List, [], ◌∷◌, ◌++◌, All, length, map, set, get_or, Option, Some, None, Result, Ok, Err, OnOk, refl, sym, ap, ◌∙◌, arith, inl, inr, append-nil, if◌then◌else◌}
 use Rattle.std.proofs.lemmas.Bool.{and_parts, cases_eq}
 use Rattle.std.proofs.lemmas.List.{get_or-set_other, get_or-set_same, length-set, map-append}
 use Rattle.std.proofs.lemmas.List.Elements.{All-append, All-cons, All-head, All-nil, All-push, All-set, All-tail}
@@ -76,10 +76,14 @@ module _ {old new : Sets} (keeps : Keeps old new) where
 
 -- ---- one reading more
 
+put-last : (h : Bool) (R : List (Option State)) (x : Option State) → (h ≡ true → R ≡ []) → R ++ (if h then x ∷ [] else []) ≡ (if h then x ∷ [] else R)
+put-last true R x none = ap (λ l. l ++ x ∷ []) (none refl)
+put-last false R x none = append-nil R
+
 pub put-pushed : (s : Sets) (xs : List Entry) (cond : Cond) (r : Option Reading) → All (λ (x : Entry). IsCond s x.0.0) xs → IsCond s cond.0 → IsPut s s cond.0 (seen_reading r) xs (xs ++ (cond, r) ∷ [])
 put-pushed s xs cond r own cond_own = record {
   own = All-push (λ (x : Entry). IsCond s x.0.0) xs (cond, r) own cond_own;
-  at = λ c listed none. readings_at-append s c xs ((cond, r) ∷ []) ∙ ap (λ l. readings_at s xs c ++ l) (map-one seen_reading (s.has cond.0 c) r);
+  at = λ c listed none. readings_at-append s c xs ((cond, r) ∷ []) ∙ (ap (λ l. readings_at s xs c ++ l) (map-one seen_reading (s.has cond.0 c) r) ∙ put-last (s.has cond.0 c) (readings_at s xs c) (seen_reading r) none);
   alike = λ a b la lb same were. All-push (λ (x : Entry). IsAlike s a b x.0) xs (cond, r) were same;
 }
 
@@ -94,33 +98,33 @@ HaveRead-pushed s item xs cond r within some going other were = record {
 
 -- ---- configurations joined to those at an index
 
-join-here : (h m : Bool) (R : List (Option State)) (x : Option State) → (m ≡ true → (if h then x ∷ R else R) ≡ []) → (if h || m then x ∷ R else R) ≡ (if h then x ∷ R else R) ++ (if m then x ∷ [] else [])
+join-here : (h m : Bool) (R : List (Option State)) (x : Option State) → (m ≡ true → (if h then x ∷ R else R) ≡ []) → (if h || m then x ∷ R else R) ≡ (if m then x ∷ [] else (if h then x ∷ R else R))
 join-here true true R x none = absurd (let e = none refl in cc)
-join-here false true R x none = let e : R ≡ [] = none refl in ap (λ l. x ∷ l) e ∙ ap (λ l. l ++ x ∷ []) (sym e)
-join-here true false R x none = sym (append-nil (x ∷ R))
-join-here false false R x none = sym (append-nil R)
+join-here false true R x none = ap (λ l. x ∷ l) (none refl)
+join-here true false R x none = refl
+join-here false false R x none = refl
 
-join-later : (h m : Bool) (R S : List (Option State)) (x y : Option State) → (m ≡ true → (if h then y ∷ R else R) ≡ []) → ((m ≡ true → R ≡ []) → S ≡ R ++ (if m then x ∷ [] else []))
-    → (if h then y ∷ S else S) ≡ (if h then y ∷ R else R) ++ (if m then x ∷ [] else [])
+join-later : (h m : Bool) (R S : List (Option State)) (x y : Option State) → (m ≡ true → (if h then y ∷ R else R) ≡ []) → ((m ≡ true → R ≡ []) → S ≡ (if m then x ∷ [] else R))
+    → (if h then y ∷ S else S) ≡ (if m then x ∷ [] else (if h then y ∷ R else R))
 join-later true true R S x y none rest = absurd (let e = none refl in cc)
 join-later true false R S x y none rest = ap (λ l. y ∷ l) (rest (λ e. absurd (cc)))
 join-later false m R S x y none rest = rest none
 
 readings_at-joined : (s : Sets) (c : List ℕ) (xs : List Entry) (i : ℕ) (e x : Entry) (m : Bool) → i < length xs → e.1 ≡ (get_or xs i x).1 → s.has e.0.0 c ≡ (s.has (get_or xs i x).0.0 c || m)
-    → (m ≡ true → readings_at s xs c ≡ []) → readings_at s (set xs i e) c ≡ readings_at s xs c ++ (if m then seen_reading e.1 ∷ [] else [])
+    → (m ≡ true → readings_at s xs c ≡ []) → readings_at s (set xs i e) c ≡ (if m then seen_reading e.1 ∷ [] else readings_at s xs c)
 readings_at-joined s c [] i e x m within same joined none = absurd (omega arith)
 readings_at-joined s c (y ∷ ys) zero e x m within same joined none =
     let R = readings_at s ys c in
     let v = seen_reading e.1 in
     let first : readings_at s (y ∷ ys) c ≡ (if s.has y.0.0 c then v ∷ R else R) = readings_at-cons s c y ys ∙ ap (λ r. if s.has y.0.0 c then seen_reading r ∷ R else R) (sym same) in
     readings_at-cons s c e ys ∙ (ap (λ b. if b then v ∷ R else R) joined
-    ∙ (join-here (s.has y.0.0 c) m R v (λ t. sym first ∙ none t) ∙ ap (λ l. l ++ (if m then v ∷ [] else [])) (sym first)))
+    ∙ (join-here (s.has y.0.0 c) m R v (λ t. sym first ∙ none t) ∙ ap (λ l. if m then v ∷ [] else l) (sym first)))
 readings_at-joined s c (y ∷ ys) (suc i) e x m within same joined none =
     let R = readings_at s ys c in
     let first = readings_at-cons s c y ys in
     readings_at-cons s c y (set ys i e) ∙ (join-later (s.has y.0.0 c) m R (readings_at s (set ys i e) c) (seen_reading e.1) (seen_reading y.1) (λ t. sym first ∙ none t)
     (λ empty. readings_at-joined s c ys i e x m (omega arith) same joined empty)
-    ∙ ap (λ l. l ++ (if m then seen_reading e.1 ∷ [] else [])) (sym first))
+    ∙ ap (λ l. if m then seen_reading e.1 ∷ [] else l) (sym first))
 
 -- the union of the conditions, at a configuration
 abbrev IsEither : Sets → Sets → (a b e : ℕ) → Type 0
@@ -135,7 +139,7 @@ module _ {old new : Sets} (keeps : Keeps old new) (xs : List Entry) (i : ℕ) (e
         let was = readings_at-Keeps keeps xs c own listed in
         let here : new.has e.0.0 c ≡ (new.has (get_or xs i x).0.0 c || old.has cond.0 c) = either c listed ∙ ap (λ b. b || old.has cond.0 c) (sym (keeps.at _ c (own i x within) listed)) in
         readings_at-joined new c xs i e x (old.has cond.0 c) within same here (λ t. was ∙ none t)
-        ∙ (ap (λ l. l ++ (if old.has cond.0 c then seen_reading e.1 ∷ [] else [])) was ∙ ap (λ r. readings_at old xs c ++ (if old.has cond.0 c then seen_reading r ∷ [] else [])) same);
+        ∙ (λ j. if old.has cond.0 c then seen_reading (same j) ∷ [] else was j);
     alike = λ a b la lb equal were.
         All-set (λ (x : Entry). IsAlike new a b x.0) xs i e
         (either a la ∙ (ap (λ t. t || old.has cond.0 a) (were i x within) ∙ (ap (λ t. old.has (get_or xs i x).0.0 b || t) equal ∙ sym (either b lb))))
@@ -178,47 +182,42 @@ module _ {old new : Sets} (keeps : Keeps old new) (xs : List Entry) (i : ℕ) (e
 
 -- ---- one of two lists
 
-swap : (h : Bool) (w m : List (Option State)) (x : Option State) → (h ≡ true → w ++ m ≡ []) → (w ++ (if h then x ∷ [] else [])) ++ m ≡ (w ++ m) ++ (if h then x ∷ [] else [])
-swap true w m x none = let both = none-both w m (none refl) in ap (λ l. (w ++ x ∷ []) ++ l) both.1 ∙ (append-nil (w ++ x ∷ []) ∙ ap (λ l. l ++ x ∷ []) (sym (append-nil w) ∙ ap (λ l. w ++ l) (sym both.1)))
-swap false w m x none = ap (λ l. l ++ m) (append-nil w) ∙ sym (append-nil (w ++ m))
+put-first : (h : Bool) (w m : List (Option State)) (x : Option State) → (h ≡ true → w ++ m ≡ []) → (if h then x ∷ [] else w) ++ m ≡ (if h then x ∷ [] else w ++ m)
+put-first true w m x none = ap (λ l. x ∷ l) (none-both w m (none refl)).1
+put-first false w m x none = refl
 
-module _ {old new : Sets} {cond : ℕ} {r : Option State} (keeps : Keeps old new) (xs after others : List Entry) (own : All (λ (x : Entry). IsCond old x.0.0) others) where
-  module _ (c : List ℕ) (listed : IsConfig old.arities c) where
-    pub at-front : IsPut old new cond r xs after → (old.has cond c ≡ true → readings_at old (xs ++ others) c ≡ []) → readings_at new (after ++ others) c ≡ readings_at old (xs ++ others) c ++ (if old.has cond c then r ∷ [] else [])
-    at-front put none =
+put-second : (h : Bool) (w m : List (Option State)) (x : Option State) → (h ≡ true → w ++ m ≡ []) → w ++ (if h then x ∷ [] else m) ≡ (if h then x ∷ [] else w ++ m)
+put-second true w m x none = ap (λ l. l ++ x ∷ []) (none-both w m (none refl)).0
+put-second false w m x none = refl
+
+module _ {old new : Sets} {cond : ℕ} {r : Option State} (keeps : Keeps old new) (xs after others : List Entry) (own : All (λ (x : Entry). IsCond old x.0.0) others) (put : IsPut old new cond r xs after) where
+  pub put-front : IsPut old new cond r (xs ++ others) (after ++ others)
+  put-front = record {
+    own = All-append (λ (x : Entry). IsCond new x.0.0) after others put.own (own-Keeps keeps others own);
+    at = λ c listed none.
         let w = readings_at old xs c in
         let m = readings_at old others c in
         let split = readings_at-append old c xs others in
         let empty : old.has cond c ≡ true → w ++ m ≡ [] = λ t. sym split ∙ none t in
         readings_at-append new c after others
-        ∙ (ap (λ l. l ++ readings_at new others c) (put.at c listed (λ t. (none-both w m (empty t)).0))
-        ∙ (ap (λ l. (w ++ (if old.has cond c then r ∷ [] else [])) ++ l) (readings_at-Keeps keeps others c own listed)
-        ∙ (swap (old.has cond c) w m r empty ∙ ap (λ l. l ++ (if old.has cond c then r ∷ [] else [])) (sym split))))
-
-    pub at-back : IsPut old new cond r xs after → (old.has cond c ≡ true → readings_at old (others ++ xs) c ≡ []) → readings_at new (others ++ after) c ≡ readings_at old (others ++ xs) c ++ (if old.has cond c then r ∷ [] else [])
-    at-back put none =
-        let w = readings_at old others c in
-        let m = readings_at old xs c in
-        let split = readings_at-append old c others xs in
-        let empty : old.has cond c ≡ true → w ++ m ≡ [] = λ t. sym split ∙ none t in
-        readings_at-append new c others after
-        ∙ (ap (λ l. l ++ readings_at new after c) (readings_at-Keeps keeps others c own listed)
-        ∙ (ap (λ l. w ++ l) (put.at c listed (λ t. (none-both w m (empty t)).1))
-        ∙ (sym (append_assoc w m (if old.has cond c then r ∷ [] else [])) ∙ ap (λ l. l ++ (if old.has cond c then r ∷ [] else [])) (sym split))))
-
-  pub put-front : IsPut old new cond r xs after → IsPut old new cond r (xs ++ others) (after ++ others)
-  put-front put = record {
-    own = All-append (λ (x : Entry). IsCond new x.0.0) after others put.own (own-Keeps keeps others own);
-    at = λ c listed none. at-front c listed put none;
+        ∙ ((λ j. put.at c listed (λ t. (none-both w m (empty t)).0) j ++ readings_at-Keeps keeps others c own listed j)
+        ∙ (put-first (old.has cond c) w m r empty ∙ ap (λ l. if old.has cond c then r ∷ [] else l) (sym split)));
     alike = λ a b la lb same were.
         let both = all-parts (λ (x : Entry). IsAlike old a b x.0) xs others were in
         All-append (λ (x : Entry). IsAlike new a b x.0) after others (put.alike a b la lb same both.0) (alike-Keeps keeps others a b own la lb both.1);
   }
 
-  pub put-back : IsPut old new cond r xs after → IsPut old new cond r (others ++ xs) (others ++ after)
-  put-back put = record {
+  pub put-back : IsPut old new cond r (others ++ xs) (others ++ after)
+  put-back = record {
     own = All-append (λ (x : Entry). IsCond new x.0.0) others after (own-Keeps keeps others own) put.own;
-    at = λ c listed none. at-back c listed put none;
+    at = λ c listed none.
+        let w = readings_at old others c in
+        let m = readings_at old xs c in
+        let split = readings_at-append old c others xs in
+        let empty : old.has cond c ≡ true → w ++ m ≡ [] = λ t. sym split ∙ none t in
+        readings_at-append new c others after
+        ∙ ((λ j. readings_at-Keeps keeps others c own listed j ++ put.at c listed (λ t. (none-both w m (empty t)).1) j)
+        ∙ (put-second (old.has cond c) w m r empty ∙ ap (λ l. if old.has cond c then r ∷ [] else l) (sym split)));
     alike = λ a b la lb same were.
         let both = all-parts (λ (x : Entry). IsAlike old a b x.0) others xs were in
         All-append (λ (x : Entry). IsAlike new a b x.0) others after (alike-Keeps keeps others a b own la lb both.0) (put.alike a b la lb same both.1);
@@ -227,10 +226,10 @@ module _ {old new : Sets} {cond : ℕ} {r : Option State} (keeps : Keeps old new
 -- ---- configurations that are parted by an element
 
 both : (symbol : Option grammar.Symbol) (reading : Option State) (t i l h : Bool) (L : List (Option State)) → l ≡ (t && not i) → h ≡ (t && i)
-    → (L ++ (if l then reading ∷ [] else [])) ++ (if h then moved true symbol reading ∷ [] else []) ≡ L ++ (if t then moved i symbol reading ∷ [] else [])
-both symbol reading true true l h L is_l is_h = rw (is_l, is_h) (ap (λ z. z ++ moved true symbol reading ∷ []) (append-nil L))
-both symbol reading true false l h L is_l is_h = rw (is_l, is_h) (append-nil (L ++ reading ∷ []))
-both symbol reading false i l h L is_l is_h = rw (is_l, is_h) (ap (λ z. z ++ []) (append-nil L))
+    → (if h then moved true symbol reading ∷ [] else (if l then reading ∷ [] else L)) ≡ (if t then moved i symbol reading ∷ [] else L)
+both symbol reading true true l h L is_l is_h = rw (is_l, is_h) refl
+both symbol reading true false l h L is_l is_h = rw (is_l, is_h) refl
+both symbol reading false i l h L is_l is_h = rw (is_l, is_h) refl
 
 pub and-not : (a b : Bool) → (a && not (a && b)) ≡ (a && not b)
 and-not true b = refl
@@ -249,13 +248,13 @@ module _ {old new : Sets} {item cond : ℕ} {symbol : Option grammar.Symbol} {re
   parted-one {r} same read put = record {
     own = put.own;
     read = read;
-    at = λ c listed none. put.at c listed none ∙ ap (λ l. readings_at old (all_of before) c ++ l) (by c (old.has cond c) (same c listed));
+    at = λ c listed none. put.at c listed none ∙ by c (old.has cond c) (readings_at old (all_of before) c) (same c listed);
     alike = λ a b la lb item cond were. put.alike a b la lb cond were;
   }
     where
-      by : (c : List ℕ) (h : Bool) → (h ≡ true → r ≡ moved (old.has item c) symbol reading) → (if h then r ∷ [] else []) ≡ (if h then moved (old.has item c) symbol reading ∷ [] else [])
-      by c true is = ap (λ x. x ∷ []) (is refl)
-      by c false is = refl
+      by : (c : List ℕ) (h : Bool) (L : List (Option State)) → (h ≡ true → r ≡ moved (old.has item c) symbol reading) → (if h then r ∷ [] else L) ≡ (if h then moved (old.has item c) symbol reading ∷ [] else L)
+      by c true L is = ap (λ x. x ∷ []) (is refl)
+      by c false L is = refl
 
   module _ {mid : Sets} {between : List Entry} {lacking having : ℕ} (keeps : Keeps old mid)
       (lack : (c : List ℕ) → IsConfig old.arities c → mid.has lacking c ≡ (old.has cond c && not (old.has item c)))
@@ -270,11 +269,12 @@ module _ {old new : Sets} {item cond : ℕ} {symbol : Option grammar.Symbol} {re
           let i = old.has item c in
           let here = IsConfig-Keeps keeps listed in
           let was = readings_at-Keeps keeps (all_of before) c own listed in
-          let one = first.at c here (λ is. was ∙ none (and_parts t (not i) (sym (lack c listed) ∙ is)).0) ∙ ap (λ l. l ++ (if mid.has lacking c then reading ∷ [] else [])) was in
-          let two = second.at c here (λ is.
+          let L = readings_at old (all_of before) c in
+          let one = first.at c here (λ is. was ∙ none (and_parts t (not i) (sym (lack c listed) ∙ is)).0) ∙ ap (λ l. if mid.has lacking c then reading ∷ [] else l) was in
+          second.at c here (λ is.
           let parts = and_parts t i (sym (have c listed) ∙ is) in
-          one ∙ (ap (λ b. readings_at old (all_of before) c ++ (if b then reading ∷ [] else [])) (no-lack t i (mid.has lacking c) (lack c listed) parts.1) ∙ ap (λ l. l ++ []) (none parts.0))) in
-          two ∙ (ap (λ l. l ++ (if mid.has having c then moved true symbol reading ∷ [] else [])) one ∙ both symbol reading t i (mid.has lacking c) (mid.has having c) (readings_at old (all_of before) c) (lack c listed) (have c listed));
+          one ∙ (ap (λ b. if b then reading ∷ [] else L) (no-lack t i (mid.has lacking c) (lack c listed) parts.1) ∙ none parts.0))
+          ∙ (ap (λ l. if mid.has having c then moved true symbol reading ∷ [] else l) one ∙ both symbol reading t i (mid.has lacking c) (mid.has having c) L (lack c listed) (have c listed));
       alike = λ a b la lb same_item same_cond were.
           let ha = IsConfig-Keeps keeps la in
           let hb = IsConfig-Keeps keeps lb in
@@ -301,7 +301,7 @@ put-before {old} {mid} {new} {cond} {r} {before} {after} keeps own cond_own put 
   at = λ c listed none.
       let was = readings_at-Keeps keeps before c own listed in
       let same = keeps.at cond c cond_own listed in
-      put.at c (IsConfig-Keeps keeps listed) (λ t. was ∙ none (sym same ∙ t)) ∙ (λ j. was j ++ (if same j then r ∷ [] else []));
+      put.at c (IsConfig-Keeps keeps listed) (λ t. was ∙ none (sym same ∙ t)) ∙ (λ j. if same j then r ∷ [] else was j);
   alike = λ a b la lb equal were. put.alike a b (IsConfig-Keeps keeps la) (IsConfig-Keeps keeps lb) (keeps.at cond a cond_own la ∙ (equal ∙ sym (keeps.at cond b cond_own lb))) (alike-Keeps keeps before a b own la lb were);
 }
 
@@ -337,7 +337,7 @@ parted-before {old} {mid} {new} {item} {cond} {symbol} {reading} {before} {after
       let was = readings_at-Keeps keeps (all_of before) c own listed in
       let same = keeps.at cond c cond_own listed in
       let item_same = keeps.at item c item_own listed in
-      parted.at c (IsConfig-Keeps keeps listed) (λ t. was ∙ none (sym same ∙ t)) ∙ (λ j. was j ++ (if same j then moved (item_same j) symbol reading ∷ [] else []));
+      parted.at c (IsConfig-Keeps keeps listed) (λ t. was ∙ none (sym same ∙ t)) ∙ (λ j. if same j then moved (item_same j) symbol reading ∷ [] else was j);
   alike = λ a b la lb equal_item equal were.
       let kept = λ (k : ℕ) (made : IsCond old k) (e : old.has k a ≡ old.has k b). keeps.at k a made la ∙ (e ∙ sym (keeps.at k b made lb)) in
       parted.alike a b (IsConfig-Keeps keeps la) (IsConfig-Keeps keeps lb) (kept item item_own equal_item) (kept cond cond_own equal) (alike-Keeps keeps (all_of before) a b own la lb were);

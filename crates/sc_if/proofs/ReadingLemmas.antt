@@ -1,5 +1,5 @@
 -- A line that is read element by element.
-use Rattle.std.proofs.Common.{◌≡◌, ℕ, zero, suc, ◌+◌, ◌<◌, ◌≤◌, Bool, true, false, List, [], ◌∷◌, ◌++◌, All, length, map, take, get_or, Option, Some, None, refl, sym, ap, subst, ◌∙◌, arith, append-nil, append_assoc, if◌then◌else◌}
+use Rattle.std.proofs.Common.{◌≡◌, ℕ, zero, suc, ◌+◌, ◌<◌, ◌≤◌, Bool, true, false, List, [], ◌∷◌, ◌++◌, All, length, map, take, get_or, Option, Some, None, refl, sym, ap, subst, ◌∙◌, arith, append-nil, if◌then◌else◌}
 use Rattle.std.proofs.lemmas.Bool.{true≢false}
 use Rattle.std.proofs.lemmas.List.{length-append, length-map, map-append, take_all, take_more}
 use Rattle.std.proofs.lemmas.List.Elements.{All-cons, All-head, All-nil, All-push, All-tail}
@@ -30,7 +30,7 @@ use Rattle.sc_model.specs.Sets.{Sets, HasOptions, IsCond, IsConfig, IsNever, Kee
 -- ---- one that is moved more
 
 pub moved-more : (f : Option State → Option State) (s : Sets) (left rest : List Entry) (x : Entry) (found next answer : List (Option State)) (c : List ℕ) → left ≡ x ∷ rest → length answer ≤ 1
-    → found ++ map f (readings_at s left c) ≡ answer → ((s.has x.0.0 c ≡ true → found ≡ []) → next ≡ found ++ (if s.has x.0.0 c then f (seen_reading x.1) ∷ [] else []))
+    → found ++ map f (readings_at s left c) ≡ answer → ((s.has x.0.0 c ≡ true → found ≡ []) → next ≡ (if s.has x.0.0 c then f (seen_reading x.1) ∷ [] else found))
     → next ++ map f (readings_at s rest c) ≡ answer
 moved-more f s left rest x found next answer c is few was made =
     by (s.has x.0.0 c) (ap (λ l. found ++ map f l) (sym (ap (λ l. readings_at s l c) is ∙ readings_at-cons s c x rest)) ∙ was) made
@@ -42,9 +42,9 @@ moved-more f s left rest x found next answer c is few was made =
     nothing [] e = refl
     nothing (y ∷ ys) e = let long = ap length e in absurd (omega (arith, long, few, length-append (y ∷ ys) (f (seen_reading x.1) ∷ map f R)))
 
-    by : (b : Bool) → found ++ map f (if b then seen_reading x.1 ∷ R else R) ≡ answer → ((b ≡ true → found ≡ []) → next ≡ found ++ (if b then f (seen_reading x.1) ∷ [] else [])) → next ++ map f R ≡ answer
-    by true e made = ap (λ l. l ++ map f R) (made (λ t. nothing found e)) ∙ (append_assoc found (f (seen_reading x.1) ∷ []) (map f R) ∙ e)
-    by false e made = ap (λ l. l ++ map f R) (made (λ t. absurd (cc)) ∙ append-nil found) ∙ e
+    by : (b : Bool) → found ++ map f (if b then seen_reading x.1 ∷ R else R) ≡ answer → ((b ≡ true → found ≡ []) → next ≡ (if b then f (seen_reading x.1) ∷ [] else found)) → next ++ map f R ≡ answer
+    by true e made = ap (λ l. l ++ map f R) (made (λ t. nothing found e)) ∙ (ap (λ l. l ++ f (seen_reading x.1) ∷ map f R) (sym (nothing found e)) ∙ e)
+    by false e made = ap (λ l. l ++ map f R) (made (λ t. absurd (cc))) ∙ e
 
 pub few-moved : (f : Option State → Option State) (xs : List (Option State)) → length xs ≤ 1 → length (map f xs) ≤ 1
 few-moved f xs few = omega (arith, few, length-map xs f)
@@ -113,10 +113,10 @@ items-alike s a b (x ∷ xs) same =
 -- ---- why there are too many
 
 -- something for each of a list
-pub record Chosen {A B : Type 0} (Q : A → B → Type 0) (xs : List A) : Type 0 where
-  pub all : List B
-  pub long : length all ≡ length xs
-  pub each : (k : ℕ) (x : A) (y : B) → k < length xs → Q (get_or xs k x) (get_or all k y)
+record Chosen {A B : Type 0} (Q : A → B → Type 0) (xs : List A) : Type 0 where
+  all : List B
+  long : length all ≡ length xs
+  each : (k : ℕ) (x : A) (y : B) → k < length xs → Q (get_or xs k x) (get_or all k y)
 
 chosen : {A B : Type 0} (Q : A → B → Type 0) (xs : List A) → ((k : ℕ) (x : A) → k < length xs → (y : B) × Q (get_or xs k x) y) → Chosen Q xs
 chosen {A = A} {B = B} Q [] some = record { all = []; long = refl; each = λ k x y within. absurd (omega arith) }
@@ -130,17 +130,16 @@ chosen {A = A} {B = B} Q (a ∷ more) some =
     at first rest (suc k) x y within = rest.each k x y (omega arith)
 
 -- what holds of all that is read at a configuration holds of each that has it
-read-each : (s : Sets) (c : List ℕ) (P : Option State → Type 0) (xs : List Entry) → All P (readings_at s xs c) → (k : ℕ) (x : Entry) → k < length xs → s.has (get_or xs k x).0.0 c ≡ true → P (seen_reading (get_or xs k x).1)
-read-each s c P [] all k x within has = absurd (omega arith)
-read-each s c P (y ∷ ys) all k x within has = by (s.has y.0.0 c) refl (subst (All P) (readings_at-cons s c y ys) all) (λ rest j below had. read-each s c P ys rest j x below had) k within has
+read-each : (s : Sets) (c : List ℕ) (P : Option State → Type 0) (xs : List Entry) → All P (readings_at s xs c) → All (λ x. s.has x.0.0 c ≡ true → P (seen_reading x.1)) xs
+read-each s c P [] all = All-nil (λ x. s.has x.0.0 c ≡ true → P (seen_reading x.1))
+read-each s c P (y ∷ ys) all = by (s.has y.0.0 c) refl (subst (All P) (readings_at-cons s c y ys) all) (read-each s c P ys)
   where
-    by : (b : Bool) → s.has y.0.0 c ≡ b → All P (if b then seen_reading y.1 ∷ readings_at s ys c else readings_at s ys c)
-        → (All P (readings_at s ys c) → (j : ℕ) → j < length ys → s.has (get_or ys j x).0.0 c ≡ true → P (seen_reading (get_or ys j x).1))
-        → (k : ℕ) → k < length (y ∷ ys) → s.has (get_or (y ∷ ys) k x).0.0 c ≡ true → P (seen_reading (get_or (y ∷ ys) k x).1)
-    by true is all later zero within has = All-head P (seen_reading y.1) (readings_at s ys c) all
-    by true is all later (suc k) within has = later (All-tail P (seen_reading y.1) (readings_at s ys c) all) k (omega arith) has
-    by false is all later zero within has = absurd (true≢false (sym has ∙ is))
-    by false is all later (suc k) within has = later all k (omega arith) has
+    Q : Entry → Type 0
+    Q x = s.has x.0.0 c ≡ true → P (seen_reading x.1)
+
+    by : (b : Bool) → s.has y.0.0 c ≡ b → All P (if b then seen_reading y.1 ∷ readings_at s ys c else readings_at s ys c) → (All P (readings_at s ys c) → All Q ys) → All Q (y ∷ ys)
+    by true is all later = All-cons Q y ys (λ has. All-head P (seen_reading y.1) (readings_at s ys c) all) (later (All-tail P (seen_reading y.1) (readings_at s ys c) all))
+    by false is all later = All-cons Q y ys (λ has. absurd (true≢false (sym has ∙ is))) (later all)
 
 -- there is a reading, and it is this
 abbrev Is : Bool → Option State → Option State → Type 0

@@ -74,7 +74,7 @@ pub record HaveRead (s : Sets) (item : ℕ) (readings : List (Cond × Option Rea
 pub record IsPut (old new : Sets) (cond : ℕ) (reading : Option State) (before after : List (Cond × Option Reading)) : Type 0 where
   pub own : All (λ reading. IsCond new reading.0.0) after
   pub at : (c : List ℕ) → IsConfig old.arities c → (old.has cond c ≡ true → readings_at old before c ≡ [])
-      → readings_at new after c ≡ readings_at old before c ++ (if old.has cond c then reading ∷ [] else [])
+      → readings_at new after c ≡ (if old.has cond c then reading ∷ [] else readings_at old before c)
   pub alike : (a b : List ℕ) → IsConfig old.arities a → IsConfig old.arities b → old.has cond a ≡ old.has cond b → AreAlike old a b before → AreAlike new a b after
 
 -- those that lack the last element, and those that have it
@@ -86,7 +86,7 @@ pub record ArePartedBy (old new : Sets) (item : ℕ) (symbol : Option grammar.Sy
   pub own : All (λ reading. IsCond new reading.0.0) (all_of after)
   pub read : HaveRead old item before.moved.items → HaveRead new item after.moved.items
   pub at : (c : List ℕ) → IsConfig old.arities c → (old.has cond c ≡ true → readings_at old (all_of before) c ≡ [])
-      → readings_at new (all_of after) c ≡ readings_at old (all_of before) c ++ (if old.has cond c then moved (old.has item c) symbol reading ∷ [] else [])
+      → readings_at new (all_of after) c ≡ (if old.has cond c then moved (old.has item c) symbol reading ∷ [] else readings_at old (all_of before) c)
   pub alike : (a b : List ℕ) → IsConfig old.arities a → IsConfig old.arities b → old.has item a ≡ old.has item b → old.has cond a ≡ old.has cond b
       → AreAlike old a b (all_of before) → AreAlike new a b (all_of after)
 

@@ -78,7 +78,7 @@ loop-reading-preserved g c =
           let same_cond = was.keeps.at reading.0.0 x cond_own listed in
           let same_item = was.keeps.at c.args.item.0 x c.requires.item_own listed in
           moved-more f s left rest reading found (readings_at now (all_of c.part.new.self) x) (map f (readings_at s c.args.readings.items x)) x steps (few-moved f (readings_at s c.args.readings.items x) few) (was.at x listed few)
-          (λ none. parted.at x (IsConfig-Keeps was.keeps listed) (λ t. none (sym same_cond ∙ t)) ∙ (λ j. found ++ (if same_cond j then moved (same_item j) symbol (seen_reading reading.1) ∷ [] else [])));
+          (λ none. parted.at x (IsConfig-Keeps was.keeps listed) (λ t. none (sym same_cond ∙ t)) ∙ (λ j. if same_cond j then moved (same_item j) symbol (seen_reading reading.1) ∷ [] else found));
       alike = λ a b la lb item were.
           let before = was.alike a b la lb item were in
           let Same : Entry → Type 0 = λ x. IsAlike s a b x.0 in
