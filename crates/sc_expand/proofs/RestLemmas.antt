@@ -3,7 +3,7 @@ use Rattle.std.proofs.Common.{◌≡◌, ℕ, zero, suc, ◌<◌, ◌≤◌, ◌
 use Rattle.std.proofs.lemmas.List.Elements.{All-map}
 use Rattle.std.proofs.lemmas.Option.{same_Some}
 use Rattle.sc_base.specs.declared.id.Cond.{Cond}
-use Rattle.sc_expand.specs.declared.work_list.Rest.{Rest}
+use Rattle.sc_expand.specs.declared.source.Rest.{Rest}
 use Rattle.sc_expand.specs.WorkLists.{DropsAlike, items_of}
 use Rattle.sc_subst.specs.declared.hidden.Hidden.{Hidden}
 

@@ -7,11 +7,11 @@ use Rattle.std.specs.Cmp.{ranks}
 use Rattle.std.specs.Ordering.{MatchOrdering, is_lt, nat_cmp, ord_min}
 use Rattle.sc_base.specs.declared.id.Cond.{Cond}
 use Rattle.sc_expand.proofs.WorkListLemmas.{Restricted, has_each-Keeps, restricted_alike, restricted_more}
-use Rattle.sc_expand.specs.WorkLists.{items_of}
-use Rattle.sc_expand.specs.declared.work_list.Rest.{Rest}
+use Rattle.sc_expand.specs.WorkLists.{KeepsItems, RestrictsFirst, items_of}
+use Rattle.sc_expand.specs.declared.source.Rest.{Rest}
 use Rattle.sc_guarded.proofs.ItemLemmas.{items_at-Keeps}
 use Rattle.sc_hoist.specs.Alike.{AreAlike}
-use Rattle.sc_model.proofs.SetLemmas.{IsConfig-Keeps, IsConfig-kept, Keeps-refl, Keeps-trans}
+use Rattle.sc_model.proofs.SetLemmas.{Denotes-self, IsConfig-Keeps, IsConfig-kept, Keeps-refl, Keeps-trans}
 use Rattle.sc_model.specs.Sets.{Sets, IsConfig, IsCond, Denotes, Keeps}
 use Rattle.sc_subst.specs.declared.hidden.Hidden.{Hidden}
 
@@ -140,3 +140,20 @@ restricted_behind first old new by k before front rest met was none within own b
           told.at c listed ∙ (λ i. sym (keeps.at rest.cond.0 c cond_own listed_old) i && sym (keeps.at by c (was.keeps.own by by_own) listed_old) i);
     } in
     restricted_rest first new by k before front rest.tokens rest.cond met kept low own by_own met_now
+
+-- ---- what is told of a list that was restricted
+
+pub restricts : {first now : Sets} {by n : ℕ} {before after : List (Cond × Hidden)} → Restricted first now by n before after → RestrictsFirst first now by n before after
+restricts was = record { rest = was.rest; restricted = was.at; others = was.same; alike = AreAlike-Restricted was }
+
+pub keeps-items : {first old new : Sets} {by n : ℕ} {before after : List (Cond × Hidden)} → Restricted first old by n before after → Keeps old new → KeepsItems new before after
+keeps-items was keeps = record { items = was.items; own = λ k d h. keeps.own _ (was.own k d h) }
+
+-- the next item is restricted to what its condition and the other have
+pub restricted_next : {first old : Sets} {by i : ℕ} {before list : List (Cond × Hidden)} (new : Sets) (item : Cond × Hidden) (made : Cond) → Restricted first old by i before list → i < length list → item ≡ get_or list i item
+    → All (λ item. IsCond first item.0.0) before → IsCond first by → Keeps old new
+    → ((f g : List ℕ → Bool) → Denotes old item.0.0 f → Denotes old by g → Denotes new made.0 (λ c. f c && g c)) → Restricted first new by (i + 1) before (set list i (made, item.1))
+restricted_next {first} {old} {by} {i} {before} {list} new item made was within at own by_own keeps meaning =
+    let P : Cond × Hidden → Type 0 = λ pair. IsCond old pair.0.0 in
+    let told = meaning _ _ (Denotes-self old item.0.0 (subst P (sym at) (was.own i item within))) (Denotes-self old by (was.keeps.own _ by_own)) in
+    restricted_more first old new by i before list item made was within at own by_own keeps told.own told

@@ -22,7 +22,7 @@ use crate::work_list::WorkList;
 use sc_base::{Cond, Files, Names, OutOfMemory, Stop, Token};
 use sc_guarded::{Expanded, Guarded};
 use sc_presence::Conditions;
-use sc_subst::{Hidden, HideSets, Tokens};
+use sc_subst::{Hidden, HideSets};
 use sc_table::MacroTable;
 use std::alloc::Global;
 
@@ -77,8 +77,6 @@ fn started(alloc: Global, list: &Guarded<Token>, live: Cond) -> Result<Expansion
 {
     let sets = HideSets::new(alloc)?;
     let items = unhidden(alloc, &sets, list)?;
-    let mut work = WorkList::of(alloc, live, Tokens::none(alloc)?);
-    work.put_first(&items)?;
     Ok(Expansion {
         alloc,
         sets,
@@ -87,7 +85,7 @@ fn started(alloc: Global, list: &Guarded<Token>, live: Cond) -> Result<Expansion
             faults: Vec::new(alloc),
         },
         top: Frame {
-            work,
+            work: WorkList::over(alloc, items),
             out: Guarded::new(alloc)?,
             calls: Vec::new(alloc),
         },

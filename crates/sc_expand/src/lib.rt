@@ -14,6 +14,7 @@ mod laws;
 mod refusals;
 mod role;
 mod running;
+mod source;
 mod taking;
 mod turns;
 mod work_list;

@@ -1,10 +1,8 @@
-ghost use Rattle.std.specs.Prelude.{◌≡◌, ℕ, ◌^◌, ◌-◌, ◌<◌, ◌≤◌, ◌++◌, [], List, All, map, take, drop, length, slice_get, if◌then◌else◌, true, Some, IfSome, OnOk};
-ghost use Rattle.sc_hoist.specs.Alike.{AreAlike, IsAlike};
-ghost use Rattle.sc_expand.specs.Having.{has_each};
-ghost use Rattle.sc_expand.specs.WorkLists.{DropsAlike, items_of};
-ghost use Rattle.sc_guarded.specs.Items.{items_at};
-ghost use Rattle.sc_model.specs.Sets.{IsConfig, IsCond, Keeps};
+ghost use Rattle.std.specs.Prelude.{◌≡◌, ◌^◌, ◌<◌, ◌≤◌, ◌++◌, List, All, map, drop, length, slice_get, Some, IfSome, OnOk};
+ghost use Rattle.sc_expand.specs.WorkLists.{DropsAlike, KeepsItems, RestrictsFirst, items_left, items_of};
+ghost use Rattle.sc_model.specs.Sets.{IsCond, Keeps};
 
+use crate::source::{Behind, Rest, Source};
 use sc_base::{Cond, OutOfMemory, Token};
 use sc_hoist::TokenList;
 use sc_presence::Conditions;
@@ -14,68 +12,23 @@ use std::collections::VecDeque;
 use std::marker::Model;
 
 /// The tokens that are still to be expanded, each under a condition. The list is used at its first
-/// token, and what replaces a name is put in front, so the rest is never moved.
+/// token, and what replaces a name is put in front, so what stands behind is never moved.
 #[derive(Drop)]
 pub struct WorkList {
     /// Tokens each of which has a condition of its own.
     front: VecDeque<(Cond, Hidden)>,
-    rest: Rest,
+    behind: Behind,
 }
 
 impl Model for WorkList {
     ghost use Rattle.std.specs.Prelude.{◌++◌, List};
     ghost use Rattle.sc_base.specs.declared.id.Cond.{Cond};
-    ghost use Rattle.sc_expand.specs.WorkLists.{items_of};
+    ghost use Rattle.sc_expand.specs.WorkLists.{items_behind};
     ghost use Rattle.sc_subst.specs.declared.hidden.Hidden.{Hidden};
 
     ghost Value = { List (Cond × Hidden) };
 
-    ghost view = { λ list. list.front.items ++ items_of list.rest };
-}
-
-/// The last tokens of a list: those of an argument, which stand under one condition, but that some
-/// of the next ones were restricted.
-#[derive(Drop)]
-pub struct Rest {
-    pub tokens: Tokens,
-    pub cond: Cond,
-    /// So many of the next ones were restricted.
-    pub restricted: usize,
-    /// The condition of these.
-    pub by: Cond,
-}
-
-impl Rest {
-    /// The number of tokens.
-    fn len(&self) -> usize
-        ensures is { result ≡ length (items_of self.now) }
-        ensures small { result < 2 ^ 63 }
-    {
-        self.tokens.as_slice().len()
-    }
-
-    /// The token of an index, with its condition.
-    fn item(&self, index: usize) -> (Cond, Hidden)
-        requires { index < length (items_of self.now) }
-        ensures { slice_get (items_of self.now) index ≡ Some result }
-    {
-        let token = self.tokens.get(index);
-        if index < self.restricted {
-            return (self.by, token);
-        }
-        (self.cond, token)
-    }
-
-    /// Takes so many of the first tokens away.
-    fn drop_first(&mut self, count: usize)
-        requires { count ≤ length (items_of self.old) }
-        ensures is { items_of self.new ≡ drop count (items_of self.old) }
-        ensures cond { self.new.cond ≡ self.old.cond }
-        ensures restricted { self.new.restricted ≡ self.old.restricted - count }
-    {
-        self.tokens.drop_first(count);
-        self.restricted = self.restricted.saturating_sub(count);
-    }
+    ghost view = { λ list. list.front.items ++ items_behind list.behind };
 }
 
 impl WorkList {
@@ -85,12 +38,22 @@ impl WorkList {
     {
         WorkList {
             front: VecDeque::new(alloc),
-            rest: Rest {
+            behind: Behind::Argument(Rest {
                 tokens,
                 cond,
                 restricted: 0,
                 by: cond,
-            },
+            }),
+        }
+    }
+
+    /// The tokens of the whole list.
+    pub fn over(alloc: Global, items: Vec<(Cond, Hidden)>) -> WorkList
+        ensures { result ≡ items.items }
+    {
+        WorkList {
+            front: VecDeque::new(alloc),
+            behind: Behind::Source(Source { items, next: 0 }),
         }
     }
 
@@ -98,17 +61,22 @@ impl WorkList {
     pub fn all_under(&self, cond: Cond) -> Option<&Tokens>
         ensures { IfSome result (λ tokens. self.now ≡ map (λ t. (cond, t)) tokens.now) }
     {
-        if self.front.is_empty() && self.rest.restricted == 0 && self.rest.cond == cond {
-            return Some(&self.rest.tokens);
+        match &self.behind {
+            Behind::Argument(rest) => {
+                if self.front.is_empty() && rest.restricted == 0 && rest.cond == cond {
+                    return Some(&rest.tokens);
+                }
+                None
+            }
+            Behind::Source(_) => None,
         }
-        None
     }
 
     /// The number of tokens.
     pub fn len(&self) -> usize
         ensures { result ≡ length self.now }
     {
-        self.front.len() + self.rest.len()
+        self.front.len() + self.behind.len()
     }
 
     /// A list has no more tokens than an index can tell.
@@ -127,7 +95,7 @@ impl WorkList {
         if index < count {
             return self.front[index];
         }
-        self.rest.item(index - count)
+        self.behind.item(index - count)
     }
 
     /// The first token.
@@ -149,8 +117,8 @@ impl WorkList {
             if self.front.is_empty() {
                 self.front.shrink_to_fit();
             }
-        } else if self.rest.len() > 0 {
-            self.rest.drop_first(1);
+        } else {
+            self.behind.drop_first();
         }
     }
 
@@ -158,9 +126,8 @@ impl WorkList {
     pub fn drop_alike(&mut self)
         ensures { DropsAlike self.old self.new }
     {
-        if self.front.is_empty() && self.rest.restricted > 0 {
-            let count = std::cmp::min(self.rest.restricted, self.rest.len());
-            self.rest.drop_first(count);
+        if self.front.is_empty() {
+            self.behind.drop_alike();
         } else {
             self.drop_first();
         }
@@ -186,35 +153,82 @@ impl WorkList {
         requires count { count ≤ length self.old }
         requires own { All (λ item. IsCond (C.sets conds.old) item.0.0) self.old }
         requires by_own { IsCond (C.sets conds.old) by.0 }
-        ensures rest { OnOk result (drop count self.new ≡ drop count self.old) }
-        ensures restricted { OnOk result ((c : List ℕ) → IsConfig (C.sets conds.old).arities c
-            → items_at (C.sets conds.new) (take count self.new) c
-            ≡ (if (C.sets conds.old).has by.0 c then items_at (C.sets conds.old) (take count self.old) c else [])) }
-        ensures others { OnOk result ((c : List ℕ) → IsConfig (C.sets conds.old).arities c → (C.sets conds.old).has by.0 c ≡ true
-            → has_each (C.sets conds.new) self.new c ≡ has_each (C.sets conds.old) self.old c) }
-        ensures alike { OnOk result ((c d : List ℕ) (first : ℕ) → IsConfig (C.sets conds.old).arities c → IsConfig (C.sets conds.old).arities d → IsAlike (C.sets conds.old) c d by
-            → AreAlike (C.sets conds.old) c d (take first self.old) → AreAlike (C.sets conds.new) c d (take first self.new)) }
+        ensures restricts { OnOk result (RestrictsFirst (C.sets conds.old) (C.sets conds.new) by.0 count self.old self.new) }
 
         // at every outcome
-        ensures items { map (λ item. item.1) self.new ≡ map (λ item. item.1) self.old }
-        ensures own { All (λ item. IsCond (C.sets conds.new) item.0.0) self.new }
+        ensures items { KeepsItems (C.sets conds.new) self.old self.new }
         ensures keeps { Keeps (C.sets conds.old) (C.sets conds.new) }
     {
-        if count > self.front.len() {
-            settle(&mut self.front, &mut self.rest)?;
+        match &mut self.behind {
+            Behind::Argument(rest) => restrict_argument(conds, &mut self.front, rest, count, by),
+            Behind::Source(source) => restrict_source(conds, &mut self.front, source, count, by),
         }
-        let first = std::cmp::min(count, self.front.len());
-        for index in 0..first {
-            let pair = self.front[index];
-            let met = conds.apply_and(pair.0, by)?;
-            self.front[index] = (met, pair.1);
-        }
-        if count > first {
-            self.rest.by = conds.apply_and(self.rest.cond, by)?;
-            self.rest.restricted = count - first;
-        }
-        Ok(())
     }
+}
+
+/// Restricts so many of the tokens in front of a rest, and then of the rest.
+fn restrict_argument<C: Conditions>(
+    conds: &mut C,
+    front: &mut VecDeque<(Cond, Hidden)>,
+    rest: &mut Rest,
+    count: usize,
+    by: Cond,
+) -> Result<(), OutOfMemory>
+    requires count { count ≤ length (front.old.items ++ items_of rest.old) }
+    requires own { All (λ item. IsCond (C.sets conds.old) item.0.0) (front.old.items ++ items_of rest.old) }
+    requires by_own { IsCond (C.sets conds.old) by.0 }
+    ensures restricts { OnOk result (RestrictsFirst (C.sets conds.old) (C.sets conds.new) by.0 count (front.old.items ++ items_of rest.old) (front.new.items ++ items_of rest.new)) }
+
+    // at every outcome
+    ensures items { KeepsItems (C.sets conds.new) (front.old.items ++ items_of rest.old) (front.new.items ++ items_of rest.new) }
+    ensures keeps { Keeps (C.sets conds.old) (C.sets conds.new) }
+{
+    if count > front.len() {
+        settle(front, rest)?;
+    }
+    let first = std::cmp::min(count, front.len());
+    for index in 0..first {
+        let pair = front[index];
+        let met = conds.apply_and(pair.0, by)?;
+        front[index] = (met, pair.1);
+    }
+    if count > first {
+        rest.by = conds.apply_and(rest.cond, by)?;
+        rest.restricted = count - first;
+    }
+    Ok(())
+}
+
+/// Restricts so many of the tokens in front of a source, and then of the source.
+fn restrict_source<C: Conditions>(
+    conds: &mut C,
+    front: &mut VecDeque<(Cond, Hidden)>,
+    source: &mut Source,
+    count: usize,
+    by: Cond,
+) -> Result<(), OutOfMemory>
+    requires count { count ≤ length (front.old.items ++ items_left source.old) }
+    requires own { All (λ item. IsCond (C.sets conds.old) item.0.0) (front.old.items ++ items_left source.old) }
+    requires by_own { IsCond (C.sets conds.old) by.0 }
+    ensures restricts { OnOk result (RestrictsFirst (C.sets conds.old) (C.sets conds.new) by.0 count (front.old.items ++ items_left source.old) (front.new.items ++ items_left source.new)) }
+
+    // at every outcome
+    ensures items { KeepsItems (C.sets conds.new) (front.old.items ++ items_left source.old) (front.new.items ++ items_left source.new) }
+    ensures keeps { Keeps (C.sets conds.old) (C.sets conds.new) }
+{
+    let first = std::cmp::min(count, front.len());
+    for index in 0..first {
+        let pair = front[index];
+        let met = conds.apply_and(pair.0, by)?;
+        front[index] = (met, pair.1);
+    }
+    for index in first..count {
+        let place = source.next + (index - first);
+        let pair = source.items[place];
+        let met = conds.apply_and(pair.0, by)?;
+        source.items[place] = (met, pair.1);
+    }
+    Ok(())
 }
 
 /// Moves the tokens of a rest that were restricted to the end of the list in front of it.

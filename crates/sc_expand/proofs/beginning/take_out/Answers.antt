@@ -24,8 +24,8 @@ returns-clause-taken g c = λ x listed.
     let here = IsConfig-Keeps first listed in
     let test : mid.has c.in_ok-others.others.0 x ≡ not (old.has c.args.cond.0 x) = (c.in_ok-others.ensures.meaning _ (Denotes-self old c.args.cond.0 c.requires.cond_own)).at x here in
     let same : items_at mid (take n list) x ≡ items_at old (take n list) x = items_at-Keeps (take n list) x first (All-take (λ (item : Cond × Hidden). IsCond old item.0.0) n list c.requires.own) listed in
-    taken_out old now list c.restrict_before.new.self n (old.has c.args.cond.0 x) x (Keeps-trans first c.in_ok-restrict_before.ensures.keeps) listed c.requires.own c.in_ok-restrict_before.ensures.rest
-    (c.in_ok-restrict_before.ensures.restricted x here ∙ (λ i. if test i then same i else []))
+    taken_out old now list c.restrict_before.new.self n (old.has c.args.cond.0 x) x (Keeps-trans first c.in_ok-restrict_before.ensures.keeps) listed c.requires.own c.in_ok-restrict_before.ensures.restricts.rest
+    (c.in_ok-restrict_before.ensures.restricts.restricted x here ∙ (λ i. if test i then same i else []))
 
 pub returns-clause-others : goal.returns-clause-others
 returns-clause-others g c = λ x listed no.
@@ -34,7 +34,7 @@ returns-clause-others g c = λ x listed no.
     let first = c.in_ok-others.ensures.keeps in
     let here = IsConfig-Keeps first listed in
     let test : mid.has c.in_ok-others.others.0 x ≡ true = (c.in_ok-others.ensures.meaning _ (Denotes-self old c.args.cond.0 c.requires.cond_own)).at x here ∙ ap not no in
-    c.in_ok-restrict_before.ensures.others x here test ∙ has_each-Keeps c.args.list.now x first c.requires.own listed
+    c.in_ok-restrict_before.ensures.restricts.others x here test ∙ has_each-Keeps c.args.list.now x first c.requires.own listed
 
 pub returns-clause-first : goal.returns-clause-first
 returns-clause-first g c = λ x listed has some.
@@ -44,7 +44,7 @@ returns-clause-first g c = λ x listed has some.
     let first = c.in_ok-others.ensures.keeps in
     let here = IsConfig-Keeps first listed in
     let test : mid.has c.in_ok-others.others.0 x ≡ false = (c.in_ok-others.ensures.meaning _ (Denotes-self old c.args.cond.0 c.requires.cond_own)).at x here ∙ ap not has in
-    first_gone now c.restrict_before.new.self c.args.count x some (c.in_ok-restrict_before.ensures.restricted x here ∙ ap (λ b. if b then items_at mid (take c.args.count c.args.list.now) x else []) test)
+    first_gone now c.restrict_before.new.self c.args.count x some (c.in_ok-restrict_before.ensures.restricts.restricted x here ∙ ap (λ b. if b then items_at mid (take c.args.count c.args.list.now) x else []) test)
 
 pub returns-clause-rest : goal.returns-clause-rest
 returns-clause-rest g c = λ x listed.
@@ -56,9 +56,9 @@ returns-clause-rest g c = λ x listed.
     let here = IsConfig-Keeps first listed in
     let told : mid.has c.in_ok-others.others.0 x ≡ not (old.has c.args.cond.0 x) = (c.in_ok-others.ensures.meaning _ (Denotes-self old c.args.cond.0 c.requires.cond_own)).at x here in
     let by : (b : Bool) → old.has c.args.cond.0 x ≡ b → HasLast old now list c.restrict_before.new.self x = λ b. elim b as (λ b. old.has c.args.cond.0 x ≡ b → HasLast old now list c.restrict_before.new.self x) [
-      | true ↦ λ is. last-out c.args.count (Keeps-trans first c.in_ok-restrict_before.ensures.keeps) listed c.requires.own c.in_ok-restrict_before.ensures.rest
-          (c.in_ok-restrict_before.ensures.restricted x here ∙ ap (λ b. if b then items_at mid (take c.args.count list) x else []) (told ∙ ap not is))
-      | false ↦ λ is. last-each (c.in_ok-restrict_before.ensures.others x here (told ∙ ap not is) ∙ has_each-Keeps list x first c.requires.own listed)
+      | true ↦ λ is. last-out c.args.count (Keeps-trans first c.in_ok-restrict_before.ensures.keeps) listed c.requires.own c.in_ok-restrict_before.ensures.restricts.rest
+          (c.in_ok-restrict_before.ensures.restricts.restricted x here ∙ ap (λ b. if b then items_at mid (take c.args.count list) x else []) (told ∙ ap not is))
+      | false ↦ λ is. last-each (c.in_ok-restrict_before.ensures.restricts.others x here (told ∙ ap not is) ∙ has_each-Keeps list x first c.requires.own listed)
     ] in
     by (old.has c.args.cond.0 x) refl
 
@@ -69,5 +69,5 @@ returns-clause-alike g c = λ x y m at_x at_y same alike.
     let here = IsConfig-Keeps first at_x in
     let there = IsConfig-Keeps first at_y in
     let told = c.in_ok-others.ensures.meaning _ (Denotes-self old c.args.cond.0 c.requires.cond_own) in
-    c.in_ok-restrict_before.ensures.alike x y m here there (alike-of told here there (ap not same))
+    c.in_ok-restrict_before.ensures.restricts.alike x y m here there (alike-of told here there (ap not same))
     (AreAlike-Keeps first at_x at_y (take m c.args.list.now) (All-take (λ (item : Cond × Hidden). IsCond old item.0.0) m c.args.list.now c.requires.own) alike)

@@ -1,5 +1,5 @@
 use Rattle.std.proofs.Common.{◌≡◌, ◌++◌, ◌∙◌, ap, append_assoc, arith, drop}
-use Rattle.sc_expand.specs.WorkLists.{items_of}
+use Rattle.sc_expand.specs.WorkLists.{items_behind}
 use Rattle.sc_expand.proofs.work_list.WorkList.put_first.Goals as goal
 
 pub returns : goal.returns
@@ -7,5 +7,5 @@ returns c =
     let tokens = c.args.tokens.now in
     let was = c.self.inside.front.items in
     let end : c.loop-index.index ≡ 0 = omega (arith, c.loop-index-test.false, c.loop-index.auto.index) in
-    (λ i. (c.loop-index.invariant.front ∙ ap (λ n. drop n tokens ++ was) end) i ++ items_of (c.loop-index.invariant.rest i))
-    ∙ (append_assoc tokens was (items_of c.self.inside.rest) ∙ ap (λ l. tokens ++ l) c.self.view_is)
+    (λ i. (c.loop-index.invariant.front ∙ ap (λ n. drop n tokens ++ was) end) i ++ items_behind (c.loop-index.invariant.behind i))
+    ∙ (append_assoc tokens was (items_behind c.self.inside.behind) ∙ ap (λ l. tokens ++ l) c.self.view_is)

@@ -1,5 +1,5 @@
 use Rattle.sc_expand.proofs.RestLemmas.{other-items_of, restricted-items_of}
-use Rattle.sc_expand.proofs.work_list.Rest.item.Goals as goal
+use Rattle.sc_expand.proofs.source.Rest.item.Goals as goal
 
 pub returns-then-index-self : goal.returns-then-index-self
 returns-then-index-self c = restricted-items_of c.args.self.now c.args.index c.get-token.result c.if-index-self.true c.get-token.ensures

@@ -1,0 +1,95 @@
+use Rattle.std.proofs.Common.{◌≡◌, ◌<◌, ◌+◌, ◌-◌, ◌∙◌, ◌++◌, List, drop, length, ap, get_or, refl, sym, subst, arith}
+use Rattle.std.proofs.lemmas.List.{drop-set-add, get_or-append_right, get_or-drop, get_or_append_left, length-append, length-set, set-append_left, set-append_right}
+use Rattle.sc_base.specs.declared.id.Cond.{Cond}
+use Rattle.sc_expand.proofs.RestrictLemmas.{keeps-items, length-Restricted, ord_min-min, restricted_next, restricted_none, restricts}
+use Rattle.sc_expand.proofs.WorkListLemmas.{Restricted}
+use Rattle.sc_expand.specs.WorkLists.{items_left}
+use Rattle.sc_model.proofs.SetLemmas.{Keeps-refl}
+use Rattle.sc_model.specs.Sets.{IsCond}
+use Rattle.sc_subst.specs.declared.hidden.Hidden.{Hidden}
+use Rattle.sc_expand.proofs.work_list.restrict_source.Goals as goal
+
+pub loop-index-init : goal.loop-index-init
+loop-index-init g c = record {
+  restricted = restricted_none (g.C.Conditions.sets c.args.conds.now) c.args.by.0 (c.args.front.now.items ++ items_left c.args.source.now) c.requires.own;
+  long = refl;
+}
+
+pub apply_and-requires-clause-a_own : goal.apply_and-requires-clause-a_own
+apply_and-requires-clause-a_own g c =
+    let old = g.C.Conditions.sets c.loop-index.conds in
+    let front = c.loop-index.front.items in
+    let behind = items_left c.args.source.now in
+    let item = c.index-pair.result.now in
+    let P : Cond × Hidden → Type 0 = λ pair. IsCond old pair.0.0 in
+    let low : c.loop-index.index < length front = omega (arith, ord_min-min c.args.count c.len.result, c.loop-index.invariant.long) in
+    let within : c.loop-index.index < length (front ++ behind) = omega (arith, low, length-append front behind) in
+    subst P (get_or_append_left front behind item c.loop-index.index low ∙ sym c.index-pair.ensures) (c.loop-index.invariant.restricted.own c.loop-index.index item within)
+
+pub loop-index-preserved : goal.loop-index-preserved
+loop-index-preserved g c =
+    let first = g.C.Conditions.sets c.args.conds.now in
+    let new = g.C.Conditions.sets c.apply_and.new.self in
+    let i = c.loop-index.index in
+    let was = c.loop-index.invariant in
+    let front = c.loop-index.front.items in
+    let behind = items_left c.args.source.now in
+    let item = c.index-pair.result.now in
+    let made = c.in_ok-met.met in
+    let low : i < length front = omega (arith, ord_min-min c.args.count c.len.result, was.long) in
+    let within : i < length (front ++ behind) = omega (arith, low, length-append front behind) in
+    let at : item ≡ get_or (front ++ behind) i item = c.index-pair.ensures ∙ sym (get_or_append_left front behind item i low) in
+    let more = restricted_next new item made was.restricted within at c.requires.own c.requires.by_own c.apply_and.ensures.keeps c.in_ok-met.ensures.meaning in
+    record {
+      restricted = subst (λ (l : List (Cond × Hidden)). Restricted first new c.args.by.0 (i + 1) (c.args.front.now.items ++ behind) l) (set-append_left front behind i (made, item.1) low) more;
+      long = length-set front i (made, item.1) ∙ was.long;
+    }
+
+pub loop-index-2-init : goal.loop-index-2-init
+loop-index-2-init g c =
+    let before = c.args.front.now.items ++ items_left c.args.source.now in
+    let here = c.loop-index.front.items ++ items_left c.args.source.now in
+    let end : c.loop-index.index ≡ c.min-first.result = omega (arith, ord_min-min c.args.count c.len.result) in
+    subst (λ n. Restricted (g.C.Conditions.sets c.args.conds.now) (g.C.Conditions.sets c.loop-index.conds) c.args.by.0 n before here) end c.loop-index.invariant.restricted
+
+pub apply_and-requires-in-loop-index-2-clause-a_own : goal.apply_and-requires-in-loop-index-2-clause-a_own
+apply_and-requires-in-loop-index-2-clause-a_own g c =
+    let i = c.loop-index-2.index in
+    let n = c.min-first.result in
+    let was = c.loop-index-2.invariant in
+    let front = c.loop-index.front.items in
+    let items = c.loop-index-2.source.items.items in
+    let next = c.loop-index-2.source.next in
+    let item = c.index-pair-in-loop-index-2.result.now in
+    let P : Cond × Hidden → Type 0 = λ pair. IsCond (g.C.Conditions.sets c.loop-index-2.conds) pair.0.0 in
+    let full : length front ≡ n = omega (arith, ord_min-min c.args.count c.len.result, c.loop-index.invariant.long) in
+    let within : i < length (front ++ drop next items) = omega (arith, length-Restricted was, c.requires.count) in
+    let at = get_or-append_right front (drop next items) n i item full (omega arith) ∙ get_or-drop next items (i - n) item in
+    subst P (at ∙ sym c.index-pair-in-loop-index-2.ensures) (was.own i item within)
+
+pub loop-index-2-preserved : goal.loop-index-2-preserved
+loop-index-2-preserved g c =
+    let first = g.C.Conditions.sets c.args.conds.now in
+    let new = g.C.Conditions.sets c.apply_and-in-loop-index-2.new.self in
+    let i = c.loop-index-2.index in
+    let n = c.min-first.result in
+    let was = c.loop-index-2.invariant in
+    let front = c.loop-index.front.items in
+    let items = c.loop-index-2.source.items.items in
+    let next = c.loop-index-2.source.next in
+    let item = c.index-pair-in-loop-index-2.result.now in
+    let made = c.in_ok-met-2.met in
+    let full : length front ≡ n = omega (arith, ord_min-min c.args.count c.len.result, c.loop-index.invariant.long) in
+    let within : i < length (front ++ drop next items) = omega (arith, length-Restricted was, c.requires.count) in
+    let at : item ≡ get_or (front ++ drop next items) i item = c.index-pair-in-loop-index-2.ensures ∙ sym (get_or-append_right front (drop next items) n i item full (omega arith) ∙ get_or-drop next items (i - n) item) in
+    let more = restricted_next new item made was within at c.requires.own c.requires.by_own c.apply_and-in-loop-index-2.ensures.keeps c.in_ok-met-2.ensures.meaning in
+    subst (λ (l : List (Cond × Hidden)). Restricted first new c.args.by.0 (i + 1) (c.args.front.now.items ++ items_left c.args.source.now) l)
+    (set-append_right front (drop next items) n i (made, item.1) full (omega arith) ∙ ap (λ l. front ++ l) (sym (drop-set-add next items (i - n) (made, item.1)))) more
+
+pub returns : goal.returns
+returns g c =
+    let before = c.args.front.now.items ++ items_left c.args.source.now in
+    let after = c.loop-index.front.items ++ items_left c.loop-index-2.source in
+    let end : c.loop-index-2.index ≡ c.args.count = omega (arith, ord_min-min c.args.count c.len.result) in
+    let all = subst (λ n. Restricted (g.C.Conditions.sets c.args.conds.now) (g.C.Conditions.sets c.loop-index-2.conds) c.args.by.0 n before after) end c.loop-index-2.invariant in
+    record { restricts = restricts all; items = keeps-items all (Keeps-refl _); keeps = all.keeps }
