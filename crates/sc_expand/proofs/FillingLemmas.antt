@@ -1,9 +1,9 @@
 -- A token that is put behind others with white space of its own where it is the first.
-use Rattle.std.proofs.Common.{◌≡◌, ◌&&◌, ◌++◌, ◌∷◌, [], ◌∙◌, ◌<◌, ◌+◌, not, Bool, true, false, ℕ, zero, suc, List, All, take, drop, length, get_or, map, slice_get, Some, ap, sym, refl, subst, if◌then◌else◌}
-use Rattle.std.proofs.lemmas.List.{append_assoc, append-nil, drop_more, map-append, take_more}
+use Rattle.std.proofs.Common.{◌≡◌, ◌&&◌, ◌++◌, ◌∷◌, [], ◌∙◌, ◌<◌, ◌+◌, not, Bool, true, false, ℕ, zero, suc, List, All, take, length, get_or, map, slice_get, Some, ap, sym, refl, subst, if◌then◌else◌}
+use Rattle.std.proofs.lemmas.List.{append_assoc, append-nil, map-append, take_more}
 use Rattle.std.proofs.lemmas.Option.{get_or_from_slice_get, slice_get-map, slice_get_within}
 use Rattle.std.specs.Option.{option_map}
-use Rattle.std.proofs.lemmas.List.Elements.{All-cons, All-head, All-nil, All-tail, All-take}
+use Rattle.std.proofs.lemmas.List.Elements.{All-cons, All-head, All-nil, All-push, All-tail, All-take}
 use Rattle.c11_macros.specs.Hidden as model
 use Rattle.c11_macros.specs.Hidden.{HideSet}
 use Rattle.c11_macros.specs.Substitution.{argument, hidden_by, hiding, with_space}
@@ -11,14 +11,14 @@ use Rattle.sc_base.specs.declared.id.Cond.{Cond}
 use Rattle.sc_base.specs.declared.id.Name.{Name}
 use Rattle.sc_base.specs.declared.place.Place.{Place}
 use Rattle.sc_expand.proofs.AlikeFilling.{items_at-alike, lists-Keeps}
-use Rattle.sc_expand.proofs.AlikeLemmas.{IsAlike-Keeps}
+use Rattle.sc_expand.proofs.AlikeLemmas.{AreAlike-Keeps, IsAlike-Keeps, alike-of}
 use Rattle.sc_guarded.proofs.ItemLemmas.{items_at-append, items_at-Keeps, items_at-take}
 use Rattle.sc_guarded.specs.Items.{items_at}
 use Rattle.sc_hoist.specs.Alike.{AreAlike, IsAlike}
 use Rattle.sc_expand.specs.Seen.{AreHeld, IsHeldPartIn, IsHeldToken, Stores, provenance_of, stores}
-use Rattle.sc_expand.specs.Filling.{expanded_argument, first_spaced_if, part_at, parts_at, spaced}
-use Rattle.sc_model.proofs.SetLemmas.{IsConfig-Keeps, Keeps-refl, Keeps-trans}
-use Rattle.sc_model.specs.Sets.{Sets, IsConfig, IsCond, Keeps}
+use Rattle.sc_expand.specs.Filling.{Adds, AllHeld, expanded_argument, first_spaced_if, part_at, parts_at, spaced}
+use Rattle.sc_model.proofs.SetLemmas.{Denotes-Keeps, IsConfig-Keeps, IsConfig-kept, Keeps-refl, Keeps-trans}
+use Rattle.sc_model.specs.Sets.{Sets, IsConfig, IsCond, Denotes, Keeps}
 use Rattle.sc_model.specs.Growth.{Extends}
 use Rattle.sc_subst.proofs.Later.{hidden_later}
 use Rattle.sc_subst.proofs.TokenLemmas.{spaced_first}
@@ -43,13 +43,6 @@ module _ {T : Type 0} where
   put_parted false true t u = refl
   put_parted false false t u = refl
 
-  -- two items more
-  pub items_at-two : (s : Sets) (xs : List (Cond × T)) (a b : Cond × T) (c : List ℕ) → items_at s ((xs ++ a ∷ []) ++ b ∷ []) c ≡ items_at s xs c ++ ((if s.has a.0.0 c then a.1 ∷ [] else []) ++ (if s.has b.0.0 c then b.1 ∷ [] else []))
-  items_at-two s xs a b c =
-      items_at-append s (xs ++ a ∷ []) (b ∷ []) c
-      ∙ (ap (λ l. l ++ (if s.has b.0.0 c then b.1 ∷ [] else [])) (items_at-append s xs (a ∷ []) c)
-      ∙ append_assoc (items_at s xs c) (if s.has a.0.0 c then a.1 ∷ [] else []) (if s.has b.0.0 c then b.1 ∷ [] else []))
-
 -- none has it first, so those without a token before it are as they were
 pub rest_whole : (h l : Bool) → (h && l) ≡ false → l ≡ (l && not h)
 rest_whole true true none = absurd (cc)
@@ -62,6 +55,46 @@ rest_parted true true = refl
 rest_parted true false = refl
 rest_parted false true = refl
 rest_parted false false = refl
+
+-- ---- tokens that are put behind others
+
+pub adds-none : {old new : Sets} (before : List (Cond × Hidden)) → All (λ (item : Cond × Hidden). IsCond old item.0.0) before → Keeps old new
+    → Adds old new before before (λ c. []) (λ st files. Unit {0}) (λ c d. Unit {0})
+adds-none {old} before own keeps = record {
+  own = λ k d h. keeps.own _ (own k d h);
+  is = λ c listed. items_at-Keeps before c keeps own listed ∙ sym (append-nil (items_at old before c));
+  held = λ st files told held. held;
+  alike = λ c d p q told alike. AreAlike-Keeps keeps p q before own alike;
+}
+
+pub adds-one : {s : Sets} {after : List (Cond × Hidden)} (before : List (Cond × Hidden)) (cond : Cond) (t : Hidden) → All (λ (item : Cond × Hidden). IsCond s item.0.0) before → IsCond s cond.0 → after ≡ before ++ (cond, t) ∷ []
+    → Adds s s before after (λ c. if s.has cond.0 c then t ∷ [] else []) (λ st files. IsHeldToken st files t) (λ c d. IsAlike s c d cond)
+adds-one {s} before cond t own cond_own is =
+    subst (λ l. Adds s s before l (λ c. if s.has cond.0 c then t ∷ [] else []) (λ st files. IsHeldToken st files t) (λ c d. IsAlike s c d cond)) (sym is) (record {
+      own = All-push (λ (item : Cond × Hidden). IsCond s item.0.0) before (cond, t) own cond_own;
+      is = λ c listed. items_at-append s before ((cond, t) ∷ []) c;
+      held = λ st files told held. All-push (λ (item : Cond × Hidden). IsHeldToken st files item.1) before (cond, t) held told;
+      alike = λ c d p q told alike. All-push (λ (item : Cond × Hidden). IsAlike s c d item.0) before (cond, t) alike told;
+    })
+
+pub adds-then : {old mid new : Sets} {before between after : List (Cond × Hidden)} {f g : List ℕ → List Hidden} {H I : Stores → ℕ → Type 0} {A B : List ℕ → List ℕ → Type 0}
+    → Keeps old mid → Adds old mid before between f H A → Adds mid new between after g I B → Adds old new before after (λ c. f c ++ g c) (λ st files. H st files × I st files) (λ c d. A c d × B c d)
+adds-then {old} {before = before} {f = f} {g = g} keeps first more = record {
+  own = more.own;
+  is = λ c listed. more.is c (IsConfig-Keeps keeps listed) ∙ (ap (λ l. l ++ g c) (first.is c listed) ∙ append_assoc (items_at old before c) (f c) (g c));
+  held = λ st files told held. more.held st files told.1 (first.held st files told.0 held);
+  alike = λ c d p q told alike. more.alike c d (IsConfig-Keeps keeps p) (IsConfig-Keeps keeps q) told.1 (first.alike c d p q told.0 alike);
+}
+
+pub adds-as : {old new : Sets} {before after : List (Cond × Hidden)} {f g : List ℕ → List Hidden} {H I : Stores → ℕ → Type 0} {A B : List ℕ → List ℕ → Type 0}
+    → Adds old new before after f H A → ((c : List ℕ) → IsConfig old.arities c → f c ≡ g c) → ((st : Stores) (files : ℕ) → I st files → H st files)
+    → ((c d : List ℕ) → IsConfig old.arities c → IsConfig old.arities d → B c d → A c d) → Adds old new before after g I B
+adds-as {old} {before = before} adds is held alike = record {
+  own = adds.own;
+  is = λ c listed. adds.is c listed ∙ ap (λ l. items_at old before c ++ l) (is c listed);
+  held = λ st files told. adds.held st files (held st files told);
+  alike = λ c d p q told. adds.alike c d p q (alike c d p q told);
+}
 
 -- ---- the first token of a list
 
@@ -78,16 +111,16 @@ spaced_more true false space (y ∷ ys) t = refl
 spaced_more false true space ys t = refl
 spaced_more false false space ys t = refl
 
+pub nothing_spaced : (cond space : Bool) → [] ≡ first_spaced_if cond space []
+nothing_spaced true space = refl
+nothing_spaced false space = refl
+
 left_more : (cond has : Bool) (ys : List Hidden) (t : Hidden) → ((cond && is_nothing ys) && not (has && cond)) ≡ (cond && is_nothing (ys ++ (if has then t ∷ [] else [])))
 left_more true true [] t = refl
 left_more true true (y ∷ ys) t = refl
 left_more true false [] t = refl
 left_more true false (y ∷ ys) t = refl
 left_more false has ys t = refl
-
--- the stores hold the tokens
-abbrev pub AllHeld : Stores → ℕ → List (Cond × Hidden) → Type 0
-AllHeld st files list = All (λ (item : Cond × Hidden). IsHeldToken st files item.1) list
 
 pub spaced_token : (st : Stores) (files : ℕ) (space : Bool) (t : Hidden) → IsHeldToken st files t → IsHeldToken st files (spaced space t)
 spaced_token st files space t h = record {
@@ -96,81 +129,55 @@ spaced_token st files space t h = record {
 }
 
 -- the first i tokens of a list were put behind others
-pub record Puts (first now : Sets) (cond left : ℕ) (space : Bool) (list before after : List (Cond × Hidden)) (i : ℕ) : Type 0 where
+pub record Puts (first now : Sets) (cond left : Cond) (space : Bool) (list before after : List (Cond × Hidden)) (i : ℕ) : Type 0 where
   pub keeps : Keeps first now
-  pub own : All (λ (item : Cond × Hidden). IsCond now item.0.0) after
-  pub held : (st : Stores) (files : ℕ) → AllHeld st files list → AllHeld st files before → AllHeld st files after
-  pub left_own : IsCond now left
-  pub left_is : (c : List ℕ) → IsConfig first.arities c → now.has left c ≡ (first.has cond c && is_nothing (items_at first (take i list) c))
-  pub is : (c : List ℕ) → IsConfig first.arities c → items_at now after c ≡ items_at first before c ++ first_spaced_if (first.has cond c) space (items_at first (take i list) c)
-  pub alike : (c d : List ℕ) → IsConfig first.arities c → IsConfig first.arities d → AreAlike first c d list → first.has cond c ≡ first.has cond d → AreAlike first c d before → AreAlike now c d after
+  pub first_left : Denotes now left.0 (λ c. first.has cond.0 c && is_nothing (items_at first (take i list) c))
+  pub adds : Adds first now before after (λ c. first_spaced_if (first.has cond.0 c) space (items_at first (take i list) c)) (λ st files. AllHeld st files list) (λ c d. AreAlike first c d list × IsAlike first c d cond)
 
-pub puts_none : (s : Sets) (cond : ℕ) (space : Bool) (list before : List (Cond × Hidden)) → IsCond s cond → All (λ (item : Cond × Hidden). IsCond s item.0.0) before → Puts s s cond cond space list before before 0
+pub puts_none : (s : Sets) (cond : Cond) (space : Bool) (list before : List (Cond × Hidden)) → IsCond s cond.0 → All (λ (item : Cond × Hidden). IsCond s item.0.0) before → Puts s s cond cond space list before before 0
 puts_none s cond space list before own before_own = record {
   keeps = Keeps-refl s;
-  own = before_own;
-  held = λ st files list_held held. held;
-  left_own = own;
-  left_is = λ c listed. none (s.has cond c);
-  is = λ c listed. nothing (items_at s before c) (s.has cond c);
-  alike = λ c d p q list_alike cond_alike before_alike. before_alike;
+  first_left = record { own = own; at = λ c listed. none (s.has cond.0 c) };
+  adds = adds-as (adds-none before before_own (Keeps-refl s)) (λ c listed. nothing_spaced (s.has cond.0 c) space) (λ st files held. tt) (λ c d p q alike. tt);
 }
   where
     none : (b : Bool) → b ≡ (b && true)
     none true = refl
     none false = refl
 
-    nothing : (ts : List Hidden) (b : Bool) → ts ≡ ts ++ first_spaced_if b space []
-    nothing ts true = sym (append-nil ts)
-    nothing ts false = sym (append-nil ts)
-
--- configurations that have the same of the list have had a token of it, or none
-puts_left : {first now : Sets} {cond left : ℕ} {space : Bool} {list before after : List (Cond × Hidden)} {i : ℕ} → Puts first now cond left space list before after i → (c d : List ℕ) → IsConfig first.arities c → IsConfig first.arities d
-    → AreAlike first c d list → first.has cond c ≡ first.has cond d → now.has left c ≡ now.has left d
-puts_left {first} {now} {cond} {left} {space} {list} {before} {after} {i} was c d p q list_alike cond_alike =
-    let items = items_at-alike first c d (take i list) (All-take (λ (item : Cond × Hidden). IsAlike first c d item.0) i list list_alike) in
-    was.left_is c p ∙ ((λ j. cond_alike j && is_nothing (items j)) ∙ sym (was.left_is d q))
-
 -- one token more, in what it has in common with the condition
-pub puts_more : (first old new : Sets) (cond left rest met : ℕ) (space : Bool) (list before mid after : List (Cond × Hidden)) (i : ℕ) (x : Cond × Hidden) → Puts first old cond left space list before mid i
-    → i < length list → x ≡ get_or list i x → IsCond first x.0.0 → IsCond first cond → Keeps old new → All (λ (item : Cond × Hidden). IsCond new item.0.0) after
-    → ((c : List ℕ) → IsConfig old.arities c → (met_at : Bool) → met_at ≡ (old.has x.0.0 c && old.has cond c) → items_at new after c ≡ items_at old mid c ++ (if met_at then (if old.has left c then spaced space x.1 else x.1) ∷ [] else []))
-    → ((st : Stores) (files : ℕ) → IsHeldToken st files x.1 → AllHeld st files mid → AllHeld st files after)
-    → IsCond new rest → ((c : List ℕ) → IsConfig old.arities c → new.has rest c ≡ (old.has left c && not (old.has x.0.0 c && old.has cond c)))
-    → ((c d : List ℕ) → IsConfig old.arities c → IsConfig old.arities d → old.has left c ≡ old.has left d → (old.has x.0.0 c && old.has cond c) ≡ (old.has x.0.0 d && old.has cond d) → AreAlike old c d mid → AreAlike new c d after)
+pub puts_more : {first old mid new : Sets} {cond left rest met : Cond} {space : Bool} {list before so_far after : List (Cond × Hidden)} {i : ℕ} (x : Cond × Hidden) → Puts first old cond left space list before so_far i
+    → i < length list → x ≡ get_or list i x → Keeps old mid → Keeps mid new → Denotes mid met.0 (λ c. first.has x.0.0 c && first.has cond.0 c) → Denotes new rest.0 (λ c. mid.has left.0 c && not (mid.has met.0 c))
+    → Adds mid new so_far after (λ c. if mid.has met.0 c then (if mid.has left.0 c then spaced space x.1 else x.1) ∷ [] else []) (λ st files. IsHeldToken st files x.1) (λ c d. IsAlike mid c d left × IsAlike mid c d met)
     → Puts first new cond rest space list before after (i + 1)
-puts_more first old new cond left rest met space list before mid after i x was within is x_own cond_own keeps own put put_held rest_own told put_alike = record {
-  keeps = Keeps-trans was.keeps keeps;
-  own = own;
-  held = λ st files list_held held.
-      let P : Cond × Hidden → Type 0 = λ item. IsHeldToken st files item.1 in
-      put_held st files (subst P (sym is) (list_held i x within)) (was.held st files list_held held);
-  left_own = rest_own;
-  left_is = λ c listed.
-      let here = IsConfig-Keeps was.keeps listed in
-      let ys = items_at first (take i list) c in
-      let both : (old.has x.0.0 c && old.has cond c) ≡ (first.has x.0.0 c && first.has cond c) = ap (λ b. b && old.has cond c) (was.keeps.at x.0.0 c x_own listed) ∙ ap (λ b. first.has x.0.0 c && b) (was.keeps.at cond c cond_own listed) in
-      told c here
-      ∙ (ap (λ b. b && not (old.has x.0.0 c && old.has cond c)) (was.left_is c listed)
-      ∙ (ap (λ b. (first.has cond c && is_nothing ys) && not b) both
-      ∙ (left_more (first.has cond c) (first.has x.0.0 c) ys x.1 ∙ ap (λ l. first.has cond c && is_nothing l) (sym (items_at-take first list i x c within is)))));
-  is = λ c listed.
-      let here = IsConfig-Keeps was.keeps listed in
-      let ys = items_at first (take i list) c in
-      let b = items_at first before c in
-      let f = first.has cond c in
-      let both : (first.has x.0.0 c && first.has cond c) ≡ (old.has x.0.0 c && old.has cond c) = sym (ap (λ b. b && old.has cond c) (was.keeps.at x.0.0 c x_own listed) ∙ ap (λ b. first.has x.0.0 c && b) (was.keeps.at cond c cond_own listed)) in
-      put c here (first.has x.0.0 c && first.has cond c) both
-      ∙ (ap (λ l. l ++ (if first.has x.0.0 c && f then (if old.has left c then spaced space x.1 else x.1) ∷ [] else [])) (was.is c listed)
-      ∙ (ap (λ l. (b ++ first_spaced_if f space ys) ++ (if first.has x.0.0 c && f then (if l then spaced space x.1 else x.1) ∷ [] else [])) (was.left_is c listed)
-      ∙ (append_assoc b (first_spaced_if f space ys) (if first.has x.0.0 c && f then (if f && is_nothing ys then spaced space x.1 else x.1) ∷ [] else [])
-      ∙ (ap (λ l. b ++ l) (spaced_more f (first.has x.0.0 c) space ys x.1) ∙ ap (λ l. b ++ first_spaced_if f space l) (sym (items_at-take first list i x c within is))))));
-  alike = λ c d p q list_alike cond_alike before_alike.
-      let x_first : IsAlike first c d x.0 = subst (λ (item : Cond × Hidden). IsAlike first c d item.0) (sym is) (list_alike i x within) in
-      let x_alike : IsAlike old c d x.0 = IsAlike-Keeps was.keeps p q {cond = x.0} x_own x_first in
-      let now_alike : old.has cond c ≡ old.has cond d = was.keeps.at cond c cond_own p ∙ (cond_alike ∙ sym (was.keeps.at cond d cond_own q)) in
-      put_alike c d (IsConfig-Keeps was.keeps p) (IsConfig-Keeps was.keeps q) (puts_left was c d p q list_alike cond_alike) (λ j. x_alike j && now_alike j) (was.alike c d p q list_alike cond_alike before_alike);
-}
+puts_more {first} {old} {mid} {new} {cond} {left} {rest} {met} {space} {list} {i = i} x was within is grew grows told others step =
+    let all = Keeps-trans was.keeps grew in
+    let was_left = Denotes-Keeps grew was.first_left in
+    let so_far = λ (c : List ℕ). items_at first (take i list) c in
+    let next = λ (c : List ℕ). sym (items_at-take first list i x c within is) in
+    record {
+      keeps = Keeps-trans all grows;
+      first_left = record {
+        own = others.own;
+        at = λ c listed.
+            let here = IsConfig-kept grows listed in
+            let f = first.has cond.0 c in
+            others.at c listed ∙ ((λ j. was_left.at c here j && not (told.at c here j)) ∙ (left_more f (first.has x.0.0 c) (so_far c) x.1 ∙ ap (λ l. f && is_nothing l) (next c)));
+      };
+      adds = adds-as (adds-then all (adds-then was.keeps was.adds (adds-none _ was.adds.own grew)) step)
+          (λ c listed.
+          let here = IsConfig-Keeps all listed in
+          let f = first.has cond.0 c in
+          let put = first_spaced_if f space (so_far c) in
+          (λ j. append-nil put j ++ (if told.at c here j then (if was_left.at c here j then spaced space x.1 else x.1) ∷ [] else [])) ∙ (spaced_more f (first.has x.0.0 c) space (so_far c) x.1 ∙ ap (first_spaced_if f space) (next c)))
+          (λ st files held. ((held, tt), subst (λ (item : Cond × Hidden). IsHeldToken st files item.1) (sym is) (held i x within)))
+          (λ c d p q alike.
+          let here = IsConfig-Keeps all p in
+          let there = IsConfig-Keeps all q in
+          let x_alike : IsAlike first c d x.0 = subst (λ (item : Cond × Hidden). IsAlike first c d item.0) (sym is) (alike.0 i x within) in
+          let items = items_at-alike first c d (take i list) (All-take (λ (item : Cond × Hidden). IsAlike first c d item.0) i list alike.0) in
+          ((alike, tt), (alike-of {cond = left} was_left here there (λ j. alike.1 j && is_nothing (items j)), alike-of {cond = met} told here there (λ j. x_alike j && alike.1 j))));
+    }
 
 -- ---- the parts of a template
 
@@ -190,35 +197,32 @@ part_at-Keeps old new expanded cond c (part.Argument n space) keeps own cond_own
     ap (λ b. first_spaced_if b space (items_at new (expanded_argument expanded n) c)) (keeps.at cond c cond_own listed)
     ∙ ap (first_spaced_if (old.has cond c) space) (items_at-Keeps (expanded_argument expanded n) c keeps (argument_own old expanded n own) listed)
 
--- the first i parts were put
-pub record Fills (first now : Sets) (expanded : List (List (Cond × Hidden))) (cond : ℕ) (parts : List Part) (made : List (Cond × Hidden)) (i : ℕ) : Type 0 where
-  pub keeps : Keeps first now
-  pub own : All (λ (item : Cond × Hidden). IsCond now item.0.0) made
-  pub held : (st : Stores) (files : ℕ) → All (IsHeldPartIn st files) parts → All (AllHeld st files) expanded → AllHeld st files made
-  pub is : (c : List ℕ) → IsConfig first.arities c → items_at now made c ++ parts_at first expanded (first.has cond c) c (drop i parts) ≡ parts_at first expanded (first.has cond c) c parts
-  pub alike : (c d : List ℕ) → IsConfig first.arities c → IsConfig first.arities d → All (AreAlike first c d) expanded → first.has cond c ≡ first.has cond d → AreAlike now c d made
+parts_at-append : (s : Sets) (expanded : List (List (Cond × Hidden))) (b : Bool) (c : List ℕ) (ps qs : List Part) → parts_at s expanded b c (ps ++ qs) ≡ parts_at s expanded b c ps ++ parts_at s expanded b c qs
+parts_at-append s expanded b c [] qs = refl
+parts_at-append s expanded b c (p ∷ ps) qs = ap (λ l. part_at s expanded b c p ++ l) (parts_at-append s expanded b c ps qs) ∙ sym (append_assoc (part_at s expanded b c p) (parts_at s expanded b c ps) (parts_at s expanded b c qs))
 
-pub fills_more : (first old new : Sets) (expanded : List (List (Cond × Hidden))) (cond : ℕ) (parts : List Part) (made after : List (Cond × Hidden)) (i : ℕ) (d : Part) → Fills first old expanded cond parts made i
-    → i < length parts → Owned first expanded → IsCond first cond → Keeps old new → All (λ (item : Cond × Hidden). IsCond new item.0.0) after
-    → ((c : List ℕ) → IsConfig old.arities c → items_at new after c ≡ items_at old made c ++ part_at old expanded (old.has cond c) c (get_or parts i d))
-    → ((st : Stores) (files : ℕ) → IsHeldPartIn st files (get_or parts i d) → All (AllHeld st files) expanded → AllHeld st files made → AllHeld st files after)
-    → ((c d : List ℕ) → IsConfig old.arities c → IsConfig old.arities d → All (AreAlike old c d) expanded → old.has cond c ≡ old.has cond d → AreAlike old c d made → AreAlike new c d after)
+-- the first i parts were put
+pub record Fills (first now : Sets) (expanded : List (List (Cond × Hidden))) (cond : Cond) (parts : List Part) (made : List (Cond × Hidden)) (i : ℕ) : Type 0 where
+  pub keeps : Keeps first now
+  pub adds : Adds first now [] made (λ c. parts_at first expanded (first.has cond.0 c) c (take i parts)) (λ st files. All (IsHeldPartIn st files) parts × All (AllHeld st files) expanded)
+      (λ c d. All (AreAlike first c d) expanded × IsAlike first c d cond)
+
+pub fills_more : {first old new : Sets} {expanded : List (List (Cond × Hidden))} {cond : Cond} {parts : List Part} {made after : List (Cond × Hidden)} {i : ℕ} (d : Part) → Fills first old expanded cond parts made i
+    → i < length parts → Owned first expanded → IsCond first cond.0 → Keeps old new
+    → Adds old new made after (λ c. part_at old expanded (old.has cond.0 c) c (get_or parts i d)) (λ st files. IsHeldPartIn st files (get_or parts i d) × All (AllHeld st files) expanded)
+    (λ c d. All (AreAlike old c d) expanded × IsAlike old c d cond)
     → Fills first new expanded cond parts after (i + 1)
-fills_more first old new expanded cond parts made after i d was within own cond_own keeps after_own put put_held put_alike = record {
+fills_more {first} {old} {new} {expanded} {cond} {parts} {i = i} d was within own cond_own keeps step = record {
   keeps = Keeps-trans was.keeps keeps;
-  own = after_own;
-  held = λ st files parts_held expanded_held. put_held st files (parts_held i d within) expanded_held (was.held st files parts_held expanded_held);
-  is = λ c listed.
+  adds = adds-as (adds-then was.keeps was.adds step)
+      (λ c listed.
       let p = get_or parts i d in
-      let f = first.has cond c in
-      let rest = parts_at first expanded f c (drop (i + 1) parts) in
-      ap (λ l. l ++ rest) (put c (IsConfig-Keeps was.keeps listed))
-      ∙ (ap (λ l. (items_at old made c ++ l) ++ rest) (part_at-Keeps first old expanded cond c p was.keeps own cond_own listed)
-      ∙ (append_assoc (items_at old made c) (part_at first expanded f c p) rest
-      ∙ (ap (λ ps. items_at old made c ++ parts_at first expanded f c ps) (sym (drop_more parts i d within)) ∙ was.is c listed)));
-  alike = λ c e p q expanded_alike cond_alike.
-      let now_alike : old.has cond c ≡ old.has cond e = was.keeps.at cond c cond_own p ∙ (cond_alike ∙ sym (was.keeps.at cond e cond_own q)) in
-      put_alike c e (IsConfig-Keeps was.keeps p) (IsConfig-Keeps was.keeps q) (lists-Keeps was.keeps p q expanded own expanded_alike) now_alike (was.alike c e p q expanded_alike cond_alike);
+      let f = first.has cond.0 c in
+      let so_far = parts_at first expanded f c (take i parts) in
+      ap (λ l. so_far ++ l) (part_at-Keeps first old expanded cond.0 c p was.keeps own cond_own listed ∙ sym (append-nil (part_at first expanded f c p)))
+      ∙ (sym (parts_at-append first expanded f c (take i parts) (p ∷ [])) ∙ ap (parts_at first expanded f c) (sym (take_more parts i d within))))
+      (λ st files held. (held, (held.0 i d within, held.1)))
+      (λ c e p q alike. (alike, (lists-Keeps was.keeps p q expanded own alike.0, IsAlike-Keeps was.keeps p q {cond = cond} cond_own alike.1)));
 }
 
 -- ---- lists made item by item

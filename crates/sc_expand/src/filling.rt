@@ -4,7 +4,7 @@ ghost use Rattle.c11_macros.specs.Substitution.{hiding, with_space};
 ghost use Rattle.sc_base.specs.declared.id.Cond as base;
 ghost use Rattle.sc_expand.specs.Alike.{IsAlikeCall};
 ghost use Rattle.sc_hoist.specs.Alike.{AreAlike, IsAlike};
-ghost use Rattle.sc_expand.specs.Filling.{first_spaced_if, part_at, parts_at, spaced as spaced_as};
+ghost use Rattle.sc_expand.specs.Filling.{Adds, AllHeld, first_spaced_if, part_at, parts_at, spaced as spaced_as};
 ghost use Rattle.sc_expand.specs.Seen.{AreHeld, IsHeldCall, IsHeldPartIn, IsHeldToken, Stores, provenance_of, seen_at, stores};
 ghost use Rattle.sc_guarded.specs.Items.{items_at};
 ghost use Rattle.sc_model.specs.Growth.{Extends};
@@ -34,14 +34,10 @@ fn put_spaced<C: Conditions>(
     requires own { All (λ item. IsCond (C.sets conds.old) item.0.0) made.old }
     requires left_own { IsCond (C.sets conds.old) left.0 }
     requires has_own { IsCond (C.sets conds.old) has.0 }
-    ensures own { OnOk result (All (λ item. IsCond (C.sets conds.new) item.0.0) made.new) }
-    ensures is { OnOk result ((c : List ℕ) → IsConfig (C.sets conds.old).arities c → items_at (C.sets conds.new) made.new c
-        ≡ items_at (C.sets conds.old) made.old c
-        ++ (if (C.sets conds.old).has has.0 c then (if (C.sets conds.old).has left.0 c then spaced_as space token else token) ∷ [] else [])) }
+    ensures adds { OnOk result (Adds (C.sets conds.old) (C.sets conds.new) made.old made.new
+        (λ c. if (C.sets conds.old).has has.0 c then (if (C.sets conds.old).has left.0 c then spaced_as space token else token) ∷ [] else [])
+        (λ st files. IsHeldToken st files token) (λ c d. IsAlike (C.sets conds.old) c d left × IsAlike (C.sets conds.old) c d has)) }
     ensures left { IfOk result (λ rest. Denotes (C.sets conds.new) rest.0 (λ c. (C.sets conds.old).has left.0 c && not ((C.sets conds.old).has has.0 c))) }
-    ensures held { OnOk result ((st : Stores) (files : ℕ) → IsHeldToken st files token → All (λ item. IsHeldToken st files item.1) made.old → All (λ item. IsHeldToken st files item.1) made.new) }
-    ensures alike { OnOk result ((c d : List ℕ) → IsConfig (C.sets conds.old).arities c → IsConfig (C.sets conds.old).arities d → IsAlike (C.sets conds.old) c d left → IsAlike (C.sets conds.old) c d has
-        → AreAlike (C.sets conds.old) c d made.old → AreAlike (C.sets conds.new) c d made.new) }
 
     // at every outcome
     ensures keeps { Keeps (C.sets conds.old) (C.sets conds.new) }
@@ -79,12 +75,9 @@ fn put_list<C: Conditions>(
     requires own { All (λ item. IsCond (C.sets conds.old) item.0.0) made.old }
     requires list_own { All (λ item. IsCond (C.sets conds.old) item.0.0) list.now }
     requires cond_own { IsCond (C.sets conds.old) cond.0 }
-    ensures own { OnOk result (All (λ item. IsCond (C.sets conds.new) item.0.0) made.new) }
-    ensures is { OnOk result ((c : List ℕ) → IsConfig (C.sets conds.old).arities c → items_at (C.sets conds.new) made.new c
-        ≡ items_at (C.sets conds.old) made.old c ++ first_spaced_if ((C.sets conds.old).has cond.0 c) space (items_at (C.sets conds.old) list.now c)) }
-    ensures held { OnOk result ((st : Stores) (files : ℕ) → All (λ item. IsHeldToken st files item.1) list.now → All (λ item. IsHeldToken st files item.1) made.old → All (λ item. IsHeldToken st files item.1) made.new) }
-    ensures alike { OnOk result ((c d : List ℕ) → IsConfig (C.sets conds.old).arities c → IsConfig (C.sets conds.old).arities d → AreAlike (C.sets conds.old) c d list.now → IsAlike (C.sets conds.old) c d cond
-        → AreAlike (C.sets conds.old) c d made.old → AreAlike (C.sets conds.new) c d made.new) }
+    ensures adds { OnOk result (Adds (C.sets conds.old) (C.sets conds.new) made.old made.new
+        (λ c. first_spaced_if ((C.sets conds.old).has cond.0 c) space (items_at (C.sets conds.old) list.now c))
+        (λ st files. AllHeld st files list.now) (λ c d. AreAlike (C.sets conds.old) c d list.now × IsAlike (C.sets conds.old) c d cond)) }
 
     // at every outcome
     ensures keeps { Keeps (C.sets conds.old) (C.sets conds.new) }
@@ -110,12 +103,9 @@ fn put_part<C: Conditions>(
     requires own { All (λ item. IsCond (C.sets conds.old) item.0.0) made.old }
     requires expanded_own { All (All (λ item. IsCond (C.sets conds.old) item.0.0)) expanded.now }
     requires cond_own { IsCond (C.sets conds.old) cond.0 }
-    ensures own { OnOk result (All (λ item. IsCond (C.sets conds.new) item.0.0) made.new) }
-    ensures is { OnOk result ((c : List ℕ) → IsConfig (C.sets conds.old).arities c → items_at (C.sets conds.new) made.new c
-        ≡ items_at (C.sets conds.old) made.old c ++ part_at (C.sets conds.old) expanded.now ((C.sets conds.old).has cond.0 c) c part) }
-    ensures held { OnOk result ((st : Stores) (files : ℕ) → IsHeldPartIn st files part → All (λ list. All (λ item. IsHeldToken st files item.1) list) expanded.now → All (λ item. IsHeldToken st files item.1) made.old → All (λ item. IsHeldToken st files item.1) made.new) }
-    ensures alike { OnOk result ((c d : List ℕ) → IsConfig (C.sets conds.old).arities c → IsConfig (C.sets conds.old).arities d → All (AreAlike (C.sets conds.old) c d) expanded.now → IsAlike (C.sets conds.old) c d cond
-        → AreAlike (C.sets conds.old) c d made.old → AreAlike (C.sets conds.new) c d made.new) }
+    ensures adds { OnOk result (Adds (C.sets conds.old) (C.sets conds.new) made.old made.new
+        (λ c. part_at (C.sets conds.old) expanded.now ((C.sets conds.old).has cond.0 c) c part) (λ st files. IsHeldPartIn st files part × All (AllHeld st files) expanded.now)
+        (λ c d. All (AreAlike (C.sets conds.old) c d) expanded.now × IsAlike (C.sets conds.old) c d cond)) }
 
     // at every outcome
     ensures keeps { Keeps (C.sets conds.old) (C.sets conds.new) }
@@ -143,11 +133,9 @@ fn put_parts<C: Conditions>(
 ) -> Result<Guarded<Hidden>, OutOfMemory>
     requires expanded_own { All (All (λ item. IsCond (C.sets conds.old) item.0.0)) expanded.now }
     requires cond_own { IsCond (C.sets conds.old) cond.0 }
-    ensures own { IfOk result (λ made. All (λ item. IsCond (C.sets conds.new) item.0.0) made) }
-    ensures is { IfOk result (λ made. (c : List ℕ) → IsConfig (C.sets conds.old).arities c → items_at (C.sets conds.new) made c
-        ≡ parts_at (C.sets conds.old) expanded.now ((C.sets conds.old).has cond.0 c) c parts.now) }
-    ensures held { IfOk result (λ made. (st : Stores) (files : ℕ) → All (IsHeldPartIn st files) parts.now → All (λ list. All (λ item. IsHeldToken st files item.1) list) expanded.now → All (λ item. IsHeldToken st files item.1) made) }
-    ensures alike { IfOk result (λ made. (c d : List ℕ) → IsConfig (C.sets conds.old).arities c → IsConfig (C.sets conds.old).arities d → All (AreAlike (C.sets conds.old) c d) expanded.now → IsAlike (C.sets conds.old) c d cond → AreAlike (C.sets conds.new) c d made) }
+    ensures adds { IfOk result (λ made. Adds (C.sets conds.old) (C.sets conds.new) [] made
+        (λ c. parts_at (C.sets conds.old) expanded.now ((C.sets conds.old).has cond.0 c) c parts.now) (λ st files. All (IsHeldPartIn st files) parts.now × All (AllHeld st files) expanded.now)
+        (λ c d. All (AreAlike (C.sets conds.old) c d) expanded.now × IsAlike (C.sets conds.old) c d cond)) }
 
     // at every outcome
     ensures keeps { Keeps (C.sets conds.old) (C.sets conds.new) }
