@@ -10,7 +10,7 @@ use Rattle.sc_expand.specs.declared.call.Call.{Call}
 use Rattle.sc_expand.specs.declared.call.Wanted.{Wanted}
 use Rattle.sc_expand.specs.declared.expansion.Expansion.{Expansion}
 use Rattle.sc_expand.specs.declared.frame.Enclosing.{Enclosing}
-use Rattle.sc_expand.specs.Machine.{IsResumed}
+use Rattle.sc_expand.specs.Machine.{HasEntered, IsResumed}
 use Rattle.sc_expand.specs.Seen.{IsHeldCall, Stores}
 use Rattle.sc_guarded.specs.Items.{items_at}
 use Rattle.sc_hoist.specs.Alike.{AreAlike, IsAlike}
@@ -30,10 +30,6 @@ module _ {T : Type 0} (s : Sets) (c d : List ℕ) where
   items_at-alike (x ∷ xs) alike =
       ap (λ b. if b then x.1 ∷ items_at s xs c else items_at s xs c) (All-head Same x xs alike)
       ∙ ap (λ r. if s.has x.0.0 d then x.1 ∷ r else r) (items_at-alike xs (All-tail Same x xs alike))
-
-  -- one item more
-  pub AreAlike-push : (list more : List (Cond × T)) (cond : Cond) (item : T) → more ≡ list ++ (cond, item) ∷ [] → AreAlike s c d list → IsAlike s c d cond → AreAlike s c d more
-  AreAlike-push list more cond item is alike here = subst (All Same) (sym is) (All-push Same list (cond, item) alike here)
 
   pub AreAlike-nil : AreAlike {T = T} s c d []
   AreAlike-nil = All-nil Same
@@ -66,20 +62,18 @@ alike-narrowed {old} {new} keeps {c} {d} p q {files} live call later held meanin
 
 module _ (s : Sets) (c d : List ℕ) (others : Others) (e after : Expansion) where
   -- an argument is entered
-  pub alike-enter : (call : Call) (w : Wanted) → after.refusals ≡ e.refusals → after.below.items ≡ e.below.items ++ record { frame = e.top; call = call; parameter = w.parameter } ∷ []
-      → after.top.work ≡ map (λ (t : Hidden). (call.cond, t)) w.tokens → after.top.out ≡ [] → after.top.calls.items ≡ []
-      → IsAlikeCall s c d call → IsAlikeExpansion s c d others e → IsAlikeExpansion s c d others after
-  alike-enter call w refusals below work out calls call_alike alike =
+  pub alike-enter : (call : Call) (w : Wanted) → after.refusals ≡ e.refusals → HasEntered e after call w → IsAlikeCall s c d call → IsAlikeExpansion s c d others e → IsAlikeExpansion s c d others after
+  alike-enter call w refusals entered call_alike alike =
       let o : Enclosing = record { frame = e.top; call = call; parameter = w.parameter } in
-      let above : length after.below.items ≡ suc (length e.below.items) = ap length below ∙ long o e.below.items in
+      let above : length after.below.items ≡ suc (length e.below.items) = ap length entered.below ∙ long o e.below.items in
       record {
         refusals = subst (AreAlikeRefusals s c d others.faults) (sym refusals) alike.refusals;
         top = subst (λ n. IsAlikeFrame s c d (others_at others n) after.top) (sym above) (record {
-          work = of-all s c d after.top.work (subst (AreAlike s c d) (sym work) (All-map (Same {T = Hidden} s c d) (λ (t : Hidden). (call.cond, t)) w.tokens (λ k t within. call_alike.cond)));
-          out = subst (AreAlike s c d) (sym out) (All-nil (Same {T = Hidden} s c d));
-          calls = subst (All (IsAlikeCall s c d)) (sym calls) (All-nil (IsAlikeCall s c d));
+          work = of-all s c d after.top.work (subst (AreAlike s c d) (sym entered.work) (All-map (Same {T = Hidden} s c d) (λ (t : Hidden). (call.cond, t)) w.tokens (λ k t within. call_alike.cond)));
+          out = subst (AreAlike s c d) (sym entered.out) (All-nil (Same {T = Hidden} s c d));
+          calls = subst (All (IsAlikeCall s c d)) (sym entered.calls) (All-nil (IsAlikeCall s c d));
         });
-        below = λ n k is. elim (push_cases e.below.items o n k (sym (ap (λ l. slice_get l n) below) ∙ is)) [
+        below = λ n k is. elim (push_cases e.below.items o n k (sym (ap (λ l. slice_get l n) entered.below) ∙ is)) [
           | inl before ↦ alike.below n k before
           | inr last ↦
               subst (λ (x : Enclosing). IsAlikeEnclosing s c d (others_at others n) x) last.1

@@ -2,20 +2,15 @@
 use Rattle.std.proofs.Common.{◌≡◌, ◌∙◌, ℕ, ◌+◌, Bool, true, false, List, [], ◌∷◌, All, map, drop, take, refl, sym, ap, subst, if◌then◌else◌}
 use Rattle.std.proofs.lemmas.List.Elements.{All-cons, All-head, All-nil, All-tail}
 use Rattle.c11_macros.specs.Macros.{Form, Item}
-use Rattle.sc_base.specs.declared.fault.Fault.{Fault}
 use Rattle.sc_base.specs.declared.id.Cond.{Cond}
 use Rattle.sc_base.specs.declared.id.Name.{Name}
 use Rattle.sc_base.specs.declared.token.Token.{Token}
 use Rattle.sc_base.specs.Seen.{text_at}
-use Rattle.sc_expand.proofs.AlikeLemmas.{IsAlikeIn-Keeps}
 use Rattle.sc_expand.proofs.BeginningLemmas.{same_conds}
-use Rattle.sc_expand.specs.Alike.{AreAlikeRefusals, IsAlikeCall, IsAlikeIn, IsSameCall, Span}
+use Rattle.sc_expand.specs.Alike.{IsAlikeCall, IsSameCall}
 use Rattle.sc_expand.specs.Beginning.{Begins}
 use Rattle.sc_expand.specs.declared.call.Call.{Call}
-use Rattle.sc_expand.specs.declared.expansion.Expansion.{Expansion}
-use Rattle.sc_expand.specs.declared.refusals.Refusals.{Refusals}
 use Rattle.sc_expand.specs.Having.{has_each, tokens_in}
-use Rattle.sc_expand.specs.Machine.{IsHeldExpansion}
 use Rattle.sc_expand.specs.Plain.{Waiting}
 use Rattle.sc_expand.specs.Seen.{AreHeld, Grows, Stores, seen_at, stores}
 use Rattle.sc_base.specs.declared.place.Place.{Place}
@@ -23,7 +18,7 @@ use Rattle.sc_guarded.specs.Items.{items_at}
 use Rattle.sc_hoist.specs.Alike.{AreAlike, IsAlike}
 use Rattle.sc_hoist.specs.Calls.{call_end, call_end_at, call_length, call_places, spelled_at}
 use Rattle.sc_hoist.specs.Places.{places_from}
-use Rattle.sc_model.specs.Sets.{IsCond, IsConfig, Keeps, Sets}
+use Rattle.sc_model.specs.Sets.{Sets}
 use Rattle.sc_subst.proofs.Later.{text_later}
 use Rattle.sc_subst.specs.declared.hidden.Hidden.{Hidden}
 use Rattle.sc_subst.specs.Seen.{seen_hidden}
@@ -128,17 +123,6 @@ each-same-call {c = c} {d = d} before after grows held tokens at_c at_d same = r
   ends = each-end before after grows held tokens c at_c ∙ (same.ends ∙ sym (each-end before after grows held tokens d at_d));
   places = each-places before after grows held tokens c at_c ∙ (same.places ∙ sym (each-places before after grows held tokens d at_d));
 }
-
--- ---- configurations are refused
-
--- what refusing keeps alike of the refusals it keeps of the expansion
-pub refused-alike : {old : Stores} {new : Sets} {files : ℕ} (keeps : Keeps old.sets new) (e : Expansion) (r : Refusals) (cond : ℕ) → IsHeldExpansion old files e
-    → ((c d : List ℕ) (others : ℕ) → IsConfig old.sets.arities c → IsConfig old.sets.arities d → All (λ (f : Fault). IsCond old.sets f.cond.0) e.refusals.faults.items
-    → old.sets.has cond c ≡ old.sets.has cond d → AreAlikeRefusals old.sets c d others e.refusals → AreAlikeRefusals new c d others r)
-    → (c d : List ℕ) (span : Span) → IsConfig old.sets.arities c → IsConfig old.sets.arities d → old.sets.has cond c ≡ old.sets.has cond d → IsAlikeIn old.sets c d span e → IsAlikeIn new c d span (record e { refusals = r })
-refused-alike keeps e r cond held told c d span at_c at_d same alike =
-    let kept = IsAlikeIn-Keeps keeps at_c at_d span e held alike in
-    record { refusals = told c d span.faults at_c at_d held.refusals.own same alike.refusals; work = kept.work; out = kept.out; calls = kept.calls }
 
 -- ---- a call begins
 

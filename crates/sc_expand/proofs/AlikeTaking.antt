@@ -7,6 +7,7 @@ use Rattle.std.specs.declared.rc.Rc.{Rc}
 use Rattle.std.specs.Prelude.{IfSome, slice_get}
 use Rattle.c11_macros.specs.Defines.{is_function_like}
 use Rattle.c11_macros.specs.Expansion.{is_looked_up}
+use Rattle.std.specs.Option.{option_map}
 use Rattle.sc_base.proofs.Growth.{Extends-refl}
 use Rattle.sc_base.specs.declared.id.Cond.{Cond}
 use Rattle.sc_base.specs.declared.id.Name.{Name}
@@ -19,7 +20,7 @@ use Rattle.sc_expand.proofs.UnchangedLemmas.{All-before, All-behind}
 use Rattle.sc_expand.specs.Alike.{AreAlikeRefusals, IsAlikeCall, IsAlikeEnclosing, IsAlikeExpansion, IsAlikeFrame, IsAlikeIn, IsAlikeTaken, IsFunctionLike, IsSameCall, Others, Span, TakesName, others_at}
 use Rattle.sc_expand.specs.Having.{has_each}
 use Rattle.sc_expand.specs.Seen.{AreHeld, Grows, Stores, stores}
-use Rattle.sc_expand.specs.Taking.{AreTaken, IsFunction, TakesPart}
+use Rattle.sc_expand.specs.Taking.{AreTaken, IsFunction, IsTaken, TakesPart}
 use Rattle.sc_expand.specs.Unchanged as unchanged
 use Rattle.sc_expand.specs.Unchanged.{IsPushed}
 use Rattle.sc_expand.specs.declared.expansion.Expansion.{Expansion}
@@ -29,7 +30,7 @@ use Rattle.sc_guarded.proofs.ItemLemmas.{items_at-take}
 use Rattle.sc_guarded.specs.Items.{items_at}
 use Rattle.sc_hoist.specs.Alike.{AreAlike, IsAlike}
 use Rattle.sc_macro.specs.declared.definition.Definition.{Definition}
-use Rattle.sc_macro.specs.Seen.{IsHeldDefinition, text_of}
+use Rattle.sc_macro.specs.Seen.{IsHeldDefinition, seen_definition, text_of}
 use Rattle.sc_model.proofs.ListLemmas.{slice_get-front, slice_get-seam}
 use Rattle.sc_model.proofs.SetLemmas.{IsConfig-Keeps, IsConfig-kept}
 use Rattle.sc_model.specs.Growth.{Extends, IsOneToOne}
@@ -106,32 +107,28 @@ module _ {files : List (List ℕ)} {old mid : Stores} {was now : Expansion} {bef
     function = function;
   }
 
-  pub part-each : (new : Stores) (next : Expansion) → ((c : List ℕ) → IsConfig mid.sets.arities c → mid.sets.has part.0.0 c ≡ false → has_each new.sets next.top.work c ≡ has_each mid.sets now.top.work c)
-      → (c : List ℕ) → IsConfig old.sets.arities c → items_at old.sets (take (i + 1) parts) c ≡ [] → has_each new.sets next.top.work c ≡ has_each old.sets was.top.work c
-  part-each new next each c listed none =
-      let split = none-last c none in
-      each c (IsConfig-Keeps grows.sets listed) (grows.sets.at part.0.0 c own listed ∙ split.1) ∙ done.others_each c listed split.0
+  module _ {new : Stores} {next : Expansion} {later : Taken} (step : IsTaken files mid new now next after later head part.0.0 (option_map (λ shared. seen_definition mid.names shared.value) part.1)) where
+    pub part-each : (c : List ℕ) → IsConfig old.sets.arities c → items_at old.sets (take (i + 1) parts) c ≡ [] → has_each new.sets next.top.work c ≡ has_each old.sets was.top.work c
+    part-each c listed none =
+        let split = none-last c none in
+        step.others_each c (IsConfig-Keeps grows.sets listed) (grows.sets.at part.0.0 c own listed ∙ split.1) ∙ done.others_each c listed split.0
 
-  pub part-alike : (new : Stores) (next : Expansion) (later : Taken) (counted : ℕ) → AreHeld old counted was.top.work → map (λ (item : Cond × Hidden). item.1) now.top.work ≡ map (λ (item : Cond × Hidden). item.1) was.top.work
-      → IfSome part.1 (λ shared. IsHeldDefinition old.names shared.value) → ((c : List ℕ) → IsConfig old.sets.arities c → length (items_at old.sets parts c) ≤ 1)
-      → ((c d : List ℕ) (span : Span) → IsConfig mid.sets.arities c → IsConfig mid.sets.arities d → IsAlike mid.sets c d part.0
-      → (mid.sets.has part.0.0 c ≡ true → IsFunction mid.names part.1 → IsSameCall mid.sets mid.names c d now.top.work)
-      → IsAlikeTaken mid.sets c d after → IsAlikeIn mid.sets c d span now → IsAlikeIn new.sets c d span next × IsAlikeTaken new.sets c d later)
-      → (c d : List ℕ) (span : Span) → IsConfig old.sets.arities c → IsConfig old.sets.arities d → AreAlike old.sets c d (take (i + 1) parts)
-      → (TakesPart old.sets old.names (take (i + 1) parts) c → IsSameCall old.sets old.names c d was.top.work) → IsAlikeTaken old.sets c d before
-      → IsAlikeIn old.sets c d span was → IsAlikeIn new.sets c d span next × IsAlikeTaken new.sets c d later
-  part-alike new next later counted held tokens definition one step c d span p q alike called taken start =
-      let P : Cond × Option (Rc Definition Global) → Type 0 = λ item. IsAlike old.sets c d item.0 in
-      let all = subst (All P) one-more alike in
-      let last = All-head P part [] (All-behind P (take i parts) (part ∷ []) all) in
-      let so_far = done.alike c d span p q (All-before P (take i parts) (part ∷ []) all) (λ takes. called (takes-before c takes)) taken start in
-      step c d span (IsConfig-Keeps grows.sets p) (IsConfig-Keeps grows.sets q) (IsAlike-Keeps grows.sets p q own last)
-      (λ has function.
-      let here = sym (grows.sets.at part.0.0 c own p) ∙ has in
-      let none_c = (none-before old.sets parts i part c within is here (one c p)).0 in
-      let none_d = (none-before old.sets parts i part d within is (sym last ∙ here) (one d q)).0 in
-      each-same-call was.top.work now.top.work grows held tokens (done.others_each c p none_c) (done.others_each d q none_d) (called (takes-last c here (function-earlier grows.names part.1 definition function))))
-      so_far.1 so_far.0
+    pub part-alike : {counted : ℕ} → AreHeld old counted was.top.work → IfSome part.1 (λ shared. IsHeldDefinition old.names shared.value) → ((c : List ℕ) → IsConfig old.sets.arities c → length (items_at old.sets parts c) ≤ 1)
+        → (c d : List ℕ) (span : Span) → IsConfig old.sets.arities c → IsConfig old.sets.arities d → AreAlike old.sets c d (take (i + 1) parts)
+        → (TakesPart old.sets old.names (take (i + 1) parts) c → IsSameCall old.sets old.names c d was.top.work) → IsAlikeTaken old.sets c d before
+        → IsAlikeIn old.sets c d span was → IsAlikeIn new.sets c d span next × IsAlikeTaken new.sets c d later
+    part-alike held definition one c d span p q alike called taken start =
+        let P : Cond × Option (Rc Definition Global) → Type 0 = λ item. IsAlike old.sets c d item.0 in
+        let all = subst (All P) one-more alike in
+        let last = All-head P part [] (All-behind P (take i parts) (part ∷ []) all) in
+        let so_far = done.alike c d span p q (All-before P (take i parts) (part ∷ []) all) (λ takes. called (takes-before c takes)) taken start in
+        step.alike c d span (IsConfig-Keeps grows.sets p) (IsConfig-Keeps grows.sets q) (IsAlike-Keeps grows.sets p q own last)
+        (λ has function.
+        let here = sym (grows.sets.at part.0.0 c own p) ∙ has in
+        let none_c = (none-before old.sets parts i part c within is here (one c p)).0 in
+        let none_d = (none-before old.sets parts i part d within is (sym last ∙ here) (one d q)).0 in
+        each-same-call was.top.work now.top.work grows held done.lists.tokens (done.others_each c p none_c) (done.others_each d q none_d) (called (takes-last c here (function-earlier grows.names part.1 definition function))))
+        so_far.1 so_far.0
 
 -- ---- what a look-up gives
 

@@ -12,6 +12,7 @@ use Rattle.sc_expand.proofs.AlikeGathering.{each-behind, places-same}
 use Rattle.sc_expand.proofs.AlikeLemmas.{IsAlike-Keeps}
 use Rattle.sc_expand.proofs.BeginningLemmas.{same_conds}
 use Rattle.sc_expand.proofs.GatherPlaces.{spelled-behind}
+use Rattle.sc_expand.proofs.KeepingLists.{lists-same, lists-then}
 use Rattle.sc_expand.proofs.LastLemmas.{last-each, last-earlier, last-later}
 use Rattle.sc_expand.proofs.TakingSteps.{seen-first}
 use Rattle.sc_expand.specs.Called.{AreGathered, IsBranch, IsCalled, IsMacro}
@@ -189,6 +190,8 @@ module _ {old mid : Stores} (grows : Grows old mid) (form : declared_form.Form) 
 
       pub gathered-more : AreGathered old st e0 e2 form items head (take (i + 1) bs)
       gathered-more = record {
+        held = λ files held. more.held files (done.held files held);
+        lists = lists-then done.lists more.lists;
         gathers = λ c place provenance macros d rest listed lists work is. gathers-next c listed (old.sets.has b.cond.0 c) refl place provenance macros d rest lists work is;
         first = λ c place listed lists. first-next c listed (old.sets.has b.cond.0 c) refl place lists;
         others = λ c listed none. others-next c listed (old.sets.has b.cond.0 c) refl none;
@@ -208,6 +211,8 @@ module _ {old mid : Stores} (grows : Grows old mid) (form : declared_form.Form) 
 -- no call was taken out yet
 pub gathered-none : (st : Stores) (e : Expansion) (form : declared_form.Form) (items : List declared_item.Item) (head : Hidden) → AreGathered st st e e form items head []
 gathered-none st e form items head = record {
+  held = λ files held. held;
+  lists = lists-same e;
   gathers = λ c place provenance macros d rest listed lists work is. absurd (none place lists);
   first = λ c place listed lists. absurd (none place lists);
   others = λ c listed lists. (refl, refl);

@@ -1,30 +1,27 @@
 -- The parts of the configurations of a name, by how its call goes on.
-use Rattle.std.proofs.Common.{◌≡◌, ℕ, ◌≤◌, ◌&&◌, ◌||◌, not, Bool, true, false, List, [], ◌∷◌, ◌++◌, All, length, get_or, refl, sym, ap, subst, ◌<◌, true≢false, ◌∙◌, arith, if◌then◌else◌, map, Some, IsTrue}
+use Rattle.std.proofs.Common.{◌≡◌, ℕ, ◌≤◌, ◌&&◌, ◌||◌, Bool, true, false, List, [], ◌∷◌, ◌++◌, All, length, get_or, refl, sym, ap, subst, ◌<◌, true≢false, ◌∙◌, arith, if◌then◌else◌, map, IsTrue}
 use Rattle.c11_macros.specs.Defines.{is_function_like}
-use Rattle.c11_macros.specs.Expansion.{is_looked_up}
-use Rattle.c11_macros.specs.Hidden as model
 use Rattle.c11_macros.specs.Hidden.{Failure, failure_at}
-use Rattle.c11_macros.specs.Macros.{Macros, list_at}
+use Rattle.c11_macros.specs.Macros.{list_at}
 use Rattle.sc_base.proofs.Growth.{Extends-refl}
-use Rattle.sc_base.specs.declared.fault.Fault.{Fault}
 use Rattle.sc_base.specs.declared.place.Place.{Place}
-use Rattle.sc_expand.proofs.AlikeGathering.{each-same-call, refused-alike}
+use Rattle.sc_expand.proofs.AlikeGathering.{each-same-call}
 use Rattle.sc_expand.proofs.AlikeLemmas.{IsAlike-Keeps, IsAlikeIn-Keeps}
 use Rattle.sc_expand.proofs.GatherBranches.{called-later, spelled-same}
 use Rattle.sc_expand.proofs.GatherEnds.{Ending, both, end-behind, end-is, ended-first, ended-gathers, ended-other, macro-is}
-use Rattle.sc_expand.proofs.GatherSteps.{refused-failures, refused-live, refused-other}
+use Rattle.sc_expand.proofs.GatherSteps.{refused-alike, refused-failures, refused-held, refused-live, refused-other}
 use Rattle.sc_expand.proofs.LastLemmas.{last-earlier, last-later}
 use Rattle.sc_expand.proofs.SeenLemmas.{Grows-trans, IsHeldExpansion-Grows, at-Grows}
 use Rattle.sc_expand.proofs.TakingSteps.{has_first-Keeps}
 use Rattle.sc_expand.proofs.WorkListLemmas.{has_each-Keeps}
 use Rattle.sc_expand.specs.Called.{AreGathered, IsBranch, IsCalled, IsGathered}
-use Rattle.sc_expand.specs.Alike.{AreAlikeRefusals, IsAlikeIn, IsSameCall, Span}
-use Rattle.sc_expand.specs.Having.{HasLast, has_each, tokens_in}
-use Rattle.sc_expand.specs.Gather.{Gathers}
+use Rattle.sc_expand.specs.Alike.{IsAlikeIn, IsSameCall, Span}
+use Rattle.sc_expand.specs.Having.{tokens_in}
 use Rattle.sc_expand.specs.declared.expansion.Expansion.{Expansion}
 use Rattle.sc_expand.specs.declared.refusals.Refusals.{Refusals}
 use Rattle.sc_expand.specs.Machine.{IsHeldExpansion, at}
-use Rattle.sc_expand.specs.Seen.{Grows, IsHeldRefusals, Stores, failures_at, provenance_of, stores}
+use Rattle.sc_expand.specs.Refusing.{Refuses}
+use Rattle.sc_expand.specs.Seen.{Grows, Stores, provenance_of, stores}
 use Rattle.sc_expand.specs.Taking.{has_first}
 use Rattle.sc_expand.specs.Turn.{At}
 use Rattle.sc_hoist.proofs.BranchLemmas.{lists_at-Keeps}
@@ -37,14 +34,14 @@ use Rattle.sc_hoist.specs.declared.branch.Branch.{Branch}
 use Rattle.sc_base.specs.Seen.{seen_place}
 use Rattle.sc_macro.specs.declared.definition.Definition as declared_definition
 use Rattle.sc_macro.specs.declared.definition.Item as declared_item
-use Rattle.sc_macro.specs.Seen.{IsHeldDefinition, IsHeldItem, seen_definition, seen_form, seen_item, seen_replacement, text_of}
+use Rattle.sc_macro.specs.Seen.{IsHeldDefinition, IsHeldItem, seen_definition, seen_form, seen_item, seen_replacement}
 use Rattle.sc_model.specs.declared.cause.Cause.TheVariants.{UnterminatedCall}
 use Rattle.sc_subst.proofs.Later.{hidden_later}
 use Rattle.sc_subst.specs.declared.hidden.Hidden.{Hidden}
 use Rattle.sc_subst.specs.Seen.{IsHeldHidden, seen_hidden}
 use Rattle.sc_model.proofs.SetLemmas.{Denotes-Keeps, IsConfig-Keeps, IsConfig-kept, Keeps-trans}
 use Rattle.sc_model.specs.Growth.{Extends}
-use Rattle.sc_model.specs.Sets.{Denotes, IsCond, IsConfig, Keeps, Sets}
+use Rattle.sc_model.specs.Sets.{Denotes, IsConfig, Keeps, Sets}
 
 -- the configurations were parted, and those of a call that is not closed were refused
 pub record Parted (s0 s1 s2 s3 : Sets) (names later : List (List ℕ)) (files : ℕ) (e : Expansion) (r : Refusals) (cond closes stays_open : ℕ) (branches : List Branch) (failure : Failure Place) : Type 0 where
@@ -57,13 +54,9 @@ pub record Parted (s0 s1 s2 s3 : Sets) (names later : List (List ℕ)) (files : 
   pub open_is : Denotes s1 stays_open (λ c. s0.has cond c && is_end still (call_end_at s0 names (tokens_in e.top.work) 0 c))
   pub lists : (c : List ℕ) → IsConfig s1.arities c → lists_at s2 branches c ≡ (if s1.has closes c then call_places s1 names (tokens_in e.top.work) 0 c ∷ [] else [])
   pub are : AreBranches s2 branches
-  pub live : Denotes s3 r.live.0 (λ c. s2.has e.refusals.live.0 c && not (s2.has stays_open c))
-  pub failures : (c : List ℕ) → IsConfig s2.arities c → All (λ (f : Fault). IsCond s2 f.cond.0) e.refusals.faults.items
-      → failures_at s3 r.faults.items c ≡ failures_at s2 e.refusals.faults.items c ++ (if s2.has stays_open c then failure ∷ [] else [])
+  pub refuses : Refuses s2 s3 stays_open failure e.refusals r
   pub agree : (c d : List ℕ) → IsConfig s1.arities c → IsConfig s1.arities d → s1.has closes c ≡ s1.has closes d
       → call_places s1 names (tokens_in e.top.work) 0 c ≡ call_places s1 names (tokens_in e.top.work) 0 d → Agree s2 branches c d
-  pub alike : (c d : List ℕ) (others : ℕ) → IsConfig s2.arities c → IsConfig s2.arities d → All (λ (f : Fault). IsCond s2 f.cond.0) e.refusals.faults.items
-      → s2.has stays_open c ≡ s2.has stays_open d → AreAlikeRefusals s2 c d others e.refusals → AreAlikeRefusals s3 c d others r
 
 part-same : (end one two : CallEnd) (has had : Bool) → has ≡ had → (has ≡ true → one ≡ two) → (has && is_end end one) ≡ (had && is_end end two)
 part-same end one two true true is same = ap (is_end end) (same refl)
@@ -97,11 +90,8 @@ module _ {s0 s1 s2 s3 : Sets} {names later : List (List ℕ)} {files : ℕ} {e :
   g23 : Grows st2 st3
   g23 = record { sets = parts.third; names = parts.longer; hides = Extends-refl e.sets }
 
-  pub g02 : Grows st0 st2
+  g02 : Grows st0 st2
   g02 = Grows-trans g01 g12
-
-  pub g03 : Grows st0 st3
-  g03 = Grows-trans g02 g23
 
   held1 : IsHeldExpansion st1 files e
   held1 = IsHeldExpansion-Grows g01 e parts.held
@@ -110,7 +100,7 @@ module _ {s0 s1 s2 s3 : Sets} {names later : List (List ℕ)} {files : ℕ} {e :
   held2 = IsHeldExpansion-Grows g12 e held1
 
   other : (c : List ℕ) → IsConfig s2.arities c → s2.has stays_open c ≡ false → at st3 refused c ≡ at st2 e c
-  other = refused-other g23 e held2 r stays_open failure parts.live parts.failures
+  other = refused-other g23 e held2 parts.refuses
 
   pub one-at-most : (c : List ℕ) → IsConfig s3.arities c → length (lists_at s3 branches c) ≤ 1
   one-at-most c listed =
@@ -204,7 +194,7 @@ module _ {s0 s1 s2 s3 : Sets} {names later : List (List ℕ)} {files : ℕ} {e :
     parted-alike span alike =
         let opens = parts.open_is.at c c1 ∙ (end-alike still ∙ sym (parts.open_is.at d d1)) in
         let later = parts.second.at stays_open c parts.open_is.own c1 ∙ (opens ∙ sym (parts.second.at stays_open d parts.open_is.own d1)) in
-        refused-alike parts.third e r stays_open held2 parts.alike c d span c2 d2 later (IsAlikeIn-Keeps (Keeps-trans parts.first parts.second) at_c at_d span e parts.held alike)
+        refused-alike g23 e held2 parts.refuses c d span c2 d2 later (IsAlikeIn-Keeps (Keeps-trans parts.first parts.second) at_c at_d span e parts.held alike)
 
   -- ---- the end
 
@@ -227,8 +217,8 @@ module _ {s0 s1 s2 s3 : Sets} {names later : List (List ℕ)} {files : ℕ} {e :
         refused_is = parts.second.at stays_open c parts.open_is.own listed1 ∙ parts.open_is.at c listed1;
         uncalled_is = told.at c listed5;
         other = λ lacks. other c listed2 lacks ∙ same;
-        dead = λ has. refused-live g23 e held2 r stays_open failure parts.live parts.failures c listed2 has;
-        failures = λ has. refused-failures g23 e held2 r stays_open failure parts.live parts.failures c listed2 has ∙ ap (λ (a : At). a.failures ++ failure ∷ []) same;
+        dead = λ has. refused-live g23 e held2 parts.refuses c listed2 has;
+        failures = λ has. refused-failures g23 e held2 parts.refuses c listed2 has ∙ ap (λ (a : At). a.failures ++ failure ∷ []) same;
         each = has_each-Keeps e.top.work c (Keeps-trans parts.first (Keeps-trans parts.second parts.third)) parts.held.top.work.own listed0;
         last = at-Grows g45 c listed4 e2 held4;
         last_each = has_each-Keeps e2.top.work c fifth held4.top.work.own listed4;
@@ -248,10 +238,8 @@ module _ {s0 s1 s2 s3 : Sets} {names later : List (List ℕ)} {files : ℕ} {e :
   pub parted-config : (c : List ℕ) → IsConfig s0.arities c → IsConfig s3.arities c
   parted-config c listed = IsConfig-Keeps parts.third (IsConfig-Keeps parts.second (IsConfig-Keeps parts.first listed))
 
-  pub parted-held : (IsHeldRefusals s2 files e.refusals → IsHeldRefusals s3 files r) → IsHeldExpansion st3 files refused
-  parted-held keeps =
-      let all = IsHeldExpansion-Grows g03 e parts.held in
-      record { refusals = keeps held2.refusals; top = all.top; below = all.below }
+  pub parted-held : failure.place.file.0 < files → IsHeldExpansion st3 files refused
+  parted-held within = refused-held g23 e held2 parts.refuses within
 
 -- ---- all configurations
 
@@ -261,15 +249,11 @@ pub parted-by : (s0 s1 s2 s3 : Sets) (names later : List (List ℕ)) (files : �
     → Denotes s1 closes (λ c. s0.has cond c && is_end closed (call_end_at s0 names (tokens_in e.top.work) 0 c))
     → Denotes s1 stays_open (λ c. s0.has cond c && is_end still (call_end_at s0 names (tokens_in e.top.work) 0 c))
     → ((c : List ℕ) → IsConfig s1.arities c → lists_at s2 found c ≡ (if s1.has closes c then call_places s1 names (tokens_in e.top.work) 0 c ∷ [] else [])) → AreBranches s2 found
-    → Denotes s3 r.live.0 (λ c. s2.has e.refusals.live.0 c && not (s2.has stays_open c))
-    → ((c : List ℕ) → IsConfig s2.arities c → All (λ (f : Fault). IsCond s2 f.cond.0) e.refusals.faults.items
-    → failures_at s3 r.faults.items c ≡ failures_at s2 e.refusals.faults.items c ++ (if s2.has stays_open c then failure ∷ [] else []))
+    → Refuses s2 s3 stays_open failure e.refusals r
     → ((c d : List ℕ) → IsConfig s1.arities c → IsConfig s1.arities d → s1.has closes c ≡ s1.has closes d
     → call_places s1 names (tokens_in e.top.work) 0 c ≡ call_places s1 names (tokens_in e.top.work) 0 d → Agree s2 found c d)
-    → ((c d : List ℕ) (others : ℕ) → IsConfig s2.arities c → IsConfig s2.arities d → All (λ (f : Fault). IsCond s2 f.cond.0) e.refusals.faults.items
-    → s2.has stays_open c ≡ s2.has stays_open d → AreAlikeRefusals s2 c d others e.refusals → AreAlikeRefusals s3 c d others r)
     → Parted s0 s1 s2 s3 names later files e r cond closes stays_open branches failure
-parted-by s0 s1 s2 s3 names later files e r cond closes stays_open found branches failure value first second third longer held closed_is open_is lists are live failures agree alike = record {
+parted-by s0 s1 s2 s3 names later files e r cond closes stays_open found branches failure value first second third longer held closed_is open_is lists are refuses agree = record {
   first = first;
   second = second;
   third = third;
@@ -279,10 +263,8 @@ parted-by s0 s1 s2 s3 names later files e r cond closes stays_open found branche
   open_is = open_is;
   lists = λ c listed. ap (λ bs. lists_at s2 bs c) value ∙ lists c listed;
   are = subst (AreBranches s2) (sym value) are;
-  live = live;
-  failures = failures;
+  refuses = refuses;
   agree = λ c d at_c at_d same placed. subst (λ bs. Agree s2 bs c d) (sym value) (agree c d at_c at_d same placed);
-  alike = alike;
 }
 
 module _ {s0 s1 s2 s3 : Sets} {names later : List (List ℕ)} {e : Expansion} {r : Refusals} {cond closes stays_open : ℕ} {branches : List Branch} (files : List (List ℕ)) (head : Hidden)

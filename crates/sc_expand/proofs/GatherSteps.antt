@@ -1,21 +1,24 @@
 -- What a call that begins to wait, or is refused, changes at a configuration.
-use Rattle.std.proofs.Common.{◌≡◌, ℕ, ◌&&◌, not, Bool, true, false, List, [], ◌∷◌, ◌++◌, All, sym, ap, subst, ◌∙◌, append-nil, Vec, Global, if◌then◌else◌}
+use Rattle.std.proofs.Common.{◌≡◌, ◌<◌, ℕ, Bool, true, false, List, [], ◌∷◌, ◌++◌, All, sym, ap, subst, ◌∙◌, append-nil, Vec, Global, if◌then◌else◌}
 use Rattle.std.proofs.lemmas.List.Elements.{All-append, All-cons, All-nil}
 use Rattle.c11_macros.specs.Hidden.{Failure}
-use Rattle.sc_base.specs.declared.fault.Fault.{Fault}
+use Rattle.sc_base.specs.declared.id.Name.{Name}
 use Rattle.sc_base.specs.declared.place.Place.{Place}
+use Rattle.sc_expand.proofs.AlikeLemmas.{IsAlikeIn-Keeps}
 use Rattle.sc_expand.proofs.MachineCalls.{calls_at-append}
 use Rattle.sc_expand.proofs.SeenLemmas.{IsHeldExpansion-Grows, at-Grows, view_at-Grows}
 use Rattle.sc_expand.proofs.TakingLemmas.{gone, stays-there}
+use Rattle.sc_expand.specs.Alike.{IsAlikeIn, Span}
 use Rattle.sc_expand.specs.declared.call.Call.{Call}
 use Rattle.sc_expand.specs.declared.expansion.Expansion.{Expansion}
 use Rattle.sc_expand.specs.declared.refusals.Refusals.{Refusals}
 use Rattle.sc_expand.specs.Machine.{IsHeldExpansion, at, with_call}
 use Rattle.sc_expand.specs.Plain.{Waiting}
+use Rattle.sc_expand.specs.Refusing.{Refuses}
 use Rattle.sc_expand.specs.Seen.{Grows, IsHeldCall, IsHeldFrame, Stores, calls_at, failures_at, waiting_at}
 use Rattle.sc_expand.specs.Turn.{At}
 use Rattle.sc_model.proofs.SetLemmas.{IsConfig-Keeps}
-use Rattle.sc_model.specs.Sets.{Denotes, IsCond, IsConfig}
+use Rattle.sc_model.specs.Sets.{IsConfig}
 
 module _ {old new : Stores} (grows : Grows old new) {files : ℕ} (e : Expansion) (held : IsHeldExpansion old files e) where
   -- ---- one call more
@@ -53,19 +56,28 @@ module _ {old new : Stores} (grows : Grows old new) {files : ℕ} (e : Expansion
 
   -- ---- configurations that are refused
 
-  module _ (r : Refusals) (cond : ℕ) (failure : Failure Place) (live : Denotes new.sets r.live.0 (λ c. old.sets.has e.refusals.live.0 c && not (old.sets.has cond c)))
-      (failures : (c : List ℕ) → IsConfig old.sets.arities c → All (λ (f : Fault). IsCond old.sets f.cond.0) e.refusals.faults.items
-      → failures_at new.sets r.faults.items c ≡ failures_at old.sets e.refusals.faults.items c ++ (if old.sets.has cond c then failure ∷ [] else [])) where
+  module _ {r : Refusals} {cond : ℕ} {failure : Failure Place} (refuses : Refuses old.sets new.sets cond failure e.refusals r) where
     pub refused-live : (c : List ℕ) → IsConfig old.sets.arities c → old.sets.has cond c ≡ true → new.sets.has r.live.0 c ≡ false
-    refused-live c listed has = live.at c (IsConfig-Keeps grows.sets listed) ∙ gone (old.sets.has e.refusals.live.0 c) (old.sets.has cond c) has
+    refused-live c listed has = refuses.live.at c (IsConfig-Keeps grows.sets listed) ∙ gone (old.sets.has e.refusals.live.0 c) (old.sets.has cond c) has
 
     pub refused-failures : (c : List ℕ) → IsConfig old.sets.arities c → old.sets.has cond c ≡ true → failures_at new.sets r.faults.items c ≡ (at old e c).failures ++ failure ∷ []
-    refused-failures c listed has = failures c listed held.refusals.own ∙ ap (λ b. failures_at old.sets e.refusals.faults.items c ++ (if b then failure ∷ [] else [])) has
+    refused-failures c listed has = refuses.failures c listed held.refusals.own ∙ ap (λ b. failures_at old.sets e.refusals.faults.items c ++ (if b then failure ∷ [] else [])) has
 
     pub refused-other : (c : List ℕ) → IsConfig old.sets.arities c → old.sets.has cond c ≡ false → at new (record e { refusals = r }) c ≡ at old e c
     refused-other c listed lacks =
-        let lives = live.at c (IsConfig-Keeps grows.sets listed) ∙ stays-there (old.sets.has e.refusals.live.0 c) (old.sets.has cond c) lacks in
+        let lives = refuses.live.at c (IsConfig-Keeps grows.sets listed) ∙ stays-there (old.sets.has e.refusals.live.0 c) (old.sets.has cond c) lacks in
         let view = view_at-Grows grows c listed e.top held.top in
-        let none = failures c listed held.refusals.own
+        let none = refuses.failures c listed held.refusals.own
         ∙ (ap (λ b. failures_at old.sets e.refusals.faults.items c ++ (if b then failure ∷ [] else [])) lacks ∙ append-nil (failures_at old.sets e.refusals.faults.items c)) in
         λ i. record { live = lives i; view = view i; failures = none i }
+
+    pub refused-held : {hides : List (List Name)} → failure.place.file.0 < files → IsHeldExpansion new files (record e { sets = hides; refusals = r })
+    refused-held within =
+        let later = IsHeldExpansion-Grows grows e held in
+        record { refusals = refuses.held files within held.refusals; top = later.top; below = later.below }
+
+    pub refused-alike : {hides : List (List Name)} (c d : List ℕ) (span : Span) → IsConfig old.sets.arities c → IsConfig old.sets.arities d → old.sets.has cond c ≡ old.sets.has cond d
+        → IsAlikeIn old.sets c d span e → IsAlikeIn new.sets c d span (record e { sets = hides; refusals = r })
+    refused-alike c d span p q same alike =
+        let kept = IsAlikeIn-Keeps grows.sets p q span e held alike in
+        record { refusals = refuses.alike c d span.faults p q held.refusals.own same alike.refusals; work = kept.work; out = kept.out; calls = kept.calls }

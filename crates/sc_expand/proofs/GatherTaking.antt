@@ -1,10 +1,9 @@
 -- The call of a branch is taken out of its list, and begins to wait or is refused.
-use Rattle.std.proofs.Common.{◌≡◌, ℕ, Bool, true, false, List, [], ◌∷◌, ◌++◌, All, map, drop, length, Option, Some, None, Result, Ok, Err, IsTrue, slice_get, refl, sym, ap, subst, ◌∙◌, if◌then◌else◌}
-use Rattle.std.specs.Prelude.{OnOk}
+use Rattle.std.proofs.Common.{◌≡◌, ℕ, Bool, true, false, List, [], ◌∷◌, ◌++◌, All, map, drop, length, Option, Some, None, IsTrue, slice_get, refl, sym, ap, subst, ◌∙◌, if◌then◌else◌}
 use Rattle.std.proofs.lemmas.List.Elements.{All-head, All-tail}
 use Rattle.c11_macros.specs.Call.{arguments_for}
 use Rattle.c11_macros.specs.Defines.{is_function_like}
-use Rattle.c11_macros.specs.Expansion.{called, case_of, fitted_case, list_of, misfit}
+use Rattle.c11_macros.specs.Expansion.{called, case_of, fitted_case, misfit}
 use Rattle.c11_macros.specs.Hidden as model
 use Rattle.c11_macros.specs.Hidden.{Provenance, failure_at}
 use Rattle.c11_macros.specs.Macros.{Definition, Form, Macros, function_like, object_like}
@@ -20,12 +19,13 @@ use Rattle.sc_expand.proofs.TakingSteps.{has_first-Keeps, seen-first, state-scan
 use Rattle.sc_expand.proofs.WorkListLemmas.{has_each-Keeps}
 use Rattle.sc_expand.specs.Alike.{IsAlikeIn, Span}
 use Rattle.sc_expand.specs.Arguments.{parted}
-use Rattle.sc_expand.specs.Called.{AreGathered, Begins, HasLeft, IsBranch, IsMacro, refused, waits}
+use Rattle.sc_expand.specs.Called.{AreGathered, Begins, HasBegun, HasLeft, IsBranch, IsMacro, refused, waits}
 use Rattle.sc_expand.specs.declared.expansion.Expansion.{Expansion}
+use Rattle.sc_expand.specs.declared.frame.Frame.{Frame}
 use Rattle.sc_expand.specs.Gather as gathers
 use Rattle.sc_expand.specs.Gather.{Gathers}
 use Rattle.sc_expand.specs.Having.{HasLast, has_each}
-use Rattle.sc_expand.specs.Machine.{IsHeldExpansion, at, with_call}
+use Rattle.sc_expand.specs.Machine.{IsHeldExpansion, KeepsLists, at, with_call}
 use Rattle.sc_expand.specs.Plain.{Fails, bad_stringize, gathered, miscounted}
 use Rattle.sc_expand.specs.Seen.{AreHeld, Grows, IsHeldEnclosing, IsHeldFrame, IsHeldRefusals, Stores, failures_at, seen_at, stores, view_at}
 use Rattle.sc_expand.specs.Taking.{has_first}
@@ -35,24 +35,16 @@ use Rattle.sc_hoist.specs.Branches.{lists_at}
 use Rattle.sc_hoist.specs.declared.branch.Branch.{Branch}
 use Rattle.sc_macro.specs.declared.definition.Item as declared_item
 use Rattle.sc_macro.specs.declared.form.Form as declared_form
-use Rattle.sc_macro.specs.Seen.{IsHeldForm, IsHeldItem, seen_form, seen_item}
+use Rattle.sc_macro.specs.Seen.{IsHeldForm, IsHeldItem, seen_form}
 use Rattle.sc_model.proofs.SetLemmas.{IsConfig-Keeps}
 use Rattle.sc_model.specs.declared.cause.Cause.TheVariants.{WrongArguments}
 use Rattle.sc_model.specs.Growth.{Extends}
-use Rattle.sc_model.specs.Sets.{Sets, IsConfig, Keeps}
+use Rattle.sc_model.specs.Sets.{Sets, IsConfig}
 use Rattle.sc_subst.proofs.Later.{hidden_later}
 use Rattle.sc_subst.proofs.Turns.{form_later, items_later}
 use Rattle.sc_subst.specs.declared.hidden.Hidden.{Hidden}
 use Rattle.sc_subst.specs.Parts.{AreHeldArguments, seen_arguments, seen_list}
 use Rattle.sc_subst.specs.Seen.{IsHeldHidden, seen_hidden}
-
-pub three-on-ok : {A E P Q R S : Type 0} (r : Result A E) → (P → Q → R → S) → OnOk r P → OnOk r Q → OnOk r R → OnOk r S
-three-on-ok (Ok a) f p q x = f p q x
-three-on-ok (Err e) f p q x = tt
-
-pub four-on-ok : {A E P Q R S T : Type 0} (r : Result A E) → (P → Q → R → S → T) → OnOk r P → OnOk r Q → OnOk r R → OnOk r S → OnOk r T
-four-on-ok (Ok a) f p q x y = f p q x y
-four-on-ok (Err e) f p q x y = tt
 
 -- ---- one configuration
 
@@ -130,6 +122,12 @@ seen_fit names sets (Some raw) = Some (seen_arguments names sets raw)
 
 -- ---- the call has left the list
 
+-- the list on top, those below and what was put out are as they were
+pub record KeepsWork (was now : Expansion) : Type 0 where
+  pub work : now.top.work ≡ was.top.work
+  pub below : now.below ≡ was.below
+  pub out : now.top.out ≡ was.top.out
+
 module _ {s0 s1 : Sets} {names : List (List ℕ)} {e0 e1 : Expansion} {branch : Branch} {between : List Hidden} {close : Hidden} (left : HasLeft s0 s1 names e0 e1 branch between close)
     (files : ℕ) (held : IsHeldExpansion (stores s0 names e0.sets) files e0) where
   abbrev old : Stores
@@ -179,7 +177,8 @@ module _ {s0 s1 : Sets} {names : List (List ℕ)} {e0 e1 : Expansion} {branch : 
         ∙ (case-closed macros t d is.looked_up is.defined f.parameters f.variadic (is.formed ∙ f.is) (seen_at old (drop 1 e0.top.work) c) (seen_list names e0.sets between) (seen_hidden names e0.sets close) after (left.call c listed has)
         ∙ ap (fitted_case d (seen_hidden names e0.sets close) after) (sym (fits f.parameters f.variadic f.is)))
 
-    module _ (names2 : List (List ℕ)) (s2 : Sets) (e2 : Expansion) (grows : Grows mid (stores s2 names2 e2.sets)) (same : e2.top.work ≡ e1.top.work)
+    module _ (names2 : List (List ℕ)) (s2 : Sets) (e2 : Expansion) (grows : Grows mid (stores s2 names2 e2.sets)) (kept : KeepsWork e1 e2)
+        (later_held : (n : ℕ) → IsHeldExpansion old n e0 → IsHeldExpansion (stores s2 names2 e2.sets) n e2)
         (others : (c : List ℕ) → IsConfig s1.arities c → s1.has branch.cond.0 c ≡ false → at (stores s2 names2 e2.sets) e2 c ≡ at mid e1 c)
         (alike : (c d : List ℕ) (span : Span) → IsConfig s1.arities c → IsConfig s1.arities d → IsAlike s1 c d branch.cond → IsAlikeIn s1 c d span e1 → IsAlikeIn s2 c d span e2) where
       abbrev new : Stores
@@ -190,18 +189,23 @@ module _ {s0 s1 : Sets} {names : List (List ℕ)} {e0 e1 : Expansion} {branch : 
 
       gathered-first : (c place : List ℕ) → IsConfig s0.arities c → lists_at s0 (branch ∷ []) c ≡ place ∷ [] → has_first s2 e2.top.work c ≡ false
       gathered-first c place listed lists =
-          ap (λ l. has_first s2 l c) same ∙ (has_first-Keeps grows.sets e1.top.work left-work.own c (IsConfig-Keeps left.keeps listed) ∙ left.first c listed (one-has (s0.has branch.cond.0 c) branch.places.items place lists))
+          ap (λ l. has_first s2 l c) kept.work ∙ (has_first-Keeps grows.sets e1.top.work left-work.own c (IsConfig-Keeps left.keeps listed) ∙ left.first c listed (one-has (s0.has branch.cond.0 c) branch.places.items place lists))
 
       gathered-others : (c : List ℕ) → IsConfig s0.arities c → lists_at s0 (branch ∷ []) c ≡ [] → (at new e2 c ≡ at old e0 c) × (has_each s2 e2.top.work c ≡ has_each s0 e0.top.work c)
       gathered-others c listed lists =
           let lacks = none-has (s0.has branch.cond.0 c) branch.places.items lists in
           let listed1 = IsConfig-Keeps left.keeps listed in (
             others c listed1 (has-later c listed ∙ lacks) ∙ left-other c listed lacks,
-            ap (λ l. has_each s2 l c) same ∙ (has_each-Keeps e1.top.work c grows.sets left-work.own listed1 ∙ (left.others c listed lacks).1),
+            ap (λ l. has_each s2 l c) kept.work ∙ (has_each-Keeps e1.top.work c grows.sets left-work.own listed1 ∙ (left.others c listed lacks).1),
           )
 
       gathered-rest : (c : List ℕ) → IsConfig s0.arities c → HasLast s0 s2 e0.top.work e2.top.work c
-      gathered-rest c listed = last-later (left.rest c listed) (ap (λ l. has_each s2 l c) same ∙ has_each-Keeps e1.top.work c grows.sets left-work.own (IsConfig-Keeps left.keeps listed))
+      gathered-rest c listed = last-later (left.rest c listed) (ap (λ l. has_each s2 l c) kept.work ∙ has_each-Keeps e1.top.work c grows.sets left-work.own (IsConfig-Keeps left.keeps listed))
+
+      gathered-lists : KeepsLists e0 e2
+      gathered-lists =
+          let tokens = λ (l : List (Cond × Hidden)). map (λ (item : Cond × Hidden). item.1) l in
+          record { below = kept.below ∙ left.below; out = kept.out ∙ ap (λ (f : Frame). f.out) left.top; tokens = ap tokens kept.work ∙ left.tokens }
 
       gathered-alike : (c d : List ℕ) (span : Span) → IsConfig s0.arities c → IsConfig s0.arities d → All (λ b. IsAlike s0 c d b.cond) (branch ∷ []) → IsAlikeIn s0 c d span e0 → IsAlikeIn s2 c d span e2
       gathered-alike c d span at_c at_d branches was =
@@ -209,11 +213,10 @@ module _ {s0 s1 : Sets} {names : List (List ℕ)} {e0 e1 : Expansion} {branch : 
           alike c d span (IsConfig-Keeps left.keeps at_c) (IsConfig-Keeps left.keeps at_d) (IsAlike-Keeps left.keeps at_c at_d is_branch.own same) (left.alike c d span at_c at_d same was)
 
       pub begun-gathered : (raw : List (List Hidden)) → fit ≡ Some raw → IsHeldHidden names e0.sets head → IsHeldHidden names e0.sets close → AreHeldArguments names e0.sets raw → IsHeldForm names form → All (IsHeldItem names) items
-          → ((c : List ℕ) (provenance : Provenance Place) (d : Definition) → IsConfig s1.arities c → s1.has branch.cond.0 c ≡ true → d.form ≡ seen_form names2 form
-          → list_of provenance d (seen_hidden names2 e2.sets head) ≡ map (seen_item names2) items
-          → Begins provenance d (seen_hidden names2 e2.sets head) (seen_hidden names2 e2.sets close) (seen_arguments names2 e2.sets raw) (at mid e1 c) (at new e2 c))
-          → AreGathered old new e0 e2 form items head (branch ∷ [])
-      begun-gathered raw some head_held close_held raw_held form_held items_held begins = record {
+          → HasBegun mid new e1 e2 branch.cond.0 form items head close raw → AreGathered old new e0 e2 form items head (branch ∷ [])
+      begun-gathered raw some head_held close_held raw_held form_held items_held begun = record {
+        held = later_held;
+        lists = gathered-lists;
         gathers = λ c place provenance macros d rest listed lists work is.
             let has = one-has (s0.has branch.cond.0 c) branch.places.items place lists in
             let later = Extends-trans left-grows.hides grows.hides in
@@ -222,8 +225,8 @@ module _ {s0 s1 : Sets} {names : List (List ℕ)} {e0 e1 : Expansion} {branch : 
             let arguments = seen_arguments names e0.sets raw in
             let after = seen_at mid e1.top.work c in
             let B : model.Hidden Place → model.Hidden Place → List (List (model.Hidden Place)) → Type 0 = λ t x l. Begins provenance d t x l (at mid e1 c) (at new e2 c) in
-            let begun = begins c provenance d (IsConfig-Keeps left.keeps listed) (has-later c listed ∙ has) (is.formed ∙ sym (form_later form form_held grows.names)) (is.list ∙ sym (items_later items items_held grows.names)) in
-            let one = subst (λ t. B t (seen_hidden names2 e2.sets close) (seen_arguments names2 e2.sets raw)) (hidden_later head head_held grows.names later) begun in
+            let begins = begun.begins c provenance d (IsConfig-Keeps left.keeps listed) (has-later c listed ∙ has) (is.formed ∙ sym (form_later form form_held grows.names)) (is.list ∙ sym (items_later items items_held grows.names)) in
+            let one = subst (λ t. B t (seen_hidden names2 e2.sets close) (seen_arguments names2 e2.sets raw)) (hidden_later head head_held grows.names later) begins in
             let two = subst (λ x. B t x (seen_arguments names2 e2.sets raw)) (hidden_later close close_held grows.names later) one in
             let three = subst (λ l. B t x l) (seen_arguments-later raw raw_held grows.names later) two in
             let case = left-case c provenance macros d rest listed has work is ∙ ap (λ o. fitted_case d x after (seen_fit names e0.sets o)) some in
@@ -238,6 +241,8 @@ module _ {s0 s1 : Sets} {names : List (List ℕ)} {e0 e1 : Expansion} {branch : 
           → ((c : List ℕ) → IsConfig s1.arities c → s1.has branch.cond.0 c ≡ true → (at new e2 c).failures ≡ (at mid e1 c).failures ++ failure_at WrongArguments (seen_hidden names e0.sets head) ∷ [])
           → AreGathered old new e0 e2 form items head (branch ∷ [])
       misfit-gathered none dead failures = record {
+        held = later_held;
+        lists = gathered-lists;
         gathers = λ c place provenance macros d rest listed lists work is.
             let has = one-has (s0.has branch.cond.0 c) branch.places.items place lists in
             let listed1 = IsConfig-Keeps left.keeps listed in

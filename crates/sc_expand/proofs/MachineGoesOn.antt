@@ -13,7 +13,7 @@ use Rattle.sc_expand.specs.declared.call.Call.{Call}
 use Rattle.sc_expand.specs.declared.call.Wanted.{Wanted}
 use Rattle.sc_expand.specs.declared.expansion.Expansion.{Expansion}
 use Rattle.sc_expand.specs.declared.frame.Enclosing.{Enclosing}
-use Rattle.sc_expand.specs.Machine.{IsHeldExpansion, Progress, Stands, at, at_call, gone, no_view, rests, state_in, steps, with_call}
+use Rattle.sc_expand.specs.Machine.{HasEntered, IsHeldExpansion, Progress, Stands, at, at_call, gone, no_view, rests, state_in, steps, with_call}
 use Rattle.sc_expand.specs.Plain.{Moves, without_first}
 use Rattle.sc_expand.specs.Seen.{AreHeld, Grows, IsHeldCall, IsHeldEnclosing, IsHeldRefusals, IsHeldTemplate, IsHeldToken, Stores, calls_at, failures_at, seen_at, seen_wanted, view_at, waiting_at}
 use Rattle.sc_expand.specs.Turn.{At, Turn, failed, moved, over, passed}
@@ -49,8 +49,7 @@ module _ (provenance : Provenance Place) (macros : Macros) {old new : Stores} (g
   module _ (e after : Expansion) (call later : Call) (w : Wanted) (ws : List Wanted) (held : IsHeldExpansion old files e) (held_call : IsHeldCall old files call)
       (cond : new.sets.has later.cond.0 c ≡ (old.sets.has call.cond.0 c && old.sets.has e.refusals.live.0 c))
       (popped : call.wanted.items ≡ ws ++ w ∷ []) (is : waiting_at new later c ≡ without_first (waiting_at new call c) (map (seen_wanted new) (reverse ws)))
-      (refusals : after.refusals ≡ e.refusals) (below : after.below.items ≡ e.below.items ++ record { frame = e.top; call = later; parameter = w.parameter } ∷ [])
-      (work : after.top.work ≡ map (λ (t : Hidden). (later.cond, t)) w.tokens) (out : after.top.out ≡ []) (calls : after.top.calls.items ≡ []) where
+      (refusals : after.refusals ≡ e.refusals) (entered : HasEntered e after later w) where
     abbrev enclosing : Enclosing
     enclosing = record { frame = e.top; call = later; parameter = w.parameter }
 
@@ -65,9 +64,9 @@ module _ (provenance : Provenance Place) (macros : Macros) {old new : Stores} (g
 
     top_is : (b : Bool) → new.sets.has later.cond.0 c ≡ b → view_at new after.top c ≡ argument_view [] (map (seen_hidden new.names new.hides) (if b then w.tokens else []))
     top_is b known =
-        let first = ap (λ l. seen_at new l c) out in
-        let second = ap (λ l. seen_at new l c) work ∙ chosen b w.tokens known in
-        let third = ap (λ l. calls_at new l c) calls in
+        let first = ap (λ l. seen_at new l c) entered.out in
+        let second = ap (λ l. seen_at new l c) entered.work ∙ chosen b w.tokens known in
+        let third = ap (λ l. calls_at new l c) entered.calls in
         λ i. record { out = first i; work = second i; calls = third i }
 
     pub entered-progress : Progress provenance macros old new c e.below.items after.below.items (at_call old e call c) (at new after c) (old.sets.has call.cond.0 c)
@@ -88,9 +87,9 @@ module _ (provenance : Provenance Place) (macros : Macros) {old new : Stores} (g
             let was : state_in new e.below.items (with_call (view_at new e.top c) (waiting_at new call c)) c ≡ state_in old e.below.items (with_call (view_at old e.top c) (waiting_at old call c)) c =
             ap (λ v. state_in new e.below.items v c) view ∙ state_in-Grows grows files c listed e.below.items (with_call (view_at old e.top c) (waiting_at old call c)) held.below in
             let now = top_is true narrowed in (
-              subst (λ v. Stands new c after.below.items v) (sym now) (subst (λ l. Stands new c l (argument_view [] (seen_list new.names new.hides w.tokens))) (sym below) r.0),
+              subst (λ v. Stands new c after.below.items v) (sym now) (subst (λ l. Stands new c l (argument_view [] (seen_list new.names new.hides w.tokens))) (sym entered.below) r.0),
               subst (λ v. Moves provenance macros (state_in old e.below.items (with_call (view_at old e.top c) (waiting_at old call c)) c) (state_in new after.below.items v c)) (sym now)
-                  (subst (λ l. Moves provenance macros (state_in old e.below.items (with_call (view_at old e.top c) (waiting_at old call c)) c) (state_in new l (argument_view [] (seen_list new.names new.hides w.tokens)) c)) (sym below)
+                  (subst (λ l. Moves provenance macros (state_in old e.below.items (with_call (view_at old e.top c) (waiting_at old call c)) c) (state_in new l (argument_view [] (seen_list new.names new.hides w.tokens)) c)) (sym entered.below)
                   (subst (λ s. Moves provenance macros s (state_in new (e.below.items ++ enclosing ∷ []) (argument_view [] (seen_list new.names new.hides w.tokens)) c)) was r.1)),
             ))
         by true false live absent = rests (same-live) same-failures (λ l stands.
@@ -101,8 +100,8 @@ module _ (provenance : Provenance Place) (macros : Macros) {old new : Stores} (g
             let was : state_in new e.below.items (view_at new e.top c) c ≡ state_in old e.below.items (view_at old e.top c) c =
             ap (λ v. state_in new e.below.items v c) top ∙ state_in-Grows grows files c listed e.below.items (view_at old e.top c) held.below in
             let now = top_is false narrowed in (
-              subst (λ v. Stands new c after.below.items v) (sym now) (subst (λ l. Stands new c l no_view) (sym below) r.0),
-              sym was ∙ (r.1 ∙ (ap (λ l. state_in new l no_view c) (sym below) ∙ ap (λ v. state_in new after.below.items v c) (sym now))),
+              subst (λ v. Stands new c after.below.items v) (sym now) (subst (λ l. Stands new c l no_view) (sym entered.below) r.0),
+              sym was ∙ (r.1 ∙ (ap (λ l. state_in new l no_view c) (sym entered.below) ∙ ap (λ v. state_in new after.below.items v c) (sym now))),
             ))
 
 -- ---- what is held
@@ -129,15 +128,14 @@ later-held {st} {files} call later r held own popped head hide template expanded
 }
 
 pub entered-held : (st : Stores) (files : ℕ) (e after : Expansion) (later : Call) (w : Wanted) → IsHeldExpansion st files e → IsHeldCall st files later → All (IsHeldToken st files) w.tokens
-    → after.refusals ≡ e.refusals → after.below.items ≡ e.below.items ++ record { frame = e.top; call = later; parameter = w.parameter } ∷ []
-    → after.top.work ≡ map (λ (t : Hidden). (later.cond, t)) w.tokens → after.top.out ≡ [] → after.top.calls.items ≡ [] → IsHeldExpansion st files after
-entered-held st files e after later w held held_call tokens refusals below work out calls = record {
+    → after.refusals ≡ e.refusals → HasEntered e after later w → IsHeldExpansion st files after
+entered-held st files e after later w held held_call tokens refusals entered = record {
   refusals = subst (IsHeldRefusals st.sets files) (sym refusals) held.refusals;
   top = record {
-    work = subst (AreHeld st files) (sym work) (under-held later.cond w.tokens held_call.own tokens);
-    out = subst (AreHeld st files) (sym out) (AreHeld-nil st files);
-    calls = subst (All (IsHeldCall st files)) (sym calls) (All-nil (IsHeldCall st files));
+    work = subst (AreHeld st files) (sym entered.work) (under-held later.cond w.tokens held_call.own tokens);
+    out = subst (AreHeld st files) (sym entered.out) (AreHeld-nil st files);
+    calls = subst (All (IsHeldCall st files)) (sym entered.calls) (All-nil (IsHeldCall st files));
   };
-  below = subst (All (IsHeldEnclosing st files)) (sym below)
+  below = subst (All (IsHeldEnclosing st files)) (sym entered.below)
       (All-push (IsHeldEnclosing st files) e.below.items (record { frame = e.top; call = later; parameter = w.parameter }) held.below (record { frame = held.top; call = held_call }));
 }

@@ -12,20 +12,19 @@ use Rattle.c11_macros.specs.Macros as model
 use Rattle.sc_base.specs.declared.id.Cond.{Cond}
 use Rattle.sc_base.specs.declared.place.Place.{Place}
 use Rattle.sc_expand.proofs.AlikeTaking.{part-alike, part-each}
+use Rattle.sc_expand.proofs.KeepingLists.{lists-same, lists-then}
 use Rattle.sc_expand.proofs.SeenLemmas.{at-Grows, seen_hidden-Grows}
 use Rattle.sc_expand.proofs.TakenLemmas.{taken-each, taken-earlier, taken-later}
 use Rattle.sc_expand.proofs.TakingSteps.{has_first-Keeps, none-before, same-step}
-use Rattle.sc_expand.specs.Alike.{IsAlikeIn, IsAlikeTaken, IsFunctionLike, IsSameCall, Span}
-use Rattle.sc_expand.specs.Having.{has_each}
+use Rattle.sc_expand.specs.Alike.{IsFunctionLike}
 use Rattle.sc_expand.specs.Machine.{IsHeldExpansion, at}
 use Rattle.sc_expand.specs.Seen.{AreHeld, Grows, IsHeldToken, Stores, provenance_of, seen_at}
-use Rattle.sc_expand.specs.Taking.{AreTaken, Comes, HasTaken, IsFunction, Step, TakesPart, step_at, untaken}
+use Rattle.sc_expand.specs.Taking.{AreTaken, Comes, HasTaken, IsHeldTaken, IsTaken, Step, TakesPart, step_at, untaken}
 use Rattle.sc_expand.specs.Turn.{At}
 use Rattle.sc_expand.specs.declared.expansion.Expansion.{Expansion}
 use Rattle.sc_expand.specs.declared.taking.Taken.{Taken}
 use Rattle.sc_guarded.proofs.ItemLemmas.{items_at-append}
 use Rattle.sc_guarded.specs.Items.{items_at}
-use Rattle.sc_hoist.specs.Alike.{IsAlike}
 use Rattle.sc_macro.specs.declared.definition.Definition.{Definition}
 use Rattle.sc_macro.specs.Seen.{IsHeldDefinition, seen_definition, text_of}
 use Rattle.sc_model.proofs.SetLemmas.{IsConfig-Keeps}
@@ -52,28 +51,19 @@ pub none-found : {A B : Type 0} (f : A → B) (xs : List A) → map f xs ≡ [] 
 none-found f [] is = refl
 none-found f (x ∷ xs) is = cc
 
-module _ (files : List (List ℕ)) (old mid new : Stores) (was now next : Expansion) (before after later : Taken) (head : declared.Hidden) (parts : List (Cond × Option (Rc Definition Global))) (i : ℕ) (part : Cond × Option (Rc Definition Global)) where
-  abbrev Taken_by : (b : Bool) → (c : List ℕ) (macros : Macros) (rest : List (Hidden Place)) → Type 0
-  Taken_by b c macros rest = map (seen_by old.names) (items_at old.sets (take i parts) c ++ (if b then part.1 ∷ [] else [])) ≡ macros (text_of old.names head.token.spelling) ∷ []
-
-  pub part-taken : (counted : ℕ) → i < length parts → part ≡ get_or parts i part → Grows old mid → IsHeldToken old counted head → IsCond old.sets part.0.0 → IfSome part.1 (λ shared. IsHeldDefinition old.names shared.value)
-      → ((c : List ℕ) → IsConfig old.sets.arities c → length (items_at old.sets parts c) ≤ 1) → AreTaken files old mid was now before after head (take i parts)
-      → ((c : List ℕ) (macros : Macros) (rest : List (Hidden Place)) → IsConfig mid.sets.arities c → mid.sets.has part.0.0 c ≡ true → (at mid now c).view.work ≡ seen_hidden mid.names mid.hides head ∷ rest
-      → macros (text_of mid.names head.token.spelling) ≡ seen_by mid.names part.1 → Comes (provenance_of files) macros (seen_hidden mid.names mid.hides head) rest (at mid now c) (step_at new next later c))
-      → ((c : List ℕ) → IsConfig mid.sets.arities c → mid.sets.has part.0.0 c ≡ false → step_at new next later c ≡ step_at mid now after c)
-      → AreHeld old counted was.top.work → map (λ (item : Cond × declared.Hidden). item.1) now.top.work ≡ map (λ (item : Cond × declared.Hidden). item.1) was.top.work
-      → ((c : List ℕ) → IsConfig mid.sets.arities c → mid.sets.has part.0.0 c ≡ false → has_each new.sets next.top.work c ≡ has_each mid.sets now.top.work c)
-      → ((c d : List ℕ) (span : Span) → IsConfig mid.sets.arities c → IsConfig mid.sets.arities d → IsAlike mid.sets c d part.0
-      → (mid.sets.has part.0.0 c ≡ true → IsFunction mid.names part.1 → IsSameCall mid.sets mid.names c d now.top.work)
-      → IsAlikeTaken mid.sets c d after → IsAlikeIn mid.sets c d span now → IsAlikeIn new.sets c d span next × IsAlikeTaken new.sets c d later)
-      → ((c : List ℕ) → IsConfig mid.sets.arities c → HasTaken mid.sets new.sets now.top.work next.top.work later.made.items c)
-      → AreTaken files old new was next before later head (take (i + 1) parts)
-  part-taken counted within is grows held own definition one done comes others work tokens each alike rest = record {
+module _ {files : List (List ℕ)} {old mid new : Stores} {was now next : Expansion} {before after later : Taken} {head : declared.Hidden} (parts : List (Cond × Option (Rc Definition Global))) (i : ℕ) (part : Cond × Option (Rc Definition Global)) where
+  pub part-taken : {counted : ℕ} → i < length parts → part ≡ get_or parts i part → Grows old mid → IsHeldToken old counted head → AreHeld old counted was.top.work → IsCond old.sets part.0.0
+      → IfSome part.1 (λ shared. IsHeldDefinition old.names shared.value) → ((c : List ℕ) → IsConfig old.sets.arities c → length (items_at old.sets parts c) ≤ 1)
+      → AreTaken files old mid was now before after head (take i parts) → IsTaken files mid new now next after later head part.0.0 (seen_by mid.names part.1) → AreTaken files old new was next before later head (take (i + 1) parts)
+  part-taken within is grows held work_held own definition one done step = record {
+    held = step.held;
+    taken = step.taken;
+    lists = lists-then done.lists step.lists;
     comes = λ c macros rest listed work found.
         came c macros rest listed work (old.sets.has part.0.0 c) refl (ap (map (seen_by old.names)) (sym (with-next old.sets parts i part c within is)) ∙ found);
     others = λ c listed none. left c listed (old.sets.has part.0.0 c) refl (sym (with-next old.sets parts i part c within is) ∙ none);
-    others_each = part-each parts i part within is grows own done new next each;
-    alike = part-alike parts i part within is grows own done new next later counted work tokens definition one alike;
+    others_each = part-each parts i part within is grows own done step;
+    alike = part-alike parts i part within is grows own done step work_held definition one;
     rest = λ c listed. left-by c listed (old.sets.has part.0.0 c) refl;
   }
     where
@@ -87,17 +77,18 @@ module _ (files : List (List ℕ)) (old mid new : Stores) (was now next : Expans
       has c listed b is = grows.sets.at part.0.0 c own listed ∙ is
 
       came : (c : List ℕ) (macros : Macros) (rest : List (Hidden Place)) → IsConfig old.sets.arities c → (at old was c).view.work ≡ seen_hidden old.names old.hides head ∷ rest → (b : Bool) → old.sets.has part.0.0 c ≡ b
-          → Taken_by b c macros rest → Comes (provenance_of files) macros (seen_hidden old.names old.hides head) rest (at old was c) (step_at new next later c)
+          → map (seen_by old.names) (items_at old.sets (take i parts) c ++ (if b then part.1 ∷ [] else [])) ≡ macros (text_of old.names head.token.spelling) ∷ []
+          → Comes (provenance_of files) macros (seen_hidden old.names old.hides head) rest (at old was c) (step_at new next later c)
       came c macros rest listed work true here found =
           let none = none-before old.sets parts i part c within is here (one c listed) in
           let kept : at mid now c ≡ at old was c = ap (λ (s : Step). s.at) (done.others c listed none.0) in
           let only : seen_by old.names part.1 ∷ [] ≡ macros (text_of old.names head.token.spelling) ∷ [] = ap (λ l. map (seen_by old.names) (l ++ part.1 ∷ [])) (sym none.0) ∙ found in
           let told : macros (text_of old.names head.token.spelling) ≡ seen_by old.names part.1 = cc in
-          let came = comes c macros rest (IsConfig-Keeps grows.sets listed) (has c listed true here) (ap (λ (a : At). a.view.work) kept ∙ (work ∙ ap (λ t. t ∷ rest) (sym same)))
+          let came = step.comes c macros rest (IsConfig-Keeps grows.sets listed) (has c listed true here) (ap (λ (a : At). a.view.work) kept ∙ (work ∙ ap (λ t. t ∷ rest) (sym same)))
           (ap (λ (t : Hidden Place). macros t.spelling) same ∙ (told ∙ sym (seen_by-Extends grows.names part.1 definition))) in
           subst (λ t. Comes (provenance_of files) macros t rest (at old was c) (step_at new next later c)) same (subst (λ a. Comes (provenance_of files) macros t rest a (step_at new next later c)) kept came)
       came c macros rest listed work false elsewhere found =
-          subst (Comes (provenance_of files) macros (seen_hidden old.names old.hides head) rest (at old was c)) (sym (others c (IsConfig-Keeps grows.sets listed) (has c listed false elsewhere)))
+          subst (Comes (provenance_of files) macros (seen_hidden old.names old.hides head) rest (at old was c)) (sym (step.others c (IsConfig-Keeps grows.sets listed) (has c listed false elsewhere)))
           (done.comes c macros rest listed work (ap (map (seen_by old.names)) (sym (append-nil (items_at old.sets (take i parts) c))) ∙ found))
 
       left : (c : List ℕ) → IsConfig old.sets.arities c → (b : Bool) → old.sets.has part.0.0 c ≡ b → items_at old.sets (take i parts) c ++ (if b then part.1 ∷ [] else []) ≡ [] → step_at new next later c ≡ step_at old was before c
@@ -107,17 +98,17 @@ module _ (files : List (List ℕ)) (old mid new : Stores) (was now next : Expans
           no_item [] none = cc
           no_item (x ∷ xs) none = cc
       left c listed false elsewhere none =
-          others c (IsConfig-Keeps grows.sets listed) (has c listed false elsewhere) ∙ done.others c listed (sym (append-nil (items_at old.sets (take i parts) c)) ∙ none)
+          step.others c (IsConfig-Keeps grows.sets listed) (has c listed false elsewhere) ∙ done.others c listed (sym (append-nil (items_at old.sets (take i parts) c)) ∙ none)
 
       left-by : (c : List ℕ) → IsConfig old.sets.arities c → (b : Bool) → old.sets.has part.0.0 c ≡ b → HasTaken old.sets new.sets was.top.work next.top.work later.made.items c
       left-by c listed true here =
           let none = none-before old.sets parts i part c within is here (one c listed) in
-          taken-earlier (done.others_each c listed none.0) (rest c (IsConfig-Keeps grows.sets listed))
+          taken-earlier (done.others_each c listed none.0) (step.rest c (IsConfig-Keeps grows.sets listed))
       left-by c listed false elsewhere =
           let listed1 = IsConfig-Keeps grows.sets listed in
           let elsewhere1 = has c listed false elsewhere in
-          let made : seen_at new later.made.items c ≡ seen_at mid after.made.items c = ap (λ (s : Step). s.made) (others c listed1 elsewhere1) in
-          taken-later (done.rest c listed) (each c listed1 elsewhere1)
+          let made : seen_at new later.made.items c ≡ seen_at mid after.made.items c = ap (λ (s : Step). s.made) (step.others c listed1 elsewhere1) in
+          taken-later (done.rest c listed) (step.others_each c listed1 elsewhere1)
           (λ none. none-found (seen_hidden new.names new.hides) (items_at new.sets later.made.items c) (made ∙ ap (map (seen_hidden mid.names mid.hides)) none))
 
 -- ---- what a look-up gives
@@ -145,18 +136,17 @@ found-function s names parts c b m is takes =
     let at = sym (ap (λ l. slice_get l found.0) is) ∙ (slice_get-map (seen_by names) (items_at s parts c) found.0 ∙ ap (option_map (seen_by names)) found.1) in
     by b found.0 at
   where
-    like : (o : Option (Rc Definition Global)) → IsFunction names o → IsFunctionLike (seen_by names o)
-    like None is = is
-    like (Some shared) is = is
-
     by : (b : Bool) (k : ℕ) → slice_get (if b then m ∷ [] else []) k ≡ Some (seen_by names takes.part.1) → (b ≡ true) × IsFunctionLike m
-    by true zero at = (let same : seen_by names takes.part.1 ≡ m = cc in (refl, subst IsFunctionLike same (like takes.part.1 takes.function)))
+    by true zero at = (let same : seen_by names takes.part.1 ≡ m = cc in (refl, subst IsFunctionLike same takes.function))
     by true (suc k) at = absurd (cc)
     by false k at = absurd (cc)
 
 -- no part was taken yet
-pub none-taken : (files : List (List ℕ)) (st : Stores) (e : Expansion) (taken : Taken) (head : declared.Hidden) → AreTaken files st st e e taken taken head []
-none-taken files st e taken head = record {
+pub none-taken : {files : List (List ℕ)} {st : Stores} (e : Expansion) (taken : Taken) (head : declared.Hidden) → IsHeldExpansion st (length files) e → IsHeldTaken st (length files) taken → AreTaken files st st e e taken taken head []
+none-taken e taken head held taken_held = record {
+  held = held;
+  taken = taken_held;
+  lists = lists-same e;
   comes = λ c macros rest listed work found. absurd (cc);
   others = λ c listed none. refl;
   others_each = λ c listed none. refl;

@@ -25,10 +25,6 @@ pub on-ok : {A E P Q : Type 0} (r : Result A E) → (P → Q) → OnOk r P → O
 on-ok (Ok a) f h = f h
 on-ok (Err e) f h = tt
 
-pub both-on-ok : {A E P Q R : Type 0} (r : Result A E) → (P → Q → R) → OnOk r P → OnOk r Q → OnOk r R
-both-on-ok (Ok a) f h k = f h k
-both-on-ok (Err e) f h k = tt
-
 pub has_first-Keeps : {old new : Sets} → Keeps old new → (list : List (Cond × declared.Hidden)) → All (λ (item : Cond × declared.Hidden). IsCond old item.0.0) list → (c : List ℕ) → IsConfig old.arities c → has_first new list c ≡ has_first old list c
 has_first-Keeps keeps [] own c listed = refl
 has_first-Keeps {old} {new} keeps (x ∷ xs) own c listed = keeps.at x.0.0 c (All-head (λ (item : Cond × declared.Hidden). IsCond old item.0.0) x xs own) listed

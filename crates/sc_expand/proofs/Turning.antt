@@ -21,7 +21,7 @@ use Rattle.sc_expand.specs.declared.frame.Frame.{Frame}
 use Rattle.sc_expand.specs.Machine.{IsExpansion, IsHeldExpansion, IsResumed, Progress, Stands, at, at_call, rests, state_in, with_call}
 use Rattle.sc_expand.specs.Having.{HasLast, HasMore}
 use Rattle.sc_expand.specs.Running as running
-use Rattle.sc_expand.specs.Running.{IsAsLong, IsReady, IsTurned, PutsOut, Rest, bottom, bottom_by, last_of, next_by, next_of, put_by, put_out}
+use Rattle.sc_expand.specs.Running.{GoesOn, IsAsLong, IsReady, IsTurned, PutsOut, Rest, bottom, bottom_by, last_of, next_by, next_of, put_by, put_out}
 use Rattle.sc_expand.specs.Seen.{AreHeld, Grows, IsHeldCall, IsHeldEnclosing, IsHeldFrame, Stores, View, calls_at, provenance_of, view_at, waiting_at}
 use Rattle.sc_expand.specs.Turn.{Turn}
 use Rattle.sc_expand.specs.Unchanged as unchanged
@@ -231,19 +231,15 @@ module _ {old new : Stores} (grows : Grows old new) (files : List (List ℕ)) (m
     rest = rest;
   }
 
-  pub called-turn : (calls : Vec Call) (call : Call) → e.top.calls.items ≡ calls.items ++ call ∷ [] → IsReady old.sets e
-      → length (bottom (with_calls e calls)).work ≤ length (bottom after).work → ((c : List ℕ) → IsConfig old.sets.arities c → HasMore old.sets new.sets (bottom (with_calls e calls)).work (bottom after).work c)
-      → ((c d : List ℕ) (others : Others) → IsConfig old.sets.arities c → IsConfig old.sets.arities d → IsAlikeCall old.sets c d call → IsAlikeExpansion old.sets c d others (with_calls e calls) → IsAlikeExpansion new.sets c d others after)
-      → ((c : List ℕ) → IsConfig old.sets.arities c → Progress (provenance_of files) (macros c) old new c e.below.items after.below.items (at_call old (with_calls e calls) call c) (at new after c) (old.sets.has call.cond.0 c))
-      → IsTurned files macros old new e after true
-  called-turn calls call popped ready long rest alike progress =
+  pub called-turn : (calls : Vec Call) (call : Call) → e.top.calls.items ≡ calls.items ++ call ∷ [] → IsReady old.sets e → GoesOn old new (with_calls e calls) after call → IsTurned files macros old new e after true
+  called-turn calls call popped ready gone =
       let whole : (bottom (with_calls e calls)).work ≡ (bottom e).work = bottom-same e.below.items (with_calls e calls).top e.top refl in
       next-turn call.cond (next-call e calls.items call popped) ready
-      (running.all (omega (arith, long, ap length whole)))
-      (λ c listed. running.put (subst (λ l. HasMore old.sets new.sets l (bottom after).work c) whole (rest c listed)))
+      (running.all (omega (arith, gone.long, ap length whole)))
+      (λ c listed. running.put (subst (λ l. HasMore old.sets new.sets l (bottom after).work c) whole (gone.rest c listed)))
       (λ uncalled none. absurd (never-empty calls.items call (sym popped ∙ uncalled.calls)))
-      (λ c d others p q defines same inside both. alike c d others p q (call-alike e both calls call popped) (popped-alike e both calls (Some call) popped))
-      (λ c listed. subst (λ a. Progress (provenance_of files) (macros c) old new c e.below.items after.below.items a (at new after c) (old.sets.has call.cond.0 c)) (at_call-popped old c e calls call popped) (progress c listed))
+      (λ c d others p q defines same inside both. gone.alike c d others p q (call-alike e both calls call popped) (popped-alike e both calls (Some call) popped))
+      (λ c listed. subst (λ a. Progress (provenance_of files) (macros c) old new c e.below.items after.below.items a (at new after c) (old.sets.has call.cond.0 c)) (at_call-popped old c e calls call popped) (gone.progress files (macros c) c listed))
 
   pub taken-turn : (calls : Vec Call) → IsNone Call e.top.calls.items calls.items → (item : Cond × Hidden) → slice_get e.top.work 0 ≡ Some item → after.below ≡ e.below → IsReady old.sets e
       → length e.top.work ≤ suc (length after.top.work) → ((c : List ℕ) → IsConfig old.sets.arities c → HasLast old.sets new.sets e.top.work after.top.work c)

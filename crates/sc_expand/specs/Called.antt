@@ -12,7 +12,7 @@ use Rattle.sc_expand.specs.Gather.{Gathers}
 use Rattle.sc_expand.specs.Alike.{IsAlikeIn, IsSameCall, Span}
 use Rattle.sc_hoist.specs.Alike.{IsAlike}
 use Rattle.sc_expand.specs.Having.{HasLast, has_each, tokens_in}
-use Rattle.sc_expand.specs.Machine.{at, with_call}
+use Rattle.sc_expand.specs.Machine.{IsHeldExpansion, KeepsLists, at, with_call}
 use Rattle.sc_expand.specs.Plain.{IsTemplate, gathered}
 use Rattle.sc_expand.specs.Seen.{AreHeld, IsHeldToken, Stores, calls_at, provenance_of, seen_at, stores}
 use Rattle.sc_expand.specs.Taking.{has_first}
@@ -27,7 +27,7 @@ use Rattle.sc_macro.specs.Seen.{seen_definition, seen_form, seen_item, text_of}
 use Rattle.sc_model.specs.Bytes.{same_bytes}
 use Rattle.sc_model.specs.Sets.{IsCond, IsConfig, IsNever, Keeps, Sets}
 use Rattle.sc_subst.specs.declared.hidden.Hidden.{Hidden}
-use Rattle.sc_subst.specs.Parts.{seen_list}
+use Rattle.sc_subst.specs.Parts.{seen_arguments, seen_list}
 use Rattle.sc_subst.specs.Seen.{seen_hidden}
 
 -- ---- the call behind a name
@@ -91,6 +91,20 @@ pub data Begins (provenance : Provenance Place) (d : Definition) (t close : mode
   refused : (failure : Failure Place) → slots t arguments (parts d.form neither (list_of provenance d t)) ≡ Err failure
       → b.live ≡ false → b.failures ≡ a.failures ++ failure ∷ [] → Begins provenance d t close arguments a b
 
+-- The call of a name with these arguments begins to wait in the configurations of a condition, or is
+-- refused; the others are as they were.
+pub record HasBegun (old new : Stores) (was now : Expansion) (cond : ℕ) (form : declared_form.Form) (items : List declared_item.Item) (head close : Hidden) (raw : List (List Hidden)) : Type 0 where
+  pub held : (files : ℕ) → IsHeldExpansion old files was → IsHeldToken old files head → All (All (IsHeldToken old files)) raw → IsHeldExpansion new files now
+  pub begins : (c : List ℕ) (provenance : Provenance Place) (d : Definition) → IsConfig old.sets.arities c → old.sets.has cond c ≡ true → d.form ≡ seen_form new.names form
+      → list_of provenance d (seen_hidden new.names new.hides head) ≡ map (seen_item new.names) items
+      → Begins provenance d (seen_hidden new.names new.hides head) (seen_hidden new.names new.hides close) (seen_arguments new.names new.hides raw) (at old was c) (at new now c)
+  pub others : (c : List ℕ) → IsConfig old.sets.arities c → old.sets.has cond c ≡ false → at new now c ≡ at old was c
+  pub work : now.top.work ≡ was.top.work
+  pub below : now.below ≡ was.below
+  pub out : now.top.out ≡ was.top.out
+  pub alike : (c d : List ℕ) (span : Span) → IsConfig old.sets.arities c → IsConfig old.sets.arities d → old.sets.has cond c ≡ old.sets.has cond d
+      → IsAlikeIn old.sets c d span was → IsAlikeIn new.sets c d span now
+
 -- the name is looked up, and is that of a macro with this form and this list
 pub record IsMacro (st : Stores) (provenance : Provenance Place) (macros : Macros) (form : declared_form.Form) (items : List declared_item.Item) (head : Hidden) (d : Definition) : Type 0 where
   pub looked_up : is_looked_up (seen_hidden st.names st.hides head) ≡ true
@@ -101,6 +115,8 @@ pub record IsMacro (st : Stores) (provenance : Provenance Place) (macros : Macro
 -- the calls of these branches were taken out: a configuration of one of them made its step, and
 -- each other is as it was
 pub record AreGathered (old st : Stores) (was now : Expansion) (form : declared_form.Form) (items : List declared_item.Item) (head : Hidden) (branches : List Branch) : Type 0 where
+  pub held : (files : ℕ) → IsHeldExpansion old files was → IsHeldExpansion st files now
+  pub lists : KeepsLists was now
   pub gathers : (c place : List ℕ) (provenance : Provenance Place) (macros : Macros) (d : Definition) (rest : List (model.Hidden Place)) → IsConfig old.sets.arities c
       → lists_at old.sets branches c ≡ place ∷ [] → (at old was c).view.work ≡ seen_hidden old.names old.hides head ∷ rest → IsMacro old provenance macros form items head d
       → Gathers provenance macros (seen_hidden old.names old.hides head) rest (at old was c) (at st now c) false

@@ -1,4 +1,5 @@
 pub mod Plain
+pub mod Refusing
 pub mod Arguments
 pub mod Parting
 pub mod Seen

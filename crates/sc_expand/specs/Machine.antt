@@ -5,6 +5,7 @@ use Rattle.c11_macros.specs.Macros.{Macros}
 use Rattle.sc_base.specs.declared.id.Cond.{Cond}
 use Rattle.sc_base.specs.declared.place.Place.{Place}
 use Rattle.sc_expand.specs.declared.call.Call.{Call}
+use Rattle.sc_expand.specs.declared.call.Wanted.{Wanted}
 use Rattle.sc_expand.specs.declared.expansion.Expansion.{Expansion}
 use Rattle.sc_expand.specs.declared.frame.Enclosing.{Enclosing}
 use Rattle.sc_expand.specs.Plain.{Fails, Moves, State, Waiting, expanding}
@@ -77,6 +78,13 @@ pub data Progress (provenance : Provenance Place) (macros : Macros) (old new : S
 pub record IsExpansion (st : Stores) (files : ℕ) (e : Expansion) : Type 0 where
   pub held : IsHeldExpansion st files e
   pub stands : (c : List ℕ) → IsConfig st.sets.arities c → st.sets.has e.refusals.live.0 c ≡ true → Stands st c e.below.items (view_at st e.top c)
+
+-- a call has left the list on top, and one of its arguments is on top alone
+pub record HasEntered (was now : Expansion) (call : Call) (wanted : Wanted) : Type 0 where
+  pub below : now.below.items ≡ was.below.items ++ record { frame = was.top; call = call; parameter = wanted.parameter } ∷ []
+  pub work : now.top.work ≡ map (λ token. (call.cond, token)) wanted.tokens
+  pub out : now.top.out ≡ []
+  pub calls : now.top.calls.items ≡ []
 
 -- the call of the enclosing list waits again, behind the others, and its argument expanded to this
 pub record IsResumed (e : Enclosing) (list : List (Cond × Hidden)) (calls : List Call) : Type 0 where

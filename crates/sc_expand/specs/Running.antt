@@ -10,10 +10,11 @@ use Rattle.sc_expand.specs.declared.call.Call.{Call}
 use Rattle.sc_expand.specs.declared.expansion.Expansion.{Expansion}
 use Rattle.sc_expand.specs.declared.frame.Enclosing.{Enclosing}
 use Rattle.sc_expand.specs.declared.frame.Frame.{Frame}
-use Rattle.sc_expand.specs.Alike.{CallNextAlike, DefineNextAlike, IsAlikeExpansion, IsFirstIn, Others}
+use Rattle.sc_expand.specs.Alike.{CallNextAlike, DefineNextAlike, IsAlikeCall, IsAlikeExpansion, IsFirstIn, Others}
 use Rattle.sc_expand.specs.Having.{HasLast, HasMore, behind_at}
-use Rattle.sc_expand.specs.Machine.{IsHeldExpansion, Progress, at}
-use Rattle.sc_expand.specs.Seen.{Stores, provenance_of, seen_at}
+use Rattle.sc_expand.specs.Machine.{IsHeldExpansion, Progress, at, at_call}
+use Rattle.sc_expand.specs.Seen.{IsHeldCall, Stores, provenance_of, seen_at}
+use Rattle.sc_expand.specs.Turn.{Turn}
 use Rattle.sc_expand.specs.Unchanged.{Drops, IsUncalled, LooksUpNone, Passes}
 use Rattle.sc_model.specs.Sets.{Sets, IsConfig, IsNever}
 use Rattle.sc_subst.specs.declared.hidden.Hidden.{Hidden}
@@ -121,6 +122,30 @@ pub record IsTurned (files : List (List ℕ)) (macros : List ℕ → Macros) (ol
   pub alike : (c d : List ℕ) (others : Others) → IsConfig old.sets.arities c → IsConfig old.sets.arities d → DefineNextAlike old (macros c) (macros d) c e
       → CallNextAlike old (macros c) c d e → IsFirstIn others e → IsAlikeExpansion old.sets c d others e → IsAlikeExpansion new.sets c d others after
   pub rest : (c : List ℕ) → IsConfig old.sets.arities c → Rest old new e after c
+
+-- ---- a call that goes on
+
+-- a call that was taken from the list on top was replaced there, or refused
+pub record IsReplaced (old new : Stores) (was now : Expansion) (call : Call) : Type 0 where
+  pub held : (files : ℕ) → IsHeldExpansion old files was → IsHeldCall old files call → IsHeldExpansion new files now
+  pub below : now.below ≡ was.below
+  pub out : now.top.out ≡ was.top.out
+  pub turns : (files : List (List ℕ)) (macros : Macros) (c : List ℕ) → IsConfig old.sets.arities c → Turn (provenance_of files) macros (at_call old was call c) (at new now c) (old.sets.has call.cond.0 c)
+  pub alike : (c d : List ℕ) (others : Others) → IsConfig old.sets.arities c → IsConfig old.sets.arities d → IsAlikeCall old.sets c d call
+      → IsAlikeExpansion old.sets c d others was → IsAlikeExpansion new.sets c d others now
+  pub long : length (bottom was).work ≤ length (bottom now).work
+  pub rest : (c : List ℕ) → IsConfig old.sets.arities c → HasMore old.sets new.sets (bottom was).work (bottom now).work c
+
+-- a call that was taken from the list on top has made its step
+pub record GoesOn (old new : Stores) (was now : Expansion) (call : Call) : Type 0 where
+  pub held : (files : ℕ) → IsHeldExpansion old files was → IsHeldCall old files call → IsHeldExpansion new files now
+  pub progress : (files : List (List ℕ)) (macros : Macros) (c : List ℕ) → IsConfig old.sets.arities c
+      → Progress (provenance_of files) macros old new c was.below.items now.below.items (at_call old was call c) (at new now c) (old.sets.has call.cond.0 c)
+  pub out : put_out now ≡ put_out was
+  pub alike : (c d : List ℕ) (others : Others) → IsConfig old.sets.arities c → IsConfig old.sets.arities d → IsAlikeCall old.sets c d call
+      → IsAlikeExpansion old.sets c d others was → IsAlikeExpansion new.sets c d others now
+  pub long : length (bottom was).work ≤ length (bottom now).work
+  pub rest : (c : List ℕ) → IsConfig old.sets.arities c → HasMore old.sets new.sets (bottom was).work (bottom now).work c
 
 -- ---- whole runs
 

@@ -1,6 +1,5 @@
 -- What taking the first token of a list comes to at a configuration.
-use Rattle.std.specs.Prelude.{◌≡◌, ◌⊎◌, IsTrue, Bool, true, false, ℕ, List, [], ◌∷◌, ◌++◌, map, Option, None, Some, Result, Ok, Err, slice_get}
-use Rattle.c11_macros.specs.Defines.{is_function_like}
+use Rattle.std.specs.Prelude.{◌≡◌, ◌⊎◌, Bool, true, false, ℕ, List, [], ◌∷◌, ◌++◌, length, map, Option, Some, Result, Ok, Err, slice_get}
 use Rattle.std.specs.Option.{option_map}
 use Rattle.std.specs.declared.rc.Rc.{Rc}
 use Rattle.std.proofs.Common.{Global}
@@ -8,7 +7,7 @@ use Rattle.sc_guarded.specs.Items.{items_at}
 use Rattle.sc_macro.specs.declared.definition.Definition as declared
 use Rattle.sc_macro.specs.Seen.{seen_definition, text_of}
 use Rattle.sc_subst.specs.Seen.{seen_hidden}
-use Rattle.c11_macros.specs.Expansion.{case_of, called, object_result, replaced, stays}
+use Rattle.c11_macros.specs.Expansion.{case_of, called, is_looked_up, object_result, replaced, stays}
 use Rattle.c11_macros.specs.Hidden as model
 use Rattle.c11_macros.specs.Hidden.{Failure, Provenance}
 use Rattle.c11_macros.specs.Macros.{Definition, Macros}
@@ -17,14 +16,15 @@ use Rattle.sc_base.specs.declared.id.Cond.{Cond}
 use Rattle.sc_base.specs.declared.place.Place.{Place}
 use Rattle.sc_expand.specs.declared.expansion.Expansion.{Expansion}
 use Rattle.sc_expand.specs.declared.taking.Taken.{Taken}
-use Rattle.sc_expand.specs.Alike.{IsAlikeIn, IsAlikeTaken, IsSameCall, Span}
+use Rattle.sc_expand.specs.Alike.{IsAlikeIn, IsAlikeTaken, IsFunctionLike, IsSameCall, Span}
 use Rattle.sc_hoist.specs.Alike.{AreAlike}
 use Rattle.sc_expand.specs.Gather.{without_call}
 use Rattle.sc_expand.specs.Having.{HasLast, has_each}
-use Rattle.sc_expand.specs.Machine.{at}
+use Rattle.sc_expand.specs.Machine.{IsHeldExpansion, KeepsLists, at}
 use Rattle.sc_expand.specs.Plain.{Fails, IsTemplate, gathered}
 use Rattle.sc_expand.specs.Seen.{AreHeld, Stores, provenance_of, seen_at, state_of}
 use Rattle.sc_expand.specs.Turn.{At}
+use Rattle.sc_expand.specs.Unchanged.{IsUndefined}
 use Rattle.sc_model.specs.Sets.{Sets, IsCond, IsConfig}
 use Rattle.sc_subst.specs.declared.hidden.Hidden.{Hidden}
 
@@ -81,8 +81,7 @@ pub data Replaces (r : Result (List (model.Hidden Place)) (Failure Place)) (a b 
 
 -- the definition of a function-like macro
 abbrev pub IsFunction : List (List ℕ) → Option (Rc declared.Definition Global) → Type 0
-IsFunction names None = ⊥
-IsFunction names (Some shared) = IsTrue (is_function_like (seen_definition names shared.value).form)
+IsFunction names defined = IsFunctionLike (option_map (λ shared. seen_definition names shared.value) defined)
 
 -- the configuration has a part that defines a function-like macro
 pub record TakesPart (s : Sets) (names : List (List ℕ)) (parts : List (Cond × Option (Rc declared.Definition Global))) (c : List ℕ) : Type 0 where
@@ -96,9 +95,40 @@ pub record HasTaken (old new : Sets) (before after put : List (Cond × Hidden)) 
   pub rest : HasLast old new before after c
   pub made : (items_at new put c ≡ []) ⊎ (has_each new after c ≡ has_each old before c)
 
+-- The name that stands first was taken in the configurations of a condition, all of which define it
+-- so; each other is as it was.
+pub record IsTaken (files : List (List ℕ)) (old st : Stores) (was now : Expansion) (before after : Taken) (head : Hidden) (cond : ℕ) (defined : Option Definition) : Type 0 where
+  pub held : IsHeldExpansion st (length files) now
+  pub taken : IsHeldTaken st (length files) after
+  pub lists : KeepsLists was now
+  pub comes : (c : List ℕ) (macros : Macros) (rest : List (model.Hidden Place)) → IsConfig old.sets.arities c → old.sets.has cond c ≡ true → (at old was c).view.work ≡ seen_hidden old.names old.hides head ∷ rest
+      → macros (text_of old.names head.token.spelling) ≡ defined → Comes (provenance_of files) macros (seen_hidden old.names old.hides head) rest (at old was c) (step_at st now after c)
+  pub others : (c : List ℕ) → IsConfig old.sets.arities c → old.sets.has cond c ≡ false → step_at st now after c ≡ step_at old was before c
+  pub others_each : (c : List ℕ) → IsConfig old.sets.arities c → old.sets.has cond c ≡ false → has_each st.sets now.top.work c ≡ has_each old.sets was.top.work c
+  pub alike : (c d : List ℕ) (span : Span) → IsConfig old.sets.arities c → IsConfig old.sets.arities d → old.sets.has cond c ≡ old.sets.has cond d
+      → (old.sets.has cond c ≡ true → IsFunctionLike defined → IsSameCall old.sets old.names c d was.top.work) → IsAlikeTaken old.sets c d before
+      → IsAlikeIn old.sets c d span was → IsAlikeIn st.sets c d span now × IsAlikeTaken st.sets c d after
+  pub rest : (c : List ℕ) → IsConfig old.sets.arities c → HasTaken old.sets st.sets was.top.work now.top.work after.made.items c
+
+-- An object-like macro's name was replaced in the configurations of a condition, or refused; each
+-- other is as it was.
+pub record HasPut (files : List (List ℕ)) (old st : Stores) (was now : Expansion) (before after : List (Cond × Hidden)) (head : Hidden) (cond : ℕ) (definition : Definition) : Type 0 where
+  pub held : IsHeldExpansion st (length files) now
+  pub made : AreHeld st (length files) after
+  pub below : now.below ≡ was.below
+  pub top : now.top ≡ was.top
+  pub replaces : (c : List ℕ) → IsConfig old.sets.arities c → old.sets.has cond c ≡ true
+      → Replaces (object_result (provenance_of files) definition (seen_hidden old.names old.hides head)) (at old was c) (at st now c) (seen_at old before c) (seen_at st after c)
+  pub others : (c : List ℕ) → IsConfig old.sets.arities c → old.sets.has cond c ≡ false → (at st now c ≡ at old was c) × (seen_at st after c ≡ seen_at old before c)
+  pub alike : (c d : List ℕ) (span : Span) → IsConfig old.sets.arities c → IsConfig old.sets.arities d → old.sets.has cond c ≡ old.sets.has cond d → AreAlike old.sets c d before
+      → IsAlikeIn old.sets c d span was → IsAlikeIn st.sets c d span now × AreAlike st.sets c d after
+
 -- Of the parts of a look-up these were taken: a configuration of one of them has come to something,
 -- and each other is as it was.
 pub record AreTaken (files : List (List ℕ)) (old st : Stores) (was now : Expansion) (before after : Taken) (head : Hidden) (parts : List (Cond × Option (Rc declared.Definition Global))) : Type 0 where
+  pub held : IsHeldExpansion st (length files) now
+  pub taken : IsHeldTaken st (length files) after
+  pub lists : KeepsLists was now
   pub comes : (c : List ℕ) (macros : Macros) (rest : List (model.Hidden Place)) → IsConfig old.sets.arities c → (at old was c).view.work ≡ seen_hidden old.names old.hides head ∷ rest
       → map (option_map (λ shared. seen_definition old.names shared.value)) (items_at old.sets parts c) ≡ macros (text_of old.names head.token.spelling) ∷ []
       → Comes (provenance_of files) macros (seen_hidden old.names old.hides head) rest (at old was c) (step_at st now after c)
@@ -108,3 +138,20 @@ pub record AreTaken (files : List (List ℕ)) (old st : Stores) (was now : Expan
       → (TakesPart old.sets old.names parts c → IsSameCall old.sets old.names c d was.top.work) → IsAlikeTaken old.sets c d before
       → IsAlikeIn old.sets c d span was → IsAlikeIn st.sets c d span now × IsAlikeTaken st.sets c d after
   pub rest : (c : List ℕ) → IsConfig old.sets.arities c → HasTaken old.sets st.sets was.top.work now.top.work after.made.items c
+
+-- The token that stands first was taken in the configurations of a condition, each as its table
+-- defines it, and nothing was known of it before; each other is as it was.
+pub record Takes (files : List (List ℕ)) (macros : List ℕ → Macros) (old st : Stores) (was now : Expansion) (after : Taken) (head : Hidden) (cond : ℕ) : Type 0 where
+  pub held : IsHeldExpansion st (length files) now
+  pub taken : IsHeldTaken st (length files) after
+  pub lists : KeepsLists was now
+  pub comes : (c : List ℕ) (table : Macros) (rest : List (model.Hidden Place)) → IsConfig old.sets.arities c → old.sets.has cond c ≡ true → (at old was c).view.work ≡ seen_hidden old.names old.hides head ∷ rest
+      → table (text_of old.names head.token.spelling) ≡ macros c (text_of old.names head.token.spelling)
+      → Comes (provenance_of files) table (seen_hidden old.names old.hides head) rest (at old was c) (step_at st now after c)
+  pub others : (c : List ℕ) → IsConfig old.sets.arities c → old.sets.has cond c ≡ false → step_at st now after c ≡ untaken old was c
+  pub undefined : ((c : List ℕ) → IsConfig old.sets.arities c → old.sets.has cond c ≡ true → IsUndefined old.names (macros c) head.token) → (now ≡ was) × (after.made.items ≡ [])
+  pub rest : (c : List ℕ) → IsConfig old.sets.arities c → HasTaken old.sets st.sets was.top.work now.top.work after.made.items c
+  pub alike : (c d : List ℕ) (span : Span) → IsConfig old.sets.arities c → IsConfig old.sets.arities d → old.sets.has cond c ≡ old.sets.has cond d
+      → (old.sets.has cond c ≡ true → is_looked_up (seen_hidden old.names old.hides head) ≡ true → IsFunctionLike (macros c (text_of old.names head.token.spelling)) → IsSameCall old.sets old.names c d was.top.work)
+      → (old.sets.has cond c ≡ true → is_looked_up (seen_hidden old.names old.hides head) ≡ true → macros c (text_of old.names head.token.spelling) ≡ macros d (text_of old.names head.token.spelling))
+      → IsAlikeIn old.sets c d span was → IsAlikeIn st.sets c d span now × IsAlikeTaken st.sets c d after

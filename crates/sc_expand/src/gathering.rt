@@ -1,22 +1,17 @@
-ghost use Rattle.std.specs.Prelude.{◌≡◌, ℕ, ◌≤◌, ◌∷◌, [], List, All, true, false, Some, length, map, slice_get, IfOk, IfErr, OnOk, IsTrue};
-ghost use Rattle.c11_macros.specs.Expansion.{list_of};
+ghost use Rattle.std.specs.Prelude.{◌≡◌, ℕ, ◌≤◌, ◌∷◌, [], List, All, true, Some, length, map, slice_get, IfOk, IfErr, OnOk, IsTrue};
 ghost use Rattle.c11_macros.specs.Hidden as model;
-ghost use Rattle.c11_macros.specs.Hidden.{Provenance};
-ghost use Rattle.c11_macros.specs.Macros as model_macros;
 ghost use Rattle.c11_macros.specs.Defines.{is_function_like};
 ghost use Rattle.sc_base.specs.declared.place.Place.{Place};
-ghost use Rattle.sc_expand.specs.Alike.{IsAlikeIn, Span};
-ghost use Rattle.sc_hoist.specs.Alike.{IsAlike};
-ghost use Rattle.sc_expand.specs.Called.{AreGathered, Begins, HasLeft, IsBranch, IsGathered};
+ghost use Rattle.sc_expand.specs.Called.{AreGathered, HasBegun, HasLeft, IsBranch, IsGathered};
 ghost use Rattle.sc_hoist.specs.Branches.{lists_at};
 ghost use Rattle.sc_expand.specs.Machine.{IsHeldExpansion, KeepsLists, at};
-ghost use Rattle.sc_expand.specs.Seen.{IsHeldToken, stores};
+ghost use Rattle.sc_expand.specs.Seen.{stores};
 ghost use Rattle.sc_expand.specs.CallStops.{StopsAt};
 ghost use Rattle.sc_expand.specs.Taking.{has_first};
-ghost use Rattle.sc_macro.specs.Seen.{IsHeldDefinition, IsHeldForm, IsHeldItem, seen_definition, seen_form, seen_item};
+ghost use Rattle.sc_macro.specs.Seen.{IsHeldDefinition, IsHeldForm, IsHeldItem, seen_definition, seen_form};
 ghost use Rattle.sc_model.specs.Growth.{Extends};
 ghost use Rattle.sc_model.specs.Sets.{IsConfig, IsCond, Keeps};
-ghost use Rattle.sc_subst.specs.Parts.{AreHeldArguments, seen_arguments};
+ghost use Rattle.sc_subst.specs.Parts.{AreHeldArguments};
 ghost use Rattle.sc_subst.specs.Seen.{IsHeldHidden, seen_hidden};
 
 use crate::arguments::arguments;
@@ -105,9 +100,8 @@ impl Expansion {
         requires items { All (IsHeldItem names.old) items.now }
         requires branches { All (IsBranch (stores (C.sets conds.old) names.old self.old.sets) self.old) branches.now }
         requires one { (c : List ℕ) → IsConfig (C.sets conds.old).arities c → length (lists_at (C.sets conds.old) branches.now c) ≤ 1 }
-        ensures held { OnOk result ((files : ℕ) → IsHeldExpansion (stores (C.sets conds.old) names.old self.old.sets) files self.old → IsHeldExpansion (stores (C.sets conds.new) names.new self.new.sets) files self.new) }
-        ensures lists { OnOk result (KeepsLists self.old self.new) }
-        ensures gathered { OnOk result (AreGathered (stores (C.sets conds.old) names.old self.old.sets) (stores (C.sets conds.new) names.new self.new.sets) self.old self.new form.now items.now head branches.now) }
+        ensures gathered { OnOk result (AreGathered (stores (C.sets conds.old) names.old self.old.sets) (stores (C.sets conds.new) names.new self.new.sets)
+            self.old self.new form.now items.now head branches.now) }
 
         // at every outcome
         ensures keeps { Keeps (C.sets conds.old) (C.sets conds.new) }
@@ -136,9 +130,8 @@ impl Expansion {
         requires function { IsTrue (is_function_like (seen_form names.old form.now)) }
         requires items { All (IsHeldItem names.old) items.now }
         requires branch { IsBranch (stores (C.sets conds.old) names.old self.old.sets) self.old branch.now }
-        ensures held { OnOk result ((files : ℕ) → IsHeldExpansion (stores (C.sets conds.old) names.old self.old.sets) files self.old → IsHeldExpansion (stores (C.sets conds.new) names.new self.new.sets) files self.new) }
-        ensures lists { OnOk result (KeepsLists self.old self.new) }
-        ensures gathered { OnOk result (AreGathered (stores (C.sets conds.old) names.old self.old.sets) (stores (C.sets conds.new) names.new self.new.sets) self.old self.new form.now items.now head (branch.now ∷ [])) }
+        ensures gathered { OnOk result (AreGathered (stores (C.sets conds.old) names.old self.old.sets) (stores (C.sets conds.new) names.new self.new.sets)
+            self.old self.new form.now items.now head (branch.now ∷ [])) }
 
         // at every outcome
         ensures keeps { Keeps (C.sets conds.old) (C.sets conds.new) }
@@ -214,19 +207,8 @@ impl Expansion {
         requires head { IsHeldHidden names.old self.old.sets head }
         requires close { IsHeldHidden names.old self.old.sets close }
         requires raw { AreHeldArguments names.old self.old.sets raw.now }
-        ensures held { OnOk result ((files : ℕ) → IsHeldExpansion (stores (C.sets conds.old) names.old self.old.sets) files self.old → IsHeldToken (stores (C.sets conds.old) names.old self.old.sets) files head
-            → All (All (IsHeldToken (stores (C.sets conds.old) names.old self.old.sets) files)) raw.now → IsHeldExpansion (stores (C.sets conds.new) names.new self.new.sets) files self.new) }
-        ensures begins { OnOk result ((c : List ℕ) (provenance : Provenance Place) (d : model_macros.Definition) → IsConfig (C.sets conds.old).arities c → (C.sets conds.old).has cond.0 c ≡ true
-            → d.form ≡ seen_form names.new form.now → list_of provenance d (seen_hidden names.new self.new.sets head) ≡ map (seen_item names.new) items.now
-            → Begins provenance d (seen_hidden names.new self.new.sets head) (seen_hidden names.new self.new.sets close) (seen_arguments names.new self.new.sets raw.now)
-            (at (stores (C.sets conds.old) names.old self.old.sets) self.old c) (at (stores (C.sets conds.new) names.new self.new.sets) self.new c)) }
-        ensures others { OnOk result ((c : List ℕ) → IsConfig (C.sets conds.old).arities c → (C.sets conds.old).has cond.0 c ≡ false
-            → at (stores (C.sets conds.new) names.new self.new.sets) self.new c ≡ at (stores (C.sets conds.old) names.old self.old.sets) self.old c) }
-        ensures work { OnOk result (self.new.top.work ≡ self.old.top.work) }
-        ensures below { OnOk result (self.new.below ≡ self.old.below) }
-        ensures out { OnOk result (self.new.top.out ≡ self.old.top.out) }
-        ensures alike { OnOk result ((c d : List ℕ) (span : Span) → IsConfig (C.sets conds.old).arities c → IsConfig (C.sets conds.old).arities d → IsAlike (C.sets conds.old) c d cond
-            → IsAlikeIn (C.sets conds.old) c d span self.old → IsAlikeIn (C.sets conds.new) c d span self.new) }
+        ensures begun { OnOk result (HasBegun (stores (C.sets conds.old) names.old self.old.sets) (stores (C.sets conds.new) names.new self.new.sets)
+            self.old self.new cond.0 form.now items.now head close raw.now) }
 
         // at every outcome
         ensures keeps { Keeps (C.sets conds.old) (C.sets conds.new) }

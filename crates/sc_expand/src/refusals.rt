@@ -1,8 +1,6 @@
-ghost use Rattle.std.specs.Prelude.{◌≡◌, ℕ, ◌<◌, ◌&&◌, ◌++◌, ◌∷◌, [], not, Bool, List, All, IfOk, OnOk, if◌then◌else◌};
-ghost use Rattle.sc_expand.specs.Alike.{AreAlikeRefusals};
-ghost use Rattle.sc_hoist.specs.Alike.{IsAlike};
-ghost use Rattle.sc_expand.specs.Seen.{IsHeldRefusals, failures_at};
-ghost use Rattle.sc_model.specs.Sets.{IsConfig, IsCond, Denotes, Keeps};
+ghost use Rattle.std.specs.Prelude.{OnOk};
+ghost use Rattle.sc_expand.specs.Refusing.{Refuses};
+ghost use Rattle.sc_model.specs.Sets.{IsCond, Keeps};
 
 use sc_base::{Cause, Cond, Fault, OutOfMemory, Place};
 use sc_presence::Conditions;
@@ -26,13 +24,7 @@ impl Refusals {
     ) -> Result<(), OutOfMemory>
         requires live { IsCond (C.sets conds.old) self.old.live.0 }
         requires own { IsCond (C.sets conds.old) cond.0 }
-        ensures live { OnOk result (Denotes (C.sets conds.new) self.new.live.0 (λ c. (C.sets conds.old).has self.old.live.0 c && not ((C.sets conds.old).has cond.0 c))) }
-        ensures failures { OnOk result ((c : List ℕ) → IsConfig (C.sets conds.old).arities c → All (λ f. IsCond (C.sets conds.old) f.cond.0) self.old.faults.items
-            → failures_at (C.sets conds.new) self.new.faults.items c
-            ≡ failures_at (C.sets conds.old) self.old.faults.items c ++ (if (C.sets conds.old).has cond.0 c then record { cause = cause; place = place } ∷ [] else [])) }
-        ensures held { OnOk result ((files : ℕ) → place.file.0 < files → IsHeldRefusals (C.sets conds.old) files self.old → IsHeldRefusals (C.sets conds.new) files self.new) }
-        ensures alike { OnOk result ((c d : List ℕ) (others : ℕ) → IsConfig (C.sets conds.old).arities c → IsConfig (C.sets conds.old).arities d → All (λ f. IsCond (C.sets conds.old) f.cond.0) self.old.faults.items
-            → IsAlike (C.sets conds.old) c d cond → AreAlikeRefusals (C.sets conds.old) c d others self.old → AreAlikeRefusals (C.sets conds.new) c d others self.new) }
+        ensures refuses { OnOk result (Refuses (C.sets conds.old) (C.sets conds.new) cond.0 (record { cause = cause; place = place }) self.old self.new) }
 
         // at every outcome
         ensures keeps { Keeps (C.sets conds.old) (C.sets conds.new) }

@@ -3,22 +3,18 @@ ghost use Rattle.std.specs.Option.{option_map};
 ghost use Rattle.c11_macros.specs.Defines.{is_function_like};
 ghost use Rattle.c11_macros.specs.Expansion as expansion;
 ghost use Rattle.c11_macros.specs.Expansion.{object_result};
-ghost use Rattle.c11_macros.specs.Hidden as model;
 ghost use Rattle.c11_macros.specs.Hidden.{failure_at, with_name};
-ghost use Rattle.c11_macros.specs.Macros.{Macros};
 ghost use Rattle.sc_base.specs.declared.id.Name as declared_name;
-ghost use Rattle.sc_base.specs.declared.place.Place.{Place};
 ghost use Rattle.sc_base.specs.declared.stop.Stop.TheVariants as declared_stop;
-ghost use Rattle.sc_expand.specs.Alike.{CallNextAlike, DefineNextAlike, IsAlikeExpansion, IsAlikeIn, IsAlikeTaken, IsFirstIn, IsFunctionLike, IsSameCall, Others, Span, TakesName};
-ghost use Rattle.sc_hoist.specs.Alike.{AreAlike, IsAlike};
-ghost use Rattle.sc_expand.specs.Having.{HasLast, has_each};
-ghost use Rattle.sc_expand.specs.Machine.{IsHeldExpansion, KeepsLists, at};
+ghost use Rattle.sc_expand.specs.Alike.{CallNextAlike, DefineNextAlike, IsAlikeExpansion, IsFirstIn, IsFunctionLike, Others, TakesName};
+ghost use Rattle.sc_expand.specs.Having.{HasLast};
+ghost use Rattle.sc_expand.specs.Machine.{IsHeldExpansion, at};
 ghost use Rattle.sc_expand.specs.Running.{PutsOut};
 ghost use Rattle.sc_expand.specs.Seen.{AreHeld, IsHeldToken, provenance_of, seen_at, stores};
 ghost use Rattle.sc_expand.specs.CallStops.{StopsAt};
-ghost use Rattle.sc_expand.specs.Taking.{AreTaken, Comes, HasTaken, IsBegun, IsFunction, IsHeldTaken, Replaces, TakesPart, step_at, untaken};
+ghost use Rattle.sc_expand.specs.Taking.{AreTaken, HasPut, IsBegun, IsFunction, IsHeldTaken, IsTaken, Takes, TakesPart, step_at, untaken};
 ghost use Rattle.sc_expand.specs.Turn.{Turn};
-ghost use Rattle.sc_expand.specs.Unchanged.{IsPushed, IsUncalled, IsUndefined, LooksUpNone, Passes};
+ghost use Rattle.sc_expand.specs.Unchanged.{IsPushed, IsUncalled, LooksUpNone, Passes};
 ghost use Rattle.sc_guarded.specs.Items.{items_at};
 ghost use Rattle.sc_macro.specs.Seen.{IsHeldDefinition, seen_definition, text_of};
 ghost use Rattle.sc_model.specs.Growth.{Extends};
@@ -106,27 +102,11 @@ impl Expansion {
         requires table { IsTable (C.sets conds.old) names.old table.now }
         requires begun { (c : List ℕ) → IsConfig (C.sets conds.old).arities c → (C.sets conds.old).has cond.0 c ≡ true
             → IsBegun (seen_hidden names.old self.old.sets token) (untaken (stores (C.sets conds.old) names.old self.old.sets) self.old c) }
-        ensures held { IfOk result (λ taken. IsHeldExpansion (stores (C.sets conds.new) names.new self.new.sets) (length files.now) self.new) }
-        ensures taken { IfOk result (λ taken. IsHeldTaken (stores (C.sets conds.new) names.new self.new.sets) (length files.now) taken) }
-        ensures lists { OnOk result (KeepsLists self.old self.new) }
-        ensures comes { IfOk result (λ taken. (c : List ℕ) (macros : Macros) (rest : List (model.Hidden Place)) → IsConfig (C.sets conds.old).arities c → (C.sets conds.old).has cond.0 c ≡ true
-            → (at (stores (C.sets conds.old) names.old self.old.sets) self.old c).view.work ≡ seen_hidden names.old self.old.sets token ∷ rest
-            → macros (text_of names.old token.token.spelling) ≡ macros_at (C.sets conds.old) names.old table.now c (text_of names.old token.token.spelling)
-            → Comes (provenance_of files.now) macros (seen_hidden names.old self.old.sets token) rest
-            (at (stores (C.sets conds.old) names.old self.old.sets) self.old c) (step_at (stores (C.sets conds.new) names.new self.new.sets) self.new taken c)) }
-        ensures others { IfOk result (λ taken. (c : List ℕ) → IsConfig (C.sets conds.old).arities c → (C.sets conds.old).has cond.0 c ≡ false
-            → step_at (stores (C.sets conds.new) names.new self.new.sets) self.new taken c ≡ untaken (stores (C.sets conds.old) names.old self.old.sets) self.old c) }
-        ensures undefined { IfOk result (λ taken. ((c : List ℕ) → IsConfig (C.sets conds.old).arities c → (C.sets conds.old).has cond.0 c ≡ true
-            → IsUndefined names.old (macros_at (C.sets conds.old) names.old table.now c) token.token)
-            → (self.new ≡ self.old) × (taken.made.items ≡ [])) }
-        ensures rest { IfOk result (λ taken. (c : List ℕ) → IsConfig (C.sets conds.old).arities c → HasTaken (C.sets conds.old) (C.sets conds.new) self.old.top.work self.new.top.work taken.made.items c) }
-        ensures stops { IfErr result (StopsAt (C.sets conds.old) names.old (λ c. ((C.sets conds.old).has cond.0 c ≡ true) × (expansion.is_looked_up (seen_hidden names.old self.old.sets token) ≡ true) × IsFunctionLike (macros_at (C.sets conds.old) names.old table.now c (text_of names.old token.token.spelling))) self.old.top.work limit) }
-        ensures alike { IfOk result (λ taken. (c d : List ℕ) (span : Span) → IsConfig (C.sets conds.old).arities c → IsConfig (C.sets conds.old).arities d
-            → IsAlike (C.sets conds.old) c d cond → ((C.sets conds.old).has cond.0 c ≡ true → expansion.is_looked_up (seen_hidden names.old self.old.sets token) ≡ true → IsFunctionLike (macros_at (C.sets conds.old) names.old table.now c (text_of names.old token.token.spelling))
-            → IsSameCall (C.sets conds.old) names.old c d self.old.top.work)
-            → ((C.sets conds.old).has cond.0 c ≡ true → expansion.is_looked_up (seen_hidden names.old self.old.sets token) ≡ true
-            → macros_at (C.sets conds.old) names.old table.now c (text_of names.old token.token.spelling) ≡ macros_at (C.sets conds.old) names.old table.now d (text_of names.old token.token.spelling))
-            → IsAlikeIn (C.sets conds.old) c d span self.old → IsAlikeIn (C.sets conds.new) c d span self.new × IsAlikeTaken (C.sets conds.new) c d taken) }
+        ensures takes { IfOk result (λ taken. Takes files.now (macros_at (C.sets conds.old) names.old table.now) (stores (C.sets conds.old) names.old self.old.sets) (stores (C.sets conds.new) names.new self.new.sets)
+            self.old self.new taken token cond.0) }
+        ensures stops { IfErr result (StopsAt (C.sets conds.old) names.old (λ c. ((C.sets conds.old).has cond.0 c ≡ true)
+            × (expansion.is_looked_up (seen_hidden names.old self.old.sets token) ≡ true) × IsFunctionLike (macros_at (C.sets conds.old) names.old table.now c (text_of names.old token.token.spelling)))
+            self.old.top.work limit) }
 
         // at every outcome
         ensures keeps { Keeps (C.sets conds.old) (C.sets conds.new) }
@@ -161,27 +141,11 @@ impl Expansion {
         requires name { expansion.is_looked_up (seen_hidden names.old self.old.sets head) ≡ true }
         requires begun { (c : List ℕ) → IsConfig (C.sets conds.old).arities c → (C.sets conds.old).has cond.0 c ≡ true
             → IsBegun (seen_hidden names.old self.old.sets head) (untaken (stores (C.sets conds.old) names.old self.old.sets) self.old c) }
-        ensures held { IfOk result (λ taken. IsHeldExpansion (stores (C.sets conds.new) names.new self.new.sets) (length files.now) self.new) }
-        ensures taken { IfOk result (λ taken. IsHeldTaken (stores (C.sets conds.new) names.new self.new.sets) (length files.now) taken) }
-        ensures lists { OnOk result (KeepsLists self.old self.new) }
-        ensures comes { IfOk result (λ taken. (c : List ℕ) (macros : Macros) (rest : List (model.Hidden Place)) → IsConfig (C.sets conds.old).arities c → (C.sets conds.old).has cond.0 c ≡ true
-            → (at (stores (C.sets conds.old) names.old self.old.sets) self.old c).view.work ≡ seen_hidden names.old self.old.sets head ∷ rest
-            → macros (text_of names.old head.token.spelling) ≡ macros_at (C.sets conds.old) names.old table.now c (text_of names.old head.token.spelling)
-            → Comes (provenance_of files.now) macros (seen_hidden names.old self.old.sets head) rest
-            (at (stores (C.sets conds.old) names.old self.old.sets) self.old c) (step_at (stores (C.sets conds.new) names.new self.new.sets) self.new taken c)) }
-        ensures others { IfOk result (λ taken. (c : List ℕ) → IsConfig (C.sets conds.old).arities c → (C.sets conds.old).has cond.0 c ≡ false
-            → step_at (stores (C.sets conds.new) names.new self.new.sets) self.new taken c ≡ untaken (stores (C.sets conds.old) names.old self.old.sets) self.old c) }
-        ensures undefined { IfOk result (λ taken. ((c : List ℕ) → IsConfig (C.sets conds.old).arities c → (C.sets conds.old).has cond.0 c ≡ true
-            → IsUndefined names.old (macros_at (C.sets conds.old) names.old table.now c) head.token)
-            → (self.new ≡ self.old) × (taken.made.items ≡ [])) }
-        ensures rest { IfOk result (λ taken. (c : List ℕ) → IsConfig (C.sets conds.old).arities c → HasTaken (C.sets conds.old) (C.sets conds.new) self.old.top.work self.new.top.work taken.made.items c) }
-        ensures stops { IfErr result (StopsAt (C.sets conds.old) names.old (λ c. ((C.sets conds.old).has cond.0 c ≡ true) × IsFunctionLike (macros_at (C.sets conds.old) names.old table.now c (text_of names.old head.token.spelling))) self.old.top.work limit) }
-        ensures alike { IfOk result (λ taken. (c d : List ℕ) (span : Span) → IsConfig (C.sets conds.old).arities c → IsConfig (C.sets conds.old).arities d
-            → IsAlike (C.sets conds.old) c d cond → ((C.sets conds.old).has cond.0 c ≡ true → IsFunctionLike (macros_at (C.sets conds.old) names.old table.now c (text_of names.old head.token.spelling))
-            → IsSameCall (C.sets conds.old) names.old c d self.old.top.work)
-            → ((C.sets conds.old).has cond.0 c ≡ true → macros_at (C.sets conds.old) names.old table.now c (text_of names.old head.token.spelling)
-            ≡ macros_at (C.sets conds.old) names.old table.now d (text_of names.old head.token.spelling))
-            → IsAlikeIn (C.sets conds.old) c d span self.old → IsAlikeIn (C.sets conds.new) c d span self.new × IsAlikeTaken (C.sets conds.new) c d taken) }
+        ensures takes { IfOk result (λ taken. Takes files.now (macros_at (C.sets conds.old) names.old table.now) (stores (C.sets conds.old) names.old self.old.sets) (stores (C.sets conds.new) names.new self.new.sets)
+            self.old self.new taken head cond.0) }
+        ensures stops { IfErr result (StopsAt (C.sets conds.old) names.old (λ c. ((C.sets conds.old).has cond.0 c ≡ true)
+            × (expansion.is_looked_up (seen_hidden names.old self.old.sets head) ≡ true) × IsFunctionLike (macros_at (C.sets conds.old) names.old table.now c (text_of names.old head.token.spelling)))
+            self.old.top.work limit) }
 
         // at every outcome
         ensures keeps { Keeps (C.sets conds.old) (C.sets conds.new) }
@@ -247,9 +211,6 @@ impl Expansion {
         requires one { (c : List ℕ) → IsConfig (C.sets conds.old).arities c → length (items_at (C.sets conds.old) parts.now c) ≤ 1 }
         requires begun { (c : List ℕ) → IsConfig (C.sets conds.old).arities c → length (items_at (C.sets conds.old) parts.now c) ≡ 1
             → IsBegun (seen_hidden names.old self.old.sets head) (step_at (stores (C.sets conds.old) names.old self.old.sets) self.old taken.old c) }
-        ensures held { OnOk result (IsHeldExpansion (stores (C.sets conds.new) names.new self.new.sets) (length files.now) self.new) }
-        ensures taken { OnOk result (IsHeldTaken (stores (C.sets conds.new) names.new self.new.sets) (length files.now) taken.new) }
-        ensures lists { OnOk result (KeepsLists self.old self.new) }
         ensures done { OnOk result (AreTaken files.now (stores (C.sets conds.old) names.old self.old.sets) (stores (C.sets conds.new) names.new self.new.sets)
             self.old self.new taken.old taken.new head parts.now) }
         ensures undefined { OnOk result (All (λ part. part.1 ≡ None) parts.now → (self.new ≡ self.old) × (taken.new.made ≡ taken.old.made)) }
@@ -287,24 +248,10 @@ impl Expansion {
         requires name { expansion.is_looked_up (seen_hidden names.old self.old.sets head) ≡ true }
         requires begun { (c : List ℕ) → IsConfig (C.sets conds.old).arities c → (C.sets conds.old).has cond.0 c ≡ true
             → IsBegun (seen_hidden names.old self.old.sets head) (step_at (stores (C.sets conds.old) names.old self.old.sets) self.old taken.old c) }
-        ensures held { OnOk result (IsHeldExpansion (stores (C.sets conds.new) names.new self.new.sets) (length files.now) self.new) }
-        ensures taken { OnOk result (IsHeldTaken (stores (C.sets conds.new) names.new self.new.sets) (length files.now) taken.new) }
-        ensures lists { OnOk result (KeepsLists self.old self.new) }
-        ensures comes { OnOk result ((c : List ℕ) (macros : Macros) (rest : List (model.Hidden Place)) → IsConfig (C.sets conds.old).arities c → (C.sets conds.old).has cond.0 c ≡ true
-            → (at (stores (C.sets conds.old) names.old self.old.sets) self.old c).view.work ≡ seen_hidden names.old self.old.sets head ∷ rest
-            → macros (text_of names.old head.token.spelling) ≡ option_map (λ shared. seen_definition names.old shared.value) definition.now
-            → Comes (provenance_of files.now) macros (seen_hidden names.old self.old.sets head) rest
-            (at (stores (C.sets conds.old) names.old self.old.sets) self.old c) (step_at (stores (C.sets conds.new) names.new self.new.sets) self.new taken.new c)) }
-        ensures others { OnOk result ((c : List ℕ) → IsConfig (C.sets conds.old).arities c → (C.sets conds.old).has cond.0 c ≡ false
-            → step_at (stores (C.sets conds.new) names.new self.new.sets) self.new taken.new c ≡ step_at (stores (C.sets conds.old) names.old self.old.sets) self.old taken.old c) }
+        ensures taken { OnOk result (IsTaken files.now (stores (C.sets conds.old) names.old self.old.sets) (stores (C.sets conds.new) names.new self.new.sets)
+            self.old self.new taken.old taken.new head cond.0 (option_map (λ shared. seen_definition names.old shared.value) definition.now)) }
         ensures undefined { OnOk result (definition.now ≡ None → (self.new ≡ self.old) × (taken.new.made ≡ taken.old.made)) }
-        ensures rest { OnOk result ((c : List ℕ) → IsConfig (C.sets conds.old).arities c → HasTaken (C.sets conds.old) (C.sets conds.new) self.old.top.work self.new.top.work taken.new.made.items c) }
         ensures stops { IfErr result (StopsAt (C.sets conds.old) names.old (λ c. ((C.sets conds.old).has cond.0 c ≡ true) × IsFunction names.old definition.now) self.old.top.work limit) }
-        ensures alike { OnOk result ((c d : List ℕ) (span : Span) → IsConfig (C.sets conds.old).arities c → IsConfig (C.sets conds.old).arities d
-            → IsAlike (C.sets conds.old) c d cond → ((C.sets conds.old).has cond.0 c ≡ true → IsFunction names.old definition.now → IsSameCall (C.sets conds.old) names.old c d self.old.top.work) → IsAlikeTaken (C.sets conds.old) c d taken.old
-            → IsAlikeIn (C.sets conds.old) c d span self.old → IsAlikeIn (C.sets conds.new) c d span self.new × IsAlikeTaken (C.sets conds.new) c d taken.new) }
-        ensures others_each { OnOk result ((c : List ℕ) → IsConfig (C.sets conds.old).arities c → (C.sets conds.old).has cond.0 c ≡ false
-            → has_each (C.sets conds.new) self.new.top.work c ≡ has_each (C.sets conds.old) self.old.top.work c) }
 
         // at every outcome
         ensures keeps { Keeps (C.sets conds.old) (C.sets conds.new) }
@@ -343,23 +290,10 @@ impl Expansion {
         requires name { expansion.is_looked_up (seen_hidden names.old self.old.sets head) ≡ true }
         requires begun { (c : List ℕ) → IsConfig (C.sets conds.old).arities c → (C.sets conds.old).has cond.0 c ≡ true
             → IsBegun (seen_hidden names.old self.old.sets head) (step_at (stores (C.sets conds.old) names.old self.old.sets) self.old taken.old c) }
-        ensures held { OnOk result (IsHeldExpansion (stores (C.sets conds.new) names.new self.new.sets) (length files.now) self.new) }
-        ensures taken { OnOk result (IsHeldTaken (stores (C.sets conds.new) names.new self.new.sets) (length files.now) taken.new) }
-        ensures lists { OnOk result (KeepsLists self.old self.new) }
-        ensures comes { OnOk result ((c : List ℕ) (macros : Macros) (rest : List (model.Hidden Place)) → IsConfig (C.sets conds.old).arities c → (C.sets conds.old).has cond.0 c ≡ true
-            → (at (stores (C.sets conds.old) names.old self.old.sets) self.old c).view.work ≡ seen_hidden names.old self.old.sets head ∷ rest
-            → macros (text_of names.old head.token.spelling) ≡ Some (seen_definition names.old definition.now)
-            → Comes (provenance_of files.now) macros (seen_hidden names.old self.old.sets head) rest
-            (at (stores (C.sets conds.old) names.old self.old.sets) self.old c) (step_at (stores (C.sets conds.new) names.new self.new.sets) self.new taken.new c)) }
-        ensures others { OnOk result ((c : List ℕ) → IsConfig (C.sets conds.old).arities c → (C.sets conds.old).has cond.0 c ≡ false
-            → step_at (stores (C.sets conds.new) names.new self.new.sets) self.new taken.new c ≡ step_at (stores (C.sets conds.old) names.old self.old.sets) self.old taken.old c) }
-        ensures rest { OnOk result ((c : List ℕ) → IsConfig (C.sets conds.old).arities c → HasTaken (C.sets conds.old) (C.sets conds.new) self.old.top.work self.new.top.work taken.new.made.items c) }
-        ensures stops { IfErr result (StopsAt (C.sets conds.old) names.old (λ c. ((C.sets conds.old).has cond.0 c ≡ true) × IsTrue (is_function_like (seen_definition names.old definition.now).form)) self.old.top.work limit) }
-        ensures alike { OnOk result ((c d : List ℕ) (span : Span) → IsConfig (C.sets conds.old).arities c → IsConfig (C.sets conds.old).arities d
-            → IsAlike (C.sets conds.old) c d cond → ((C.sets conds.old).has cond.0 c ≡ true → IsTrue (is_function_like (seen_definition names.old definition.now).form) → IsSameCall (C.sets conds.old) names.old c d self.old.top.work) → IsAlikeTaken (C.sets conds.old) c d taken.old
-            → IsAlikeIn (C.sets conds.old) c d span self.old → IsAlikeIn (C.sets conds.new) c d span self.new × IsAlikeTaken (C.sets conds.new) c d taken.new) }
-        ensures others_each { OnOk result ((c : List ℕ) → IsConfig (C.sets conds.old).arities c → (C.sets conds.old).has cond.0 c ≡ false
-            → has_each (C.sets conds.new) self.new.top.work c ≡ has_each (C.sets conds.old) self.old.top.work c) }
+        ensures taken { OnOk result (IsTaken files.now (stores (C.sets conds.old) names.old self.old.sets) (stores (C.sets conds.new) names.new self.new.sets)
+            self.old self.new taken.old taken.new head cond.0 (Some (seen_definition names.old definition.now))) }
+        ensures stops { IfErr result (StopsAt (C.sets conds.old) names.old
+            (λ c. ((C.sets conds.old).has cond.0 c ≡ true) × IsTrue (is_function_like (seen_definition names.old definition.now).form)) self.old.top.work limit) }
 
         // at every outcome
         ensures keeps { Keeps (C.sets conds.old) (C.sets conds.new) }
@@ -391,20 +325,9 @@ impl Expansion {
         requires head { IsHeldToken (stores (C.sets conds.old) names.old self.old.sets) (length files.now) head }
         requires definition { IsHeldDefinition names.old definition.now }
         requires object { is_function_like (seen_definition names.old definition.now).form ≡ false }
-        ensures held { OnOk result (IsHeldExpansion (stores (C.sets conds.new) names.new self.new.sets) (length files.now) self.new) }
-        ensures made { OnOk result (AreHeld (stores (C.sets conds.new) names.new self.new.sets) (length files.now) made.new.items) }
-        ensures below { OnOk result (self.new.below ≡ self.old.below) }
-        ensures top { OnOk result (self.new.top ≡ self.old.top) }
-        ensures replaces { OnOk result ((c : List ℕ) → IsConfig (C.sets conds.old).arities c → (C.sets conds.old).has cond.0 c ≡ true
-            → Replaces (object_result (provenance_of files.now) (seen_definition names.old definition.now) (seen_hidden names.old self.old.sets head))
-            (at (stores (C.sets conds.old) names.old self.old.sets) self.old c) (at (stores (C.sets conds.new) names.new self.new.sets) self.new c)
-            (seen_at (stores (C.sets conds.old) names.old self.old.sets) made.old.items c) (seen_at (stores (C.sets conds.new) names.new self.new.sets) made.new.items c)) }
-        ensures others { OnOk result ((c : List ℕ) → IsConfig (C.sets conds.old).arities c → (C.sets conds.old).has cond.0 c ≡ false
-            → (at (stores (C.sets conds.new) names.new self.new.sets) self.new c ≡ at (stores (C.sets conds.old) names.old self.old.sets) self.old c)
-            × (seen_at (stores (C.sets conds.new) names.new self.new.sets) made.new.items c ≡ seen_at (stores (C.sets conds.old) names.old self.old.sets) made.old.items c)) }
+        ensures put { OnOk result (HasPut files.now (stores (C.sets conds.old) names.old self.old.sets) (stores (C.sets conds.new) names.new self.new.sets)
+            self.old self.new made.old.items made.new.items head cond.0 (seen_definition names.old definition.now)) }
         ensures stops { IfErr result (λ stop. stop ≡ declared_stop.OutOfMemory) }
-        ensures alike { OnOk result ((c d : List ℕ) (span : Span) → IsConfig (C.sets conds.old).arities c → IsConfig (C.sets conds.old).arities d → IsAlike (C.sets conds.old) c d cond → AreAlike (C.sets conds.old) c d made.old.items
-            → IsAlikeIn (C.sets conds.old) c d span self.old → IsAlikeIn (C.sets conds.new) c d span self.new × AreAlike (C.sets conds.new) c d made.new.items) }
 
         // at every outcome
         ensures keeps { Keeps (C.sets conds.old) (C.sets conds.new) }

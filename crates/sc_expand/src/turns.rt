@@ -1,12 +1,8 @@
 //! The turns of an expansion at a call that waits: an argument is entered, or left.
-ghost use Rattle.std.specs.Prelude.{◌≡◌, ℕ, ◌++◌, ◌∷◌, [], List, true, map, slice_set, IfOk, OnOk, ◌≤◌, length};
-ghost use Rattle.c11_macros.specs.Macros.{Macros};
-ghost use Rattle.sc_expand.specs.Alike.{IsAlikeCall, IsAlikeExpansion, Others};
-ghost use Rattle.sc_expand.specs.Having.{HasMore};
-ghost use Rattle.sc_expand.specs.Machine.{IsHeldExpansion, IsResumed, Progress, at, at_call};
-ghost use Rattle.sc_expand.specs.Running.{bottom, put_out};
-ghost use Rattle.sc_expand.specs.Seen.{IsHeldCall, calls_at, provenance_of, stores};
-ghost use Rattle.sc_expand.specs.Turn.{Turn};
+ghost use Rattle.std.specs.Prelude.{◌≡◌, ℕ, [], List, true, map, slice_set, IfOk, OnOk};
+ghost use Rattle.sc_expand.specs.Machine.{HasEntered, IsHeldExpansion, IsResumed};
+ghost use Rattle.sc_expand.specs.Running.{GoesOn, IsReplaced};
+ghost use Rattle.sc_expand.specs.Seen.{IsHeldCall, calls_at, stores};
 ghost use Rattle.sc_model.specs.Growth.{Extends};
 ghost use Rattle.sc_model.specs.Sets.{IsConfig, Keeps};
 
@@ -25,10 +21,7 @@ use std::mem;
 impl Expansion {
     /// An argument of a call that has left the list on top is expanded alone.
     pub fn enter(&mut self, call: Call, wanted: Wanted) -> Result<(), OutOfMemory>
-        ensures below { OnOk result (self.new.below.items ≡ self.old.below.items ++ record { frame = self.old.top; call = call; parameter = wanted.parameter } ∷ []) }
-        ensures work { OnOk result (self.new.top.work ≡ map (λ token. (call.cond, token)) wanted.tokens) }
-        ensures out { OnOk result (self.new.top.out ≡ []) }
-        ensures calls { OnOk result (self.new.top.calls.items ≡ []) }
+        ensures entered { OnOk result (HasEntered self.old self.new call wanted) }
 
         // at every outcome
         ensures refusals { self.new.refusals ≡ self.old.refusals }
@@ -81,17 +74,7 @@ impl Expansion {
         requires live { (c : List ℕ) → IsConfig (C.sets conds.old).arities c → (C.sets conds.old).has call.cond.0 c ≡ true → (C.sets conds.old).has self.old.refusals.live.0 c ≡ true }
         requires calls { (c : List ℕ) → IsConfig (C.sets conds.old).arities c → (C.sets conds.old).has call.cond.0 c ≡ true
             → calls_at (stores (C.sets conds.old) names.now self.old.sets) self.old.top.calls.items c ≡ [] }
-        ensures held { OnOk result ((files : ℕ) → IsHeldExpansion (stores (C.sets conds.old) names.now self.old.sets) files self.old
-            → IsHeldCall (stores (C.sets conds.old) names.now self.old.sets) files call → IsHeldExpansion (stores (C.sets conds.new) names.now self.new.sets) files self.new) }
-        ensures below { OnOk result (self.new.below ≡ self.old.below) }
-        ensures out { OnOk result (self.new.top.out ≡ self.old.top.out) }
-        ensures turns { OnOk result ((files : List (List ℕ)) (macros : Macros) (c : List ℕ) → IsConfig (C.sets conds.old).arities c
-            → Turn (provenance_of files) macros (at_call (stores (C.sets conds.old) names.now self.old.sets) self.old call c)
-            (at (stores (C.sets conds.new) names.now self.new.sets) self.new c) ((C.sets conds.old).has call.cond.0 c)) }
-        ensures alike { OnOk result ((c d : List ℕ) (others : Others) → IsConfig (C.sets conds.old).arities c → IsConfig (C.sets conds.old).arities d → IsAlikeCall (C.sets conds.old) c d call
-            → IsAlikeExpansion (C.sets conds.old) c d others self.old → IsAlikeExpansion (C.sets conds.new) c d others self.new) }
-        ensures rest { OnOk result ((c : List ℕ) → IsConfig (C.sets conds.old).arities c → HasMore (C.sets conds.old) (C.sets conds.new) (bottom self.old).work (bottom self.new).work c) }
-        ensures long { OnOk result (length (bottom self.old).work ≤ length (bottom self.new).work) }
+        ensures replaced { OnOk result (IsReplaced (stores (C.sets conds.old) names.now self.old.sets) (stores (C.sets conds.new) names.now self.new.sets) self.old self.new call) }
 
         // at every outcome
         ensures keeps { Keeps (C.sets conds.old) (C.sets conds.new) }
@@ -123,18 +106,7 @@ impl Expansion {
         requires held { (files : ℕ) × (IsHeldExpansion (stores (C.sets conds.old) names.now self.old.sets) files self.old × IsHeldCall (stores (C.sets conds.old) names.now self.old.sets) files call) }
         requires calls { (c : List ℕ) → IsConfig (C.sets conds.old).arities c → (C.sets conds.old).has call.cond.0 c ≡ true → (C.sets conds.old).has self.old.refusals.live.0 c ≡ true
             → calls_at (stores (C.sets conds.old) names.now self.old.sets) self.old.top.calls.items c ≡ [] }
-        ensures held { OnOk result ((files : ℕ) → IsHeldExpansion (stores (C.sets conds.old) names.now self.old.sets) files self.old
-            → IsHeldCall (stores (C.sets conds.old) names.now self.old.sets) files call → IsHeldExpansion (stores (C.sets conds.new) names.now self.new.sets) files self.new) }
-        ensures progress { OnOk result ((files : List (List ℕ)) (macros : Macros) (c : List ℕ) → IsConfig (C.sets conds.old).arities c
-            → Progress (provenance_of files) macros (stores (C.sets conds.old) names.now self.old.sets) (stores (C.sets conds.new) names.now self.new.sets) c
-            self.old.below.items self.new.below.items
-            (at_call (stores (C.sets conds.old) names.now self.old.sets) self.old call c)
-            (at (stores (C.sets conds.new) names.now self.new.sets) self.new c) ((C.sets conds.old).has call.cond.0 c)) }
-        ensures out { OnOk result (put_out self.new ≡ put_out self.old) }
-        ensures alike { OnOk result ((c d : List ℕ) (others : Others) → IsConfig (C.sets conds.old).arities c → IsConfig (C.sets conds.old).arities d → IsAlikeCall (C.sets conds.old) c d call
-            → IsAlikeExpansion (C.sets conds.old) c d others self.old → IsAlikeExpansion (C.sets conds.new) c d others self.new) }
-        ensures long { OnOk result (length (bottom self.old).work ≤ length (bottom self.new).work) }
-        ensures rest { OnOk result ((c : List ℕ) → IsConfig (C.sets conds.old).arities c → HasMore (C.sets conds.old) (C.sets conds.new) (bottom self.old).work (bottom self.new).work c) }
+        ensures gone_on { OnOk result (GoesOn (stores (C.sets conds.old) names.now self.old.sets) (stores (C.sets conds.new) names.now self.new.sets) self.old self.new call) }
 
         // at every outcome
         ensures keeps { Keeps (C.sets conds.old) (C.sets conds.new) }

@@ -71,10 +71,10 @@ gather_calls-requires g c =
     let ends = c.in_ok-found.found.ends in
     let parts = parted-by s0 s1 s2 s3 n c.items_at.new.names files e0 c.refuse.new.self c.args.cond.0 ends.closed.0 ends.still.0 c.in_ok-branches.branches.items c.deref.result.now
     (failure_at UnterminatedCall (seen_hidden n e0.sets c.args.head)) c.deref.ensures.value c.first_calls.ensures.keeps c.closed_calls.ensures.keeps c.refuse.ensures.keeps c.items_at.ensures.names c.requires.held
-    c.in_ok-found.ensures.closed c.in_ok-found.ensures.still c.in_ok-branches.ensures.lists c.in_ok-branches.ensures.branches c.in_ok-refuse.ensures.live c.in_ok-refuse.ensures.failures
-    c.in_ok-branches.ensures.agree c.in_ok-refuse.ensures.alike in
+    c.in_ok-found.ensures.closed c.in_ok-found.ensures.still c.in_ok-branches.ensures.lists c.in_ok-branches.ensures.branches c.in_ok-refuse.ensures.refuses
+    c.in_ok-branches.ensures.agree in
     let head = head-held (IsHeldToken (stores s0 n e0.sets) files) e0.top.work c.args.head c.requires.held.top.work.held c.requires.head in
-    let held3 = parted-held parts (c.in_ok-refuse.ensures.held files head.file) in
+    let held3 = parted-held parts head.file in
     record {
       held = (files, held3);
       head = search rules;
@@ -109,16 +109,16 @@ returns g c =
     let ends = c.in_ok-found.found.ends in
     let parts = parted-by s0 s1 s2 s3 n c.items_at.new.names files e0 c.refuse.new.self c.args.cond.0 ends.closed.0 ends.still.0 c.in_ok-branches.branches.items c.deref.result.now
     (failure_at UnterminatedCall (seen_hidden n e0.sets c.args.head)) c.deref.ensures.value c.first_calls.ensures.keeps c.closed_calls.ensures.keeps c.refuse.ensures.keeps c.items_at.ensures.names c.requires.held
-    c.in_ok-found.ensures.closed c.in_ok-found.ensures.still c.in_ok-branches.ensures.lists c.in_ok-branches.ensures.branches c.in_ok-refuse.ensures.live c.in_ok-refuse.ensures.failures
-    c.in_ok-branches.ensures.agree c.in_ok-refuse.ensures.alike in
+    c.in_ok-found.ensures.closed c.in_ok-found.ensures.still c.in_ok-branches.ensures.lists c.in_ok-branches.ensures.branches c.in_ok-refuse.ensures.refuses
+    c.in_ok-branches.ensures.agree in
     let head = head-held (IsHeldToken (stores s0 n e0.sets) files) e0.top.work c.args.head c.requires.held.top.work.held c.requires.head in
-    let held3 = parted-held parts (c.in_ok-refuse.ensures.held files head.file) in
+    let held3 = parted-held parts head.file in
     let s4 = g.C.Conditions.sets c.gather_calls.new.conds in
     let s5 = g.C.Conditions.sets c.apply_or.new.self in
     let n2 = c.gather_calls.new.names in
     let e4 = c.gather_calls.new.self in
-    let held4 = c.in_ok-gather_calls.ensures.held files held3 in
-    let lists = c.in_ok-gather_calls.ensures.lists in
+    let held4 = c.in_ok-gather_calls.ensures.gathered.held files held3 in
+    let lists = c.in_ok-gather_calls.ensures.gathered.lists in
     let later : Grows (stores s4 n2 e4.sets) (stores s5 n2 e4.sets) = record { sets = c.apply_or.ensures.keeps; names = Extends-refl n2; hides = Extends-refl e4.sets } in
     record {
       held = IsHeldExpansion-Grows later e4 held4;

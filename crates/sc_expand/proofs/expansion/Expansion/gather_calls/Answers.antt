@@ -1,7 +1,6 @@
-use Rattle.std.proofs.Common.{◌∙◌, refl, sym, subst}
+use Rattle.std.proofs.Common.{sym, subst}
 use Rattle.sc_expand.proofs.GatherBranches.{branch-later, gathered-more, gathered-none}
 use Rattle.sc_expand.proofs.GatherTaking.{head-held}
-use Rattle.sc_expand.proofs.KeepingLists.{lists-same, lists-then}
 use Rattle.sc_expand.proofs.SeenLemmas.{Grows-refl, Grows-trans}
 use Rattle.sc_expand.specs.Called.{IsBranch}
 use Rattle.sc_expand.specs.Seen.{Grows, IsHeldToken, stores}
@@ -11,15 +10,10 @@ use Rattle.sc_expand.proofs.expansion.Expansion.gather_calls.Goals as goal
 pub loop-branch-init : goal.loop-branch-init
 loop-branch-init g c =
     let st = stores (g.C.Conditions.sets c.args.conds.now) c.args.names.now c.args.self.now.sets in
-    record {
-      grows = Grows-refl st;
-      held = λ files held. held;
-      lists = lists-same c.args.self.now;
-      gathered = gathered-none st c.args.self.now c.args.form.now c.args.items.now c.args.head;
-    }
+    record { grows = Grows-refl st; gathered = gathered-none st c.args.self.now c.args.form.now c.args.items.now c.args.head }
 
 pub gather_call-requires-clause-held : goal.gather_call-requires-clause-held
-gather_call-requires-clause-held g c = (c.requires.held.0, c.loop-branch.invariant.held c.requires.held.0 c.requires.held.1)
+gather_call-requires-clause-held g c = (c.requires.held.0, c.loop-branch.invariant.gathered.held c.requires.held.0 c.requires.held.1)
 
 pub gather_call-requires-clause-branch : goal.gather_call-requires-clause-branch
 gather_call-requires-clause-branch g c =
@@ -47,11 +41,8 @@ loop-branch-preserved g c =
     let within = c.loop-branch-test.true in
     let head = head-held (IsHeldToken old c.requires.held.0) c.args.self.now.top.work c.args.head c.requires.held.1.top.work.held c.requires.head in
     let is = subst (IsBranch old c.args.self.now) (sym c.branch-item.is) (c.requires.branches i b within) in
-    let told = c.in_ok-gather_call.ensures in
     record {
       grows = Grows-trans was.grows step;
-      held = λ files held. told.held files (was.held files held);
-      lists = lists-then was.lists told.lists;
       gathered = gathered-more was.grows c.args.form.now c.args.items.now c.args.head head.held c.requires.form c.requires.items c.args.self.now c.loop-branch.self c.args.branches.now i b within c.branch-item.is
-          was.gathered c.requires.one st c.gather_call.new.self told.gathered is.own;
+          was.gathered c.requires.one st c.gather_call.new.self c.in_ok-gather_call.ensures.gathered is.own;
     }

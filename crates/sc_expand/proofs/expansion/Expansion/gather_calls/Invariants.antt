@@ -1,6 +1,5 @@
-use Rattle.std.proofs.Common.{ℕ, take}
+use Rattle.std.proofs.Common.{take}
 use Rattle.sc_expand.specs.Called.{AreGathered}
-use Rattle.sc_expand.specs.Machine.{IsHeldExpansion, KeepsLists}
 use Rattle.sc_expand.specs.Seen.{Grows, stores}
 use Rattle.sc_expand.proofs.expansion.Expansion.gather_calls.Given as goal
 
@@ -10,7 +9,5 @@ invariant-loop-branch g l =
     let now = stores (g.C.Conditions.sets l.conds) l.names l.self.sets in
     record {
       grows : Grows old now;
-      held : (files : ℕ) → IsHeldExpansion old files l.fn.self → IsHeldExpansion now files l.self;
-      lists : KeepsLists l.fn.self l.self;
       gathered : AreGathered old now l.fn.self l.self l.form l.items l.head (take l.branch-index l.branches);
     }

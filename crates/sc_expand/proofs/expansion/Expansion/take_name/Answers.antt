@@ -3,6 +3,7 @@ use Rattle.std.proofs.lemmas.Result.{err_from_is_err_and}
 use Rattle.std.specs.Global.{Vec}
 use Rattle.std.specs.declared.rc.Rc.{Rc}
 use Rattle.c11_macros.specs.Macros.{Definition}
+use Rattle.c11_macros.specs.Expansion.{is_looked_up}
 use Rattle.c11_tokens.specs.Lex.{is_identifier_kind}
 use Rattle.sc_base.proofs.Growth.{Extends-refl}
 use Rattle.sc_base.specs.declared.id.Cond.{Cond}
@@ -64,13 +65,12 @@ returns-in_err-take_parts-clause-stops g c =
     let keeps = c.lookup.ensures.keeps in
     let grows : Grows (stores s0 n h) (stores s1 n h) = record { sets = keeps; names = Extends-refl n; hides = Extends-refl h } in
     let Part : List ℕ → Type 0 = λ x. TakesPart s1 n c.deref.result.now x in
-    let Like : List ℕ → Type 0 = λ x. (s0.has c.args.cond.0 x ≡ true) × IsFunctionLike (macros_at s0 n c.args.table.now x (text_of n c.args.head.token.spelling)) in
+    let Like : List ℕ → Type 0 = λ x. (s0.has c.args.cond.0 x ≡ true) × (is_looked_up (seen_hidden n h c.args.head) ≡ true) × IsFunctionLike (macros_at s0 n c.args.table.now x (text_of n c.args.head.token.spelling)) in
     rw (p.1, p.2) (stops-earlier Part Like work work c.args.limit _ grows c.requires.held.top.work refl
     (λ x listed takes.
-    let first = IsConfig-kept keeps listed in (
-      found-function s1 n c.in_ok-parts.parts.items x _ _ (c.in_ok-parts.ensures.parts x first) (subst (λ l. TakesPart s1 n l x) c.deref.ensures.value takes),
-      has_each-Keeps work x keeps c.requires.held.top.work.own first,
-    )) c.in_err-take_parts.ensures.stops)
+    let first = IsConfig-kept keeps listed in
+    let found = found-function s1 n c.in_ok-parts.parts.items x _ _ (c.in_ok-parts.ensures.parts x first) (subst (λ l. TakesPart s1 n l x) c.deref.ensures.value takes) in
+    ((found.0, c.requires.name, found.1), has_each-Keeps work x keeps c.requires.held.top.work.own first)) c.in_err-take_parts.ensures.stops)
 
 pub returns : goal.returns
 returns g c =
@@ -88,39 +88,42 @@ returns g c =
     let value = c.deref.ensures.value in
     let told = c.in_ok-take_parts.ensures in
     let never = c.never.ensures.meaning in
+    let done = told.done in
     record {
-      held = told.held;
-      taken = told.taken;
-      lists = told.lists;
-      comes = λ x macros rest listed has work is.
-          let same = at-Grows grows x listed e c.requires.held in
-          let one = ap (λ l. map (seen_by n) (items_at s1 l x)) value ∙ (found.parts x listed ∙ (ap (λ b. if b then macros_at s0 n c.args.table.now x text ∷ [] else []) has ∙ ap (λ m. m ∷ []) (sym is))) in
-          subst (λ a. Comes (provenance_of c.args.files.now) macros (seen_hidden n h c.args.head) rest a (step_at now c.take_parts.new.self c.take_parts.new.taken x)) same
-          (told.done.comes x macros rest (IsConfig-Keeps keeps listed) (ap (λ (a : At). a.view.work) same ∙ work) one);
-      others = λ x listed no.
-          let none = ap (λ l. map (seen_by n) (items_at s1 l x)) value ∙ (found.parts x listed ∙ ap (λ b. if b then macros_at s0 n c.args.table.now x text ∷ [] else []) no) in
-          told.done.others x (IsConfig-Keeps keeps listed) (none-found (seen_by n) (items_at s1 c.deref.result.now x) none)
-          ∙ still-untaken grows e (record { stays = c.never.result; made = c.new.result }) c.requires.held never c.new.ensures.items x listed;
-      undefined = λ undefined.
-          let macro : List ℕ → Option Definition = λ x. macros_at s0 n c.args.table.now x text in
-          let name = (both_true (is_identifier_kind c.args.head.token.kind) (not (hide_at n h c.args.head.hide.0 text)) c.requires.name).0 in
-          let none = found-none s1 n (s0.has c.args.cond.0) macro c.in_ok-parts.parts.items (λ x listed. found.parts x (IsConfig-kept keeps listed)) (λ x listed has. undefined x (IsConfig-kept keeps listed) has name) found.some in
-          let same = told.undefined (subst (All (λ (part : Cond × Option (Rc declared.Definition Global)). part.1 ≡ None)) (sym value) none) in
-          (same.0, ap (λ (made : Vec (Cond × Hidden)). made.items) same.1 ∙ c.new.ensures.items);
-      rest = λ x listed. taken-earlier (has_each-Keeps work x keeps c.requires.held.top.work.own listed) (told.done.rest x (IsConfig-Keeps keeps listed));
+      takes = record {
+        held = done.held;
+        taken = done.taken;
+        lists = done.lists;
+        comes = λ x macros rest listed has work is.
+            let same = at-Grows grows x listed e c.requires.held in
+            let one = ap (λ l. map (seen_by n) (items_at s1 l x)) value ∙ (found.parts x listed ∙ (ap (λ b. if b then macros_at s0 n c.args.table.now x text ∷ [] else []) has ∙ ap (λ m. m ∷ []) (sym is))) in
+            subst (λ a. Comes (provenance_of c.args.files.now) macros (seen_hidden n h c.args.head) rest a (step_at now c.take_parts.new.self c.take_parts.new.taken x)) same
+            (done.comes x macros rest (IsConfig-Keeps keeps listed) (ap (λ (a : At). a.view.work) same ∙ work) one);
+        others = λ x listed no.
+            let none = ap (λ l. map (seen_by n) (items_at s1 l x)) value ∙ (found.parts x listed ∙ ap (λ b. if b then macros_at s0 n c.args.table.now x text ∷ [] else []) no) in
+            done.others x (IsConfig-Keeps keeps listed) (none-found (seen_by n) (items_at s1 c.deref.result.now x) none)
+            ∙ still-untaken grows e (record { stays = c.never.result; made = c.new.result }) c.requires.held never c.new.ensures.items x listed;
+        undefined = λ undefined.
+            let macro : List ℕ → Option Definition = λ x. macros_at s0 n c.args.table.now x text in
+            let name = (both_true (is_identifier_kind c.args.head.token.kind) (not (hide_at n h c.args.head.hide.0 text)) c.requires.name).0 in
+            let none = found-none s1 n (s0.has c.args.cond.0) macro c.in_ok-parts.parts.items (λ x listed. found.parts x (IsConfig-kept keeps listed)) (λ x listed has. undefined x (IsConfig-kept keeps listed) has name) found.some in
+            let same = told.undefined (subst (All (λ (part : Cond × Option (Rc declared.Definition Global)). part.1 ≡ None)) (sym value) none) in
+            (same.0, ap (λ (made : Vec (Cond × Hidden)). made.items) same.1 ∙ c.new.ensures.items);
+        rest = λ x listed. taken-earlier (has_each-Keeps work x keeps c.requires.held.top.work.own listed) (done.rest x (IsConfig-Keeps keeps listed));
+        alike = λ x y span p q same called defined alike.
+            let own = c.requires.held.top.work.own in
+            let parts = c.in_ok-parts.parts.items in
+            let one = found.parts x p in
+            let both = same-defined (s0.has c.args.cond.0 x) (s0.has c.args.cond.0 y) _ _ same (λ has. defined has c.requires.name) in
+            let alike_parts = found-alike (seen_by n) s1 parts x y found.differ (one ∙ (both ∙ sym (found.parts y q))) in
+            done.alike x y span (IsConfig-Keeps keeps p) (IsConfig-Keeps keeps q) (subst (AreAlike s1 x y) (sym value) alike_parts)
+            (λ takes.
+            let function = found-function s1 n parts x _ _ one (subst (λ l. TakesPart s1 n l x) value takes) in
+            each-same-call work work grows c.requires.held.top.work refl (has_each-Keeps work x keeps own p) (has_each-Keeps work y keeps own q) (called function.0 c.requires.name function.1))
+            (record { stays = IsAlike-Keeps keeps p q never.own (alike-of never p q refl); made = subst (AreAlike s1 x y) (sym c.new.ensures.items) (All-nil (λ (item : Cond × Hidden). IsAlike s1 x y item.0)) })
+            (IsAlikeIn-Keeps keeps p q span e c.requires.held alike);
+      };
       stops = tt;
-      alike = λ x y span p q same called defined alike.
-          let own = c.requires.held.top.work.own in
-          let parts = c.in_ok-parts.parts.items in
-          let one = found.parts x p in
-          let both = same-defined (s0.has c.args.cond.0 x) (s0.has c.args.cond.0 y) _ _ same defined in
-          let alike_parts = found-alike (seen_by n) s1 parts x y found.differ (one ∙ (both ∙ sym (found.parts y q))) in
-          told.done.alike x y span (IsConfig-Keeps keeps p) (IsConfig-Keeps keeps q) (subst (AreAlike s1 x y) (sym value) alike_parts)
-          (λ takes.
-          let function = found-function s1 n parts x _ _ one (subst (λ l. TakesPart s1 n l x) value takes) in
-          each-same-call work work grows c.requires.held.top.work refl (has_each-Keeps work x keeps own p) (has_each-Keeps work y keeps own q) (called function.0 function.1))
-          (record { stays = IsAlike-Keeps keeps p q never.own (alike-of never p q refl); made = subst (AreAlike s1 x y) (sym c.new.ensures.items) (All-nil (λ (item : Cond × Hidden). IsAlike s1 x y item.0)) })
-          (IsAlikeIn-Keeps keeps p q span e c.requires.held alike);
       keeps = Keeps-trans keeps c.take_parts.ensures.keeps;
       names = c.take_parts.ensures.names;
       sets = c.take_parts.ensures.sets;

@@ -1,24 +1,21 @@
-use Rattle.std.proofs.Common.{◌≡◌, ◌∙◌, ℕ, List, Some, ap, length, map, take, true, refl, sym, subst}
+use Rattle.std.proofs.Common.{◌≡◌, ◌∙◌, ℕ, List, Some, ap, true, refl, sym, subst}
 use Rattle.std.proofs.lemmas.List.{take_all}
 use Rattle.std.proofs.lemmas.Option.{IfSome_then, slice_get-get_or}
 use Rattle.std.proofs.lemmas.Result.{err_from_is_err_and}
 use Rattle.std.specs.Prelude.{IfSome, slice_get}
 use Rattle.c11_macros.specs.Expansion.{is_looked_up}
 use Rattle.sc_expand.proofs.AlikeTaking.{function-earlier}
-use Rattle.sc_expand.proofs.KeepingLists.{lists-same, lists-then}
 use Rattle.sc_expand.proofs.SeenLemmas.{Grows-refl, Grows-trans, seen_hidden-Grows, token-Grows}
 use Rattle.sc_expand.proofs.StopsLemmas.{stops-earlier}
-use Rattle.sc_expand.proofs.TakingParts.{none-taken, part-taken, seen_by}
+use Rattle.sc_expand.proofs.TakingParts.{none-taken, part-taken}
 use Rattle.sc_expand.proofs.TakingSteps.{none-before}
 use Rattle.sc_expand.specs.Seen.{Grows, stores}
 use Rattle.sc_expand.specs.Taking.{AreTaken, IsBegun, IsFunction, TakesPart, step_at}
-use Rattle.sc_guarded.specs.Items.{items_at}
 use Rattle.sc_macro.specs.Seen.{IsHeldDefinition}
 use Rattle.sc_model.proofs.SetLemmas.{IsConfig-kept, Keeps-trans}
 use Rattle.sc_model.specs.Sets.{IsCond}
 use Rattle.sc_subst.specs.Seen.{seen_hidden}
 use Rattle.sc_table.proofs.Growth.{IsHeldDefinition-Extends}
-use Rattle.sc_hoist.specs.Alike.{AreAlike}
 use Rattle.sc_expand.proofs.expansion.Expansion.take_parts.Goals as goal
 
 pub take_part-requires-clause-name : goal.take_part-requires-clause-name
@@ -36,8 +33,14 @@ take_part-requires-clause-begun g c = λ x listed has.
     subst (IsBegun (seen_hidden c.loop-part.names c.loop-part.self.sets c.args.head)) (sym (was.done.others x first none.0))
     (subst (λ u. IsBegun u (step_at (stores s c.args.names.now c.args.self.now.sets) c.args.self.now c.args.taken.now x)) (sym (seen_hidden-Grows was.grows c.args.head c.requires.head)) (c.requires.begun x first none.1))
 
+pub take_part-requires-clause-held : goal.take_part-requires-clause-held
+take_part-requires-clause-held g c = c.loop-part.invariant.done.held
+
+pub take_part-requires-clause-taken : goal.take_part-requires-clause-taken
+take_part-requires-clause-taken g c = c.loop-part.invariant.done.taken
+
 pub take_part-requires-clause-first : goal.take_part-requires-clause-first
-take_part-requires-clause-first g c = ap (λ l. slice_get l 0) c.loop-part.invariant.lists.tokens ∙ c.requires.first
+take_part-requires-clause-first g c = ap (λ l. slice_get l 0) c.loop-part.invariant.done.lists.tokens ∙ c.requires.first
 
 pub take_part-requires-clause-head : goal.take_part-requires-clause-head
 take_part-requires-clause-head g c = token-Grows c.loop-part.invariant.grows c.args.head c.requires.head
@@ -51,18 +54,14 @@ loop-part-preserved g c =
     record { sets = ensures.keeps; names = ensures.names; hides = ensures.sets } in
     record {
       grows = Grows-trans was.grows step;
-      held = ensures.held;
-      taken = ensures.taken;
-      lists = lists-then was.lists ensures.lists;
       undefined = λ none.
           let so_far = was.undefined none in
           let here = ensures.undefined (ap (λ p. p.1) c.part-item.is ∙ none c.loop-part.part-index c.part-item.result c.loop-part-test.true) in
           (here.0 ∙ so_far.0, here.1 ∙ so_far.1);
-      done = part-taken c.args.files.now _ _ _ c.args.self.now c.loop-part.self c.take_part.new.self c.args.taken.now c.loop-part.taken c.take_part.new.taken c.args.head c.args.parts.now c.loop-part.part-index c.part-item.result
-          (length c.args.files.now) c.loop-part-test.true c.part-item.is was.grows c.requires.head
+      done = part-taken c.args.parts.now c.loop-part.part-index c.part-item.result c.loop-part-test.true c.part-item.is was.grows c.requires.head c.requires.held.top.work
           (subst (λ p. IsCond s0 p.0.0) (sym c.part-item.is) (c.requires.own c.loop-part.part-index c.part-item.result c.loop-part-test.true))
           (subst (λ p. IfSome p.1 (λ shared. IsHeldDefinition c.args.names.now shared.value)) (sym c.part-item.is) (c.requires.definitions c.loop-part.part-index c.part-item.result c.loop-part-test.true))
-          c.requires.one was.done ensures.comes ensures.others c.requires.held.top.work was.lists.tokens ensures.others_each ensures.alike ensures.rest;
+          c.requires.one was.done ensures.taken;
     }
 
 pub take_part-requires-clause-definition : goal.take_part-requires-clause-definition
@@ -77,14 +76,7 @@ returns-in_err-take_part-clause-keeps g c = Keeps-trans c.loop-part.invariant.gr
 pub loop-part-init : goal.loop-part-init
 loop-part-init g c =
     let st = stores (g.C.Conditions.sets c.args.conds.now) c.args.names.now c.args.self.now.sets in
-    record {
-      grows = Grows-refl st;
-      held = c.requires.held;
-      taken = c.requires.taken;
-      lists = lists-same c.args.self.now;
-      undefined = λ none. (refl, refl);
-      done = none-taken c.args.files.now st c.args.self.now c.args.taken.now c.args.head;
-    }
+    record { grows = Grows-refl st; undefined = λ none. (refl, refl); done = none-taken c.args.self.now c.args.taken.now c.args.head c.requires.held c.requires.taken }
 
 pub returns-in_err-take_part-clause-stops : goal.returns-in_err-take_part-clause-stops
 returns-in_err-take_part-clause-stops g c =
@@ -99,7 +91,7 @@ returns-in_err-take_part-clause-stops g c =
     let definition = subst (λ p. IfSome p.1 (λ shared. IsHeldDefinition c.args.names.now shared.value)) (sym c.part-item.is) (c.requires.definitions c.loop-part.part-index part within) in
     let One : List ℕ → Type 0 = λ x. (mid.has part.0.0 x ≡ true) × IsFunction c.loop-part.names part.1 in
     let All : List ℕ → Type 0 = λ x. TakesPart s c.args.names.now parts x in
-    rw (p.1, p.2) (stops-earlier One All c.args.self.now.top.work c.loop-part.self.top.work c.args.limit _ was.grows c.requires.held.top.work was.lists.tokens
+    rw (p.1, p.2) (stops-earlier One All c.args.self.now.top.work c.loop-part.self.top.work c.args.limit _ was.grows c.requires.held.top.work was.done.lists.tokens
     (λ x listed takes.
     let first = IsConfig-kept was.grows.sets listed in
     let here : s.has part.0.0 x ≡ true = sym (was.grows.sets.at part.0.0 x own first) ∙ takes.0 in

@@ -1,9 +1,8 @@
-use Rattle.std.proofs.Common.{◌≡◌, All, Global, None, Option, length, take}
+use Rattle.std.proofs.Common.{◌≡◌, All, Global, None, Option, take}
 use Rattle.std.specs.declared.rc.Rc.{Rc}
 use Rattle.sc_base.specs.declared.id.Cond.{Cond}
-use Rattle.sc_expand.specs.Machine.{IsHeldExpansion, KeepsLists}
 use Rattle.sc_expand.specs.Seen.{Grows, stores}
-use Rattle.sc_expand.specs.Taking.{AreTaken, IsHeldTaken}
+use Rattle.sc_expand.specs.Taking.{AreTaken}
 use Rattle.sc_macro.specs.declared.definition.Definition.{Definition}
 use Rattle.sc_expand.proofs.expansion.Expansion.take_parts.Given as goal
 
@@ -13,9 +12,6 @@ invariant-loop-part g l =
     let now = stores (g.C.Conditions.sets l.conds) l.names l.self.sets in
     record {
       grows : Grows old now;
-      held : IsHeldExpansion now (length l.files) l.self;
-      taken : IsHeldTaken now (length l.files) l.taken;
-      lists : KeepsLists l.fn.self l.self;
       undefined : All (λ (part : Cond × Option (Rc Definition Global)). part.1 ≡ None) l.parts → (l.self ≡ l.fn.self) × (l.taken.made ≡ l.fn.taken.made);
       done : AreTaken l.files old now l.fn.self l.self l.fn.taken l.taken l.head (take l.part-index l.parts);
     }

@@ -21,7 +21,7 @@ go_on-requires-clause-calls g c = λ config listed has live.
     call-alone (stores (g.C.Conditions.sets c.args.conds.now) c.args.names.now c.args.self.now.sets) config c.args.self.now c.pop.new.self c.in-Some.call c.in-Some.ensures.items (c.requires.is.stands config listed live) has
 
 pub returns-in-Some-clause-held : goal.returns-in-Some-clause-held
-returns-in-Some-clause-held g c = c.in_ok-go_on.ensures.held (length c.args.files.now) (popped-held c.args.self.now c.requires.is.held c.pop.new.self (Some c.in-Some.call) c.in-Some.ensures.items)
+returns-in-Some-clause-held g c = c.in_ok-go_on.ensures.gone_on.held (length c.args.files.now) (popped-held c.args.self.now c.requires.is.held c.pop.new.self (Some c.in-Some.call) c.in-Some.ensures.items)
     (call-held c.args.self.now c.requires.is.held c.pop.new.self c.in-Some.call c.in-Some.ensures.items)
 
 pub returns-in-Some-clause-turned : goal.returns-in-Some-clause-turned
@@ -30,8 +30,7 @@ returns-in-Some-clause-turned g c =
     let new = stores (g.C.Conditions.sets c.go_on.new.conds) c.args.names.now c.go_on.new.self.sets in
     let grows : Grows old new = record { sets = c.go_on.ensures.keeps; names = Extends-refl c.args.names.now; hides = c.go_on.ensures.sets } in
     let macros = macros_at (g.C.Conditions.sets c.args.conds.now) c.args.names.now c.args.table.now in
-    called-turn grows c.args.files.now macros c.args.self.now c.go_on.new.self c.requires.is c.pop.new.self c.in-Some.call c.in-Some.ensures.items c.requires.ready c.in_ok-go_on.ensures.long c.in_ok-go_on.ensures.rest c.in_ok-go_on.ensures.alike
-    (λ config listed. c.in_ok-go_on.ensures.progress c.args.files.now (macros config) config listed)
+    called-turn grows c.args.files.now macros c.args.self.now c.go_on.new.self c.requires.is c.pop.new.self c.in-Some.call c.in-Some.ensures.items c.requires.ready c.in_ok-go_on.ensures.gone_on
 
 pub returns-in-Some-clause-out : goal.returns-in-Some-clause-out
 returns-in-Some-clause-out g c =
@@ -39,7 +38,7 @@ returns-in-Some-clause-out g c =
     let new = stores (g.C.Conditions.sets c.go_on.new.conds) c.args.names.now c.go_on.new.self.sets in
     let grows : Grows old new = record { sets = c.go_on.ensures.keeps; names = Extends-refl c.args.names.now; hides = c.go_on.ensures.sets } in
     let whole : put_out (with_calls c.args.self.now c.pop.new.self) ≡ put_out c.args.self.now = put-same c.args.self.now.below.items _ c.args.self.now.top refl in
-    puts-same grows c.args.self.now.refusals.live.0 c.args.self.now c.go_on.new.self c.requires.is.held (c.in_ok-go_on.ensures.out ∙ whole)
+    puts-same grows c.args.self.now.refusals.live.0 c.args.self.now c.go_on.new.self c.requires.is.held (c.in_ok-go_on.ensures.gone_on.out ∙ whole)
 
 pub take-requires-clause-held : goal.take-requires-clause-held
 take-requires-clause-held g c = popped-held c.args.self.now c.requires.is.held c.pop.new.self c.pop.result c.pop.ensures.items

@@ -1,8 +1,9 @@
-use Rattle.std.proofs.Common.{◌∙◌, ◌++◌, ◌∷◌, ◌<◌, ◌&&◌, [], All, drop, map, not, sym, ap, subst, if◌then◌else◌}
+use Rattle.std.proofs.Common.{◌∙◌, ◌++◌, ◌∷◌, ◌<◌, ◌&&◌, [], All, append-nil, drop, map, not, sym, ap, subst, if◌then◌else◌}
 use Rattle.std.proofs.lemmas.List.{map-append}
 use Rattle.std.proofs.lemmas.List.Elements.{All-drop, All-push}
 use Rattle.sc_base.specs.declared.fault.Fault.{Fault}
 use Rattle.sc_expand.proofs.AlikeLemmas.{AreAlikeFaults-Keeps, IsAlike-Keeps, All-drop-push, alike-of}
+use Rattle.sc_expand.proofs.TakingLemmas.{stays-there}
 use Rattle.sc_expand.specs.Seen.{seen_failure, failures_at}
 use Rattle.sc_guarded.proofs.ItemLemmas.{faults_at-append, faults_at-Keeps, map-one}
 use Rattle.sc_guarded.specs.Items.{faults_at}
@@ -11,50 +12,48 @@ use Rattle.sc_model.proofs.SetLemmas.{Denotes-self, Denotes-Keeps, IsConfig-Keep
 use Rattle.sc_model.specs.Sets.{IsCond, Keeps}
 use Rattle.sc_expand.proofs.refusals.Refusals.refuse.Goals as goal
 
-pub returns-clause-live : goal.returns-clause-live
-returns-clause-live g c =
-    let old = g.C.Conditions.sets c.args.conds.now in
-    c.in_ok-live.ensures.meaning _ _ (Denotes-Keeps c.negate.ensures.keeps (Denotes-self old c.args.self.now.live.0 c.requires.live))
-    (c.in_ok-others.ensures.meaning _ (Denotes-self old c.args.cond.0 c.requires.own))
-
-pub returns-clause-failures : goal.returns-clause-failures
-returns-clause-failures g c = λ x listed own.
-    let old = g.C.Conditions.sets c.args.conds.now in
-    let new = g.C.Conditions.sets c.apply_and.new.self in
+pub returns-then-is_never-clause-refuses : goal.returns-then-is_never-clause-refuses
+returns-then-is_never-clause-refuses g c =
+    let s = g.C.Conditions.sets c.args.conds.now in
+    let never = c.is_never.ensures.0 c.if-is_never.true in
     let faults = c.args.self.now.faults.items in
-    let fault : Fault = record { cond = c.args.cond; cause = c.args.cause; place = c.args.place } in
-    let keeps : Keeps old new = Keeps-trans c.negate.ensures.keeps c.apply_and.ensures.keeps in
-    ap (λ l. failures_at new l x) c.in_ok-push.ensures.items
-    ∙ (ap (map seen_failure) (faults_at-append new faults (fault ∷ []) x)
-    ∙ (map-append seen_failure (faults_at new faults x) (faults_at new (fault ∷ []) x)
-    ∙ (ap (λ l. map seen_failure l ++ map seen_failure (faults_at new (fault ∷ []) x)) (faults_at-Keeps faults x keeps own listed)
-    ∙ (ap (λ b. failures_at old faults x ++ map seen_failure (if b then fault ∷ [] else [])) (keeps.at c.args.cond.0 x c.requires.own listed)
-    ∙ ap (λ l. failures_at old faults x ++ l) (map-one seen_failure (old.has c.args.cond.0 x) fault)))))
-
-pub returns-clause-held : goal.returns-clause-held
-returns-clause-held g c = λ files within was.
-    let new = g.C.Conditions.sets c.apply_and.new.self in
-    let faults = c.args.self.now.faults.items in
-    let fault : Fault = record { cond = c.args.cond; cause = c.args.cause; place = c.args.place } in
-    let keeps = Keeps-trans c.negate.ensures.keeps c.apply_and.ensures.keeps in
-    let Own : Fault → Type 0 = λ f. IsCond new f.cond.0 in
-    let Placed : Fault → Type 0 = λ f. f.place.file.0 < files in
     record {
-      live = c.in_ok-live.ensures.own;
-      own = subst (All Own) (sym c.in_ok-push.ensures.items) (All-push Own faults fault (λ k d h. keeps.own _ (was.own k d h)) (keeps.own _ c.requires.own));
-      placed = subst (All Placed) (sym c.in_ok-push.ensures.items) (All-push Placed faults fault was.placed within);
+      live = record { own = c.requires.live; at = λ x listed. sym (stays-there (s.has c.args.self.now.live.0 x) (s.has c.args.cond.0 x) (never.none x listed)) };
+      failures = λ x listed own. sym (ap (λ b. failures_at s faults x ++ (if b then record { cause = c.args.cause; place = c.args.place } ∷ [] else [])) (never.none x listed) ∙ append-nil (failures_at s faults x));
+      held = λ files within was. was;
+      alike = λ x y others p q own same alike. alike;
     }
 
-pub returns-clause-alike : goal.returns-clause-alike
-returns-clause-alike g c = λ x y others at_x at_y own same alike.
+pub returns-clause-refuses : goal.returns-clause-refuses
+returns-clause-refuses g c =
     let old = g.C.Conditions.sets c.args.conds.now in
     let new = g.C.Conditions.sets c.apply_and.new.self in
     let faults = c.args.self.now.faults.items in
     let fault : Fault = record { cond = c.args.cond; cause = c.args.cause; place = c.args.place } in
     let keeps : Keeps old new = Keeps-trans c.negate.ensures.keeps c.apply_and.ensures.keeps in
-    let P : Fault → Type 0 = λ f. IsAlike new x y f.cond in
-    let kept = AreAlikeFaults-Keeps keeps at_x at_y (drop others faults) (All-drop (λ (f : Fault). IsCond old f.cond.0) others faults own) alike.faults in
+    let live = c.in_ok-live.ensures.meaning _ _ (Denotes-Keeps c.negate.ensures.keeps (Denotes-self old c.args.self.now.live.0 c.requires.live)) (c.in_ok-others.ensures.meaning _ (Denotes-self old c.args.cond.0 c.requires.own)) in
     record {
-      live = alike-of (returns-clause-live g c) (IsConfig-Keeps keeps at_x) (IsConfig-Keeps keeps at_y) (λ i. alike.live i && not (same i));
-      faults = subst (λ l. All P (drop others l)) (sym c.in_ok-push.ensures.items) (All-drop-push P others faults fault kept (IsAlike-Keeps keeps at_x at_y c.requires.own same));
+      live = live;
+      failures = λ x listed own.
+          ap (λ l. failures_at new l x) c.in_ok-push.ensures.items
+          ∙ (ap (map seen_failure) (faults_at-append new faults (fault ∷ []) x)
+          ∙ (map-append seen_failure (faults_at new faults x) (faults_at new (fault ∷ []) x)
+          ∙ (ap (λ l. map seen_failure l ++ map seen_failure (faults_at new (fault ∷ []) x)) (faults_at-Keeps faults x keeps own listed)
+          ∙ (ap (λ b. failures_at old faults x ++ map seen_failure (if b then fault ∷ [] else [])) (keeps.at c.args.cond.0 x c.requires.own listed)
+          ∙ ap (λ l. failures_at old faults x ++ l) (map-one seen_failure (old.has c.args.cond.0 x) fault)))));
+      held = λ files within was.
+          let Own : Fault → Type 0 = λ f. IsCond new f.cond.0 in
+          let Placed : Fault → Type 0 = λ f. f.place.file.0 < files in
+          record {
+            live = c.in_ok-live.ensures.own;
+            own = subst (All Own) (sym c.in_ok-push.ensures.items) (All-push Own faults fault (λ k d h. keeps.own _ (was.own k d h)) (keeps.own _ c.requires.own));
+            placed = subst (All Placed) (sym c.in_ok-push.ensures.items) (All-push Placed faults fault was.placed within);
+          };
+      alike = λ x y others p q own same alike.
+          let P : Fault → Type 0 = λ f. IsAlike new x y f.cond in
+          let kept = AreAlikeFaults-Keeps keeps p q (drop others faults) (All-drop (λ (f : Fault). IsCond old f.cond.0) others faults own) alike.faults in
+          record {
+            live = alike-of live (IsConfig-Keeps keeps p) (IsConfig-Keeps keeps q) (λ i. alike.live i && not (same i));
+            faults = subst (λ l. All P (drop others l)) (sym c.in_ok-push.ensures.items) (All-drop-push P others faults fault kept (IsAlike-Keeps keeps p q c.requires.own same));
+          };
     }
