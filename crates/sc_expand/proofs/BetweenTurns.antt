@@ -1,18 +1,27 @@
 -- What the loop of an expansion keeps, through what is dropped before a turn and through the turn.
-use Rattle.std.proofs.Common.{◌≡◌, ℕ, Bool, List, length}
+use Rattle.std.proofs.Common.{◌≡◌, ◌<◌, ℕ, Bool, true, List, length}
 use Rattle.c11_macros.specs.Expansion.{IsWithin}
 use Rattle.c11_macros.specs.Macros.{Macros}
 use Rattle.sc_expand.proofs.AlikeRunning.{StayAlike, alike-rested, alike-start, alike-turned}
 use Rattle.sc_expand.proofs.Phases.{Phase}
 use Rattle.sc_expand.proofs.PhaseStarts.{phase-ready, phase-rested, phase-start}
+use Rattle.sc_expand.proofs.PhaseStops.{turn-stops}
 use Rattle.sc_expand.proofs.PhaseTurns.{phase-turned}
-use Rattle.sc_expand.proofs.RunLemmas.{IsRunning, running-rested, running-start, running-turned}
-use Rattle.sc_expand.proofs.SeenLemmas.{Grows-refl, Grows-trans}
+use Rattle.sc_expand.proofs.PlainTables.{entry_names, within-table}
+use Rattle.sc_expand.proofs.RunLemmas.{IsRunning, running-rested, running-start, running-turned, steps_in, turned-less}
+use Rattle.sc_expand.proofs.SeenLemmas.{Grows-refl, Grows-trans, macros_at-Grows}
+use Rattle.sc_expand.specs.Alike.{TakesName}
+use Rattle.sc_expand.specs.CallStops.{StopsAt}
 use Rattle.sc_expand.specs.declared.expansion.Expansion.{Expansion}
+use Rattle.sc_expand.specs.Footprints.{StopsAtName}
 use Rattle.sc_expand.specs.Machine.{IsHeldExpansion}
-use Rattle.sc_expand.specs.Running.{IsRested, IsTurned, IsUntouched, PutsOut, put_out}
-use Rattle.sc_expand.specs.Seen.{Grows, Stores}
+use Rattle.sc_expand.specs.Running.{IsRested, IsTurned, IsUntouched}
+use Rattle.sc_base.specs.declared.stop.Stop.{Stop}
+use Rattle.sc_expand.specs.Seen.{Grows, Stores, provenance_of}
 use Rattle.sc_model.specs.Sets.{IsConfig}
+use Rattle.sc_subst.specs.Seen.{seen_hidden}
+use Rattle.sc_table.specs.declared.table.MacroTable.{MacroTable}
+use Rattle.sc_table.specs.Table.{IsTable, macros_at}
 
 module _ (files : List (List ℕ)) (macros : List ℕ → Macros) where
   -- what holds of an expansion that began so, between two turns of its loop
@@ -30,24 +39,46 @@ module _ (files : List (List ℕ)) (macros : List ℕ → Macros) where
     phase = phase-start files macros old was held fresh;
   }
 
-module _ {files : List (List ℕ)} {macros : List ℕ → Macros} {old now : Stores} {was e : Expansion} (loop : IsBetweenTurns files macros old now was e) (began : IsHeldExpansion old (length files) was)
-    (new : Stores) (after : Expansion) (more : Grows now new) where
-  pub turns-rested : IsRested now new e after → IsBetweenTurns files macros old new was after
-  turns-rested rested = record {
-    grows = Grows-trans loop.grows more;
-    running = running-rested loop.grows loop.running began new after rested more;
-    alike = alike-rested files macros loop.grows loop.running began loop.alike new after rested;
+module _ {files : List (List ℕ)} {table : MacroTable} {old now : Stores} {was e : Expansion} (is_table : IsTable old.sets old.names table) (loop : IsBetweenTurns files (macros_at old.sets old.names table) old now was e)
+    (began : IsHeldExpansion old (length files) was) where
+  abbrev defined : List ℕ → Macros
+  defined = macros_at old.sets old.names table
+
+  abbrev later : List ℕ → Macros
+  later = macros_at now.sets now.names table
+
+  abbrev names : List (List ℕ)
+  names = entry_names old.names table.entries.entries
+
+  abbrev within : (c : List ℕ) → IsWithin names (defined c)
+  within = within-table old.sets old.names table
+
+  same : (c : List ℕ) → IsConfig old.sets.arities c → later c ≡ defined c
+  same c listed = λ i. λ text. macros_at-Grows loop.grows is_table c text listed i
+
+  pub turns-rested : {new : Stores} {after : Expansion} → IsRested now new e after → IsBetweenTurns files defined old new was after
+  turns-rested {new} {after} rested = record {
+    grows = Grows-trans loop.grows rested.grows;
+    running = running-rested loop.grows loop.running began new after rested;
+    alike = alike-rested files defined loop.grows loop.running began loop.alike new after rested;
     phase = phase-rested loop.grows loop.running began new after loop.phase rested;
   }
 
-  module _ (names : List (List ℕ)) (within : (c : List ℕ) → IsWithin names (macros c)) where
-    pub turns-taken : (other : List ℕ → Macros) → ((c : List ℕ) → IsConfig old.sets.arities c → other c ≡ macros c) → {went : Bool} → IsTurned files other now new e after went
-        → IsHeldExpansion new (length files) after → PutsOut now new e.refusals.live.0 (put_out e) (put_out after) → IsBetweenTurns files macros old new was after
-    turns-taken other same turned held out =
-        let at_name = phase-ready names within loop.grows loop.running loop.phase in
-        record {
-          grows = Grows-trans loop.grows more;
-          running = running-turned loop.grows loop.running began new after other same turned more.sets held out;
-          alike = alike-turned files macros loop.grows loop.running began loop.alike new after names within other same turned;
-          phase = phase-turned files macros names within loop.grows loop.running began at_name.0 at_name.1 new after other same turned;
-        }
+  pub turns-taken : {new : Stores} {after : Expansion} {went : Bool} → IsTurned files later now new e after went → IsBetweenTurns files defined old new was after
+  turns-taken {new} {after} turned =
+      let at_name = phase-ready names within loop.grows loop.running loop.phase in
+      record {
+        grows = Grows-trans loop.grows turned.grows;
+        running = running-turned loop.grows loop.running began new after later same turned;
+        alike = alike-turned files defined loop.grows loop.running began loop.alike new after names within later same turned;
+        phase = phase-turned files defined names within loop.grows loop.running began at_name.0 at_name.1 new after later same turned;
+      }
+
+  pub turns-less : {new : Stores} {after : Expansion} {went : Bool} → IsTurned files later now new e after went → went ≡ true → steps_in old.sets.arities files defined names within new after < steps_in old.sets.arities files defined names within now e
+  turns-less {new} {after} turned there = turned-less loop.grows loop.running began new after later same turned names within there
+
+  pub turns-stop : (limit : ℕ) (stop : Stop) → StopsAt now.sets now.names (λ c. TakesName now (later c) e c) e.top.work limit stop
+      → StopsAtName (seen_hidden old.names old.hides) (provenance_of files) defined old.sets was.refusals.live.0 was.top.work limit stop
+  turns-stop limit stop stops =
+      let at_name = phase-ready names within loop.grows loop.running loop.phase in
+      turn-stops names within loop.grows loop.running began at_name.0 at_name.1 later same limit stop stops

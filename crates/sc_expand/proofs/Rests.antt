@@ -10,7 +10,7 @@ use Rattle.sc_expand.proofs.AlikeLemmas.{All-at, All-but-tail, IsAlikeExpansion-
 use Rattle.sc_expand.proofs.BottomLemmas.{behind-Keeps, behind-other, bottom-held, bottom-less, bottom-same}
 use Rattle.sc_expand.proofs.MachineCalls.{calls_at-append, leave-other}
 use Rattle.sc_expand.proofs.MachineLemmas.{Stands-Grows, state_in-Grows}
-use Rattle.sc_expand.proofs.SeenLemmas.{AreHeld-tail, Grows-refl, IsHeldExpansion-Grows, at-Grows}
+use Rattle.sc_expand.proofs.SeenLemmas.{AreHeld-tail, Grows-refl, Grows-trans, IsHeldExpansion-Grows, at-Grows}
 use Rattle.sc_expand.proofs.UnchangedLemmas.{drops-first, drops-nothing, drops-then, never-empty, not-both}
 use Rattle.sc_expand.specs.Alike.{AreAlikeRefusals, IsAlikeCall, IsAlikeEnclosing, IsAlikeFrame, others_at}
 use Rattle.sc_expand.specs.Having.{behind_at}
@@ -91,6 +91,7 @@ module _ {provenance : Provenance Place} {macros : Macros} {old mid new : Stores
 module _ {old new : Stores} (grows : Grows old new) (e : Expansion) where
   pub rested-Grows : IsRested old new e e
   rested-Grows = record {
+    grows = grows;
     refusals = refl;
     sets = refl;
     out = refl;
@@ -141,6 +142,7 @@ module _ (st : Stores) (e after : Expansion) (refusals : after.refusals ≡ e.re
   pub rested-token : (item : Cond × Hidden) → ((c : List ℕ) → IsConfig st.sets.arities c → st.sets.has item.0.0 c ≡ true → st.sets.has e.refusals.live.0 c ≡ true → ⊥)
       → e.top.work ≡ item ∷ after.top.work → after.top.calls.items ≡ e.top.calls.items → after.top.out ≡ e.top.out → after.below ≡ e.below → IsRested st st e after
   rested-token item never work calls out below = record {
+    grows = Grows-refl st;
     refusals = refusals;
     sets = sets;
     out = ap (λ b. put_by b.items after.top) below ∙ put-same e.below.items after.top e.top out;
@@ -181,6 +183,7 @@ module _ (st : Stores) (e after : Expansion) (refusals : after.refusals ≡ e.re
   pub rested-dropped : ((cond : Cond) → next_of e ≡ Some cond → (c : List ℕ) → IsConfig st.sets.arities c → st.sets.has cond.0 c ≡ true → st.sets.has e.refusals.live.0 c ≡ true → ⊥)
       → IsDropped e after → IsRested st st e after
   rested-dropped never (running.call k calls work out below) = record {
+    grows = Grows-refl st;
     refusals = refusals;
     sets = sets;
     out = ap (λ b. put_by b.items after.top) below ∙ put-same e.below.items after.top e.top out;
@@ -218,6 +221,7 @@ module _ (st : Stores) (e after : Expansion) (refusals : after.refusals ≡ e.re
   rested-dropped never (running.token item none later work out below) =
       rested-token item (λ c listed has live. never item.0 (next-token e item after.top.work none work) c listed has live) work (later ∙ sym none) out below
   rested-dropped never (running.argument o none empty below top) = record {
+    grows = Grows-refl st;
     refusals = refusals;
     sets = sets;
     out = ap (λ t. put_by after.below.items t) top ∙ (sym (put-less after.below.items o e.top) ∙ sym (ap (λ bs. put_by bs e.top) below));
@@ -248,21 +252,22 @@ module _ (st : Stores) (e after : Expansion) (refusals : after.refusals ≡ e.re
 
 -- ---- one after the other
 
-pub rested-then : {old mid new : Stores} {one two three : Expansion} → Grows old mid → IsRested old mid one two → IsRested mid new two three → IsRested old new one three
-rested-then {old} {mid} {new} {one} {two} {three} grows a b = record {
+pub rested-then : {old mid new : Stores} {one two three : Expansion} → IsRested old mid one two → IsRested mid new two three → IsRested old new one three
+rested-then {old} {mid} {new} {one} {two} {three} a b = record {
+  grows = Grows-trans a.grows b.grows;
   refusals = b.refusals ∙ a.refusals;
   sets = b.sets ∙ a.sets;
   out = b.out ∙ a.out;
   held = λ files held. b.held files (a.held files held);
   progress = λ files provenance macros c held listed.
-      progress-then false false refl (a.progress files provenance macros c held listed) (b.progress files provenance macros c (a.held files held) (IsConfig-Keeps grows.sets listed));
+      progress-then false false refl (a.progress files provenance macros c held listed) (b.progress files provenance macros c (a.held files held) (IsConfig-Keeps a.grows.sets listed));
   drops = λ files held uncalled.
       let first = a.drops files held uncalled in
-      drops-then old.sets mid.sets one two three grows.sets held.refusals.live held.top.work.own a.refusals first (b.drops files (a.held files held) first.uncalled);
-  alike = λ files c d others held p q alike. b.alike files c d others (a.held files held) (IsConfig-Keeps grows.sets p) (IsConfig-Keeps grows.sets q) (a.alike files c d others held p q alike);
+      drops-then old.sets mid.sets one two three a.grows.sets held.refusals.live held.top.work.own a.refusals first (b.drops files (a.held files held) first.uncalled);
+  alike = λ files c d others held p q alike. b.alike files c d others (a.held files held) (IsConfig-Keeps a.grows.sets p) (IsConfig-Keeps a.grows.sets q) (a.alike files c d others held p q alike);
   rest = λ files c held p live.
-      let still : mid.sets.has two.refusals.live.0 c ≡ true = ap (λ r. mid.sets.has r.live.0 c) a.refusals ∙ (grows.sets.at one.refusals.live.0 c held.refusals.live p ∙ live) in
-      b.rest files c (a.held files held) (IsConfig-Keeps grows.sets p) still ∙ a.rest files c held p live;
+      let still : mid.sets.has two.refusals.live.0 c ≡ true = ap (λ r. mid.sets.has r.live.0 c) a.refusals ∙ (a.grows.sets.at one.refusals.live.0 c held.refusals.live p ∙ live) in
+      b.rest files c (a.held files held) (IsConfig-Keeps a.grows.sets p) still ∙ a.rest files c held p live;
 }
 
 abbrev with_work : Expansion → List (Cond × Hidden) → Expansion
@@ -276,8 +281,7 @@ module _ (st : Stores) (e : Expansion) (cond : Cond) (never : (c : List ℕ) →
   rested-tokens (suc n) (item ∷ work) same =
       let Same : Cond × Hidden → Type 0 = λ x. x.0 ≡ cond in
       let is : item.0 ≡ cond = All-head Same item (take n work) same in
-      rested-then (Grows-refl st)
-      (rested-token st (with_work e (item ∷ work)) (with_work e work) refl refl item (λ c listed has. never c listed (subst (λ (x : Cond). st.sets.has x.0 c ≡ true) is has)) refl refl refl refl)
+      rested-then (rested-token st (with_work e (item ∷ work)) (with_work e work) refl refl item (λ c listed has. never c listed (subst (λ (x : Cond). st.sets.has x.0 c ≡ true) is has)) refl refl refl refl)
       (rested-tokens n work (All-tail Same item (take n work) same))
 
 -- ---- it grows lighter

@@ -153,12 +153,12 @@ module _ {files : List (List ℕ)} {macros : List ℕ → Macros} {old now : Sto
     pub rests-at : (c : List ℕ) → IsConfig old.sets.arities c → Progress (provenance_of files) (macros c) now new c e.below.items after.below.items (at now e c) (at new after c) false
     rests-at c listed = rested.progress (length files) (provenance_of files) (macros c) c r.held (IsConfig-Keeps grows.sets listed)
 
-    pub running-rested : Grows now new → IsRunning files macros old new was after
-    running-rested more = running-later grows r new after (λ c. false) rests-at (rested.held (length files) r.held) (puts-same more e.refusals.live.0 e after r.held rested.out)
+    pub running-rested : IsRunning files macros old new was after
+    running-rested = running-later grows r new after (λ c. false) rests-at (rested.held (length files) r.held) (puts-same rested.grows e.refusals.live.0 e after r.held rested.out)
         (λ none.
         let p = r.passes none in
         let q = passes-then now.sets was e after p (drops-pass now.sets e after rested.refusals (rested.drops (length files) r.held p.uncalled)) in
-        passes-Keeps was after more.sets (grows.sets.own was.refusals.live.0 began.refusals.live) (AreHeld-Grows grows was.top.work began.top.work).own q)
+        passes-Keeps was after rested.grows.sets (grows.sets.own was.refusals.live.0 began.refusals.live) (AreHeld-Grows grows was.top.work began.top.work).own q)
 
     pub rested-le : (names : List (List ℕ)) (within : (c : List ℕ) → IsWithin names (macros c)) → steps_in old.sets.arities files macros names within new after ≤ steps_in old.sets.arities files macros names within now e
     rested-le names within = running-le grows r new after (λ c. false) rests-at names within
@@ -167,13 +167,13 @@ module _ {files : List (List ℕ)} {macros : List ℕ → Macros} {old now : Sto
     pub turned-at : (c : List ℕ) → IsConfig old.sets.arities c → Progress (provenance_of files) (macros c) now new c e.below.items after.below.items (at now e c) (at new after c) (turned.takes c)
     turned-at c listed = subst (λ m. Progress (provenance_of files) m now new c e.below.items after.below.items (at now e c) (at new after c) (turned.takes c)) (same c listed) (turned.progress c (IsConfig-Keeps grows.sets listed))
 
-    pub running-turned : Keeps now.sets new.sets → IsHeldExpansion new (length files) after → PutsOut now new e.refusals.live.0 (put_out e) (put_out after) → IsRunning files macros old new was after
-    running-turned keeps held out = running-later grows r new after turned.takes turned-at held out (λ none.
+    pub running-turned : IsRunning files macros old new was after
+    running-turned = running-later grows r new after turned.takes turned-at turned.held turned.out (λ none.
         let p = r.passes none in
         let looks = looks-later grows macros other same (length files) was e began none p in
         let live = grows.sets.own was.refusals.live.0 began.refusals.live in
         let own = (AreHeld-Grows grows was.top.work began.top.work).own in
-        passes-then new.sets was e after (passes-Keeps was e keeps live own p) (turned.passes p.uncalled looks))
+        passes-then new.sets was e after (passes-Keeps was e turned.grows.sets live own p) (turned.passes p.uncalled looks))
 
     pub turned-less : (names : List (List ℕ)) (within : (c : List ℕ) → IsWithin names (macros c)) → went ≡ true → steps_in old.sets.arities files macros names within new after < steps_in old.sets.arities files macros names within now e
     turned-less names within there = running-less grows r new after turned.takes turned-at names within (turned.some there)

@@ -131,6 +131,9 @@ module _ {st : Stores} {files : ℕ} (e : Expansion) (held : IsHeldExpansion st 
   pub enclosing-held : (below : Vec Enclosing) (o : Enclosing) → e.below.items ≡ below.items ++ o ∷ [] → IsHeldEnclosing st files o
   enclosing-held below o less = (All-pop (IsHeldEnclosing st files) e.below.items below.items (Some o) less held.below).1
 
+none-split : {A : Type 0} {xs ys : List A} → IsNone A xs ys → xs ≡ ys ++ []
+none-split none = none.before ∙ ap (λ ks. ks ++ []) (sym none.after)
+
 -- ---- what two configurations have alike
 
 module _ {s : Sets} {c d : List ℕ} {others : Others} (e : Expansion) (alike : IsAlikeExpansion s c d others e) (calls : Vec Call) where
@@ -146,7 +149,7 @@ module _ {s : Sets} {c d : List ℕ} {others : Others} (e : Expansion) (alike : 
 
   -- there is no call
   none-alike : IsNone Call e.top.calls.items calls.items → IsAlikeExpansion s c d others (with_calls e calls)
-  none-alike none = popped-alike None (none.before ∙ ap (λ (ks : List Call). ks ++ []) (sym none.after))
+  none-alike none = popped-alike None (none-split none)
 
   -- and no list below
   alone-alike : (below : Vec Enclosing) → IsNone Call e.top.calls.items calls.items → IsNone Enclosing e.below.items below.items → IsAlikeExpansion s c d others (with_below e calls below)
@@ -214,12 +217,15 @@ module _ (st : Stores) (e after : Expansion) (same : (bottom after).work ≡ (bo
 
 module _ {old new : Stores} (grows : Grows old new) (files : List (List ℕ)) (macros : List ℕ → Macros) (e after : Expansion) (is : IsExpansion old (length files) e) where
   -- a turn of the configurations that have what is next
-  next-turn : (next : Cond) → next_of e ≡ Some next → IsReady old.sets e → IsAsLong e after → ((c : List ℕ) → IsConfig old.sets.arities c → Rest old new e after c)
+  next-turn : (next : Cond) → next_of e ≡ Some next → IsReady old.sets e → IsHeldExpansion new (length files) after → PutsOut old new e.refusals.live.0 (put_out e) (put_out after) → IsAsLong e after → ((c : List ℕ) → IsConfig old.sets.arities c → Rest old new e after c)
       → (IsUncalled e → LooksUpNone old.sets old.names macros e → Passes new.sets e after)
       → ((c d : List ℕ) (others : Others) → IsConfig old.sets.arities c → IsConfig old.sets.arities d → DefineNextAlike old (macros c) (macros d) c e → CallNextAlike old (macros c) c d e → IsFirstIn others e
       → IsAlikeExpansion old.sets c d others e → IsAlikeExpansion new.sets c d others after)
       → ((c : List ℕ) → IsConfig old.sets.arities c → Progress (provenance_of files) (macros c) old new c e.below.items after.below.items (at old e c) (at new after c) (old.sets.has next.0 c)) → IsTurned files macros old new e after true
-  next-turn next here ready long rest passes alike progress = record {
+  next-turn next here ready held out long rest passes alike progress = record {
+    grows = grows;
+    held = held;
+    out = out;
     takes = λ c. old.sets.has next.0 c;
     progress = progress;
     long = long;
@@ -235,6 +241,8 @@ module _ {old new : Stores} (grows : Grows old new) (files : List (List ℕ)) (m
   called-turn calls call popped ready gone =
       let whole : (bottom (with_calls e calls)).work ≡ (bottom e).work = bottom-same e.below.items (with_calls e calls).top e.top refl in
       next-turn call.cond (next-call e calls.items call popped) ready
+      (gone.held (length files) (popped-held e is.held calls (Some call) popped) (call-held e is.held calls call popped))
+      (puts-same grows e.refusals.live.0 e after is.held (gone.out ∙ put-same e.below.items (with_calls e calls).top e.top refl))
       (running.all (omega (arith, gone.long, ap length whole)))
       (λ c listed. running.put (subst (λ l. HasMore old.sets new.sets l (bottom after).work c) whole (gone.rest c listed)))
       (λ uncalled none. absurd (never-empty calls.items call (sym popped ∙ uncalled.calls)))
@@ -242,12 +250,13 @@ module _ {old new : Stores} (grows : Grows old new) (files : List (List ℕ)) (m
       (λ c listed. subst (λ a. Progress (provenance_of files) (macros c) old new c e.below.items after.below.items a (at new after c) (old.sets.has call.cond.0 c)) (at_call-popped old c e calls call popped) (gone.progress files (macros c) c listed))
 
   pub taken-turn : (calls : Vec Call) → IsNone Call e.top.calls.items calls.items → (item : Cond × Hidden) → slice_get e.top.work 0 ≡ Some item → after.below ≡ e.below → IsReady old.sets e
-      → length e.top.work ≤ suc (length after.top.work) → ((c : List ℕ) → IsConfig old.sets.arities c → HasLast old.sets new.sets e.top.work after.top.work c)
+      → IsHeldExpansion new (length files) after → PutsOut old new e.refusals.live.0 e.top.out after.top.out → length e.top.work ≤ suc (length after.top.work) → ((c : List ℕ) → IsConfig old.sets.arities c → HasLast old.sets new.sets e.top.work after.top.work c)
       → (IsUncalled (with_calls e calls) → LooksUpNone old.sets old.names macros (with_calls e calls) → Passes new.sets (with_calls e calls) after)
       → ((c d : List ℕ) (others : Others) → IsConfig old.sets.arities c → IsConfig old.sets.arities d → DefineNextAlike old (macros c) (macros d) c (with_calls e calls) → CallNextAlike old (macros c) c d (with_calls e calls)
       → IsFirstIn others (with_calls e calls) → IsAlikeExpansion old.sets c d others (with_calls e calls) → IsAlikeExpansion new.sets c d others after)
       → ((c : List ℕ) → IsConfig old.sets.arities c → Turn (provenance_of files) (macros c) (at old (with_calls e calls) c) (at new after c) (old.sets.has item.0.0 c)) → IsTurned files macros old new e after true
-  taken-turn calls none item first below ready long rest passes alike turns = next-turn item.0 (next-first e item none.before first) ready
+  taken-turn calls none item first below ready held out long rest passes alike turns = next-turn item.0 (next-first e item none.before first) ready held
+      (puts-top grows e.refusals.live.0 e after is.held below out)
       (long-taken grows e after below none.before item first long)
       (λ c listed. rest-taken grows e after below none.before item first is.held listed (rest c listed))
       (λ uncalled looks.
@@ -266,32 +275,27 @@ module _ (st : Stores) (files : List (List ℕ)) (macros : List ℕ → Macros) 
       ap (λ b. (bottom_by b.items after.top).work) later
       ∙ (bottom-same below.items after.top o.frame work ∙ (sym (ap (λ f. f.work) (bottom-less below.items o e.top)) ∙ sym (ap (λ bs. (bottom_by bs e.top).work) less)))
 
-  pub left-turn : (below : Vec Enclosing) (o : Enclosing) → e.top.calls.items ≡ [] → e.top.work ≡ [] → e.below.items ≡ below.items ++ o ∷ [] → IsReady st.sets e
+  pub left-turn : (calls : Vec Call) (below : Vec Enclosing) (o : Enclosing) → IsNone Call e.top.calls.items calls.items → e.top.work ≡ [] → e.below.items ≡ below.items ++ o ∷ [] → IsReady st.sets e
       → IsResumed o e.top.out after.top.calls.items → after.top.work ≡ o.frame.work → after.top.out ≡ o.frame.out → after.refusals ≡ e.refusals → after.below ≡ below → IsTurned files macros st st e after true
-  left-turn below o none empty less ready resumed work out refusals later = record {
+  left-turn calls below o none empty less ready resumed work out refusals later = record {
+    grows = Grows-refl st;
+    held = left-held (provenance_of files) (macros []) st [] below.items o (with_below e calls below) after resumed work out refusals empty none.after (length files)
+        (below-held e is.held calls None below (Some o) (none-split none) less) (enclosing-held e is.held calls below o less) later;
+    out = puts-same (Grows-refl st) e.refusals.live.0 e after is.held
+        (ap (λ b. put_by b.items after.top) later ∙ (put-same below.items after.top o.frame out ∙ (sym (put-less below.items o e.top) ∙ sym (ap (λ bs. put_by bs e.top) less))));
     takes = λ c. st.sets.has o.call.cond.0 c;
     progress = λ c listed.
         subst (λ b. Progress (provenance_of files) (macros c) st st c e.below.items b.items (at st e c) (at st after c) (st.sets.has o.call.cond.0 c)) (sym later)
         (subst (λ bs. Progress (provenance_of files) (macros c) st st c bs below.items (at st e c) (at st after c) (st.sets.has o.call.cond.0 c)) (sym less)
-        (left-progress (provenance_of files) (macros c) st c below.items o e after resumed work out refusals empty none));
+        (left-progress (provenance_of files) (macros c) st c below.items o e after resumed work out refusals empty none.before));
     long = long-same st e after (left-bottom below o less work later);
-    which = λ cond is c. ap (λ (k : Cond). st.sets.has k.0 c) (some-same (sym (next-argument e below.items o none empty less) ∙ is));
-    some = λ went. ready.some o.call.cond (next-argument e below.items o none empty less);
+    which = λ cond is c. ap (λ (k : Cond). st.sets.has k.0 c) (some-same (sym (next-argument e below.items o none.before empty less) ∙ is));
+    some = λ went. ready.some o.call.cond (next-argument e below.items o none.before empty less);
     ended = λ not. absurd (true≢false not);
     passes = λ uncalled looks. absurd (never-empty below.items o (sym less ∙ uncalled.below));
     alike = λ c d others p q defines same inside alike. alike-leave st.sets c d others e after below.items o less (ap (λ b. b.items) later) refusals work out resumed alike;
     rest = λ c listed. rest-same st e after (left-bottom below o less work later) is.held listed;
   }
-
-  pub left-still : (calls : Vec Call) (r : Option Call) (below : Vec Enclosing) (o : Enclosing) → e.top.calls.items ≡ calls.items ++ option_to_list r → e.top.work ≡ [] → IsNone Call e.top.calls.items calls.items → e.below.items ≡ below.items ++ o ∷ []
-      → IsResumed o e.top.out after.top.calls.items → after.top.work ≡ o.frame.work → after.top.out ≡ o.frame.out → after.refusals ≡ e.refusals → after.below ≡ below → IsHeldExpansion st (length files) after
-  left-still calls r below o popped empty none less resumed work out refusals later =
-      left-held (provenance_of files) (macros []) st [] below.items o (with_below e calls below) after resumed work out refusals empty none.after (length files)
-      (below-held e is.held calls r below (Some o) popped less) (enclosing-held e is.held calls below o less) later
-
-  pub left-out : (below : Vec Enclosing) (o : Enclosing) → e.below.items ≡ below.items ++ o ∷ [] → after.top.out ≡ o.frame.out → after.below ≡ below → put_out after ≡ put_out e
-  left-out below o less out later =
-      ap (λ b. put_by b.items after.top) later ∙ (put-same below.items after.top o.frame out ∙ (sym (put-less below.items o e.top) ∙ sym (ap (λ bs. put_by bs e.top) less)))
 
   alone-bottom : (calls : Vec Call) (below : Vec Enclosing) → IsNone Enclosing e.below.items below.items → (bottom (with_below e calls below)).work ≡ (bottom e).work
   alone-bottom calls below less = ap (λ bs. (bottom_by bs (with_calls e calls).top).work) (less.after ∙ sym less.before) ∙ bottom-same e.below.items (with_calls e calls).top e.top refl
@@ -299,6 +303,10 @@ module _ (st : Stores) (files : List (List ℕ)) (macros : List ℕ → Macros) 
   -- nothing was left
   pub no-turn : (calls : Vec Call) (below : Vec Enclosing) → IsNone Call e.top.calls.items calls.items → e.top.work ≡ [] → IsNone Enclosing e.below.items below.items → IsTurned files macros st st e (with_below e calls below) false
   no-turn calls below none empty less = record {
+    grows = Grows-refl st;
+    held = below-held e is.held calls None below None (none-split none) (none-split less);
+    out = puts-same (Grows-refl st) e.refusals.live.0 e (with_below e calls below) is.held
+        (ap (λ bs. put_by bs (record e.top { calls = calls })) (less.after ∙ sym less.before) ∙ put-same e.below.items (record e.top { calls = calls }) e.top refl);
     takes = λ c. false;
     progress = λ c listed.
         let same = at-none st c e calls none in
@@ -324,6 +332,3 @@ module _ (st : Stores) (files : List (List ℕ)) (macros : List ℕ → Macros) 
     alike = λ c d others p q defines same inside alike. alone-alike e alike calls below none less;
     rest = λ c listed. rest-same st e (with_below e calls below) (alone-bottom calls below less) is.held listed;
   }
-
-  pub no-out : (calls : Vec Call) (below : Vec Enclosing) → IsNone Enclosing e.below.items below.items → put_out (with_below e calls below) ≡ put_out e
-  no-out calls below less = ap (λ bs. put_by bs (record e.top { calls = calls })) (less.after ∙ sym less.before) ∙ put-same e.below.items (record e.top { calls = calls }) e.top refl

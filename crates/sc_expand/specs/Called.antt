@@ -91,8 +91,8 @@ pub data Begins (provenance : Provenance Place) (d : Definition) (t close : mode
   refused : (failure : Failure Place) → slots t arguments (parts d.form neither (list_of provenance d t)) ≡ Err failure
       → b.live ≡ false → b.failures ≡ a.failures ++ failure ∷ [] → Begins provenance d t close arguments a b
 
--- The call of a name with these arguments begins to wait in the configurations of a condition, or is
--- refused; the others are as they were.
+-- The call of a name with these arguments begins to wait in the configurations of a condition, or
+-- is refused; the others are as they were.
 pub record HasBegun (old new : Stores) (was now : Expansion) (cond : ℕ) (form : declared_form.Form) (items : List declared_item.Item) (head close : Hidden) (raw : List (List Hidden)) : Type 0 where
   pub held : (files : ℕ) → IsHeldExpansion old files was → IsHeldToken old files head → All (All (IsHeldToken old files)) raw → IsHeldExpansion new files now
   pub begins : (c : List ℕ) (provenance : Provenance Place) (d : Definition) → IsConfig old.sets.arities c → old.sets.has cond c ≡ true → d.form ≡ seen_form new.names form

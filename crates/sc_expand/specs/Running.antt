@@ -13,7 +13,7 @@ use Rattle.sc_expand.specs.declared.frame.Frame.{Frame}
 use Rattle.sc_expand.specs.Alike.{CallNextAlike, DefineNextAlike, IsAlikeCall, IsAlikeExpansion, IsFirstIn, Others}
 use Rattle.sc_expand.specs.Having.{HasLast, HasMore, behind_at}
 use Rattle.sc_expand.specs.Machine.{IsHeldExpansion, Progress, at, at_call}
-use Rattle.sc_expand.specs.Seen.{IsHeldCall, Stores, provenance_of, seen_at}
+use Rattle.sc_expand.specs.Seen.{Grows, IsHeldCall, Stores, provenance_of, seen_at}
 use Rattle.sc_expand.specs.Turn.{Turn}
 use Rattle.sc_expand.specs.Unchanged.{Drops, IsUncalled, LooksUpNone, Passes}
 use Rattle.sc_model.specs.Sets.{Sets, IsConfig, IsNever}
@@ -78,6 +78,7 @@ pub record PutsOut (old new : Stores) (live : ℕ) (before after : List (Cond ×
 
 -- each configuration that was not refused is where it was, and so is what was put out
 pub record IsRested (old new : Stores) (e after : Expansion) : Type 0 where
+  pub grows : Grows old new
   pub refusals : after.refusals ≡ e.refusals
   pub sets : after.sets ≡ e.sets
   pub out : put_out after ≡ put_out e
@@ -111,6 +112,9 @@ pub data IsAsLong (e after : Expansion) : Type 0 where
 -- What a turn does at each configuration. There was one if some configuration took part that was
 -- not refused.
 pub record IsTurned (files : List (List ℕ)) (macros : List ℕ → Macros) (old new : Stores) (e after : Expansion) (went : Bool) : Type 0 where
+  pub grows : Grows old new
+  pub held : IsHeldExpansion new (length files) after
+  pub out : PutsOut old new e.refusals.live.0 (put_out e) (put_out after)
   pub takes : List ℕ → Bool
   pub progress : (c : List ℕ) → IsConfig old.sets.arities c
       → Progress (provenance_of files) (macros c) old new c e.below.items after.below.items (at old e c) (at new after c) (takes c)

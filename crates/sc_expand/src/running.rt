@@ -71,10 +71,8 @@ impl Expansion {
         requires is { IsExpansion (stores (C.sets conds.old) names.old self.old.sets) (length files.now) self.old }
         requires table { IsTable (C.sets conds.old) names.old table.now }
         requires ready { IsReady (C.sets conds.old) self.old }
-        ensures held { OnOk result (IsHeldExpansion (stores (C.sets conds.new) names.new self.new.sets) (length files.now) self.new) }
         ensures turned { IfOk result (IsTurned files.now (macros_at (C.sets conds.old) names.old table.now)
             (stores (C.sets conds.old) names.old self.old.sets) (stores (C.sets conds.new) names.new self.new.sets) self.old self.new) }
-        ensures out { OnOk result (PutsOut (stores (C.sets conds.old) names.old self.old.sets) (stores (C.sets conds.new) names.new self.new.sets) self.old.refusals.live.0 (put_out self.old) (put_out self.new)) }
         ensures stops { IfErr result (StopsAt (C.sets conds.old) names.old (λ c. TakesName (stores (C.sets conds.old) names.old self.old.sets) (macros_at (C.sets conds.old) names.old table.now c) self.old c) self.old.top.work limit) }
 
         // at every outcome

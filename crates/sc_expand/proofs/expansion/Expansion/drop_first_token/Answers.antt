@@ -39,5 +39,5 @@ returns-clause-rested g c = λ names.
     let both = c.in_ok-cond.ensures.meaning (was.has item.0.0) (was.has e.refusals.live.0) (Denotes-self was item.0.0 own) (Denotes-self was e.refusals.live.0 held.refusals.live) in
     let never = never-at c.apply_and.ensures.keeps item.0 e.refusals.live c.in_ok-cond.cond own held.refusals.live both (c.is_never.ensures.0 c.if-not-is_never.false) in
     let drops = c.drop_alike.ensures in
-    rested-then grows (rested-Grows grows e)
+    rested-then (rested-Grows grows e)
     (subst (λ work. IsRested mid mid e (record e { top = record e.top { work = work } })) (sym drops.is) (rested-tokens mid e item.0 never drops.count e.top.work (drops.alike item is)))

@@ -43,4 +43,4 @@ returns-clause-rested g c = λ names.
     let both = c.in_ok-cond.ensures.meaning (was.has c.in-Some.cond.0) (was.has e.refusals.live.0) (Denotes-self was c.in-Some.cond.0 own) (Denotes-self was e.refusals.live.0 held.refusals.live) in
     let never = never-next c.apply_and.ensures.keeps e c.in-Some.cond c.in_ok-cond.cond is own held.refusals.live both (c.is_never.ensures.0 c.if-not-is_never.false) in
     subst (λ h. IsRested old (stores now names h) e c.drop_next.new.self) (sym c.drop_next.ensures.sets)
-    (rested-then grows (rested-Grows grows e) (rested-dropped mid e c.drop_next.new.self c.drop_next.ensures.refusals c.drop_next.ensures.sets never c.drop_next.ensures.dropped))
+    (rested-then (rested-Grows grows e) (rested-dropped mid e c.drop_next.new.self c.drop_next.ensures.refusals c.drop_next.ensures.sets never c.drop_next.ensures.dropped))

@@ -1,22 +1,14 @@
-use Rattle.std.proofs.Common.{rules, ◌≡◌, ℕ, List, length, sym, subst}
-use Rattle.sc_base.proofs.Growth.{Extends-refl, Extends-trans}
-use Rattle.sc_base.specs.declared.id.Name.{Name}
-use Rattle.sc_expand.proofs.BetweenTurns.{turns-rested, turns-start, turns-taken}
-use Rattle.sc_expand.proofs.PhaseStarts.{phase-ready}
-use Rattle.sc_expand.proofs.PhaseStops.{turn-stops}
+use Rattle.std.proofs.Common.{rules, length, sym, subst}
+use Rattle.sc_base.proofs.Growth.{Extends-trans}
+use Rattle.sc_expand.proofs.BetweenTurns.{turns-less, turns-rested, turns-start, turns-stop, turns-taken}
 use Rattle.sc_expand.proofs.PlainTables.{entry_names, within-table}
-use Rattle.sc_expand.proofs.RunLemmas.{less-le, rested-le, running-done, running-is, running-out, running-unchanged, turned-less}
-use Rattle.sc_expand.proofs.SeenLemmas.{IsTable-Grows, macros_at-Grows}
-use Rattle.sc_expand.specs.Seen.{Grows, stores}
+use Rattle.sc_expand.proofs.RunLemmas.{less-le, rested-le, running-done, running-is, running-out, running-unchanged}
+use Rattle.sc_expand.proofs.SeenLemmas.{IsTable-Grows}
+use Rattle.sc_expand.specs.Seen.{stores}
 use Rattle.sc_model.proofs.SetLemmas.{Keeps-trans}
 use Rattle.sc_model.specs.Growth.{Extends}
-use Rattle.sc_model.specs.Sets.{IsConfig, Keeps, Sets}
 use Rattle.sc_table.specs.Table.{macros_at}
 use Rattle.sc_expand.proofs.expansion.Expansion.run.Goals as goal
-
--- what is dropped before a turn leaves names and hide sets
-grows-dropped : {old new : Sets} {names : List (List ℕ)} {hides later : List (List Name)} → Keeps old new → later ≡ hides → Grows (stores old names hides) (stores new names later)
-grows-dropped {names = names} {hides = hides} keeps same = record { sets = keeps; names = Extends-refl names; hides = subst (Extends hides) (sym same) (Extends-refl hides) }
 
 pub loop-self-init : goal.loop-self-init
 loop-self-init g c =
@@ -40,25 +32,13 @@ returns-in_err-drop_refused-clause-sets g c = subst (Extends c.args.self.now.set
 
 pub turn-requires : goal.turn-requires
 turn-requires g c =
-    let i = c.loop-self.invariant in
-    let mid = stores (g.C.Conditions.sets c.drop_refused.new.conds) c.loop-self.names c.drop_refused.new.self.sets in
-    let more : Grows (stores (g.C.Conditions.sets c.loop-self.conds) c.loop-self.names c.loop-self.self.sets) mid = grows-dropped c.drop_refused.ensures.keeps c.drop_refused.ensures.sets in
-    let loop = turns-rested i c.requires.held mid c.drop_refused.new.self more (c.in_ok-drop_refused.ensures.rested c.loop-self.names) in
+    let loop = turns-rested c.requires.table c.loop-self.invariant c.requires.held (c.in_ok-drop_refused.ensures.rested c.loop-self.names) in
     record { is = running-is loop.grows loop.running; table = IsTable-Grows loop.grows c.requires.table; ready = c.in_ok-drop_refused.ensures.ready }
 
 pub returns-in_err-went-clause-stops : goal.returns-in_err-went-clause-stops
 returns-in_err-went-clause-stops g c =
-    let i = c.loop-self.invariant in
-    let mid = stores (g.C.Conditions.sets c.drop_refused.new.conds) c.loop-self.names c.drop_refused.new.self.sets in
-    let more : Grows (stores (g.C.Conditions.sets c.loop-self.conds) c.loop-self.names c.loop-self.self.sets) mid = grows-dropped c.drop_refused.ensures.keeps c.drop_refused.ensures.sets in
-    let loop = turns-rested i c.requires.held mid c.drop_refused.new.self more (c.in_ok-drop_refused.ensures.rested c.loop-self.names) in
-    let texts = entry_names c.args.names.now c.args.table.now.entries.entries in
-    let within = within-table (g.C.Conditions.sets c.args.conds.now) c.args.names.now c.args.table.now in
-    let other = macros_at (g.C.Conditions.sets c.drop_refused.new.conds) c.loop-self.names c.args.table.now in
-    let macros = macros_at (g.C.Conditions.sets c.args.conds.now) c.args.names.now c.args.table.now in
-    let same : (config : List ℕ) → IsConfig (g.C.Conditions.sets c.args.conds.now).arities config → other config ≡ macros config = λ config listed. λ k. λ text. macros_at-Grows loop.grows c.requires.table config text listed k in
-    let at_name = phase-ready texts within loop.grows loop.running loop.phase in
-    let stops = turn-stops texts within loop.grows loop.running c.requires.held at_name.0 at_name.1 other same c.args.limit c.in_err-went.field-0.0 c.in_err-went.ensures.stops in
+    let loop = turns-rested c.requires.table c.loop-self.invariant c.requires.held (c.in_ok-drop_refused.ensures.rested c.loop-self.names) in
+    let stops = turns-stop c.requires.table loop c.requires.held c.args.limit c.in_err-went.field-0.0 c.in_err-went.ensures.stops in
     search (rules, stops)
 
 pub returns-in_err-went-clause-keeps : goal.returns-in_err-went-clause-keeps
@@ -72,22 +52,12 @@ returns-in_err-went-clause-sets g c = Extends-trans (subst (Extends c.args.self.
 
 pub returns-then-not-went : goal.returns-then-not-went
 returns-then-not-went g c =
-    let i = c.loop-self.invariant in
-    let mid = stores (g.C.Conditions.sets c.drop_refused.new.conds) c.loop-self.names c.drop_refused.new.self.sets in
-    let more : Grows (stores (g.C.Conditions.sets c.loop-self.conds) c.loop-self.names c.loop-self.self.sets) mid = grows-dropped c.drop_refused.ensures.keeps c.drop_refused.ensures.sets in
-    let loop = turns-rested i c.requires.held mid c.drop_refused.new.self more (c.in_ok-drop_refused.ensures.rested c.loop-self.names) in
-    let texts = entry_names c.args.names.now c.args.table.now.entries.entries in
-    let within = within-table (g.C.Conditions.sets c.args.conds.now) c.args.names.now c.args.table.now in
-    let other = macros_at (g.C.Conditions.sets c.drop_refused.new.conds) c.loop-self.names c.args.table.now in
-    let macros = macros_at (g.C.Conditions.sets c.args.conds.now) c.args.names.now c.args.table.now in
-    let same : (config : List ℕ) → IsConfig (g.C.Conditions.sets c.args.conds.now).arities config → other config ≡ macros config = λ config listed. λ k. λ text. macros_at-Grows loop.grows c.requires.table config text listed k in
-    let new = stores (g.C.Conditions.sets c.turn.new.conds) c.turn.new.names c.turn.new.self.sets in
-    let later : Grows mid new = record { sets = c.turn.ensures.keeps; names = c.turn.ensures.names; hides = c.turn.ensures.sets } in
+    let loop = turns-rested c.requires.table c.loop-self.invariant c.requires.held (c.in_ok-drop_refused.ensures.rested c.loop-self.names) in
     let turned = c.in_ok-went.ensures.turned in
-    let after = turns-taken loop c.requires.held new c.turn.new.self later texts within other same turned c.in_ok-went.ensures.held c.in_ok-went.ensures.out in
+    let after = turns-taken c.requires.table loop c.requires.held turned in
     let ended = turned.ended c.if-not-went.true in
     record {
-      held = c.in_ok-went.ensures.held;
+      held = turned.held;
       done = running-done after.running ended;
       out = running-out after.running ended;
       unchanged = running-unchanged after.running ended c.requires.untouched.out;
@@ -101,32 +71,11 @@ returns-then-not-went g c =
 pub loop-self-smaller : goal.loop-self-smaller
 loop-self-smaller g c =
     let i = c.loop-self.invariant in
-    let mid = stores (g.C.Conditions.sets c.drop_refused.new.conds) c.loop-self.names c.drop_refused.new.self.sets in
-    let more : Grows (stores (g.C.Conditions.sets c.loop-self.conds) c.loop-self.names c.loop-self.self.sets) mid = grows-dropped c.drop_refused.ensures.keeps c.drop_refused.ensures.sets in
-    let loop = turns-rested i c.requires.held mid c.drop_refused.new.self more (c.in_ok-drop_refused.ensures.rested c.loop-self.names) in
-    let texts = entry_names c.args.names.now c.args.table.now.entries.entries in
-    let within = within-table (g.C.Conditions.sets c.args.conds.now) c.args.names.now c.args.table.now in
-    let other = macros_at (g.C.Conditions.sets c.drop_refused.new.conds) c.loop-self.names c.args.table.now in
-    let macros = macros_at (g.C.Conditions.sets c.args.conds.now) c.args.names.now c.args.table.now in
-    let same : (config : List ℕ) → IsConfig (g.C.Conditions.sets c.args.conds.now).arities config → other config ≡ macros config = λ config listed. λ k. λ text. macros_at-Grows loop.grows c.requires.table config text listed k in
-    let new = stores (g.C.Conditions.sets c.turn.new.conds) c.turn.new.names c.turn.new.self.sets in
-    let later : Grows mid new = record { sets = c.turn.ensures.keeps; names = c.turn.ensures.names; hides = c.turn.ensures.sets } in
-    let turned = c.in_ok-went.ensures.turned in
-    less-le (turned-less loop.grows loop.running c.requires.held new c.turn.new.self other same turned texts within c.if-not-went.false)
-    (rested-le i.grows i.running c.requires.held mid c.drop_refused.new.self (c.in_ok-drop_refused.ensures.rested c.loop-self.names) texts within)
+    let rested = c.in_ok-drop_refused.ensures.rested c.loop-self.names in
+    let loop = turns-rested c.requires.table i c.requires.held rested in
+    less-le (turns-less c.requires.table loop c.requires.held c.in_ok-went.ensures.turned c.if-not-went.false)
+    (rested-le i.grows i.running c.requires.held _ c.drop_refused.new.self rested (entry_names c.args.names.now c.args.table.now.entries.entries) (within-table (g.C.Conditions.sets c.args.conds.now) c.args.names.now c.args.table.now))
 
 pub loop-self-preserved : goal.loop-self-preserved
 loop-self-preserved g c =
-    let i = c.loop-self.invariant in
-    let mid = stores (g.C.Conditions.sets c.drop_refused.new.conds) c.loop-self.names c.drop_refused.new.self.sets in
-    let more : Grows (stores (g.C.Conditions.sets c.loop-self.conds) c.loop-self.names c.loop-self.self.sets) mid = grows-dropped c.drop_refused.ensures.keeps c.drop_refused.ensures.sets in
-    let loop = turns-rested i c.requires.held mid c.drop_refused.new.self more (c.in_ok-drop_refused.ensures.rested c.loop-self.names) in
-    let texts = entry_names c.args.names.now c.args.table.now.entries.entries in
-    let within = within-table (g.C.Conditions.sets c.args.conds.now) c.args.names.now c.args.table.now in
-    let other = macros_at (g.C.Conditions.sets c.drop_refused.new.conds) c.loop-self.names c.args.table.now in
-    let macros = macros_at (g.C.Conditions.sets c.args.conds.now) c.args.names.now c.args.table.now in
-    let same : (config : List ℕ) → IsConfig (g.C.Conditions.sets c.args.conds.now).arities config → other config ≡ macros config = λ config listed. λ k. λ text. macros_at-Grows loop.grows c.requires.table config text listed k in
-    let new = stores (g.C.Conditions.sets c.turn.new.conds) c.turn.new.names c.turn.new.self.sets in
-    let later : Grows mid new = record { sets = c.turn.ensures.keeps; names = c.turn.ensures.names; hides = c.turn.ensures.sets } in
-    let turned = c.in_ok-went.ensures.turned in
-    turns-taken loop c.requires.held new c.turn.new.self later texts within other same turned c.in_ok-went.ensures.held c.in_ok-went.ensures.out
+    turns-taken c.requires.table (turns-rested c.requires.table c.loop-self.invariant c.requires.held (c.in_ok-drop_refused.ensures.rested c.loop-self.names)) c.requires.held c.in_ok-went.ensures.turned

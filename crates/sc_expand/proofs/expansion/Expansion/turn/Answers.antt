@@ -1,11 +1,8 @@
-use Rattle.std.proofs.Common.{◌≡◌, length, Some, true, vec_len, refl, sym, subst, ◌∙◌}
+use Rattle.std.proofs.Common.{length, Some, true, vec_len, sym, subst, ◌∙◌}
 use Rattle.sc_base.proofs.Growth.{Extends-refl}
 use Rattle.sc_expand.proofs.Dropping.{no-first, none-popped, not-some}
-use Rattle.sc_expand.proofs.Rests.{put-same}
-use Rattle.sc_expand.proofs.SeenLemmas.{Grows-refl}
-use Rattle.sc_expand.proofs.Turning.{below-held, call-alone, call-held, called-turn, left-out, left-still, left-turn, no-out, no-turn, popped-held, puts-same, puts-top, taken-turn, with_below, with_calls}
-use Rattle.sc_expand.specs.Machine.{IsHeldExpansion}
-use Rattle.sc_expand.specs.Running.{IsTurned, PutsOut, put_out}
+use Rattle.sc_expand.proofs.Turning.{call-alone, call-held, called-turn, left-turn, no-turn, popped-held, taken-turn}
+use Rattle.sc_expand.specs.Running.{IsTurned}
 use Rattle.sc_expand.specs.Seen.{Grows, stores}
 use Rattle.sc_table.specs.Table.{macros_at}
 use Rattle.sc_expand.proofs.expansion.Expansion.turn.Goals as goal
@@ -20,10 +17,6 @@ pub go_on-requires-clause-calls : goal.go_on-requires-clause-calls
 go_on-requires-clause-calls g c = λ config listed has live.
     call-alone (stores (g.C.Conditions.sets c.args.conds.now) c.args.names.now c.args.self.now.sets) config c.args.self.now c.pop.new.self c.in-Some.call c.in-Some.ensures.items (c.requires.is.stands config listed live) has
 
-pub returns-in-Some-clause-held : goal.returns-in-Some-clause-held
-returns-in-Some-clause-held g c = c.in_ok-go_on.ensures.gone_on.held (length c.args.files.now) (popped-held c.args.self.now c.requires.is.held c.pop.new.self (Some c.in-Some.call) c.in-Some.ensures.items)
-    (call-held c.args.self.now c.requires.is.held c.pop.new.self c.in-Some.call c.in-Some.ensures.items)
-
 pub returns-in-Some-clause-turned : goal.returns-in-Some-clause-turned
 returns-in-Some-clause-turned g c =
     let old = stores (g.C.Conditions.sets c.args.conds.now) c.args.names.now c.args.self.now.sets in
@@ -31,14 +24,6 @@ returns-in-Some-clause-turned g c =
     let grows : Grows old new = record { sets = c.go_on.ensures.keeps; names = Extends-refl c.args.names.now; hides = c.go_on.ensures.sets } in
     let macros = macros_at (g.C.Conditions.sets c.args.conds.now) c.args.names.now c.args.table.now in
     called-turn grows c.args.files.now macros c.args.self.now c.go_on.new.self c.requires.is c.pop.new.self c.in-Some.call c.in-Some.ensures.items c.requires.ready c.in_ok-go_on.ensures.gone_on
-
-pub returns-in-Some-clause-out : goal.returns-in-Some-clause-out
-returns-in-Some-clause-out g c =
-    let old = stores (g.C.Conditions.sets c.args.conds.now) c.args.names.now c.args.self.now.sets in
-    let new = stores (g.C.Conditions.sets c.go_on.new.conds) c.args.names.now c.go_on.new.self.sets in
-    let grows : Grows old new = record { sets = c.go_on.ensures.keeps; names = Extends-refl c.args.names.now; hides = c.go_on.ensures.sets } in
-    let whole : put_out (with_calls c.args.self.now c.pop.new.self) ≡ put_out c.args.self.now = put-same c.args.self.now.below.items _ c.args.self.now.top refl in
-    puts-same grows c.args.self.now.refusals.live.0 c.args.self.now c.go_on.new.self c.requires.is.held (c.in_ok-go_on.ensures.gone_on.out ∙ whole)
 
 pub take-requires-clause-held : goal.take-requires-clause-held
 take-requires-clause-held g c = popped-held c.args.self.now c.requires.is.held c.pop.new.self c.pop.result c.pop.ensures.items
@@ -54,9 +39,6 @@ take-requires-clause-calls g c =
 pub take-requires-clause-table : goal.take-requires-clause-table
 take-requires-clause-table g c = c.requires.table
 
-pub returns-in-Some-first-clause-held : goal.returns-in-Some-first-clause-held
-returns-in-Some-first-clause-held g c = c.in_ok-take.ensures.held
-
 pub returns-in-Some-first-clause-turned : goal.returns-in-Some-first-clause-turned
 returns-in-Some-first-clause-turned g c =
     let old = stores (g.C.Conditions.sets c.args.conds.now) c.args.names.now c.args.self.now.sets in
@@ -64,22 +46,7 @@ returns-in-Some-first-clause-turned g c =
     let grows : Grows old new = record { sets = c.take.ensures.keeps; names = c.take.ensures.names; hides = c.take.ensures.sets } in
     let none = none-popped c.args.self.now.top.calls.items c.pop.new.self.items (vec_len c.args.self.now.top.calls) (vec_len c.pop.new.self) c.pop.result c.pop.ensures.items c.pop.ensures.rest c.pop.ensures.cases (not-some c.pop.result c.in_default.not-Some) in
     taken-turn grows c.args.files.now (macros_at (g.C.Conditions.sets c.args.conds.now) c.args.names.now c.args.table.now) c.args.self.now c.take.new.self c.requires.is c.pop.new.self none (c.in-Some-first.has, c.in-Some-first.token) (sym c.first.ensures ∙ c.in-Some-first.is)
-    c.in_ok-take.ensures.below c.requires.ready c.in_ok-take.ensures.long c.in_ok-take.ensures.rest c.in_ok-take.ensures.passes c.in_ok-take.ensures.alike c.in_ok-take.ensures.turns
-
-pub returns-in-Some-first-clause-out : goal.returns-in-Some-first-clause-out
-returns-in-Some-first-clause-out g c =
-    let old = stores (g.C.Conditions.sets c.args.conds.now) c.args.names.now c.args.self.now.sets in
-    let new = stores (g.C.Conditions.sets c.take.new.conds) c.take.new.names c.take.new.self.sets in
-    let grows : Grows old new = record { sets = c.take.ensures.keeps; names = c.take.ensures.names; hides = c.take.ensures.sets } in
-    puts-top grows c.args.self.now.refusals.live.0 c.args.self.now c.take.new.self c.requires.is.held c.in_ok-take.ensures.below c.in_ok-take.ensures.out
-
-pub returns-in-Some-pop-clause-held : goal.returns-in-Some-pop-clause-held
-returns-in-Some-pop-clause-held g c =
-    let none = none-popped c.args.self.now.top.calls.items c.pop.new.self.items (vec_len c.args.self.now.top.calls) (vec_len c.pop.new.self) c.pop.result c.pop.ensures.items c.pop.ensures.rest c.pop.ensures.cases (not-some c.pop.result c.in_default.not-Some) in
-    let empty = no-first c.args.self.now.top.work c.first.result c.first.ensures (not-some c.first.result c.in_default-first.not-Some) in
-    subst (λ h. IsHeldExpansion (stores (g.C.Conditions.sets c.args.conds.now) c.args.names.now h) (length c.args.files.now) c.leave.new.self) (sym c.leave.ensures.sets)
-    (left-still (stores (g.C.Conditions.sets c.args.conds.now) c.args.names.now c.args.self.now.sets) c.args.files.now (macros_at (g.C.Conditions.sets c.args.conds.now) c.args.names.now c.args.table.now) c.args.self.now c.leave.new.self c.requires.is c.pop.new.self c.pop.result c.pop-2.new.self c.in-Some-pop.enclosing c.pop.ensures.items empty none
-    c.in-Some-pop.ensures.items c.in_ok-leave.ensures.calls c.in_ok-leave.ensures.work c.in_ok-leave.ensures.out c.leave.ensures.refusals c.leave.ensures.below)
+    c.in_ok-take.ensures.below c.requires.ready c.in_ok-take.ensures.held c.in_ok-take.ensures.out c.in_ok-take.ensures.long c.in_ok-take.ensures.rest c.in_ok-take.ensures.passes c.in_ok-take.ensures.alike c.in_ok-take.ensures.turns
 
 pub returns-in-Some-pop-clause-turned : goal.returns-in-Some-pop-clause-turned
 returns-in-Some-pop-clause-turned g c =
@@ -88,18 +55,8 @@ returns-in-Some-pop-clause-turned g c =
     let none = none-popped c.args.self.now.top.calls.items c.pop.new.self.items (vec_len c.args.self.now.top.calls) (vec_len c.pop.new.self) c.pop.result c.pop.ensures.items c.pop.ensures.rest c.pop.ensures.cases (not-some c.pop.result c.in_default.not-Some) in
     let empty = no-first c.args.self.now.top.work c.first.result c.first.ensures (not-some c.first.result c.in_default-first.not-Some) in
     subst (λ h. IsTurned c.args.files.now macros old (stores (g.C.Conditions.sets c.args.conds.now) c.args.names.now h) c.args.self.now c.leave.new.self true) (sym c.leave.ensures.sets)
-    (left-turn old c.args.files.now macros c.args.self.now c.leave.new.self c.requires.is c.pop-2.new.self c.in-Some-pop.enclosing none.before empty c.in-Some-pop.ensures.items c.requires.ready
+    (left-turn old c.args.files.now macros c.args.self.now c.leave.new.self c.requires.is c.pop.new.self c.pop-2.new.self c.in-Some-pop.enclosing none empty c.in-Some-pop.ensures.items c.requires.ready
     c.in_ok-leave.ensures.calls c.in_ok-leave.ensures.work c.in_ok-leave.ensures.out c.leave.ensures.refusals c.leave.ensures.below)
-
-pub returns-in-Some-pop-clause-out : goal.returns-in-Some-pop-clause-out
-returns-in-Some-pop-clause-out g c =
-    let old = stores (g.C.Conditions.sets c.args.conds.now) c.args.names.now c.args.self.now.sets in
-    let same = left-out old c.args.files.now (macros_at (g.C.Conditions.sets c.args.conds.now) c.args.names.now c.args.table.now) c.args.self.now c.leave.new.self c.requires.is c.pop-2.new.self c.in-Some-pop.enclosing c.in-Some-pop.ensures.items c.in_ok-leave.ensures.out c.leave.ensures.below in
-    subst (λ h. PutsOut old (stores (g.C.Conditions.sets c.args.conds.now) c.args.names.now h) c.args.self.now.refusals.live.0 (put_out c.args.self.now) (put_out c.leave.new.self)) (sym c.leave.ensures.sets)
-    (puts-same (Grows-refl old) c.args.self.now.refusals.live.0 c.args.self.now c.leave.new.self c.requires.is.held same)
-
-pub returns-clause-held : goal.returns-clause-held
-returns-clause-held g c = below-held c.args.self.now c.requires.is.held c.pop.new.self c.pop.result c.pop-2.new.self c.pop-2.result c.pop.ensures.items c.pop-2.ensures.items
 
 pub returns-clause-turned : goal.returns-clause-turned
 returns-clause-turned g c =
@@ -107,10 +64,3 @@ returns-clause-turned g c =
     let less = none-popped c.args.self.now.below.items c.pop-2.new.self.items (vec_len c.args.self.now.below) (vec_len c.pop-2.new.self) c.pop-2.result c.pop-2.ensures.items c.pop-2.ensures.rest c.pop-2.ensures.cases (not-some c.pop-2.result c.in_default-pop.not-Some) in
     let empty = no-first c.args.self.now.top.work c.first.result c.first.ensures (not-some c.first.result c.in_default-first.not-Some) in
     no-turn (stores (g.C.Conditions.sets c.args.conds.now) c.args.names.now c.args.self.now.sets) c.args.files.now (macros_at (g.C.Conditions.sets c.args.conds.now) c.args.names.now c.args.table.now) c.args.self.now c.args.self.now c.requires.is c.pop.new.self c.pop-2.new.self none empty less
-
-pub returns-clause-out : goal.returns-clause-out
-returns-clause-out g c =
-    let old = stores (g.C.Conditions.sets c.args.conds.now) c.args.names.now c.args.self.now.sets in
-    let less = none-popped c.args.self.now.below.items c.pop-2.new.self.items (vec_len c.args.self.now.below) (vec_len c.pop-2.new.self) c.pop-2.result c.pop-2.ensures.items c.pop-2.ensures.rest c.pop-2.ensures.cases (not-some c.pop-2.result c.in_default-pop.not-Some) in
-    puts-same (Grows-refl old) c.args.self.now.refusals.live.0 c.args.self.now (with_below c.args.self.now c.pop.new.self c.pop-2.new.self) c.requires.is.held
-    (no-out old c.args.files.now (macros_at (g.C.Conditions.sets c.args.conds.now) c.args.names.now c.args.table.now) c.args.self.now c.args.self.now c.requires.is c.pop.new.self c.pop-2.new.self less)
