@@ -21,7 +21,7 @@ use Rattle.sc_expand.specs.declared.frame.Frame.{Frame}
 use Rattle.sc_expand.specs.Machine.{IsExpansion, IsHeldExpansion, IsResumed, Progress, Stands, at, at_call, rests, state_in, with_call}
 use Rattle.sc_expand.specs.Having.{HasLast, HasMore}
 use Rattle.sc_expand.specs.Running as running
-use Rattle.sc_expand.specs.Running.{GoesOn, IsAsLong, IsReady, IsTurned, PutsOut, Rest, bottom, bottom_by, last_of, next_by, next_of, put_by, put_out}
+use Rattle.sc_expand.specs.Running.{GoesOn, IsAsLong, IsReady, IsTurned, PutsOut, Rest, TakesFirst, bottom, bottom_by, last_of, next_by, next_of, put_by, put_out}
 use Rattle.sc_expand.specs.Seen.{AreHeld, Grows, IsHeldCall, IsHeldEnclosing, IsHeldFrame, Stores, View, calls_at, provenance_of, view_at, waiting_at}
 use Rattle.sc_expand.specs.Turn.{Turn}
 use Rattle.sc_expand.specs.Unchanged as unchanged
@@ -249,23 +249,19 @@ module _ {old new : Stores} (grows : Grows old new) (files : List (List ℕ)) (m
       (λ c d others p q defines same inside both. gone.alike c d others p q (call-alike e both calls call popped) (popped-alike e both calls (Some call) popped))
       (λ c listed. subst (λ a. Progress (provenance_of files) (macros c) old new c e.below.items after.below.items a (at new after c) (old.sets.has call.cond.0 c)) (at_call-popped old c e calls call popped) (gone.progress files (macros c) c listed))
 
-  pub taken-turn : (calls : Vec Call) → IsNone Call e.top.calls.items calls.items → (item : Cond × Hidden) → slice_get e.top.work 0 ≡ Some item → after.below ≡ e.below → IsReady old.sets e
-      → IsHeldExpansion new (length files) after → PutsOut old new e.refusals.live.0 e.top.out after.top.out → length e.top.work ≤ suc (length after.top.work) → ((c : List ℕ) → IsConfig old.sets.arities c → HasLast old.sets new.sets e.top.work after.top.work c)
-      → (IsUncalled (with_calls e calls) → LooksUpNone old.sets old.names macros (with_calls e calls) → Passes new.sets (with_calls e calls) after)
-      → ((c d : List ℕ) (others : Others) → IsConfig old.sets.arities c → IsConfig old.sets.arities d → DefineNextAlike old (macros c) (macros d) c (with_calls e calls) → CallNextAlike old (macros c) c d (with_calls e calls)
-      → IsFirstIn others (with_calls e calls) → IsAlikeExpansion old.sets c d others (with_calls e calls) → IsAlikeExpansion new.sets c d others after)
-      → ((c : List ℕ) → IsConfig old.sets.arities c → Turn (provenance_of files) (macros c) (at old (with_calls e calls) c) (at new after c) (old.sets.has item.0.0 c)) → IsTurned files macros old new e after true
-  taken-turn calls none item first below ready held out long rest passes alike turns = next-turn item.0 (next-first e item none.before first) ready held
-      (puts-top grows e.refusals.live.0 e after is.held below out)
-      (long-taken grows e after below none.before item first long)
-      (λ c listed. rest-taken grows e after below none.before item first is.held listed (rest c listed))
+  pub taken-turn : (calls : Vec Call) → IsNone Call e.top.calls.items calls.items → (item : Cond × Hidden) → slice_get e.top.work 0 ≡ Some item → IsReady old.sets e
+      → TakesFirst files macros old new (with_calls e calls) after item.0.0 → IsTurned files macros old new e after true
+  taken-turn calls none item first ready taken = next-turn item.0 (next-first e item none.before first) ready taken.held
+      (puts-top grows e.refusals.live.0 e after is.held taken.below taken.out)
+      (long-taken grows e after taken.below none.before item first taken.long)
+      (λ c listed. rest-taken grows e after taken.below none.before item first is.held listed (taken.rest c listed))
       (λ uncalled looks.
-      let p = passes (record { below = uncalled.below; calls = none.after }) looks in
+      let p = taken.passes (record { below = uncalled.below; calls = none.after }) looks in
       record { passed = p.passed; put = p.put; work = p.work; out = p.out; restricted = p.restricted; refusals = p.refusals; uncalled = p.uncalled })
-      (λ c d others p q defines same inside both. alike c d others p q (defines-next e calls none defines) (calls-next e calls none same) (first-next e calls none inside) (none-alike e both calls none))
+      (λ c d others p q defines same inside both. taken.alike c d others p q (defines-next e calls none defines) (calls-next e calls none same) (first-next e calls none inside) (none-alike e both calls none))
       (λ c listed.
-      let progress = turn-progress (provenance_of files) (macros c) grows (length files) c listed e.below.items is.held.below (turns c listed) in
-      subst (λ b. Progress (provenance_of files) (macros c) old new c e.below.items b.items (at old e c) (at new after c) (old.sets.has item.0.0 c)) (sym below)
+      let progress = turn-progress (provenance_of files) (macros c) grows (length files) c listed e.below.items is.held.below (taken.turns c listed) in
+      subst (λ b. Progress (provenance_of files) (macros c) old new c e.below.items b.items (at old e c) (at new after c) (old.sets.has item.0.0 c)) (sym taken.below)
       (subst (λ a. Progress (provenance_of files) (macros c) old new c e.below.items e.below.items a (at new after c) (old.sets.has item.0.0 c)) (at-none old c e calls none) progress))
 
 -- a finished argument is left

@@ -151,6 +151,20 @@ pub record GoesOn (old new : Stores) (was now : Expansion) (call : Call) : Type 
   pub long : length (bottom was).work ≤ length (bottom now).work
   pub rest : (c : List ℕ) → IsConfig old.sets.arities c → HasMore old.sets new.sets (bottom was).work (bottom now).work c
 
+-- ---- a token that is taken
+
+-- the first token of the list on top was taken in the configurations of a condition
+pub record TakesFirst (files : List (List ℕ)) (macros : List ℕ → Macros) (old new : Stores) (was now : Expansion) (has : ℕ) : Type 0 where
+  pub held : IsHeldExpansion new (length files) now
+  pub below : now.below ≡ was.below
+  pub turns : (c : List ℕ) → IsConfig old.sets.arities c → Turn (provenance_of files) (macros c) (at old was c) (at new now c) (old.sets.has has c)
+  pub out : PutsOut old new was.refusals.live.0 was.top.out now.top.out
+  pub passes : IsUncalled was → LooksUpNone old.sets old.names macros was → Passes new.sets was now
+  pub alike : (c d : List ℕ) (others : Others) → IsConfig old.sets.arities c → IsConfig old.sets.arities d → DefineNextAlike old (macros c) (macros d) c was
+      → CallNextAlike old (macros c) c d was → IsFirstIn others was → IsAlikeExpansion old.sets c d others was → IsAlikeExpansion new.sets c d others now
+  pub long : length was.top.work ≤ suc (length now.top.work)
+  pub rest : (c : List ℕ) → IsConfig old.sets.arities c → HasLast old.sets new.sets was.top.work now.top.work c
+
 -- ---- whole runs
 
 -- nothing was expanded yet

@@ -1,4 +1,4 @@
-ghost use Rattle.std.specs.Prelude.{◌≡◌, ℕ, suc, ◌<◌, ◌≤◌, ◌++◌, ◌∷◌, [], List, All, true, false, None, Some, Ok, Err, length, drop, map, slice_get, IfErr, IfOk, IfSome, OnOk, if◌then◌else◌, IsTrue};
+ghost use Rattle.std.specs.Prelude.{◌≡◌, ℕ, ◌<◌, ◌≤◌, ◌++◌, ◌∷◌, [], List, All, true, false, None, Some, Ok, Err, length, drop, map, slice_get, IfErr, IfOk, IfSome, OnOk, if◌then◌else◌, IsTrue};
 ghost use Rattle.std.specs.Option.{option_map};
 ghost use Rattle.c11_macros.specs.Defines.{is_function_like};
 ghost use Rattle.c11_macros.specs.Expansion as expansion;
@@ -6,15 +6,13 @@ ghost use Rattle.c11_macros.specs.Expansion.{object_result};
 ghost use Rattle.c11_macros.specs.Hidden.{failure_at, with_name};
 ghost use Rattle.sc_base.specs.declared.id.Name as declared_name;
 ghost use Rattle.sc_base.specs.declared.stop.Stop.TheVariants as declared_stop;
-ghost use Rattle.sc_expand.specs.Alike.{CallNextAlike, DefineNextAlike, IsAlikeExpansion, IsFirstIn, IsFunctionLike, Others, TakesName};
-ghost use Rattle.sc_expand.specs.Having.{HasLast};
+ghost use Rattle.sc_expand.specs.Alike.{IsFunctionLike, TakesName};
 ghost use Rattle.sc_expand.specs.Machine.{IsHeldExpansion, at};
-ghost use Rattle.sc_expand.specs.Running.{PutsOut};
+ghost use Rattle.sc_expand.specs.Running.{TakesFirst};
 ghost use Rattle.sc_expand.specs.Seen.{AreHeld, IsHeldToken, provenance_of, seen_at, stores};
 ghost use Rattle.sc_expand.specs.CallStops.{StopsAt};
 ghost use Rattle.sc_expand.specs.Taking.{AreTaken, HasPut, IsBegun, IsFunction, IsHeldTaken, IsTaken, Takes, TakesPart, step_at, untaken};
-ghost use Rattle.sc_expand.specs.Turn.{Turn};
-ghost use Rattle.sc_expand.specs.Unchanged.{IsPushed, IsUncalled, LooksUpNone, Passes};
+ghost use Rattle.sc_expand.specs.Unchanged.{IsPushed};
 ghost use Rattle.sc_guarded.specs.Items.{items_at};
 ghost use Rattle.sc_macro.specs.Seen.{IsHeldDefinition, seen_definition, text_of};
 ghost use Rattle.sc_model.specs.Growth.{Extends};
@@ -57,21 +55,10 @@ impl Expansion {
         requires first { slice_get self.old.top.work 0 ≡ Some (has, token) }
         requires calls { self.old.top.calls.items ≡ [] }
         requires table { IsTable (C.sets conds.old) names.old table.now }
-        ensures held { OnOk result (IsHeldExpansion (stores (C.sets conds.new) names.new self.new.sets) (length files.now) self.new) }
-        ensures below { OnOk result (self.new.below ≡ self.old.below) }
-        ensures turns { OnOk result ((c : List ℕ) → IsConfig (C.sets conds.old).arities c
-            → Turn (provenance_of files.now) (macros_at (C.sets conds.old) names.old table.now c)
-            (at (stores (C.sets conds.old) names.old self.old.sets) self.old c) (at (stores (C.sets conds.new) names.new self.new.sets) self.new c) ((C.sets conds.old).has has.0 c)) }
-        ensures out { OnOk result (PutsOut (stores (C.sets conds.old) names.old self.old.sets) (stores (C.sets conds.new) names.new self.new.sets) self.old.refusals.live.0 self.old.top.out self.new.top.out) }
-        ensures passes { OnOk result (IsUncalled self.old → LooksUpNone (C.sets conds.old) names.old (macros_at (C.sets conds.old) names.old table.now) self.old
-            → Passes (C.sets conds.new) self.old self.new) }
-        ensures long { OnOk result (length self.old.top.work ≤ suc (length self.new.top.work)) }
-        ensures rest { OnOk result ((c : List ℕ) → IsConfig (C.sets conds.old).arities c → HasLast (C.sets conds.old) (C.sets conds.new) self.old.top.work self.new.top.work c) }
-        ensures stops { IfErr result (StopsAt (C.sets conds.old) names.old (λ c. TakesName (stores (C.sets conds.old) names.old self.old.sets) (macros_at (C.sets conds.old) names.old table.now c) self.old c) self.old.top.work limit) }
-        ensures alike { OnOk result ((c d : List ℕ) (others : Others) → IsConfig (C.sets conds.old).arities c → IsConfig (C.sets conds.old).arities d
-            → DefineNextAlike (stores (C.sets conds.old) names.old self.old.sets) (macros_at (C.sets conds.old) names.old table.now c) (macros_at (C.sets conds.old) names.old table.now d) c self.old
-            → CallNextAlike (stores (C.sets conds.old) names.old self.old.sets) (macros_at (C.sets conds.old) names.old table.now c) c d self.old → IsFirstIn others self.old
-            → IsAlikeExpansion (C.sets conds.old) c d others self.old → IsAlikeExpansion (C.sets conds.new) c d others self.new) }
+        ensures taken { OnOk result (TakesFirst files.now (macros_at (C.sets conds.old) names.old table.now)
+            (stores (C.sets conds.old) names.old self.old.sets) (stores (C.sets conds.new) names.new self.new.sets) self.old self.new has.0) }
+        ensures stops { IfErr result (StopsAt (C.sets conds.old) names.old
+            (λ c. TakesName (stores (C.sets conds.old) names.old self.old.sets) (macros_at (C.sets conds.old) names.old table.now c) self.old c) self.old.top.work limit) }
 
         // at every outcome
         ensures keeps { Keeps (C.sets conds.old) (C.sets conds.new) }

@@ -112,55 +112,57 @@ returns g c =
     let long = same-long work now.top.work told.lists.tokens in
     let SomeHas : List (Cond × Hidden) → Type 0 = All (λ (item : Cond × Hidden). IsNever s2 item.0.0 → ⊥) in
     record {
-      held =
-          let token = token-Grows all c.args.token (first-held (stores s0 n h) (length files) work item c.requires.first held.top.work) in
-          subst (λ hides. IsHeldExpansion (stores s2 n2 hides) (length files) next) (sym put.sets)
-          (put-held st now next taken c.args.token put.refusals put.calls put.work (length files) put.below told.held told.taken (put.held n2 (length files) token told.held.top.out));
-      below = put.below ∙ told.lists.below;
-      turns = λ x listed.
-          let listed2 = IsConfig-Keeps second (IsConfig-Keeps first listed) in
-          let at_first = ap (λ l. slice_get l 0) told.lists.tokens ∙ first-token work item c.requires.first in
-          let ends = put-ends st now next taken c.args.token put.refusals put.calls put.work x at_first (put.out n2 x listed2) (seen_at-append st taken.made.items (drop 1 now.top.work) x) in
-          subst (λ hides. Turn (provenance_of files) (macros_at s0 n table x) (at (stores s0 n h) was x) (at (stores s2 n2 hides) next x) (s0.has c.args.has.0 x)) (sym put.sets)
-          (take-turn s0 s1 n h st files table first grows was now next taken item cond held c.requires.table c.requires.first c.requires.calls meets told.comes told.others x (seen_at st (drop 1 now.top.work) x) listed ends);
-      out = record {
-        apart = λ x listed dead.
+      taken = record {
+        held =
+            let token = token-Grows all c.args.token (first-held (stores s0 n h) (length files) work item c.requires.first held.top.work) in
+            subst (λ hides. IsHeldExpansion (stores s2 n2 hides) (length files) next) (sym put.sets)
+            (put-held st now next taken c.args.token put.refusals put.calls put.work (length files) put.below told.held told.taken (put.held n2 (length files) token told.held.top.out));
+        below = put.below ∙ told.lists.below;
+        turns = λ x listed.
             let listed2 = IsConfig-Keeps second (IsConfig-Keeps first listed) in
-            subst (λ hides. seen_at (stores s2 n2 hides) next.top.out x ≡ seen_at (stores s0 n h) was.top.out x) (sym put.sets)
-            (refused-out s0 s1 n h st files table first grows was now next taken item cond held meets told.others x listed dead (put.out n2 x listed2));
-        some = λ before. put.some (subst SomeHas (sym told.lists.out) (some-Keeps all.sets was.top.out held.top.out.own before));
+            let at_first = ap (λ l. slice_get l 0) told.lists.tokens ∙ first-token work item c.requires.first in
+            let ends = put-ends st now next taken c.args.token put.refusals put.calls put.work x at_first (put.out n2 x listed2) (seen_at-append st taken.made.items (drop 1 now.top.work) x) in
+            subst (λ hides. Turn (provenance_of files) (macros_at s0 n table x) (at (stores s0 n h) was x) (at (stores s2 n2 hides) next x) (s0.has c.args.has.0 x)) (sym put.sets)
+            (take-turn s0 s1 n h st files table first grows was now next taken item cond held c.requires.table c.requires.first c.requires.calls meets told.comes told.others x (seen_at st (drop 1 now.top.work) x) listed ends);
+        out = record {
+          apart = λ x listed dead.
+              let listed2 = IsConfig-Keeps second (IsConfig-Keeps first listed) in
+              subst (λ hides. seen_at (stores s2 n2 hides) next.top.out x ≡ seen_at (stores s0 n h) was.top.out x) (sym put.sets)
+              (refused-out s0 s1 n h st files table first grows was now next taken item cond held meets told.others x listed dead (put.out n2 x listed2));
+          some = λ before. put.some (subst SomeHas (sym told.lists.out) (some-Keeps all.sets was.top.out held.top.out.own before));
+        };
+        passes = λ uncalled looks.
+            let undefined = first-undefined s0 s1 n h st files table first grows was now taken item cond held c.requires.first meets c.requires.table looks in
+            let same = told.undefined undefined in
+            let both = stays-both s0 s1 n h st files table first grows was now taken item cond held c.requires.first meets c.requires.calls same.0 told.taken.stays undefined told.comes told.others in
+            take-passes s2 was next item taken.made.items taken.stays uncalled c.requires.first (put.work ∙ ap (λ (e : Expansion). taken.made.items ++ drop 1 e.top.work) same.0) same.1
+            (put.refusals ∙ ap (λ (e : Expansion). e.refusals) same.0) (put.below ∙ ap (λ (e : Expansion). e.below) same.0) (put.calls ∙ ap (λ (e : Expansion). e.top.calls) same.0)
+            both (subst (λ (e : Expansion). IsPushed s2 taken.stays c.args.token e.top.out next.top.out) same.0 put.pushed);
+        long = subst (λ l. length work ≤ suc (length l)) (sym put.work) (long-put work now.top.work taken.made.items long);
+        rest = λ x listed. subst (λ l. HasLast s0 s2 work l x) (sym put.work) (last-earlier (has_each-Keeps work x first held.top.work.own listed) (taken-put (told.rest x (IsConfig-Keeps first listed)) long));
+        alike = λ x y others p q defined called inside alike.
+            let p1 = IsConfig-Keeps first p in
+            let q1 = IsConfig-Keeps first q in
+            let many = inside.is item c.requires.first c.requires.calls in
+            let has_alike = alike-first s0 x y (others_at others (length was.below.items)).behind work item c.requires.first many alike.top.work in
+            let live_alike = alike.refusals.live in
+            let text = text_of n c.args.token.token.spelling in
+            let span = whole others was in
+            let came = told.alike x y span p1 q1 (alike-of meets p1 q1 (λ i. has_alike i && live_alike i))
+            (λ has looked like. each-same-call work work grew held.top.work refl (has_each-Keeps work x first held.top.work.own p) (has_each-Keeps work y first held.top.work.own q)
+            (called.same (takes-name first c.requires.table was item cond c.requires.first c.requires.calls meets x p1 has looked like)))
+            (λ has looked.
+            let both = both_true (s0.has c.args.has.0 x) (s0.has was.refusals.live.0 x) (sym (meets.at x p1) ∙ has) in
+            macros_at-Grows grew c.requires.table x text p ∙ (defined.same item c.requires.first c.requires.calls both.0 both.1 looked ∙ sym (macros_at-Grows grew c.requires.table y text q)))
+            (IsAlikeIn-Keeps first p q span was held (in-whole others was alike)) in
+            let below = subst (λ l. (i : ℕ) (o : Enclosing) → slice_get l.items i ≡ Some o → IsAlikeEnclosing s2 x y (others_at others i) o) (sym told.lists.below)
+            (IsAlikeExpansion-Keeps all.sets p q others was held alike).below in
+            let same = whole-same others was now told.lists.below long in
+            let few = ap (λ (s : Span). s.work) same in
+            put-alike s2 x y others now next taken c.args.token put.refusals put.below put.calls put.work put.pushed came.1
+            (whole-in others span now (omega (arith, few)) (ap (λ (s : Span). s.out) (sym same)) refl came.0 below);
       };
-      passes = λ uncalled looks.
-          let undefined = first-undefined s0 s1 n h st files table first grows was now taken item cond held c.requires.first meets c.requires.table looks in
-          let same = told.undefined undefined in
-          let both = stays-both s0 s1 n h st files table first grows was now taken item cond held c.requires.first meets c.requires.calls same.0 told.taken.stays undefined told.comes told.others in
-          take-passes s2 was next item taken.made.items taken.stays uncalled c.requires.first (put.work ∙ ap (λ (e : Expansion). taken.made.items ++ drop 1 e.top.work) same.0) same.1
-          (put.refusals ∙ ap (λ (e : Expansion). e.refusals) same.0) (put.below ∙ ap (λ (e : Expansion). e.below) same.0) (put.calls ∙ ap (λ (e : Expansion). e.top.calls) same.0)
-          both (subst (λ (e : Expansion). IsPushed s2 taken.stays c.args.token e.top.out next.top.out) same.0 put.pushed);
-      long = subst (λ l. length work ≤ suc (length l)) (sym put.work) (long-put work now.top.work taken.made.items long);
-      rest = λ x listed. subst (λ l. HasLast s0 s2 work l x) (sym put.work) (last-earlier (has_each-Keeps work x first held.top.work.own listed) (taken-put (told.rest x (IsConfig-Keeps first listed)) long));
       stops = tt;
-      alike = λ x y others p q defined called inside alike.
-          let p1 = IsConfig-Keeps first p in
-          let q1 = IsConfig-Keeps first q in
-          let many = inside.is item c.requires.first c.requires.calls in
-          let has_alike = alike-first s0 x y (others_at others (length was.below.items)).behind work item c.requires.first many alike.top.work in
-          let live_alike = alike.refusals.live in
-          let text = text_of n c.args.token.token.spelling in
-          let span = whole others was in
-          let came = told.alike x y span p1 q1 (alike-of meets p1 q1 (λ i. has_alike i && live_alike i))
-          (λ has looked like. each-same-call work work grew held.top.work refl (has_each-Keeps work x first held.top.work.own p) (has_each-Keeps work y first held.top.work.own q)
-          (called.same (takes-name first c.requires.table was item cond c.requires.first c.requires.calls meets x p1 has looked like)))
-          (λ has looked.
-          let both = both_true (s0.has c.args.has.0 x) (s0.has was.refusals.live.0 x) (sym (meets.at x p1) ∙ has) in
-          macros_at-Grows grew c.requires.table x text p ∙ (defined.same item c.requires.first c.requires.calls both.0 both.1 looked ∙ sym (macros_at-Grows grew c.requires.table y text q)))
-          (IsAlikeIn-Keeps first p q span was held (in-whole others was alike)) in
-          let below = subst (λ l. (i : ℕ) (o : Enclosing) → slice_get l.items i ≡ Some o → IsAlikeEnclosing s2 x y (others_at others i) o) (sym told.lists.below)
-          (IsAlikeExpansion-Keeps all.sets p q others was held alike).below in
-          let same = whole-same others was now told.lists.below long in
-          let few = ap (λ (s : Span). s.work) same in
-          put-alike s2 x y others now next taken c.args.token put.refusals put.below put.calls put.work put.pushed came.1
-          (whole-in others span now (omega (arith, few)) (ap (λ (s : Span). s.out) (sym same)) refl came.0 below);
       keeps = all.sets;
       names = all.names;
       sets = subst (Extends h) (sym put.sets) all.hides;

@@ -46,7 +46,7 @@ returns-in-Some-first-clause-turned g c =
     let grows : Grows old new = record { sets = c.take.ensures.keeps; names = c.take.ensures.names; hides = c.take.ensures.sets } in
     let none = none-popped c.args.self.now.top.calls.items c.pop.new.self.items (vec_len c.args.self.now.top.calls) (vec_len c.pop.new.self) c.pop.result c.pop.ensures.items c.pop.ensures.rest c.pop.ensures.cases (not-some c.pop.result c.in_default.not-Some) in
     taken-turn grows c.args.files.now (macros_at (g.C.Conditions.sets c.args.conds.now) c.args.names.now c.args.table.now) c.args.self.now c.take.new.self c.requires.is c.pop.new.self none (c.in-Some-first.has, c.in-Some-first.token) (sym c.first.ensures ∙ c.in-Some-first.is)
-    c.in_ok-take.ensures.below c.requires.ready c.in_ok-take.ensures.held c.in_ok-take.ensures.out c.in_ok-take.ensures.long c.in_ok-take.ensures.rest c.in_ok-take.ensures.passes c.in_ok-take.ensures.alike c.in_ok-take.ensures.turns
+    c.requires.ready c.in_ok-take.ensures.taken
 
 pub returns-in-Some-pop-clause-turned : goal.returns-in-Some-pop-clause-turned
 returns-in-Some-pop-clause-turned g c =
