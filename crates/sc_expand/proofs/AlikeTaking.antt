@@ -1,5 +1,5 @@
 -- What taking a token comes to at two configurations that have the same.
-use Rattle.std.proofs.Common.{◌≡◌, ◌∙◌, ℕ, suc, ◌+◌, ◌-◌, ◌<◌, ◌≤◌, ◌&&◌, Bool, true, false, List, [], ◌∷◌, ◌++◌, All, Option, None, Some, Global, map, drop, take, length, get_or, refl, sym, ap, subst, arith, if◌then◌else◌}
+use Rattle.std.proofs.Common.{◌≡◌, ◌∙◌, ℕ, suc, ◌+◌, ◌-◌, ◌<◌, ◌≤◌, Bool, true, false, List, [], ◌∷◌, ◌++◌, All, Option, None, Some, Global, map, drop, take, length, get_or, refl, sym, ap, subst, arith, if◌then◌else◌}
 use Rattle.std.proofs.lemmas.List.{length-map, take_more}
 use Rattle.std.proofs.lemmas.List.Elements.{All-append, All-cons, All-head, All-map, All-nil}
 use Rattle.std.proofs.lemmas.Option.{slice_get_within}
@@ -8,14 +8,12 @@ use Rattle.std.specs.Prelude.{IfSome, slice_get}
 use Rattle.c11_macros.specs.Defines.{is_function_like}
 use Rattle.c11_macros.specs.Expansion.{is_looked_up}
 use Rattle.std.specs.Option.{option_map}
-use Rattle.sc_base.proofs.Growth.{Extends-refl}
 use Rattle.sc_base.specs.declared.id.Cond.{Cond}
-use Rattle.sc_base.specs.declared.id.Name.{Name}
 use Rattle.sc_expand.proofs.AlikeGathering.{each-same-call}
 use Rattle.sc_expand.proofs.AlikeLemmas.{All-but-put, All-but-tail, All-drop-push, IsAlike-Keeps, whole}
 use Rattle.sc_expand.proofs.SeenLemmas.{macros_at-Grows}
 use Rattle.sc_expand.proofs.TakingSteps.{none-before}
-use Rattle.sc_expand.proofs.TakingTurns.{both_true}
+use Rattle.sc_expand.proofs.TakingTurns.{FirstTaken, first-both, first-grew}
 use Rattle.sc_expand.proofs.UnchangedLemmas.{All-before, All-behind}
 use Rattle.sc_expand.specs.Alike.{AreAlikeRefusals, IsAlikeCall, IsAlikeEnclosing, IsAlikeExpansion, IsAlikeFrame, IsAlikeIn, IsAlikeTaken, IsFunctionLike, IsSameCall, Others, Span, TakesName, others_at}
 use Rattle.sc_expand.specs.Having.{has_each}
@@ -34,12 +32,12 @@ use Rattle.sc_macro.specs.Seen.{IsHeldDefinition, seen_definition, text_of}
 use Rattle.sc_model.proofs.ListLemmas.{slice_get-front, slice_get-seam}
 use Rattle.sc_model.proofs.SetLemmas.{IsConfig-Keeps, IsConfig-kept}
 use Rattle.sc_model.specs.Growth.{Extends, IsOneToOne}
-use Rattle.sc_model.specs.Sets.{Sets, Denotes, IsCond, IsConfig, Keeps}
+use Rattle.sc_model.specs.Sets.{Sets, IsCond, IsConfig}
 use Rattle.sc_subst.specs.declared.hidden.Hidden.{Hidden}
 use Rattle.sc_subst.specs.Seen.{seen_hidden}
 use Rattle.sc_table.proofs.Growth.{seen_definition-Extends}
 use Rattle.sc_table.specs.declared.table.MacroTable.{MacroTable}
-use Rattle.sc_table.specs.Table.{IsTable, macros_at}
+use Rattle.sc_table.specs.Table.{macros_at}
 
 -- ---- tokens that are put
 
@@ -204,18 +202,16 @@ whole-same others was now below long = λ i. (let here = others_at others (lengt
 
 -- ---- the name of a function-like macro
 
-pub takes-name : {s0 s1 : Sets} {n : List (List ℕ)} {h : List (List Name)} {table : MacroTable} → Keeps s0 s1 → IsTable s0 n table → (was : Expansion) (item : Cond × Hidden) (cond : Cond)
-    → slice_get was.top.work 0 ≡ Some item → was.top.calls.items ≡ [] → Denotes s1 cond.0 (λ c. s0.has item.0.0 c && s0.has was.refusals.live.0 c) → (c : List ℕ) → IsConfig s1.arities c → s1.has cond.0 c ≡ true
-    → is_looked_up (seen_hidden n h item.1) ≡ true → IsFunctionLike (macros_at s1 n table c (text_of n item.1.token.spelling)) → TakesName (stores s0 n h) (macros_at s0 n table c) was c
-takes-name {s0} {s1} {n} {h} {table} keeps is_table was item cond first calls meets c listed has looked like =
-    let grew : Grows (stores s0 n h) (stores s1 n h) = record { sets = keeps; names = Extends-refl n; hides = Extends-refl h } in
-    let both = both_true (s0.has item.0.0 c) (s0.has was.refusals.live.0 c) (sym (meets.at c listed) ∙ has) in
+pub takes-name : {s0 s1 : Sets} {n files : List (List ℕ)} {table : MacroTable} {was : Expansion} {item : Cond × Hidden} {cond : Cond} → FirstTaken s0 s1 n files table was item cond → (c : List ℕ) → IsConfig s1.arities c → s1.has cond.0 c ≡ true
+    → is_looked_up (seen_hidden n was.sets item.1) ≡ true → IsFunctionLike (macros_at s1 n table c (text_of n item.1.token.spelling)) → TakesName (stores s0 n was.sets) (macros_at s0 n table c) was c
+takes-name {n = n} {item = item} known c listed has looked like =
+    let both = first-both known c listed has in
     record {
       item = item;
-      first = first;
-      calls = calls;
+      first = known.first;
+      calls = known.calls;
       has = both.0;
       live = both.1;
       looked_up = looked;
-      function = subst IsFunctionLike (macros_at-Grows grew is_table c (text_of n item.1.token.spelling) (IsConfig-kept keeps listed)) like;
+      function = subst IsFunctionLike (macros_at-Grows (first-grew known) known.is_table c (text_of n item.1.token.spelling) (IsConfig-kept known.keeps listed)) like;
     }

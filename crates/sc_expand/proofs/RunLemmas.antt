@@ -24,7 +24,7 @@ use Rattle.sc_expand.specs.Seen.{Grows, Stores, calls_at, failures_at, provenanc
 use Rattle.sc_expand.specs.Turn.{At}
 use Rattle.sc_model.proofs.SetLemmas.{IsConfig-Keeps, IsConfig-kept}
 use Rattle.sc_expand.specs.Unchanged.{IsRestricted, LooksUpNone, Passes}
-use Rattle.sc_model.specs.Sets.{IsConfig, Keeps}
+use Rattle.sc_model.specs.Sets.{IsConfig}
 use Rattle.sc_subst.specs.declared.hidden.Hidden.{Hidden}
 
 -- what holds of an expansion that began so, at each configuration

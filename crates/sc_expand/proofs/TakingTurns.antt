@@ -6,18 +6,17 @@ use Rattle.c11_macros.specs.Hidden.{Hidden, Provenance}
 use Rattle.c11_macros.specs.Macros.{Macros}
 use Rattle.sc_base.proofs.Growth.{Extends-refl}
 use Rattle.sc_base.specs.declared.id.Cond.{Cond}
-use Rattle.sc_base.specs.declared.id.Name.{Name}
 use Rattle.sc_base.specs.declared.place.Place.{Place}
 use Rattle.sc_expand.proofs.SeenLemmas.{AreHeld-append, at-Grows, macros_at-Grows, seen_hidden-Grows, token-Grows}
 use Rattle.sc_expand.proofs.TakingSteps.{Ends, comes-turn, has_first-Keeps, same-step, seen-first}
 use Rattle.sc_expand.specs.Machine.{IsHeldExpansion, at}
 use Rattle.sc_expand.specs.Seen.{AreHeld, Grows, IsHeldCall, IsHeldEnclosing, IsHeldRefusals, IsHeldToken, Stores, View, calls_at, failures_at, provenance_of, seen_at, stores}
-use Rattle.sc_expand.specs.Taking.{Comes, IsBegun, IsHeldTaken, Step, has_first, step_at, untaken}
+use Rattle.sc_expand.specs.Taking.{Comes, IsBegun, IsHeldTaken, Step, Takes, has_first, step_at, untaken}
 use Rattle.sc_expand.specs.Turn.{At, Turn, over, passed}
 use Rattle.sc_expand.specs.declared.expansion.Expansion.{Expansion}
 use Rattle.sc_expand.specs.declared.taking.Taken.{Taken}
 use Rattle.sc_macro.specs.Seen.{text_of}
-use Rattle.sc_model.proofs.SetLemmas.{IsConfig-Keeps}
+use Rattle.sc_model.proofs.SetLemmas.{Denotes-self, IsConfig-Keeps, IsConfig-kept}
 use Rattle.sc_model.specs.Sets.{Denotes, IsCond, IsConfig, Keeps, Sets}
 use Rattle.sc_subst.specs.declared.hidden.Hidden as declared
 use Rattle.sc_subst.specs.Seen.{seen_hidden}
@@ -41,13 +40,13 @@ first-of (y ∷ ys) x is = let same : y ≡ x = cc in ap (λ z. z ∷ ys) same
 pub first-token : (work : List (Cond × declared.Hidden)) (item : Cond × declared.Hidden) → slice_get work 0 ≡ Some item → slice_get (map (λ (x : Cond × declared.Hidden). x.1) work) 0 ≡ Some item.1
 first-token work item is = ap (λ l. slice_get (map (λ (x : Cond × declared.Hidden). x.1) l) 0) (first-of work item is)
 
-pub first-held : (st : Stores) (files : ℕ) (work : List (Cond × declared.Hidden)) (item : Cond × declared.Hidden) → slice_get work 0 ≡ Some item → AreHeld st files work → IsHeldToken st files item.1
+first-held : (st : Stores) (files : ℕ) (work : List (Cond × declared.Hidden)) (item : Cond × declared.Hidden) → slice_get work 0 ≡ Some item → AreHeld st files work → IsHeldToken st files item.1
 first-held st files work item is held = All-head (λ (x : Cond × declared.Hidden). IsHeldToken st files x.1) item (drop 1 work) (subst (All (λ (x : Cond × declared.Hidden). IsHeldToken st files x.1)) (first-of work item is) held.held)
 
 pub first-own : (st : Stores) (files : ℕ) (work : List (Cond × declared.Hidden)) (item : Cond × declared.Hidden) → slice_get work 0 ≡ Some item → AreHeld st files work → IsCond st.sets item.0.0
 first-own st files work item is held = All-head (λ (x : Cond × declared.Hidden). IsCond st.sets x.0.0) item (drop 1 work) (subst (All (λ (x : Cond × declared.Hidden). IsCond st.sets x.0.0)) (first-of work item is) held.own)
 
-pub first-begun : (st : Stores) (e : Expansion) (item : Cond × declared.Hidden) (c : List ℕ) → slice_get e.top.work 0 ≡ Some item → e.top.calls.items ≡ [] → st.sets.has item.0.0 c ≡ true → st.sets.has e.refusals.live.0 c ≡ true
+first-begun : (st : Stores) (e : Expansion) (item : Cond × declared.Hidden) (c : List ℕ) → slice_get e.top.work 0 ≡ Some item → e.top.calls.items ≡ [] → st.sets.has item.0.0 c ≡ true → st.sets.has e.refusals.live.0 c ≡ true
     → IsBegun (seen_hidden st.names st.hides item.1) (untaken st e c)
 first-begun st e item c is none has live =
     let left = seen_at st (drop 1 e.top.work) c in
@@ -127,52 +126,83 @@ turn-by provenance macros t x left a b s false false is calls comes others ends 
 untaken-Grows : {old new : Stores} {files : ℕ} → Grows old new → (e : Expansion) → IsHeldExpansion old files e → (c : List ℕ) → IsConfig old.sets.arities c → untaken new e c ≡ untaken old e c
 untaken-Grows grows e held c listed = same-step (at-Grows grows c listed e held) (has_first-Keeps grows.sets e.top.work held.top.work.own c listed) refl refl
 
-module _ (s0 s1 : Sets) (n : List (List ℕ)) (h : List (List Name)) (st : Stores) (files : List (List ℕ)) (table : MacroTable) (keeps : Keeps s0 s1) (grows : Grows (stores s1 n h) st) (was now next : Expansion) (taken : Taken)
-    (item : Cond × declared.Hidden) (cond : Cond) where
-  pub take-turn : IsHeldExpansion (stores s0 n h) (length files) was → IsTable s0 n table → slice_get was.top.work 0 ≡ Some item → was.top.calls.items ≡ []
-      → Denotes s1 cond.0 (λ c. s0.has item.0.0 c && s0.has was.refusals.live.0 c)
-      → ((c : List ℕ) (macros : Macros) (rest : List (Hidden Place)) → IsConfig s1.arities c → s1.has cond.0 c ≡ true → (at (stores s1 n h) was c).view.work ≡ seen_hidden n h item.1 ∷ rest
-      → macros (text_of n item.1.token.spelling) ≡ macros_at s1 n table c (text_of n item.1.token.spelling)
-      → Comes (provenance_of files) macros (seen_hidden n h item.1) rest (at (stores s1 n h) was c) (step_at st now taken c))
-      → ((c : List ℕ) → IsConfig s1.arities c → s1.has cond.0 c ≡ false → step_at st now taken c ≡ untaken (stores s1 n h) was c)
-      → (c : List ℕ) (left : List (Hidden Place)) → IsConfig s0.arities c
-      → Ends (seen_hidden st.names st.hides item.1) (seen_hidden st.names st.hides item.1) left (step_at st now taken c) (at st next c)
-      → Turn (provenance_of files) (macros_at s0 n table c) (at (stores s0 n h) was c) (at st next c) (s0.has item.0.0 c)
-  take-turn held is_table first none meets comes others c left listed ends =
-      let st0 = stores s0 n h in
-      let a = at st0 was c in
-      let macros = macros_at s0 n table c in
-      let t = seen_hidden n h item.1 in
-      let u = seen_hidden st.names st.hides item.1 in
-      let s = step_at st now taken c in
-      let grew : Grows st0 (stores s1 n h) = record { sets = keeps; names = Extends-refl n; hides = Extends-refl h } in
-      let listed1 = IsConfig-Keeps keeps listed in
-      let kept = at-Grows grew c listed was held in
-      let same : u ≡ t = seen_hidden-Grows grows item.1 (token-Grows grew item.1 (first-held st0 (length files) was.top.work item first held.top.work)) in
-      let firsts : has_first s0 was.top.work c ≡ s0.has item.0.0 c = ap (λ l. has_first s0 l c) (first-of was.top.work item first) in
-      turn-by (provenance_of files) macros t u left a (at st next c) s (s0.has item.0.0 c) (s0.has was.refusals.live.0 c) refl (ap (λ l. calls_at st0 l c) none)
-      (λ has live.
-      let begun = first-begun st0 was item c first none has live in
-      let both : s1.has cond.0 c ≡ true = meets.at c listed1 ∙ (λ i. has i && live i) in (
-        begun.rest,
-        (
-          begun.work,
-          subst (λ a. Comes (provenance_of files) macros t begun.rest a s) kept
-              (comes c macros begun.rest listed1 both (ap (λ (a : At). a.view.work) kept ∙ begun.work) (sym (macros_at-Grows grew is_table c (text_of n item.1.token.spelling) listed))),
-        ),
-      ))
-      (λ no. others c listed1 (meets.at c listed1 ∙ no) ∙ (untaken-Grows grew was held c listed ∙ same-step refl firsts refl refl))
-      (subst (λ v. Ends v u left s (at st next c)) same ends)
+-- what is known where the first token is taken: the condition has the configurations of the token
+-- that were not refused
+pub record FirstTaken (s0 s1 : Sets) (n files : List (List ℕ)) (table : MacroTable) (was : Expansion) (item : Cond × declared.Hidden) (cond : Cond) : Type 0 where
+  pub keeps : Keeps s0 s1
+  pub held : IsHeldExpansion (stores s0 n was.sets) (length files) was
+  pub is_table : IsTable s0 n table
+  pub first : slice_get was.top.work 0 ≡ Some item
+  pub calls : was.top.calls.items ≡ []
+  pub meets : Denotes s1 cond.0 (λ c. s0.has item.0.0 c && s0.has was.refusals.live.0 c)
 
-  -- a configuration that was refused puts out nothing more
-  pub refused-out : IsHeldExpansion (stores s0 n h) (length files) was → Denotes s1 cond.0 (λ c. s0.has item.0.0 c && s0.has was.refusals.live.0 c)
-      → ((c : List ℕ) → IsConfig s1.arities c → s1.has cond.0 c ≡ false → step_at st now taken c ≡ untaken (stores s1 n h) was c)
-      → (c : List ℕ) → IsConfig s0.arities c → s0.has was.refusals.live.0 c ≡ false
-      → seen_at st next.top.out c ≡ seen_at st now.top.out c ++ (if st.sets.has taken.stays.0 c then seen_hidden st.names st.hides item.1 ∷ [] else [])
-      → seen_at st next.top.out c ≡ seen_at (stores s0 n h) was.top.out c
-  refused-out held meets others c listed dead out =
-      let grew : Grows (stores s0 n h) (stores s1 n h) = record { sets = keeps; names = Extends-refl n; hides = Extends-refl h } in
-      let listed1 = IsConfig-Keeps keeps listed in
-      let same = others c listed1 (meets.at c listed1 ∙ not_both (s0.has item.0.0 c) (s0.has was.refusals.live.0 c) dead) ∙ untaken-Grows grew was held c listed in
-      out
-      ∙ (ap (λ (s : Step). s.at.view.out ++ (if s.stays then seen_hidden st.names st.hides item.1 ∷ [] else [])) same ∙ append-nil (seen_at (stores s0 n h) was.top.out c))
+pub first-taken : {s0 s1 : Sets} {n : List (List ℕ)} (files : List (List ℕ)) {table : MacroTable} {was : Expansion} {item : Cond × declared.Hidden} (cond : Cond) → Keeps s0 s1 → IsHeldExpansion (stores s0 n was.sets) (length files) was → IsTable s0 n table
+    → slice_get was.top.work 0 ≡ Some item → was.top.calls.items ≡ [] → ((f g : List ℕ → Bool) → Denotes s0 item.0.0 f → Denotes s0 was.refusals.live.0 g → Denotes s1 cond.0 (λ c. f c && g c)) → FirstTaken s0 s1 n files table was item cond
+first-taken {s0} {s1} {n} files {table} {was} {item} cond keeps held is_table first calls meaning = record {
+  keeps = keeps;
+  held = held;
+  is_table = is_table;
+  first = first;
+  calls = calls;
+  meets = meaning _ _ (Denotes-self s0 item.0.0 (first-own (stores s0 n was.sets) (length files) was.top.work item first held.top.work)) (Denotes-self s0 was.refusals.live.0 held.refusals.live);
+}
+
+module _ {s0 s1 : Sets} {n files : List (List ℕ)} {table : MacroTable} {was : Expansion} {item : Cond × declared.Hidden} {cond : Cond} (known : FirstTaken s0 s1 n files table was item cond) where
+  abbrev st0 : Stores
+  st0 = stores s0 n was.sets
+
+  abbrev st1 : Stores
+  st1 = stores s1 n was.sets
+
+  pub first-grew : Grows st0 st1
+  first-grew = record { sets = known.keeps; names = Extends-refl n; hides = Extends-refl was.sets }
+
+  pub first-both : (c : List ℕ) → IsConfig s1.arities c → s1.has cond.0 c ≡ true → (s0.has item.0.0 c ≡ true) × (s0.has was.refusals.live.0 c ≡ true)
+  first-both c listed has = both_true (s0.has item.0.0 c) (s0.has was.refusals.live.0 c) (sym (known.meets.at c listed) ∙ has)
+
+  pub first-item : IsHeldToken st0 (length files) item.1
+  first-item = first-held st0 (length files) was.top.work item known.first known.held.top.work
+
+  pub first-ready : (c : List ℕ) → IsConfig s1.arities c → s1.has cond.0 c ≡ true → IsBegun (seen_hidden n was.sets item.1) (untaken st1 was c)
+  first-ready c listed has =
+      let listed0 = IsConfig-kept known.keeps listed in
+      let both = first-both c listed has in
+      let own = first-own st0 (length files) was.top.work item known.first known.held.top.work in
+      first-begun st1 was item c known.first known.calls (known.keeps.at item.0.0 c own listed0 ∙ both.0) (known.keeps.at was.refusals.live.0 c known.held.refusals.live listed0 ∙ both.1)
+
+  module _ {st : Stores} {now : Expansion} {taken : Taken} (grows : Grows st1 st) (told : Takes files (macros_at s1 n table) st1 st was now taken item.1 cond.0) (next : Expansion) where
+    pub take-turn : (c : List ℕ) (left : List (Hidden Place)) → IsConfig s0.arities c → Ends (seen_hidden st.names st.hides item.1) (seen_hidden st.names st.hides item.1) left (step_at st now taken c) (at st next c)
+        → Turn (provenance_of files) (macros_at s0 n table c) (at st0 was c) (at st next c) (s0.has item.0.0 c)
+    take-turn c left listed ends =
+        let a = at st0 was c in
+        let macros = macros_at s0 n table c in
+        let t = seen_hidden n was.sets item.1 in
+        let u = seen_hidden st.names st.hides item.1 in
+        let s = step_at st now taken c in
+        let listed1 = IsConfig-Keeps known.keeps listed in
+        let kept = at-Grows first-grew c listed was known.held in
+        let same : u ≡ t = seen_hidden-Grows grows item.1 (token-Grows first-grew item.1 first-item) in
+        let firsts : has_first s0 was.top.work c ≡ s0.has item.0.0 c = ap (λ l. has_first s0 l c) (first-of was.top.work item known.first) in
+        turn-by (provenance_of files) macros t u left a (at st next c) s (s0.has item.0.0 c) (s0.has was.refusals.live.0 c) refl (ap (λ l. calls_at st0 l c) known.calls)
+        (λ has live.
+        let begun = first-begun st0 was item c known.first known.calls has live in
+        let both : s1.has cond.0 c ≡ true = known.meets.at c listed1 ∙ (λ i. has i && live i) in (
+          begun.rest,
+          (
+            begun.work,
+            subst (λ a. Comes (provenance_of files) macros t begun.rest a s) kept
+                (told.comes c macros begun.rest listed1 both (ap (λ (a : At). a.view.work) kept ∙ begun.work) (sym (macros_at-Grows first-grew known.is_table c (text_of n item.1.token.spelling) listed))),
+          ),
+        ))
+        (λ no. told.others c listed1 (known.meets.at c listed1 ∙ no) ∙ (untaken-Grows first-grew was known.held c listed ∙ same-step refl firsts refl refl))
+        (subst (λ v. Ends v u left s (at st next c)) same ends)
+
+    -- a configuration that was refused puts out nothing more
+    pub refused-out : (c : List ℕ) → IsConfig s0.arities c → s0.has was.refusals.live.0 c ≡ false
+        → seen_at st next.top.out c ≡ seen_at st now.top.out c ++ (if st.sets.has taken.stays.0 c then seen_hidden st.names st.hides item.1 ∷ [] else [])
+        → seen_at st next.top.out c ≡ seen_at st0 was.top.out c
+    refused-out c listed dead out =
+        let listed1 = IsConfig-Keeps known.keeps listed in
+        let same = told.others c listed1 (known.meets.at c listed1 ∙ not_both (s0.has item.0.0 c) (s0.has was.refusals.live.0 c) dead) ∙ untaken-Grows first-grew was known.held c listed in
+        out
+        ∙ (ap (λ (s : Step). s.at.view.out ++ (if s.stays then seen_hidden st.names st.hides item.1 ∷ [] else [])) same ∙ append-nil (seen_at st0 was.top.out c))

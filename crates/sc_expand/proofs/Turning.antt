@@ -23,7 +23,6 @@ use Rattle.sc_expand.specs.Having.{HasLast, HasMore}
 use Rattle.sc_expand.specs.Running as running
 use Rattle.sc_expand.specs.Running.{GoesOn, IsAsLong, IsReady, IsTurned, PutsOut, Rest, TakesFirst, bottom, bottom_by, last_of, next_by, next_of, put_by, put_out}
 use Rattle.sc_expand.specs.Seen.{AreHeld, Grows, IsHeldCall, IsHeldEnclosing, IsHeldFrame, Stores, View, calls_at, provenance_of, view_at, waiting_at}
-use Rattle.sc_expand.specs.Turn.{Turn}
 use Rattle.sc_expand.specs.Unchanged as unchanged
 use Rattle.sc_expand.specs.Unchanged.{IsUncalled, LooksUpNone, Passes}
 use Rattle.sc_model.proofs.SetLemmas.{IsConfig-Keeps}

@@ -8,21 +8,20 @@ use Rattle.c11_macros.specs.Hidden.{Hidden, Provenance}
 use Rattle.c11_macros.specs.Macros as model
 use Rattle.c11_macros.specs.Macros.{Macros}
 use Rattle.c11_tokens.specs.Lex.{is_identifier_kind}
-use Rattle.sc_base.proofs.Growth.{Extends-refl}
 use Rattle.sc_base.specs.declared.id.Cond.{Cond}
 use Rattle.sc_base.specs.declared.id.Name.{Name}
 use Rattle.sc_base.specs.declared.place.Place.{Place}
 use Rattle.sc_expand.proofs.PlainCases.{case-hidden, case-undefined}
 use Rattle.sc_expand.proofs.SeenLemmas.{macros_at-Grows}
 use Rattle.sc_expand.proofs.TakingParts.{seen_by}
-use Rattle.sc_expand.proofs.TakingTurns.{both_true, first-begun, first-of, first-own}
+use Rattle.sc_expand.proofs.TakingTurns.{FirstTaken, both_true, first-both, first-grew, first-of, first-own, first-ready}
 use Rattle.sc_expand.proofs.UnchangedLemmas.{both-Keeps}
 use Rattle.sc_expand.specs.declared.expansion.Expansion.{Expansion}
 use Rattle.sc_expand.specs.declared.taking.Taken.{Taken}
-use Rattle.sc_expand.specs.Machine.{IsHeldExpansion, at}
+use Rattle.sc_expand.specs.Machine.{at}
 use Rattle.sc_expand.specs.Seen.{Grows, Stores, provenance_of, stores}
 use Rattle.sc_expand.specs.Taking as taking
-use Rattle.sc_expand.specs.Taking.{Comes, Step, step_at, untaken}
+use Rattle.sc_expand.specs.Taking.{Comes, Step, Takes, step_at}
 use Rattle.sc_expand.specs.Turn.{At}
 use Rattle.sc_expand.specs.Unchanged as unchanged
 use Rattle.sc_expand.specs.Unchanged.{IsPushed, IsRestricted, IsUncalled, IsUndefined, LooksUpNone, Passes}
@@ -30,11 +29,11 @@ use Rattle.sc_guarded.specs.Items.{items_at}
 use Rattle.sc_macro.specs.declared.definition.Definition.{Definition}
 use Rattle.sc_macro.specs.Seen.{text_of}
 use Rattle.sc_model.proofs.SetLemmas.{IsConfig-kept, Keeps-trans}
-use Rattle.sc_model.specs.Sets.{Sets, Denotes, IsCond, IsConfig, IsNever, Keeps}
+use Rattle.sc_model.specs.Sets.{Sets, Denotes, IsConfig, IsNever, Keeps}
 use Rattle.sc_subst.specs.declared.hidden.Hidden as declared
 use Rattle.sc_subst.specs.Seen.{seen_hidden}
 use Rattle.sc_table.specs.declared.table.MacroTable.{MacroTable}
-use Rattle.sc_table.specs.Table.{IsTable, macros_at}
+use Rattle.sc_table.specs.Table.{macros_at}
 
 -- ---- what a look-up gives
 
@@ -141,45 +140,36 @@ undefined-stays names hides macros h rest undefined = by (is_looked_up t) refl
     by true looked = case-undefined macros t rest looked (undefined (both_true (is_identifier_kind t.kind) (not (t.hide t.spelling)) looked).0)
     by false hidden = case-hidden macros t rest hidden
 
-module _ (s0 s1 : Sets) (n : List (List ℕ)) (h : List (List Name)) (st : Stores) (files : List (List ℕ)) (table : MacroTable) (keeps : Keeps s0 s1) (grows : Grows (stores s1 n h) st) (was now : Expansion) (taken : Taken)
-    (item : Cond × declared.Hidden) (cond : Cond) (held : IsHeldExpansion (stores s0 n h) (length files) was) (first : slice_get was.top.work 0 ≡ Some item)
-    (meets : Denotes s1 cond.0 (λ c. s0.has item.0.0 c && s0.has was.refusals.live.0 c)) where
+module _ {s0 s1 : Sets} {n files : List (List ℕ)} {table : MacroTable} {was : Expansion} {item : Cond × declared.Hidden} {cond : Cond} (known : FirstTaken s0 s1 n files table was item cond) where
   -- what is not looked up in the list is not looked up at its first token
-  pub first-undefined : IsTable s0 n table → LooksUpNone s0 n (macros_at s0 n table) was → (c : List ℕ) → IsConfig s1.arities c → s1.has cond.0 c ≡ true → IsUndefined n (macros_at s1 n table c) item.1.token
-  first-undefined is_table looks c listed has name =
+  pub first-undefined : LooksUpNone s0 n (macros_at s0 n table) was → (c : List ℕ) → IsConfig s1.arities c → s1.has cond.0 c ≡ true → IsUndefined n (macros_at s1 n table c) item.1.token
+  first-undefined looks c listed has name =
       let L : Cond × declared.Hidden → Type 0 = λ item. (c : List ℕ) → IsConfig s0.arities c → s0.has item.0.0 c ≡ true → s0.has was.refusals.live.0 c ≡ true → IsUndefined n (macros_at s0 n table c) item.1.token in
-      let grew : Grows (stores s0 n h) (stores s1 n h) = record { sets = keeps; names = Extends-refl n; hides = Extends-refl h } in
-      let listed0 = IsConfig-kept keeps listed in
-      let both = both_true (s0.has item.0.0 c) (s0.has was.refusals.live.0 c) (sym (meets.at c listed) ∙ has) in
-      macros_at-Grows grew is_table c (text_of n item.1.token.spelling) listed0 ∙ All-head L item (drop 1 was.top.work) (subst (All L) (first-of was.top.work item first) looks) c listed0 both.0 both.1 name
+      let listed0 = IsConfig-kept known.keeps listed in
+      let both = first-both known c listed has in
+      macros_at-Grows (first-grew known) known.is_table c (text_of n item.1.token.spelling) listed0
+      ∙ All-head L item (drop 1 was.top.work) (subst (All L) (first-of was.top.work item known.first) looks) c listed0 both.0 both.1 name
 
-  pub stays-both : was.top.calls.items ≡ [] → now ≡ was → IsCond st.sets taken.stays.0
-      → ((c : List ℕ) → IsConfig s1.arities c → s1.has cond.0 c ≡ true → IsUndefined n (macros_at s1 n table c) item.1.token)
-      → ((c : List ℕ) (macros : Macros) (rest : List (Hidden Place)) → IsConfig s1.arities c → s1.has cond.0 c ≡ true → (at (stores s1 n h) was c).view.work ≡ seen_hidden n h item.1 ∷ rest
-      → macros (text_of n item.1.token.spelling) ≡ macros_at s1 n table c (text_of n item.1.token.spelling)
-      → Comes (provenance_of files) macros (seen_hidden n h item.1) rest (at (stores s1 n h) was c) (step_at st now taken c))
-      → ((c : List ℕ) → IsConfig s1.arities c → s1.has cond.0 c ≡ false → step_at st now taken c ≡ untaken (stores s1 n h) was c)
-      → Denotes st.sets taken.stays.0 (λ c. st.sets.has item.0.0 c && st.sets.has was.refusals.live.0 c)
-  stays-both none same own undefined comes others = record { own = own; at = λ c listed. stays-at c listed }
+  pub stays-both : {st : Stores} {now : Expansion} {taken : Taken} → Grows (stores s1 n was.sets) st → Takes files (macros_at s1 n table) (stores s1 n was.sets) st was now taken item.1 cond.0 → now ≡ was
+      → ((c : List ℕ) → IsConfig s1.arities c → s1.has cond.0 c ≡ true → IsUndefined n (macros_at s1 n table c) item.1.token) → Denotes st.sets taken.stays.0 (λ c. st.sets.has item.0.0 c && st.sets.has was.refusals.live.0 c)
+  stays-both {st} {now} {taken} grows told same undefined = record { own = told.taken.stays; at = λ c listed. stays-at c listed }
     where
       all : Keeps s0 st.sets
-      all = Keeps-trans keeps grows.sets
-
-      item_own : IsCond s0 item.0.0
-      item_own = first-own (stores s0 n h) (length files) was.top.work item first held.top.work
+      all = Keeps-trans known.keeps grows.sets
 
       stays-here : (c : List ℕ) → IsConfig s0.arities c → IsConfig s1.arities c → (b : Bool) → s1.has cond.0 c ≡ b → st.sets.has taken.stays.0 c ≡ b
       stays-here c listed0 listed true has =
-          let both = both_true (s0.has item.0.0 c) (s0.has was.refusals.live.0 c) (sym (meets.at c listed) ∙ has) in
-          let begun = first-begun (stores s1 n h) was item c first none (keeps.at item.0.0 c item_own listed0 ∙ both.0) (keeps.at was.refusals.live.0 c held.refusals.live listed0 ∙ both.1) in
-          let live : st.sets.has now.refusals.live.0 c ≡ true = ap (λ (e : Expansion). st.sets.has e.refusals.live.0 c) same ∙ (all.at was.refusals.live.0 c held.refusals.live listed0 ∙ both.1) in
+          let begun = first-ready known c listed has in
+          let live : st.sets.has now.refusals.live.0 c ≡ true =
+          ap (λ (e : Expansion). st.sets.has e.refusals.live.0 c) same ∙ (all.at was.refusals.live.0 c known.held.refusals.live listed0 ∙ (first-both known c listed has).1) in
           let macros = macros_at s1 n table c in
-          comes-stays (provenance_of files) macros (seen_hidden n h item.1) begun.rest (at (stores s1 n h) was c) (step_at st now taken c)
-          (undefined-stays n h macros item.1 begun.rest (undefined c listed has)) live (comes c macros begun.rest listed has begun.work refl)
-      stays-here c listed0 listed false lacks = ap (λ (s : Step). s.stays) (others c listed lacks)
+          comes-stays (provenance_of files) macros (seen_hidden n was.sets item.1) begun.rest (at (stores s1 n was.sets) was c) (step_at st now taken c)
+          (undefined-stays n was.sets macros item.1 begun.rest (undefined c listed has)) live (told.comes c macros begun.rest listed has begun.work refl)
+      stays-here c listed0 listed false lacks = ap (λ (s : Step). s.stays) (told.others c listed lacks)
 
       stays-at : (c : List ℕ) → IsConfig st.sets.arities c → st.sets.has taken.stays.0 c ≡ (st.sets.has item.0.0 c && st.sets.has was.refusals.live.0 c)
       stays-at c listed =
           let listed1 = IsConfig-kept grows.sets listed in
-          let listed0 = IsConfig-kept keeps listed1 in
-          stays-here c listed0 listed1 (s1.has cond.0 c) refl ∙ (meets.at c listed1 ∙ sym (both-Keeps all item.0.0 was.refusals.live.0 item_own held.refusals.live c listed0))
+          let listed0 = IsConfig-kept known.keeps listed1 in
+          let own = first-own (stores s0 n was.sets) (length files) was.top.work item known.first known.held.top.work in
+          stays-here c listed0 listed1 (s1.has cond.0 c) refl ∙ (known.meets.at c listed1 ∙ sym (both-Keeps all item.0.0 was.refusals.live.0 own known.held.refusals.live c listed0))

@@ -2,18 +2,17 @@ use Rattle.std.proofs.Common.{◌≡◌, ◌∙◌, ◌++◌, ◌≤◌, ℕ, su
 use Rattle.std.proofs.lemmas.Result.{err_from_is_err_and}
 use Rattle.std.specs.Prelude.{slice_get}
 use Rattle.c11_macros.specs.Expansion.{is_looked_up}
-use Rattle.sc_base.proofs.Growth.{Extends-refl}
 use Rattle.sc_base.specs.declared.id.Cond.{Cond}
 use Rattle.sc_expand.proofs.PuttingOut.{some-Keeps}
 use Rattle.sc_expand.proofs.SeenLemmas.{IsHeldExpansion-Grows, IsTable-Grows, seen_at-append, token-Grows, macros_at-Grows}
-use Rattle.sc_expand.proofs.TakingTurns.{both_true, first-begun, first-held, first-own, first-token, put-ends, put-held, refused-out, take-turn}
+use Rattle.sc_expand.proofs.TakingTurns.{first-both, first-grew, first-item, first-ready, first-taken, first-token, put-ends, put-held, refused-out, take-turn}
 use Rattle.sc_expand.proofs.UnchangedTaking.{first-undefined, stays-both, take-passes}
 use Rattle.sc_expand.specs.declared.expansion.Expansion.{Expansion}
 use Rattle.sc_expand.specs.Machine.{IsHeldExpansion, at}
 use Rattle.sc_expand.specs.Seen.{Grows, provenance_of, seen_at, stores}
 use Rattle.sc_expand.specs.Turn.{Turn}
 use Rattle.sc_expand.specs.Unchanged.{IsPushed}
-use Rattle.sc_model.proofs.SetLemmas.{Denotes-self, IsConfig-Keeps, IsConfig-kept, Keeps-trans}
+use Rattle.sc_model.proofs.SetLemmas.{IsConfig-Keeps, IsConfig-kept, Keeps-trans}
 use Rattle.sc_model.specs.Growth.{Extends}
 use Rattle.sc_model.specs.Sets.{IsNever}
 use Rattle.sc_subst.specs.declared.hidden.Hidden.{Hidden}
@@ -34,27 +33,14 @@ use Rattle.sc_expand.proofs.expansion.Expansion.take.Goals as goal
 
 pub take_under-requires : goal.take_under-requires
 take_under-requires g c =
-    let s0 = g.C.Conditions.sets c.args.conds.now in
-    let s1 = g.C.Conditions.sets c.apply_and.new.self in
-    let n = c.args.names.now in
-    let h = c.args.self.now.sets in
-    let e = c.args.self.now in
-    let item : Cond × Hidden = (c.args.has, c.args.token) in
-    let first = c.apply_and.ensures.keeps in
-    let grew : Grows (stores s0 n h) (stores s1 n h) = record { sets = first; names = Extends-refl n; hides = Extends-refl h } in
-    let own = first-own (stores s0 n h) (length c.args.files.now) e.top.work item c.requires.first c.requires.held.top.work in
-    let live = c.requires.held.refusals.live in
-    let meets = c.in_ok-cond.ensures.meaning _ _ (Denotes-self s0 c.args.has.0 own) (Denotes-self s0 e.refusals.live.0 live) in
+    let known = first-taken c.args.files.now c.in_ok-cond.cond c.apply_and.ensures.keeps c.requires.held c.requires.table c.requires.first c.requires.calls c.in_ok-cond.ensures.meaning in
     record {
-      held = IsHeldExpansion-Grows grew e c.requires.held;
-      first = first-token e.top.work item c.requires.first;
+      held = IsHeldExpansion-Grows (first-grew known) c.args.self.now c.requires.held;
+      first = first-token c.args.self.now.top.work (c.args.has, c.args.token) c.requires.first;
       cond_own = c.in_ok-cond.ensures.own;
-      token = token-Grows grew c.args.token (first-held (stores s0 n h) (length c.args.files.now) e.top.work item c.requires.first c.requires.held.top.work);
-      table = IsTable-Grows grew c.requires.table;
-      begun = λ x listed has.
-          let kept = IsConfig-kept first listed in
-          let both = both_true (s0.has c.args.has.0 x) (s0.has e.refusals.live.0 x) (sym (meets.at x listed) ∙ has) in
-          first-begun (stores s1 n h) e item x c.requires.first c.requires.calls (first.at c.args.has.0 x own kept ∙ both.0) (first.at e.refusals.live.0 x live kept ∙ both.1);
+      token = token-Grows (first-grew known) c.args.token (first-item known);
+      table = IsTable-Grows (first-grew known) c.requires.table;
+      begun = first-ready known;
     }
 
 pub returns-in_err-put_out-clause-keeps : goal.returns-in_err-put_out-clause-keeps
@@ -63,23 +49,15 @@ returns-in_err-put_out-clause-keeps g c = Keeps-trans c.apply_and.ensures.keeps 
 pub returns-in_err-taken-clause-stops : goal.returns-in_err-taken-clause-stops
 returns-in_err-taken-clause-stops g c =
     let p = err_from_is_err_and c.from_residual-in_err-taken.result c.from_residual-in_err-taken.ensures.1 in
-    let s0 = g.C.Conditions.sets c.args.conds.now in
     let s1 = g.C.Conditions.sets c.apply_and.new.self in
     let n = c.args.names.now in
-    let h = c.args.self.now.sets in
     let was = c.args.self.now in
-    let item : Cond × Hidden = (c.args.has, c.args.token) in
-    let keeps = c.apply_and.ensures.keeps in
-    let grew : Grows (stores s0 n h) (stores s1 n h) = record { sets = keeps; names = Extends-refl n; hides = Extends-refl h } in
-    let own = first-own (stores s0 n h) (length c.args.files.now) was.top.work item c.requires.first c.requires.held.top.work in
-    let meets = c.in_ok-cond.ensures.meaning _ _ (Denotes-self s0 c.args.has.0 own) (Denotes-self s0 was.refusals.live.0 c.requires.held.refusals.live) in
-    let Looked : List ℕ → Type 0 = λ x. (s1.has c.in_ok-cond.cond.0 x ≡ true) × (is_looked_up (seen_hidden n h c.args.token) ≡ true) × IsFunctionLike (macros_at s1 n c.args.table.now x (text_of n c.args.token.token.spelling)) in
-    let Named : List ℕ → Type 0 = λ x. TakesName (stores s0 n h) (macros_at s0 n c.args.table.now x) was x in
-    rw (p.1, p.2) (stops-earlier Looked Named was.top.work was.top.work c.args.limit _ grew c.requires.held.top.work refl
-    (λ x listed takes. (
-      takes-name keeps c.requires.table was item c.in_ok-cond.cond c.requires.first c.requires.calls meets x listed takes.0 takes.1 takes.2,
-      has_each-Keeps was.top.work x keeps c.requires.held.top.work.own (IsConfig-kept keeps listed),
-    )) c.in_err-taken.ensures.stops)
+    let known = first-taken c.args.files.now c.in_ok-cond.cond c.apply_and.ensures.keeps c.requires.held c.requires.table c.requires.first c.requires.calls c.in_ok-cond.ensures.meaning in
+    let Looked : List ℕ → Type 0 = λ x. (s1.has c.in_ok-cond.cond.0 x ≡ true) × (is_looked_up (seen_hidden n was.sets c.args.token) ≡ true) × IsFunctionLike (macros_at s1 n c.args.table.now x (text_of n c.args.token.token.spelling)) in
+    let Named : List ℕ → Type 0 = λ x. TakesName (stores (g.C.Conditions.sets c.args.conds.now) n was.sets) (macros_at (g.C.Conditions.sets c.args.conds.now) n c.args.table.now x) was x in
+    rw (p.1, p.2) (stops-earlier Looked Named was.top.work was.top.work c.args.limit _ (first-grew known) c.requires.held.top.work refl
+    (λ x listed takes. (takes-name known x listed takes.0 takes.1 takes.2, has_each-Keeps was.top.work x known.keeps c.requires.held.top.work.own (IsConfig-kept known.keeps listed)))
+    c.in_err-taken.ensures.stops)
 
 pub returns : goal.returns
 returns g c =
@@ -104,17 +82,15 @@ returns g c =
     let held = c.requires.held in
     let first = c.apply_and.ensures.keeps in
     let second = c.take_under.ensures.keeps in
-    let grew : Grows (stores s0 n h) (stores s1 n h) = record { sets = first; names = Extends-refl n; hides = Extends-refl h } in
+    let known = first-taken files cond first held c.requires.table c.requires.first c.requires.calls c.in_ok-cond.ensures.meaning in
     let grows : Grows (stores s1 n h) st = record { sets = second; names = c.take_under.ensures.names; hides = c.take_under.ensures.sets } in
     let all : Grows (stores s0 n h) st = record { sets = Keeps-trans first second; names = grows.names; hides = grows.hides } in
-    let own = first-own (stores s0 n h) (length files) work item c.requires.first held.top.work in
-    let meets = c.in_ok-cond.ensures.meaning _ _ (Denotes-self s0 c.args.has.0 own) (Denotes-self s0 was.refusals.live.0 held.refusals.live) in
     let long = same-long work now.top.work told.lists.tokens in
     let SomeHas : List (Cond × Hidden) → Type 0 = All (λ (item : Cond × Hidden). IsNever s2 item.0.0 → ⊥) in
     record {
       taken = record {
         held =
-            let token = token-Grows all c.args.token (first-held (stores s0 n h) (length files) work item c.requires.first held.top.work) in
+            let token = token-Grows all c.args.token (first-item known) in
             subst (λ hides. IsHeldExpansion (stores s2 n2 hides) (length files) next) (sym put.sets)
             (put-held st now next taken c.args.token put.refusals put.calls put.work (length files) put.below told.held told.taken (put.held n2 (length files) token told.held.top.out));
         below = put.below ∙ told.lists.below;
@@ -123,18 +99,18 @@ returns g c =
             let at_first = ap (λ l. slice_get l 0) told.lists.tokens ∙ first-token work item c.requires.first in
             let ends = put-ends st now next taken c.args.token put.refusals put.calls put.work x at_first (put.out n2 x listed2) (seen_at-append st taken.made.items (drop 1 now.top.work) x) in
             subst (λ hides. Turn (provenance_of files) (macros_at s0 n table x) (at (stores s0 n h) was x) (at (stores s2 n2 hides) next x) (s0.has c.args.has.0 x)) (sym put.sets)
-            (take-turn s0 s1 n h st files table first grows was now next taken item cond held c.requires.table c.requires.first c.requires.calls meets told.comes told.others x (seen_at st (drop 1 now.top.work) x) listed ends);
+            (take-turn known grows told next x (seen_at st (drop 1 now.top.work) x) listed ends);
         out = record {
           apart = λ x listed dead.
               let listed2 = IsConfig-Keeps second (IsConfig-Keeps first listed) in
               subst (λ hides. seen_at (stores s2 n2 hides) next.top.out x ≡ seen_at (stores s0 n h) was.top.out x) (sym put.sets)
-              (refused-out s0 s1 n h st files table first grows was now next taken item cond held meets told.others x listed dead (put.out n2 x listed2));
+              (refused-out known grows told next x listed dead (put.out n2 x listed2));
           some = λ before. put.some (subst SomeHas (sym told.lists.out) (some-Keeps all.sets was.top.out held.top.out.own before));
         };
         passes = λ uncalled looks.
-            let undefined = first-undefined s0 s1 n h st files table first grows was now taken item cond held c.requires.first meets c.requires.table looks in
+            let undefined = first-undefined known looks in
             let same = told.undefined undefined in
-            let both = stays-both s0 s1 n h st files table first grows was now taken item cond held c.requires.first meets c.requires.calls same.0 told.taken.stays undefined told.comes told.others in
+            let both = stays-both known grows told same.0 undefined in
             take-passes s2 was next item taken.made.items taken.stays uncalled c.requires.first (put.work ∙ ap (λ (e : Expansion). taken.made.items ++ drop 1 e.top.work) same.0) same.1
             (put.refusals ∙ ap (λ (e : Expansion). e.refusals) same.0) (put.below ∙ ap (λ (e : Expansion). e.below) same.0) (put.calls ∙ ap (λ (e : Expansion). e.top.calls) same.0)
             both (subst (λ (e : Expansion). IsPushed s2 taken.stays c.args.token e.top.out next.top.out) same.0 put.pushed);
@@ -148,12 +124,12 @@ returns g c =
             let live_alike = alike.refusals.live in
             let text = text_of n c.args.token.token.spelling in
             let span = whole others was in
-            let came = told.alike x y span p1 q1 (alike-of meets p1 q1 (λ i. has_alike i && live_alike i))
-            (λ has looked like. each-same-call work work grew held.top.work refl (has_each-Keeps work x first held.top.work.own p) (has_each-Keeps work y first held.top.work.own q)
-            (called.same (takes-name first c.requires.table was item cond c.requires.first c.requires.calls meets x p1 has looked like)))
+            let came = told.alike x y span p1 q1 (alike-of known.meets p1 q1 (λ i. has_alike i && live_alike i))
+            (λ has looked like. each-same-call work work (first-grew known) held.top.work refl (has_each-Keeps work x first held.top.work.own p) (has_each-Keeps work y first held.top.work.own q)
+            (called.same (takes-name known x p1 has looked like)))
             (λ has looked.
-            let both = both_true (s0.has c.args.has.0 x) (s0.has was.refusals.live.0 x) (sym (meets.at x p1) ∙ has) in
-            macros_at-Grows grew c.requires.table x text p ∙ (defined.same item c.requires.first c.requires.calls both.0 both.1 looked ∙ sym (macros_at-Grows grew c.requires.table y text q)))
+            let both = first-both known x p1 has in
+            macros_at-Grows (first-grew known) c.requires.table x text p ∙ (defined.same item c.requires.first c.requires.calls both.0 both.1 looked ∙ sym (macros_at-Grows (first-grew known) c.requires.table y text q)))
             (IsAlikeIn-Keeps first p q span was held (in-whole others was alike)) in
             let below = subst (λ l. (i : ℕ) (o : Enclosing) → slice_get l.items i ≡ Some o → IsAlikeEnclosing s2 x y (others_at others i) o) (sym told.lists.below)
             (IsAlikeExpansion-Keeps all.sets p q others was held alike).below in
