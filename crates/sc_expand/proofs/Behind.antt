@@ -1,9 +1,11 @@
 -- How many items of a list stand behind each that a configuration has.
-use Rattle.std.proofs.Common.{◌≡◌, ◌⊎◌, inl, inr, ℕ, zero, suc, ◌-◌, ◌<◌, ◌≤◌, nat_le, nat_lt, Bool, true, false, List, [], ◌∷◌, ◌++◌, All, take, drop, length, refl, sym, ap, subst, ◌∙◌, arith, if◌then◌else◌}
+use Rattle.std.proofs.Common.{◌≡◌, ◌⊎◌, inl, inr, ℕ, min, zero, suc, ◌-◌, ◌<◌, ◌≤◌, nat_le, nat_lt, Bool, true, false, List, [], ◌∷◌, ◌++◌, All, take, drop, length, refl, sym, ap, subst, ◌∙◌, arith, if◌then◌else◌}
 use Rattle.std.proofs.lemmas.Bool.{cases_lt, le-ltb, leb-false, leb-true, lt-ltb}
 use Rattle.std.proofs.lemmas.List.{drop_all, length-drop}
 use Rattle.std.proofs.lemmas.List.Elements.{All-cons, All-head, All-nil, All-tail, All-weaker}
 use Rattle.sc_base.specs.declared.id.Cond.{Cond}
+use Rattle.sc_expand.specs.FootprintSteps.{lower_of}
+use Rattle.sc_expand.proofs.Lower.{lower-min}
 use Rattle.sc_expand.specs.Having.{HasLast, HasMore, behind_at}
 use Rattle.sc_guarded.specs.Items.{items_at}
 use Rattle.sc_hoist.specs.Alike.{AreAlike, IsAlike}
@@ -187,13 +189,6 @@ module _ {T : Type 0} (s : Sets) (c d : List ℕ) where
 
 -- ---- the rest of an expansion
 
-least : (a b : ℕ) → ((if nat_le a b then a else b) ≤ a) × ((if nat_le a b then a else b) ≤ b)
-least a b = by (nat_le a b) refl
-  where
-    by : (t : Bool) → nat_le a b ≡ t → ((if t then a else b) ≤ a) × ((if t then a else b) ≤ b)
-    by true is = (omega arith, leb-true a b is)
-    by false is = (omega (arith, leb-false a b is), omega arith)
-
 -- only the first item has gone
 first-gone : {T : Type 0} (s : Sets) (c : List ℕ) (n gone : ℕ) (list : List (Cond × T)) → gone ≤ length (items_at s (take 1 list) c) → n < length list → below n (drop gone (behind_at s list c)) ≡ below n (behind_at s list c)
 first-gone s c n gone [] few far = absurd (omega arith)
@@ -231,15 +226,15 @@ module _ {old new : Sets} {before after : List (Cond × Hidden)} {c : List ℕ} 
       by (inr few) = inl (ap (below n) last.is ∙ (below-high n (length before) last.made left far last.high ∙ first-gone old c n last.gone before few far))
 
   pub last-below : HasLast old new before after c → (n left : ℕ) → n < length before → left ≤ length (below n (behind_at old before c))
-      → (if nat_le (length (behind_at new after c)) left then length (behind_at new after c) else left) ≤ length (below n (behind_at new after c))
-  last-below last n left far many = by (last-cases last n far) (least (length (behind_at new after c)) left)
+      → lower_of (length (behind_at new after c)) left ≤ length (below n (behind_at new after c))
+  last-below last n left far many = by (last-cases last n far)
     where
-      most : ℕ
-      most = if nat_le (length (behind_at new after c)) left then length (behind_at new after c) else left
+      low : lower_of (length (behind_at new after c)) left ≡ min (length (behind_at new after c)) left
+      low = lower-min (length (behind_at new after c)) left
 
-      by : (below n (behind_at new after c) ≡ below n (behind_at old before c)) ⊎ (below n (behind_at new after c) ≡ behind_at new after c) → (most ≤ length (behind_at new after c)) × (most ≤ left) → most ≤ length (below n (behind_at new after c))
-      by (inl same) low = let count = ap length same in omega (arith, count, low.1, many)
-      by (inr all) low = let count = ap length all in omega (arith, count, low.0)
+      by : (below n (behind_at new after c) ≡ below n (behind_at old before c)) ⊎ (below n (behind_at new after c) ≡ behind_at new after c) → lower_of (length (behind_at new after c)) left ≤ length (below n (behind_at new after c))
+      by (inl same) = let count = ap length same in omega (arith, count, low, many)
+      by (inr all) = let count = ap length all in omega (arith, count, low)
 
   pub last-suffix : HasLast old new before after c → (n : ℕ) → n < length before → (g : ℕ) × (below n (behind_at new after c) ≡ drop g (below n (behind_at old before c)))
   last-suffix last n far =

@@ -9,6 +9,7 @@ use Rattle.sc_base.specs.declared.id.Cond.{Cond}
 use Rattle.sc_base.specs.declared.place.Place.{Place}
 use Rattle.sc_base.specs.declared.stop.Stop.{Stop}
 use Rattle.sc_base.specs.declared.stop.Stop.TheVariants.{BranchesFull, ReadFault, OutOfMemory}
+use Rattle.std.proofs.lemmas.Bool.{and_parts}
 use Rattle.sc_expand.proofs.AlikeGathering.{each-same-call}
 use Rattle.sc_expand.proofs.GatherBranches.{first-of-each}
 use Rattle.sc_expand.proofs.GatherCases.{case-still, case-uncalled-alone, case-uncalled-bare, spellings}
@@ -65,11 +66,6 @@ end-is alone closed is = absurd (cc)
 end-is alone still is = absurd (cc)
 end-is alone bare is = absurd (cc)
 
-pub both : (a b : Bool) → (a && b) ≡ true → (a ≡ true) × (b ≡ true)
-both true true is = (refl, refl)
-both true false is = absurd (cc)
-both false b is = absurd (cc)
-
 -- ---- why there is no answer
 
 -- different lists of places are those of different calls
@@ -82,7 +78,7 @@ stops-at {s} {t} {names} {hides} {files} cond {closes} list limit (BranchesFull 
     let listed : All (IsConfig s.arities) is.1.configs = λ k d h. IsConfig-kept keeps (is.1.listed k d h) in
     let parts : All (λ c. (s.has cond c ≡ true) × (end c ≡ closed)) is.1.configs = λ k d h. (
     let c = get_or is.1.configs k d in
-    let two = both (s.has cond c) (is_end closed (end c)) (sym (told.at c (is.1.listed k d h)) ∙ is.1.has k d h) in
+    let two = and_parts (s.has cond c) (is_end closed (end c)) (sym (told.at c (is.1.listed k d h)) ∙ is.1.has k d h) in
     (two.0, end-is closed (end c) two.1)) in (
       is.0,
       record {

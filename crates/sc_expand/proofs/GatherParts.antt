@@ -1,5 +1,6 @@
 -- The parts of the configurations of a name, by how its call goes on.
 use Rattle.std.proofs.Common.{◌≡◌, ℕ, ◌≤◌, ◌&&◌, ◌||◌, Bool, true, false, List, [], ◌∷◌, ◌++◌, All, length, get_or, refl, sym, ap, subst, ◌<◌, true≢false, ◌∙◌, arith, if◌then◌else◌, map, IsTrue}
+use Rattle.std.proofs.lemmas.Bool.{and_parts}
 use Rattle.c11_macros.specs.Defines.{is_function_like}
 use Rattle.c11_macros.specs.Hidden.{Failure, failure_at}
 use Rattle.c11_macros.specs.Macros.{list_at}
@@ -8,7 +9,7 @@ use Rattle.sc_base.specs.declared.place.Place.{Place}
 use Rattle.sc_expand.proofs.AlikeGathering.{each-same-call}
 use Rattle.sc_expand.proofs.AlikeLemmas.{IsAlike-Keeps, IsAlikeIn-Keeps}
 use Rattle.sc_expand.proofs.GatherBranches.{called-later, spelled-same}
-use Rattle.sc_expand.proofs.GatherEnds.{Ending, both, end-behind, end-is, ended-first, ended-gathers, ended-other, macro-is}
+use Rattle.sc_expand.proofs.GatherEnds.{Ending, end-behind, end-is, ended-first, ended-gathers, ended-other, macro-is}
 use Rattle.sc_expand.proofs.GatherSteps.{refused-alike, refused-failures, refused-held, refused-live, refused-other}
 use Rattle.sc_expand.proofs.LastLemmas.{last-earlier, last-later}
 use Rattle.sc_expand.proofs.SeenLemmas.{Grows-trans, IsHeldExpansion-Grows, at-Grows}
@@ -122,7 +123,7 @@ module _ {s0 s1 s2 s3 : Sets} {names later : List (List ℕ)} {files : ℕ} {e :
         let listed0 = IsConfig-kept parts.first listed1 in
         let listed2 = IsConfig-Keeps parts.second listed1 in
         let end = call_end_at s0 names (tokens_in e.top.work) 0 c in
-        let two = both (s0.has cond c) (is_end closed end) (sym (parts.closed_is.at c listed1) ∙ has) in
+        let two = and_parts (s0.has cond c) (is_end closed end) (sym (parts.closed_is.at c listed1) ∙ has) in
         let ends = end-is closed end two.1 in
         let no_fault : s2.has stays_open c ≡ false = parts.second.at stays_open c parts.open_is.own listed1 ∙ (parts.open_is.at c listed1 ∙ (λ i. two.0 i && is_end still (ends i))) in
         let first = stands c listed0 two.0 in
@@ -182,7 +183,7 @@ module _ {s0 s1 s2 s3 : Sets} {names later : List (List ℕ)} {files : ℕ} {e :
     branches-alike : (has : Bool) → s1.has closes c ≡ has → All (λ (b : Branch). IsAlike s2 c d b.cond) branches
     branches-alike true is =
         let own = parts.held.top.work.own in
-        let two = both (s0.has cond c) (is_end closed (call_end_at s0 names (tokens_in e.top.work) 0 c)) (sym (parts.closed_is.at c c1) ∙ is) in
+        let two = and_parts (s0.has cond c) (is_end closed (call_end_at s0 names (tokens_in e.top.work) 0 c)) (sym (parts.closed_is.at c c1) ∙ is) in
         let later : IsSameCall s1 names c d e.top.work = each-same-call e.top.work e.top.work g01 parts.held.top.work refl (has_each-Keeps e.top.work c parts.first own at_c) (has_each-Keeps e.top.work d parts.first own at_d) (call two.0) in
         (parts.agree c d c1 d1 closes-alike later.places).each
     branches-alike false is = λ k x h. lacking c c1 is k x h ∙ sym (lacking d d1 (sym closes-alike ∙ is) k x h)

@@ -59,6 +59,7 @@ pub mod PuttingOut
 pub mod UnchangedLemmas
 pub mod UnchangedTaking
 pub mod UnchangedAnswers
+pub mod Lower
 pub mod Behind
 pub mod Phases
 pub mod FootprintLemmas

@@ -1,5 +1,6 @@
 -- A call that is replaced, or refused, is a turn of the frame that it left.
 use Rattle.std.proofs.Common.{◌≡◌, ℕ, ◌≤◌, ◌&&◌, not, Bool, true, false, List, [], ◌∷◌, ◌++◌, map, reverse, length, append-nil, Ok, Err, refl, sym, ap, subst, ◌∙◌, arith, if◌then◌else◌}
+use Rattle.std.proofs.Math.Bool.{and-false, and-true}
 use Rattle.c11_macros.specs.Hidden.{Failure}
 use Rattle.c11_macros.specs.Macros.{Macros}
 use Rattle.c11_macros.specs.Results.{result_map}
@@ -83,14 +84,6 @@ module _ {old new : Stores} (grows : Grows old new) (files : ℕ) (e after : Exp
       → Turn (provenance_of table) macros (at_call old e call c) (at new after c) (old.sets.has call.cond.0 c)
   refused-turn cause work template told failures live free = by (old.sets.has call.cond.0 c) refl (told.at c (IsConfig-Keeps grows.sets listed)) failures
     where
-      and-true : (b : Bool) → (b && true) ≡ b
-      and-true true = refl
-      and-true false = refl
-
-      and-false : (b : Bool) → (b && false) ≡ false
-      and-false true = refl
-      and-false false = refl
-
       same-work : seen_at new after.top.work c ≡ seen_at old e.top.work c
       same-work = ap (λ l. seen_at new l c) work ∙ seen_at-Grows grows c listed e.top.work held.top.work
 

@@ -10,12 +10,13 @@ use Rattle.c11_macros.specs.Trace.{Agree}
 use Rattle.sc_base.specs.declared.id.Cond.{Cond}
 use Rattle.sc_base.specs.declared.place.Place.{Place}
 use Rattle.sc_base.specs.Seen.{text_at}
+use Rattle.sc_expand.proofs.Lower.{lower-min}
 use Rattle.sc_expand.proofs.AlikeGathering.{same-call}
 use Rattle.sc_expand.proofs.Behind.{below, last-below, length-behind}
 use Rattle.sc_expand.proofs.GatherCases.{spellings}
 use Rattle.sc_expand.proofs.GatherPlaces.{spelled-behind}
 use Rattle.sc_expand.proofs.MachineLemmas.{pending_at, progress-step, stands-cases, state-top}
-use Rattle.sc_expand.proofs.PhaseCalls.{Defined, alone-moves, bare-moves, below-fewer, closed-takes, function-of, lower-left, lower-same, span-count, still-ends, uses-next}
+use Rattle.sc_expand.proofs.PhaseCalls.{Defined, alone-moves, bare-moves, below-fewer, closed-takes, function-of, span-count, still-ends, uses-next}
 use Rattle.sc_expand.proofs.PhaseMoves.{moved-pending, state-bottom}
 use Rattle.sc_expand.proofs.Phases.{IsInside, IsReady, Phase, bound_of, last_at, print_of, state_now, taken_by}
 use Rattle.sc_expand.proofs.PlainFootprint.{UsesFrom}
@@ -101,7 +102,7 @@ module _ (files : List (List ℕ)) (macros : List ℕ → Macros) (names : List 
     spelled = spelled-behind now.names now.sets c now.hides e.top.work
 
     lower : suc (lower_of bound n) ≤ length e.top.work
-    lower = let less = lower-left bound n in omega (arith, less, few)
+    lower = omega (arith, lower-min bound n, few)
 
     -- what the configuration has behind the name stands in the span or behind it
     parts : length (items_at now.sets (drop 1 (take (length e.top.work - lower_of bound n) e.top.work)) c) + length (below (lower_of bound n) (behind_at now.sets (bottom e).work c)) ≡ length rest
@@ -143,7 +144,7 @@ module _ (files : List (List ℕ)) (macros : List ℕ → Macros) (names : List 
           fewer = subst (λ s. IsPending s (last_at new after n c)) is waits
 
           many : length rest ≤ length (below n (behind_at now.sets (bottom e).work c))
-          many = let low = below-fewer (lower_of bound n) n (behind_at now.sets (bottom e).work c) (lower-left bound n) in let gone = ap length none in omega (arith, parts, gone, low)
+          many = let low = below-fewer (lower_of bound n) n (behind_at now.sets (bottom e).work c) (omega (arith, lower-min bound n)) in let gone = ap length none in omega (arith, parts, gone, low)
 
           far : n < length (bottom e).work
           far = subst (λ (frame : Frame). n < length frame.work) (sym at_top) (omega (arith, few))
@@ -152,8 +153,8 @@ module _ (files : List (List ℕ)) (macros : List ℕ → Macros) (names : List 
           by (running.put more) = let count = ap length more.is ∙ length-append more.made (behind_at now.sets (bottom e).work c) in omega (arith, count, before, later)
           by (running.took item empty calls first last) =
               let low = last-below last n (length rest) far many in
-              let same = lower-same (length (behind_at new.sets (bottom after).work c)) (length rest) later in
-              omega (arith, low, same, fewer)
+              let same = lower-min (length (behind_at new.sets (bottom after).work c)) (length rest) in
+              omega (arith, low, same, later, fewer)
 
       pub call-same : (d : List ℕ) → AreAlike now.sets c d (take (length e.top.work - lower_of bound n) e.top.work) → IsSameCall now.sets now.names c d e.top.work
       call-same d alike = by (call_end_at now.sets now.names (tokens_in e.top.work) 0 c) refl (items_at now.sets (drop 1 (take span e.top.work)) c) refl
@@ -241,7 +242,7 @@ module _ (files : List (List ℕ)) (macros : List ℕ → Macros) (names : List 
           by : (os : List Enclosing) → e.below.items ≡ os → (item : Cond × Hidden) → slice_get e.top.work 0 ≡ Some item → e.top.calls.items ≡ [] → (others_at (others_of c p k) (length e.below.items)).behind < length e.top.work
           by [] at item first none =
               let few : suc phase.n ≤ length e.top.work = ready.below at none (λ empty. some-first e.top.work item first empty) in
-              let low = lower-left (bound_of (phase.come c p k)) phase.n in
+              let low = lower-min (bound_of (phase.come c p k)) phase.n in
               subst (λ (os : List Enclosing). (others_at (others_of c p k) (length os)).behind < length e.top.work) (sym at) (omega (arith, few, low))
           by (o ∷ os) at item first none = subst (λ (os : List Enclosing). (others_at (others_of c p k) (length os)).behind < length e.top.work) (sym at) (some-long e.top.work item first)
 

@@ -93,20 +93,6 @@ module _ {P : Type 0} (provenance : Provenance P) (macros : Macros) where
 
 -- ---- what stands in a span
 
-pub lower-left : (n left : ℕ) → lower_of n left ≤ left
-lower-left n left = by (nat_le n left) refl
-  where
-    by : (b : Bool) → nat_le n left ≡ b → (if b then n else left) ≤ left
-    by true is = leb-true n left is
-    by false is = omega arith
-
-pub lower-same : (n left : ℕ) → n ≡ left → lower_of n left ≡ left
-lower-same n left same = by (nat_le n left)
-  where
-    by : (b : Bool) → (if b then n else left) ≡ left
-    by true = same
-    by false = refl
-
 -- fewer numbers are below a lower bound
 pub below-fewer : (a b : ℕ) (ms : List ℕ) → a ≤ b → length (below a ms) ≤ length (below b ms)
 below-fewer a b [] le = omega arith

@@ -17,53 +17,6 @@ use Rattle.sc_model.specs.Sets.{Sets}
 use Rattle.sc_subst.specs.declared.hidden.Hidden.{Hidden}
 use Rattle.sc_subst.specs.Seen.{seen_hidden}
 
--- the less of two numbers
-pub lower-is : (n left : ℕ) → ((lower_of n left ≡ n) × (n ≤ left)) ⊎ ((lower_of n left ≡ left) × (left < n))
-lower-is n left = by (nat_le n left) refl
-  where
-    by : (b : Bool) → nat_le n left ≡ b → (((if b then n else left) ≡ n) × (n ≤ left)) ⊎ (((if b then n else left) ≡ left) × (left < n))
-    by true is = inl (refl, leb-true n left is)
-    by false is = inr (refl, leb-false n left is)
-
-pub lower-le : (n left : ℕ) → lower_of n left ≤ n
-lower-le n left = by (lower-is n left)
-  where
-    by : ((lower_of n left ≡ n) × (n ≤ left)) ⊎ ((lower_of n left ≡ left) × (left < n)) → lower_of n left ≤ n
-    by (inl low) = omega (arith, low.0)
-    by (inr high) = omega (arith, high.0, high.1)
-
-pub lower-less : (n left : ℕ) → n ≤ left → lower_of n left ≡ n
-lower-less n left le = by (lower-is n left)
-  where
-    by : ((lower_of n left ≡ n) × (n ≤ left)) ⊎ ((lower_of n left ≡ left) × (left < n)) → lower_of n left ≡ n
-    by (inl low) = low.0
-    by (inr high) = absurd (omega (arith, le, high.1))
-
--- two bounds, or a third that is below both
-pub lower-least : (high n : ℕ) → (lower_of high n ≡ n) ⊎ ((high ≤ lower_of high n) × (high ≤ n))
-lower-least high n = by (lower-is high n)
-  where
-    by : ((lower_of high n ≡ high) × (high ≤ n)) ⊎ ((lower_of high n ≡ n) × (n < high)) → (lower_of high n ≡ n) ⊎ ((high ≤ lower_of high n) × (high ≤ n))
-    by (inl low) = inr (omega (arith, low.0), low.1)
-    by (inr less) = inl less.0
-
-pub lower-bounds : (bound high n : ℕ) → (lower_of bound (lower_of high n) ≡ lower_of bound n) ⊎ ((high ≤ lower_of bound (lower_of high n)) × (high ≤ lower_of bound n))
-lower-bounds bound high n = by (lower-is high n)
-  where
-    -- of the two bounds, where the third is below the second
-    both : high ≤ n → ((lower_of bound high ≡ bound) × (bound ≤ high)) ⊎ ((lower_of bound high ≡ high) × (high < bound)) → ((lower_of bound n ≡ bound) × (bound ≤ n)) ⊎ ((lower_of bound n ≡ n) × (n < bound))
-        → (lower_of bound high ≡ lower_of bound n) ⊎ ((high ≤ lower_of bound high) × (high ≤ lower_of bound n))
-    both le (inl low) (inl low_n) = inl (low.0 ∙ sym low_n.0)
-    both le (inl low) (inr high_n) = absurd (omega (arith, low.1, high_n.1))
-    both le (inr less) (inl low_n) = inr (omega (arith, less.0), omega (arith, less.1, low_n.0))
-    both le (inr less) (inr high_n) = inr (omega (arith, less.0), omega (arith, high_n.0))
-
-    by : ((lower_of high n ≡ high) × (high ≤ n)) ⊎ ((lower_of high n ≡ n) × (n < high)) → (lower_of bound (lower_of high n) ≡ lower_of bound n) ⊎ ((high ≤ lower_of bound (lower_of high n)) × (high ≤ lower_of bound n))
-    by (inl low) =
-        let G : ℕ → Type 0 = λ m. (lower_of bound m ≡ lower_of bound n) ⊎ ((high ≤ lower_of bound m) × (high ≤ lower_of bound n)) in
-        subst G (sym low.0) (both low.1 (lower-is bound high) (lower-is bound n))
-    by (inr less) = inl (ap (lower_of bound) less.0)
-
 -- the end of a list is told by its length
 pub same-drop : {A : Type 0} (a b : ℕ) (xs : List A) → length (drop a xs) ≡ length (drop b xs) → drop a xs ≡ drop b xs
 same-drop a b xs same = by (cases_lt a (length xs))

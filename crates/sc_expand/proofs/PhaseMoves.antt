@@ -1,7 +1,6 @@
 -- A phase stays one through a turn: where the configurations stand, and which of its own items each
 -- has left.
 use Rattle.std.proofs.Common.{◌≡◌, ◌⊎◌, inl, inr, ℕ, suc, ◌+◌, ◌<◌, ◌≤◌, nat_le, nat_lt, Bool, true, false, true≢false, List, [], ◌∷◌, ◌++◌, drop, length, map, Some, None, slice_get, refl, sym, ap, subst, ◌∙◌, arith, if◌then◌else◌}
-use Rattle.std.proofs.lemmas.Bool.{leb-true}
 use Rattle.std.proofs.lemmas.List.{drop-drop, length-map}
 use Rattle.std.proofs.lemmas.List.Elements.{All-pop}
 use Rattle.c11_macros.specs.Expansion as expansion
@@ -12,6 +11,7 @@ use Rattle.c11_macros.specs.Hidden.{Provenance}
 use Rattle.c11_macros.specs.Macros.{Macros}
 use Rattle.sc_base.specs.declared.id.Cond.{Cond}
 use Rattle.sc_base.specs.declared.place.Place.{Place}
+use Rattle.sc_expand.proofs.Lower.{lower-all, lower-is, lower-min}
 use Rattle.sc_expand.proofs.Behind.{below, below-not, last-below, last-fewer, last-suffix, length-behind, more-same}
 use Rattle.sc_expand.proofs.MachineCalls.{calls_at-append}
 use Rattle.sc_expand.proofs.MachineLemmas.{IsBelow, IsOnTop, alone, called_in, goes, progress-step, stands-cases, stops}
@@ -39,28 +39,6 @@ use Rattle.sc_subst.specs.declared.hidden.Hidden.{Hidden}
 use Rattle.sc_subst.specs.Seen.{seen_hidden}
 
 -- ---- numbers
-
-lower-all : (n left : ℕ) → left ≤ n → lower_of n left ≡ left
-lower-all n left le = by (nat_le n left) refl
-  where
-    by : (b : Bool) → nat_le n left ≡ b → (if b then n else left) ≡ left
-    by true is = let more : n ≤ left = leb-true n left is in omega arith
-    by false is = refl
-
--- not less than the lower of two, and not more than either
-lower-is : (n left m : ℕ) → lower_of n left ≤ m → m ≤ n → m ≤ left → m ≡ lower_of n left
-lower-is n left m low one other = by (nat_le n left) low
-  where
-    by : (b : Bool) → (if b then n else left) ≤ m → m ≡ (if b then n else left)
-    by true low = omega arith
-    by false low = omega arith
-
-lower-least : (n left : ℕ) → lower_of n left ≤ left
-lower-least n left = by (nat_le n left) refl
-  where
-    by : (b : Bool) → nat_le n left ≡ b → (if b then n else left) ≤ left
-    by true is = leb-true n left is
-    by false is = omega arith
 
 below-long : (n : ℕ) (ms : List ℕ) → length (below n ms) ≤ length ms
 below-long n [] = omega arith
@@ -282,7 +260,7 @@ module _ {now new : Stores} {e after : Expansion} {c : List ℕ} (n : ℕ) (fits
       (rest-fewer rest n (omega arith))
     where
       low : Rest now new e after c → lower_of (length (behind_at new.sets (bottom after).work c)) (last_at now e n c) ≤ last_at new after n c
-      low (put more) = let same = ap length (more-same more n fits) in omega (arith, same, lower-least (length (behind_at new.sets (bottom after).work c)) (last_at now e n c))
+      low (put more) = let same = ap length (more-same more n fits) in omega (arith, same, lower-min (length (behind_at new.sets (bottom after).work c)) (last_at now e n c))
       low (took item one none first last) = last-below last n (last_at now e n c) (far item one none first) (omega arith)
 
 -- ---- through a turn
@@ -447,7 +425,7 @@ module _ (files : List (List ℕ)) (macros : List ℕ → Macros)
         by m inside step = record {
           uses = uses step;
           beyond =
-              let fewer = rest-fewer phase.n phase.fits first-far (turned.rest c (IsConfig-Keeps grows.sets listed)) (lower_of bound phase.n) (lower-least bound phase.n) in
+              let fewer = rest-fewer phase.n phase.fits first-far (turned.rest c (IsConfig-Keeps grows.sets listed)) (lower_of bound phase.n) (omega (arith, lower-min bound phase.n)) in
               omega (arith, fewer, inside.beyond);
         }
           where

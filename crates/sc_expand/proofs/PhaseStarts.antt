@@ -1,6 +1,6 @@
 -- A phase of an expansion begins: with the whole list, and at each name of it.
 use Rattle.std.proofs.Common.{◌≡◌, ◌⊎◌, inl, inr, ℕ, zero, suc, ◌+◌, ◌-◌, ◌<◌, ◌≤◌, ◌&&◌, Bool, true, false, true≢false, List, [], ◌∷◌, All, None, Some, drop, length, slice_get, take, refl, sym, ap, subst, ◌∙◌, arith, if◌then◌else◌}
-use Rattle.std.proofs.lemmas.Bool.{cases_lt}
+use Rattle.std.proofs.lemmas.Bool.{and_parts, cases_lt}
 use Rattle.std.proofs.lemmas.List.{drop-drop, drop_all, length-drop, length-take-le, take-take}
 use Rattle.std.proofs.lemmas.List.Elements.{All-cons, All-nil, All-take}
 use Rattle.c11_macros.specs.Expansion.{IsWithin}
@@ -11,10 +11,11 @@ use Rattle.c11_macros.specs.Macros.{Macros}
 use Rattle.sc_base.specs.declared.fault.Fault.{Fault}
 use Rattle.sc_base.specs.declared.id.Cond.{Cond}
 use Rattle.sc_base.specs.declared.place.Place.{Place}
+use Rattle.sc_expand.proofs.Lower.{lower-bounds, lower-least, lower-min}
 use Rattle.sc_expand.proofs.Behind.{Fall-weaker, FirstAlike, alike-taken, behind-falls, below, below-all, below-behind, below-not, last_taken}
 use Rattle.sc_expand.proofs.MachineLemmas as told
 use Rattle.sc_expand.proofs.MachineLemmas.{IsTold}
-use Rattle.sc_expand.proofs.PhaseLists.{arrives-end, below-from, below-same, first-had, length-seen, lower-bounds, lower-le, lower-least, lower-less, same-end, seen-drop, seen-name, slice-drop}
+use Rattle.sc_expand.proofs.PhaseLists.{arrives-end, below-from, below-same, first-had, length-seen, same-end, seen-drop, seen-name, slice-drop}
 use Rattle.sc_expand.proofs.PhaseMoves.{state-bottom}
 use Rattle.sc_expand.proofs.Phases.{IsAtName, IsInside, IsReady, Phase, Uses, rest_of, bound_of, end_of, last_at, name_of, print_of, state_now, taken_by}
 use Rattle.sc_expand.proofs.PlainCompletes.{ends, scanned}
@@ -175,7 +176,7 @@ module _ {files : List (List ℕ)} {macros : List ℕ → Macros} {old now : Sto
       n = lower_of (length (bottom after).work) phase.n
 
       fits : lower_of (length (bottom after).work) phase.n ≤ length (bottom after).work
-      fits = lower-le (length (bottom after).work) phase.n
+      fits = omega (arith, lower-min (length (bottom after).work) phase.n)
 
       bounds : (bound : ℕ) → (lower_of bound n ≡ lower_of bound phase.n) ⊎ ((long ≤ lower_of bound n) × (long ≤ lower_of bound phase.n))
       bounds bound = lower-bounds bound long phase.n
@@ -209,11 +210,6 @@ module _ {files : List (List ℕ)} {macros : List ℕ → Macros} {old now : Sto
       still-named t rest state last (inr replaced) = inr replaced
 
 -- ---- the next name of the list
-
-both : (a b : Bool) → (a && b) ≡ true → (a ≡ true) × (b ≡ true)
-both true true is = (refl, refl)
-both true false is = absurd (true≢false (sym is))
-both false b is = absurd (true≢false (sym is))
 
 not-first : (a b : Bool) → (a && b) ≡ false → b ≡ true → a ≡ false
 not-first true b is live = absurd (true≢false (sym live ∙ is))
@@ -320,7 +316,7 @@ module _ {files : List (List ℕ)} {macros : List ℕ → Macros} (names : List 
 
   comes : (c : List ℕ) → IsConfig old.sets.arities c → came_now c ≡ true → Comes c
   comes c p k =
-      let h = both (now.sets.has item.0.0 c) (now.sets.has e.refusals.live.0 c) k in
+      let h = and_parts (now.sets.has item.0.0 c) (now.sets.has e.refusals.live.0 c) k in
       let ms = behind_at now.sets rest c in
       let m = length rest in
       let number = suffix-is c p h.1 in
@@ -379,7 +375,7 @@ module _ {files : List (List ℕ)} {macros : List ℕ → Macros} (names : List 
         let taken = alike-taken old.sets c c list k refl few few in
         let bound : ℕ = bound_of it.uses in
         let low : bound ≤ length rest = omega (arith, taken.within, it.long) in
-        let lower : lower_of bound (length rest) ≡ bound = lower-less bound (length rest) low in
+        let lower : lower_of bound (length rest) ≡ bound = omega (arith, low, lower-min bound (length rest)) in
         let count = ap (λ b. length (below b (behind_at now.sets (bottom e).work c))) lower ∙ (ap length (behind-bound c bound low) ∙ ap (λ ms. length (below bound ms)) (sym it.behind)) in
         omega (arith, count, taken.left, leaves c it);
   }
@@ -444,7 +440,7 @@ module _ {files : List (List ℕ)} {macros : List ℕ → Macros} (names : List 
       count : suc (length rest) - lower_of bound (length rest) ≡ suc (length rest - bound)
       count =
           let low : bound ≤ length rest = same.within in
-          let lower : lower_of bound (length rest) ≡ bound = lower-less bound (length rest) low in
+          let lower : lower_of bound (length rest) ≡ bound = omega (arith, low, lower-min bound (length rest)) in
           omega (arith, lower, low)
 
   reaches-name : (p : Phase files macros old now was e) × IsReady files macros p
@@ -459,7 +455,7 @@ module _ {files : List (List ℕ)} {macros : List ℕ → Macros} (names : List 
         faults = length e.refusals.faults.items;
         came = came_now;
         come = λ c p k. (comes c p k).uses;
-        live = λ c p k. told-asked (r.told c p) (both (now.sets.has item.0.0 c) (now.sets.has e.refusals.live.0 c) k).1;
+        live = λ c p k. told-asked (r.told c p) (and_parts (now.sets.has item.0.0 c) (now.sets.has e.refusals.live.0 c) k).1;
         inside = λ c p k live. inside-name c (comes c p k);
         between = λ c p not live.
             let out = seen_at now e.top.out c in
@@ -483,7 +479,7 @@ module _ {files : List (List ℕ)} {macros : List ℕ → Macros} (names : List 
             (whole.0 + more, ap (λ l. end_of left (seen_at now l c)) bottom-is ∙ (ap (drop more) whole.1 ∙ drop-drop more whole.0 (seen_at old was.top.work c)));
         alike = λ c d p q k l taken agree live live_d pending pending_d.
             alike-name c d (comes c p k) (comes d q l) taken
-            ((both (now.sets.has item.0.0 c) (now.sets.has e.refusals.live.0 c) k).0 ∙ sym (both (now.sets.has item.0.0 d) (now.sets.has e.refusals.live.0 d) l).0) (live ∙ sym live_d);
+            ((and_parts (now.sets.has item.0.0 c) (now.sets.has e.refusals.live.0 c) k).0 ∙ sym (and_parts (now.sets.has item.0.0 d) (now.sets.has e.refusals.live.0 d) l).0) (live ∙ sym live_d);
       }
 
 -- the phase goes on, or comes to the next name

@@ -10,6 +10,7 @@ use Rattle.c11_macros.specs.Hidden.{Failure, Hidden, Provenance}
 use Rattle.c11_macros.specs.Macros.{Definition, Macros}
 use Rattle.c11_macros.specs.Trace as used
 use Rattle.c11_macros.specs.Trace.{Agree, Use, looked_up_at, trace, trace_each, trace_rescan}
+use Rattle.sc_expand.proofs.Lower.{lower-min}
 use Rattle.sc_expand.proofs.PlainAgreement.{AgreesFrom}
 use Rattle.sc_expand.proofs.PlainCompletes.{Completes, asks, ends, looked, refuses, replaces, resumes, scanned, scans, using}
 use Rattle.sc_expand.proofs.PlainMoves.{fails-by, move-back, past-first}
@@ -18,13 +19,6 @@ use Rattle.sc_expand.specs.FootprintSteps.{IsPending, LeadsUntil, bottom, lower_
 use Rattle.sc_expand.specs.Plain.{Fails, Moves, State, Waiting, expanding, scanning, waiting, with_expanded}
 
 -- ---- footprints of what was used
-
-lower-le : (n left : ℕ) → (lower_of n left ≤ left) × (lower_of n left ≤ n)
-lower-le n left = by (nat_le n left) refl
-  where
-    by : (b : Bool) → nat_le n left ≡ b → ((if b then n else left) ≤ left) × ((if b then n else left) ≤ n)
-    by true is = (leb-true n left is, omega arith)
-    by false is = let more : left < n = leb-false n left is in (omega arith, omega arith)
 
 -- what is used leaves no more
 left-le : (left : ℕ) (uses : List Use) → (footprint_from left uses).left ≤ left
@@ -35,7 +29,7 @@ left-le left (used.stands n ∷ uses) = by (nat_le n left) (left-le left uses)
     by true later = omega arith
     by false later = later
 left-le left (used.looks_up names ∷ uses) = left-le left uses
-left-le left (used.takes n ∷ uses) = omega (arith, left-le (lower_of n left) uses, (lower-le n left).0)
+left-le left (used.takes n ∷ uses) = omega (arith, left-le (lower_of n left) uses, lower-min n left)
 left-le left (used.fails ∷ uses) = omega arith
 
 -- nothing is used where no more is left
@@ -72,7 +66,7 @@ module _ {P : Type 0} (provenance : Provenance P) (macros : Macros) where
   -- a call that is taken leaves no more than what follows it
   taken-used : (left n : ℕ) (t : Hidden P) (rest : List (Hidden P)) (more : List Use) → left < suc (length rest) → (footprint_from left (used.stands (suc (length rest)) ∷ used.looks_up (looked_up_at t) ∷ used.takes n ∷ more)).left ≤ n
   taken-used left n t rest more below =
-      omega (arith, ap (λ (f : Footprint). f.left) (past-first left (length rest) (looked_up_at t) (used.takes n ∷ more) below), left-le (lower_of n left) more, (lower-le n left).1)
+      omega (arith, ap (λ (f : Footprint). f.left) (past-first left (length rest) (looked_up_at t) (used.takes n ∷ more) below), left-le (lower_of n left) more, lower-min n left)
 
   call-used : (t : Hidden P) (rest : List (Hidden P)) (r : Answer) (d : Expands provenance macros (t ∷ rest) r) (left : ℕ) → left < suc (length rest) → (e : Definition) (arguments : List (List (Hidden P))) (close : Hidden P) (after : List (Hidden P))
       → case_of macros t rest ≡ called e arguments close after → (footprint_from left (trace d).uses).left ≤ length after
@@ -128,7 +122,7 @@ module _ {P : Type 0} (provenance : Provenance P) (macros : Macros) where
   uses-leads s left _ _ whole fits uses no_more = (uses, fits)
   uses-leads s left u after whole fits uses (one_more {t = t} pending m more) =
       let lower = lower_of (length (bottom t)) left in
-      uses-leads t lower u after whole (lower-le (length (bottom t)) left).1 (uses-move s t left whole m pending fits uses) more
+      uses-leads t lower u after whole (omega (arith, lower-min (length (bottom t)) left)) (uses-move s t left whole m pending fits uses) more
 
   -- ---- where finitely many names are defined
 

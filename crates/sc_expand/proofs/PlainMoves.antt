@@ -11,6 +11,7 @@ use Rattle.c11_macros.specs.Runs.{after_these}
 use Rattle.c11_macros.specs.Substitution.{Slot, argument, neither, parts, put_together, slots, wanted_of}
 use Rattle.c11_macros.specs.Trace as used
 use Rattle.c11_macros.specs.Trace.{Trace, Use, both, failing, looked_up_at, no_trace, trace, trace_each, trace_rescan}
+use Rattle.sc_expand.proofs.Lower.{lower-all}
 use Rattle.sc_expand.proofs.PlainArguments.{replaced_with, supplied}
 use Rattle.sc_expand.proofs.PlainCompletes.{Completes, asks, looked, refuses, replaces, resumes, scanned, scans, steps, using}
 use Rattle.sc_expand.proofs.PlainNames.{Covers, IsRestOf, covers-back, covers-both, covers-front, covers-same, covers-then, rest-behind, rest-same, rest-then, rest-with}
@@ -33,15 +34,8 @@ past-first left n names uses below = by (nat_le (suc n) left) refl
     by true is = let over : suc n ≤ left = leb-true (suc n) left is in absurd (omega arith)
     by false is = refl
 
-lower-same : (n left : ℕ) → left ≤ n → lower_of n left ≡ left
-lower-same n left below = by (nat_le n left) refl
-  where
-    by : (b : Bool) → nat_le n left ≡ b → (if b then n else left) ≡ left
-    by true is = let over : n ≤ left = leb-true n left is in omega arith
-    by false is = refl
-
 lower-rest : (n left : ℕ) (whole : Footprint) (uses : ℕ → Footprint) → left ≤ n → IsRestOf whole (uses left) → IsRestOf whole (uses (lower_of n left))
-lower-rest n left whole uses below = subst (λ m. IsRestOf whole (uses m)) (sym (lower-same n left below))
+lower-rest n left whole uses below = subst (λ m. IsRestOf whole (uses m)) (sym (lower-all n left below))
 
 -- the arguments use names, and nothing of the whole list
 past-each : {P : Type 0} {provenance : Provenance P} {macros : Macros} {asks : List (ℕ × List (Hidden P))} {lists : List (List (Hidden P))} {rs : Result (List (List (Hidden P))) (Failure P)} (left : ℕ) (uses : List Use) (e : Each provenance macros asks lists rs)

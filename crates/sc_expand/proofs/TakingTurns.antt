@@ -1,5 +1,6 @@
 -- A turn that takes the first token of a list, by what taking the token comes to.
 use Rattle.std.proofs.Common.{◌≡◌, ◌∙◌, ◌∷◌, ◌++◌, ◌&&◌, ℕ, Bool, true, false, List, [], All, Some, ap, refl, sym, subst, length, drop, map, append-nil, true≢false, if◌then◌else◌}
+use Rattle.std.proofs.lemmas.Bool.{and_parts}
 use Rattle.std.proofs.lemmas.List.Elements.{All-drop, All-head}
 use Rattle.std.specs.Prelude.{slice_get}
 use Rattle.c11_macros.specs.Hidden.{Hidden, Provenance}
@@ -22,10 +23,6 @@ use Rattle.sc_subst.specs.declared.hidden.Hidden as declared
 use Rattle.sc_subst.specs.Seen.{seen_hidden}
 use Rattle.sc_table.specs.declared.table.MacroTable.{MacroTable}
 use Rattle.sc_table.specs.Table.{IsTable, macros_at}
-
-pub both_true : (a b : Bool) → (a && b) ≡ true → (a ≡ true) × (b ≡ true)
-both_true true b is = (refl, is)
-both_true false b is = absurd (true≢false (sym is))
 
 not_both : (a b : Bool) → b ≡ false → (a && b) ≡ false
 not_both true b is = is
@@ -158,7 +155,7 @@ module _ {s0 s1 : Sets} {n files : List (List ℕ)} {table : MacroTable} {was : 
   first-grew = record { sets = known.keeps; names = Extends-refl n; hides = Extends-refl was.sets }
 
   pub first-both : (c : List ℕ) → IsConfig s1.arities c → s1.has cond.0 c ≡ true → (s0.has item.0.0 c ≡ true) × (s0.has was.refusals.live.0 c ≡ true)
-  first-both c listed has = both_true (s0.has item.0.0 c) (s0.has was.refusals.live.0 c) (sym (known.meets.at c listed) ∙ has)
+  first-both c listed has = and_parts (s0.has item.0.0 c) (s0.has was.refusals.live.0 c) (sym (known.meets.at c listed) ∙ has)
 
   pub first-item : IsHeldToken st0 (length files) item.1
   first-item = first-held st0 (length files) was.top.work item known.first known.held.top.work

@@ -1,5 +1,6 @@
 -- A token that is no macro's name is taken: nothing but its place changes.
 use Rattle.std.proofs.Common.{◌≡◌, ℕ, ◌&&◌, not, Bool, true, false, true≢false, List, [], ◌∷◌, ◌++◌, All, drop, length, map, append-nil, Option, Some, None, Global, refl, sym, ap, subst, ◌∙◌, if◌then◌else◌}
+use Rattle.std.proofs.lemmas.Bool.{and_parts}
 use Rattle.std.proofs.lemmas.List.Elements.{All-cons, All-head, All-nil, All-tail}
 use Rattle.std.specs.Prelude.{slice_get}
 use Rattle.std.specs.declared.rc.Rc.{Rc}
@@ -14,7 +15,7 @@ use Rattle.sc_base.specs.declared.place.Place.{Place}
 use Rattle.sc_expand.proofs.PlainCases.{case-hidden, case-undefined}
 use Rattle.sc_expand.proofs.SeenLemmas.{macros_at-Grows}
 use Rattle.sc_expand.proofs.TakingParts.{seen_by}
-use Rattle.sc_expand.proofs.TakingTurns.{FirstTaken, both_true, first-both, first-grew, first-of, first-own, first-ready}
+use Rattle.sc_expand.proofs.TakingTurns.{FirstTaken, first-both, first-grew, first-of, first-own, first-ready}
 use Rattle.sc_expand.proofs.UnchangedLemmas.{both-Keeps}
 use Rattle.sc_expand.specs.declared.expansion.Expansion.{Expansion}
 use Rattle.sc_expand.specs.declared.taking.Taken.{Taken}
@@ -137,7 +138,7 @@ undefined-stays names hides macros h rest undefined = by (is_looked_up t) refl
     t = seen_hidden names hides h
 
     by : (b : Bool) → is_looked_up t ≡ b → case_of macros t rest ≡ stays
-    by true looked = case-undefined macros t rest looked (undefined (both_true (is_identifier_kind t.kind) (not (t.hide t.spelling)) looked).0)
+    by true looked = case-undefined macros t rest looked (undefined (and_parts (is_identifier_kind t.kind) (not (t.hide t.spelling)) looked).0)
     by false hidden = case-hidden macros t rest hidden
 
 module _ {s0 s1 : Sets} {n files : List (List ℕ)} {table : MacroTable} {was : Expansion} {item : Cond × declared.Hidden} {cond : Cond} (known : FirstTaken s0 s1 n files table was item cond) where

@@ -1,4 +1,5 @@
 use Rattle.std.proofs.Common.{◌≡◌, ◌&&◌, Bool, append-nil, ◌++◌, All, Some, None, option_to_list, length, reverse, map, true, false, refl, sym, ap, subst, ◌∙◌, arith, if◌then◌else◌}
+use Rattle.std.proofs.Math.Bool.{and-true}
 use Rattle.std.proofs.lemmas.Bool.{and_parts}
 use Rattle.std.proofs.lemmas.List.Elements.{All-pop}
 use Rattle.sc_base.proofs.Growth.{Extends-refl}
@@ -15,10 +16,6 @@ use Rattle.sc_expand.specs.Running.{GoesOn, bottom, bottom_by, put_by}
 use Rattle.sc_expand.specs.Seen.{Grows, IsHeldToken, provenance_of, seen_wanted, stores, waiting_at}
 use Rattle.sc_model.proofs.SetLemmas.{Denotes-self, IsConfig-Keeps, IsConfig-kept, Keeps-trans}
 use Rattle.sc_expand.proofs.expansion.Expansion.go_on.Goals as goal
-
-and-true : (b : Bool) → (b && true) ≡ b
-and-true true = refl
-and-true false = refl
 
 pub returns-in-Some-clause-gone_on : goal.returns-in-Some-clause-gone_on
 returns-in-Some-clause-gone_on g c = on-ok c.enter.result

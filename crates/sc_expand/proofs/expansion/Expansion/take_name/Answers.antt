@@ -1,4 +1,5 @@
 use Rattle.std.proofs.Common.{◌≡◌, ◌∙◌, ◌∷◌, ℕ, [], List, All, Global, None, Option, true, ap, map, not, subst, sym, if◌then◌else◌, refl}
+use Rattle.std.proofs.lemmas.Bool.{and_parts}
 use Rattle.std.proofs.lemmas.Result.{err_from_is_err_and}
 use Rattle.std.specs.Global.{Vec}
 use Rattle.std.specs.declared.rc.Rc.{Rc}
@@ -11,7 +12,6 @@ use Rattle.sc_expand.proofs.SeenLemmas.{IsHeldExpansion-Grows, at-Grows}
 use Rattle.sc_expand.proofs.StopsLemmas.{stops-earlier}
 use Rattle.sc_expand.proofs.TakenLemmas.{taken-earlier}
 use Rattle.sc_expand.proofs.TakingParts.{found-function, none-found, one-found, seen_by, still-untaken}
-use Rattle.sc_expand.proofs.TakingTurns.{both_true}
 use Rattle.sc_expand.proofs.UnchangedTaking.{found-none}
 use Rattle.sc_expand.specs.Alike.{IsFunctionLike}
 use Rattle.sc_expand.specs.Seen.{Grows, provenance_of, stores}
@@ -105,7 +105,7 @@ returns g c =
             ∙ still-untaken grows e (record { stays = c.never.result; made = c.new.result }) c.requires.held never c.new.ensures.items x listed;
         undefined = λ undefined.
             let macro : List ℕ → Option Definition = λ x. macros_at s0 n c.args.table.now x text in
-            let name = (both_true (is_identifier_kind c.args.head.token.kind) (not (hide_at n h c.args.head.hide.0 text)) c.requires.name).0 in
+            let name = (and_parts (is_identifier_kind c.args.head.token.kind) (not (hide_at n h c.args.head.hide.0 text)) c.requires.name).0 in
             let none = found-none s1 n (s0.has c.args.cond.0) macro c.in_ok-parts.parts.items (λ x listed. found.parts x (IsConfig-kept keeps listed)) (λ x listed has. undefined x (IsConfig-kept keeps listed) has name) found.some in
             let same = told.undefined (subst (All (λ (part : Cond × Option (Rc declared.Definition Global)). part.1 ≡ None)) (sym value) none) in
             (same.0, ap (λ (made : Vec (Cond × Hidden)). made.items) same.1 ∙ c.new.ensures.items);
