@@ -5,6 +5,7 @@ use Rattle.c11_macros.specs.Hidden as model
 use Rattle.c11_macros.specs.Hidden.{Provenance}
 use Rattle.c11_macros.specs.Macros.{Macros}
 use Rattle.sc_base.specs.declared.place.Place.{Place}
+use Rattle.sc_expand.proofs.UnchangedLemmas.{never-empty}
 use Rattle.sc_expand.proofs.MachineLemmas.{IsBelow, IsOnTop, alone, below-stands, called_in, goes, pending_at, stands-cases, state-top, stops, top-stands}
 use Rattle.sc_expand.proofs.PlainTurns.{move-under, under}
 use Rattle.sc_expand.specs.declared.call.Call.{Call}
@@ -17,10 +18,6 @@ use Rattle.sc_expand.specs.Seen.{Stores, View, calls_at, seen_at, state_by, stat
 pub last-alone : {A : Type 0} (xs : List A) (x : A) → length (xs ++ x ∷ []) ≤ 1 → xs ≡ []
 last-alone [] x few = refl
 last-alone (y ∷ ys) x few = absurd (omega (arith, few, length-append ys (x ∷ [])))
-
-never-last : {A : Type 0} (xs : List A) (x : A) → xs ++ x ∷ [] ≡ [] → ⊥
-never-last [] x none = absurd (cc)
-never-last (y ∷ ys) x none = absurd (cc)
 
 taken : {A : Type 0} (b : Bool) (x y : A) → b ≡ true → (if b then x else y) ≡ x
 taken true x y is = refl
@@ -132,7 +129,7 @@ module _ (st : Stores) (c : List ℕ) where
               top-stands st c (argument_view [] list) (top-more top.0 has none) (omega arith),
               subst (λ s. Moves provenance macros s (state_in st (below ++ e ∷ []) (argument_view [] list) c)) (sym was) (subst (Moves provenance macros (under ps (waiting out work w))) (sym now) move),
             ))
-        | inr b ↦ absurd (never-last (calls_at st e.frame.calls.items c) w (ap (λ v. v.calls) b.1))
+        | inr b ↦ absurd (never-empty (calls_at st e.frame.calls.items c) w (ap (λ v. v.calls) b.1))
       ]
 
       -- another configuration stays where it stands

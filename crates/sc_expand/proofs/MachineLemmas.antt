@@ -106,7 +106,7 @@ module _ {old new : Stores} (grows : Grows old new) (files : ℕ) (c : List ℕ)
 -- ---- one configuration in the run
 
 -- nothing moves or fails where nothing is left
-no-move : {provenance : Provenance Place} {macros : Macros} {s t : State Place} → Moves provenance macros s t → s ≡ scanning [] [] → ⊥
+pub no-move : {provenance : Provenance Place} {macros : Macros} {s t : State Place} {o : List (model.Hidden Place)} → Moves provenance macros s t → s ≡ scanning o [] → ⊥
 no-move (plain.stay out rest t is) e = absurd (cc)
 no-move (plain.object out rest body t d is made) e = absurd (cc)
 no-move (plain.gather out rest after t close d arguments template is makes) e = absurd (cc)

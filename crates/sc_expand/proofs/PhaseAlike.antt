@@ -10,6 +10,7 @@ use Rattle.c11_macros.specs.Trace.{Agree}
 use Rattle.sc_base.specs.declared.id.Cond.{Cond}
 use Rattle.sc_base.specs.declared.place.Place.{Place}
 use Rattle.sc_base.specs.Seen.{text_at}
+use Rattle.sc_expand.proofs.AlikeRunning.{seen-first}
 use Rattle.sc_expand.proofs.Lower.{lower-min}
 use Rattle.sc_expand.proofs.AlikeGathering.{same-call}
 use Rattle.sc_expand.proofs.Behind.{below, last-below, length-behind}
@@ -43,15 +44,6 @@ use Rattle.sc_model.specs.Bytes.{same_bytes}
 use Rattle.sc_model.specs.Sets.{IsConfig}
 use Rattle.sc_subst.specs.declared.hidden.Hidden.{Hidden}
 use Rattle.sc_subst.specs.Seen.{seen_hidden}
-
--- a configuration that has the first token has it before the others
-seen-first : (st : Stores) (c : List ℕ) (work : List (Cond × Hidden)) (item : Cond × Hidden) → slice_get work 0 ≡ Some item → st.sets.has item.0.0 c ≡ true
-    → seen_at st work c ≡ seen_hidden st.names st.hides item.1 ∷ seen_at st (drop 1 work) c
-seen-first st c [] item first has = absurd (cc)
-seen-first st c (x ∷ xs) item first has =
-    let same : x ≡ item = cc in
-    ap (λ (y : Cond × Hidden). seen_at st (y ∷ xs) c) same
-    ∙ ap (λ (b : Bool). map (seen_hidden st.names st.hides) (if b then item.1 ∷ items_at st.sets xs c else items_at st.sets xs c)) has
 
 -- how many items the configuration has of the list below all others
 bottom-count : (st : Stores) (e : Expansion) (c : List ℕ) (s : State Place) → state_now st e c ≡ s → length (behind_at st.sets (bottom e).work c) ≡ length (footprint.bottom s)

@@ -11,10 +11,12 @@ use Rattle.c11_macros.specs.Hidden.{Provenance}
 use Rattle.c11_macros.specs.Macros.{Macros}
 use Rattle.sc_base.specs.declared.id.Cond.{Cond}
 use Rattle.sc_base.specs.declared.place.Place.{Place}
+use Rattle.sc_expand.proofs.UnchangedLemmas.{never-empty}
+use Rattle.sc_expand.proofs.PhaseLists.{length-seen}
 use Rattle.sc_expand.proofs.Lower.{lower-all, lower-is, lower-min}
 use Rattle.sc_expand.proofs.Behind.{below, below-not, last-below, last-fewer, last-suffix, length-behind, more-same}
 use Rattle.sc_expand.proofs.MachineCalls.{calls_at-append}
-use Rattle.sc_expand.proofs.MachineLemmas.{IsBelow, IsOnTop, alone, called_in, goes, progress-step, stands-cases, stops}
+use Rattle.sc_expand.proofs.MachineLemmas.{IsBelow, IsOnTop, alone, called_in, goes, no-move, progress-step, stands-cases, stops}
 use Rattle.sc_expand.proofs.Phases.{IsAtName, IsBetween, IsInside, IsReady, Phase, bound_of, end_of, last_at, name_of, print_of, rest_of, state_now}
 use Rattle.sc_expand.proofs.PlainEnds.{move-ends}
 use Rattle.sc_expand.proofs.PlainFootprint.{UsesFrom, uses-less, uses-move}
@@ -49,9 +51,6 @@ below-long n (m ∷ ms) = by (nat_lt m n) (below-long n ms)
     by false le = omega (arith, le)
 
 -- ---- what a configuration has of lists
-
-pub length-seen : (st : Stores) (list : List (Cond × Hidden)) (c : List ℕ) → length (behind_at st.sets list c) ≡ length (seen_at st list c)
-length-seen st list c = length-behind st.sets c list ∙ sym (length-map (items_at st.sets list c) (seen_hidden st.names st.hides))
 
 -- the first item is not among the last n
 pub first-more : (s : Sets) (list : List (Cond × Hidden)) (item : Cond × Hidden) (c : List ℕ) (n : ℕ) → slice_get list 0 ≡ Some item → s.has item.0.0 c ≡ true → n < length list
@@ -107,16 +106,6 @@ pub record HasFirst (st : Stores) (e : Expansion) (c : List ℕ) : Type 0 where
   pub first : slice_get e.top.work 0 ≡ Some item
   pub has : st.sets.has item.0.0 c ≡ true
 
--- nothing happens where nothing is left
-no-move : {provenance : Provenance Place} {macros : Macros} {s t : State Place} → Moves provenance macros s t → (out : List (model.Hidden Place)) → s ≡ scanning out [] → ⊥
-no-move (plain.stay out rest t is) o e = absurd (cc)
-no-move (plain.object out rest body t d is made) o e = absurd (cc)
-no-move (plain.gather out rest after t close d arguments template is makes) o e = absurd (cc)
-no-move (plain.enter out work list w n others is) o e = absurd (cc)
-no-move (plain.leave out work list w n) o e = absurd (cc)
-no-move (plain.replace out work body w is made) o e = absurd (cc)
-no-move (plain.inside out work w n m) o e = absurd (cc)
-
 -- a name that stays leaves nothing but what stands behind it
 name-moved : {provenance : Provenance Place} {macros : Macros} {s t : State Place} → Moves provenance macros s t → (out : List (model.Hidden Place)) (name : model.Hidden Place) (behind : List (model.Hidden Place)) (last : ℕ) → s ≡ scanning out (name ∷ behind)
     → IsPending t last → last ≡ lower_of (length (steps.bottom t)) (length behind) → case_of macros name behind ≡ expansion.stays → ⊥
@@ -154,17 +143,13 @@ ended-state st c e ended =
     let out = seen_at st e.top.out c in
     ap (λ bs. state_in st bs (view_at st e.top c) c) ended.below ∙ (λ i. state_by out (work i) (calls i))
 
-never-last : {A : Type 0} (xs : List A) (x : A) → xs ++ x ∷ [] ≡ [] → ⊥
-never-last [] x none = absurd (cc)
-never-last (y ∷ ys) x none = absurd (cc)
-
 module _ (st : Stores) (c : List ℕ) where
   -- the configuration has the last call
   call-had : (calls front : List Call) (k : Call) → calls ≡ front ++ k ∷ [] → st.sets.has k.cond.0 c ≡ true → calls_at st calls c ≡ [] → ⊥
   call-had calls front k is has none = by (st.sets.has k.cond.0 c) has (sym (ap (λ ks. calls_at st ks c) is ∙ calls_at-append st c front (k ∷ [])) ∙ none)
     where
       by : (b : Bool) → b ≡ true → calls_at st front c ++ (if b then waiting_at st k c ∷ [] else []) ≡ [] → ⊥
-      by true is none = never-last (calls_at st front c) (waiting_at st k c) none
+      by true is none = never-empty (calls_at st front c) (waiting_at st k c) none
       by false is none = absurd (true≢false (sym is))
 
   item-had : (list : List (Cond × Hidden)) (item : Cond × Hidden) (rest : List (Cond × Hidden)) → list ≡ item ∷ rest → st.sets.has item.0.0 c ≡ true → seen_at st list c ≡ [] → ⊥
@@ -255,7 +240,7 @@ module _ {now new : Stores} {e after : Expansion} {c : List ℕ} (n : ℕ) (fits
   -- .. and of the last n all, or all that it has left
   rest-own : Rest now new e after c → last_at new after n c ≡ lower_of (length (seen_at new (bottom after).work c)) (last_at now e n c)
   rest-own rest = lower-is (length (seen_at new (bottom after).work c)) (last_at now e n c) (last_at new after n c)
-      (subst (λ k. lower_of k (last_at now e n c) ≤ last_at new after n c) (length-seen new (bottom after).work c) (low rest))
+      (subst (λ k. lower_of k (last_at now e n c) ≤ last_at new after n c) (sym (length-seen new (bottom after).work c)) (low rest))
       (omega (arith, length-seen new (bottom after).work c, below-long n (behind_at new.sets (bottom after).work c)))
       (rest-fewer rest n (omega arith))
     where
@@ -277,9 +262,6 @@ module _ (files : List (List ℕ)) (macros : List ℕ → Macros)
     (phase : Phase files macros old now was e) (ready : IsReady files macros phase) where
   never : (item : Cond × Hidden) → Some item ≡ None → ⊥
   never item is = absurd (cc)
-
-  some-same : {x y : Cond} → Some x ≡ Some y → x ≡ y
-  some-same is = cc
 
   -- the first token is not one of the last n
   pub first-far : (item : Cond × Hidden) → e.below.items ≡ [] → e.top.calls.items ≡ [] → slice_get e.top.work 0 ≡ Some item → phase.n < length (bottom e).work
@@ -342,7 +324,7 @@ module _ (files : List (List ℕ)) (macros : List ℕ → Macros)
             ⊎ ((state_now now e c ≡ state_now new after c) × (last_at now e phase.n c ≡ last_at new after phase.n c))
         by true is progress moves own stands =
             let m = moves is in
-            inl (m, takes-pending c (turned.takes c) (λ cond next. turned.which cond next c) is stands (λ ended. no-move m (seen_at now e.top.out c) (ended-state now c e ended)))
+            inl (m, takes-pending c (turned.takes c) (λ cond next. turned.which cond next c) is stands (λ ended. no-move m (ended-state now c e ended)))
         by false is progress moves own stands =
             let state = still is progress live (λ l. running-stands grows r c listed l) in
             let count = ap (λ s. length (steps.bottom s)) state in

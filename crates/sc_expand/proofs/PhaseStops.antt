@@ -8,6 +8,7 @@ use Rattle.c11_macros.specs.Macros.{Definition, Macros}
 use Rattle.sc_base.specs.declared.place.Place.{Place}
 use Rattle.sc_base.specs.declared.stop.Stop.{Stop}
 use Rattle.sc_base.specs.declared.stop.Stop.TheVariants.{BranchesFull, ReadFault, OutOfMemory}
+use Rattle.sc_expand.proofs.PhaseLists.{length-seen}
 use Rattle.sc_expand.proofs.AlikeRunning.{seen-first}
 use Rattle.sc_expand.proofs.Behind.{below}
 use Rattle.sc_expand.proofs.FootprintLemmas.{pairs-both, same-use}
@@ -16,7 +17,7 @@ use Rattle.sc_expand.proofs.GatherEnds.{end-behind}
 use Rattle.sc_expand.proofs.GatherTaking.{function-form}
 use Rattle.sc_expand.proofs.MachineLemmas.{IsBelow, IsOnTop, stands-cases}
 use Rattle.sc_expand.proofs.PhaseAlike.{same-called}
-use Rattle.sc_expand.proofs.PhaseMoves.{Waits, first-more, length-seen, on-top, waits-pending}
+use Rattle.sc_expand.proofs.PhaseMoves.{Waits, first-more, on-top, waits-pending}
 use Rattle.sc_expand.proofs.Phases.{IsAtName, IsReady, Phase, last_at, name_of, rest_of, state_now}
 use Rattle.sc_expand.proofs.Rests.{first-is}
 use Rattle.sc_expand.proofs.RunLemmas.{IsRunning, running-stands}

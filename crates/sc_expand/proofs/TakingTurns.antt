@@ -8,6 +8,7 @@ use Rattle.c11_macros.specs.Macros.{Macros}
 use Rattle.sc_base.proofs.Growth.{Extends-refl}
 use Rattle.sc_base.specs.declared.id.Cond.{Cond}
 use Rattle.sc_base.specs.declared.place.Place.{Place}
+use Rattle.sc_expand.proofs.Rests.{first-is}
 use Rattle.sc_expand.proofs.SeenLemmas.{AreHeld-append, at-Grows, macros_at-Grows, seen_hidden-Grows, token-Grows}
 use Rattle.sc_expand.proofs.TakingSteps.{Ends, comes-turn, has_first-Keeps, same-step, seen-first}
 use Rattle.sc_expand.specs.Machine.{IsHeldExpansion, at}
@@ -30,18 +31,14 @@ not_both false b is = refl
 
 -- ---- the first item of a list
 
-pub first-of : {A : Type 0} (xs : List A) (x : A) → slice_get xs 0 ≡ Some x → xs ≡ x ∷ drop 1 xs
-first-of [] x is = absurd (cc)
-first-of (y ∷ ys) x is = let same : y ≡ x = cc in ap (λ z. z ∷ ys) same
-
 pub first-token : (work : List (Cond × declared.Hidden)) (item : Cond × declared.Hidden) → slice_get work 0 ≡ Some item → slice_get (map (λ (x : Cond × declared.Hidden). x.1) work) 0 ≡ Some item.1
-first-token work item is = ap (λ l. slice_get (map (λ (x : Cond × declared.Hidden). x.1) l) 0) (first-of work item is)
+first-token work item is = ap (λ l. slice_get (map (λ (x : Cond × declared.Hidden). x.1) l) 0) (first-is work item is)
 
 first-held : (st : Stores) (files : ℕ) (work : List (Cond × declared.Hidden)) (item : Cond × declared.Hidden) → slice_get work 0 ≡ Some item → AreHeld st files work → IsHeldToken st files item.1
-first-held st files work item is held = All-head (λ (x : Cond × declared.Hidden). IsHeldToken st files x.1) item (drop 1 work) (subst (All (λ (x : Cond × declared.Hidden). IsHeldToken st files x.1)) (first-of work item is) held.held)
+first-held st files work item is held = All-head (λ (x : Cond × declared.Hidden). IsHeldToken st files x.1) item (drop 1 work) (subst (All (λ (x : Cond × declared.Hidden). IsHeldToken st files x.1)) (first-is work item is) held.held)
 
 pub first-own : (st : Stores) (files : ℕ) (work : List (Cond × declared.Hidden)) (item : Cond × declared.Hidden) → slice_get work 0 ≡ Some item → AreHeld st files work → IsCond st.sets item.0.0
-first-own st files work item is held = All-head (λ (x : Cond × declared.Hidden). IsCond st.sets x.0.0) item (drop 1 work) (subst (All (λ (x : Cond × declared.Hidden). IsCond st.sets x.0.0)) (first-of work item is) held.own)
+first-own st files work item is held = All-head (λ (x : Cond × declared.Hidden). IsCond st.sets x.0.0) item (drop 1 work) (subst (All (λ (x : Cond × declared.Hidden). IsCond st.sets x.0.0)) (first-is work item is) held.own)
 
 first-begun : (st : Stores) (e : Expansion) (item : Cond × declared.Hidden) (c : List ℕ) → slice_get e.top.work 0 ≡ Some item → e.top.calls.items ≡ [] → st.sets.has item.0.0 c ≡ true → st.sets.has e.refusals.live.0 c ≡ true
     → IsBegun (seen_hidden st.names st.hides item.1) (untaken st e c)
@@ -51,9 +48,9 @@ first-begun st e item c is none has live =
     record {
       live = live;
       rest = left;
-      work = ap (λ l. seen_at st l c) (first-of e.top.work item is) ∙ (seen-first st item (drop 1 e.top.work) c ∙ ap (λ b. if b then t ∷ left else left) has);
+      work = ap (λ l. seen_at st l c) (first-is e.top.work item is) ∙ (seen-first st item (drop 1 e.top.work) c ∙ ap (λ b. if b then t ∷ left else left) has);
       calls = ap (λ l. calls_at st l c) none;
-      first = ap (λ l. has_first st.sets l c) (first-of e.top.work item is) ∙ has;
+      first = ap (λ l. has_first st.sets l c) (first-is e.top.work item is) ∙ has;
       stays = refl;
       made = refl;
     }
@@ -179,7 +176,7 @@ module _ {s0 s1 : Sets} {n files : List (List ℕ)} {table : MacroTable} {was : 
         let listed1 = IsConfig-Keeps known.keeps listed in
         let kept = at-Grows first-grew c listed was known.held in
         let same : u ≡ t = seen_hidden-Grows grows item.1 (token-Grows first-grew item.1 first-item) in
-        let firsts : has_first s0 was.top.work c ≡ s0.has item.0.0 c = ap (λ l. has_first s0 l c) (first-of was.top.work item known.first) in
+        let firsts : has_first s0 was.top.work c ≡ s0.has item.0.0 c = ap (λ l. has_first s0 l c) (first-is was.top.work item known.first) in
         turn-by (provenance_of files) macros t u left a (at st next c) s (s0.has item.0.0 c) (s0.has was.refusals.live.0 c) refl (ap (λ l. calls_at st0 l c) known.calls)
         (λ has live.
         let begun = first-begun st0 was item c known.first known.calls has live in

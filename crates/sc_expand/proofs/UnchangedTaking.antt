@@ -12,10 +12,11 @@ use Rattle.c11_tokens.specs.Lex.{is_identifier_kind}
 use Rattle.sc_base.specs.declared.id.Cond.{Cond}
 use Rattle.sc_base.specs.declared.id.Name.{Name}
 use Rattle.sc_base.specs.declared.place.Place.{Place}
+use Rattle.sc_expand.proofs.Rests.{first-is}
 use Rattle.sc_expand.proofs.PlainCases.{case-hidden, case-undefined}
 use Rattle.sc_expand.proofs.SeenLemmas.{macros_at-Grows}
 use Rattle.sc_expand.proofs.TakingParts.{seen_by}
-use Rattle.sc_expand.proofs.TakingTurns.{FirstTaken, first-both, first-grew, first-of, first-own, first-ready}
+use Rattle.sc_expand.proofs.TakingTurns.{FirstTaken, first-both, first-grew, first-own, first-ready}
 use Rattle.sc_expand.proofs.UnchangedLemmas.{both-Keeps}
 use Rattle.sc_expand.specs.declared.expansion.Expansion.{Expansion}
 use Rattle.sc_expand.specs.declared.taking.Taken.{Taken}
@@ -104,7 +105,7 @@ pub take-passes : (s : Sets) (was next : Expansion) (item : Cond × declared.Hid
 take-passes s was next item made cond uncalled first work none refusals below calls both push = by push
   where
     whole : was.top.work ≡ item ∷ next.top.work
-    whole = first-of was.top.work item first ∙ ap (λ l. item ∷ l) (sym (work ∙ ap (λ l. l ++ drop 1 was.top.work) none))
+    whole = first-is was.top.work item first ∙ ap (λ l. item ∷ l) (sym (work ∙ ap (λ l. l ++ drop 1 was.top.work) none))
 
     still : IsUncalled next
     still = record { below = ap (λ b. b.items) below ∙ uncalled.below; calls = ap (λ l. l.items) calls ∙ uncalled.calls }
@@ -149,7 +150,7 @@ module _ {s0 s1 : Sets} {n files : List (List ℕ)} {table : MacroTable} {was : 
       let listed0 = IsConfig-kept known.keeps listed in
       let both = first-both known c listed has in
       macros_at-Grows (first-grew known) known.is_table c (text_of n item.1.token.spelling) listed0
-      ∙ All-head L item (drop 1 was.top.work) (subst (All L) (first-of was.top.work item known.first) looks) c listed0 both.0 both.1 name
+      ∙ All-head L item (drop 1 was.top.work) (subst (All L) (first-is was.top.work item known.first) looks) c listed0 both.0 both.1 name
 
   pub stays-both : {st : Stores} {now : Expansion} {taken : Taken} → Grows (stores s1 n was.sets) st → Takes files (macros_at s1 n table) (stores s1 n was.sets) st was now taken item.1 cond.0 → now ≡ was
       → ((c : List ℕ) → IsConfig s1.arities c → s1.has cond.0 c ≡ true → IsUndefined n (macros_at s1 n table c) item.1.token) → Denotes st.sets taken.stays.0 (λ c. st.sets.has item.0.0 c && st.sets.has was.refusals.live.0 c)
