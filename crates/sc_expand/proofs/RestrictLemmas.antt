@@ -1,7 +1,7 @@
 -- Lists whose first items are restricted, of which the last items stand under one condition.
 use Rattle.std.proofs.Common.{◌≡◌, ◌<◌, ◌≤◌, Bool, true, false, if◌then◌else◌, ℕ, zero, suc, ◌+◌, ◌&&◌, List, [], ◌∷◌, ◌++◌, All, Some, map, take, drop, length, min, cond, Ordering, Less, Equal, Greater, set, get_or, slice_get, ap, sym, ◌∙◌, refl, subst, arith, add-zero, append_assoc}
 use Rattle.std.proofs.Math.Seq.{get_or-append_seam, set-append_seam}
-use Rattle.std.proofs.lemmas.List.{length-append, length-map, nil_from_length, take-append-drop}
+use Rattle.std.proofs.lemmas.List.{get_or_append_left, length-append, length-map, nil_from_length, set-append_left, take-append-drop}
 use Rattle.std.proofs.lemmas.List.Elements.{All-take}
 use Rattle.std.specs.Cmp.{ranks}
 use Rattle.std.specs.Ordering.{MatchOrdering, is_lt, nat_cmp, ord_min}
@@ -157,3 +157,19 @@ restricted_next {first} {old} {by} {i} {before} {list} new item made was within 
     let P : Cond × Hidden → Type 0 = λ pair. IsCond old pair.0.0 in
     let told = meaning _ _ (Denotes-self old item.0.0 (subst P (sym at) (was.own i item within))) (Denotes-self old by (was.keeps.own _ by_own)) in
     restricted_more first old new by i before list item made was within at own by_own keeps told.own told
+
+-- the next item stands in front of others
+module _ {first old : Sets} {by i : ℕ} {before : List (Cond × Hidden)} (front behind : List (Cond × Hidden)) (item : Cond × Hidden) (was : Restricted first old by i before (front ++ behind)) (low : i < length front) (is : item ≡ get_or front i item) where
+  within : i < length (front ++ behind)
+  within = omega (arith, low, length-append front behind)
+
+  at : item ≡ get_or (front ++ behind) i item
+  at = is ∙ sym (get_or_append_left front behind item i low)
+
+  pub front_own : IsCond old item.0.0
+  front_own = let P : Cond × Hidden → Type 0 = λ pair. IsCond old pair.0.0 in subst P (sym at) (was.own i item within)
+
+  pub restricted_front : (new : Sets) (made : Cond) → All (λ item. IsCond first item.0.0) before → IsCond first by → Keeps old new
+      → ((f g : List ℕ → Bool) → Denotes old item.0.0 f → Denotes old by g → Denotes new made.0 (λ c. f c && g c)) → Restricted first new by (i + 1) before (set front i (made, item.1) ++ behind)
+  restricted_front new made own by_own keeps meaning =
+      subst (Restricted first new by (i + 1) before) (set-append_left front behind i (made, item.1) low) (restricted_next new item made was within at own by_own keeps meaning)

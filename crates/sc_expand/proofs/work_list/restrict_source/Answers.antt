@@ -1,7 +1,7 @@
 use Rattle.std.proofs.Common.{◌≡◌, ◌<◌, ◌+◌, ◌-◌, ◌∙◌, ◌++◌, List, drop, length, ap, get_or, refl, sym, subst, arith}
 use Rattle.std.proofs.lemmas.List.{drop-set-add, get_or-append_right, get_or-drop, get_or_append_left, length-append, length-set, set-append_left, set-append_right}
 use Rattle.sc_base.specs.declared.id.Cond.{Cond}
-use Rattle.sc_expand.proofs.RestrictLemmas.{keeps-items, length-Restricted, ord_min-min, restricted_next, restricted_none, restricts}
+use Rattle.sc_expand.proofs.RestrictLemmas.{front_own, keeps-items, length-Restricted, ord_min-min, restricted_front, restricted_next, restricted_none, restricts}
 use Rattle.sc_expand.proofs.WorkListLemmas.{Restricted}
 use Rattle.sc_expand.specs.WorkLists.{items_left}
 use Rattle.sc_model.proofs.SetLemmas.{Keeps-refl}
@@ -16,33 +16,16 @@ loop-index-init g c = record {
 }
 
 pub apply_and-requires-clause-a_own : goal.apply_and-requires-clause-a_own
-apply_and-requires-clause-a_own g c =
-    let old = g.C.Conditions.sets c.loop-index.conds in
-    let front = c.loop-index.front.items in
-    let behind = items_left c.args.source.now in
-    let item = c.index-pair.result.now in
-    let P : Cond × Hidden → Type 0 = λ pair. IsCond old pair.0.0 in
-    let low : c.loop-index.index < length front = omega (arith, ord_min-min c.args.count c.len.result, c.loop-index.invariant.long) in
-    let within : c.loop-index.index < length (front ++ behind) = omega (arith, low, length-append front behind) in
-    subst P (get_or_append_left front behind item c.loop-index.index low ∙ sym c.index-pair.ensures) (c.loop-index.invariant.restricted.own c.loop-index.index item within)
+apply_and-requires-clause-a_own g c = front_own c.loop-index.front.items (items_left c.args.source.now) c.index-pair.result.now c.loop-index.invariant.restricted (omega (arith, ord_min-min c.args.count c.len.result, c.loop-index.invariant.long)) c.index-pair.ensures
 
 pub loop-index-preserved : goal.loop-index-preserved
 loop-index-preserved g c =
-    let first = g.C.Conditions.sets c.args.conds.now in
-    let new = g.C.Conditions.sets c.apply_and.new.self in
-    let i = c.loop-index.index in
     let was = c.loop-index.invariant in
-    let front = c.loop-index.front.items in
-    let behind = items_left c.args.source.now in
     let item = c.index-pair.result.now in
-    let made = c.in_ok-met.met in
-    let low : i < length front = omega (arith, ord_min-min c.args.count c.len.result, was.long) in
-    let within : i < length (front ++ behind) = omega (arith, low, length-append front behind) in
-    let at : item ≡ get_or (front ++ behind) i item = c.index-pair.ensures ∙ sym (get_or_append_left front behind item i low) in
-    let more = restricted_next new item made was.restricted within at c.requires.own c.requires.by_own c.apply_and.ensures.keeps c.in_ok-met.ensures.meaning in
     record {
-      restricted = subst (λ (l : List (Cond × Hidden)). Restricted first new c.args.by.0 (i + 1) (c.args.front.now.items ++ behind) l) (set-append_left front behind i (made, item.1) low) more;
-      long = length-set front i (made, item.1) ∙ was.long;
+      restricted = restricted_front c.loop-index.front.items (items_left c.args.source.now) item was.restricted (omega (arith, ord_min-min c.args.count c.len.result, was.long)) c.index-pair.ensures (g.C.Conditions.sets c.apply_and.new.self) c.in_ok-met.met c.requires.own c.requires.by_own
+          c.apply_and.ensures.keeps c.in_ok-met.ensures.meaning;
+      long = length-set c.loop-index.front.items c.loop-index.index (c.in_ok-met.met, item.1) ∙ was.long;
     }
 
 pub loop-index-2-init : goal.loop-index-2-init
