@@ -1,6 +1,6 @@
 -- The call of a name that stands first in the whole list, as the footprint tells it.
-use Rattle.std.proofs.Common.{◌≡◌, ◌⊎◌, inl, inr, ℕ, zero, suc, ◌+◌, ◌-◌, ◌<◌, ◌≤◌, nat_le, Bool, true, false, List, [], ◌∷◌, ◌++◌, drop, length, take, Option, Some, None, IsTrue, refl, ap, ◌∙◌, arith, if◌then◌else◌}
-use Rattle.std.proofs.lemmas.Bool.{cases_lt, le-ltb, leb-true, lt-ltb}
+use Rattle.std.proofs.Common.{◌≡◌, ◌⊎◌, inl, inr, ℕ, zero, suc, ◌+◌, ◌-◌, ◌<◌, ◌≤◌, Bool, true, false, List, [], ◌∷◌, ◌++◌, drop, length, take, Option, Some, None, IsTrue, refl, ap, ◌∙◌, arith, if◌then◌else◌}
+use Rattle.std.proofs.lemmas.Bool.{cases_lt, le-ltb, lt-ltb}
 use Rattle.std.proofs.lemmas.List.{length-append}
 use Rattle.c11_macros.specs.Call.{arguments_for}
 use Rattle.c11_macros.specs.Defines.{is_function_like}
@@ -17,7 +17,7 @@ use Rattle.sc_expand.proofs.PlainFootprint.{UsesFrom, uses-call, uses-inside, us
 use Rattle.sc_expand.proofs.PlainTurns.{Pending, under}
 use Rattle.sc_expand.specs.Alike.{IsFunctionLike}
 use Rattle.sc_expand.specs.Arguments.{parted}
-use Rattle.sc_expand.specs.FootprintSteps.{IsPending, lower_of}
+use Rattle.sc_expand.specs.FootprintSteps.{IsPending}
 use Rattle.sc_expand.specs.Having.{behind_at}
 use Rattle.sc_expand.specs.Plain as plain
 use Rattle.sc_expand.specs.Plain.{Moves, State, scanning}

@@ -1,6 +1,6 @@
 -- What is left of a list: its last items, and those of them that a configuration has.
-use Rattle.std.proofs.Common.{◌≡◌, ◌⊎◌, inl, inr, ℕ, zero, suc, ◌+◌, ◌-◌, ◌<◌, ◌≤◌, nat_le, Bool, true, false, List, [], ◌∷◌, Some, map, take, drop, length, slice_get, refl, sym, ap, subst, ◌∙◌, arith, if◌then◌else◌}
-use Rattle.std.proofs.lemmas.Bool.{cases_lt, leb-false, leb-true}
+use Rattle.std.proofs.Common.{◌≡◌, ◌⊎◌, inl, inr, ℕ, zero, suc, ◌+◌, ◌-◌, ◌<◌, ◌≤◌, Bool, true, false, List, [], ◌∷◌, Some, map, take, drop, length, slice_get, refl, sym, ap, subst, ◌∙◌, arith, if◌then◌else◌}
+use Rattle.std.proofs.lemmas.Bool.{cases_lt}
 use Rattle.std.proofs.lemmas.List.{drop-drop, drop_all, drop_at, length-drop, length-map, take-append-drop}
 use Rattle.c11_macros.specs.Footprint.{Arrives, begins, footprint, goes_on}
 use Rattle.c11_macros.specs.Hidden as model
@@ -9,7 +9,6 @@ use Rattle.c11_macros.specs.Macros.{Macros}
 use Rattle.sc_base.specs.declared.id.Cond.{Cond}
 use Rattle.sc_expand.proofs.Behind.{Fall, Fall-weaker, behind-falls, below, below-all, below-has, below-not, length-behind}
 use Rattle.sc_expand.proofs.SeenLemmas.{seen_at-append}
-use Rattle.sc_expand.specs.FootprintSteps.{lower_of}
 use Rattle.sc_expand.specs.Having.{behind_at}
 use Rattle.sc_expand.specs.Seen.{Stores, seen_at}
 use Rattle.sc_guarded.specs.Items.{items_at}

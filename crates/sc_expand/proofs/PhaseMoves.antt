@@ -1,7 +1,7 @@
 -- A phase stays one through a turn: where the configurations stand, and which of its own items each
 -- has left.
-use Rattle.std.proofs.Common.{◌≡◌, ◌⊎◌, inl, inr, ℕ, suc, ◌+◌, ◌<◌, ◌≤◌, nat_le, nat_lt, Bool, true, false, true≢false, List, [], ◌∷◌, ◌++◌, drop, length, map, Some, None, slice_get, refl, sym, ap, subst, ◌∙◌, arith, if◌then◌else◌}
-use Rattle.std.proofs.lemmas.List.{drop-drop, length-map}
+use Rattle.std.proofs.Common.{◌≡◌, ◌⊎◌, inl, inr, ℕ, suc, ◌+◌, ◌<◌, ◌≤◌, nat_lt, Bool, true, false, true≢false, List, [], ◌∷◌, ◌++◌, drop, length, map, Some, None, slice_get, refl, sym, ap, subst, ◌∙◌, arith, if◌then◌else◌}
+use Rattle.std.proofs.lemmas.List.{drop-drop}
 use Rattle.std.proofs.lemmas.List.Elements.{All-pop}
 use Rattle.c11_macros.specs.Expansion as expansion
 use Rattle.c11_macros.specs.Expansion.{IsWithin, case_of}
@@ -14,7 +14,7 @@ use Rattle.sc_base.specs.declared.place.Place.{Place}
 use Rattle.sc_expand.proofs.UnchangedLemmas.{never-empty}
 use Rattle.sc_expand.proofs.PhaseLists.{length-seen}
 use Rattle.sc_expand.proofs.Lower.{lower-all, lower-is, lower-min}
-use Rattle.sc_expand.proofs.Behind.{below, below-not, last-below, last-fewer, last-suffix, length-behind, more-same}
+use Rattle.sc_expand.proofs.Behind.{below, below-not, last-below, last-fewer, last-suffix, more-same}
 use Rattle.sc_expand.proofs.MachineCalls.{calls_at-append}
 use Rattle.sc_expand.proofs.MachineLemmas.{IsBelow, IsOnTop, alone, called_in, goes, no-move, progress-step, stands-cases, stops}
 use Rattle.sc_expand.proofs.Phases.{IsAtName, IsBetween, IsInside, IsReady, Phase, bound_of, end_of, last_at, name_of, print_of, rest_of, state_now}

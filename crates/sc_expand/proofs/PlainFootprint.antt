@@ -1,7 +1,7 @@
 -- The footprint of a name, in the steps of its expansion: what each state still uses until only so
 -- many tokens of the whole list are left, and nothing that replaced a name.
 use Rattle.std.proofs.Common.{◌≡◌, ℕ, suc, ◌<◌, ◌≤◌, nat_le, Bool, true, false, List, [], ◌∷◌, ◌++◌, length, Result, Ok, Err, refl, sym, ap, ◌∙◌, subst, arith, if◌then◌else◌}
-use Rattle.std.proofs.lemmas.Bool.{leb-true, leb-false}
+use Rattle.std.proofs.lemmas.Bool.{leb-false}
 use Rattle.c11_macros.proofs.OneAnswer.{one_footprint}
 use Rattle.c11_macros.specs.Expansion as expansion
 use Rattle.c11_macros.specs.Expansion.{Expands, IsWithin, called, case_of, is_looked_up, misfit}

@@ -1,4 +1,4 @@
-use Rattle.std.proofs.Common.{◌∙◌, map, Ok, Err, refl, ap}
+use Rattle.std.proofs.Common.{rules, ◌∙◌, map, Ok, Err, refl, ap}
 use Rattle.std.specs.Cow.{cow_slice_items}
 use Rattle.c11_macros.specs.Hidden.{failure_at}
 use Rattle.sc_base.proofs.Growth.{Extends-refl, Extends-trans}
@@ -12,24 +12,8 @@ use Rattle.sc_subst.proofs.Turns.{on_fault}
 use Rattle.sc_subst.specs.Seen.{hide_at, seen_hidden}
 use Rattle.sc_expand.proofs.taking.list_for.Goals as goal
 
-pub returns-clause-ok : goal.returns-clause-ok
-returns-clause-ok c =
-    let n0 = c.args.names.now in
-    let n1 = c.items_at.new.names in
-    let n = c.substitute.new.names in
-    let s = c.substitute.new.sets in
-    let t = seen_hidden n0 c.args.sets.now c.args.head in
-    let provenance = provenance_of c.args.files.now in
-    let e1 = c.items_at.ensures.names in
-    let e2 = c.substitute.ensures.names in
-    let form = grown-form c.args.definition.now c.requires.definition (Extends-trans e1 e2) in
-    let list = ap (map (seen_item n)) c.deref.ensures.value ∙ grown-list c.args.definition.now (cow_slice_items c.in_ok-items.items) (seen_place c.args.files.now c.args.head.token.place) c.requires.definition c.in_ok-items.ensures.own e1 e2 c.in_ok-items.ensures.is in
-    let hide = grown-hide c.args.head c.in_ok-hide.hide c.requires.head e1 e2 c.substitute.ensures.sets c.in_ok-hide.ensures.own c.in_ok-hide.ensures.joins in
-    if_ok _ _ c.substitute.result
-    (λ made h. same-result provenance t (Ok (map (seen_hidden n s) made.items)) form list hide (h.at n s (Extends-refl n) (Extends-refl s) t provenance refl refl (λ p. refl))) c.substitute.ensures.ok
-
-pub returns-clause-err : goal.returns-clause-err
-returns-clause-err c =
+pub returns : goal.returns
+returns c =
     let n0 = c.args.names.now in
     let n = c.substitute.new.names in
     let s = c.substitute.new.sets in
@@ -40,15 +24,15 @@ returns-clause-err c =
     let form = grown-form c.args.definition.now c.requires.definition (Extends-trans e1 e2) in
     let list = ap (map (seen_item n)) c.deref.ensures.value ∙ grown-list c.args.definition.now (cow_slice_items c.in_ok-items.items) (seen_place c.args.files.now c.args.head.token.place) c.requires.definition c.in_ok-items.ensures.own e1 e2 c.in_ok-items.ensures.is in
     let hide = grown-hide c.args.head c.in_ok-hide.hide c.requires.head e1 e2 c.substitute.ensures.sets c.in_ok-hide.ensures.own c.in_ok-hide.ensures.joins in
-    if_err _ _ c.substitute.result
-    (λ stop fault. on_fault _ _ stop (λ cause h. same-result provenance t (Err (failure_at cause t)) form list hide (h.at n s (Extends-refl n) (Extends-refl s) t provenance refl)) fault) c.substitute.ensures.err
-
-pub returns-clause-placed : goal.returns-clause-placed
-returns-clause-placed c =
-    let n0 = c.args.names.now in
-    let n = c.substitute.new.names in
-    let s = c.substitute.new.sets in
-    let t = seen_hidden n0 c.args.sets.now c.args.head in
-    let provenance = provenance_of c.args.files.now in
-    if_ok _ _ c.substitute.result
-    (λ made h. placed-result provenance (λ p. refl) t (seen_hidden n s) (λ x. refl) (seen_form n c.args.definition.now.form) (map (seen_item n) c.deref.result.now) (hide_at n s c.in_ok-hide.hide.0) made.items (h.at n s (Extends-refl n) (Extends-refl s) t provenance refl refl (λ p. refl))) c.substitute.ensures.ok
+    record {
+      ok = if_ok _ _ c.substitute.result
+          (λ made h. same-result provenance t (Ok (map (seen_hidden n s) made.items)) form list hide (h.at n s (Extends-refl n) (Extends-refl s) t provenance refl refl (λ p. refl))) c.substitute.ensures.ok;
+      own = search rules;
+      placed = if_ok _ _ c.substitute.result
+          (λ made h. placed-result provenance (λ p. refl) t (seen_hidden n s) (λ x. refl) (seen_form n c.args.definition.now.form) (map (seen_item n) c.deref.result.now) (hide_at n s c.in_ok-hide.hide.0) made.items
+          (h.at n s (Extends-refl n) (Extends-refl s) t provenance refl refl (λ p. refl))) c.substitute.ensures.ok;
+      err = if_err _ _ c.substitute.result
+          (λ stop fault. on_fault _ _ stop (λ cause h. same-result provenance t (Err (failure_at cause t)) form list hide (h.at n s (Extends-refl n) (Extends-refl s) t provenance refl)) fault) c.substitute.ensures.err;
+      names = search rules;
+      sets = search rules;
+    }

@@ -1,7 +1,7 @@
-use Rattle.std.proofs.Common.{◌≡◌, ◌<◌, ◌≤◌, ◌+◌, ◌-◌, ◌∙◌, ◌++◌, List, All, length, map, ap, get_or, refl, set, sym, subst, arith}
+use Rattle.std.proofs.Common.{◌≡◌, ◌<◌, ◌≤◌, ◌+◌, ◌-◌, ◌∙◌, ◌++◌, List, All, length, map, ap, refl, sym, subst, arith}
 use Rattle.std.proofs.Common.{Global}
 use Rattle.std.specs.declared.collections.VecDeque.{VecDeque}
-use Rattle.std.proofs.lemmas.List.{get_or_append_left, length-append, length-set, set-append_left}
+use Rattle.std.proofs.lemmas.List.{length-append, length-set}
 use Rattle.sc_base.specs.declared.id.Cond.{Cond}
 use Rattle.sc_expand.proofs.RestrictLemmas.{keeps-items, length-Restricted, ord_min-min, own_behind, restricted_behind, front_own, restricted_front, restricted_none, restricts}
 use Rattle.sc_expand.proofs.WorkListLemmas.{Restricted}

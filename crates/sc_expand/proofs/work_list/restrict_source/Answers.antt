@@ -1,5 +1,5 @@
 use Rattle.std.proofs.Common.{◌≡◌, ◌<◌, ◌+◌, ◌-◌, ◌∙◌, ◌++◌, List, drop, length, ap, get_or, refl, sym, subst, arith}
-use Rattle.std.proofs.lemmas.List.{drop-set-add, get_or-append_right, get_or-drop, get_or_append_left, length-append, length-set, set-append_left, set-append_right}
+use Rattle.std.proofs.lemmas.List.{drop-set-add, get_or-append_right, get_or-drop, length-set, set-append_right}
 use Rattle.sc_base.specs.declared.id.Cond.{Cond}
 use Rattle.sc_expand.proofs.RestrictLemmas.{front_own, keeps-items, length-Restricted, ord_min-min, restricted_front, restricted_next, restricted_none, restricts}
 use Rattle.sc_expand.proofs.WorkListLemmas.{Restricted}
