@@ -30,8 +30,10 @@ pub fn arguments(
     form: &Form,
 ) -> Result<Option<Vec<Tokens>>, OutOfMemory>
     requires { All (λ h. h.token.spelling.0 < length names.now) between.now }
-    ensures is { IfOk result (λ fit. (sets : List (List declared_name.Name)) (parameters : List (List ℕ)) (variadic : Bool) → seen_form names.now form.now ≡ function_like parameters variadic
-        → option_map (λ made. seen_arguments names.now sets made.items) fit ≡ arguments_for parameters variadic (model.parted (length parameters) 0 (seen_list names.now sets between.now))) }
+    ensures is { IfOk result (λ fit. (sets : List (List declared_name.Name)) (parameters : List (List ℕ)) (variadic : Bool) → seen_form names.now form.now
+        ≡ function_like parameters variadic
+        → option_map (λ made. seen_arguments names.now sets made.items) fit
+        ≡ arguments_for parameters variadic (model.parted (length parameters) 0 (seen_list names.now sets between.now))) }
     ensures own { IfOk result (λ fit. (sets : List (List declared_name.Name)) → All (IsHeldHidden names.now sets) between.now
         → IfSome fit (λ made. All (All (IsHeldHidden names.now sets)) made.items)) }
 {
@@ -105,8 +107,10 @@ pub fn parted(
     commas: usize,
 ) -> Result<Vec<Tokens>, OutOfMemory>
     requires { All (λ h. h.token.spelling.0 < length names.now) between.now }
-    ensures is { IfOk result (λ made. (sets : List (List declared_name.Name)) → seen_arguments names.now sets made.items ≡ model.parted commas 0 (seen_list names.now sets between.now)) }
-    ensures own { IfOk result (λ made. (sets : List (List declared_name.Name)) → All (IsHeldHidden names.now sets) between.now → All (All (IsHeldHidden names.now sets)) made.items) }
+    ensures is { IfOk result (λ made. (sets : List (List declared_name.Name)) → seen_arguments names.now sets made.items
+        ≡ model.parted commas 0 (seen_list names.now sets between.now)) }
+    ensures own { IfOk result (λ made. (sets : List (List declared_name.Name)) → All (IsHeldHidden names.now sets) between.now
+        → All (All (IsHeldHidden names.now sets)) made.items) }
 {
     let mut parting = Parting {
         arguments: Vec::new(alloc),
@@ -132,7 +136,8 @@ impl Parting {
         requires deep { self.old.depth + 1 < 2 ^ 64 }
         ensures next { IfOk result (λ next. (index < next) × (next ≤ length between.now)) }
         ensures is { IfOk result (λ next. (sets : List (List declared_name.Name))
-            → parted_with names.now sets between.now index self.old (seen_list names.now sets (drop index between.now)) ≡ parted_with names.now sets between.now next self.new (seen_list names.now sets (drop next between.now))) }
+            → parted_with names.now sets between.now index self.old (seen_list names.now sets (drop index between.now))
+            ≡ parted_with names.now sets between.now next self.new (seen_list names.now sets (drop next between.now))) }
         ensures own { OnOk result ((sets : List (List declared_name.Name)) → All (IsHeldHidden names.now sets) between.now
             → All (All (IsHeldHidden names.now sets)) self.old.arguments.items → All (All (IsHeldHidden names.now sets)) self.new.arguments.items) }
         ensures begin { IfOk result (λ next. self.new.begin ≤ next) }
@@ -157,8 +162,10 @@ impl Parting {
         requires begin { self.old.begin ≤ index }
         requires names { All (λ h. h.token.spelling.0 < length names.now) between.now }
         requires deep { self.old.depth + 1 < 2 ^ 64 }
-        ensures is { OnOk result ((sets : List (List declared_name.Name)) (next : declared_hidden.Hidden) (rest : List (hidden.Hidden declared_place.Place)) → slice_get between.now index ≡ Some next
-            → parted_with names.now sets between.now index self.old (seen_hidden names.now sets next ∷ rest) ≡ parted_with names.now sets between.now (index + 1) self.new rest) }
+        ensures is { OnOk result ((sets : List (List declared_name.Name)) (next : declared_hidden.Hidden) (rest : List (hidden.Hidden declared_place.Place))
+            → slice_get between.now index ≡ Some next
+            → parted_with names.now sets between.now index self.old (seen_hidden names.now sets next ∷ rest)
+            ≡ parted_with names.now sets between.now (index + 1) self.new rest) }
         ensures own { OnOk result ((sets : List (List declared_name.Name)) → All (IsHeldHidden names.now sets) between.now
             → All (All (IsHeldHidden names.now sets)) self.old.arguments.items → All (All (IsHeldHidden names.now sets)) self.new.arguments.items) }
         ensures begin { OnOk result (self.new.begin ≤ index + 1) }
@@ -182,7 +189,8 @@ impl Parting {
     /// The arguments, once all tokens were taken.
     fn finish(self, between: &Tokens) -> Result<Vec<Tokens>, OutOfMemory>
         requires { self.begin ≤ length between.now }
-        ensures is { IfOk result (λ made. (names : List (List ℕ)) (sets : List (List declared_name.Name)) → seen_arguments names sets made.items ≡ parted_with names sets between.now (length between.now) self []) }
+        ensures is { IfOk result (λ made. (names : List (List ℕ)) (sets : List (List declared_name.Name)) → seen_arguments names sets made.items
+            ≡ parted_with names sets between.now (length between.now) self []) }
         ensures own { IfOk result (λ made. (names : List (List ℕ)) (sets : List (List declared_name.Name)) → All (IsHeldHidden names sets) between.now
             → All (All (IsHeldHidden names sets)) self.arguments.items → All (All (IsHeldHidden names sets)) made.items) }
     {

@@ -44,12 +44,15 @@ fn template_of(
     requires form { IsHeldForm names.old form.now }
     requires items { All (IsHeldItem names.old) items.now }
     requires raw { AreHeldArguments names.old sets.old raw.now }
-    ensures some { IfOk result (λ made. IfSome made (λ template. Lasting names.new sets.new (λ names sets. IsTemplateOf names sets (seen_form names form.now) (map (seen_item names) items.now)
+    ensures some { IfOk result (λ made. IfSome made (λ template. Lasting names.new sets.new
+        (λ names sets. IsTemplateOf names sets (seen_form names form.now) (map (seen_item names) items.now)
         (seen_arguments names sets raw.now) place template))) }
-    ensures held { IfOk result (λ made. IfSome made (λ template. (s : Sets) (files : ℕ) → place.file.0 < files → All (All (λ h. h.token.place.file.0 < files)) raw.now
+    ensures held { IfOk result (λ made. IfSome made (λ template. (s : Sets) (files : ℕ) → place.file.0 < files
+        → All (All (λ h. h.token.place.file.0 < files)) raw.now
         → IsHeldTemplate (stores s names.new sets.new) files template)) }
     ensures none { IfOk result (λ made. IfNone made (Lasting names.new sets.new (λ names sets. (head : model.Hidden declared_place.Place) → head.place ≡ place
-        → slots head (seen_arguments names sets raw.now) (parts (seen_form names form.now) neither (map (seen_item names) items.now)) ≡ Err (failure_at BadStringize head)))) }
+        → slots head (seen_arguments names sets raw.now) (parts (seen_form names form.now) neither (map (seen_item names) items.now))
+        ≡ Err (failure_at BadStringize head)))) }
 
     // at every outcome
     ensures names { Extends names.old names.new }
@@ -110,8 +113,10 @@ fn wanted_of_list(
 ) -> Result<Vec<Wanted>, OutOfMemory>
     requires form { IsHeldForm names.now form.now }
     requires items { All (IsHeldItem names.now) items.now }
-    ensures is { IfOk result (λ made. map tokens_of (reverse made.items) ≡ map (with_argument raw.now) (wanted_of (seen_form names.now form.now) (map (seen_item names.now) items.now))) }
-    ensures own { IfOk result (λ made. (st : Stores) (files : ℕ) → All (All (IsHeldToken st files)) raw.now → All (λ w. All (IsHeldToken st files) w.tokens) made.items) }
+    ensures is { IfOk result (λ made. map tokens_of (reverse made.items)
+        ≡ map (with_argument raw.now) (wanted_of (seen_form names.now form.now) (map (seen_item names.now) items.now))) }
+    ensures own { IfOk result (λ made. (st : Stores) (files : ℕ) → All (All (IsHeldToken st files)) raw.now
+        → All (λ w. All (IsHeldToken st files) w.tokens) made.items) }
 {
     let parameters = expanded_parameters(alloc, names, form, items)?;
     let wanted = wanted_arguments(alloc, &parameters, raw)?;
@@ -125,7 +130,8 @@ fn wanted_arguments(
     raw: &[Tokens],
 ) -> Result<Vec<Wanted>, OutOfMemory>
     ensures is { IfOk result (λ made. map tokens_of (reverse made.items) ≡ map (with_argument raw.now) wanted.now) }
-    ensures own { IfOk result (λ made. (st : Stores) (files : ℕ) → All (All (IsHeldToken st files)) raw.now → All (λ w. All (IsHeldToken st files) w.tokens) made.items) }
+    ensures own { IfOk result (λ made. (st : Stores) (files : ℕ) → All (All (IsHeldToken st files)) raw.now
+        → All (λ w. All (IsHeldToken st files) w.tokens) made.items) }
 {
     let mut made = Vec::new(alloc);
     for index in (0..wanted.len()).rev() {
@@ -227,7 +233,8 @@ pub fn take_out<C: Conditions>(
         → has_first (C.sets conds.new) list.new c ≡ false) }
     ensures rest { OnOk result ((c : List ℕ) → IsConfig (C.sets conds.old).arities c → HasLast (C.sets conds.old) (C.sets conds.new) list.old list.new c) }
     ensures own { OnOk result (All (λ item. IsCond (C.sets conds.new) item.0.0) list.new) }
-    ensures alike { OnOk result ((c d : List ℕ) (first : ℕ) → IsConfig (C.sets conds.old).arities c → IsConfig (C.sets conds.old).arities d → IsAlike (C.sets conds.old) c d cond
+    ensures alike { OnOk result ((c d : List ℕ) (first : ℕ) → IsConfig (C.sets conds.old).arities c → IsConfig (C.sets conds.old).arities d
+        → IsAlike (C.sets conds.old) c d cond
         → AreAlike (C.sets conds.old) c d (take first list.old) → AreAlike (C.sets conds.new) c d (take first list.new)) }
 
     // at every outcome
@@ -257,11 +264,13 @@ pub fn begin_call(
     requires head { IsHeldHidden names.old sets.old head }
     requires close { IsHeldHidden names.old sets.old close }
     requires raw { AreHeldArguments names.old sets.old raw.now }
-    ensures some { IfOk result (λ made. IfSome made (λ call. Begins names.new sets.new (seen_form names.new form.now) (map (seen_item names.new) items.now) cond head close raw.now call)) }
+    ensures some { IfOk result (λ made. IfSome made
+        (λ call. Begins names.new sets.new (seen_form names.new form.now) (map (seen_item names.new) items.now) cond head close raw.now call)) }
     ensures held { IfOk result (λ made. IfSome made (λ call. (s : Sets) (files : ℕ) → IsCond s cond.0 → IsHeldToken (stores s names.old sets.old) files head
         → All (All (IsHeldToken (stores s names.old sets.old) files)) raw.now → IsHeldCall (stores s names.new sets.new) files call)) }
     ensures none { IfOk result (λ made. IfNone made ((at : model.Hidden declared_place.Place) → at.place ≡ head.token.place
-        → slots at (seen_arguments names.new sets.new raw.now) (parts (seen_form names.new form.now) neither (map (seen_item names.new) items.now)) ≡ Err (failure_at BadStringize at))) }
+        → slots at (seen_arguments names.new sets.new raw.now) (parts (seen_form names.new form.now) neither (map (seen_item names.new) items.now))
+        ≡ Err (failure_at BadStringize at))) }
 
     // at every outcome
     ensures names { Extends names.old names.new }

@@ -44,22 +44,28 @@ pub fn expand<C: Conditions>(
     requires placed { All (λ item. item.1.place.file.0 < length files.now) list.now }
     requires live_own { IsCond (C.sets conds.old) live.0 }
     ensures expands { IfOk result (λ e. (c : List ℕ) → IsConfig (C.sets conds.old).arities c → (C.sets conds.old).has live.0 c ≡ true
-        → IsExpanded (C.sets conds.new) names.new files.now e (macros_at (C.sets conds.old) names.old table.now c) (map (seen names.old files.now) (items_at (C.sets conds.old) list.now c)) c) }
-    ensures others { IfOk result (λ e. (c : List ℕ) → IsConfig (C.sets conds.old).arities c → (C.sets conds.old).has live.0 c ≡ false → IsEmpty (C.sets conds.new) e c) }
+        → IsExpanded (C.sets conds.new) names.new files.now e (macros_at (C.sets conds.old) names.old table.now c)
+        (map (seen names.old files.now) (items_at (C.sets conds.old) list.now c)) c) }
+    ensures others { IfOk result (λ e. (c : List ℕ) → IsConfig (C.sets conds.old).arities c → (C.sets conds.old).has live.0 c ≡ false
+        → IsEmpty (C.sets conds.new) e c) }
     ensures held { IfOk result (IsHeldAnswer (C.sets conds.new) names.new (length files.now)) }
     ensures some { IfOk result (λ e. All (λ item. IsNever (C.sets conds.new) item.0.0 → ⊥) e.list) }
     ensures unchanged { IfOk result (λ e. DefinesNone (C.sets conds.old) names.old (macros_at (C.sets conds.old) names.old table.now) live.0 list.now
         → IsRestricted (C.sets conds.new) live.0 list.now e.list × (e.faults.items ≡ [])) }
-    ensures stops { IfErr result (StopsAtName (λ t. unhidden (seen names.old files.now t)) place_alone (macros_at (C.sets conds.old) names.old table.now) (C.sets conds.old) live.0 list.now limit) }
-    ensures alike { IfOk result (λ e. (c d : List ℕ) → IsConfig (C.sets conds.old).arities c → IsConfig (C.sets conds.old).arities d → (C.sets conds.old).has live.0 c ≡ true → (C.sets conds.old).has live.0 d ≡ true → AreAlike (C.sets conds.old) c d list.now
-        → DefineTextAlike (macros_at (C.sets conds.old) names.old table.now c) (macros_at (C.sets conds.old) names.old table.now d) (map (seen names.old files.now) (items_at (C.sets conds.old) list.now c))
+    ensures stops { IfErr result (StopsAtName (λ t. unhidden (seen names.old files.now t)) place_alone (macros_at (C.sets conds.old) names.old table.now)
+        (C.sets conds.old) live.0 list.now limit) }
+    ensures alike { IfOk result (λ e. (c d : List ℕ) → IsConfig (C.sets conds.old).arities c → IsConfig (C.sets conds.old).arities d
+        → (C.sets conds.old).has live.0 c ≡ true → (C.sets conds.old).has live.0 d ≡ true → AreAlike (C.sets conds.old) c d list.now
+        → DefineTextAlike (macros_at (C.sets conds.old) names.old table.now c) (macros_at (C.sets conds.old) names.old table.now d)
+        (map (seen names.old files.now) (items_at (C.sets conds.old) list.now c))
         → AreAlike (C.sets conds.new) c d e.list × AreAlikeFaults (C.sets conds.new) c d e.faults.items) }
 
     // at every outcome
     ensures keeps { Keeps (C.sets conds.old) (C.sets conds.new) }
     ensures names { Extends names.old names.new }
     ensures table { IsTable (C.sets conds.new) names.new table.now }
-    ensures still { (c text : List ℕ) → IsConfig (C.sets conds.old).arities c → macros_at (C.sets conds.new) names.new table.now c text ≡ macros_at (C.sets conds.old) names.old table.now c text }
+    ensures still { (c text : List ℕ) → IsConfig (C.sets conds.old).arities c → macros_at (C.sets conds.new) names.new table.now c text
+        ≡ macros_at (C.sets conds.old) names.old table.now c text }
 {
     let mut expansion = started(alloc, list, live)?;
     expansion.run(conds, table, names, files, limit)?;
@@ -73,7 +79,8 @@ fn started(alloc: Global, list: &Guarded<Token>, live: Cond) -> Result<Expansion
     ensures live { IfOk result (λ e. e.refusals.live ≡ live) }
     ensures tokens { IfOk result (λ e. map (λ item. (item.0, item.1.token)) e.top.work ≡ list.now) }
     ensures unhidden { IfOk result (λ e. All (λ item. set_at e.sets item.1.hide.0 ≡ []) e.top.work) }
-    ensures held { IfOk result (λ e. (names : List (List ℕ)) → All (λ item. IsHeld names item.1) list.now → All (λ item. IsHeldHidden names e.sets item.1) e.top.work) }
+    ensures held { IfOk result (λ e. (names : List (List ℕ)) → All (λ item. IsHeld names item.1) list.now
+        → All (λ item. IsHeldHidden names e.sets item.1) e.top.work) }
 {
     let sets = HideSets::new(alloc)?;
     let items = unhidden(alloc, &sets, list)?;
@@ -101,7 +108,8 @@ fn unhidden(
 ) -> Result<Vec<(Cond, Hidden)>, OutOfMemory>
     ensures tokens { IfOk result (λ made. map (λ item. (item.0, item.1.token)) made.items ≡ list.now) }
     ensures unhidden { IfOk result (λ made. All (λ item. set_at sets.now item.1.hide.0 ≡ []) made.items) }
-    ensures held { IfOk result (λ made. (names : List (List ℕ)) → All (λ item. IsHeld names item.1) list.now → All (λ item. IsHeldHidden names sets.now item.1) made.items) }
+    ensures held { IfOk result (λ made. (names : List (List ℕ)) → All (λ item. IsHeld names item.1) list.now
+        → All (λ item. IsHeldHidden names sets.now item.1) made.items) }
 {
     let mut items = Vec::new(alloc);
     for index in 0..list.len() {

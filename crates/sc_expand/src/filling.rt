@@ -104,7 +104,8 @@ fn put_part<C: Conditions>(
     requires expanded_own { All (All (λ item. IsCond (C.sets conds.old) item.0.0)) expanded.now }
     requires cond_own { IsCond (C.sets conds.old) cond.0 }
     ensures adds { OnOk result (Adds (C.sets conds.old) (C.sets conds.new) made.old made.new
-        (λ c. part_at (C.sets conds.old) expanded.now ((C.sets conds.old).has cond.0 c) c part) (λ st files. IsHeldPartIn st files part × All (AllHeld st files) expanded.now)
+        (λ c. part_at (C.sets conds.old) expanded.now ((C.sets conds.old).has cond.0 c) c part)
+        (λ st files. IsHeldPartIn st files part × All (AllHeld st files) expanded.now)
         (λ c d. All (AreAlike (C.sets conds.old) c d) expanded.now × IsAlike (C.sets conds.old) c d cond)) }
 
     // at every outcome
@@ -134,7 +135,8 @@ fn put_parts<C: Conditions>(
     requires expanded_own { All (All (λ item. IsCond (C.sets conds.old) item.0.0)) expanded.now }
     requires cond_own { IsCond (C.sets conds.old) cond.0 }
     ensures adds { IfOk result (λ made. Adds (C.sets conds.old) (C.sets conds.new) [] made
-        (λ c. parts_at (C.sets conds.old) expanded.now ((C.sets conds.old).has cond.0 c) c parts.now) (λ st files. All (IsHeldPartIn st files) parts.now × All (AllHeld st files) expanded.now)
+        (λ c. parts_at (C.sets conds.old) expanded.now ((C.sets conds.old).has cond.0 c) c parts.now)
+        (λ st files. All (IsHeldPartIn st files) parts.now × All (AllHeld st files) expanded.now)
         (λ c d. All (AreAlike (C.sets conds.old) c d) expanded.now × IsAlike (C.sets conds.old) c d cond)) }
 
     // at every outcome
@@ -210,18 +212,21 @@ pub fn fill<C: Conditions>(
     parts: &[Part],
     call: &Call,
 ) -> Result<Vec<(Cond, Hidden)>, OutOfMemory>
-    requires held { (files : ℕ) × (All (IsHeldPartIn (stores (C.sets conds.old) names.now sets.old) files) parts.now × IsHeldCall (stores (C.sets conds.old) names.now sets.old) files call.now) }
+    requires held { (files : ℕ) × (All (IsHeldPartIn (stores (C.sets conds.old) names.now sets.old) files) parts.now
+        × IsHeldCall (stores (C.sets conds.old) names.now sets.old) files call.now) }
 
     // In the configurations of the call the template with its arguments put in, elsewhere nothing.
     ensures is { IfOk result (λ made. (c : List ℕ) → IsConfig (C.sets conds.old).arities c → (C.sets conds.old).has call.now.cond.0 c ≡ true
         → seen_at (stores (C.sets conds.new) names.now sets.new) made.items c
         ≡ hiding (provenance_of []) (hide_at names.now sets.old call.now.hide.0) (with_space call.now.head.token.space
-        (filled_in (map (λ list. seen_at (stores (C.sets conds.old) names.now sets.old) list c) call.now.expanded.items) (map (seen_part names.now sets.old) parts.now)))) }
+        (filled_in (map (λ list. seen_at (stores (C.sets conds.old) names.now sets.old) list c) call.now.expanded.items)
+        (map (seen_part names.now sets.old) parts.now)))) }
     ensures none { IfOk result (λ made. (c : List ℕ) → IsConfig (C.sets conds.old).arities c → (C.sets conds.old).has call.now.cond.0 c ≡ false
         → seen_at (stores (C.sets conds.new) names.now sets.new) made.items c ≡ []) }
     ensures held { IfOk result (λ made. (files : ℕ) → All (IsHeldPartIn (stores (C.sets conds.old) names.now sets.old) files) parts.now
         → IsHeldCall (stores (C.sets conds.old) names.now sets.old) files call.now → AreHeld (stores (C.sets conds.new) names.now sets.new) files made.items) }
-    ensures alike { IfOk result (λ made. (c d : List ℕ) → IsConfig (C.sets conds.old).arities c → IsConfig (C.sets conds.old).arities d → IsAlikeCall (C.sets conds.old) c d call.now → AreAlike (C.sets conds.new) c d made.items) }
+    ensures alike { IfOk result (λ made. (c d : List ℕ) → IsConfig (C.sets conds.old).arities c → IsConfig (C.sets conds.old).arities d
+        → IsAlikeCall (C.sets conds.old) c d call.now → AreAlike (C.sets conds.new) c d made.items) }
 
     // at every outcome
     ensures keeps { Keeps (C.sets conds.old) (C.sets conds.new) }

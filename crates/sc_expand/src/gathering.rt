@@ -41,17 +41,21 @@ impl Expansion {
         requires held { IsHeldExpansion (stores (C.sets conds.old) names.old self.old.sets) (length files.now) self.old }
         requires cond_own { IsCond (C.sets conds.old) cond.0 }
         requires head { slice_get (map (λ item. item.1) self.old.top.work) 0 ≡ Some head }
-        requires stands { (c : List ℕ) → IsConfig (C.sets conds.old).arities c → (C.sets conds.old).has cond.0 c ≡ true → has_first (C.sets conds.old) self.old.top.work c ≡ true }
+        requires stands { (c : List ℕ) → IsConfig (C.sets conds.old).arities c → (C.sets conds.old).has cond.0 c ≡ true
+            → has_first (C.sets conds.old) self.old.top.work c ≡ true }
         requires definition { IsHeldDefinition names.old definition.now }
         requires function { IsTrue (is_function_like (seen_definition names.old definition.now).form) }
         requires first { (c : List ℕ) → IsConfig (C.sets conds.old).arities c → (C.sets conds.old).has cond.0 c ≡ true
-            → (rest : List (model.Hidden Place)) × ((at (stores (C.sets conds.old) names.old self.old.sets) self.old c).view.work ≡ seen_hidden names.old self.old.sets head ∷ rest) }
-        requires live { (c : List ℕ) → IsConfig (C.sets conds.old).arities c → (C.sets conds.old).has cond.0 c ≡ true → (C.sets conds.old).has self.old.refusals.live.0 c ≡ true }
+            → (rest : List (model.Hidden Place)) × ((at (stores (C.sets conds.old) names.old self.old.sets) self.old c).view.work
+            ≡ seen_hidden names.old self.old.sets head ∷ rest) }
+        requires live { (c : List ℕ) → IsConfig (C.sets conds.old).arities c → (C.sets conds.old).has cond.0 c ≡ true
+            → (C.sets conds.old).has self.old.refusals.live.0 c ≡ true }
         requires calls { (c : List ℕ) → IsConfig (C.sets conds.old).arities c → (C.sets conds.old).has cond.0 c ≡ true
             → (at (stores (C.sets conds.old) names.old self.old.sets) self.old c).view.calls ≡ [] }
         ensures held { OnOk result (IsHeldExpansion (stores (C.sets conds.new) names.new self.new.sets) (length files.now) self.new) }
         ensures lists { OnOk result (KeepsLists self.old self.new) }
-        ensures gathered { IfOk result (λ uncalled. IsGathered files.now (stores (C.sets conds.old) names.old self.old.sets) (stores (C.sets conds.new) names.new self.new.sets)
+        ensures gathered { IfOk result (λ uncalled. IsGathered files.now (stores (C.sets conds.old) names.old self.old.sets)
+            (stores (C.sets conds.new) names.new self.new.sets)
             self.old self.new cond.0 uncalled.0 definition.now head) }
         ensures stops { IfErr result (StopsAt (C.sets conds.old) names.old (λ c. (C.sets conds.old).has cond.0 c ≡ true) self.old.top.work limit) }
 

@@ -30,7 +30,8 @@ pub fn steps_end<P>()
 /// Tables that define the names alike that the expansion of a list looks up make the same steps of
 /// it.
 pub fn steps_depend_on_the_names_looked_up<P>()
-    ensures { (provenance : Provenance P) (one two : Macros) (names : List (List ℕ)) → IsWithin names one → (list : List (Hidden P)) (r : Result (List (Hidden P)) (Failure P))
+    ensures { (provenance : Provenance P) (one two : Macros) (names : List (List ℕ)) → IsWithin names one
+        → (list : List (Hidden P)) (r : Result (List (Hidden P)) (Failure P))
         (d : Expands provenance one list r) → Agree one two (trace d).looked_up → (s : State P)
         → Leads provenance one (scanning [] list) s → Leads provenance two (scanning [] list) s }
 {}
@@ -39,8 +40,10 @@ pub fn steps_depend_on_the_names_looked_up<P>()
 /// take what its footprint says: where they come to what they leave, the footprint leaves as many
 /// tokens and has not failed, and where they fail it has.
 pub fn steps_take_the_footprint<P>()
-    ensures ends { (provenance : Provenance P) (macros : Macros) (names : List (List ℕ)) → IsWithin names macros → (t : Hidden P) (rest : List (Hidden P)) (r : Result (List (Hidden P)) (Failure P))
-        (d : Expands provenance macros (t ∷ rest) r) → (out work : List (Hidden P)) (left : ℕ) → LeadsUntil provenance macros (scanning [] (t ∷ rest)) (length rest) (scanning out work) left
+    ensures ends { (provenance : Provenance P) (macros : Macros) (names : List (List ℕ)) → IsWithin names macros
+        → (t : Hidden P) (rest : List (Hidden P)) (r : Result (List (Hidden P)) (Failure P))
+        (d : Expands provenance macros (t ∷ rest) r) → (out work : List (Hidden P)) (left : ℕ)
+        → LeadsUntil provenance macros (scanning [] (t ∷ rest)) (length rest) (scanning out work) left
         → length work ≤ left → ((footprint d).left ≡ length work) × ((footprint d).fails ≡ false) }
     ensures fails { (provenance : Provenance P) (macros : Macros) (t : Hidden P) (rest : List (Hidden P)) (r : Result (List (Hidden P)) (Failure P))
         (d : Expands provenance macros (t ∷ rest) r) → (s : State P) (left : ℕ) → LeadsUntil provenance macros (scanning [] (t ∷ rest)) (length rest) s left
@@ -49,15 +52,18 @@ pub fn steps_take_the_footprint<P>()
 
 /// What a list expands to does not depend on what is kept of the places of its tokens.
 pub fn expansion_commutes_with_maps_of_places<P, Q>()
-    ensures { (one : Provenance P) (two : Provenance Q) (f : P → Q) → IsKept one two f → (macros : Macros) (ts : List (Hidden P)) (r : Result (List (Hidden P)) (Failure P))
+    ensures { (one : Provenance P) (two : Provenance Q) (f : P → Q) → IsKept one two f
+        → (macros : Macros) (ts : List (Hidden P)) (r : Result (List (Hidden P)) (Failure P))
         → Expands one macros ts r → Expands two macros (map (moved f) ts) (moved_answer f r) }
 {}
 
 /// Where the tokens of a list, the names of their files and the macros' lists have no newline in
 /// them, what the list expands to has none.
 pub fn expansion_stays_on_one_line<P>()
-    ensures list { (provenance : Provenance P) → IsInPlace provenance → (macros : Macros) → AreOneLine macros → (list out : List (Hidden P)) → All (IsOneLine provenance) list
+    ensures list { (provenance : Provenance P) → IsInPlace provenance → (macros : Macros) → AreOneLine macros → (list out : List (Hidden P))
+        → All (IsOneLine provenance) list
         → Expands provenance macros list (Ok out) → All (IsOneLine provenance) out }
-    ensures text { (macros : Macros) → AreOneLine macros → (text output : List Token) → All (λ t. has_no_newline t.spelling ≡ true) text → All (λ t. has_no_newline t.place.file ≡ true) text
+    ensures text { (macros : Macros) → AreOneLine macros → (text output : List Token) → All (λ t. has_no_newline t.spelling ≡ true) text
+        → All (λ t. has_no_newline t.place.file ≡ true) text
         → TextExpands macros text (Ok output) → All (λ t. has_no_newline t.spelling ≡ true) output }
 {}

@@ -33,16 +33,21 @@ impl Expansion {
         requires table { IsTable (C.sets conds.old) names.old table.now }
         ensures held { OnOk result (IsHeldExpansion (stores (C.sets conds.new) names.new self.new.sets) (length files.now) self.new) }
         ensures done { OnOk result ((c : List ℕ) → IsConfig (C.sets conds.old).arities c
-            → IsDone (provenance_of files.now) (macros_at (C.sets conds.old) names.old table.now c) (seen_at (stores (C.sets conds.old) names.old self.old.sets) self.old.top.work c)
+            → IsDone (provenance_of files.now) (macros_at (C.sets conds.old) names.old table.now c)
+            (seen_at (stores (C.sets conds.old) names.old self.old.sets) self.old.top.work c)
             (seen_at (stores (C.sets conds.new) names.new self.new.sets) self.new.top.out c) (failures_at (C.sets conds.new) self.new.refusals.faults.items c)
             ((C.sets conds.old).has self.old.refusals.live.0 c)) }
-        ensures out { OnOk result (PutsOut (stores (C.sets conds.old) names.old self.old.sets) (stores (C.sets conds.new) names.new self.new.sets) self.old.refusals.live.0 self.old.top.out self.new.top.out) }
+        ensures out { OnOk result (PutsOut (stores (C.sets conds.old) names.old self.old.sets)
+            (stores (C.sets conds.new) names.new self.new.sets) self.old.refusals.live.0 self.old.top.out self.new.top.out) }
         ensures unchanged { OnOk result (LooksUpNone (C.sets conds.old) names.old (macros_at (C.sets conds.old) names.old table.now) self.old
             → IsRestricted (C.sets conds.new) self.old.refusals.live.0 self.old.top.work self.new.top.out × (self.new.refusals ≡ self.old.refusals)) }
-        ensures stops { IfErr result (StopsAtName (seen_hidden names.old self.old.sets) (provenance_of files.now) (macros_at (C.sets conds.old) names.old table.now) (C.sets conds.old)
+        ensures stops { IfErr result (StopsAtName (seen_hidden names.old self.old.sets) (provenance_of files.now)
+            (macros_at (C.sets conds.old) names.old table.now) (C.sets conds.old)
             self.old.refusals.live.0 self.old.top.work limit) }
-        ensures alike { OnOk result ((c d : List ℕ) → IsConfig (C.sets conds.old).arities c → IsConfig (C.sets conds.old).arities d → (C.sets conds.old).has self.old.refusals.live.0 c ≡ true
-            → DefineAlike (provenance_of files.now) (macros_at (C.sets conds.old) names.old table.now c) (macros_at (C.sets conds.old) names.old table.now d) (seen_at (stores (C.sets conds.old) names.old self.old.sets) self.old.top.work c)
+        ensures alike { OnOk result ((c d : List ℕ) → IsConfig (C.sets conds.old).arities c → IsConfig (C.sets conds.old).arities d
+            → (C.sets conds.old).has self.old.refusals.live.0 c ≡ true
+            → DefineAlike (provenance_of files.now) (macros_at (C.sets conds.old) names.old table.now c) (macros_at (C.sets conds.old) names.old table.now d)
+            (seen_at (stores (C.sets conds.old) names.old self.old.sets) self.old.top.work c)
             → IsAlikeExpansion (C.sets conds.old) c d no_others self.old → IsAlikeExpansion (C.sets conds.new) c d no_others self.new) }
 
         // at every outcome
@@ -73,7 +78,9 @@ impl Expansion {
         requires ready { IsReady (C.sets conds.old) self.old }
         ensures turned { IfOk result (IsTurned files.now (macros_at (C.sets conds.old) names.old table.now)
             (stores (C.sets conds.old) names.old self.old.sets) (stores (C.sets conds.new) names.new self.new.sets) self.old self.new) }
-        ensures stops { IfErr result (StopsAt (C.sets conds.old) names.old (λ c. TakesName (stores (C.sets conds.old) names.old self.old.sets) (macros_at (C.sets conds.old) names.old table.now c) self.old c) self.old.top.work limit) }
+        ensures stops { IfErr result (StopsAt (C.sets conds.old) names.old
+            (λ c. TakesName (stores (C.sets conds.old) names.old self.old.sets)
+            (macros_at (C.sets conds.old) names.old table.now c) self.old c) self.old.top.work limit) }
 
         // at every outcome
         ensures keeps { Keeps (C.sets conds.old) (C.sets conds.new) }
@@ -98,7 +105,8 @@ impl Expansion {
     /// Drops the calls, first tokens and finished arguments that only refused configurations have.
     fn drop_refused<C: Conditions>(&mut self, conds: &mut C) -> Result<(), OutOfMemory>
         requires held { (names : List (List ℕ)) × ((files : ℕ) × IsHeldExpansion (stores (C.sets conds.old) names self.old.sets) files self.old) }
-        ensures rested { OnOk result ((names : List (List ℕ)) → IsRested (stores (C.sets conds.old) names self.old.sets) (stores (C.sets conds.new) names self.new.sets) self.old self.new) }
+        ensures rested { OnOk result ((names : List (List ℕ))
+            → IsRested (stores (C.sets conds.old) names self.old.sets) (stores (C.sets conds.new) names self.new.sets) self.old self.new) }
         ensures ready { OnOk result (IsReady (C.sets conds.new) self.new) }
 
         // at every outcome
@@ -115,7 +123,8 @@ impl Expansion {
     /// call's arguments expand.
     fn drop_first_tokens<C: Conditions>(&mut self, conds: &mut C) -> Result<(), OutOfMemory>
         requires held { (names : List (List ℕ)) × ((files : ℕ) × IsHeldExpansion (stores (C.sets conds.old) names self.old.sets) files self.old) }
-        ensures rested { OnOk result ((names : List (List ℕ)) → IsRested (stores (C.sets conds.old) names self.old.sets) (stores (C.sets conds.new) names self.new.sets) self.old self.new) }
+        ensures rested { OnOk result ((names : List (List ℕ))
+            → IsRested (stores (C.sets conds.old) names self.old.sets) (stores (C.sets conds.new) names self.new.sets) self.old self.new) }
 
         // at every outcome
         ensures keeps { Keeps (C.sets conds.old) (C.sets conds.new) }
@@ -133,7 +142,8 @@ impl Expansion {
     /// restricted with it, and says whether it did.
     fn drop_first_token<C: Conditions>(&mut self, conds: &mut C) -> Result<bool, OutOfMemory>
         requires held { (names : List (List ℕ)) × ((files : ℕ) × IsHeldExpansion (stores (C.sets conds.old) names self.old.sets) files self.old) }
-        ensures rested { OnOk result ((names : List (List ℕ)) → IsRested (stores (C.sets conds.old) names self.old.sets) (stores (C.sets conds.new) names self.new.sets) self.old self.new) }
+        ensures rested { OnOk result ((names : List (List ℕ))
+            → IsRested (stores (C.sets conds.old) names self.old.sets) (stores (C.sets conds.new) names self.new.sets) self.old self.new) }
         ensures less { IfOk result (λ dropped. OnTrue dropped (length self.new.top.work < length self.old.top.work)) }
 
         // at every outcome
@@ -155,7 +165,8 @@ impl Expansion {
     /// Drops what the next turns would take, as long as only refused configurations have it.
     fn drop_turns<C: Conditions>(&mut self, conds: &mut C) -> Result<(), OutOfMemory>
         requires held { (names : List (List ℕ)) × ((files : ℕ) × IsHeldExpansion (stores (C.sets conds.old) names self.old.sets) files self.old) }
-        ensures rested { OnOk result ((names : List (List ℕ)) → IsRested (stores (C.sets conds.old) names self.old.sets) (stores (C.sets conds.new) names self.new.sets) self.old self.new) }
+        ensures rested { OnOk result ((names : List (List ℕ))
+            → IsRested (stores (C.sets conds.old) names self.old.sets) (stores (C.sets conds.new) names self.new.sets) self.old self.new) }
         ensures ready { OnOk result (IsReady (C.sets conds.new) self.new) }
 
         // at every outcome
@@ -174,7 +185,8 @@ impl Expansion {
     /// whether it did.
     fn drop_one<C: Conditions>(&mut self, conds: &mut C) -> Result<bool, OutOfMemory>
         requires held { (names : List (List ℕ)) × ((files : ℕ) × IsHeldExpansion (stores (C.sets conds.old) names self.old.sets) files self.old) }
-        ensures rested { OnOk result ((names : List (List ℕ)) → IsRested (stores (C.sets conds.old) names self.old.sets) (stores (C.sets conds.new) names self.new.sets) self.old self.new) }
+        ensures rested { OnOk result ((names : List (List ℕ))
+            → IsRested (stores (C.sets conds.old) names self.old.sets) (stores (C.sets conds.new) names self.new.sets) self.old self.new) }
         ensures less { IfOk result (λ dropped. OnTrue dropped (weight self.new < weight self.old)) }
         ensures ready { IfOk result (λ dropped. OnFalse dropped (IsReady (C.sets conds.new) self.new)) }
 

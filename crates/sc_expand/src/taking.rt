@@ -58,7 +58,8 @@ impl Expansion {
         ensures taken { OnOk result (TakesFirst files.now (macros_at (C.sets conds.old) names.old table.now)
             (stores (C.sets conds.old) names.old self.old.sets) (stores (C.sets conds.new) names.new self.new.sets) self.old self.new has.0) }
         ensures stops { IfErr result (StopsAt (C.sets conds.old) names.old
-            (λ c. TakesName (stores (C.sets conds.old) names.old self.old.sets) (macros_at (C.sets conds.old) names.old table.now c) self.old c) self.old.top.work limit) }
+            (λ c. TakesName (stores (C.sets conds.old) names.old self.old.sets)
+            (macros_at (C.sets conds.old) names.old table.now c) self.old c) self.old.top.work limit) }
 
         // at every outcome
         ensures keeps { Keeps (C.sets conds.old) (C.sets conds.new) }
@@ -89,10 +90,12 @@ impl Expansion {
         requires table { IsTable (C.sets conds.old) names.old table.now }
         requires begun { (c : List ℕ) → IsConfig (C.sets conds.old).arities c → (C.sets conds.old).has cond.0 c ≡ true
             → IsBegun (seen_hidden names.old self.old.sets token) (untaken (stores (C.sets conds.old) names.old self.old.sets) self.old c) }
-        ensures takes { IfOk result (λ taken. Takes files.now (macros_at (C.sets conds.old) names.old table.now) (stores (C.sets conds.old) names.old self.old.sets) (stores (C.sets conds.new) names.new self.new.sets)
+        ensures takes { IfOk result (λ taken. Takes files.now (macros_at (C.sets conds.old) names.old table.now)
+            (stores (C.sets conds.old) names.old self.old.sets) (stores (C.sets conds.new) names.new self.new.sets)
             self.old self.new taken token cond.0) }
         ensures stops { IfErr result (StopsAt (C.sets conds.old) names.old (λ c. ((C.sets conds.old).has cond.0 c ≡ true)
-            × (expansion.is_looked_up (seen_hidden names.old self.old.sets token) ≡ true) × IsFunctionLike (macros_at (C.sets conds.old) names.old table.now c (text_of names.old token.token.spelling)))
+            × (expansion.is_looked_up (seen_hidden names.old self.old.sets token) ≡ true)
+            × IsFunctionLike (macros_at (C.sets conds.old) names.old table.now c (text_of names.old token.token.spelling)))
             self.old.top.work limit) }
 
         // at every outcome
@@ -128,10 +131,12 @@ impl Expansion {
         requires name { expansion.is_looked_up (seen_hidden names.old self.old.sets head) ≡ true }
         requires begun { (c : List ℕ) → IsConfig (C.sets conds.old).arities c → (C.sets conds.old).has cond.0 c ≡ true
             → IsBegun (seen_hidden names.old self.old.sets head) (untaken (stores (C.sets conds.old) names.old self.old.sets) self.old c) }
-        ensures takes { IfOk result (λ taken. Takes files.now (macros_at (C.sets conds.old) names.old table.now) (stores (C.sets conds.old) names.old self.old.sets) (stores (C.sets conds.new) names.new self.new.sets)
+        ensures takes { IfOk result (λ taken. Takes files.now (macros_at (C.sets conds.old) names.old table.now)
+            (stores (C.sets conds.old) names.old self.old.sets) (stores (C.sets conds.new) names.new self.new.sets)
             self.old self.new taken head cond.0) }
         ensures stops { IfErr result (StopsAt (C.sets conds.old) names.old (λ c. ((C.sets conds.old).has cond.0 c ≡ true)
-            × (expansion.is_looked_up (seen_hidden names.old self.old.sets head) ≡ true) × IsFunctionLike (macros_at (C.sets conds.old) names.old table.now c (text_of names.old head.token.spelling)))
+            × (expansion.is_looked_up (seen_hidden names.old self.old.sets head) ≡ true)
+            × IsFunctionLike (macros_at (C.sets conds.old) names.old table.now c (text_of names.old head.token.spelling)))
             self.old.top.work limit) }
 
         // at every outcome
@@ -162,10 +167,13 @@ impl Expansion {
         ensures work { OnOk result (self.new.top.work ≡ taken.now.made.items ++ drop 1 self.old.top.work) }
         ensures out { OnOk result ((names : List (List ℕ)) (c : List ℕ) → IsConfig (C.sets conds.now).arities c
             → seen_at (stores (C.sets conds.now) names self.old.sets) self.new.top.out c
-            ≡ seen_at (stores (C.sets conds.now) names self.old.sets) self.old.top.out c ++ (if (C.sets conds.now).has taken.now.stays.0 c then seen_hidden names self.old.sets token ∷ [] else [])) }
+            ≡ seen_at (stores (C.sets conds.now) names self.old.sets) self.old.top.out c
+            ++ (if (C.sets conds.now).has taken.now.stays.0 c then seen_hidden names self.old.sets token ∷ [] else [])) }
         ensures held { OnOk result ((names : List (List ℕ)) (files : ℕ) → IsHeldToken (stores (C.sets conds.now) names self.old.sets) files token
-            → AreHeld (stores (C.sets conds.now) names self.old.sets) files self.old.top.out → AreHeld (stores (C.sets conds.now) names self.old.sets) files self.new.top.out) }
-        ensures some { OnOk result (All (λ item. IsNever (C.sets conds.now) item.0.0 → ⊥) self.old.top.out → All (λ item. IsNever (C.sets conds.now) item.0.0 → ⊥) self.new.top.out) }
+            → AreHeld (stores (C.sets conds.now) names self.old.sets) files self.old.top.out
+            → AreHeld (stores (C.sets conds.now) names self.old.sets) files self.new.top.out) }
+        ensures some { OnOk result (All (λ item. IsNever (C.sets conds.now) item.0.0 → ⊥) self.old.top.out
+            → All (λ item. IsNever (C.sets conds.now) item.0.0 → ⊥) self.new.top.out) }
         ensures pushed { OnOk result (IsPushed (C.sets conds.now) taken.now.stays token self.old.top.out self.new.top.out) }
 
         // at every outcome
@@ -238,7 +246,8 @@ impl Expansion {
         ensures taken { OnOk result (IsTaken files.now (stores (C.sets conds.old) names.old self.old.sets) (stores (C.sets conds.new) names.new self.new.sets)
             self.old self.new taken.old taken.new head cond.0 (option_map (λ shared. seen_definition names.old shared.value) definition.now)) }
         ensures undefined { OnOk result (definition.now ≡ None → (self.new ≡ self.old) × (taken.new.made ≡ taken.old.made)) }
-        ensures stops { IfErr result (StopsAt (C.sets conds.old) names.old (λ c. ((C.sets conds.old).has cond.0 c ≡ true) × IsFunction names.old definition.now) self.old.top.work limit) }
+        ensures stops { IfErr result (StopsAt (C.sets conds.old) names.old
+            (λ c. ((C.sets conds.old).has cond.0 c ≡ true) × IsFunction names.old definition.now) self.old.top.work limit) }
 
         // at every outcome
         ensures keeps { Keeps (C.sets conds.old) (C.sets conds.new) }
@@ -280,7 +289,8 @@ impl Expansion {
         ensures taken { OnOk result (IsTaken files.now (stores (C.sets conds.old) names.old self.old.sets) (stores (C.sets conds.new) names.new self.new.sets)
             self.old self.new taken.old taken.new head cond.0 (Some (seen_definition names.old definition.now))) }
         ensures stops { IfErr result (StopsAt (C.sets conds.old) names.old
-            (λ c. ((C.sets conds.old).has cond.0 c ≡ true) × IsTrue (is_function_like (seen_definition names.old definition.now).form)) self.old.top.work limit) }
+            (λ c. ((C.sets conds.old).has cond.0 c ≡ true)
+            × IsTrue (is_function_like (seen_definition names.old definition.now).form)) self.old.top.work limit) }
 
         // at every outcome
         ensures keeps { Keeps (C.sets conds.old) (C.sets conds.new) }
@@ -346,9 +356,11 @@ fn push_token<C: Conditions>(
     ensures is { OnOk result ((names : List (List ℕ)) (sets : List (List declared_name.Name)) (c : List ℕ) → IsConfig (C.sets conds.now).arities c
         → seen_at (stores (C.sets conds.now) names sets) list.new c
         ≡ seen_at (stores (C.sets conds.now) names sets) list.old c ++ (if (C.sets conds.now).has cond.0 c then seen_hidden names sets token ∷ [] else [])) }
-    ensures held { OnOk result ((names : List (List ℕ)) (sets : List (List declared_name.Name)) (files : ℕ) → IsHeldToken (stores (C.sets conds.now) names sets) files token
+    ensures held { OnOk result ((names : List (List ℕ)) (sets : List (List declared_name.Name)) (files : ℕ)
+        → IsHeldToken (stores (C.sets conds.now) names sets) files token
         → AreHeld (stores (C.sets conds.now) names sets) files list.old → AreHeld (stores (C.sets conds.now) names sets) files list.new) }
-    ensures some { OnOk result (All (λ item. IsNever (C.sets conds.now) item.0.0 → ⊥) list.old → All (λ item. IsNever (C.sets conds.now) item.0.0 → ⊥) list.new) }
+    ensures some { OnOk result (All (λ item. IsNever (C.sets conds.now) item.0.0 → ⊥) list.old
+        → All (λ item. IsNever (C.sets conds.now) item.0.0 → ⊥) list.new) }
     ensures pushed { OnOk result (IsPushed (C.sets conds.now) cond token list.old list.new) }
 {
     if conds.is_never(cond) {
@@ -375,7 +387,8 @@ fn list_for(
         ≡ Ok (map (seen_hidden names.new sets.new) made.items)) }
     ensures own { IfOk result (λ made. All (IsHeldHidden names.new sets.new) made.items) }
     ensures placed { IfOk result (λ made. All (λ h. h.token.place ≡ head.token.place) made.items) }
-    ensures err { IfErr result (λ stop. OnFault stop (λ cause. object_result (provenance_of files.now) (seen_definition names.old definition.now) (seen_hidden names.old sets.old head)
+    ensures err { IfErr result (λ stop. OnFault stop
+        (λ cause. object_result (provenance_of files.now) (seen_definition names.old definition.now) (seen_hidden names.old sets.old head)
         ≡ Err (failure_at cause (seen_hidden names.old sets.old head)))) }
 
     // at every outcome
@@ -407,7 +420,8 @@ fn list_for(
 fn with_own_name(sets: &mut HideSets, names: &Names, head: Hidden) -> Result<Hide, OutOfMemory>
     requires { IsHeldHidden names.now sets.old head }
     ensures own { IfOk result (λ made. IsHeldSet names.now sets.new made.0) }
-    ensures joins { IfOk result (λ made. hide_at names.now sets.new made.0 ≡ with_name (hide_at names.now sets.old head.hide.0) (text_of names.now head.token.spelling)) }
+    ensures joins { IfOk result (λ made. hide_at names.now sets.new made.0
+        ≡ with_name (hide_at names.now sets.old head.hide.0) (text_of names.now head.token.spelling)) }
 
     // at every outcome
     ensures sets { Extends sets.old sets.new }

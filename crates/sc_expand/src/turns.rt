@@ -69,12 +69,15 @@ impl Expansion {
         names: &Names,
         call: Call,
     ) -> Result<(), OutOfMemory>
-        requires held { (files : ℕ) × (IsHeldExpansion (stores (C.sets conds.old) names.now self.old.sets) files self.old × IsHeldCall (stores (C.sets conds.old) names.now self.old.sets) files call) }
+        requires held { (files : ℕ) × (IsHeldExpansion (stores (C.sets conds.old) names.now self.old.sets) files self.old
+            × IsHeldCall (stores (C.sets conds.old) names.now self.old.sets) files call) }
         requires wanted { call.wanted.items ≡ [] }
-        requires live { (c : List ℕ) → IsConfig (C.sets conds.old).arities c → (C.sets conds.old).has call.cond.0 c ≡ true → (C.sets conds.old).has self.old.refusals.live.0 c ≡ true }
+        requires live { (c : List ℕ) → IsConfig (C.sets conds.old).arities c → (C.sets conds.old).has call.cond.0 c ≡ true
+            → (C.sets conds.old).has self.old.refusals.live.0 c ≡ true }
         requires calls { (c : List ℕ) → IsConfig (C.sets conds.old).arities c → (C.sets conds.old).has call.cond.0 c ≡ true
             → calls_at (stores (C.sets conds.old) names.now self.old.sets) self.old.top.calls.items c ≡ [] }
-        ensures replaced { OnOk result (IsReplaced (stores (C.sets conds.old) names.now self.old.sets) (stores (C.sets conds.new) names.now self.new.sets) self.old self.new call) }
+        ensures replaced { OnOk result (IsReplaced (stores (C.sets conds.old) names.now self.old.sets)
+            (stores (C.sets conds.new) names.now self.new.sets) self.old self.new call) }
 
         // at every outcome
         ensures keeps { Keeps (C.sets conds.old) (C.sets conds.new) }
@@ -103,10 +106,13 @@ impl Expansion {
         names: &Names,
         call: Call,
     ) -> Result<(), OutOfMemory>
-        requires held { (files : ℕ) × (IsHeldExpansion (stores (C.sets conds.old) names.now self.old.sets) files self.old × IsHeldCall (stores (C.sets conds.old) names.now self.old.sets) files call) }
-        requires calls { (c : List ℕ) → IsConfig (C.sets conds.old).arities c → (C.sets conds.old).has call.cond.0 c ≡ true → (C.sets conds.old).has self.old.refusals.live.0 c ≡ true
+        requires held { (files : ℕ) × (IsHeldExpansion (stores (C.sets conds.old) names.now self.old.sets) files self.old
+            × IsHeldCall (stores (C.sets conds.old) names.now self.old.sets) files call) }
+        requires calls { (c : List ℕ) → IsConfig (C.sets conds.old).arities c → (C.sets conds.old).has call.cond.0 c ≡ true
+            → (C.sets conds.old).has self.old.refusals.live.0 c ≡ true
             → calls_at (stores (C.sets conds.old) names.now self.old.sets) self.old.top.calls.items c ≡ [] }
-        ensures gone_on { OnOk result (GoesOn (stores (C.sets conds.old) names.now self.old.sets) (stores (C.sets conds.new) names.now self.new.sets) self.old self.new call) }
+        ensures gone_on { OnOk result (GoesOn (stores (C.sets conds.old) names.now self.old.sets)
+            (stores (C.sets conds.new) names.now self.new.sets) self.old self.new call) }
 
         // at every outcome
         ensures keeps { Keeps (C.sets conds.old) (C.sets conds.new) }

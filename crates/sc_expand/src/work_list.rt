@@ -177,7 +177,8 @@ fn restrict_argument<C: Conditions>(
     requires count { count ≤ length (front.old.items ++ items_of rest.old) }
     requires own { All (λ item. IsCond (C.sets conds.old) item.0.0) (front.old.items ++ items_of rest.old) }
     requires by_own { IsCond (C.sets conds.old) by.0 }
-    ensures restricts { OnOk result (RestrictsFirst (C.sets conds.old) (C.sets conds.new) by.0 count (front.old.items ++ items_of rest.old) (front.new.items ++ items_of rest.new)) }
+    ensures restricts { OnOk result (RestrictsFirst (C.sets conds.old) (C.sets conds.new) by.0 count (front.old.items ++ items_of rest.old) (front.new.items
+        ++ items_of rest.new)) }
 
     // at every outcome
     ensures items { KeepsItems (C.sets conds.new) (front.old.items ++ items_of rest.old) (front.new.items ++ items_of rest.new) }
@@ -210,7 +211,8 @@ fn restrict_source<C: Conditions>(
     requires count { count ≤ length (front.old.items ++ items_left source.old) }
     requires own { All (λ item. IsCond (C.sets conds.old) item.0.0) (front.old.items ++ items_left source.old) }
     requires by_own { IsCond (C.sets conds.old) by.0 }
-    ensures restricts { OnOk result (RestrictsFirst (C.sets conds.old) (C.sets conds.new) by.0 count (front.old.items ++ items_left source.old) (front.new.items ++ items_left source.new)) }
+    ensures restricts { OnOk result (RestrictsFirst (C.sets conds.old) (C.sets conds.new) by.0 count (front.old.items
+        ++ items_left source.old) (front.new.items ++ items_left source.new)) }
 
     // at every outcome
     ensures items { KeepsItems (C.sets conds.new) (front.old.items ++ items_left source.old) (front.new.items ++ items_left source.new) }
