@@ -18,7 +18,7 @@ use Rattle.sc_expand.proofs.UnchangedLemmas.{All-before, All-behind}
 use Rattle.sc_expand.specs.Alike.{AreAlikeRefusals, IsAlikeCall, IsAlikeEnclosing, IsAlikeExpansion, IsAlikeFrame, IsAlikeIn, IsAlikeTaken, IsFunctionLike, IsSameCall, Others, Span, TakesName, others_at}
 use Rattle.sc_expand.specs.Having.{has_each}
 use Rattle.sc_expand.specs.Seen.{AreHeld, Grows, Stores, stores}
-use Rattle.sc_expand.specs.Taking.{AreTaken, IsFunction, IsTaken, TakesPart}
+use Rattle.sc_expand.specs.Taking.{AreTaken, HasPutOut, IsFunction, IsTaken, TakesPart}
 use Rattle.sc_expand.specs.Unchanged as unchanged
 use Rattle.sc_expand.specs.Unchanged.{IsPushed}
 use Rattle.sc_expand.specs.declared.expansion.Expansion.{Expansion}
@@ -174,19 +174,18 @@ same-defined false true m n is same = absurd (cc)
 
 -- ---- the token is put out
 
-pub put-alike : (s : Sets) (c d : List ℕ) (others : Others) (now next : Expansion) (taken : Taken) (token : Hidden) → next.refusals ≡ now.refusals → next.below ≡ now.below → next.top.calls ≡ now.top.calls
-    → next.top.work ≡ taken.made.items ++ drop 1 now.top.work → IsPushed s taken.stays token now.top.out next.top.out → IsAlikeTaken s c d taken → IsAlikeExpansion s c d others now → IsAlikeExpansion s c d others next
-put-alike s c d others now next taken token refusals below calls work out made alike =
+pub put-alike : (s : Sets) (c d : List ℕ) (others : Others) (now next : Expansion) (taken : Taken) (token : Hidden) → HasPutOut s taken token now next → IsAlikeTaken s c d taken → IsAlikeExpansion s c d others now → IsAlikeExpansion s c d others next
+put-alike s c d others now next taken token put made alike =
     let Same : Cond × Hidden → Type 0 = λ item. IsAlike s c d item.0 in
     let here = others_at others (length now.below.items) in
     record {
-      refusals = subst (AreAlikeRefusals s c d others.faults) (sym refusals) alike.refusals;
-      top = subst (λ b. IsAlikeFrame s c d (others_at others (length b.items)) next.top) (sym below) (record {
-        work = subst (λ l. AreAlike s c d (take (length l - here.behind) l)) (sym work) (All-but-put Same here.behind taken.made.items (drop 1 now.top.work) made.made (but-first Same here.behind now.top.work alike.top.work));
-        out = pushed-behind s c d here.out out made.stays alike.top.out;
-        calls = subst (λ l. All (IsAlikeCall s c d) l.items) (sym calls) alike.top.calls;
+      refusals = subst (AreAlikeRefusals s c d others.faults) (sym put.refusals) alike.refusals;
+      top = subst (λ b. IsAlikeFrame s c d (others_at others (length b.items)) next.top) (sym put.below) (record {
+        work = subst (λ l. AreAlike s c d (take (length l - here.behind) l)) (sym put.work) (All-but-put Same here.behind taken.made.items (drop 1 now.top.work) made.made (but-first Same here.behind now.top.work alike.top.work));
+        out = pushed-behind s c d here.out put.out made.stays alike.top.out;
+        calls = subst (λ l. All (IsAlikeCall s c d) l.items) (sym put.calls) alike.top.calls;
       });
-      below = subst (λ b. (n : ℕ) (o : Enclosing) → slice_get b.items n ≡ Some o → IsAlikeEnclosing s c d (others_at others n) o) (sym below) alike.below;
+      below = subst (λ b. (n : ℕ) (o : Enclosing) → slice_get b.items n ≡ Some o → IsAlikeEnclosing s c d (others_at others n) o) (sym put.below) alike.below;
     }
   where
     but-first : (P : Cond × Hidden → Type 0) (n : ℕ) (xs : List (Cond × Hidden)) → All P (take (length xs - n) xs) → All P (take (length (drop 1 xs) - n) (drop 1 xs))

@@ -8,12 +8,13 @@ use Rattle.c11_macros.specs.Macros.{Macros}
 use Rattle.sc_base.proofs.Growth.{Extends-refl}
 use Rattle.sc_base.specs.declared.id.Cond.{Cond}
 use Rattle.sc_base.specs.declared.place.Place.{Place}
+use Rattle.sc_expand.proofs.PuttingOut.{pushed-held, pushed-seen}
 use Rattle.sc_expand.proofs.Rests.{first-is}
-use Rattle.sc_expand.proofs.SeenLemmas.{AreHeld-append, at-Grows, macros_at-Grows, seen_hidden-Grows, token-Grows}
+use Rattle.sc_expand.proofs.SeenLemmas.{AreHeld-append, at-Grows, macros_at-Grows, seen_at-append, seen_hidden-Grows, token-Grows}
 use Rattle.sc_expand.proofs.TakingSteps.{Ends, comes-turn, has_first-Keeps, same-step, seen-first}
 use Rattle.sc_expand.specs.Machine.{IsHeldExpansion, at}
 use Rattle.sc_expand.specs.Seen.{AreHeld, Grows, IsHeldCall, IsHeldEnclosing, IsHeldRefusals, IsHeldToken, Stores, View, calls_at, failures_at, provenance_of, seen_at, stores}
-use Rattle.sc_expand.specs.Taking.{Comes, IsBegun, IsHeldTaken, Step, Takes, has_first, step_at, untaken}
+use Rattle.sc_expand.specs.Taking.{Comes, HasPutOut, IsBegun, IsHeldTaken, Step, Takes, has_first, step_at, untaken}
 use Rattle.sc_expand.specs.Turn.{At, Turn, over, passed}
 use Rattle.sc_expand.specs.declared.expansion.Expansion.{Expansion}
 use Rattle.sc_expand.specs.declared.taking.Taken.{Taken}
@@ -65,33 +66,30 @@ seen-by-first st (x ∷ xs) token c is =
 
 -- ---- the token is put out
 
-module _ (st : Stores) (now next : Expansion) (taken : Taken) (token : declared.Hidden) (refusals : next.refusals ≡ now.refusals) (calls : next.top.calls ≡ now.top.calls)
-    (work : next.top.work ≡ taken.made.items ++ drop 1 now.top.work) where
-  pub put-ends : (c : List ℕ) → slice_get (map (λ (x : Cond × declared.Hidden). x.1) now.top.work) 0 ≡ Some token
-      → seen_at st next.top.out c ≡ seen_at st now.top.out c ++ (if st.sets.has taken.stays.0 c then seen_hidden st.names st.hides token ∷ [] else [])
-      → seen_at st (taken.made.items ++ drop 1 now.top.work) c ≡ seen_at st taken.made.items c ++ seen_at st (drop 1 now.top.work) c
+module _ (st : Stores) {now next : Expansion} {taken : Taken} {token : declared.Hidden} (put : HasPutOut st.sets taken token now next) where
+  pub put-ends : (c : List ℕ) → IsConfig st.sets.arities c → slice_get (map (λ (x : Cond × declared.Hidden). x.1) now.top.work) 0 ≡ Some token
       → Ends (seen_hidden st.names st.hides token) (seen_hidden st.names st.hides token) (seen_at st (drop 1 now.top.work) c) (step_at st now taken c) (at st next c)
-  put-ends c first out parted = record {
-    live = ap (λ r. st.sets.has r.live.0 c) refusals;
-    failures = ap (λ r. failures_at st.sets r.faults.items c) refusals;
-    out = out;
-    calls = ap (λ l. calls_at st l.items c) calls;
-    work = ap (λ l. seen_at st l c) work ∙ parted;
+  put-ends c listed first = record {
+    live = ap (λ r. st.sets.has r.live.0 c) put.refusals;
+    failures = ap (λ r. failures_at st.sets r.faults.items c) put.refusals;
+    out = pushed-seen st put.out c listed;
+    calls = ap (λ l. calls_at st l.items c) put.calls;
+    work = ap (λ l. seen_at st l c) put.work ∙ seen_at-append st taken.made.items (drop 1 now.top.work) c;
     first = seen-by-first st now.top.work token c first;
   }
 
-  pub put-held : (files : ℕ) → next.below ≡ now.below → IsHeldExpansion st files now → IsHeldTaken st files taken → AreHeld st files next.top.out → IsHeldExpansion st files next
-  put-held files below held made out = record {
-    refusals = subst (IsHeldRefusals st.sets files) (sym refusals) held.refusals;
+  pub put-held : (files : ℕ) → IsHeldExpansion st files now → IsHeldTaken st files taken → IsHeldToken st files token → IsHeldExpansion st files next
+  put-held files held made own = record {
+    refusals = subst (IsHeldRefusals st.sets files) (sym put.refusals) held.refusals;
     top = record {
-      work = subst (AreHeld st files) (sym work) (AreHeld-append taken.made.items (drop 1 now.top.work) made.made (record {
+      work = subst (AreHeld st files) (sym put.work) (AreHeld-append taken.made.items (drop 1 now.top.work) made.made (record {
         own = All-drop (λ (x : Cond × declared.Hidden). IsCond st.sets x.0.0) 1 now.top.work held.top.work.own;
         held = All-drop (λ (x : Cond × declared.Hidden). IsHeldToken st files x.1) 1 now.top.work held.top.work.held;
       }));
-      out = out;
-      calls = subst (λ l. All (IsHeldCall st files) l.items) (sym calls) held.top.calls;
+      out = pushed-held st files put.out made.stays own held.top.out;
+      calls = subst (λ l. All (IsHeldCall st files) l.items) (sym put.calls) held.top.calls;
     };
-    below = subst (λ l. All (IsHeldEnclosing st files) l.items) (sym below) held.below;
+    below = subst (λ l. All (IsHeldEnclosing st files) l.items) (sym put.below) held.below;
   }
 
 -- ---- the turn
@@ -192,11 +190,9 @@ module _ {s0 s1 : Sets} {n files : List (List ℕ)} {table : MacroTable} {was : 
         (subst (λ v. Ends v u left s (at st next c)) same ends)
 
     -- a configuration that was refused puts out nothing more
-    pub refused-out : (c : List ℕ) → IsConfig s0.arities c → s0.has was.refusals.live.0 c ≡ false
-        → seen_at st next.top.out c ≡ seen_at st now.top.out c ++ (if st.sets.has taken.stays.0 c then seen_hidden st.names st.hides item.1 ∷ [] else [])
-        → seen_at st next.top.out c ≡ seen_at st0 was.top.out c
-    refused-out c listed dead out =
+    pub refused-out : HasPutOut st.sets taken item.1 now next → (c : List ℕ) → IsConfig s0.arities c → s0.has was.refusals.live.0 c ≡ false → seen_at st next.top.out c ≡ seen_at st0 was.top.out c
+    refused-out put c listed dead =
         let listed1 = IsConfig-Keeps known.keeps listed in
         let same = told.others c listed1 (known.meets.at c listed1 ∙ not_both (s0.has item.0.0 c) (s0.has was.refusals.live.0 c) dead) ∙ untaken-Grows first-grew was known.held c listed in
-        out
+        pushed-seen st put.out c (IsConfig-Keeps grows.sets listed1)
         ∙ (ap (λ (s : Step). s.at.view.out ++ (if s.stays then seen_hidden st.names st.hides item.1 ∷ [] else [])) same ∙ append-nil (seen_at st0 was.top.out c))

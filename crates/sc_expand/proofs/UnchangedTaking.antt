@@ -23,7 +23,7 @@ use Rattle.sc_expand.specs.declared.taking.Taken.{Taken}
 use Rattle.sc_expand.specs.Machine.{at}
 use Rattle.sc_expand.specs.Seen.{Grows, Stores, provenance_of, stores}
 use Rattle.sc_expand.specs.Taking as taking
-use Rattle.sc_expand.specs.Taking.{Comes, Step, Takes, step_at}
+use Rattle.sc_expand.specs.Taking.{Comes, HasPutOut, Step, Takes, step_at}
 use Rattle.sc_expand.specs.Turn.{At}
 use Rattle.sc_expand.specs.Unchanged as unchanged
 use Rattle.sc_expand.specs.Unchanged.{IsPushed, IsRestricted, IsUncalled, IsUndefined, LooksUpNone, Passes}
@@ -99,25 +99,24 @@ comes-stays provenance macros t rest a b case live (taking.failed failure fails 
 
 -- ---- it is put out
 
-pub take-passes : (s : Sets) (was next : Expansion) (item : Cond × declared.Hidden) (made : List (Cond × declared.Hidden)) (cond : Cond) → IsUncalled was → slice_get was.top.work 0 ≡ Some item
-    → next.top.work ≡ made ++ drop 1 was.top.work → made ≡ [] → next.refusals ≡ was.refusals → next.below ≡ was.below → next.top.calls ≡ was.top.calls
-    → Denotes s cond.0 (λ c. s.has item.0.0 c && s.has was.refusals.live.0 c) → IsPushed s cond item.1 was.top.out next.top.out → Passes s was next
-take-passes s was next item made cond uncalled first work none refusals below calls both push = by push
+pub take-passes : (s : Sets) (was next : Expansion) (item : Cond × declared.Hidden) (taken : Taken) → IsUncalled was → slice_get was.top.work 0 ≡ Some item → taken.made.items ≡ []
+    → Denotes s taken.stays.0 (λ c. s.has item.0.0 c && s.has was.refusals.live.0 c) → HasPutOut s taken item.1 was next → Passes s was next
+take-passes s was next item taken uncalled first none both push = by push.out
   where
     whole : was.top.work ≡ item ∷ next.top.work
-    whole = first-is was.top.work item first ∙ ap (λ l. item ∷ l) (sym (work ∙ ap (λ l. l ++ drop 1 was.top.work) none))
+    whole = first-is was.top.work item first ∙ ap (λ l. item ∷ l) (sym (push.work ∙ ap (λ l. l ++ drop 1 was.top.work) none))
 
     still : IsUncalled next
-    still = record { below = ap (λ b. b.items) below ∙ uncalled.below; calls = ap (λ l. l.items) calls ∙ uncalled.calls }
+    still = record { below = ap (λ b. b.items) push.below ∙ uncalled.below; calls = ap (λ l. l.items) push.calls ∙ uncalled.calls }
 
-    by : IsPushed s cond item.1 was.top.out next.top.out → Passes s was next
+    by : IsPushed s taken.stays item.1 was.top.out next.top.out → Passes s was next
     by (unchanged.pushed some is) = record {
       passed = item ∷ [];
-      put = (cond, item.1) ∷ [];
+      put = (taken.stays, item.1) ∷ [];
       work = whole;
       out = is;
-      restricted = unchanged.kept cond item [] [] both some unchanged.empty;
-      refusals = refusals;
+      restricted = unchanged.kept taken.stays item [] [] both some unchanged.empty;
+      refusals = push.refusals;
       uncalled = still;
     }
     by (unchanged.absent never is) = record {
@@ -126,7 +125,7 @@ take-passes s was next item made cond uncalled first work none refusals below ca
       work = whole;
       out = is ∙ sym (append-nil was.top.out);
       restricted = unchanged.left_out item [] [] (λ c listed. sym (both.at c listed) ∙ never.none c listed) unchanged.empty;
-      refusals = refusals;
+      refusals = push.refusals;
       uncalled = still;
     }
 

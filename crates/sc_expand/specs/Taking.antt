@@ -1,5 +1,5 @@
 -- What taking the first token of a list comes to at a configuration.
-use Rattle.std.specs.Prelude.{◌≡◌, ◌⊎◌, Bool, true, false, ℕ, List, [], ◌∷◌, ◌++◌, length, map, Option, Some, Result, Ok, Err, slice_get}
+use Rattle.std.specs.Prelude.{◌≡◌, ◌⊎◌, Bool, true, false, ℕ, List, [], ◌∷◌, ◌++◌, drop, length, map, Option, Some, Result, Ok, Err, slice_get}
 use Rattle.std.specs.Option.{option_map}
 use Rattle.std.specs.declared.rc.Rc.{Rc}
 use Rattle.std.proofs.Common.{Global}
@@ -24,7 +24,7 @@ use Rattle.sc_expand.specs.Machine.{IsHeldExpansion, KeepsLists, at}
 use Rattle.sc_expand.specs.Plain.{Fails, IsTemplate, gathered}
 use Rattle.sc_expand.specs.Seen.{AreHeld, Stores, provenance_of, seen_at, state_of}
 use Rattle.sc_expand.specs.Turn.{At}
-use Rattle.sc_expand.specs.Unchanged.{IsUndefined}
+use Rattle.sc_expand.specs.Unchanged.{IsPushed, IsUndefined}
 use Rattle.sc_model.specs.Sets.{Sets, IsCond, IsConfig}
 use Rattle.sc_subst.specs.declared.hidden.Hidden.{Hidden}
 
@@ -122,6 +122,14 @@ pub record HasPut (files : List (List ℕ)) (old st : Stores) (was now : Expansi
   pub others : (c : List ℕ) → IsConfig old.sets.arities c → old.sets.has cond c ≡ false → (at st now c ≡ at old was c) × (seen_at st after c ≡ seen_at old before c)
   pub alike : (c d : List ℕ) (span : Span) → IsConfig old.sets.arities c → IsConfig old.sets.arities d → old.sets.has cond c ≡ old.sets.has cond d → AreAlike old.sets c d before
       → IsAlikeIn old.sets c d span was → IsAlikeIn st.sets c d span now × AreAlike st.sets c d after
+
+-- the name is no longer first: it was put out where it stays, and what replaces it is first
+pub record HasPutOut (s : Sets) (taken : Taken) (token : Hidden) (was now : Expansion) : Type 0 where
+  pub refusals : now.refusals ≡ was.refusals
+  pub below : now.below ≡ was.below
+  pub calls : now.top.calls ≡ was.top.calls
+  pub work : now.top.work ≡ taken.made.items ++ drop 1 was.top.work
+  pub out : IsPushed s taken.stays token was.top.out now.top.out
 
 -- Of the parts of a look-up these were taken: a configuration of one of them has come to something,
 -- and each other is as it was.

@@ -11,7 +11,7 @@ ghost use Rattle.sc_expand.specs.Machine.{IsHeldExpansion, at};
 ghost use Rattle.sc_expand.specs.Running.{TakesFirst};
 ghost use Rattle.sc_expand.specs.Seen.{AreHeld, IsHeldToken, provenance_of, seen_at, stores};
 ghost use Rattle.sc_expand.specs.CallStops.{StopsAt};
-ghost use Rattle.sc_expand.specs.Taking.{AreTaken, HasPut, IsBegun, IsFunction, IsHeldTaken, IsTaken, Takes, TakesPart, step_at, untaken};
+ghost use Rattle.sc_expand.specs.Taking.{AreTaken, HasPut, HasPutOut, IsBegun, IsFunction, IsHeldTaken, IsTaken, Takes, TakesPart, step_at, untaken};
 ghost use Rattle.sc_expand.specs.Unchanged.{IsPushed};
 ghost use Rattle.sc_guarded.specs.Items.{items_at};
 ghost use Rattle.sc_macro.specs.Seen.{IsHeldDefinition, seen_definition, text_of};
@@ -161,20 +161,7 @@ impl Expansion {
         taken: &Taken,
     ) -> Result<(), OutOfMemory>
         requires stays { IsCond (C.sets conds.now) taken.now.stays.0 }
-        ensures refusals { OnOk result (self.new.refusals ≡ self.old.refusals) }
-        ensures below { OnOk result (self.new.below ≡ self.old.below) }
-        ensures calls { OnOk result (self.new.top.calls ≡ self.old.top.calls) }
-        ensures work { OnOk result (self.new.top.work ≡ taken.now.made.items ++ drop 1 self.old.top.work) }
-        ensures out { OnOk result ((names : List (List ℕ)) (c : List ℕ) → IsConfig (C.sets conds.now).arities c
-            → seen_at (stores (C.sets conds.now) names self.old.sets) self.new.top.out c
-            ≡ seen_at (stores (C.sets conds.now) names self.old.sets) self.old.top.out c
-            ++ (if (C.sets conds.now).has taken.now.stays.0 c then seen_hidden names self.old.sets token ∷ [] else [])) }
-        ensures held { OnOk result ((names : List (List ℕ)) (files : ℕ) → IsHeldToken (stores (C.sets conds.now) names self.old.sets) files token
-            → AreHeld (stores (C.sets conds.now) names self.old.sets) files self.old.top.out
-            → AreHeld (stores (C.sets conds.now) names self.old.sets) files self.new.top.out) }
-        ensures some { OnOk result (All (λ item. IsNever (C.sets conds.now) item.0.0 → ⊥) self.old.top.out
-            → All (λ item. IsNever (C.sets conds.now) item.0.0 → ⊥) self.new.top.out) }
-        ensures pushed { OnOk result (IsPushed (C.sets conds.now) taken.now.stays token self.old.top.out self.new.top.out) }
+        ensures put { OnOk result (HasPutOut (C.sets conds.now) taken.now token self.old self.new) }
 
         // at every outcome
         ensures sets { self.new.sets ≡ self.old.sets }
@@ -353,15 +340,7 @@ fn push_token<C: Conditions>(
     token: Hidden,
 ) -> Result<(), OutOfMemory>
     requires { IsCond (C.sets conds.now) cond.0 }
-    ensures is { OnOk result ((names : List (List ℕ)) (sets : List (List declared_name.Name)) (c : List ℕ) → IsConfig (C.sets conds.now).arities c
-        → seen_at (stores (C.sets conds.now) names sets) list.new c
-        ≡ seen_at (stores (C.sets conds.now) names sets) list.old c ++ (if (C.sets conds.now).has cond.0 c then seen_hidden names sets token ∷ [] else [])) }
-    ensures held { OnOk result ((names : List (List ℕ)) (sets : List (List declared_name.Name)) (files : ℕ)
-        → IsHeldToken (stores (C.sets conds.now) names sets) files token
-        → AreHeld (stores (C.sets conds.now) names sets) files list.old → AreHeld (stores (C.sets conds.now) names sets) files list.new) }
-    ensures some { OnOk result (All (λ item. IsNever (C.sets conds.now) item.0.0 → ⊥) list.old
-        → All (λ item. IsNever (C.sets conds.now) item.0.0 → ⊥) list.new) }
-    ensures pushed { OnOk result (IsPushed (C.sets conds.now) cond token list.old list.new) }
+    ensures { OnOk result (IsPushed (C.sets conds.now) cond token list.old list.new) }
 {
     if conds.is_never(cond) {
         return Ok(());

@@ -1,17 +1,17 @@
-use Rattle.std.proofs.Common.{◌≡◌, ◌∙◌, ◌++◌, ◌≤◌, ℕ, suc, true, All, List, Some, ap, arith, drop, length, sym, subst, ◌&&◌, refl}
+use Rattle.std.proofs.Common.{◌≡◌, ◌∙◌, ◌≤◌, ℕ, suc, true, All, List, Some, ap, arith, drop, length, sym, subst, ◌&&◌, refl}
 use Rattle.std.proofs.lemmas.Result.{err_from_is_err_and}
 use Rattle.std.specs.Prelude.{slice_get}
 use Rattle.c11_macros.specs.Expansion.{is_looked_up}
 use Rattle.sc_base.specs.declared.id.Cond.{Cond}
-use Rattle.sc_expand.proofs.PuttingOut.{some-Keeps}
-use Rattle.sc_expand.proofs.SeenLemmas.{IsHeldExpansion-Grows, IsTable-Grows, seen_at-append, token-Grows, macros_at-Grows}
+use Rattle.sc_expand.proofs.PuttingOut.{pushed-some, some-Keeps}
+use Rattle.sc_expand.proofs.SeenLemmas.{IsHeldExpansion-Grows, IsTable-Grows, token-Grows, macros_at-Grows}
 use Rattle.sc_expand.proofs.TakingTurns.{first-both, first-grew, first-item, first-ready, first-taken, first-token, put-ends, put-held, refused-out, take-turn}
 use Rattle.sc_expand.proofs.UnchangedTaking.{first-undefined, stays-both, take-passes}
 use Rattle.sc_expand.specs.declared.expansion.Expansion.{Expansion}
 use Rattle.sc_expand.specs.Machine.{IsHeldExpansion, at}
 use Rattle.sc_expand.specs.Seen.{Grows, provenance_of, seen_at, stores}
+use Rattle.sc_expand.specs.Taking.{HasPutOut}
 use Rattle.sc_expand.specs.Turn.{Turn}
-use Rattle.sc_expand.specs.Unchanged.{IsPushed}
 use Rattle.sc_model.proofs.SetLemmas.{IsConfig-Keeps, IsConfig-kept, Keeps-trans}
 use Rattle.sc_model.specs.Growth.{Extends}
 use Rattle.sc_model.specs.Sets.{IsNever}
@@ -76,7 +76,8 @@ returns g c =
     let work = was.top.work in
     let taken = c.in_ok-taken.taken in
     let told = c.in_ok-taken.ensures.takes in
-    let put = c.in_ok-put_out.ensures in
+    let put = c.in_ok-put_out.ensures.put in
+    let same_sets = c.in_ok-put_out.ensures.sets in
     let item : Cond × Hidden = (c.args.has, c.args.token) in
     let cond = c.in_ok-cond.cond in
     let held = c.requires.held in
@@ -91,29 +92,24 @@ returns g c =
       taken = record {
         held =
             let token = token-Grows all c.args.token (first-item known) in
-            subst (λ hides. IsHeldExpansion (stores s2 n2 hides) (length files) next) (sym put.sets)
-            (put-held st now next taken c.args.token put.refusals put.calls put.work (length files) put.below told.held told.taken (put.held n2 (length files) token told.held.top.out));
+            subst (λ hides. IsHeldExpansion (stores s2 n2 hides) (length files) next) (sym same_sets)
+            (put-held st put (length files) told.held told.taken token);
         below = put.below ∙ told.lists.below;
         turns = λ x listed.
-            let listed2 = IsConfig-Keeps second (IsConfig-Keeps first listed) in
             let at_first = ap (λ l. slice_get l 0) told.lists.tokens ∙ first-token work item c.requires.first in
-            let ends = put-ends st now next taken c.args.token put.refusals put.calls put.work x at_first (put.out n2 x listed2) (seen_at-append st taken.made.items (drop 1 now.top.work) x) in
-            subst (λ hides. Turn (provenance_of files) (macros_at s0 n table x) (at (stores s0 n h) was x) (at (stores s2 n2 hides) next x) (s0.has c.args.has.0 x)) (sym put.sets)
+            let ends = put-ends st put x (IsConfig-Keeps all.sets listed) at_first in
+            subst (λ hides. Turn (provenance_of files) (macros_at s0 n table x) (at (stores s0 n h) was x) (at (stores s2 n2 hides) next x) (s0.has c.args.has.0 x)) (sym same_sets)
             (take-turn known grows told next x (seen_at st (drop 1 now.top.work) x) listed ends);
         out = record {
           apart = λ x listed dead.
-              let listed2 = IsConfig-Keeps second (IsConfig-Keeps first listed) in
-              subst (λ hides. seen_at (stores s2 n2 hides) next.top.out x ≡ seen_at (stores s0 n h) was.top.out x) (sym put.sets)
-              (refused-out known grows told next x listed dead (put.out n2 x listed2));
-          some = λ before. put.some (subst SomeHas (sym told.lists.out) (some-Keeps all.sets was.top.out held.top.out.own before));
+              subst (λ hides. seen_at (stores s2 n2 hides) next.top.out x ≡ seen_at (stores s0 n h) was.top.out x) (sym same_sets)
+              (refused-out known grows told next put x listed dead);
+          some = λ before. pushed-some put.out (subst SomeHas (sym told.lists.out) (some-Keeps all.sets was.top.out held.top.out.own before));
         };
         passes = λ uncalled looks.
             let undefined = first-undefined known looks in
             let same = told.undefined undefined in
-            let both = stays-both known grows told same.0 undefined in
-            take-passes s2 was next item taken.made.items taken.stays uncalled c.requires.first (put.work ∙ ap (λ (e : Expansion). taken.made.items ++ drop 1 e.top.work) same.0) same.1
-            (put.refusals ∙ ap (λ (e : Expansion). e.refusals) same.0) (put.below ∙ ap (λ (e : Expansion). e.below) same.0) (put.calls ∙ ap (λ (e : Expansion). e.top.calls) same.0)
-            both (subst (λ (e : Expansion). IsPushed s2 taken.stays c.args.token e.top.out next.top.out) same.0 put.pushed);
+            take-passes s2 was next item taken uncalled c.requires.first same.1 (stays-both known grows told same.0 undefined) (subst (λ (e : Expansion). HasPutOut s2 taken c.args.token e next) same.0 put);
         long = subst (λ l. length work ≤ suc (length l)) (sym put.work) (long-put work now.top.work taken.made.items long);
         rest = λ x listed. subst (λ l. HasLast s0 s2 work l x) (sym put.work) (last-earlier (has_each-Keeps work x first held.top.work.own listed) (taken-put (told.rest x (IsConfig-Keeps first listed)) long));
         alike = λ x y others p q defined called inside alike.
@@ -135,11 +131,11 @@ returns g c =
             (IsAlikeExpansion-Keeps all.sets p q others was held alike).below in
             let same = whole-same others was now told.lists.below long in
             let few = ap (λ (s : Span). s.work) same in
-            put-alike s2 x y others now next taken c.args.token put.refusals put.below put.calls put.work put.pushed came.1
+            put-alike s2 x y others now next taken c.args.token put came.1
             (whole-in others span now (omega (arith, few)) (ap (λ (s : Span). s.out) (sym same)) refl came.0 below);
       };
       stops = tt;
       keeps = all.sets;
       names = all.names;
-      sets = subst (Extends h) (sym put.sets) all.hides;
+      sets = subst (Extends h) (sym same_sets) all.hides;
     }
