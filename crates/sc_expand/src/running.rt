@@ -5,7 +5,7 @@ ghost use Rattle.sc_expand.specs.Alike.{DefineAlike, IsAlikeExpansion, TakesName
 ghost use Rattle.sc_expand.specs.Footprints.{StopsAtName};
 ghost use Rattle.sc_expand.specs.Machine.{IsExpansion, IsHeldExpansion};
 ghost use Rattle.sc_expand.specs.Running.{IsDone, IsDropped, IsReady, IsRested, IsTurned, IsUntouched, PutsOut, next_of, put_out, weight};
-ghost use Rattle.sc_expand.specs.Seen.{failures_at, provenance_of, seen_at, stores};
+ghost use Rattle.sc_expand.specs.Seen.{Grows, failures_at, provenance_of, seen_at, stores};
 ghost use Rattle.sc_expand.specs.CallStops.{StopsAt};
 ghost use Rattle.sc_expand.specs.Unchanged.{IsRestricted, LooksUpNone};
 ghost use Rattle.sc_model.specs.Growth.{Extends};
@@ -51,9 +51,7 @@ impl Expansion {
             → IsAlikeExpansion (C.sets conds.old) c d no_others self.old → IsAlikeExpansion (C.sets conds.new) c d no_others self.new) }
 
         // at every outcome
-        ensures keeps { Keeps (C.sets conds.old) (C.sets conds.new) }
-        ensures names { Extends names.old names.new }
-        ensures sets { Extends self.old.sets self.new.sets }
+        ensures grows { Grows (stores (C.sets conds.old) names.old self.old.sets) (stores (C.sets conds.new) names.new self.new.sets) }
     {
         loop {
             self.drop_refused(conds)?;

@@ -44,23 +44,23 @@ returns g c =
           let looks = source-defines s n c.args.files.now one (macros one) (macros two) began list e.tokens e.unhidden defines in
           let start = started-alike s one two began list c.args.live e.untouched e.live e.tokens (here ∙ sym there) same in
           answer-alike new one two after expanded f.list f.faults (ran.alike one two p q (ap (λ (k : Cond). s.has k.0 one) e.live ∙ here) looks start);
-      keeps = c.run.ensures.keeps;
-      names = c.run.ensures.names;
-      table = IsTable-Extends c.run.ensures.names (IsTable-Keeps c.run.ensures.keeps c.requires.table);
-      still = λ config text listed. macros_at-Extends c.run.ensures.names (IsTable-Keeps c.run.ensures.keeps c.requires.table) config text ∙ macros_at-Keeps {names = n} c.run.ensures.keeps c.requires.table config text listed;
+      keeps = c.run.ensures.grows.sets;
+      names = c.run.ensures.grows.names;
+      table = IsTable-Extends c.run.ensures.grows.names (IsTable-Keeps c.run.ensures.grows.sets c.requires.table);
+      still = λ config text listed. macros_at-Extends c.run.ensures.grows.names (IsTable-Keeps c.run.ensures.grows.sets c.requires.table) config text ∙ macros_at-Keeps {names = n} c.run.ensures.grows.sets c.requires.table config text listed;
     }
 
 pub returns-in_err-run-clause-table : goal.returns-in_err-run-clause-table
-returns-in_err-run-clause-table g c = IsTable-Extends c.run.ensures.names (IsTable-Keeps c.run.ensures.keeps c.requires.table)
+returns-in_err-run-clause-table g c = IsTable-Extends c.run.ensures.grows.names (IsTable-Keeps c.run.ensures.grows.sets c.requires.table)
 
 pub returns-in_err-run-clause-still : goal.returns-in_err-run-clause-still
-returns-in_err-run-clause-still g c = λ config text listed. macros_at-Extends c.run.ensures.names (IsTable-Keeps c.run.ensures.keeps c.requires.table) config text ∙ macros_at-Keeps {names = c.args.names.now} c.run.ensures.keeps c.requires.table config text listed
+returns-in_err-run-clause-still g c = λ config text listed. macros_at-Extends c.run.ensures.grows.names (IsTable-Keeps c.run.ensures.grows.sets c.requires.table) config text ∙ macros_at-Keeps {names = c.args.names.now} c.run.ensures.grows.sets c.requires.table config text listed
 
 pub returns-in_err-expanded-clause-table : goal.returns-in_err-expanded-clause-table
-returns-in_err-expanded-clause-table g c = IsTable-Extends c.run.ensures.names (IsTable-Keeps c.run.ensures.keeps c.requires.table)
+returns-in_err-expanded-clause-table g c = IsTable-Extends c.run.ensures.grows.names (IsTable-Keeps c.run.ensures.grows.sets c.requires.table)
 
 pub returns-in_err-expanded-clause-still : goal.returns-in_err-expanded-clause-still
-returns-in_err-expanded-clause-still g c = λ config text listed. macros_at-Extends c.run.ensures.names (IsTable-Keeps c.run.ensures.keeps c.requires.table) config text ∙ macros_at-Keeps {names = c.args.names.now} c.run.ensures.keeps c.requires.table config text listed
+returns-in_err-expanded-clause-still g c = λ config text listed. macros_at-Extends c.run.ensures.grows.names (IsTable-Keeps c.run.ensures.grows.sets c.requires.table) config text ∙ macros_at-Keeps {names = c.args.names.now} c.run.ensures.grows.sets c.requires.table config text listed
 
 pub returns-in_err-run-clause-stops : goal.returns-in_err-run-clause-stops
 returns-in_err-run-clause-stops g c =

@@ -1,9 +1,8 @@
 use Rattle.std.proofs.Common.{rules, length, sym, subst}
-use Rattle.sc_base.proofs.Growth.{Extends-trans}
 use Rattle.sc_expand.proofs.BetweenTurns.{turns-less, turns-rested, turns-start, turns-stop, turns-taken}
 use Rattle.sc_expand.proofs.PlainTables.{entry_names, within-table}
 use Rattle.sc_expand.proofs.RunLemmas.{less-le, rested-le, running-done, running-is, running-out, running-unchanged}
-use Rattle.sc_expand.proofs.SeenLemmas.{IsTable-Grows}
+use Rattle.sc_expand.proofs.SeenLemmas.{Grows-trans, IsTable-Grows}
 use Rattle.sc_expand.specs.Seen.{stores}
 use Rattle.sc_model.proofs.SetLemmas.{Keeps-trans}
 use Rattle.sc_model.specs.Growth.{Extends}
@@ -21,14 +20,10 @@ drop_refused-requires g c = record { held = (c.loop-self.names, (length c.args.f
 pub returns-in_err-drop_refused-clause-stops : goal.returns-in_err-drop_refused-clause-stops
 returns-in_err-drop_refused-clause-stops g c = search rules
 
-pub returns-in_err-drop_refused-clause-keeps : goal.returns-in_err-drop_refused-clause-keeps
-returns-in_err-drop_refused-clause-keeps g c = Keeps-trans c.loop-self.invariant.grows.sets c.drop_refused.ensures.keeps
-
-pub returns-in_err-drop_refused-clause-names : goal.returns-in_err-drop_refused-clause-names
-returns-in_err-drop_refused-clause-names g c = c.loop-self.invariant.grows.names
-
-pub returns-in_err-drop_refused-clause-sets : goal.returns-in_err-drop_refused-clause-sets
-returns-in_err-drop_refused-clause-sets g c = subst (Extends c.args.self.now.sets) (sym c.drop_refused.ensures.sets) c.loop-self.invariant.grows.hides
+pub returns-in_err-drop_refused-clause-grows : goal.returns-in_err-drop_refused-clause-grows
+returns-in_err-drop_refused-clause-grows g c =
+    let grows = c.loop-self.invariant.grows in
+    record { sets = Keeps-trans grows.sets c.drop_refused.ensures.keeps; names = grows.names; hides = subst (Extends c.args.self.now.sets) (sym c.drop_refused.ensures.sets) grows.hides }
 
 pub turn-requires : goal.turn-requires
 turn-requires g c =
@@ -41,14 +36,10 @@ returns-in_err-went-clause-stops g c =
     let stops = turns-stop c.requires.table loop c.requires.held c.args.limit c.in_err-went.field-0.0 c.in_err-went.ensures.stops in
     search (rules, stops)
 
-pub returns-in_err-went-clause-keeps : goal.returns-in_err-went-clause-keeps
-returns-in_err-went-clause-keeps g c = Keeps-trans (Keeps-trans c.loop-self.invariant.grows.sets c.drop_refused.ensures.keeps) c.turn.ensures.keeps
-
-pub returns-in_err-went-clause-names : goal.returns-in_err-went-clause-names
-returns-in_err-went-clause-names g c = Extends-trans c.loop-self.invariant.grows.names c.turn.ensures.names
-
-pub returns-in_err-went-clause-sets : goal.returns-in_err-went-clause-sets
-returns-in_err-went-clause-sets g c = Extends-trans (subst (Extends c.args.self.now.sets) (sym c.drop_refused.ensures.sets) c.loop-self.invariant.grows.hides) c.turn.ensures.sets
+pub returns-in_err-went-clause-grows : goal.returns-in_err-went-clause-grows
+returns-in_err-went-clause-grows g c =
+    let loop = turns-rested c.requires.table c.loop-self.invariant c.requires.held (c.in_ok-drop_refused.ensures.rested c.loop-self.names) in
+    Grows-trans loop.grows (record { sets = c.turn.ensures.keeps; names = c.turn.ensures.names; hides = c.turn.ensures.sets })
 
 pub returns-then-not-went : goal.returns-then-not-went
 returns-then-not-went g c =
@@ -63,9 +54,7 @@ returns-then-not-went g c =
       unchanged = running-unchanged after.running ended c.requires.untouched.out;
       stops = tt;
       alike = λ one two p q here defines were. (after.alike.at one two p q defines were).alike;
-      keeps = after.grows.sets;
-      names = after.grows.names;
-      sets = after.grows.hides;
+      grows = after.grows;
     }
 
 pub loop-self-smaller : goal.loop-self-smaller
