@@ -1,5 +1,5 @@
 -- What ordinary translation of a file gives at one configuration: preprocessing, then parsing.
-use Rattle.std.specs.Prelude.{◌≡◌, ◌⊎◌, ◌<◌, ◌+◌, ℕ, true, List, length, All, AllPairs, Some, Result, Ok, Err}
+use Rattle.std.specs.Prelude.{◌≡◌, ◌⊎◌, ◌<◌, ◌≤◌, ◌+◌, ℕ, true, List, length, All, AllPairs, Some, Result, Ok, Err}
 use Rattle.std.specs.Result.{is_ok}
 use Rattle.c11_directives.specs.Footprints.{Has, HasFootprints}
 use Rattle.c11_directives.specs.Pre.{Pre}
@@ -13,6 +13,7 @@ use Rattle.sc_model.specs.Fault.{Fault}
 use Rattle.sc_model.specs.Outside.{Files}
 use Rattle.sc_model.specs.Space.{Space, IsListed, arities_of}
 use Rattle.sc_model.specs.Token.{Place, Token}
+use Rattle.sc_parse.specs.MostClasses.{HasMostClasses}
 
 -- ---- what a translation is about
 
@@ -75,12 +76,18 @@ pub record HasManyClasses (s : Setting) : Type 0 where
   pub is_input : IsFileInput s input
   pub more : HasMoreClasses input s.space.branches
 
--- a list of the file has at no place, as C11 is parsed, more classes than branches
-pub record HasFewClasses (s : Setting) : Type 0 where
+-- a list of the file has at one place, as C11 is parsed, so many classes, and at none more
+pub record HasClasses (s : Setting) (most : ℕ) : Type 0 where
   pub c11 : IsC11Parser s.parser
   pub input : Input
   pub is_input : IsFileInput s input
-  pub few : HasMoreClasses input s.space.branches → ⊥
+  pub most_are : HasMostClasses input most
+
+-- a list of the file has at no place more classes than branches
+pub record HasFewClasses (s : Setting) : Type 0 where
+  pub most : ℕ
+  pub classes : HasClasses s most
+  pub few : most ≤ s.space.branches
 
 -- preprocessing or parsing has at some place more branches than the space allows
 abbrev pub HasManyBranches : Setting → Type 0

@@ -1,6 +1,7 @@
 -- From the first element to the end.
-use Rattle.std.proofs.Common.{◌≡◌, ℕ, zero, suc, ◌+◌, ◌<◌, true, false, List, [], ◌∷◌, All, length, map, slice_get, Option, Some, None, refl, sym, ap, ◌∙◌, subst, arith, inl, inr}
+use Rattle.std.proofs.Common.{◌≡◌, ℕ, zero, suc, max, ◌+◌, ◌<◌, ◌≤◌, true, false, List, [], ◌∷◌, All, length, map, slice_get, Option, Some, None, refl, sym, ap, ◌∙◌, subst, arith, inl, inr}
 use Rattle.std.proofs.lemmas.Bool.Decides.{eqb_tells}
+use Rattle.std.proofs.lemmas.Int.{clamps}
 use Rattle.std.proofs.lemmas.List.{length-map}
 use Rattle.std.proofs.lemmas.List.Elements.{All-cons, All-nil}
 use Rattle.std.proofs.lemmas.Option.{slice_get_within}
@@ -24,7 +25,7 @@ use Rattle.sc_merge.specs.Merges.{tables_with}
 use Rattle.sc_model.specs.Sets.{IsConfig, Sets}
 use Rattle.sc_model.specs.Token as plain
 use Rattle.sc_parse.proofs.NumberLemmas.{filled, has-filled, one_if}
-use Rattle.sc_parse.proofs.PlaceLemmas.{few-at}
+use Rattle.sc_parse.proofs.PlaceLemmas.{classes-at, counted-all, counted-more, counted-none, place-at}
 use Rattle.sc_parse.proofs.RowLemmas.{IsEmpty, no-numbers}
 use Rattle.sc_parse.proofs.RunLemmas.{goes-nowhere, goes-then}
 use Rattle.sc_parse.specs.declared.rows.Rows.{Rows}
@@ -32,17 +33,21 @@ use Rattle.sc_parse.specs.declared.steps.Steps.{Steps}
 use Rattle.sc_parse.specs.Filed.{AreAllFiled, AreFiled, HasNoneBefore, numbers_in}
 use Rattle.sc_parse.specs.Numbers.{Each, filled_at, IsBetween, Replaces, times}
 use Rattle.sc_parse.specs.Runs.{AreWaiting, EndsBefore, GoesOn, HaveEndedBefore, IsRun, IsWaiting, OwnsSteps}
-use Rattle.sc_parse.specs.Turns.{HasBegun, HasFewAt, IsAtPlace}
+use Rattle.sc_parse.specs.MostClasses.{HasMostClasses}
+use Rattle.sc_parse.specs.Places.{HasPlace}
+use Rattle.sc_parse.specs.Turns.{HasBegun, HasMostBefore, IsAtPlace}
 use Rattle.sc_tree.specs.Lines.{Line, OwnsBranches}
 use Rattle.sc_tree.specs.Reads.{Tables}
 
--- the elements before this one are done
-pub record HasComeTo (old new : Sets) (lines added : List Line) (elements branches i : ℕ) (before after : Steps) (r : Rows) : Type 0 where
+-- the elements before this one are done, and the most classes at one of their places are so many
+pub record HasComeTo (old new : Sets) (lines added : List Line) (elements branches i classes : ℕ) (before after : Steps) (r : Rows) : Type 0 where
   pub goes : GoesOn old new lines added (elements + 1) before after
   pub filed : AreAllFiled after.core r i
   pub limit : r.branches ≡ branches
   pub place : (names files : List (List ℕ)) (input : Input) (first : core.Core) → IsRun (tables_with old lines names files) input first before
       → IsAtPlace (tables_with new added names files) input first after r i
+  pub most : (names files : List (List ℕ)) (input : Input) (first : core.Core) → IsRun (tables_with old lines names files) input first before → HasMostBefore input i classes
+  pub few : classes ≤ branches
 
 -- what is parsed has as many elements as the list
 pub input-long : (w : Tables) (source : Source) (input : Input) → IsInput w source input → length input.items ≡ length source.list.now
@@ -121,13 +126,13 @@ at-start w input first s r run filed waits ended = record {
   ended = λ within. ended;
   places = λ k low within.
       let same : 0 ≡ k = omega (arith, low) in
-      subst (HasFewAt input first (map event_of s.events.items) r.branches) same (few-at w input first s r 0 0 run filed waits ended);
+      subst (HasPlace input first (map event_of s.events.items)) same (place-at w input first s r 0 0 run filed waits ended);
 }
 
 -- there is no first subparser
 pub come-empty : (sets : Sets) (lines : List Line) (elements branches : ℕ) (s : Steps) (r : Rows) → OwnsSteps sets (length lines) s → OwnsBranches sets lines
     → elements ≡ length s.core.source.list.now → HasBegun s.core → HasNone s.core.rows.items 0 → numbers_in r ≡ [] → AreFiled s.core.rows.items r → length r.rows.items ≡ elements + 1
-    → r.branches ≡ branches → HasComeTo sets sets lines lines elements branches 0 s s r
+    → r.branches ≡ branches → HasComeTo sets sets lines lines elements branches 0 0 s s r
 come-empty sets lines elements branches s r own owns long begun none empty filed rows limit =
     let all : AreAllFiled s.core r 0 = record {
       filed = filed;
@@ -144,6 +149,8 @@ come-empty sets lines elements branches s r own owns long begun none empty filed
       place = λ names files input first run.
           let w = tables_with sets lines names files in
           at-start w input first s r run all (no-waiting sets input 0 s.core.rows.items (numbers_in r) empty) (no-ended sets input 0 s begun);
+      most = λ names files input first run. counted-none input;
+      few = omega arith;
     }
 
 -- the first subparser was parted
@@ -152,7 +159,7 @@ pub come-parted : (old new : Sets) (lines added : List Line) (elements branches 
     → Replaces s.core.rows.items t.core.rows.items (0 ∷ numbers_in r) (numbers_in q) → AreFiled t.core.rows.items q → length q.rows.items ≡ length r.rows.items → q.branches ≡ r.branches
     → ((names files : List (List ℕ)) (input : Input) (first : core.Core) (place : ℕ) → IsRun (tables_with old lines names files) input first s
     → Each (IsBetween place) s.core.rows.items (0 ∷ []) → AreWaiting old input place s.core.rows.items (numbers_in r) → AreWaiting new input place t.core.rows.items (numbers_in q))
-    → HasComeTo old new lines added elements branches 0 s t q
+    → HasComeTo old new lines added elements branches 0 0 s t q
 come-parted old new lines added elements branches s t r q sub long begun has empty rows limit goes replaces filed same_long same_limit waits =
     let all : AreAllFiled t.core q 0 = record {
       filed = filed;
@@ -170,22 +177,31 @@ come-parted old new lines added elements branches s t r q sub long begun has emp
           at-start (tables_with new added names files) input first t q ((goes 0).run names files input first run) all
           (waits names files input first 0 run (first-between s begun sub has) (no-waiting old input 0 s.core.rows.items (numbers_in r) empty))
           ((goes 0).ended names files input first run (omega arith) (no-ended old input 0 s begun));
+      most = λ names files input first run. counted-none input;
+      few = omega arith;
     }
 
 -- ---- one element more
 
-pub come-on : (old mid new : Sets) (one two three : List Line) (elements branches i : ℕ) (s t u : Steps) (r q : Rows) → elements ≡ length s.core.source.list.now
-    → HasComeTo old mid one two elements branches i s t r → GoesOn mid new two three (i + 1) t u → AreAllFiled u.core q (i + 1) → q.branches ≡ r.branches
+pub come-on : (old mid new : Sets) (one two three : List Line) (elements branches i classes : ℕ) (s t u : Steps) (r q : Rows) → elements ≡ length s.core.source.list.now → i < elements + 1
+    → HasComeTo old mid one two elements branches i classes s t r → GoesOn mid new two three (i + 1) t u → AreAllFiled u.core q (i + 1) → q.branches ≡ r.branches
     → ((names files : List (List ℕ)) (input : Input) (first : core.Core) → IsAtPlace (tables_with mid two names files) input first t r i
     → IsAtPlace (tables_with new three names files) input first u q (i + 1))
-    → HasComeTo old new one three elements branches (i + 1) s u q
-come-on old mid new one two three elements branches i s t u r q long come goes filed limit place = record {
+    → HasComeTo old new one three elements branches (i + 1) (max classes r.count) s u q
+come-on old mid new one two three elements branches i classes s t u r q long low come goes filed limit place = record {
   goes =
       goes-then old mid new one two three (elements + 1) s t u come.goes
       (goes-end mid new two three (i + 1) elements t u goes (long ∙ ap (λ (x : Source). length x.list.now) (sym come.goes.source)));
   filed = filed;
   limit = limit ∙ come.limit;
   place = λ names files input first run. place names files input first (come.place names files input first run);
+  most = λ names files input first run.
+      let all = input-long (tables_with old one names files) s.core.source input run.is.source in
+      let within : i < length input.items + 1 = omega (arith, low, long, all) in
+      let at = come.place names files input first run in
+      counted-more input i classes r.count within (come.most names files input first run)
+      (classes-at (tables_with mid two names files) input first t r i i at.run come.filed (at.waiting within) (at.ended within));
+  few = omega (arith, clamps, come.few, come.limit, come.filed.filed.few);
 }
 
 -- ---- the end
@@ -208,10 +224,14 @@ finished sets count s r elements own filed long =
     in
     record { rows = none-all s.core.rows.items (λ n. sym (filed.all n) ∙ ap (times n) empty); usable = own.usable }
 
-pub places-all : (old new : Sets) (lines added : List Line) (elements branches : ℕ) (s t : Steps) (r : Rows) → elements ≡ length s.core.source.list.now
-    → HasComeTo old new lines added elements branches (elements + 1) s t r → (names files : List (List ℕ)) (input : Input) (first : core.Core)
-    → IsRun (tables_with old lines names files) input first s → (k : ℕ) → k < length input.items + 1 → HasFewAt input first (map event_of t.events.items) branches k
-places-all old new lines added elements branches s t r long come names files input first run k within =
-    let all = input-long (tables_with old lines names files) s.core.source input run.is.source in
-    subst (λ n. HasFewAt input first (map event_of t.events.items) n k) come.limit
-    ((come.place names files input first run).places k (omega (arith, within, all, long)) within)
+module _ (old new : Sets) (lines added : List Line) (elements branches i classes : ℕ) (s t : Steps) (r : Rows) (long : elements ≡ length s.core.source.list.now) (over : elements < i)
+    (come : HasComeTo old new lines added elements branches i classes s t r) (names files : List (List ℕ)) (input : Input) (first : core.Core)
+    (run : IsRun (tables_with old lines names files) input first s) where
+  all-long : length input.items ≡ length s.core.source.list.now
+  all-long = input-long (tables_with old lines names files) s.core.source input run.is.source
+
+  pub places-all : (k : ℕ) → k < length input.items + 1 → HasPlace input first (map event_of t.events.items) k
+  places-all k within = (come.place names files input first run).places k (omega (arith, within, all-long, long, over)) within
+
+  pub classes-all : HasMostClasses input classes
+  classes-all = counted-all input i classes (omega (arith, all-long, long, over)) (come.most names files input first run)

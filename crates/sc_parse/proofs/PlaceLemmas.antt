@@ -1,8 +1,10 @@
 -- What waits at a place: each configuration that is live there, in one subparser of its class.
-use Rattle.std.proofs.Common.{◌≡◌, ℕ, suc, ◌+◌, ◌<◌, ◌≤◌, Bool, true, false, List, [], ◌∷◌, ◌++◌, All, length, map, slice_get, take, Option, Some, None, Result, inl, inr, refl, sym, ap, ◌∙◌, subst, arith, length-append}
+use Rattle.std.proofs.Common.{◌≡◌, ℕ, suc, max, ◌+◌, ◌<◌, ◌≤◌, Bool, true, false, List, [], ◌∷◌, ◌++◌, All, length, map, slice_get, take, Option, Some, None, Result, inl, inr, refl, sym, ap, ◌∙◌, subst, arith, length-append}
 use Rattle.std.specs.Prelude.{AllPairs}
 use Rattle.std.specs.List.{Contains}
+use Rattle.std.proofs.lemmas.Bool.{cases_lt}
 use Rattle.std.proofs.lemmas.Bool.Decides.{eqb_tells}
+use Rattle.std.proofs.lemmas.Int.{clamps}
 use Rattle.std.proofs.lemmas.List.{take_all, take-append-le}
 use Rattle.std.proofs.lemmas.List.Elements.{All-contains, All-head, All-tail, All-weaker, Contains-append_cases}
 use Rattle.std.proofs.lemmas.Option.{get_or_from_slice_get, slice_get_within}
@@ -33,9 +35,10 @@ use Rattle.sc_parse.specs.declared.rows.Rows.{Rows}
 use Rattle.sc_parse.specs.declared.steps.Steps.{Steps}
 use Rattle.sc_parse.specs.Filed.{AreAllFiled, numbers_in}
 use Rattle.sc_parse.specs.Numbers.{AreApart, filled_at, times}
+use Rattle.sc_parse.specs.MostClasses.{HasMostClasses}
 use Rattle.sc_parse.specs.Places.{HasPlace, HasShifted}
 use Rattle.sc_parse.specs.Runs.{AreWaiting, EndsBefore, HaveEndedBefore, IsRun, IsWaiting}
-use Rattle.sc_parse.specs.Turns.{HasFewAt}
+use Rattle.sc_parse.specs.Turns.{HasMostBefore}
 use Rattle.sc_tree.specs.Reads.{Tables}
 
 -- ---- lists
@@ -263,29 +266,84 @@ module _ (w : Tables) (input : Input) (first : core.Core) (s : Steps) (i : ℕ) 
             );
           }
 
--- where all subparsers are in rows, there are no more classes at the place than there may be
-pub few-at : (w : Tables) (input : Input) (first : core.Core) (s : Steps) (r : Rows) (i j : ℕ) → IsRun w input first s → AreAllFiled s.core r j
-    → AreWaiting w.sets input i s.core.rows.items (numbers_in r) → HaveEndedBefore w.sets input i s.core.ended.items → HasFewAt input first (map event_of s.events.items) r.branches i
-few-at w input first s r i j run filed waits ended = record {
-  place = place-reached w input first s i run (numbers_in r) filed.all waits ended (all-apart s.core.rows.items r filed.filed);
-  few = λ configs are. omega (arith, classes-few w input first s i run (numbers_in r) filed.all waits ended configs are, filed.filed.count, filed.filed.few);
-}
+-- at the place there are so many classes
+pub record AreClassesAt (input : Input) (i count : ℕ) : Type 0 where
+  pub configs : List (List ℕ)
+  pub distinct : AreDistinct input i configs
+  pub many : length configs ≡ count
+  pub none_more : (others : List (List ℕ)) → AreDistinct input i others → length others ≤ count
+
+module _ (w : Tables) (input : Input) (first : core.Core) (s : Steps) (r : Rows) (i j : ℕ) (run : IsRun w input first s) (filed : AreAllFiled s.core r j)
+    (waits : AreWaiting w.sets input i s.core.rows.items (numbers_in r)) (ended : HaveEndedBefore w.sets input i s.core.ended.items) where
+  -- where all subparsers are in rows, the events lead by the place
+  pub place-at : HasPlace input first (map event_of s.events.items) i
+  place-at = place-reached w input first s i run (numbers_in r) filed.all waits ended (all-apart s.core.rows.items r filed.filed)
+
+  -- and there are as many classes at it as subparsers
+  pub classes-at : AreClassesAt input i r.count
+  classes-at =
+      let classes = distinct w input first i s run (numbers_in r) waits (all-apart s.core.rows.items r filed.filed) in
+      record {
+        configs = classes.configs;
+        distinct = classes.distinct;
+        many = classes.many ∙ sym filed.filed.count;
+        none_more = λ others are. omega (arith, classes-few w input first s i run (numbers_in r) filed.all waits ended others are, filed.filed.count);
+      }
 
 -- that stays as events are added
-pub few-more : (input : Input) (first : core.Core) (events more all : List core.Event) (branches k : ℕ) → all ≡ events ++ more → HasFewAt input first events branches k
-    → HasFewAt input first all branches k
-few-more input first events more all branches k is few = record {
-  place = record {
-    count = few.place.count;
-    within = omega (arith, few.place.within, ap length is, length-append events more);
-    seen = few.place.seen;
-    run =
-        let within : few.place.count ≤ length events = few.place.within in
-        subst (λ es. CoreRun input first es few.place.seen) (sym (ap (take few.place.count) is ∙ take-append-le few.place.count events more within)) few.place.run;
-    each = few.place.each;
-    configs = few.place.configs;
-    distinct = few.place.distinct;
-    few = few.place.few;
-  };
-  few = few.few;
+pub place-more : (input : Input) (first : core.Core) (events more all : List core.Event) (k : ℕ) → all ≡ events ++ more → HasPlace input first events k → HasPlace input first all k
+place-more input first events more all k is place = record {
+  count = place.count;
+  within = omega (arith, place.within, ap length is, length-append events more);
+  seen = place.seen;
+  run =
+      let within : place.count ≤ length events = place.within in
+      subst (λ es. CoreRun input first es place.seen) (sym (ap (take place.count) is ∙ take-append-le place.count events more within)) place.run;
+  each = place.each;
+  configs = place.configs;
+  distinct = place.distinct;
+  few = place.few;
+}
+
+-- ---- the most classes
+
+-- no place is before the first
+pub counted-none : (input : Input) → HasMostBefore input 0 0
+counted-none input = record {
+  place = 0;
+  within = omega arith;
+  configs = [];
+  distinct = record { classes = λ k d below. absurd (omega (arith, below)); different = λ k l d low below. absurd (omega (arith, below)) };
+  many = refl;
+  none_more = λ k low others are. absurd (omega (arith, low));
+}
+
+-- one place more
+pub counted-more : (input : Input) (i most count : ℕ) → i < length input.items + 1 → HasMostBefore input i most → AreClassesAt input i count → HasMostBefore input (i + 1) (max most count)
+counted-more input i most count within was now = elim (cases_lt most count) [
+  | inl more ↦
+      let is : max most count ≡ count = omega (arith, clamps, more) in
+      record { place = i; within = within; configs = now.configs; distinct = now.distinct; many = now.many ∙ sym is; none_more = none_more }
+  | inr less ↦
+      let is : max most count ≡ most = omega (arith, clamps, less) in
+      record { place = was.place; within = was.within; configs = was.configs; distinct = was.distinct; many = was.many ∙ sym is; none_more = none_more }
+]
+  where
+    none_more : (k : ℕ) → k < i + 1 → (others : List (List ℕ)) → AreDistinct input k others → length others ≤ max most count
+    none_more k low others are = elim (cases_lt k i) [
+      | inl before ↦ omega (arith, clamps, was.none_more k before others are)
+      | inr at ↦
+          let same : k ≡ i = omega (arith, low, at) in
+          omega (arith, clamps, now.none_more others (subst (λ n. AreDistinct input n others) same are))
+    ]
+
+-- all places are before the one behind the end
+pub counted-all : (input : Input) (i most : ℕ) → length input.items < i → HasMostBefore input i most → HasMostClasses input most
+counted-all input i most past was = record {
+  place = was.place;
+  within = was.within;
+  configs = was.configs;
+  distinct = was.distinct;
+  many = was.many;
+  none_more = λ more. let within = more.within in omega (arith, past, within, was.none_more more.place (omega (arith, past, within)) more.configs more.distinct, more.more);
 }

@@ -9,7 +9,7 @@ use Rattle.std.proofs.lemmas.Simd.{map-map}
 use Rattle.c11_parsing.proofs.Derivations.{derives-text}
 use Rattle.c11_parsing.proofs.Events.{finished-answers}
 use Rattle.c11_parsing.proofs.OneAnswer.{one_answer}
-use Rattle.c11_parsing.specs.Classes.{HasMoreClasses, Input, project}
+use Rattle.c11_parsing.specs.Classes.{Input, project}
 use Rattle.c11_parsing.specs.Core as core
 use Rattle.c11_parsing.specs.Core.{count, filled, nothing, over, Piece, Stands}
 use Rattle.c11_parsing.specs.Derives.{IsParserOf}
@@ -46,10 +46,11 @@ use Rattle.sc_model.specs.Sets.{IsCond, IsConfig, Sets}
 use Rattle.sc_model.specs.Token as plain
 use Rattle.sc_parse.specs.declared.steps.Steps.{Steps}
 use Rattle.sc_parse.proofs.EventLemmas.{run-stands-seen}
+use Rattle.sc_parse.specs.MostClasses.{HasMostClasses}
 use Rattle.sc_parse.specs.Parses.{IsAccepted, IsInputOf, IsParse, OwnsParsed}
-use Rattle.sc_parse.specs.Places.{IsSchedule}
+use Rattle.sc_parse.specs.Places.{HasPlace, IsSchedule}
 use Rattle.sc_parse.specs.Runs.{IsRun}
-use Rattle.sc_parse.specs.Turns.{HasBegun, HasFewAt}
+use Rattle.sc_parse.specs.Turns.{HasBegun}
 use Rattle.sc_tree.specs.Lines.{Line}
 use Rattle.sc_tree.specs.Reads.{Tables}
 
@@ -212,9 +213,10 @@ module _ (input : Input) (last : core.Core) (done : core.IsFinished last) (stand
             | inr rest ↦ absurd (no_member (Ok tree) rest)
           ]
 
-  pub parsed : (w : Tables) (o : Outcome) (events : Vec Event) → input.arities ≡ w.sets.arities → IsC11 input.parser → IsOutcome w last o
-      → IsParse w input (record { root = o.root; faults = o.faults; events = events })
-  parsed w o events arities c11 outcome = record {
+  pub parsed : (w : Tables) (o : Outcome) (classes : ℕ) (events : Vec Event) → input.arities ≡ w.sets.arities → IsC11 input.parser → IsOutcome w last o → HasMostClasses input classes
+      → IsParse w input (record { root = o.root; faults = o.faults; classes = classes; events = events })
+  parsed w o classes events arities c11 outcome most = record {
+    classes = most;
     derivations = λ c tree is. derives-text c11.grammar input.parser c11.is input.end (project c input.items) tree is.answer;
     trees = λ c tree is.
         let one = live-answer c (Ok tree) is.is_config is.live is.answer in
@@ -229,9 +231,9 @@ module _ (input : Input) (last : core.Core) (done : core.IsFinished last) (stand
       listed : (c : List ℕ) → IsConfig input.arities c → IsConfig w.sets.arities c
       listed c config = subst (λ ns. IsConfig ns c) arities config
 
-pub own-parsed : (sets : Sets) (count : ℕ) (source : Source) (list : List (Cond × Token)) (end : Place) (o : Outcome) (events : Vec Event) → source.list.now ≡ list → source.end ≡ end
-    → OwnsOutcome sets count source o → OwnsParsed sets count list end (record { root = o.root; faults = o.faults; events = events })
-own-parsed sets count source list end o events same_list same_end own = record {
+pub own-parsed : (sets : Sets) (count : ℕ) (source : Source) (list : List (Cond × Token)) (end : Place) (o : Outcome) (classes : ℕ) (events : Vec Event) → source.list.now ≡ list
+    → source.end ≡ end → OwnsOutcome sets count source o → OwnsParsed sets count list end (record { root = o.root; faults = o.faults; classes = classes; events = events })
+own-parsed sets count source list end o classes events same_list same_end own = record {
   root = own.root;
   faults = own.faults;
   places = subst (λ (p : Place). All (λ (fault : declared.Fault). IsPlaceOf list p fault.place) o.faults.items) same_end
@@ -240,18 +242,14 @@ own-parsed sets count source list end o events same_list same_end own = record {
 
 -- ---- what is told of the events
 
-pub schedule : (w : Tables) (input : Input) (first : core.Core) (s : Steps) (branches : ℕ) → IsRun w input first s → IsFinished s.core
-    → ((k : ℕ) → k < length input.items + 1 → HasFewAt input first (map event_of s.events.items) branches k) → IsSchedule input s.events.items
-schedule w input first s branches run done few = record {
+pub schedule : (w : Tables) (input : Input) (first : core.Core) (s : Steps) → IsRun w input first s → IsFinished s.core
+    → ((k : ℕ) → k < length input.items + 1 → HasPlace input first (map event_of s.events.items) k) → IsSchedule input s.events.items
+schedule w input first s run done places = record {
   first = first;
   last = run.last;
   start = run.start;
   run = run.run;
   finished = run-over w input first s run done;
   answers = finished-answers input run.last (run-over w input first s run done) (run-stands-seen w input first s run);
-  places = λ k within. (few k within).place;
+  places = places;
 }
-
-pub no-more : (input : Input) (first : core.Core) (events : List core.Event) (branches : ℕ) → ((k : ℕ) → k < length input.items + 1 → HasFewAt input first events branches k)
-    → HasMoreClasses input branches → ⊥
-no-more input first events branches few more = let most = (few more.place more.within).few more.configs more.distinct in omega (arith, most, more.more)

@@ -20,7 +20,7 @@ use Rattle.sc_model.specs.Sets.{IsConfig, Sets}
 use Rattle.sc_model.specs.Token.{Token}
 use Rattle.sc_parse.proofs.NumberLemmas.{each-kept, each-of, each-then, filled-most}
 use Rattle.sc_parse.proofs.PartLemmas.{place-within}
-use Rattle.sc_parse.proofs.PlaceLemmas.{few-at, few-more}
+use Rattle.sc_parse.proofs.PlaceLemmas.{place-at, place-more}
 use Rattle.sc_parse.proofs.RowLemmas.{apart-kept, each-in, row-times}
 use Rattle.sc_parse.proofs.RunLemmas.{goes-then, waiting-kept}
 use Rattle.sc_parse.specs.declared.rows.Rows.{Rows}
@@ -28,7 +28,8 @@ use Rattle.sc_parse.specs.declared.steps.Steps.{Steps}
 use Rattle.sc_parse.specs.Filed.{AreAllFiled, AreFiled, HasNoneBefore, numbers_in}
 use Rattle.sc_parse.specs.Numbers.{AreNumbers, Each, filled_at, IsAt, IsBetween, Replaces, times}
 use Rattle.sc_parse.specs.Runs.{AreWaiting, EndsBefore, GoesOn, HaveEndedBefore, IsOfClass, IsRun, IsWaiting, OwnsSteps}
-use Rattle.sc_parse.specs.Turns.{HasFewAt, IsAtPlace}
+use Rattle.sc_parse.specs.Places.{HasPlace}
+use Rattle.sc_parse.specs.Turns.{IsAtPlace}
 use Rattle.sc_tree.specs.Lines.{Line}
 
 -- ---- from a place to the next one
@@ -249,14 +250,12 @@ module _ {a b : Sets} {lines added : List Line} {s t : Steps} {r now : Rows} {at
       ended : at + 1 < length input.items + 1 → HaveEndedBefore b input (at + 1) t.core.ended.items
       ended within = was.goes.ended names files input first place.run within (ended-later a input at s.core.ended.items (place.ended (omega (arith, within))))
 
-      places : (k : ℕ) → k ≤ at + 1 → k < length input.items + 1 → HasFewAt input first (map event_of t.events.items) now.branches k
+      places : (k : ℕ) → k ≤ at + 1 → k < length input.items + 1 → HasPlace input first (map event_of t.events.items) k
       places k up within = elim (cases_lt k (at + 1)) [
-        | inl low ↦
-            subst (λ limit. HasFewAt input first (map event_of t.events.items) limit k) (sym was.limit)
-            (few-more input first (map event_of s.events.items) was.goes.more (map event_of t.events.items) r.branches k was.goes.events (place.places k (omega (arith, low)) within))
+        | inl low ↦ place-more input first (map event_of s.events.items) was.goes.more (map event_of t.events.items) k was.goes.events (place.places k (omega (arith, low)) within)
         | inr high ↦
             let same : at + 1 ≡ k = omega (arith, up, high) in
-            subst (HasFewAt input first (map event_of t.events.items) now.branches) same
+            subst (HasPlace input first (map event_of t.events.items)) same
             (let in_list : at + 1 < length input.items + 1 = omega (arith, within, same) in
-            few-at (tables_with b added names files) input first t now (at + 1) (at + 1) run turn-filed (was.waiting names files input first place in_list) (ended in_list))
+            place-at (tables_with b added names files) input first t now (at + 1) (at + 1) run turn-filed (was.waiting names files input first place in_list) (ended in_list))
       ]

@@ -1,4 +1,5 @@
 pub mod Filed
+pub mod MostClasses
 pub mod Numbers
 pub mod Packed
 pub mod Parses

@@ -23,6 +23,7 @@ use Rattle.sc_model.specs.Fault.{Fault}
 use Rattle.sc_model.specs.Sets.{Sets, IsConfig, IsCond}
 use Rattle.sc_model.specs.Token as plain
 use Rattle.sc_parse.specs.declared.parsed.Parsed.{Parsed}
+use Rattle.sc_parse.specs.MostClasses.{HasMostClasses}
 use Rattle.sc_tree.specs.Reads.{Tables}
 
 -- the list with its end is what is parsed, for the configurations that are live
@@ -44,7 +45,8 @@ pub record IsAccepted (input : Input) (c : List ℕ) (tree : Tree) : Type 0 wher
 
 -- The root stands for the tree of each live configuration that is accepted, and the faults are
 -- those of each other one. Configurations that are not live have no fault. There is no root
--- exactly where no configuration is accepted. Each tree derives a whole text from the tokens.
+-- exactly where no configuration is accepted. Each tree derives a whole text from the tokens. The
+-- classes are the most at one place.
 pub record IsParse (w : Tables) (input : Input) (p : Parsed) : Type 0 where
   pub trees : (c : List ℕ) (tree : Tree) → IsAccepted input c tree → RootReads w c p.root tree
   pub derivations : (c : List ℕ) (tree : Tree) → IsAccepted input c tree → DerivesText input.parser tree (project c input.items)
@@ -52,6 +54,7 @@ pub record IsParse (w : Tables) (input : Input) (p : Parsed) : Type 0 where
       → LR input.parser input.end (project c input.items) answer → map (seen_fault w.files) (faults_at w.sets p.faults.items c) ≡ faults_in (answer ∷ [])
   pub others : (c : List ℕ) → IsConfig input.arities c → input.live c ≡ false → faults_at w.sets p.faults.items c ≡ []
   pub some : (id : TreeId) → p.root ≡ Some id → (c : List ℕ) × ((tree : Tree) × IsAccepted input c tree)
+  pub classes : HasMostClasses input p.classes
 
 -- the conditions of the faults and the root are those of the stores, and each fault's place is that
 -- of an element of the list, or the end

@@ -14,10 +14,14 @@ use Rattle.sc_parse.specs.Places.{HasPlace}
 use Rattle.sc_parse.specs.Runs.{AreWaiting, HaveEndedBefore, IsRun}
 use Rattle.sc_tree.specs.Reads.{Tables}
 
--- the events lead by the place, at which there are no more classes than so many
-pub record HasFewAt (input : Input) (first : core.Core) (events : List core.Event) (branches i : ℕ) : Type 0 where
-  pub place : HasPlace input first events i
-  pub few : (configs : List (List ℕ)) → AreDistinct input i configs → length configs ≤ branches
+-- at some place there are so many classes, and at none before this one there are more
+pub record HasMostBefore (input : Input) (i most : ℕ) : Type 0 where
+  pub place : ℕ
+  pub within : place < length input.items + 1
+  pub configs : List (List ℕ)
+  pub distinct : AreDistinct input place configs
+  pub many : length configs ≡ most
+  pub none_more : (k : ℕ) → k < i → (others : List (List ℕ)) → AreDistinct input k others → length others ≤ most
 
 -- All subparsers wait since the place, and what has ended has ended before it. The events lead by
 -- each place up to this one.
@@ -25,7 +29,7 @@ pub record IsAtPlace (w : Tables) (input : Input) (first : core.Core) (s : Steps
   pub run : IsRun w input first s
   pub waiting : i < length input.items + 1 → AreWaiting w.sets input i s.core.rows.items (numbers_in r)
   pub ended : i < length input.items + 1 → HaveEndedBefore w.sets input i s.core.ended.items
-  pub places : (k : ℕ) → k ≤ i → k < length input.items + 1 → HasFewAt input first (map event_of s.events.items) r.branches k
+  pub places : (k : ℕ) → k ≤ i → k < length input.items + 1 → HasPlace input first (map event_of s.events.items) k
 
 -- the core has one subparser, number 0, before the first element, or none
 pub record HasBegun (c : Core) : Type 0 where

@@ -1,6 +1,6 @@
 //! The loop over the elements of a list.
-ghost use Rattle.std.specs.Prelude.{◌≡◌, ◌<◌, ◌+◌, ◌∷◌, [], ℕ, List, All, IfErr, IfOk, length, map};
-ghost use Rattle.c11_parsing.specs.Classes.{HasMoreClasses, Input};
+ghost use Rattle.std.specs.Prelude.{◌≡◌, ◌<◌, ◌≤◌, ◌+◌, ◌∷◌, [], ℕ, List, All, IfErr, IfOk, length, map};
+ghost use Rattle.c11_parsing.specs.Classes.{Input};
 ghost use Rattle.c11_parsing.specs.Core as core;
 ghost use Rattle.sc_base.specs.Seen.{IsHeld};
 ghost use Rattle.sc_fork.specs.Choices.{AddsLeaves, AreSound};
@@ -11,10 +11,11 @@ ghost use Rattle.sc_model.specs.Growth.{Extends};
 ghost use Rattle.sc_model.specs.Sets.{IsCond, Keeps};
 ghost use Rattle.sc_parse.specs.Filed.{AreAllFiled};
 ghost use Rattle.sc_parse.specs.Numbers.{AreNumbers, Each, HasShifted, IsAt, IsBetween, IsReady, Replaces};
+ghost use Rattle.sc_parse.specs.MostClasses.{HasMostClasses};
 ghost use Rattle.sc_parse.specs.Parses.{IsInputOf, IsParse, OwnsParsed, StopsFor};
-ghost use Rattle.sc_parse.specs.Places.{IsSchedule};
+ghost use Rattle.sc_parse.specs.Places.{HasPlace, IsSchedule};
 ghost use Rattle.sc_parse.specs.Runs.{GoesOn, IsRun, OwnsSteps};
-ghost use Rattle.sc_parse.specs.Turns.{HasBegun, HasFewAt, IsAtPlace};
+ghost use Rattle.sc_parse.specs.Turns.{HasBegun, IsAtPlace};
 ghost use Rattle.sc_tree.specs.Lines.{OwnsBranches};
 
 use crate::parsed::Parsed;
@@ -53,8 +54,7 @@ pub fn parse<C: Conditions>(
         → IsParse (tables_with (C.sets conds.new) trees.new names.now files) input p) }
     ensures schedule { IfOk result (λ p. (files : List (List ℕ)) (input : Input) → IsInputOf (tables_with (C.sets conds.old) trees.old names.now files) list.now tables.now end live input
         → IsSchedule input p.events.items) }
-    ensures few { IfOk result (λ p. (files : List (List ℕ)) (input : Input) → IsInputOf (tables_with (C.sets conds.old) trees.old names.now files) list.now tables.now end live input
-        → HasMoreClasses input limits.branches → ⊥) }
+    ensures few { IfOk result (λ p. p.classes ≤ limits.branches) }
     ensures own { IfOk result (OwnsParsed (C.sets conds.new) (length trees.new) list.now end) }
     ensures leaves { IfOk result (λ p. AddsLeaves list.now trees.old trees.new) }
     ensures stops { IfErr result (λ stop. (files : List (List ℕ)) (input : Input) → IsInputOf (tables_with (C.sets conds.old) trees.old names.now files) list.now tables.now end live input
@@ -73,16 +73,18 @@ pub fn parse<C: Conditions>(
         core,
         events: Vec::new(alloc),
     };
-    run_to_end(alloc, conds, trees, &mut steps, list.len(), limits.branches)?;
+    let classes = run_to_end(alloc, conds, trees, &mut steps, list.len(), limits.branches)?;
     let outcome = steps.core.result(alloc, conds, trees)?;
     Ok(Parsed {
         root: outcome.root,
         faults: outcome.faults,
+        classes,
         events: steps.events,
     })
 }
 
-/// Takes all elements and the end, from left to right.
+/// Takes all elements and the end, from left to right. The answer is the greatest number of classes
+/// at one place: where all before it is done, there is one subparser for each class.
 fn run_to_end<C: Conditions>(
     alloc: Global,
     conds: &mut C,
@@ -90,15 +92,18 @@ fn run_to_end<C: Conditions>(
     steps: &mut Steps<'_>,
     elements: usize,
     branches: usize,
-) -> Result<(), Stop>
+) -> Result<usize, Stop>
     requires own { OwnsSteps (C.sets conds.old) (length trees.old) steps.old }
     requires branches { OwnsBranches (C.sets conds.old) trees.old }
     requires long { elements ≡ length steps.old.core.source.list.now }
     requires begun { HasBegun steps.old.core }
-    ensures goes_on { IfOk result (λ u. GoesOn (C.sets conds.old) (C.sets conds.new) trees.old trees.new (elements + 1) steps.old steps.new) }
-    ensures done { IfOk result (λ u. IsFinished steps.new.core) }
-    ensures places { IfOk result (λ u. (names files : List (List ℕ)) (input : Input) (first : core.Core) → IsRun (tables_with (C.sets conds.old) trees.old names files) input first steps.old
-        → (k : ℕ) → k < length input.items + 1 → HasFewAt input first (map event_of steps.new.events.items) branches k) }
+    ensures goes_on { IfOk result (λ classes. GoesOn (C.sets conds.old) (C.sets conds.new) trees.old trees.new (elements + 1) steps.old steps.new) }
+    ensures done { IfOk result (λ classes. IsFinished steps.new.core) }
+    ensures places { IfOk result (λ classes. (names files : List (List ℕ)) (input : Input) (first : core.Core) → IsRun (tables_with (C.sets conds.old) trees.old names files) input first steps.old
+        → (k : ℕ) → k < length input.items + 1 → HasPlace input first (map event_of steps.new.events.items) k) }
+    ensures classes { IfOk result (λ classes. (names files : List (List ℕ)) (input : Input) (first : core.Core) → IsRun (tables_with (C.sets conds.old) trees.old names files) input first steps.old
+        → HasMostClasses input classes) }
+    ensures few { IfOk result (λ classes. classes ≤ branches) }
     ensures stops { IfErr result (λ stop. (names files : List (List ℕ)) (input : Input) (first : core.Core) → IsRun (tables_with (C.sets conds.old) trees.old names files) input first steps.old
         → StopsFor input branches stop) }
 
@@ -111,10 +116,12 @@ fn run_to_end<C: Conditions>(
     if steps.core.look(0).is_some() {
         rows.part(alloc, conds, trees, steps, 0)?;
     }
+    let mut classes: usize = 0;
     for at in 0..elements + 1 {
+        classes = classes.max(rows.count);
         take_element(alloc, conds, trees, steps, &mut rows, at)?;
     }
-    Ok(())
+    Ok(classes)
 }
 
 /// Does all that the element causes, or the end: reductions and the shift of each subparser for

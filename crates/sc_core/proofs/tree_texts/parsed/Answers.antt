@@ -114,10 +114,14 @@ returns-clause-translated g c =
       each = translated-at s new c.parse.ensures.keeps names files prepared tables are shown made.owns c.parse.new.trees parsed parsed.events.items parse schedule space main made.ordinary.outside
           arities ordinary ends;
       few = record {
-        c11 = c11-is are;
-        input = listed_input s names files prepared tables are shown;
-        is_input = file-input s names files prepared tables are shown space main made.ordinary.outside arities ordinary ends;
-        few = c.in_ok-parsed.ensures.few files (listed_input s names files prepared tables are shown) (is-listed-input s names files prepared tables are shown c.new-trees.result);
+        most = parsed.classes;
+        classes = record {
+          c11 = c11-is are;
+          input = listed_input s names files prepared tables are shown;
+          is_input = file-input s names files prepared tables are shown space main made.ordinary.outside arities ordinary ends;
+          most_are = (c.in_ok-parsed.ensures.parse files (listed_input s names files prepared tables are shown) (is-listed-input s names files prepared tables are shown c.new-trees.result)).classes;
+        };
+        few = c.in_ok-parsed.ensures.few;
       };
     })
 

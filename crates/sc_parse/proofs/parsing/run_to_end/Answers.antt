@@ -3,7 +3,7 @@ use Rattle.std.proofs.lemmas.Result.{err_from_is_err_and}
 use Rattle.sc_base.proofs.Growth.{Extends-trans}
 use Rattle.sc_fork.specs.declared.source.Source.{Source}
 use Rattle.sc_model.proofs.SetLemmas.{Keeps-trans}
-use Rattle.sc_parse.proofs.EndLemmas.{HasComeTo, come-empty, come-on, come-parted, finished, first-between, first-none, first-there, no-waiting, places-all}
+use Rattle.sc_parse.proofs.EndLemmas.{HasComeTo, classes-all, come-empty, come-on, come-parted, finished, first-between, first-none, first-there, no-waiting, places-all}
 use Rattle.sc_parse.specs.Filed.{AreAllFiled, numbers_in}
 use Rattle.sc_parse.specs.Parses.{StopsFor}
 use Rattle.sc_parse.proofs.parsing.run_to_end.Goals as goal
@@ -79,9 +79,14 @@ returns-in_err-take_element-clause-grows g c = Extends-trans c.loop-at.invariant
 pub loop-at-preserved : goal.loop-at-preserved
 loop-at-preserved g c =
     let s = g.C.Conditions.sets in
-    come-on (s c.args.conds.now) (s c.loop-at.conds) (s c.take_element.new.conds) c.args.trees.now c.loop-at.trees c.take_element.new.trees c.args.elements c.args.branches c.loop-at.at c.args.steps.now
-    c.loop-at.steps c.take_element.new.steps c.loop-at.rows c.take_element.new.rows c.requires.long c.loop-at.invariant c.in_ok-take_element.ensures.goes_on c.in_ok-take_element.ensures.filed
-    c.in_ok-take_element.ensures.limit c.in_ok-take_element.ensures.place
+    subst
+    (λ n.
+    HasComeTo (s c.args.conds.now) (s c.take_element.new.conds) c.args.trees.now c.take_element.new.trees c.args.elements c.args.branches (c.loop-at.at + 1) n c.args.steps.now
+    c.take_element.new.steps c.take_element.new.rows)
+    (sym c.max-classes.ensures)
+    (come-on (s c.args.conds.now) (s c.loop-at.conds) (s c.take_element.new.conds) c.args.trees.now c.loop-at.trees c.take_element.new.trees c.args.elements c.args.branches c.loop-at.at c.loop-at.classes c.args.steps.now
+    c.loop-at.steps c.take_element.new.steps c.loop-at.rows c.take_element.new.rows c.requires.long (omega arith) c.loop-at.invariant c.in_ok-take_element.ensures.goes_on c.in_ok-take_element.ensures.filed
+    c.in_ok-take_element.ensures.limit c.in_ok-take_element.ensures.place)
 
 pub returns-clause-goes_on : goal.returns-clause-goes_on
 returns-clause-goes_on g c = c.loop-at.invariant.goes
@@ -99,10 +104,17 @@ returns-clause-done g c =
 pub returns-clause-places : goal.returns-clause-places
 returns-clause-places g c =
     let s = g.C.Conditions.sets in
-    let at : c.args.elements + 1 ≡ c.loop-at.at = omega arith in
-    places-all (s c.args.conds.now) (s c.loop-at.conds) c.args.trees.now c.loop-at.trees c.args.elements c.args.branches c.args.steps.now c.loop-at.steps c.loop-at.rows c.requires.long
-    (subst (λ i. HasComeTo (s c.args.conds.now) (s c.loop-at.conds) c.args.trees.now c.loop-at.trees c.args.elements c.args.branches i c.args.steps.now c.loop-at.steps c.loop-at.rows) (sym at)
-    c.loop-at.invariant)
+    places-all (s c.args.conds.now) (s c.loop-at.conds) c.args.trees.now c.loop-at.trees c.args.elements c.args.branches c.loop-at.at c.loop-at.classes c.args.steps.now c.loop-at.steps c.loop-at.rows
+    c.requires.long (omega arith) c.loop-at.invariant
+
+pub returns-clause-classes : goal.returns-clause-classes
+returns-clause-classes g c =
+    let s = g.C.Conditions.sets in
+    classes-all (s c.args.conds.now) (s c.loop-at.conds) c.args.trees.now c.loop-at.trees c.args.elements c.args.branches c.loop-at.at c.loop-at.classes c.args.steps.now c.loop-at.steps c.loop-at.rows
+    c.requires.long (omega arith) c.loop-at.invariant
+
+pub returns-clause-few : goal.returns-clause-few
+returns-clause-few g c = c.loop-at.invariant.few
 
 pub returns-clause-keeps : goal.returns-clause-keeps
 returns-clause-keeps g c = c.loop-at.invariant.goes.keeps
