@@ -6,7 +6,8 @@ use Rattle.c11_macros.specs.Expansion as expansion
 use Rattle.c11_macros.specs.Expansion.{Expands, asked, empty, stay, none, next, on}
 use Rattle.c11_macros.specs.Footprint.{Footprint, footprint}
 use Rattle.c11_macros.specs.Hidden.{Hidden, Provenance, Failure, failure_at, no_names}
-use Rattle.c11_macros.specs.Macros.{Item, Form, object_like, function_like, items, Macros}
+use Rattle.c11_macros.specs.Macros.{Form, object_like, function_like, items, Macros}
+use Rattle.sc_model.specs.Token.{Item}
 use Rattle.c11_macros.specs.Substitution.{substituted, wanted_of}
 use Rattle.c11_tokens.specs.Relex.{relexed}
 use Rattle.sc_model.specs.Bytes.{same_bytes}

@@ -4,6 +4,7 @@ mod Examples
 pub mod Halting
 pub mod LongerLists
 pub mod OneAnswer
+pub mod OneLineLists
 pub mod OneRun
 pub mod Resuming
 pub mod Rows

@@ -5,7 +5,8 @@ use Rattle.std.proofs.lemmas.Bool.{leb-true, and_parts, true≢false}
 use Rattle.c11_macros.specs.Call.{Call, Role, opening, closing, comma, other, role_of, onto_argument, onto, apart, call_step, call_of, counts, is_nothing, given, filled_up}
 use Rattle.c11_macros.specs.Expansion.{Case, stays, replaced, unclosed, misfit, called, is_looked_up, fitted_case, call_case, form_case, defined_case, looked_up_case, case_of, list_of, object_result, call_result}
 use Rattle.c11_macros.specs.Hidden.{Hidden, HideSet, Provenance, Failure, with_name, meet}
-use Rattle.c11_macros.specs.Macros.{Macros, Definition, Form, object_like, function_like, Item}
+use Rattle.c11_macros.specs.Macros.{Macros, Definition, Form, object_like, function_like}
+use Rattle.sc_model.specs.Token.{Item}
 use Rattle.c11_macros.specs.Results.{result_map, result_and_then}
 use Rattle.c11_macros.specs.Substitution.{Piece, parts, neither, slots, filled, all_glued, hiding, substituted, with_space, tokens_of, Slot, put_together}
 use Rattle.c11_tokens.specs.Lex.{is_identifier_kind}

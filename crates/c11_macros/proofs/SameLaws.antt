@@ -1,6 +1,7 @@
 -- Two definitions pass the test just where they are equal.
 use Rattle.std.proofs.Common.{◌≡◌, ℕ, ◌==◌, ◌&&◌, not, Bool, true, false, List, [], ◌∷◌, refl, sym, ap, ◌∙◌, eqb-true, eq-eqb, if◌then◌else◌}
-use Rattle.c11_macros.specs.Macros.{Item, Form, object_like, function_like, Replacement, items, file_name, line_number, Definition}
+use Rattle.c11_macros.specs.Macros.{Form, object_like, function_like, Replacement, items, file_name, line_number, Definition}
+use Rattle.sc_model.specs.Token.{Item}
 use Rattle.c11_macros.specs.Same.{kind_number, same_test, same_lists, same_item, same_form, same_replacement, same_definition}
 use Rattle.sc_model.specs.declared.kind.Kind.{Kind}
 use Rattle.sc_model.specs.declared.kind.Kind.TheVariants.{Identifier, Number, Character, Text, Header, Punctuator, Other, Newline}

@@ -2,7 +2,8 @@
 use Rattle.std.specs.Prelude.{ℕ, ◌&&◌, ◌||◌, not, Bool, true, false, List, [], ◌∷◌, ◌++◌, map, codes, Option, Some, None, is_some, Result, Ok, Err, if◌then◌else◌}
 use Rattle.std.specs.List.{list_all, list_any}
 use Rattle.c11_tokens.specs.Lex.{is_identifier_kind}
-use Rattle.c11_macros.specs.Macros.{Item, Form, object_like, function_like, items, Definition, predefined_names}
+use Rattle.c11_macros.specs.Macros.{Form, object_like, function_like, items, Definition, predefined_names}
+use Rattle.sc_model.specs.Token.{Item}
 use Rattle.c11_macros.specs.Substitution.{is_hash, is_paste, begins_with_parameter}
 use Rattle.sc_model.specs.declared.cause.Cause.{Cause}
 use Rattle.sc_model.specs.declared.cause.Cause.TheVariants.{BadDefine, ProtectedName}

@@ -2,7 +2,8 @@
 use Rattle.std.specs.Prelude.{◌≡◌, ℕ, zero, not, ◌&&◌, Bool, true, false, List, [], ◌∷◌, ◌++◌, map, length, codes, Option, Some, None, Result, Ok, Err, is_ok, slice_set, if◌then◌else◌}
 use Rattle.c11_macros.specs.Call.{Call, call_of, arguments_for}
 use Rattle.c11_macros.specs.Hidden.{Hidden, Provenance, Failure, failure_at, with_name, meet}
-use Rattle.c11_macros.specs.Macros.{Form, object_like, function_like, Definition, Item, list_at, Macros}
+use Rattle.c11_macros.specs.Macros.{Form, object_like, function_like, Definition, list_at, Macros}
+use Rattle.sc_model.specs.Token.{Item}
 use Rattle.c11_macros.specs.Results.{result_map, result_and_then}
 use Rattle.c11_macros.specs.Substitution.{argument, substituted, slots, parts, neither, wanted_of}
 use Rattle.sc_model.specs.declared.cause.Cause.TheVariants.{UnterminatedCall, WrongArguments}

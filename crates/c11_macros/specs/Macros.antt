@@ -1,21 +1,12 @@
 -- Macros: what they are defined to be, and those with which a configuration starts (C11 6.10.3,
 -- 6.10.8).
-use Rattle.std.specs.Prelude.{Bool, false, ℕ, ◌==◌, ◌||◌, List, [], ◌∷◌, ◌++◌, map, codes, decimal, Option, Some, None, slice_get, is_some, if◌then◌else◌}
+use Rattle.std.specs.Prelude.{◌≡◌, All, Bool, true, false, ℕ, ◌==◌, ◌||◌, List, [], ◌∷◌, ◌++◌, map, codes, decimal, Option, Some, None, slice_get, is_some, if◌then◌else◌}
 use Rattle.std.specs.Option.{option_and_then, option_or}
 use Rattle.sc_model.specs.declared.kind.Kind.{Kind}
 use Rattle.sc_model.specs.declared.kind.Kind.TheVariants as kind
-use Rattle.sc_model.specs.declared.variable_option.VariableOption.{VariableOption}
-use Rattle.sc_model.specs.declared.variable_option.VariableOption.TheVariants.{Undefined, Number}
-use Rattle.sc_model.specs.Bytes.{same_bytes}
-use Rattle.sc_model.specs.Space.{Variable, Space}
-use Rattle.sc_model.specs.Token.{Place}
-
--- a preprocessing token of a replacement list
-pub record Item : Type 0 where
-  pub kind : Kind
-  pub spelling : List ℕ
-  -- white space stands before it
-  pub space : Bool
+use Rattle.sc_model.specs.Bytes.{has_no_newline, same_bytes}
+use Rattle.sc_model.specs.Space.{VariableOption, undefined, number, text, Variable, Space}
+use Rattle.sc_model.specs.Token.{Item, Place}
 
 -- a macro with arguments or without them (6.10.3p9, p10)
 pub data Form : Type 0 where
@@ -29,6 +20,12 @@ pub data Replacement : Type 0 where
   items : (list : List Item) → Replacement
   file_name : Replacement
   line_number : Replacement
+
+-- the list stands on one line, wherever the macro's name stands
+abbrev pub IsOneLineList : Replacement → Type 0
+IsOneLineList (items list) = All (λ (i : Item). has_no_newline i.spelling ≡ true) list
+IsOneLineList file_name = Unit {0}
+IsOneLineList line_number = Unit {0}
 
 pub record Definition : Type 0 where
   pub form : Form
@@ -51,7 +48,7 @@ escaped [] = []
 escaped (b ∷ bs) = if b == 34 || b == 92 then 92 ∷ b ∷ escaped bs else b ∷ escaped bs
 
 abbrev pub string_item : List ℕ → List Item
-string_item text = one_item kind.Text (34 ∷ escaped text ++ 34 ∷ [])
+string_item bytes = one_item kind.Text (34 ∷ escaped bytes ++ 34 ∷ [])
 
 -- the replacement list of a macro whose name stands at the place
 abbrev pub list_at : Replacement → Place → List Item
@@ -82,8 +79,9 @@ definition_named [] name = None
 definition_named (m ∷ ms) name = if same_bytes name m.0 then Some m.1 else definition_named ms name
 
 abbrev pub definition_of : VariableOption → Option Definition
-definition_of Undefined = None
-definition_of (Number n) = Some (object (items (number_item (decimal n))))
+definition_of undefined = None
+definition_of (number n) = Some (object (items (number_item (decimal n))))
+definition_of (text bytes list) = Some (object (items list))
 
 -- the option of this index defines its name
 abbrev pub is_defining : List VariableOption → ℕ → Bool

@@ -1,6 +1,7 @@
 -- A test that two definitions are the same (C11 6.10.3p1, p2).
 use Rattle.std.specs.Prelude.{ℕ, ◌==◌, ◌&&◌, not, Bool, true, false, List, [], ◌∷◌}
-use Rattle.c11_macros.specs.Macros.{Item, Form, object_like, function_like, Replacement, items, file_name, line_number, Definition}
+use Rattle.c11_macros.specs.Macros.{Form, object_like, function_like, Replacement, items, file_name, line_number, Definition}
+use Rattle.sc_model.specs.Token.{Item}
 use Rattle.sc_model.specs.declared.kind.Kind.{Kind}
 use Rattle.sc_model.specs.declared.kind.Kind.TheVariants.{Identifier, Number, Character, Text, Header, Punctuator, Other, Newline}
 use Rattle.sc_model.specs.Bytes.{same_bytes}

@@ -3,7 +3,8 @@
 use Rattle.std.specs.Prelude.{ℕ, ◌+◌, ◌==◌, ◌&&◌, ◌||◌, not, Bool, true, false, List, [], ◌∷◌, ◌++◌, map, filter, codes, Option, Some, None, is_some, Result, Ok, Err, slice_index_or, if◌then◌else◌}
 use Rattle.c11_macros.specs.Results.{result_map, result_and_then}
 use Rattle.c11_macros.specs.Hidden.{Hidden, HideSet, Provenance, Failure, failure_at, no_names, union, meet}
-use Rattle.c11_macros.specs.Macros.{Item, Form, object_like, function_like, escaped}
+use Rattle.c11_macros.specs.Macros.{Form, object_like, function_like, escaped}
+use Rattle.sc_model.specs.Token.{Item}
 use Rattle.c11_tokens.specs.Relex.{relexed}
 use Rattle.sc_model.specs.declared.cause.Cause.TheVariants.{BadPaste, BadStringize}
 use Rattle.sc_model.specs.declared.kind.Kind.{Kind}

@@ -11,17 +11,17 @@ use Rattle.c11_directives.specs.Pre.{Includes, Pre, context_of}
 use Rattle.c11_macros.specs.Macros.{Definition, Macros, definition_of, definition_named, initial_macros, predefined_macros, variable_definition}
 use Rattle.sc_core.specs.Cut.{cut_space, cut_variables, first_config}
 use Rattle.sc_core.specs.Ordinary.{HasManyConfigs}
-use Rattle.sc_model.specs.declared.variable_option.VariableOption.{VariableOption}
 use Rattle.sc_model.specs.Bytes.{same_bytes}
 use Rattle.sc_model.specs.Fault.{Fault, first_place}
 use Rattle.sc_model.specs.Growth.{IsOneToOne}
 use Rattle.sc_model.specs.Outside.{Files}
 use Rattle.sc_model.specs.Sets.{HasOptions, IsConfig}
-use Rattle.sc_model.specs.Space.{IsListed, Space, Variable, arities_of}
+use Rattle.sc_model.specs.Space.{IsListed, Space, Variable, VariableOption, arities_of}
 use Rattle.sc_model.specs.Token.{Token}
 use Rattle.sc_space.specs.declared.space.Space as whole
 use Rattle.sc_space.specs.declared.space.Variable as code
-use Rattle.sc_space.specs.Seen.{seen_space, seen_variable}
+use Rattle.sc_space.specs.declared.option.VariableOption as option
+use Rattle.sc_space.specs.Seen.{seen_option, seen_space, seen_variable}
 use Rattle.sc_space.specs.Sound.{IsBefore, IsInRange, IsSound, IsSoundVariable, names_of}
 
 abbrev sizes : List Variable → List ℕ
@@ -109,19 +109,22 @@ module _ (vs : List code.Variable) (ks : List ℕ) (i : ℕ) (v : code.Variable)
       let long = long-map in
       let sized = length-map (map seen_variable vs) (λ (w : Variable). length w.options) in
       let below = config.each i (omega arith) in
-      let size : slice_index (sizes (map seen_variable vs)) i ≡ length v.options.items =
+      let size : slice_index (sizes (map seen_variable vs)) i ≡ length (map seen_option v.options.items) =
       size-at (map seen_variable vs) i (seen_variable v) (omega arith) ∙ ap (λ (w : Variable). length w.options) seen-at in
-      omega arith
+      omega (arith, length-map v.options.items seen_option)
 
-  pub next-variable : (w : code.Variable) (o : VariableOption) (only : List code.Variable) → o ≡ get_or v.options.items (get_or ks i 0) o
-      → seen_variable w ≡ record { name = string_bytes v.name; options = o ∷ [] } → map seen_variable only ≡ take i (cut_variables (map seen_variable vs) ks)
+  pub next-variable : (w : code.Variable) (o : option.VariableOption) (only : List code.Variable) → o ≡ get_or v.options.items (get_or ks i 0) o
+      → seen_variable w ≡ record { name = string_bytes v.name; options = seen_option o ∷ [] } → map seen_variable only ≡ take i (cut_variables (map seen_variable vs) ks)
       → map seen_variable (only ++ w ∷ []) ≡ take (i + 1) (cut_variables (map seen_variable vs) ks)
   next-variable w o only at made so_far =
       let long = long-map in
       let next = cut-next (map seen_variable vs) ks i (seen_variable v) config (omega arith) in
-      let cut : record { name = (get_or (map seen_variable vs) i (seen_variable v)).name; options = take 1 (drop (get_or ks i 0) (get_or (map seen_variable vs) i (seen_variable v)).options) } ≡ seen_variable w =
-      ap (λ (u : Variable). record { name = u.name; options = take 1 (drop (get_or ks i 0) u.options) }) seen-at
-      ∙ (ap (λ (os : List VariableOption). record { name = string_bytes v.name; options = os }) (take-one v.options.items (get_or ks i 0) o option-within at) ∙ sym made) in
+      let k = get_or ks i 0 in
+      let within : k < length (map seen_option v.options.items) = omega (arith, option-within, length-map v.options.items seen_option) in
+      let one = take-one (map seen_option v.options.items) k (seen_option o) within (ap seen_option at ∙ sym (get_or-map seen_option v.options.items k o)) in
+      let cut : record { name = (get_or (map seen_variable vs) i (seen_variable v)).name; options = take 1 (drop k (get_or (map seen_variable vs) i (seen_variable v)).options) } ≡ seen_variable w =
+      ap (λ (u : Variable). record { name = u.name; options = take 1 (drop k u.options) }) seen-at
+      ∙ (ap (λ (os : List VariableOption). record { name = string_bytes v.name; options = os }) one ∙ sym made) in
       let more : i + 1 ≡ suc i = omega arith in
       map-append seen_variable only (w ∷ [])
       ∙ (ap (λ us. us ++ seen_variable w ∷ []) so_far

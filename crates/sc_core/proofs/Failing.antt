@@ -15,6 +15,7 @@ use Rattle.sc_space.specs.declared.fault.SpaceStop.TheVariants as stop
 use Rattle.sc_space.specs.Seen.{Refuses, seen_fault}
 use Rattle.sc_space.specs.SpaceFile as file
 use Rattle.sc_space.specs.SpaceFile.{read_space}
+use Rattle.sc_space.specs.Texts.{AreTexts, Texts}
 
 -- ---- files that a source may hold
 
@@ -32,19 +33,19 @@ held-at (Some files) name bytes answer = sym (answer files refl)
 
 -- a source that answers this at the name
 module _ (holds : Option Files) (name : List ℕ) (bytes : Option (List ℕ)) (answer : (files : Files) → holds ≡ Some files → bytes ≡ files name) where
-  pub reads-space : (text : List ℕ) (space : Space) → bytes ≡ Some text → read_space text ≡ Ok space → ReadsSpace holds name space
+  pub reads-space : (text : List ℕ) (space : Space) → bytes ≡ Some text → ((texts : Texts) → AreTexts texts → read_space texts text ≡ Ok space) → ReadsSpace holds name space
   reads-space text space is read =
       record { files = held_or holds (λ _. bytes); held = may-hold holds (λ _. bytes); has = record { bytes = text; held = held-at holds name bytes answer ∙ is; read = read } }
 
   pub absent-space : bytes ≡ None → RefusesAnySpace holds name (line_of error.NoSpace)
   absent-space is = record { files = held_or holds (λ _. bytes); held = may-hold holds (λ _. bytes); why = absent (held-at holds name bytes answer ∙ is) refl }
 
-  pub refused-space : (text line : List ℕ) (fault : file.Fault) → bytes ≡ Some text → read_space text ≡ Err fault → line ≡ space_line fault → RefusesAnySpace holds name line
+  pub refused-space : (text line : List ℕ) (fault : file.Fault) → bytes ≡ Some text → ((texts : Texts) → AreTexts texts → read_space texts text ≡ Err fault) → line ≡ space_line fault → RefusesAnySpace holds name line
   refused-space text line fault is read told =
       record { files = held_or holds (λ _. bytes); held = may-hold holds (λ _. bytes); why = refused text fault (held-at holds name bytes answer ∙ is) read told }
 
   -- what refuses a space is told
-  pub refusal-fails : (before after : ℕ) (text : List ℕ) → bytes ≡ Some text → (stop : SpaceStop) → Refuses stop (read_space text) → (e : RunError) → TellsRefusal stop e
+  pub refusal-fails : (before after : ℕ) (text : List ℕ) → bytes ≡ Some text → (stop : SpaceStop) → ((texts : Texts) → AreTexts texts → Refuses stop (read_space texts text)) → (e : RunError) → TellsRefusal stop e
       → FailsInSpace holds before after name e
   refusal-fails before after text is (stop.Fault fault) read (error.BadSpace line) told = refused-space text line.items (seen_fault fault) is read told
   refusal-fails before after text is (stop.Fault fault) read (error.Usage words) told = absurd told

@@ -24,6 +24,7 @@ use Rattle.sc_show.specs.TreeShows.{shown_tree}
 use Rattle.sc_source.specs.Sink.{WritesCut}
 use Rattle.sc_space.specs.Config.{read_config}
 use Rattle.sc_space.specs.SpaceFile as file
+use Rattle.sc_space.specs.Texts.{AreTexts, Texts}
 
 -- ---- the outside of a run
 
@@ -150,7 +151,7 @@ pub record IsConflictsText (s : Setting) (pieces : List (List ℕ)) (accepted : 
 pub record HasSpace (files : Files) (name : List ℕ) (space : Space) : Type 0 where
   pub bytes : List ℕ
   pub held : files name ≡ Some bytes
-  pub read : file.read_space bytes ≡ Ok space
+  pub read : (texts : Texts) → AreTexts texts → file.read_space texts bytes ≡ Ok space
 
 -- The setting has this main file, and the space that files which the source may hold have under
 -- this name. A source that doesn't tell may hold others by the time that the main file is read.
@@ -163,7 +164,7 @@ pub record IsOn (holds : Option Files) (name main : List ℕ) (s : Setting) : Ty
 -- the space file is not held or is refused, and the line tells why
 pub data RefusesSpace (files : Files) (name line : List ℕ) : Type 0 where
   absent : files name ≡ None → line ≡ line_of error.NoSpace → RefusesSpace files name line
-  refused : (bytes : List ℕ) (fault : file.Fault) → files name ≡ Some bytes → file.read_space bytes ≡ Err fault → line ≡ space_line fault → RefusesSpace files name line
+  refused : (bytes : List ℕ) (fault : file.Fault) → files name ≡ Some bytes → ((texts : Texts) → AreTexts texts → file.read_space texts bytes ≡ Err fault) → line ≡ space_line fault → RefusesSpace files name line
 
 -- the space file is held and read, the words that choose a configuration are refused, and the line
 -- tells the fault

@@ -1,7 +1,8 @@
 -- What two configurations have of a call that is taken out of its list.
 use Rattle.std.proofs.Common.{◌≡◌, ◌∙◌, ℕ, ◌+◌, Bool, true, false, List, [], ◌∷◌, All, map, drop, take, refl, sym, ap, subst, if◌then◌else◌}
 use Rattle.std.proofs.lemmas.List.Elements.{All-cons, All-head, All-nil, All-tail}
-use Rattle.c11_macros.specs.Macros.{Form, Item}
+use Rattle.c11_macros.specs.Macros.{Form}
+use Rattle.sc_model.specs.Token.{Item}
 use Rattle.sc_base.specs.declared.id.Cond.{Cond}
 use Rattle.sc_base.specs.declared.id.Name.{Name}
 use Rattle.sc_base.specs.declared.token.Token.{Token}

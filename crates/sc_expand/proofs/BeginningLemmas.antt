@@ -13,7 +13,8 @@ use Rattle.c11_macros.specs.Results.{result_and_then}
 use Rattle.c11_macros.specs.Call.{arguments_for, call_of}
 use Rattle.c11_macros.specs.Call.{Call as SomeCall}
 use Rattle.c11_macros.specs.Expansion.{call_case, case_of, defined_case, fitted_case, form_case, is_looked_up, list_of, looked_up_case, stays}
-use Rattle.c11_macros.specs.Macros.{Definition, Form, Item, Macros, function_like}
+use Rattle.c11_macros.specs.Macros.{Definition, Form, Macros, function_like}
+use Rattle.sc_model.specs.Token.{Item}
 use Rattle.c11_macros.specs.Substitution.{Slot, argument, neither, parts, put_together, slots, substituted, wanted_of}
 use Rattle.sc_base.proofs.Growth.{Extends-trans}
 use Rattle.sc_base.specs.declared.id.Cond.{Cond}

@@ -5,7 +5,8 @@ use Rattle.std.proofs.lemmas.List.Elements.{All-nil, All-cons, All-head, All-tai
 use Rattle.std.specs.Prelude.{IfOk, Result, Ok, Err, Option, Some, None}
 use Rattle.c11_macros.specs.Hidden as model
 use Rattle.c11_macros.specs.Hidden.{Failure, HideSet, Provenance, failure_at, no_names}
-use Rattle.c11_macros.specs.Macros.{Form, Item}
+use Rattle.c11_macros.specs.Macros.{Form}
+use Rattle.sc_model.specs.Token.{Item}
 use Rattle.c11_macros.specs.Results.{result_and_then, result_map}
 use Rattle.c11_macros.specs.Substitution.{Part, Piece, Slot, all_glued, argument, argument_pieces, begins_paste, filled, filled_by, for_parameter, for_paste, glued, hiding, is_text_kind, joined, literal, neither, operator, or_placemarker, parameter, parts, paste, pasted_as, piece, pieces_of, placemarker, slot_of, slots, spellings, substituted, token, tokens_of, with_space, put_together}
 use Rattle.c11_tokens.specs.Relex.{relexed}

@@ -11,12 +11,14 @@ use Rattle.c11_macros.specs.Call.{Call, Role, opening, closing, comma, other, ap
 use Rattle.c11_macros.specs.Expansion as expansion
 use Rattle.c11_macros.specs.Expansion.{Case, stays, replaced, unclosed, misfit, called, asked, call_case, case_of, defined_case, fitted_case, form_case, is_looked_up, list_of, looked_up_case, with_first, Expands, Each, Rescans}
 use Rattle.c11_macros.specs.Hidden.{Failure, Hidden, HideSet, Provenance, failure_at, meet, no_names, with_name}
-use Rattle.c11_macros.specs.Macros.{Definition, Form, Item, Macros, Replacement, escaped, file_name, function_like, items, line_number, list_at, object_like}
+use Rattle.c11_macros.proofs.OneLineLists.{both, every-map}
+use Rattle.c11_macros.specs.Macros.{Definition, Form, IsOneLineList, Macros, Replacement, escaped, file_name, function_like, items, line_number, list_at, object_like}
+use Rattle.sc_model.specs.Token.{Item}
 use Rattle.c11_macros.specs.Results.{result_and_then, result_map}
 use Rattle.c11_macros.specs.Substitution as substitution
 use Rattle.c11_macros.specs.Substitution.{Before, Part, Piece, Slot, after_hash, after_paste, all_glued, argument, argument_pieces, begins_paste, begins_with_parameter, filled, filled_by, for_parameter, for_paste, glued, hidden_by, hiding, is_after_paste, is_hash, is_paste, is_quoted_kind, is_text_kind, joined, literal_of, neither, operand_part, operator, or_placemarker, parameter_of, parts, pasted_as, piece, pieces_of, placemarker, quoted_spelling, slot_of, slots, spellings, spellings_after, stringized, substituted, tokens_of, with_space, put_together, wanted_of}
 use Rattle.c11_tokens.specs.Relex.{relexed}
-use Rattle.sc_expand.specs.OneLine.{AreOneLine, IsInPlace, IsOneLine, IsOneLineList}
+use Rattle.sc_expand.specs.OneLine.{AreOneLine, IsInPlace, IsOneLine}
 use Rattle.sc_model.specs.declared.cause.Cause.TheVariants.{BadStringize}
 use Rattle.sc_model.specs.declared.kind.Kind.{Kind}
 use Rattle.sc_model.specs.declared.kind.Kind.TheVariants.{Text}
@@ -33,10 +35,6 @@ ok-then : {A B E : Type 0} (C : A → Type 0) (D : B → Type 0) (g : A → Resu
 ok-then C D g h (Ok x) k = h x k
 ok-then C D g h (Err e) k = tt
 
-pub both : {A : Type 0} (C : A → Type 0) (b : Bool) (x y : A) → C x → C y → C (if b then x else y)
-both C true x y h k = h
-both C false x y h k = k
-
 every-set : {A : Type 0} (C : A → Type 0) (xs : List A) (n : ℕ) (x : A) → Every C xs → C x → Every C (set xs n x)
 every-set C [] n x h k = tt
 every-set C (y ∷ ys) zero x h k = (k, h.1)
@@ -45,10 +43,6 @@ every-set C (y ∷ ys) (suc n) x h k = (h.0, every-set C ys n x h.1 k)
 every-append : {A : Type 0} (C : A → Type 0) (xs ys : List A) → Every C xs → Every C ys → Every C (xs ++ ys)
 every-append C [] ys h k = k
 every-append C (x ∷ xs) ys h k = (h.0, every-append C xs ys h.1 k)
-
-pub every-map : {A B : Type 0} (C : A → Type 0) (D : B → Type 0) (g : A → B) → ((x : A) → C x → D (g x)) → (xs : List A) → Every C xs → Every D (map g xs)
-every-map C D g h [] k = tt
-every-map C D g h (x ∷ xs) k = (h x k.0, every-map C D g h xs k.1)
 
 every-get : {A : Type 0} (C : A → Type 0) (xs : List A) (n : ℕ) (d : A) → C d → Every C xs → C (get_or xs n d)
 every-get C [] n d h k = h

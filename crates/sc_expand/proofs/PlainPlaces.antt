@@ -7,7 +7,8 @@ use Rattle.c11_macros.proofs.Agreement.{EachBy, RescansBy}
 use Rattle.c11_macros.specs.Call.{Call, Role, opening, closing, comma, other, apart, arguments_for, call_of, call_step, counts, filled_up, given, is_nothing, onto, onto_argument, role_of}
 use Rattle.c11_macros.specs.Expansion.{Case, stays, replaced, unclosed, misfit, called, asked, call_case, call_result, case_of, defined_case, fitted_case, form_case, is_looked_up, list_of, looked_up_case, object_result, with_first, Expands, empty, stay, object, unterminated, miscounted, call, Each, next, none, stops, Rescans, on, refused}
 use Rattle.c11_macros.specs.Hidden.{Failure, Hidden, HideSet, Provenance, failure_at, meet, no_names, with_name}
-use Rattle.c11_macros.specs.Macros.{Definition, Form, Item, Macros, function_like, list_at, object_like}
+use Rattle.c11_macros.specs.Macros.{Definition, Form, Macros, function_like, list_at, object_like}
+use Rattle.sc_model.specs.Token.{Item}
 use Rattle.c11_macros.specs.Results.{result_and_then, result_map}
 use Rattle.c11_macros.specs.Substitution as substitution
 use Rattle.c11_macros.specs.Substitution.{Part, Piece, Slot, all_glued, argument, argument_pieces, begins_paste, filled, filled_by, for_parameter, for_paste, glued, hidden_by, hiding, is_text_kind, joined, literal_of, neither, operator, or_placemarker, parts, put_together, wanted_of, pasted_as, piece, pieces_of, placemarker, quoted_spelling, slot_of, slots, spellings, spellings_after, stringized, substituted, tokens_of, with_space}

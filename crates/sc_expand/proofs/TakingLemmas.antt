@@ -4,7 +4,8 @@ use Rattle.std.specs.List.{list_any}
 use Rattle.std.proofs.lemmas.Bool.{true≢false}
 use Rattle.c11_macros.specs.Hidden as model
 use Rattle.c11_macros.specs.Hidden.{Failure, HideSet, Provenance, failure_at, no_names, with_name}
-use Rattle.c11_macros.specs.Macros.{Form, Item}
+use Rattle.c11_macros.specs.Macros.{Form}
+use Rattle.sc_model.specs.Token.{Item}
 use Rattle.c11_macros.specs.Substitution.{substituted}
 use Rattle.sc_base.specs.declared.place.Place.{Place}
 use Rattle.sc_subst.specs.declared.hidden.Hidden.{Hidden}

@@ -1,33 +1,26 @@
 -- What a text expands to stands on one line, where its tokens and the macros' lists do; and which
 -- macros' lists do.
-use Rattle.std.proofs.Common.{◌≡◌, ℕ, ◌&&◌, not, Bool, true, false, List, [], ◌∷◌, ◌++◌, All, IfOk, map, codes, decimal, Option, Some, None, Result, Ok, Err, refl, sym, subst, ◌∙◌, slice_get, if◌then◌else◌}
+use Rattle.std.proofs.Common.{◌≡◌, ℕ, zero, suc, ◌&&◌, not, Bool, true, false, List, [], ◌∷◌, ◌++◌, All, IfOk, map, codes, decimal, Option, Some, None, Result, Ok, Err, refl, sym, subst, ◌∙◌, slice_get, if◌then◌else◌}
 use Rattle.std.proofs.lemmas.Bool.{true_from_ne_false, true≢false}
-use Rattle.std.proofs.lemmas.List.Elements.{All-from_recursion, All-map, All-weaker, recursion_from_All}
+use Rattle.std.proofs.lemmas.List.Elements.{All-from_recursion, All-head, All-map, All-tail, All-weaker, recursion_from_All}
 use Rattle.std.specs.List.{AllByRecursion as Every}
 use Rattle.std.specs.Map.{update}
 use Rattle.std.specs.Option.{IfSome, option_and_then, option_or}
-use Rattle.c11_macros.specs.Defines.{Defined, Head, define, define_by, fits, head_of, is_parameter, is_protected, is_spelled, item_of, list_from, parameters, parameters_after, reads}
+use Rattle.c11_macros.proofs.OneLineLists.{PlainDefinition, PlainItem, PlainToken, both}
 use Rattle.c11_macros.specs.Expansion.{Expands}
 use Rattle.c11_macros.specs.Hidden.{Failure, Hidden}
-use Rattle.c11_macros.specs.Macros.{Definition, Form, Item, Macros, definition_named, definition_of, escaped, function_like, initial_macros, items, number_item, object_like, predefined_macros, string_item, variable_definition}
+use Rattle.c11_macros.specs.Macros.{Definition, Form, Macros, definition_named, definition_of, escaped, function_like, initial_macros, items, number_item, object_like, predefined_macros, string_item, variable_definition}
+use Rattle.sc_model.specs.Token.{Item}
 use Rattle.c11_macros.specs.Text.{TextExpands, place_alone, text_of_answer, token_of, unhidden}
-use Rattle.c11_tokens.specs.Lex.{is_identifier_kind}
 use Rattle.sc_base.specs.declared.id.Cond.{Cond}
-use Rattle.sc_expand.proofs.PlainLines.{both, decimal-plain, escaped-plain, every-map, quoted-plain, stays-on_one_line}
-use Rattle.sc_expand.specs.OneLine.{AreOneLine, IsOneLine, IsOneLineList}
+use Rattle.sc_expand.proofs.PlainLines.{decimal-plain, escaped-plain, quoted-plain, stays-on_one_line}
+use Rattle.sc_expand.specs.OneLine.{AreOneLine, IsOneLine}
 use Rattle.sc_guarded.specs.Items.{items_at}
-use Rattle.sc_model.specs.declared.cause.Cause.{Cause}
-use Rattle.sc_model.specs.declared.cause.Cause.TheVariants.{BadDefine, ProtectedName}
-use Rattle.sc_model.specs.declared.variable_option.VariableOption.{VariableOption}
-use Rattle.sc_model.specs.declared.variable_option.VariableOption.TheVariants.{Number, Undefined}
 use Rattle.sc_model.specs.Bytes.{has_no_newline, same_bytes}
 use Rattle.sc_model.specs.Sets.{IsConfig, IsNever, Sets}
-use Rattle.sc_model.specs.Space.{Space, Variable}
+use Rattle.sc_model.specs.Space as space_model
+use Rattle.sc_model.specs.Space.{Space, Variable, VariableOption}
 use Rattle.sc_model.specs.Token.{Place, Token}
-
--- a token that is spelled on one line
-abbrev pub PlainToken : Token → Type 0
-PlainToken t = has_no_newline t.spelling ≡ true
 
 -- ---- the expansion of a text
 
@@ -49,12 +42,6 @@ module _ (macros : Macros) (lists : AreOneLine macros) where
 
 -- ---- definitions
 
-abbrev PlainDefinition : Definition → Type 0
-PlainDefinition d = IsOneLineList d.replacement
-
-abbrev PlainItem : Item → Type 0
-PlainItem i = has_no_newline i.spelling ≡ true
-
 one_line-from : (macros : Macros) → ((name : List ℕ) → IfSome (macros name) PlainDefinition) → AreOneLine macros
 one_line-from macros h = record { each = λ name d is. subst (λ (o : Option Definition). IfSome o PlainDefinition) is (h name) }
 
@@ -68,61 +55,6 @@ update-one_line macros name o lists h =
     one_line-from (update same_bytes macros name o)
     (λ other. both (λ (p : Option Definition). IfSome p PlainDefinition) (same_bytes name other) o (macros other) h (some-from (macros other) (lists.each other)))
 
--- ---- what a line defines
-
-abbrev PlainTokens : List Token → Type 0
-PlainTokens = Every PlainToken
-
-abbrev PlainHead : Option Head → Type 0
-PlainHead o = IfSome o (λ head. PlainTokens head.rest)
-
-parameters_after-plain : (before : List (List ℕ)) (ts : List Token) → PlainTokens ts → PlainHead (parameters_after before ts)
-parameters_after-plain before [] h = tt
-parameters_after-plain before (t ∷ []) h = tt
-parameters_after-plain before (t ∷ (u ∷ ts)) h =
-    let last : Option Head = if is_spelled (codes "...") t && is_spelled (codes ")") u then Some (record { form = function_like before true; rest = ts }) else None in
-    let one : Option Head = Some (record { form = function_like (before ++ t.spelling ∷ []) false; rest = ts }) in
-    both PlainHead (is_parameter before t && is_spelled (codes ",") u) (parameters_after (before ++ t.spelling ∷ []) ts) (if is_parameter before t && is_spelled (codes ")") u then one else last)
-    (parameters_after-plain (before ++ t.spelling ∷ []) ts h.1.1)
-    (both PlainHead (is_parameter before t && is_spelled (codes ")") u) one last h.1.1
-    (both PlainHead (is_spelled (codes "...") t && is_spelled (codes ")") u) (Some (record { form = function_like before true; rest = ts })) None h.1.1 tt))
-
-parameters-plain : (ts : List Token) → PlainTokens ts → PlainHead (parameters ts)
-parameters-plain [] h = tt
-parameters-plain (t ∷ ts) h =
-    both PlainHead (is_spelled (codes ")") t) (Some (record { form = function_like [] false; rest = ts })) (parameters_after [] (t ∷ ts)) h.1 (parameters_after-plain [] (t ∷ ts) h)
-
-head-plain : (ts : List Token) → PlainTokens ts → PlainHead (head_of ts)
-head-plain [] h = tt
-head-plain (t ∷ ts) h =
-    both PlainHead (is_spelled (codes "(") t && not t.space) (parameters ts) (Some (record { form = object_like; rest = t ∷ ts })) (parameters-plain ts h.1) h
-
-list_from-plain : (ts : List Token) → PlainTokens ts → Every PlainItem (list_from ts)
-list_from-plain [] h = tt
-list_from-plain (t ∷ ts) h = (h.0, every-map PlainToken PlainItem item_of (λ u k. k) ts h.1)
-
-abbrev PlainDefined : Result Defined Cause → Type 0
-PlainDefined r = IfOk r (λ d. PlainDefinition d.definition)
-
-define-plain : (name : Token) (form : Form) (list : List Item) → Every PlainItem list → PlainDefined (define name form list)
-define-plain name form list h =
-    let made : Result Defined Cause = Ok (record { name = name.spelling; definition = record { form = form; replacement = items list } }) in
-    both PlainDefined (not (fits form list)) (Err BadDefine) (if is_protected name.spelling then Err ProtectedName else made) tt
-    (both PlainDefined (is_protected name.spelling) (Err ProtectedName) made tt (All-from_recursion PlainItem list h))
-
-define_by-plain : (name : Token) (o : Option Head) → PlainHead o → PlainDefined (define_by name o)
-define_by-plain name None h = tt
-define_by-plain name (Some head) h = define-plain name head.form (list_from head.rest) (list_from-plain head.rest h)
-
-reads-plain : (ts : List Token) → PlainTokens ts → PlainDefined (reads ts)
-reads-plain [] h = tt
-reads-plain (name ∷ rest) h =
-    both PlainDefined (is_identifier_kind name.kind) (define_by name (head_of rest)) (Err BadDefine) (define_by-plain name (head_of rest) (head-plain rest h.1)) tt
-
--- the list of a macro that is defined on one line
-pub reads-one_line : (line : List Token) (d : Defined) → All PlainToken line → reads line ≡ Ok d → IsOneLineList d.definition.replacement
-reads-one_line line d h is = subst PlainDefined is (reads-plain line (recursion_from_All PlainToken line h))
-
 -- ---- the macros with which a configuration starts
 
 named-plain : (macros : List (List ℕ × Definition)) → Every (λ (m : List ℕ × Definition). PlainDefinition m.1) macros → (name : List ℕ) → IfSome (definition_named macros name) PlainDefinition
@@ -135,30 +67,44 @@ string-plain text h = All-from_recursion PlainItem (string_item text) (quoted-pl
 number-plain : (text : List ℕ) → has_no_newline text ≡ true → All PlainItem (number_item text)
 number-plain text h = All-from_recursion PlainItem (number_item text) (h, tt)
 
-option-plain : (o : Option VariableOption) → IfSome (option_and_then definition_of o) PlainDefinition
-option-plain None = tt
-option-plain (Some Undefined) = tt
-option-plain (Some (Number n)) = number-plain (decimal n) (decimal-plain n)
+-- the list of a text stands on one line
+abbrev pub PlainOption : VariableOption → Type 0
+PlainOption space_model.undefined = Unit {0}
+PlainOption (space_model.number n) = Unit {0}
+PlainOption (space_model.text bytes list) = All PlainItem list
 
-variable-plain : (variables : List Variable) (config name : List ℕ) → IfSome (variable_definition variables config name) PlainDefinition
-variable-plain [] config name = tt
-variable-plain (v ∷ vs) [] name = tt
-variable-plain (v ∷ vs) (k ∷ ks) name =
+option-plain : (options : List VariableOption) (k : ℕ) → All PlainOption options → IfSome (option_and_then definition_of (slice_get options k)) PlainDefinition
+option-plain [] k plain = tt
+option-plain (o ∷ os) zero plain = by o (All-head PlainOption o os plain)
+  where
+    by : (o : VariableOption) → PlainOption o → IfSome (definition_of o) PlainDefinition
+    by space_model.undefined plain = tt
+    by (space_model.number n) plain = number-plain (decimal n) (decimal-plain n)
+    by (space_model.text bytes list) plain = plain
+option-plain (o ∷ os) (suc k) plain = option-plain os k (All-tail PlainOption o os plain)
+
+abbrev pub PlainVariable : Variable → Type 0
+PlainVariable v = All PlainOption v.options
+
+variable-plain : (variables : List Variable) (config name : List ℕ) → All PlainVariable variables → IfSome (variable_definition variables config name) PlainDefinition
+variable-plain [] config name plain = tt
+variable-plain (v ∷ vs) [] name plain = tt
+variable-plain (v ∷ vs) (k ∷ ks) name plain =
     both (λ (o : Option Definition). IfSome o PlainDefinition) (same_bytes v.name name) (option_and_then definition_of (slice_get v.options k)) (variable_definition vs ks name)
-    (option-plain (slice_get v.options k)) (variable-plain vs ks name)
+    (option-plain v.options k (All-head PlainVariable v vs plain)) (variable-plain vs ks name (All-tail PlainVariable v vs plain))
 
 either-plain : (o p : Option Definition) → IfSome o PlainDefinition → IfSome p PlainDefinition → IfSome (option_or o p) PlainDefinition
 either-plain None p h k = k
 either-plain (Some d) p h k = h
 
-pub initial-one_line : (space : Space) (config : List ℕ) → has_no_newline space.date ≡ true → has_no_newline space.time ≡ true → AreOneLine (initial_macros space config)
-initial-one_line space config date time =
+pub initial-one_line : (space : Space) (config : List ℕ) → All PlainVariable space.variables → has_no_newline space.date ≡ true → has_no_newline space.time ≡ true → AreOneLine (initial_macros space config)
+initial-one_line space config variables date time =
     let one = number-plain (codes "1") refl in
     let predefined : Every (λ (m : List ℕ × Definition). PlainDefinition m.1) (predefined_macros space.date space.time) =
     (tt, (tt, (string-plain space.date date, (string-plain space.time time, (one, (number-plain (codes "201112L") refl, (one, tt))))))) in
     one_line-from (initial_macros space config)
     (λ name. either-plain (definition_named (predefined_macros space.date space.time) name) (variable_definition space.variables config name)
-    (named-plain (predefined_macros space.date space.time) predefined name) (variable-plain space.variables config name))
+    (named-plain (predefined_macros space.date space.time) predefined name) (variable-plain space.variables config name variables))
 
 -- ---- the lists of all configurations
 

@@ -2,7 +2,8 @@
 use Rattle.std.specs.Prelude.{◌≡◌, ℕ, List, [], true, is_ok, map, slice_index_or}
 use Rattle.c11_macros.specs.Hidden as model
 use Rattle.c11_macros.specs.Hidden.{HideSet, Provenance, meet, with_name}
-use Rattle.c11_macros.specs.Macros.{Form, Item}
+use Rattle.c11_macros.specs.Macros.{Form}
+use Rattle.sc_model.specs.Token.{Item}
 use Rattle.c11_macros.specs.Substitution.{argument, neither, parts, slots, substituted, wanted_of}
 use Rattle.sc_base.specs.declared.id.Cond.{Cond}
 use Rattle.sc_base.specs.declared.id.Name.{Name}

@@ -11,6 +11,7 @@ mod stop;
 mod unclosed;
 
 pub use lexer::{end, token, tokens};
+pub use line::name_of;
 pub use relex::relex_one;
 pub use sc_base::{HasToken, Kind, Token};
 pub use stop::LexStop;

@@ -41,7 +41,8 @@ impl LineSoFar {
     }
 }
 
-fn name_of(spelling: &[u8]) -> &[u8]
+/// What a spelling stands for: a digraph acts as another punctuator (C11 6.4.6p3).
+pub fn name_of(spelling: &[u8]) -> &[u8]
     ensures { result.now ≡ name_of spelling.now }
 {
     match digraph(spelling) {

@@ -7,6 +7,7 @@ use Rattle.sc_macro.specs.declared.definition.Item.{Item}
 use Rattle.sc_macro.specs.Seen.{text_of, texts_of, AreHeld, seen_item, IsHeldItem}
 use Rattle.sc_macro.proofs.Parameters.{AreHeld-tail}
 use Rattle.sc_macro.proofs.Texts.{same_id}
+use Rattle.sc_model.specs.Token as model_token
 use Rattle.sc_model.specs.declared.kind.Kind.{Kind}
 use Rattle.sc_model.specs.Growth.{IsOneToOne}
 use Rattle.sc_model.specs.Token.{name_of}
@@ -30,9 +31,9 @@ module _ (names : List (List ℕ)) (one : IsOneToOne names) where
 
   same_item : (a b : Item) → IsHeldItem names a → IsHeldItem names b → seen_item names a ≡ seen_item names b → a ≡ b
   same_item a b in_a in_b same =
-      let text : text_of names a.spelling ≡ text_of names b.spelling = ap (λ (i : model.Item). i.spelling) same in
-      made (ap (λ (i : model.Item). i.kind) same) (same_name a.name b.name in_a.name in_b.name (in_a.stands_for ∙ (ap name_of text ∙ sym in_b.stands_for)))
-      (same_name a.spelling b.spelling in_a.spelling in_b.spelling text) (ap (λ (i : model.Item). i.space) same)
+      let text : text_of names a.spelling ≡ text_of names b.spelling = ap (λ (i : model_token.Item). i.spelling) same in
+      made (ap (λ (i : model_token.Item). i.kind) same) (same_name a.name b.name in_a.name in_b.name (in_a.stands_for ∙ (ap name_of text ∙ sym in_b.stands_for)))
+      (same_name a.spelling b.spelling in_a.spelling in_b.spelling text) (ap (λ (i : model_token.Item). i.space) same)
 
   pub same_items : (xs ys : List Item) → All (IsHeldItem names) xs → All (IsHeldItem names) ys → map (seen_item names) xs ≡ map (seen_item names) ys → xs ≡ ys
   same_items [] [] in_x in_y same = refl

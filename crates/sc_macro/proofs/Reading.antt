@@ -10,6 +10,7 @@ use Rattle.c11_macros.specs.Macros as macros
 use Rattle.sc_base.specs.declared.token.Token as declared
 use Rattle.sc_base.specs.Seen.{IsHeld, seen}
 use Rattle.c11_tokens.specs.Lex.{is_identifier_kind}
+use Rattle.sc_model.specs.Token as model_token
 use Rattle.sc_model.specs.declared.cause.Cause.{Cause}
 use Rattle.sc_model.specs.declared.cause.Cause.TheVariants.{BadDefine, ProtectedName}
 use Rattle.sc_macro.specs.Items.{items_of, item_of}
@@ -23,7 +24,7 @@ use Rattle.sc_macro.proofs.Turns.{no_token}
 pub items-seen : (names files : List (List ℕ)) (ts : List declared.Token) → map (seen_item names) (items_of ts) ≡ model.list_from (map (seen names files) ts)
 items-seen names files [] = refl
 items-seen names files (t ∷ ts) =
-    ap (λ (is : List macros.Item). record (model.item_of (seen names files t)) { space = false } ∷ is) (map-map (seen_item names) item_of ts ∙ sym (map-map model.item_of (seen names files) ts))
+    ap (λ (is : List model_token.Item). record (model.item_of (seen names files t)) { space = false } ∷ is) (map-map (seen_item names) item_of ts ∙ sym (map-map model.item_of (seen names files) ts))
 
 -- a form and the tokens behind it, with whatever names of files
 pub data SameHead (names f g : List (List ℕ)) : Option model.Head → Option model.Head → Type 0 where
@@ -55,7 +56,7 @@ module _ (names f g : List (List ℕ)) where
   defines : (name : declared.Token) (x y : Option model.Head) → SameHead names f g x y → model.define_by (seen names f name) x ≡ model.define_by (seen names g name) y
   defines name None None no_head = refl
   defines name x y (one_head form ts) =
-      ap (λ (list : List macros.Item). model.define (seen names f name) form list) (sym (items-seen names f ts) ∙ items-seen names g ts)
+      ap (λ (list : List model_token.Item). model.define (seen names f name) form list) (sym (items-seen names f ts) ∙ items-seen names g ts)
 
   -- the tokens of a line behind the word define
   pub reads-files : (ts : List declared.Token) → model.reads (map (seen names f) ts) ≡ model.reads (map (seen names g) ts)
@@ -103,7 +104,7 @@ module _ (names : List (List ℕ)) (line rest : List declared.Token) (some : 2 <
         reads_by files
         ∙ (ap (model.define_by (seen names [] (get_or line 2 no_token))) told.is
         ∙ (ap (λ n. model.define (seen names [] (get_or line 2 no_token)) (seen_form names head.form) (model.list_from (map (seen names []) (drop n rest)))) whole
-        ∙ ap (λ (is : List macros.Item). model.define (seen names [] (get_or line 2 no_token)) (seen_form names head.form) is)
+        ∙ ap (λ (is : List model_token.Item). model.define (seen names [] (get_or line 2 no_token)) (seen_form names head.form) is)
         (sym (items-seen names [] (drop head.length rest)) ∙ ap (map (seen_item names)) (sym list_is))))
 
     -- it is refused, or defines the name

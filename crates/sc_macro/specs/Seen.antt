@@ -3,6 +3,7 @@ use Rattle.std.specs.Prelude.{◌≡◌, ℕ, ◌<◌, List, map, length, All}
 use Rattle.c11_macros.specs.Macros as model
 use Rattle.sc_base.specs.declared.id.Name.{Name}
 use Rattle.sc_base.specs.Seen.{text_at}
+use Rattle.sc_model.specs.Token as model_token
 use Rattle.sc_model.specs.Token.{name_of}
 use Rattle.sc_macro.specs.declared.definition.Definition.{Definition}
 use Rattle.sc_macro.specs.declared.definition.Item.{Item}
@@ -17,7 +18,7 @@ text_of names name = text_at names name.0
 abbrev pub texts_of : List (List ℕ) → List Name → List (List ℕ)
 texts_of names ids = map (text_of names) ids
 
-abbrev pub seen_item : List (List ℕ) → Item → model.Item
+abbrev pub seen_item : List (List ℕ) → Item → model_token.Item
 seen_item names i = record { kind = i.kind; spelling = text_of names i.spelling; space = i.space }
 
 abbrev pub seen_form : List (List ℕ) → Form → model.Form

@@ -1,3 +1,4 @@
 pub mod ByteLemmas
 pub mod ListLemmas
 pub mod SetLemmas
+pub mod SpaceLemmas

@@ -8,6 +8,13 @@ pub record Position : Type 0 where
   pub line : ℕ
   pub column : ℕ
 
+-- a preprocessing token of a replacement list
+pub record Item : Type 0 where
+  pub kind : Kind
+  pub spelling : List ℕ
+  -- white space stands before it
+  pub space : Bool
+
 -- a token of one file
 pub record Lexeme : Type 0 where
   pub kind : Kind

@@ -4,8 +4,6 @@
 
 mod cause;
 mod kind;
-mod variable_option;
 
 pub use cause::Cause;
 pub use kind::Kind;
-pub use variable_option::VariableOption;

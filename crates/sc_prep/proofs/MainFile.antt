@@ -168,7 +168,7 @@ module _ {s : Sets} {space : Space} {names files : List (List ℕ)} {walk : Walk
       start (initial_state space main config),
       fresh.starts main config listed,
       λ acting. refl,
-      record { macros = initial-plain space config sound.date_plain sound.time_plain; run = tt; file = plain },
+      record { macros = initial-plain space config sound; run = tt; file = plain },
     );
   }
 

@@ -18,7 +18,7 @@ use Rattle.sc_base.specs.declared.stop.Stop.{Stop}
 use Rattle.sc_base.specs.declared.stop.Stop.TheVariants.{BranchesFull, ReadFault, OutOfMemory}
 use Rattle.sc_base.specs.declared.token.Token as base
 use Rattle.sc_base.specs.Seen.{IsHeld, seen, text_at}
-use Rattle.sc_expand.proofs.TextLines.{PlainToken}
+use Rattle.c11_macros.proofs.OneLineLists.{PlainToken}
 use Rattle.sc_guarded.proofs.ItemLemmas.{map-one}
 use Rattle.sc_guarded.specs.Items.{faults_at, items_at, seen_fault}
 use Rattle.sc_include.specs.declared.header.Header.{Header}

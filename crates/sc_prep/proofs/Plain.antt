@@ -5,13 +5,16 @@ use Rattle.std.proofs.lemmas.List.Elements.{All-from_recursion, All-weaker}
 use Rattle.std.specs.List.{AllByRecursion as Every, list_all}
 use Rattle.c11_macros.specs.Macros.{Macros, initial_macros}
 use Rattle.c11_macros.specs.Text.{TextExpands}
-use Rattle.sc_expand.proofs.TextLines.{PlainToken, initial-one_line, text-stays_on_one_line}
+use Rattle.c11_macros.proofs.OneLineLists.{PlainToken}
+use Rattle.sc_expand.proofs.TextLines.{PlainOption, PlainVariable, initial-one_line, text-stays_on_one_line}
 use Rattle.sc_expand.specs.OneLine.{AreOneLine}
 use Rattle.sc_model.specs.Bytes.{has_no_newline}
-use Rattle.sc_model.specs.Space.{Space}
+use Rattle.sc_model.specs.Space as model
+use Rattle.sc_model.specs.Space.{Space, VariableOption}
 use Rattle.sc_model.specs.Token.{Token}
 use Rattle.sc_prep.specs.Printable.{IsPlainToken}
 use Rattle.sc_space.specs.Settings.{is_date_byte}
+use Rattle.sc_space.specs.Sound.{IsInRange, IsSound, IsSoundVariable}
 
 pub spelled-plain : (ts : List Token) → Every IsPlainToken ts → All PlainToken ts
 spelled-plain ts plain = All-weaker IsPlainToken PlainToken (λ t p. p.spelling) ts (All-from_recursion IsPlainToken ts plain)
@@ -30,5 +33,12 @@ date-plain (b ∷ bs) all =
     let differs = ne_eqb b 10 (λ e. let passes = sym (ap is_date_byte e) ∙ parts.0 in cc) in
     not_from_false _ (or_from _ _ differs (not-true _ (date-plain bs parts.1)))
 
-pub initial-plain : (space : Space) (config : List ℕ) → list_all is_date_byte space.date ≡ true → list_all is_date_byte space.time ≡ true → AreOneLine (initial_macros space config)
-initial-plain space config date time = initial-one_line space config (date-plain space.date date) (date-plain space.time time)
+option-plain : (o : VariableOption) → IsInRange o → PlainOption o
+option-plain model.undefined sound = tt
+option-plain (model.number n) sound = tt
+option-plain (model.text bytes list) sound = sound
+
+pub initial-plain : (space : Space) (config : List ℕ) → IsSound space → AreOneLine (initial_macros space config)
+initial-plain space config sound =
+    let variables = All-weaker IsSoundVariable PlainVariable (λ v is. All-weaker IsInRange PlainOption option-plain v.options is.in_range) space.variables sound.each in
+    initial-one_line space config variables (date-plain space.date sound.date_plain) (date-plain space.time sound.time_plain)

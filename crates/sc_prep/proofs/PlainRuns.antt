@@ -15,9 +15,10 @@ use Rattle.c11_macros.specs.Defines.{Defined, reads}
 use Rattle.c11_macros.specs.Macros.{Definition, Macros}
 use Rattle.c11_macros.specs.Same.{same_definition}
 use Rattle.c11_macros.specs.Text.{TextExpands}
-use Rattle.sc_expand.proofs.PlainLines.{both}
+use Rattle.c11_macros.proofs.OneLineLists.{both}
 use Rattle.sc_expand.proofs.TextLines.{update-one_line}
-use Rattle.sc_expand.specs.OneLine.{AreOneLine, IsOneLineList}
+use Rattle.c11_macros.specs.Macros.{IsOneLineList}
+use Rattle.sc_expand.specs.OneLine.{AreOneLine}
 use Rattle.sc_guarded.specs.Items.{items_at}
 use Rattle.sc_base.specs.Seen.{seen, text_at}
 use Rattle.sc_base.specs.declared.token.Token as base

@@ -18,9 +18,10 @@ use Rattle.c11_macros.specs.Results.{result_map}
 use Rattle.c11_macros.specs.Text.{TextExpands}
 use Rattle.c11_tokens.proofs.PlainLaws.{lexed-plain}
 use Rattle.c11_tokens.specs.Lex.{is_newline, Lexed}
-use Rattle.sc_expand.proofs.PlainLines.{both, every-map}
-use Rattle.sc_expand.proofs.TextLines.{PlainToken, reads-one_line, update-one_line}
-use Rattle.sc_expand.specs.OneLine.{AreOneLine, IsOneLineList}
+use Rattle.c11_macros.proofs.OneLineLists.{PlainToken, both, every-map, reads-one_line}
+use Rattle.c11_macros.specs.Macros.{IsOneLineList}
+use Rattle.sc_expand.proofs.TextLines.{update-one_line}
+use Rattle.sc_expand.specs.OneLine.{AreOneLine}
 use Rattle.sc_model.specs.declared.cause.Cause.{Cause}
 use Rattle.sc_model.specs.declared.cause.Cause.TheVariants.{BadInclude, ProtectedName}
 use Rattle.sc_model.specs.declared.kind.Kind.{Kind}

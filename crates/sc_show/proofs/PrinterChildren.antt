@@ -8,11 +8,10 @@ use Rattle.std.proofs.Math.ListN.{get_or-append}
 use Rattle.std.proofs.Math.Seq.{get_or-append_seam}
 use Rattle.sc_base.specs.declared.id.Cond.{Cond}
 use Rattle.sc_base.proofs.Growth.{Extends-keeps}
-use Rattle.sc_model.specs.declared.variable_option.VariableOption.{VariableOption}
 use Rattle.sc_model.specs.Growth.{Extends}
 use Rattle.sc_text.specs.Layout.{HasOrder, sets_of}
 use Rattle.sc_model.specs.Sets.{Sets, IsConfig, IsCond, Keeps, DependsFrom}
-use Rattle.sc_model.specs.Space.{Space, Variable, arities_of, option_text}
+use Rattle.sc_model.specs.Space.{Space, Variable, arities_of, option_words}
 use Rattle.sc_text.specs.Text.{condition_line, condition_at}
 use Rattle.sc_model.proofs.SetLemmas.{IsConfig-kept, DependsFrom-same, DependsFrom-Keeps}
 use Rattle.sc_show.specs.Prints.{HasWordNames, choices_of}
@@ -65,20 +64,20 @@ condition_at-tests s [] n a c at = absurd (cc)
 condition_at-tests s (k ∷ ks) zero a c at = ap (λ (x : Cond). s.has x.0 c) (same_Some k a at)
 condition_at-tests s (k ∷ ks) (suc n) a c at = condition_at-tests s ks n a c at
 
-All-choices : (P : ℕ → Type 0) (os : List VariableOption) (ns : List ℕ) → All P ns → All (λ (choice : List ℕ × ℕ). P choice.1) (choices_of os ns)
+All-choices : (P : ℕ → Type 0) (os : List (List ℕ)) (ns : List ℕ) → All P ns → All (λ (choice : List ℕ × ℕ). P choice.1) (choices_of os ns)
 All-choices P [] ns all = All-nil (λ (choice : List ℕ × ℕ). P choice.1)
 All-choices P (o ∷ os) [] all = All-nil (λ (choice : List ℕ × ℕ). P choice.1)
 All-choices P (o ∷ os) (n ∷ ns) all =
-    All-cons (λ (choice : List ℕ × ℕ). P choice.1) (option_text o, n) (choices_of os ns) (all 0 n (omega arith)) (All-choices P os ns (λ k d h. all (suc k) d (omega arith)))
+    All-cons (λ (choice : List ℕ × ℕ). P choice.1) (o, n) (choices_of os ns) (all 0 n (omega arith)) (All-choices P os ns (λ k d h. all (suc k) d (omega arith)))
 
 -- a condition's line has the order
 pub HasOrder-node : {space : Space} {s : Sets} {ks : List Cond} {a : Cond} {v : ℕ} {ns : List ℕ} (number : ℕ) (variable : Variable) → HasWordNames space → s.arities ≡ arities_of space
-    → slice_get space.variables v ≡ Some variable → HasChildren s ks a v ns → HasOrder space (tests_of s ks) (condition_line number variable.name (choices_of variable.options ns))
+    → slice_get space.variables v ≡ Some variable → HasChildren s ks a v ns → HasOrder space (tests_of s ks) (condition_line number variable.name (choices_of (option_words variable.options) ns))
 HasOrder-node {space} {s} {ks} {a} {v} {ns} number variable words arities named has = record {
   later = λ place other found.
       let placed = same_Some (0 + v, variable) (place, other) (sym (variable_from-found 0 space.variables v variable words.differ named) ∙ found) in
       let here : v ≡ place = let e : 0 + v ≡ place = ap (λ at. at.0) placed in omega arith in
-      All-choices (λ n. DependsFrom (sets_of space (tests_of s ks)) n (place + 1)) variable.options ns
+      All-choices (λ n. DependsFrom (sets_of space (tests_of s ks)) n (place + 1)) (option_words variable.options) ns
       (subst (λ u. All (λ n. DependsFrom (sets_of space (tests_of s ks)) n (u + 1)) ns) here later);
 }
   where

@@ -14,7 +14,8 @@ use Rattle.sc_base.proofs.Growth.{Extends-refl, Extends-trans, Extends-push}
 use Rattle.sc_model.specs.Growth.{Extends}
 use Rattle.sc_text.specs.Layout.{Counts, next_condition, next_file, Introduces, nothing, known, new, HasOrder}
 use Rattle.sc_model.specs.Sets.{Sets, IsConfig, IsCond, Denotes, Keeps, IsCanonical, IsNever, IsAlways, DependsFrom, IsTop}
-use Rattle.sc_model.specs.Space.{Space, Variable, arities_of}
+use Rattle.sc_model.proofs.SpaceLemmas.{length-option_words}
+use Rattle.sc_model.specs.Space.{Space, Variable, arities_of, option_words}
 use Rattle.sc_text.specs.Text.{TextLine, condition_line, file_line, Need, condition_numbered, file_numbered, line_text}
 use Rattle.sc_model.specs.Bytes.{has_no_newline}
 use Rattle.sc_model.proofs.ListLemmas.{slice_get-front, slice_get-seam}
@@ -120,11 +121,11 @@ Introduced-known {space} {s} {p} a n table at = record {
 pub Introduced-node : {space : Space} {old s : Sets} {p q r : Printer} {ns : List ℕ} (a : Cond) (variable : Variable) (v number : ℕ) (shown : List ℕ) → HasWordNames space → s.arities ≡ arities_of space
     → slice_get space.variables v ≡ Some variable → v < length s.arities → IsCond s a.0 → Introduced space old s p q ns → HasChildren s q.conditions.keys a v ns → length ns ≡ length variable.options
     → number ≡ length q.conditions.keys → r.conditions.keys ≡ q.conditions.keys ++ a ∷ [] → r.files.keys ≡ q.files.keys → r.trees.keys ≡ q.trees.keys → shown ≡ ns
-    → r.text.items ≡ q.text.items ++ line_text (condition_line number variable.name (choices_of variable.options shown)) → Introduced space old s p r (number ∷ [])
+    → r.text.items ≡ q.text.items ++ line_text (condition_line number variable.name (choices_of (option_words variable.options) shown)) → Introduced space old s p r (number ∷ [])
 Introduced-node {space} {old} {s} {p} {q} {r} {ns} a variable v number shown words arities named within own parts has count at keys same_files same_trees same written = record {
   lines = parts.lines ++ line ∷ [];
   wrote = wrote-more p.text.items parts.lines (line ∷ []) parts.wrote
-      (wrote-line q.text.items line (written ∙ ap (λ ms. q.text.items ++ line_text (condition_line number variable.name (choices_of variable.options ms))) same));
+      (wrote-line q.text.items line (written ∙ ap (λ ms. q.text.items ++ line_text (condition_line number variable.name (choices_of (option_words variable.options) ms))) same));
   introduces = placed;
   ordered = λ t ks kept grows.
       All-append (HasOrder space (tests_of t ks)) parts.lines (line ∷ []) (parts.ordered t ks kept (Extends-trans longer grows))
@@ -139,10 +140,10 @@ Introduced-node {space} {old} {s} {p} {q} {r} {ns} a variable v number shown wor
 }
   where
     options : List (List ℕ × ℕ)
-    options = choices_of variable.options ns
+    options = choices_of (option_words variable.options) ns
 
     line : TextLine
-    line = condition_line number variable.name (choices_of variable.options ns)
+    line = condition_line number variable.name (choices_of (option_words variable.options) ns)
 
     longer : Extends q.conditions.keys r.conditions.keys
     longer = subst (Extends q.conditions.keys) (sym keys) (Extends-push q.conditions.keys a)
@@ -158,7 +159,7 @@ Introduced-node {space} {old} {s} {p} {q} {r} {ns} a variable v number shown wor
 
     children : Introduces (counts_of p) (map (λ (option : List ℕ × ℕ). condition_numbered option.1) options) parts.lines (counts_of q)
     children = subst (λ needed. Introduces (counts_of p) needed parts.lines (counts_of q))
-        (ap (map condition_numbered) (sym (numbers-choices_of variable.options ns count)) ∙ map-map condition_numbered (λ (option : List ℕ × ℕ). option.1) options) parts.introduces
+        (ap (map condition_numbered) (sym (numbers-choices_of (option_words variable.options) ns (count ∙ sym (length-option_words variable.options)))) ∙ map-map condition_numbered (λ (option : List ℕ × ℕ). option.1) options) parts.introduces
 
     placed : Introduces (counts_of p) (condition_numbered number ∷ []) (parts.lines ++ line ∷ []) (counts_of r)
     placed = subst (Introduces (counts_of p) (condition_numbered number ∷ []) (parts.lines ++ line ∷ [])) counted

@@ -6,10 +6,9 @@ use Rattle.std.proofs.lemmas.Bool.{lt-ltb}
 use Rattle.std.proofs.lemmas.List.{map-append}
 use Rattle.std.proofs.lemmas.List.Folds.{concat-append, list_all-append}
 use Rattle.std.proofs.lemmas.Option.{slice_get-map, same_Some}
-use Rattle.sc_model.specs.declared.variable_option.VariableOption.{VariableOption}
 use Rattle.sc_model.specs.Bytes.{same_bytes}
 use Rattle.sc_model.specs.Growth.{IsOneToOne}
-use Rattle.sc_model.specs.Space.{Variable, Space, option_text}
+use Rattle.sc_model.specs.Space.{Variable, Space}
 use Rattle.sc_text.specs.Text.{Reading, TextLine, line_text, read_lines, read_line, is_clear, variable_from, are_options}
 use Rattle.sc_model.proofs.ByteLemmas.{same_bytes-refl, same_bytes-true}
 use Rattle.sc_show.specs.Prints.{choices_of}
@@ -73,10 +72,10 @@ variable_from-found n (x ∷ vs) (suc v) found apart at =
         absurd (omega arith)
     by false other later = later
 
-pub are_options-choices_of : (id : ℕ) (os : List VariableOption) (ns : List ℕ) → length ns ≡ length os → ((k : ℕ) → k < length ns → slice_index ns k < id)
-    → are_options id (map option_text os) (choices_of os ns) ≡ true
+pub are_options-choices_of : (id : ℕ) (os : List (List ℕ)) (ns : List ℕ) → length ns ≡ length os → ((k : ℕ) → k < length ns → slice_index ns k < id)
+    → are_options id os (choices_of os ns) ≡ true
 are_options-choices_of id [] [] e below = refl
 are_options-choices_of id [] (n ∷ ns) e below = absurd (omega arith)
 are_options-choices_of id (o ∷ os) [] e below = absurd (omega arith)
 are_options-choices_of id (o ∷ os) (n ∷ ns) e below =
-    both (both (same_bytes-refl (option_text o)) (lt-ltb n id (below 0 (omega arith)))) (are_options-choices_of id os ns (omega arith) (λ k h. below (suc k) (omega arith)))
+    both (both (same_bytes-refl o) (lt-ltb n id (below 0 (omega arith)))) (are_options-choices_of id os ns (omega arith) (λ k h. below (suc k) (omega arith)))

@@ -8,7 +8,8 @@ use Rattle.sc_base.specs.declared.id.FileId.{FileId}
 use Rattle.sc_base.specs.Seen.{text_at}
 use Rattle.indexmap.specs.IndexSet.{insert_key}
 use Rattle.sc_model.specs.Sets.{Sets, IsConfig, IsCond, HasOptions, Denotes, Keeps}
-use Rattle.sc_model.specs.Space.{Space, Variable, arities_of}
+use Rattle.sc_model.proofs.SpaceLemmas.{length-option_words}
+use Rattle.sc_model.specs.Space.{Space, Variable, arities_of, option_words}
 use Rattle.sc_text.specs.Answer.{Condition}
 use Rattle.sc_text.specs.Layout.{Counts, Introduces, is_item}
 use Rattle.sc_text.specs.Text.{Reading, TextLine, condition_line, file_line, needs, is_clear, is_end, is_word, read_line, condition_at, chosen, read_condition, variable_from, with_condition, with_file, with_line, nothing_read}
@@ -115,36 +116,36 @@ pub Prints-condition : {space : Space} {s : Sets} {files : List (List ℕ)} {p q
     → HasChildren s p.conditions.keys a v children → length children ≡ length variable.options
     → number ≡ length p.conditions.keys → q.conditions.keys ≡ p.conditions.keys ++ a ∷ [] → q.files.keys ≡ p.files.keys
     → Prints space s files p before
-    → Prints space s files q (before ++ condition_line number variable.name (choices_of variable.options children) ∷ [])
+    → Prints space s files q (before ++ condition_line number variable.name (choices_of (option_words variable.options) children) ∷ [])
 Prints-condition {space} {s} {files} {p} {q} a variable v number children words arities found within has count at keys same_files was =
-    let options = choices_of variable.options children in
+    let options = choices_of (option_words variable.options) children in
     Prints-push was (condition_line number variable.name options) (with_condition was.reading (chosen was.reading.conditions v options)) clear read was.unended
     (subst (λ ks. Agrees s ks (was.reading.conditions ++ chosen was.reading.conditions v options ∷ [])) (sym keys) (Agrees-push a (chosen was.reading.conditions v options) was.conditions means))
     (was.names ∙ ap (map (λ (f : FileId). text_at files f.0)) (sym same_files))
   where
-    clear : is_clear (condition_line number variable.name (choices_of variable.options children)) ≡ true
+    clear : is_clear (condition_line number variable.name (choices_of (option_words variable.options) children)) ≡ true
     clear =
         let here : (get_or space.variables v variable).name ≡ variable.name = ap (λ (x : Variable). x.name) (get_or_from_slice_get space.variables v variable variable found) in
         both (subst (λ name. is_word name ≡ true) here (words.words v variable (slice_get_within space.variables v variable found))) (clear_choices variable.options children)
 
-    read : read_line space was.reading (condition_line number variable.name (choices_of variable.options children))
-        ≡ Some (with_condition was.reading (chosen was.reading.conditions v (choices_of variable.options children)))
+    read : read_line space was.reading (condition_line number variable.name (choices_of (option_words variable.options) children))
+        ≡ Some (with_condition was.reading (chosen was.reading.conditions v (choices_of (option_words variable.options) children)))
     read =
         let placed : variable_from 0 space.variables variable.name ≡ Some (v, variable) =
         variable_from-found 0 space.variables v variable words.differ found ∙ ap (λ k. Some (k, variable)) (let e : 0 + v ≡ v = omega arith in e) in
         let next : number ≡ length was.reading.conditions = at ∙ sym was.conditions.long in
         let lower = λ (k : ℕ) (h : k < length children). let is = has.each k h in subst (λ m. slice_index children k < m) (sym at) (slice_get_within p.conditions.keys (slice_index children k) is.child is.found) in
-        ap (read_condition was.reading number (choices_of variable.options children)) placed
-        ∙ ap (λ b. if b then Some (with_condition was.reading (chosen was.reading.conditions v (choices_of variable.options children))) else None)
-        (both (eq-eqb number (length was.reading.conditions) next) (are_options-choices_of number variable.options children count lower))
+        ap (read_condition was.reading number (choices_of (option_words variable.options) children)) placed
+        ∙ ap (λ b. if b then Some (with_condition was.reading (chosen was.reading.conditions v (choices_of (option_words variable.options) children))) else None)
+        (both (eq-eqb number (length was.reading.conditions) next) (are_options-choices_of number (option_words variable.options) children (count ∙ sym (length-option_words variable.options)) lower))
 
-    means : (c : List ℕ) → IsConfig s.arities c → chosen was.reading.conditions v (choices_of variable.options children) c ≡ s.has a.0 c
+    means : (c : List ℕ) → IsConfig s.arities c → chosen was.reading.conditions v (choices_of (option_words variable.options) children) c ≡ s.has a.0 c
     means c listed =
         let k = slice_index c v in
         let arity = arity_at space s.arities v variable arities found in
         let below : k < length children = omega (arith, listed.each v within, arity, count) in
         let is = has.each k below in
-        ap (λ ns. condition_at was.reading.conditions (slice_index ns k) c) (numbers-choices_of variable.options children count)
+        ap (λ ns. condition_at was.reading.conditions (slice_index ns k) c) (numbers-choices_of (option_words variable.options) children (count ∙ sym (length-option_words variable.options)))
         ∙ was.conditions.each (slice_index children k) is.child is.found c listed ∙ is.agrees c listed refl
 
 -- a file's line

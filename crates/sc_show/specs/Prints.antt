@@ -6,10 +6,9 @@ use Rattle.sc_base.specs.declared.id.FileId.{FileId}
 use Rattle.sc_base.specs.declared.place.Place as declared_place
 use Rattle.sc_base.specs.Seen.{text_at}
 use Rattle.sc_base.specs.Seen.{position_of}
-use Rattle.sc_model.specs.declared.variable_option.VariableOption.{VariableOption}
 use Rattle.sc_model.specs.Growth.{IsOneToOne}
 use Rattle.sc_model.specs.Sets.{Sets, IsConfig, IsCond, Denotes}
-use Rattle.sc_model.specs.Space.{Space, Variable, option_text}
+use Rattle.sc_model.specs.Space.{Space, Variable}
 use Rattle.sc_text.specs.Answer.{Condition}
 use Rattle.sc_text.specs.Text.{Printed, Reading, TextLine, nothing_read, read_lines, condition_at, is_clear, is_word}
 use Rattle.sc_show.specs.declared.printer.Printer.{Printer}
@@ -19,11 +18,11 @@ pub record HasWordNames (space : Space) : Type 0 where
   pub words : All (λ (v : Variable). is_word v.name ≡ true) space.variables
   pub differ : IsOneToOne (map (λ (v : Variable). v.name) space.variables)
 
--- the options' texts, each with the number of what remains
-abbrev pub choices_of : List VariableOption → List ℕ → List (List ℕ × ℕ)
+-- the options' words, each with the number of what remains
+abbrev pub choices_of : List (List ℕ) → List ℕ → List (List ℕ × ℕ)
 choices_of [] numbers = []
-choices_of (option ∷ options) [] = []
-choices_of (option ∷ options) (number ∷ numbers) = (option_text option, number) ∷ choices_of options numbers
+choices_of (word ∷ words) [] = []
+choices_of (word ∷ words) (number ∷ numbers) = (word, number) ∷ choices_of words numbers
 
 abbrev pub printed_place : ℕ → declared_place.Place → Printed
 printed_place file p = record { file = file; position = position_of p }

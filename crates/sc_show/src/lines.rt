@@ -1,13 +1,13 @@
 //! The lines of a text, each written at its end.
-ghost use Rattle.std.specs.Prelude.{◌≡◌, ◌++◌, length, codes, string_bytes, OnOk};
-ghost use Rattle.sc_model.specs.Space.{option_text};
+ghost use Rattle.std.specs.Prelude.{◌≡◌, ◌++◌, length, map, codes, string_bytes, OnOk};
+ghost use Rattle.sc_model.specs.Space.{option_word, option_words};
+ghost use Rattle.sc_space.specs.Seen.{seen_option};
 ghost use Rattle.sc_text.specs.Text.{numeral, place_text, choice_text, child_text, branch_text, line_text, condition_line, file_line, token_line, leaf_line, node_line, choice_line, root_line, fault_line, end_line};
 ghost use Rattle.sc_show.specs.Prints.{choices_of, printed_place};
 
 use itoa::Buffer;
 use sc_base::{Cause, OutOfMemory, Place};
-use sc_model::VariableOption;
-use sc_space::Variable;
+use sc_space::{Variable, VariableOption};
 
 #[tactic(auto, using(sc_text::proofs::Numerals::numeral_is))]
 pub fn write_number(text: &mut Vec<u8>, number: usize) -> Result<(), OutOfMemory>
@@ -17,13 +17,22 @@ pub fn write_number(text: &mut Vec<u8>, number: usize) -> Result<(), OutOfMemory
     Ok(())
 }
 
-fn write_option(text: &mut Vec<u8>, option: VariableOption) -> Result<(), OutOfMemory>
-    ensures { OnOk result (text.new.items ≡ text.old.items ++ option_text option) }
+/// The word of the option of this index.
+fn write_option(
+    text: &mut Vec<u8>,
+    index: usize,
+    option: &VariableOption,
+) -> Result<(), OutOfMemory>
+    ensures { OnOk result (text.new.items ≡ text.old.items ++ option_word index (seen_option option.now)) }
 {
     match option {
         VariableOption::Undefined => text.extend_from_slice(b"undef")?,
         VariableOption::Number(number) => {
-            text.extend_from_slice(Buffer::new().format(number).as_bytes())?
+            text.extend_from_slice(Buffer::new().format(*number).as_bytes())?
+        }
+        VariableOption::Text { .. } => {
+            text.extend_from_slice(b"t")?;
+            text.extend_from_slice(Buffer::new().format(index).as_bytes())?
         }
     }
     Ok(())
@@ -39,11 +48,16 @@ fn write_place(text: &mut Vec<u8>, file: usize, place: Place) -> Result<(), OutO
     write_number(text, place.column)
 }
 
-fn write_choice(text: &mut Vec<u8>, option: VariableOption, child: usize) -> Result<(), OutOfMemory>
-    ensures { OnOk result (text.new.items ≡ text.old.items ++ choice_text (option_text option, child)) }
+fn write_choice(
+    text: &mut Vec<u8>,
+    index: usize,
+    option: &VariableOption,
+    child: usize,
+) -> Result<(), OutOfMemory>
+    ensures { OnOk result (text.new.items ≡ text.old.items ++ choice_text (option_word index (seen_option option.now), child)) }
 {
     text.extend_from_slice(b" ")?;
-    write_option(text, option)?;
+    write_option(text, index, option)?;
     text.extend_from_slice(b":")?;
     write_number(text, child)
 }
@@ -56,14 +70,14 @@ pub fn write_condition(
     children: &[usize],
 ) -> Result<(), OutOfMemory>
     requires { length children.now ≡ length variable.now.options.items }
-    ensures { OnOk result (text.new.items ≡ text.old.items ++ line_text (condition_line number (string_bytes variable.now.name) (choices_of variable.now.options.items children.now))) }
+    ensures { OnOk result (text.new.items ≡ text.old.items ++ line_text (condition_line number (string_bytes variable.now.name) (choices_of (option_words (map seen_option variable.now.options.items)) children.now))) }
 {
     text.extend_from_slice(b"c ")?;
     write_number(text, number)?;
     text.extend_from_slice(b" ")?;
     text.extend_from_slice(variable.name.as_bytes())?;
     for (index, child) in children.iter().enumerate() {
-        write_choice(text, variable.options[index], *child)?;
+        write_choice(text, index, &variable.options[index], *child)?;
     }
     text.extend_from_slice(b"\n")?;
     Ok(())

@@ -1,22 +1,25 @@
 -- What words choose, step by step.
-use Rattle.std.proofs.Common.{◌≡◌, ℕ, zero, suc, ◌+◌, ◌<◌, Bool, cond, not, List, [], ◌∷◌, length, map, get_or, replicate, Option, Some, None, option_map, unwrap_or, Result, Ok, refl, sym, ap, subst, ◌∙◌, arith, inl, inr}
+use Rattle.std.proofs.Common.{◌≡◌, ℕ, zero, suc, ◌+◌, ◌<◌, ◌≤◌, drop, add-one, if◌then◌else◌, true, false, Bool, cond, not, List, [], ◌∷◌, length, map, get_or, replicate, Option, Some, None, option_map, unwrap_or, Result, Ok, refl, sym, ap, subst, ◌∙◌, arith, inl, inr}
 use Rattle.std.proofs.lemmas.Bool.{lt-ltb, le-ltb, eq-eqb, ne_eqb, cases_eq}
-use Rattle.std.proofs.lemmas.List.{length-map, length-set, length-replicate, get_or-map, get_or-replicate, get_or-set_same, get_or-set_other, same_lists}
+use Rattle.std.proofs.lemmas.List.{drop_all, length-map, length-set, length-replicate, get_or-map, get_or-replicate, get_or-set_same, get_or-set_other, same_lists}
 use Rattle.std.proofs.lemmas.List.FromFn.{get_or-map-range_with_len, length-map-range_with_len}
 use Rattle.std.proofs.lemmas.List.Quantifiers.{position-Some}
 use Rattle.std.proofs.lemmas.List.Elements.{All-cons, All-nil, All-head, All-tail}
-use Rattle.std.specs.List.{All, position, position_or_len, before_first, after_first, range_with_len, slice_get}
+use Rattle.std.proofs.Math.Seq.{drop-cons}
+use Rattle.std.proofs.lemmas.Iterator.Adapters.{position_from-zero}
+use Rattle.std.specs.List.{All, position, position_from, position_or_len, before_first, after_first, range_with_len, slice_get}
 use Rattle.std.specs.Option.{ok_or}
 use Rattle.std.specs.Prelude.{◌==◌, slice_index, slice_set}
-use Rattle.sc_model.specs.declared.variable_option.VariableOption.TheVariants.{Undefined}
 use Rattle.sc_model.specs.Bytes.{same_bytes}
 use Rattle.sc_model.specs.Sets.{HasOptions}
-use Rattle.sc_model.specs.Space.{Variable, Space, arities_of, option_text, IsListed}
+use Rattle.sc_model.proofs.SpaceLemmas.{length-option_words}
+use Rattle.sc_model.specs.Space.{VariableOption, Variable, Space, arities_of, option_word, option_words, words_from, IsListed}
 use Rattle.sc_space.specs.declared.config.Choice.{Choice}
 use Rattle.sc_space.specs.declared.space.Variable.{Variable as ReadVariable}
 use Rattle.sc_space.specs.Config.{split_word, variable_named, options_at, option_written, option_for, check_fresh, Fills, read_parts, read_choice, read_choices, config_of, read_config}
 use Rattle.sc_space.specs.declared.fault.SpaceStop.{SpaceStop}
-use Rattle.sc_space.specs.Seen.{seen_variable, Refuses}
+use Rattle.sc_space.specs.declared.option.VariableOption.{VariableOption as ReadOption}
+use Rattle.sc_space.specs.Seen.{seen_option, seen_variable, Refuses}
 use Rattle.sc_space.specs.SpaceFile.{Fault, unknown_variable, unknown_option, ◌>>=◌}
 use Rattle.sc_space.proofs.Reading.{refused_first}
 use Rattle.sc_space.proofs.Soundness.{was_some, same_Ok, went_on}
@@ -36,9 +39,9 @@ pub split_word-none : (word : List ℕ) → position_or_len (λ b. b == 61) word
 split_word-none word whole = rw (le-ltb (position_or_len (λ b. b == 61) word) (length word) (omega (arith, whole)))
 
 pub options_at-seen : (vs : List ReadVariable) (v : ℕ) (variable : ReadVariable) → v < length vs → variable ≡ get_or vs v variable
-    → unwrap_or (option_map (λ (v : Variable). v.options) (slice_get (map seen_variable vs) v)) [] ≡ variable.options.items
+    → unwrap_or (option_map (λ (v : Variable). v.options) (slice_get (map seen_variable vs) v)) [] ≡ map seen_option variable.options.items
 options_at-seen [] v variable within is = absurd (omega arith)
-options_at-seen (x ∷ vs) zero variable within is = ap (λ (v : ReadVariable). v.options.items) (sym is)
+options_at-seen (x ∷ vs) zero variable within is = ap (λ (v : ReadVariable). map seen_option v.options.items) (sym is)
 options_at-seen (x ∷ vs) (suc v) variable within is = options_at-seen vs v variable (omega arith) is
 
 -- ---- the places that are filled
@@ -115,7 +118,8 @@ parts_within space before parts choice read =
     let v = went_on (ok_or (variable_named space parts.0) (unknown_variable parts.0)) (λ v. check_fresh before v parts.0 >>= (λ _. optioned v)) choice read in
     let fresh = went_on (check_fresh before v.0 parts.0) (λ _. optioned v.0) choice v.2 in
     let o = went_on (ok_or (option_written (options_at space v.0) parts.1) (unknown_option parts.0)) (made v.0) choice fresh.2 in
-    let found : o.0 < length (options_at space v.0) = (position-Some (λ o. same_bytes (option_text o) parts.1) (options_at space v.0) o.0 Undefined (was_some _ _ _ o.1)).0 in
+    let words : o.0 < length (option_words (options_at space v.0)) = (position-Some (same_bytes parts.1) (option_words (options_at space v.0)) o.0 [] (was_some _ _ _ o.1)).0 in
+    let found : o.0 < length (options_at space v.0) = omega (arith, words, length-option_words (options_at space v.0)) in
     let within : IsWithin space (record { variable = v.0; option = o.0 }) = record { below = omega (arith, found, arity_at space.variables v.0) } in
     let is_choice : record { variable = v.0; option = o.0 } ≡ choice = same_Ok _ _ o.2 in
     subst (IsWithin space) is_choice within
@@ -153,3 +157,25 @@ listed space words config some read =
       long = length-map-range_with_len option 0 n ∙ sym arities;
       each = λ v below. rw (get_or-map-range_with_len option 0 n v v 0 (omega (arith, arities)) (omega arith)) (option_within space choices.0 v within (some.each v below));
     })
+
+-- ---- the option that is written so
+
+-- which option is the first one, where the options before this index are not written so
+abbrev pub found_from : List ℕ → ℕ → List ReadOption → Option ℕ
+found_from word i options = position_from (same_bytes word) i (words_from i (map seen_option options))
+
+pub written-first : (word : List ℕ) (options : List ReadOption) → option_written (map seen_option options) word ≡ found_from word 0 options
+written-first word options = position_from-zero (same_bytes word) (option_words (map seen_option options))
+
+module _ (word : List ℕ) (options : List ReadOption) (i : ℕ) (o : ReadOption) (within : i < length options) (is : o ≡ get_or options i o) where
+  left : found_from word i (drop i options) ≡ (if same_bytes word (option_word i (seen_option o)) then Some i else found_from word (i + 1) (drop (i + 1) options))
+  left = ap (found_from word i) (drop-cons options i o within) ∙ rw (← is, add-one) refl
+
+  pub written-here : same_bytes word (option_word i (seen_option o)) ≡ true → found_from word i (drop i options) ≡ Some i
+  written-here same = left ∙ rw same refl
+
+  pub written-later : same_bytes word (option_word i (seen_option o)) ≡ false → found_from word i (drop i options) ≡ found_from word (i + 1) (drop (i + 1) options)
+  written-later other = left ∙ rw other refl
+
+pub written-nowhere : (word : List ℕ) (options : List ReadOption) (i : ℕ) → length options ≤ i → found_from word i (drop i options) ≡ None
+written-nowhere word options i past = ap (found_from word i) (drop_all i options past)

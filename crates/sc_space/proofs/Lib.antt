@@ -1,4 +1,5 @@
 pub mod Choosing
 pub mod Reading
 pub mod Soundness
+pub mod TextLists
 mod Examples

@@ -1,5 +1,5 @@
 -- What the definition of a space file ensures of each space that it gives.
-use Rattle.std.proofs.Common.{◌≡◌, nat_le, codes, ℕ, zero, suc, ◌+◌, ◌<◌, ◌≤◌, Bool, true, false, ◌||◌, cond, List, [], ◌∷◌, length, map, Option, Some, None, option_map, Result, Ok, Err, String, Global, pos, refl, sym, ap, subst, arith, inl, inr}
+use Rattle.std.proofs.Common.{◌≡◌, if◌then◌else◌, nat_le, codes, ℕ, zero, suc, ◌+◌, ◌<◌, ◌≤◌, Bool, true, false, ◌||◌, cond, List, [], ◌∷◌, length, map, Option, Some, None, option_map, Result, Ok, Err, String, Global, pos, refl, sym, ap, subst, arith, inl, inr}
 use Rattle.std.proofs.lemmas.Bool.{and_parts, or_parts, and_from, or_from, or_left, not-true, not_from_false, both_ways, leb-true, ltb-true, eq-eqb, eqb-true, cases_order}
 use Rattle.std.proofs.lemmas.Bool.Decides.{nat_tests}
 use Rattle.std.proofs.lemmas.Cmp.{nat_list_cmp_total, tied_itself}
@@ -15,17 +15,19 @@ use Rattle.std.specs.Option.{ok_or, option_and_then}
 use Rattle.std.specs.Ordering.{nat_cmp}
 use Rattle.std.specs.String.{string_bytes, string_cmp}
 use Rattle.std.specs.declared.cmp.Ordering.TheVariants.{Less}
-use Rattle.sc_model.specs.declared.variable_option.VariableOption.{VariableOption}
-use Rattle.sc_model.specs.declared.variable_option.VariableOption.TheVariants.{Undefined, Number}
 use Rattle.sc_model.specs.Bytes.{same_bytes, is_digit, is_letter}
 use Rattle.c11_tokens.specs.Lex.{goes_on, is_identifier}
-use Rattle.sc_model.specs.Space.{Variable, Space}
+use Rattle.sc_model.proofs.ByteLemmas.{same_bytes-refl}
+use Rattle.sc_model.specs.Space as model
+use Rattle.sc_model.specs.Space.{VariableOption, Variable, Space}
 use Rattle.c11_macros.specs.Macros.{predefined_names}
 use Rattle.sc_text.specs.Text.{is_word, is_wordless}
 use Rattle.sc_space.specs.declared.fault.SpaceStop.{SpaceStop}
 use Rattle.sc_space.specs.declared.space.Space.{Space as ReadSpace}
 use Rattle.sc_space.specs.Seen.{seen_space, Answers}
 use Rattle.sc_space.specs.Sound.{IsInRange, IsBefore, IsSoundVariable, IsSound, names_of}
+use Rattle.sc_space.specs.Texts.{AreTexts, Texts}
+use Rattle.sc_space.proofs.TextLists.{text-plain}
 use Rattle.sc_space.specs.Settings.{setting, limit_of, is_directory, directory_of, is_date_byte, date_of}
 use Rattle.sc_space.specs.SpaceFile.{Fault, ◌>>=◌, is_identifier_start, is_identifier_byte, is_ascii_identifier, is_protected, read_option, read_each, read_options, same_option, are_different, read_variable, read_variables, read_limit, read_directories, directories_of, read_include, read_date, with_settings}
 use Rattle.toml.specs.Data.{Data, string, integer, array, Items, no_items, item, Members, no_members, member}
@@ -48,43 +50,43 @@ pub went_on : {A B : Type 0} (r : Result A Fault) (more : A → Result B Fault) 
 went_on (Ok a) more b read = (a, refl, read)
 went_on (Err fault) more b read = cc
 
-record ReadsVariable (name : List ℕ) (value : Data) (v : Variable) : Type 0 where
+record ReadsVariable (texts : Texts) (name : List ℕ) (value : Data) (v : Variable) : Type 0 where
   identifier : is_ascii_identifier name ≡ true
   unprotected : is_protected name ≡ false
-  options : read_options value ≡ Some v.options
+  options : read_options texts name value ≡ Some v.options
   different : are_different v.options ≡ true
   name_is : v.name ≡ name
 
-variable_is : (name : List ℕ) (value : Data) (v : Variable) → read_variable name value ≡ Ok v → ReadsVariable name value v
+variable_is : (texts : Texts) (name : List ℕ) (value : Data) (v : Variable) → read_variable texts name value ≡ Ok v → ReadsVariable texts name value v
 unfolding read_variable
-variable_is name value v read =
+variable_is texts name value v read =
     let named = passed _ _ _ v read in
     let (identifier, unprotected) = and_parts _ _ named.0 in
     let optioned = went_on _ _ v named.1 in
     let parted = passed _ _ _ v optioned.2 in
     let same : record { name = name; options = optioned.0 } ≡ v = same_Ok _ _ parted.1 in
-    let all : ReadsVariable name value (record { name = name; options = optioned.0 }) = record {
+    let all : ReadsVariable texts name value (record { name = name; options = optioned.0 }) = record {
       identifier = identifier;
       unprotected = not-true _ unprotected;
       options = was_some _ _ _ optioned.1;
       different = parted.0;
       name_is = refl;
     } in
-    subst (ReadsVariable name value) same all
+    subst (ReadsVariable texts name value) same all
 
 -- the keys of members, in their order
 abbrev member_keys : Members → List (List ℕ)
 member_keys no_members = []
 member_keys (member key value ms) = key ∷ member_keys ms
 
-names-read : (ms : Members) (vs : List Variable) → read_variables ms ≡ Ok vs → names_of vs ≡ member_keys ms
+names-read : (texts : Texts) (ms : Members) (vs : List Variable) → read_variables texts ms ≡ Ok vs → names_of vs ≡ member_keys ms
 unfolding read_variables
-names-read no_members vs read = sym (ap names_of (same_Ok _ _ read))
-names-read (member key value ms) vs read =
+names-read texts no_members vs read = sym (ap names_of (same_Ok _ _ read))
+names-read texts (member key value ms) vs read =
     let first = went_on _ _ vs read in
     let more = went_on _ _ vs first.2 in
     let same : first.0 ∷ more.0 ≡ vs = same_Ok _ _ more.2 in
-    rw (← same, (variable_is key value first.0 first.1).name_is, names-read ms more.0 more.1)
+    rw (← same, (variable_is texts key value first.0 first.1).name_is, names-read texts ms more.0 more.1)
 
 all_before : (key : String Global) (keys : List (String Global)) → AllByRecursion (λ y. string_cmp key y ≡ Less) keys → AllByRecursion (IsBefore (string_bytes key)) (map string_bytes keys)
 all_before key [] below = below
@@ -99,9 +101,9 @@ keys-members_view : (es : List (String Global × Value)) → member_keys (member
 keys-members_view [] = refl
 keys-members_view (e ∷ es) = ap (λ ks. string_bytes e.0 ∷ ks) (keys-members_view es)
 
-pub ascending_names : (es : List (String Global × Value)) (vs : List Variable) → IsStrictlySortedBy string_cmp (keys_of es) → read_variables (members_view es) ≡ Ok vs → AllPairs IsBefore (names_of vs)
-ascending_names es vs sorted read =
-    rw (names-read (members_view es) vs read, keys-members_view es) (λ i j d before within. Less-from_sorted (slice_cmp nat_cmp) (map string_bytes (keys_of es)) i j d (sorted_texts (keys_of es) sorted) before within)
+pub ascending_names : (texts : Texts) (es : List (String Global × Value)) (vs : List Variable) → IsStrictlySortedBy string_cmp (keys_of es) → read_variables texts (members_view es) ≡ Ok vs → AllPairs IsBefore (names_of vs)
+ascending_names texts es vs sorted read =
+    rw (names-read texts (members_view es) vs read, keys-members_view es) (λ i j d before within. Less-from_sorted (slice_cmp nat_cmp) (map string_bytes (keys_of es)) i j d (sorted_texts (keys_of es) sorted) before within)
 
 -- ---- the parts of soundness
 
@@ -113,38 +115,45 @@ mapped_of : {A B : Type 0} (o : Option A) (f : A → B) (b : B) → option_map f
 mapped_of (Some a) f b found = (a, refl, same_Some _ _ found)
 mapped_of None f b found = cc
 
-option_in_range : (value : Data) (o : VariableOption) → read_option value ≡ Some o → IsInRange o
-unfolding read_option
-option_in_range (string text) o read = subst IsInRange (cond_some _ _ _ read).1 tt
-option_in_range (integer (pos n)) o read = let (below, same) = cond_some _ _ _ read in subst IsInRange same (ltb-true _ _ below)
-option_in_range _ o read = cc
+text_in_range : (texts : Texts) → AreTexts texts → (name bytes : List ℕ) (o : VariableOption) (b : Bool) → (if b then Some model.undefined else option_map (model.text bytes) (texts name bytes)) ≡ Some o → IsInRange o
+text_in_range texts are name bytes o true read = subst IsInRange (same_Some _ _ read) tt
+text_in_range texts are name bytes o false read =
+    let list = mapped_of (texts name bytes) (model.text bytes) o read in
+    subst IsInRange list.2 (text-plain texts are name bytes list.0 list.1)
 
-options_in_range : (values : Items) (os : List VariableOption) → read_each values ≡ Some os → All IsInRange os
+option_in_range : (texts : Texts) → AreTexts texts → (name : List ℕ) (value : Data) (o : VariableOption) → read_option texts name value ≡ Some o → IsInRange o
+unfolding read_option
+option_in_range texts are name (string bytes) o read = text_in_range texts are name bytes o (same_bytes bytes (codes "undef")) read
+option_in_range texts are name (integer (pos n)) o read = let (below, same) = cond_some _ _ _ read in subst IsInRange same (ltb-true _ _ below)
+option_in_range texts are name _ o read = cc
+
+options_in_range : (texts : Texts) → AreTexts texts → (name : List ℕ) (values : Items) (os : List VariableOption) → read_each texts name values ≡ Some os → All IsInRange os
 unfolding read_each
-options_in_range no_items os read = rw (← same_Some _ _ read) (All-nil IsInRange)
-options_in_range (item value values) os read =
+options_in_range texts are name no_items os read = rw (← same_Some _ _ read) (All-nil IsInRange)
+options_in_range texts are name (item value values) os read =
     let first = some_of _ _ os read in
     let more = mapped_of _ _ os first.2 in
-    rw (← more.2) (All-cons IsInRange first.0 more.0 (option_in_range value first.0 first.1) (options_in_range values more.0 more.1))
+    rw (← more.2) (All-cons IsInRange first.0 more.0 (option_in_range texts are name value first.0 first.1) (options_in_range texts are name values more.0 more.1))
 
 record AreOptions (os : List VariableOption) : Type 0 where
   some : 1 ≤ length os
   few : length os ≤ 64
   in_range : All IsInRange os
 
-options_are : (value : Data) (os : List VariableOption) → read_options value ≡ Some os → AreOptions os
+options_are : (texts : Texts) → AreTexts texts → (name : List ℕ) (value : Data) (os : List VariableOption) → read_options texts name value ≡ Some os → AreOptions os
 unfolding read_options
-options_are (array values) os read =
+options_are texts are name (array values) os read =
     let each = some_of _ _ os read in
     let (between, same) = cond_some _ _ _ each.2 in
     let (low, high) = and_parts _ _ between in
-    let all : AreOptions each.0 = record { some = leb-true _ _ low; few = leb-true _ _ high; in_range = options_in_range values each.0 each.1 } in
+    let all : AreOptions each.0 = record { some = leb-true _ _ low; few = leb-true _ _ high; in_range = options_in_range texts are name values each.0 each.1 } in
     subst AreOptions same all
-options_are _ os read = cc
+options_are texts are name _ os read = cc
 
 same_option-itself : (o : VariableOption) → same_option o o ≡ true
-same_option-itself Undefined = refl
-same_option-itself (Number n) = eq-eqb n n refl
+same_option-itself model.undefined = refl
+same_option-itself (model.number n) = eq-eqb n n refl
+same_option-itself (model.text bytes list) = same_bytes-refl bytes
 
 not_later : (o x : VariableOption) (os : List VariableOption) (k : ℕ) → list_any (same_option o) os ≡ false → Some o ≡ Some x → slice_get os k ≡ Some x → ⊥
 not_later o x os k none is_x at =
@@ -192,9 +201,9 @@ protected_last : (name : List ℕ) → is_protected name ≡ false → list_any 
 unfolding is_protected
 protected_last name h = (or_parts _ _ (or_parts (same_bytes name (codes "defined")) _ h).1).1
 
-sound_variable : (name : List ℕ) (value : Data) (v : Variable) → ReadsVariable name value v → IsSoundVariable v
-sound_variable name value v reads =
-    let options = options_are value v.options reads.options in
+sound_variable : (texts : Texts) → AreTexts texts → (name : List ℕ) (value : Data) (v : Variable) → ReadsVariable texts name value v → IsSoundVariable v
+sound_variable texts are name value v reads =
+    let options = options_are texts are name value v.options reads.options in
     record {
       ascii = rw reads.name_is reads.identifier;
       identifier = rw reads.name_is (identifier_is_token name reads.identifier);
@@ -207,14 +216,14 @@ sound_variable name value v reads =
       in_range = options.in_range;
     }
 
-sound_variables : (ms : Members) (vs : List Variable) → read_variables ms ≡ Ok vs → All IsSoundVariable vs
+sound_variables : (texts : Texts) → AreTexts texts → (ms : Members) (vs : List Variable) → read_variables texts ms ≡ Ok vs → All IsSoundVariable vs
 unfolding read_variables
-sound_variables no_members vs read = rw (← same_Ok _ _ read) (All-nil IsSoundVariable)
-sound_variables (member key value ms) vs read =
+sound_variables texts are no_members vs read = rw (← same_Ok _ _ read) (All-nil IsSoundVariable)
+sound_variables texts are (member key value ms) vs read =
     let first = went_on _ _ vs read in
     let more = went_on _ _ vs first.2 in
     subst (All IsSoundVariable) (same_Ok _ _ more.2)
-    (All-cons IsSoundVariable first.0 more.0 (sound_variable key value first.0 (variable_is key value first.0 first.1)) (sound_variables ms more.0 more.1))
+    (All-cons IsSoundVariable first.0 more.0 (sound_variable texts are key value first.0 (variable_is texts key value first.0 first.1)) (sound_variables texts are ms more.0 more.1))
 
 never_before : (names : List (List ℕ)) → AllPairs IsBefore names → (i j : ℕ) (x : List ℕ) → slice_get names i ≡ Some x → slice_get names j ≡ Some x → i < j → ⊥
 never_before names ascending i j x at_i at_j before =
@@ -300,10 +309,10 @@ read_include-is : (document : Members) (names : List (List ℕ)) → read_includ
 unfolding read_include
 read_include-is document names read = include_is _ names read
 
-sound : (ms document : Members) (vs : List Variable) (space : Space) → read_variables ms ≡ Ok vs → length vs ≤ 1024 → AllPairs IsBefore (names_of vs) → with_settings vs document ≡ Ok space → IsSound space
+sound : (texts : Texts) → AreTexts texts → (ms document : Members) (vs : List Variable) (space : Space) → read_variables texts ms ≡ Ok vs → length vs ≤ 1024 → AllPairs IsBefore (names_of vs) → with_settings vs document ≡ Ok space → IsSound space
 unfolding with_settings
-sound ms document vs space read few ascending whole =
-    let each = sound_variables ms vs read in
+sound texts are ms document vs space read few ascending whole =
+    let each = sound_variables texts are ms vs read in
     let branches = went_on _ _ space whole in
     let depth = went_on _ _ space branches.2 in
     let include = went_on _ _ space depth.2 in
@@ -330,7 +339,7 @@ sound ms document vs space read few ascending whole =
       time_plain = time_is.plain;
     })
 
-pub sound_answer : (ms document : Members) (vs : List Variable) (result : Result ReadSpace SpaceStop) → read_variables ms ≡ Ok vs → length vs ≤ 1024 → AllPairs IsBefore (names_of vs) → Answers seen_space result (with_settings vs document)
+pub sound_answer : (texts : Texts) → AreTexts texts → (ms document : Members) (vs : List Variable) (result : Result ReadSpace SpaceStop) → read_variables texts ms ≡ Ok vs → length vs ≤ 1024 → AllPairs IsBefore (names_of vs) → Answers seen_space result (with_settings vs document)
     → IfOk result (λ space. IsSound (seen_space space))
-sound_answer ms document vs (Ok space) read few ascending answer = sound ms document vs (seen_space space) read few ascending answer
-sound_answer ms document vs (Err refused) read few ascending answer = tt
+sound_answer texts are ms document vs (Ok space) read few ascending answer = sound texts are ms document vs (seen_space space) read few ascending answer
+sound_answer texts are ms document vs (Err refused) read few ascending answer = tt

@@ -2,9 +2,8 @@
 use Rattle.std.specs.Prelude.{◌≡◌, ℕ, ◌<◌, ◌==◌, ◌+◌, slice_index_or, List, [], ◌∷◌, length, take, drop, map, slice_get, Option, Some, None, is_some, option_map, unwrap_or, Result, Ok, Err, if◌then◌else◌}
 use Rattle.std.specs.List.{position, range_with_len}
 use Rattle.std.specs.Option.{ok_or}
-use Rattle.sc_model.specs.declared.variable_option.VariableOption.{VariableOption}
 use Rattle.sc_model.specs.Bytes.{same_bytes}
-use Rattle.sc_model.specs.Space.{Variable, Space, option_text}
+use Rattle.sc_model.specs.Space.{VariableOption, Variable, Space, option_words}
 use Rattle.sc_space.specs.declared.config.Choice.{Choice}
 use Rattle.sc_space.specs.SpaceFile.{Fault, unknown_variable, repeated_variable, unknown_option, ◌>>=◌}
 
@@ -22,7 +21,7 @@ options_at space v = unwrap_or (option_map (λ (v : Variable). v.options) (slice
 
 -- the place of the option that is written so
 abbrev pub option_written : List VariableOption → List ℕ → Option ℕ
-option_written options text = position (λ o. same_bytes (option_text o) text) options
+option_written options word = position (same_bytes word) (option_words options)
 
 -- the option that the choices give to a variable, if they name it
 abbrev pub option_for : List Choice → ℕ → Option ℕ

@@ -3,3 +3,4 @@ pub mod Seen
 pub mod Settings
 pub mod Sound
 pub mod SpaceFile
+pub mod Texts

@@ -1,16 +1,28 @@
 -- A space and a refusal as the definitions see them.
 use Rattle.std.specs.Prelude.{◌≡◌, map, string_bytes, Result, Ok, Err}
 use Rattle.sc_model.specs.Space as model
+use Rattle.sc_model.specs.Token.{Item}
 use Rattle.sc_space.specs.declared.fault.SpaceFault.{SpaceFault}
 use Rattle.sc_space.specs.declared.fault.SpaceFault.TheVariants as fault
 use Rattle.sc_space.specs.declared.fault.SpaceStop.{SpaceStop}
 use Rattle.sc_space.specs.declared.fault.SpaceStop.TheVariants as stop
+use Rattle.sc_space.specs.declared.option.SpelledItem.{SpelledItem}
+use Rattle.sc_space.specs.declared.option.VariableOption.{VariableOption}
+use Rattle.sc_space.specs.declared.option.VariableOption.TheVariants.{Undefined, Number, Text}
 use Rattle.sc_space.specs.declared.space.Space.{Space}
 use Rattle.sc_space.specs.declared.space.Variable.{Variable}
 use Rattle.sc_space.specs.SpaceFile.{Fault, too_large, not_toml, unknown_key, no_variables, bad_name, bad_option, repeated_option, too_many, bad_limit, bad_include, bad_date, unknown_variable, repeated_variable, unknown_option}
 
+abbrev pub seen_item : SpelledItem → Item
+seen_item i = record { kind = i.kind; spelling = i.spelling.items; space = i.space }
+
+abbrev pub seen_option : VariableOption → model.VariableOption
+seen_option Undefined = model.undefined
+seen_option (Number n) = model.number n
+seen_option (Text text list) = model.text (string_bytes text) (map seen_item list.items)
+
 abbrev pub seen_variable : Variable → model.Variable
-seen_variable v = record { name = string_bytes v.name; options = v.options.items }
+seen_variable v = record { name = string_bytes v.name; options = map seen_option v.options.items }
 
 abbrev pub seen_space : Space → model.Space
 seen_space space = record {

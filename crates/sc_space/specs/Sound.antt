@@ -4,22 +4,21 @@ use Rattle.std.specs.Cmp.Lexicographic.{slice_cmp}
 use Rattle.std.specs.List.{list_all, list_any}
 use Rattle.std.specs.Ordering.{nat_cmp}
 use Rattle.std.specs.declared.cmp.Ordering.TheVariants.{Less}
-use Rattle.sc_model.specs.declared.variable_option.VariableOption.{VariableOption}
-use Rattle.sc_model.specs.declared.variable_option.VariableOption.TheVariants.{Undefined, Number}
-use Rattle.sc_model.specs.Bytes.{same_bytes}
+use Rattle.sc_model.specs.Bytes.{has_no_newline, same_bytes}
 use Rattle.sc_model.specs.Growth.{IsOneToOne}
 use Rattle.c11_tokens.specs.Lex.{is_identifier}
 use Rattle.sc_model.specs.Sets.{HasOptions}
-use Rattle.sc_model.specs.Space.{Variable, Space, arities_of}
+use Rattle.sc_model.specs.Space.{VariableOption, undefined, number, text, Variable, Space, arities_of}
 use Rattle.c11_macros.specs.Macros.{predefined_names}
 use Rattle.sc_text.specs.Text.{is_word}
 use Rattle.sc_space.specs.Settings.{is_directory, is_date_byte}
 use Rattle.sc_space.specs.SpaceFile.{is_ascii_identifier, is_protected}
 
--- the number is one of the machine's signed whole numbers
+-- a number is one of the machine's signed whole numbers, and a list stands on one line
 abbrev pub IsInRange : VariableOption → Type 0
-IsInRange Undefined = Unit {0}
-IsInRange (Number n) = n < 2 ^ 63
+IsInRange undefined = Unit {0}
+IsInRange (number n) = n < 2 ^ 63
+IsInRange (text bytes list) = All (λ i. has_no_newline i.spelling ≡ true) list
 
 pub record IsSoundVariable (v : Variable) : Type 0 where
   pub ascii : is_ascii_identifier v.name ≡ true

@@ -3,13 +3,12 @@ use Rattle.std.specs.Prelude.{ℕ, ◌==◌, ◌&&◌, ◌||◌, ◌+◌, ◌++�
 use Rattle.std.specs.List.{list_all, list_any}
 use Rattle.std.specs.Option.{option_and_then, ok_or}
 use Rattle.std.specs.Str.{is_utf8}
-use Rattle.sc_model.specs.declared.variable_option.VariableOption.{VariableOption}
-use Rattle.sc_model.specs.declared.variable_option.VariableOption.TheVariants.{Undefined, Number}
 use Rattle.sc_model.specs.Bytes.{same_bytes, is_between, is_digit}
 use Rattle.sc_model.specs.Outside.{largest_file}
-use Rattle.sc_model.specs.Space.{Variable, Space}
+use Rattle.sc_model.specs.Space.{VariableOption, undefined, number, text, Variable, Space}
 use Rattle.c11_macros.specs.Macros.{predefined_names}
 use Rattle.sc_space.specs.Settings.{setting, limit_of, directory_of, date_of}
+use Rattle.sc_space.specs.Texts.{Texts}
 use Rattle.toml.specs.Data.{Data, string, integer, array, Items, no_items, item, Members, no_members, member, as_table, get_member}
 use Rattle.toml.specs.Parse.{parse_document}
 
@@ -73,30 +72,34 @@ protected_names = codes "defined" ∷ codes "__VA_ARGS__" ∷ predefined_names
 unfoldable pub is_protected : List ℕ → Bool
 is_protected name = list_any (same_bytes name) protected_names
 
--- the text `undef`, or a whole number below 2 ^ 63
-unfoldable pub read_option : Data → Option VariableOption
-read_option (string text) = if same_bytes text (codes "undef") then Some Undefined else None
-read_option (integer (pos n)) = if nat_lt n (2 ^ 63) then Some (Number n) else None
-read_option _ = None
+-- The text `undef`, another text that is a replacement list, or a whole number below 2 ^ 63, as an
+-- option of the name.
+unfoldable pub read_option : Texts → List ℕ → Data → Option VariableOption
+read_option texts name (string bytes) =
+    if same_bytes bytes (codes "undef") then Some undefined else option_map (text bytes) (texts name bytes)
+read_option texts name (integer (pos n)) = if nat_lt n (2 ^ 63) then Some (number n) else None
+read_option texts name _ = None
 
 -- the options, if each item is one
-unfoldable pub read_each : Items → Option (List VariableOption)
-read_each no_items = Some []
-read_each (item value values) = option_and_then (λ o. option_map (λ os. o ∷ os) (read_each values)) (read_option value)
+unfoldable pub read_each : Texts → List ℕ → Items → Option (List VariableOption)
+read_each texts name no_items = Some []
+read_each texts name (item value values) =
+    option_and_then (λ o. option_map (λ os. o ∷ os) (read_each texts name values)) (read_option texts name value)
 
 -- 1 to 64 options
 abbrev pub few : List VariableOption → Option (List VariableOption)
 few options = if is_between 1 64 (length options) then Some options else None
 
-unfoldable pub read_options : Data → Option (List VariableOption)
-read_options (array values) = option_and_then few (read_each values)
-read_options _ = None
+unfoldable pub read_options : Texts → List ℕ → Data → Option (List VariableOption)
+read_options texts name (array values) = option_and_then few (read_each texts name values)
+read_options texts name _ = None
 
+-- texts are compared whole; the number 1 and the text `1` differ
 abbrev pub same_option : VariableOption → VariableOption → Bool
-same_option Undefined Undefined = true
-same_option Undefined (Number n) = false
-same_option (Number m) Undefined = false
-same_option (Number m) (Number n) = m == n
+same_option undefined undefined = true
+same_option (number m) (number n) = m == n
+same_option (text bytes list) (text others more) = same_bytes bytes others
+same_option _ _ = false
 
 unfoldable pub are_different : List VariableOption → Bool
 are_different [] = true
@@ -105,18 +108,18 @@ are_different (o ∷ os) = not (list_any (same_option o) os) && are_different os
 abbrev pub with_options : List ℕ → List VariableOption → Result Variable Fault
 with_options name options = if are_different options then Ok (record { name = name; options = options }) else Err (repeated_option name)
 
-unfoldable pub read_variable : List ℕ → Data → Result Variable Fault
-read_variable name value =
+unfoldable pub read_variable : Texts → List ℕ → Data → Result Variable Fault
+read_variable texts name value =
     if is_ascii_identifier name && not (is_protected name)
-    then ok_or (read_options value) (bad_option name) >>= with_options name
+    then ok_or (read_options texts name value) (bad_option name) >>= with_options name
     else Err (bad_name name)
 
 -- each variable is read before the next
-unfoldable pub read_variables : Members → Result (List Variable) Fault
-read_variables no_members = Ok []
-read_variables (member name value ms) = do
-  v ← read_variable name value
-  vs ← read_variables ms
+unfoldable pub read_variables : Texts → Members → Result (List Variable) Fault
+read_variables texts no_members = Ok []
+read_variables texts (member name value ms) = do
+  v ← read_variable texts name value
+  vs ← read_variables texts ms
   Ok (v ∷ vs)
 
 unfoldable pub read_limit : List ℕ → ℕ → ℕ → ℕ → Members → Result ℕ Fault
@@ -157,12 +160,12 @@ abbrev pub check_number : List Variable → Result (Unit {0}) Fault
 check_number variables = if nat_lt 1024 (length variables) then Err too_many else Ok tt
 
 -- what the file says, or its first fault
-unfoldable pub read_space : List ℕ → Result Space Fault
-read_space bytes = do
+unfoldable pub read_space : Texts → List ℕ → Result Space Fault
+read_space texts bytes = do
   document ← read_document bytes
   known ← check_keys document
   table ← variables_table document
-  variables ← read_variables table
+  variables ← read_variables texts table
   few ← check_number variables
   with_settings variables document
 

@@ -1,14 +1,13 @@
 //! The configuration that words choose.
 ghost use Rattle.std.specs.Prelude.{◌≡◌, ◌<◌, List, map, length, string_bytes, unwrap_or, IfOk};
-ghost use Rattle.sc_model.specs.Bytes.{same_bytes};
 ghost use Rattle.sc_model.specs.Sets.{HasOptions};
-ghost use Rattle.sc_model.specs.Space.{arities_of, option_text, IsListed};
+ghost use Rattle.sc_model.specs.Space.{arities_of, IsListed};
 ghost use Rattle.sc_space.specs.Config.{Fills, variable_named, option_written, read_parts, read_choice, read_config};
 ghost use Rattle.sc_space.specs.declared.config.Choice.{Choice};
-ghost use Rattle.sc_space.specs.Seen.{seen_space, Answers};
+ghost use Rattle.sc_space.specs.Seen.{seen_option, seen_space, Answers};
 
+use crate::option::is_written;
 use crate::{Space, SpaceFault, SpaceStop, VariableOption};
-use itoa::Buffer;
 use sc_base::OutOfMemory;
 use std::alloc::Global;
 
@@ -89,19 +88,15 @@ impl Space {
 }
 
 /// The place of the option that is written so.
-fn option_written(options: &[VariableOption], text: &str) -> Option<usize>
-    ensures { result ≡ option_written options.now text.now }
+fn option_written(options: &[VariableOption], word: &str) -> Option<usize>
+    ensures { result ≡ option_written (map seen_option options.now) word.now }
 {
-    options.iter().position(|option| is_written(*option, text))
-}
-
-fn is_written(option: VariableOption, text: &str) -> bool
-    ensures { result ≡ same_bytes (option_text option) text.now }
-{
-    match option {
-        VariableOption::Undefined => text == "undef",
-        VariableOption::Number(number) => Buffer::new().format(number) == text,
+    for (index, option) in options.iter().enumerate() {
+        if is_written(index, option, word) {
+            return Some(index);
+        }
     }
+    None
 }
 
 /// The options that were chosen, and the first one of each other variable.

@@ -1,7 +1,6 @@
 use crate::variables::{MOST_VARIABLES, read_variables};
-use crate::{SpaceFault, SpaceStop, read, settings};
+use crate::{SpaceFault, SpaceStop, VariableOption, read, settings};
 use sc_base::Limits;
-use sc_model::VariableOption;
 use std::alloc::Global;
 
 /// A configuration variable: the name of a macro, and what it may start as.
@@ -30,12 +29,14 @@ impl Space {
     ghost use Rattle.sc_space.specs.Seen.{seen_space, Answers};
     ghost use Rattle.sc_space.specs.Sound.{IsSound};
     ghost use Rattle.sc_space.specs.SpaceFile.{read_space};
+    ghost use Rattle.sc_space.specs.Texts.{AreTexts, Texts};
 
     /// Reads a space file, which is TOML 1.1: the table `variables` gives each variable the list of
-    /// its options, each the text `undef` or a whole number from 0. The keys `include`, `branches`,
+    /// its options, each the text `undef`, a whole number from 0, or another text, which is the
+    /// replacement list of a macro without arguments. The keys `include`, `branches`,
     /// `include_depth`, `date` and `time` are settings.
     pub fn read(alloc: Global, bytes: &[u8]) -> Result<Space, SpaceStop>
-        ensures answer { Answers seen_space result (read_space bytes.now) }
+        ensures answer { (texts : Texts) → AreTexts texts → Answers seen_space result (read_space texts bytes.now) }
         ensures sound { IfOk result (λ s. IsSound (seen_space s)) }
     {
         let document = read::read_document(alloc, bytes)?;

@@ -10,6 +10,7 @@ use Rattle.c11_macros.specs.Results.{result_map, result_and_then}
 use Rattle.c11_macros.specs.Substitution as substitution
 use Rattle.c11_macros.specs.Substitution.{all_glued, argument, begins_paste, filled, glued, hiding, is_paste_next, is_text_kind, joined, literal_of, neither, parts, pasted_as, slots, spellings, stringized, substituted, tokens_of, wanted_places, with_space, put_together}
 use Rattle.c11_tokens.specs.Relex.{relexed}
+use Rattle.sc_model.specs.Token as model_token
 use Rattle.sc_model.specs.declared.cause.Cause.{Cause}
 use Rattle.sc_model.specs.declared.cause.Cause.TheVariants.{BadPaste, BadStringize}
 use Rattle.sc_model.specs.declared.kind.Kind.{Kind}
@@ -63,7 +64,7 @@ wants_are {P} head raw b (substitution.paste ∷ ps) = if_mapped _ (Want b (subs
 
 -- ---- the law
 
-module _ {P : Type 0} (provenance : Provenance P) (form : macros.Form) (items : List macros.Item) (head : model.Hidden P) (raw expanded : List (List (model.Hidden P))) (hidden : HideSet) where
+module _ {P : Type 0} (provenance : Provenance P) (form : macros.Form) (items : List model_token.Item) (head : model.Hidden P) (raw expanded : List (List (model.Hidden P))) (hidden : HideSet) where
   -- the last steps
   abbrev finish : List (model.Hidden P) → List (model.Hidden P)
   finish ts = hiding provenance hidden (with_space head.space ts)

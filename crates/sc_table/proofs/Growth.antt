@@ -1,7 +1,7 @@
 -- A table while the conditions and the texts grow. `tables` is the set of lemmas for a `using`.
 use Rattle.std.proofs.Common.{◌≡◌, ℕ, zero, suc, ◌<◌, ◌≤◌, Bool, true, false, List, [], ◌∷◌, All, map, length, slice_get, Option, Some, None, IfSome, is_some, refl, ap, sym, subst, ◌∙◌, arith, if◌then◌else◌}
 use Rattle.std.proofs.lemmas.List.Elements.{All-head, All-tail, All-nil, All-cons}
-use Rattle.std.specs.Option.{option_map}
+use Rattle.std.specs.Option.{option_and_then, option_map}
 use Rattle.std.specs.Prelude.{slice_index, unwrap_or}
 use Rattle.std.specs.declared.rc.Rc.{Rc}
 use Rattle.c11_macros.specs.Macros as model
@@ -24,7 +24,7 @@ use Rattle.sc_table.specs.declared.entry.Entry.{Entry}
 use Rattle.sc_table.specs.declared.entry.Entry.TheVariants.{Everywhere, Options, Parts}
 use Rattle.sc_table.specs.declared.table.MacroTable.{MacroTable}
 use Rattle.sc_table.specs.Parts.{Part, valued, AreParts, seen_all}
-use Rattle.sc_table.specs.Table.{IsTable, IsMade, IsNamed, IsStill, macros_at, macros_in, stored_at, option_at, seen_options}
+use Rattle.sc_table.specs.Table.{IsTable, IsMade, IsNamed, IsStill, macros_at, macros_in, stored_at, definition_at, option_at, seen_options}
 use Rattle.sc_table.proofs.Denoting.{Denotes-as}
 use Rattle.sc_table.proofs.PartLemmas.{AreSome-Keeps}
 
@@ -37,8 +37,8 @@ module _ {old new : Sets} (keeps : Keeps old new) where
 
   IsMade-Keeps : (e : Entry) → IsMade old e → IsMade new e
   IsMade-Keeps (Everywhere shared) made = tt
-  IsMade-Keeps (Options variable options) made =
-      subst (λ ns. (variable < length ns) × (length options.items ≡ slice_index ns variable)) (sym keeps.arities) made
+  IsMade-Keeps (Options variable places definitions) made =
+      subst (λ ns. (variable < length ns) × (length places.items ≡ slice_index ns variable)) (sym keeps.arities) made
   IsMade-Keeps (Parts parts None) made = (AreParts-Keeps made.0, tt)
   IsMade-Keeps (Parts parts (Some cond)) made = (
     AreParts-Keeps made.0,
@@ -49,7 +49,7 @@ module _ {old new : Sets} (keeps : Keeps old new) where
   -- an entry says what it said
   stored_at-Keeps : (e : Entry) (c : List ℕ) → IsMade old e → IsConfig old.arities c → stored_at new e c ≡ stored_at old e c
   stored_at-Keeps (Everywhere shared) c made listed = refl
-  stored_at-Keeps (Options variable options) c made listed = refl
+  stored_at-Keeps (Options variable places definitions) c made listed = refl
   stored_at-Keeps (Parts parts defined) c made listed = ap (λ (ds : List Definition). slice_get ds 0) (items_at-Keeps (valued parts.items) c keeps made.0.each.own listed)
 
   macros_in-Keeps : (names : List (List ℕ)) (entries : List (Name × Entry)) (c text : List ℕ) → All (λ (e : Name × Entry). IsMade old e.1) entries → IsConfig old.arities c
@@ -77,7 +77,7 @@ module _ {names more : List (List ℕ)} (grows : Extends names more) where
       let P : Name → Type 0 = λ n. n.0 < length names in
       ap (λ t. t ∷ texts_of more ns) (text_of-Extends n (All-head P n ns held)) ∙ ap (λ ts. text_of names n ∷ ts) (texts_of-Extends ns (All-tail P n ns held))
 
-  items-Extends : (is : List Item) → All (IsHeldItem names) is → map (seen_item more) is ≡ map (seen_item names) is
+  pub items-Extends : (is : List Item) → All (IsHeldItem names) is → map (seen_item more) is ≡ map (seen_item names) is
   items-Extends [] held = refl
   items-Extends (i ∷ is) held =
       ap (λ t. record { kind = i.kind; spelling = t; space = i.space } ∷ map (seen_item more) is) (text_of-Extends i.spelling (All-head (IsHeldItem names) i is held).spelling)
@@ -97,7 +97,7 @@ module _ {names more : List (List ℕ)} (grows : Extends names more) where
       ap (λ f. record { form = f; replacement = seen_replacement more d.replacement }) (seen_form-Extends d.form held.form)
       ∙ ap (λ r. record { form = seen_form names d.form; replacement = r }) (seen_replacement-Extends d.replacement held.replacement)
 
-  IsHeldItem-Extends : (i : Item) → IsHeldItem names i → IsHeldItem more i
+  pub IsHeldItem-Extends : (i : Item) → IsHeldItem names i → IsHeldItem more i
   IsHeldItem-Extends i held = record {
     spelling = omega (arith, held.spelling, grows.longer);
     name = omega (arith, held.name, grows.longer);
@@ -145,11 +145,15 @@ module _ {names more : List (List ℕ)} (grows : Extends names more) where
         ap (λ d. d ∷ seen_options more options) (seen_definition-Extends shared.value (All-head P (Some shared) options held))
         ∙ ap (λ ds. seen_definition names shared.value ∷ ds) (seen_options-Extends options (All-tail P (Some shared) options held))
 
-    option_held : (options : List (Option (Rc Definition A))) (k : ℕ) → All (λ o. IfSome o (λ shared. IsHeldDefinition names shared.value)) options → IfSome (option_at options k) (IsHeldDefinition names)
+    pub option_held : (options : List (Option (Rc Definition A))) (k : ℕ) → All (λ o. IfSome o (λ shared. IsHeldDefinition names shared.value)) options → IfSome (definition_at options k) (IsHeldDefinition names)
     option_held [] k held = tt
     option_held (None ∷ options) zero held = tt
     option_held (Some shared ∷ options) zero held = All-head (λ (o : Option (Rc Definition A)). IfSome o (λ shared. IsHeldDefinition names shared.value)) (Some shared) options held
     option_held (o ∷ options) (suc k) held = option_held options k (All-tail (λ (o : Option (Rc Definition A)). IfSome o (λ shared. IsHeldDefinition names shared.value)) o options held)
+
+    at_option_held : (options : List (Option (Rc Definition A))) (place : Option ℕ) → All (λ o. IfSome o (λ shared. IsHeldDefinition names shared.value)) options → IfSome (option_and_then (definition_at options) place) (IsHeldDefinition names)
+    at_option_held options None held = tt
+    at_option_held options (Some place) held = option_held options place held
 
   part_held : (s : Sets) (parts : List Part) (c : List ℕ) → All (λ (p : Part). IsHeldDefinition names p.1) parts → IfSome (slice_get (items_at s parts c) 0) (IsHeldDefinition names)
   part_held s [] c held = tt
@@ -163,18 +167,18 @@ module _ {names more : List (List ℕ)} (grows : Extends names more) where
 
   stored_held : (s : Sets) (e : Entry) (c : List ℕ) → IsNamed names e → IfSome (stored_at s e c) (IsHeldDefinition names)
   stored_held s (Everywhere shared) c named = named
-  stored_held s (Options variable options) c named = option_held options.items (slice_index c variable) named.0
+  stored_held s (Options variable places definitions) c named = at_option_held definitions.items (slice_get places.items (slice_index c variable)) named.0
   stored_held s (Parts parts defined) c named = part_held s (valued parts.items) c named.held
 
-  seen_stored : (o : Option Definition) → IfSome o (IsHeldDefinition names) → option_map (seen_definition more) o ≡ option_map (seen_definition names) o
+  pub seen_stored : (o : Option Definition) → IfSome o (IsHeldDefinition names) → option_map (seen_definition more) o ≡ option_map (seen_definition names) o
   seen_stored None held = refl
   seen_stored (Some d) held = ap (λ x. Some x) (seen_definition-Extends d held)
 
   IsNamed-Extends : (e : Entry) → IsNamed names e → IsNamed more e
   IsNamed-Extends (Everywhere shared) named = IsHeldDefinition-Extends shared.value named
-  IsNamed-Extends (Options variable options) named = (
-    all_options-Extends options.items named.0,
-    subst IsOneToOne (sym (seen_options-Extends options.items named.0)) named.1,
+  IsNamed-Extends (Options variable places definitions) named = (
+    all_options-Extends definitions.items named.0,
+    subst IsOneToOne (sym (seen_options-Extends definitions.items named.0)) named.1,
   )
   IsNamed-Extends (Parts parts defined) named = record {
     held = λ k d h. IsHeldDefinition-Extends _ (named.held k d h);

@@ -6,6 +6,8 @@ pub mod OneToOne
 pub mod Denoting
 pub mod OptionLemmas
 pub mod PartLemmas
+pub mod PlaceLemmas
+pub mod PuttingOptions
 pub mod TableLemmas
 pub mod StartLemmas
 pub mod StartOptions

@@ -9,7 +9,7 @@ use Rattle.std.specs.declared.rc.Rc.{Rc}
 use Rattle.sc_macro.specs.declared.definition.Definition.{Definition}
 use Rattle.sc_macro.specs.Seen.{seen_definition}
 use Rattle.sc_model.specs.Growth.{IsOneToOne}
-use Rattle.sc_table.specs.Table.{option_at, seen_options}
+use Rattle.sc_table.specs.Table.{definition_at, seen_options}
 use Rattle.sc_table.proofs.OneToOne.{lacks-without}
 
 zero_differs : (n : ℕ) → (suc n == 0) ≡ false
@@ -25,14 +25,14 @@ module _ {A : Type 0} where
   value_of : Option (Rc Definition A) → Option Definition
   value_of o = option_map (λ (shared : Rc Definition A). shared.value) o
 
-  option_at-push : (options : List (Option (Rc Definition A))) (o : Option (Rc Definition A)) (k : ℕ)
-      → option_to_list (option_at (options ++ o ∷ []) k) ≡ option_to_list (option_at options k) ++ (if k == length options then option_to_list (option_map (λ (shared : Rc Definition A). shared.value) o) else [])
-  option_at-push [] o zero = refl
-  option_at-push [] o (suc k) = sym (ap (λ b. if b then option_to_list (option_map (λ (shared : Rc Definition A). shared.value) o) else []) (zero_differs k))
-  option_at-push (x ∷ options) o zero =
-      sym (ap (λ b. option_to_list (option_at (x ∷ options) 0) ++ (if b then option_to_list (option_map (λ (shared : Rc Definition A). shared.value) o) else [])) (differs_zero (length options)) ∙ append-nil (option_to_list (option_at (x ∷ options) 0)))
-  option_at-push (x ∷ options) o (suc k) =
-      option_at-push options o k ∙ ap (λ b. option_to_list (option_at options k) ++ (if b then option_to_list (option_map (λ (shared : Rc Definition A). shared.value) o) else [])) (sym (same_suc k (length options)))
+  definition_at-push : (options : List (Option (Rc Definition A))) (o : Option (Rc Definition A)) (k : ℕ)
+      → option_to_list (definition_at (options ++ o ∷ []) k) ≡ option_to_list (definition_at options k) ++ (if k == length options then option_to_list (option_map (λ (shared : Rc Definition A). shared.value) o) else [])
+  definition_at-push [] o zero = refl
+  definition_at-push [] o (suc k) = sym (ap (λ b. if b then option_to_list (option_map (λ (shared : Rc Definition A). shared.value) o) else []) (zero_differs k))
+  definition_at-push (x ∷ options) o zero =
+      sym (ap (λ b. option_to_list (definition_at (x ∷ options) 0) ++ (if b then option_to_list (option_map (λ (shared : Rc Definition A). shared.value) o) else [])) (differs_zero (length options)) ∙ append-nil (option_to_list (definition_at (x ∷ options) 0)))
+  definition_at-push (x ∷ options) o (suc k) =
+      definition_at-push options o k ∙ ap (λ b. option_to_list (definition_at options k) ++ (if b then option_to_list (option_map (λ (shared : Rc Definition A). shared.value) o) else [])) (sym (same_suc k (length options)))
 
   seen_options-append : (names : List (List ℕ)) (xs ys : List (Option (Rc Definition A))) → seen_options names (xs ++ ys) ≡ seen_options names xs ++ seen_options names ys
   seen_options-append names [] ys = refl
@@ -43,12 +43,12 @@ module _ {A : Type 0} where
     one_more : take (i + 1) options ≡ take i options ++ o ∷ []
     one_more = take_more options i o within ∙ ap (λ (x : Option (Rc Definition A)). take i options ++ x ∷ []) (sym is)
 
-    pub option_at-more : (k : ℕ) → option_to_list (option_at (take (i + 1) options) k)
-        ≡ option_to_list (option_at (take i options) k) ++ (if k == i then option_to_list (option_map (λ (shared : Rc Definition A). shared.value) o) else [])
-    option_at-more k =
-        ap (λ (os : List (Option (Rc Definition A))). option_to_list (option_at os k)) one_more
-        ∙ (option_at-push (take i options) o k
-        ∙ ap (λ (n : ℕ). option_to_list (option_at (take i options) k) ++ (if k == n then option_to_list (option_map (λ (shared : Rc Definition A). shared.value) o) else [])) (length-take-le i options (omega arith)))
+    pub definition_at-more : (k : ℕ) → option_to_list (definition_at (take (i + 1) options) k)
+        ≡ option_to_list (definition_at (take i options) k) ++ (if k == i then option_to_list (option_map (λ (shared : Rc Definition A). shared.value) o) else [])
+    definition_at-more k =
+        ap (λ (os : List (Option (Rc Definition A))). option_to_list (definition_at os k)) one_more
+        ∙ (definition_at-push (take i options) o k
+        ∙ ap (λ (n : ℕ). option_to_list (definition_at (take i options) k) ++ (if k == n then option_to_list (option_map (λ (shared : Rc Definition A). shared.value) o) else [])) (length-take-le i options (omega arith)))
 
     module _ (names : List (List ℕ)) where
       pub seen_options-more : seen_options names (take (i + 1) options) ≡ seen_options names (take i options) ++ seen_options names (o ∷ [])

@@ -1,28 +1,15 @@
--- The definitions of a variable's options: no two are the same.
-use Rattle.std.proofs.Common.{◌≡◌, ℕ, zero, suc, ◌<◌, ◌^◌, List, [], ◌∷◌, map, slice_get, decimal, Option, Some, None, All, refl, sym, ap, subst, ◌∙◌, arith}
-use Rattle.std.proofs.lemmas.Fmt.{decimal_injective}
+-- The definitions of a variable's options, which may be none.
+use Rattle.std.proofs.Common.{◌≡◌, ℕ, zero, suc, List, [], ◌∷◌, map, slice_get, Option, Some, None, All, refl, sym, ap, subst, ◌∙◌, arith}
 use Rattle.std.proofs.lemmas.List.Elements.{All-head, All-tail}
 use Rattle.std.specs.Option.{option_map}
 use Rattle.std.specs.Prelude.{IfSome}
 use Rattle.std.specs.declared.rc.Rc.{Rc}
 use Rattle.c11_macros.specs.Macros as model
-use Rattle.c11_macros.specs.Macros.{Replacement, items, file_name, line_number, definition_of, object, number_item}
 use Rattle.sc_macro.specs.declared.definition.Definition.{Definition}
 use Rattle.sc_macro.specs.Seen.{IsHeldDefinition, seen_definition}
-use Rattle.sc_model.specs.declared.variable_option.VariableOption.{VariableOption}
-use Rattle.sc_model.specs.declared.variable_option.VariableOption.TheVariants.{Undefined, Number}
 use Rattle.sc_model.specs.Growth.{Extends, IsOneToOne}
-use Rattle.sc_space.specs.Sound.{IsInRange}
-use Rattle.sc_table.specs.Table.{AreOptionsNamed, seen_options}
+use Rattle.sc_table.specs.Table.{AreHeldOptions, AreOptionsNamed, seen_options}
 use Rattle.sc_table.proofs.Growth.{seen_definition-Extends}
-
-some_value : {A : Type 0} {x y : A} → Some x ≡ Some y → x ≡ y
-some_value e = cc
-
-all-at : {A : Type 0} (P : A → Type 0) (xs : List A) (k : ℕ) (x : A) → All P xs → slice_get xs k ≡ Some x → P x
-all-at P [] k x all at = cc
-all-at P (y ∷ ys) zero x all at = subst P (some_value at) (All-head P y ys all)
-all-at P (y ∷ ys) (suc k) x all at = all-at P ys k x (All-tail P y ys all) at
 
 -- the values that are there
 abbrev pub somes : {A : Type 0} → List (Option A) → List A
@@ -48,41 +35,8 @@ seen_list-Extends {A} {names} {more} grows (Some shared ∷ list) held =
     ap (λ d. Some d ∷ seen_list more list) (seen_definition-Extends grows shared.value (All-head P (Some shared) list held))
     ∙ ap (λ ds. Some (seen_definition names shared.value) ∷ ds) (seen_list-Extends grows list (All-tail P (Some shared) list held))
 
-abbrev number : ℕ → model.Definition
-number n = object (items (number_item (decimal n)))
-
-abbrev first_spelling : Replacement → List ℕ
-first_spelling (items []) = []
-first_spelling (items (i ∷ is)) = i.spelling
-first_spelling file_name = []
-first_spelling line_number = []
-
-number-injective : (m n : ℕ) → m < 2 ^ 63 → n < 2 ^ 63 → number m ≡ number n → m ≡ n
-number-injective m n low high same = decimal_injective m n (omega (arith, low)) (omega (arith, high)) (ap (λ d. first_spelling d.replacement) same)
-
--- the option of a definition
-record Given (options : List VariableOption) (d : model.Definition) : Type 0 where
-  place : ℕ
-  value : ℕ
-  at : slice_get options place ≡ Some (Number value)
-  is : number value ≡ d
-
-given : (options : List VariableOption) (j : ℕ) (d : model.Definition) → slice_get (somes (map definition_of options)) j ≡ Some d → Given options d
-given [] j d at = cc
-given (Undefined ∷ options) j d at = let more = given options j d at in record { place = suc more.place; value = more.value; at = more.at; is = more.is }
-given (Number n ∷ options) zero d at = record { place = 0; value = n; at = refl; is = some_value at }
-given (Number n ∷ options) (suc j) d at = let more = given options j d at in record { place = suc more.place; value = more.value; at = more.at; is = more.is }
-
 tail-differs : {A : Type 0} (x : A) (xs : List A) → IsOneToOne (x ∷ xs) → IsOneToOne xs
 tail-differs x xs one = record { same = λ i j a at_i at_j. let both : suc i ≡ suc j = one.same (suc i) (suc j) a at_i at_j in omega (arith, both) }
-
-lacks-number : (n : ℕ) (options : List VariableOption) → IsOneToOne (Number n ∷ options) → All IsInRange (Number n ∷ options) → (j : ℕ) → slice_get (somes (map definition_of options)) j ≡ Some (number n) → ⊥
-lacks-number n options one range j at =
-    let g = given options j (number n) at in
-    let low : g.value < 2 ^ 63 = all-at IsInRange options g.place (Number g.value) (All-tail IsInRange (Number n) options range) g.at in
-    let same : g.value ≡ n = number-injective g.value n low (All-head IsInRange (Number n) options range) g.is in
-    let places : 0 ≡ suc g.place = one.same 0 (suc g.place) (Number n) refl (g.at ∙ ap (λ m. Some (Number m)) same) in
-    omega (arith, places)
 
 differs-more : {A : Type 0} (x : A) (xs : List A) → ((j : ℕ) → slice_get xs j ≡ Some x → ⊥) → IsOneToOne xs → IsOneToOne (x ∷ xs)
 differs-more {A} x xs lacks one = record { same = by }
@@ -93,13 +47,19 @@ differs-more {A} x xs lacks one = record { same = by }
     by (suc i) zero a at_i at_j = absurd (lacks i (at_i ∙ sym at_j))
     by (suc i) (suc j) a at_i at_j = ap suc (one.same i j a at_i at_j)
 
-pub options-differ : (options : List VariableOption) → IsOneToOne options → All IsInRange options → IsOneToOne (somes (map definition_of options))
-options-differ [] one range = record { same = λ i j x at_i at_j. cc }
-options-differ (Undefined ∷ options) one range = options-differ options (tail-differs Undefined options one) (All-tail IsInRange Undefined options range)
-options-differ (Number n ∷ options) one range =
-    differs-more (number n) (somes (map definition_of options)) (lacks-number n options one range)
-    (options-differ options (tail-differs (Number n) options one) (All-tail IsInRange (Number n) options range))
+some-at : {A : Type 0} (os : List (Option A)) (j : ℕ) (a : A) → slice_get (somes os) j ≡ Some a → (k : ℕ) × (slice_get os k ≡ Some (Some a))
+some-at [] j a at = absurd (cc)
+some-at (None ∷ os) j a at = let more = some-at os j a at in (suc more.0, more.1)
+some-at (Some x ∷ os) zero a at = (0, ap Some at)
+some-at (Some x ∷ os) (suc j) a at = let more = some-at os j a at in (suc more.0, more.1)
 
-pub options-named : {A : Type 0} (names : List (List ℕ)) (list : List (Option (Rc Definition A))) (options : List VariableOption) → IsOneToOne options → All IsInRange options
-    → All (λ o. IfSome o (λ shared. IsHeldDefinition names shared.value)) list → seen_list names list ≡ map definition_of options → AreOptionsNamed names list
-options-named names list options one range held seen = (held, subst IsOneToOne (sym (options-somes names list ∙ ap somes seen)) (options-differ options one range))
+pub somes-differ : {A : Type 0} (os : List (Option A)) → IsOneToOne os → IsOneToOne (somes os)
+somes-differ [] one = record { same = λ i j x at_i at_j. absurd (cc) }
+somes-differ (None ∷ os) one = somes-differ os (tail-differs None os one)
+somes-differ (Some x ∷ os) one =
+    differs-more x (somes os)
+    (λ j at. let place = some-at os j x at in let same : 0 ≡ suc place.0 = one.same 0 (suc place.0) (Some x) refl place.1 in omega (arith, same))
+    (somes-differ os (tail-differs (Some x) os one))
+
+pub options-named : {A : Type 0} (names : List (List ℕ)) (list : List (Option (Rc Definition A))) → AreHeldOptions names list → IsOneToOne (seen_list names list) → AreOptionsNamed names list
+options-named names list held one = (held, subst IsOneToOne (sym (options-somes names list)) (somes-differ (seen_list names list) one))

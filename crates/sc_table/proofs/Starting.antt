@@ -18,19 +18,18 @@ use Rattle.sc_macro.specs.declared.definition.Definition.{Definition}
 use Rattle.sc_macro.specs.Seen.{IsHeldDefinition, seen_definition, text_of}
 use Rattle.sc_model.proofs.ByteLemmas.{same_bytes-refl, same_bytes-true}
 use Rattle.sc_model.specs.declared.kind.Kind.TheVariants as kind
-use Rattle.sc_model.specs.declared.variable_option.VariableOption.{VariableOption}
 use Rattle.sc_model.specs.Bytes.{same_bytes, is_between}
 use Rattle.sc_model.specs.Growth.{Extends, IsOneToOne}
 use Rattle.sc_model.specs.Sets.{IsConfig}
-use Rattle.sc_model.specs.Space.{Variable}
-use Rattle.sc_space.specs.Seen.{seen_variable}
+use Rattle.sc_model.specs.Space.{Variable, VariableOption}
+use Rattle.sc_space.specs.Seen.{seen_option, seen_variable}
 use Rattle.sc_space.specs.declared.space.Variable as declared
 use Rattle.sc_space.specs.Settings.{is_date_byte}
 use Rattle.sc_table.specs.declared.entry.Entry.{Entry}
 use Rattle.sc_table.specs.declared.entry.Entry.TheVariants.{Everywhere, Options}
 use Rattle.sc_table.specs.declared.table.MacroTable.{MacroTable}
 use Rattle.sc_table.specs.Start.{IsEntry, IsStarted}
-use Rattle.sc_table.specs.Table.{IsMade, IsNamed, AreOptionsNamed, macros_in, option_at}
+use Rattle.sc_table.specs.Table.{IsMade, IsNamed, AreOptionsNamed, macros_in, definition_at, option_at}
 use Rattle.sc_table.proofs.Growth.{IsTable-Extends, macros_at-Extends}
 use Rattle.sc_table.proofs.TableLemmas.{all_names, all_values, macros_inserted}
 
@@ -100,30 +99,29 @@ joined : {A B : Type 0} (f : A → Option B) (o : Option A) → option_and_then 
 joined f None = refl
 joined f (Some x) = refl
 
-parted : {A : Type 0} (names : List (List ℕ)) (o : Option (Option (Rc Definition A)))
-    → option_map (seen_definition names) (option_and_then (option_map (λ shared. shared.value)) o) ≡ option_and_then (λ x. x) (option_map (λ p. option_map (λ shared. seen_definition names shared.value) p) o)
-parted names None = refl
-parted names (Some None) = refl
-parted names (Some (Some shared)) = refl
+parted : {A : Type 0} (names : List (List ℕ)) (definitions : List (Option (Rc Definition A))) (place : Option ℕ)
+    → option_map (seen_definition names) (option_and_then (definition_at definitions) place) ≡ option_and_then (λ x. x) (option_map (λ p. option_map (seen_definition names) (definition_at definitions p)) place)
+parted names definitions None = refl
+parted names definitions (Some place) = refl
 
-pub option-said : {A : Type 0} (names : List (List ℕ)) (list : List (Option (Rc Definition A))) (options : List VariableOption)
-    → map (λ p. option_map (λ shared. seen_definition names shared.value) p) list ≡ map definition_of options → (k : ℕ)
-    → option_map (seen_definition names) (option_at list k) ≡ option_and_then definition_of (slice_get options k)
-option-said names list options seen k =
-    parted names (slice_get list k)
-    ∙ (ap (option_and_then (λ x. x)) (sym (slice_get-map (λ p. option_map (λ shared. seen_definition names shared.value) p) list k) ∙ (ap (λ ds. slice_get ds k) seen ∙ slice_get-map definition_of options k))
+pub option-said : {A : Type 0} (names : List (List ℕ)) (places : List ℕ) (definitions : List (Option (Rc Definition A))) (options : List VariableOption)
+    → map (λ p. option_map (seen_definition names) (definition_at definitions p)) places ≡ map definition_of options → (k : ℕ)
+    → option_map (seen_definition names) (option_at places definitions k) ≡ option_and_then definition_of (slice_get options k)
+option-said names places definitions options seen k =
+    parted names definitions (slice_get places k)
+    ∙ (ap (option_and_then (λ x. x)) (sym (slice_get-map (λ p. option_map (seen_definition names) (definition_at definitions p)) places k) ∙ (ap (λ ds. slice_get ds k) seen ∙ slice_get-map definition_of options k))
     ∙ sym (joined definition_of (slice_get options k)))
 
-pub options-entry : (arities : List ℕ) (names : List (List ℕ)) (variable : ℕ) (list : Vec (Option (Rc Definition Global)) Global) (options : List VariableOption) → AreOptionsNamed names list.items
-    → map (λ p. option_map (λ shared. seen_definition names shared.value) p) list.items ≡ map definition_of options → variable < length arities → slice_index arities variable ≡ length options
-    → IsEntry arities names (Options variable list) (λ config. option_and_then definition_of (slice_get options (slice_index config variable)))
-options-entry arities names variable list options named seen within wide = record {
+pub options-entry : (arities : List ℕ) (names : List (List ℕ)) (variable : ℕ) (places : Vec ℕ Global) (definitions : Vec (Option (Rc Definition Global)) Global) (options : List VariableOption) → AreOptionsNamed names definitions.items
+    → map (λ p. option_map (seen_definition names) (definition_at definitions.items p)) places.items ≡ map definition_of options → variable < length arities → slice_index arities variable ≡ length options
+    → IsEntry arities names (Options variable places definitions) (λ config. option_and_then definition_of (slice_get options (slice_index config variable)))
+options-entry arities names variable places definitions options named seen within wide = record {
   made = λ s same. (
     subst (λ (a : List ℕ). variable < length a) (sym same) within,
-    sym (length-map list.items (λ p. option_map (λ shared. seen_definition names shared.value) p)) ∙ (ap length seen ∙ (length-map options definition_of ∙ (sym wide ∙ ap (λ (a : List ℕ). slice_index a variable) (sym same)))),
+    sym (length-map places.items (λ p. option_map (seen_definition names) (definition_at definitions.items p))) ∙ (ap length seen ∙ (length-map options definition_of ∙ (sym wide ∙ ap (λ (a : List ℕ). slice_index a variable) (sym same)))),
   );
   named = named;
-  at = λ s config same. option-said names list.items options seen (slice_index config variable);
+  at = λ s config same. option-said names places.items definitions.items options seen (slice_index config variable);
 }
 
 -- one variable more, before the others
@@ -160,7 +158,7 @@ seen-at (y ∷ ys) (suc i) x within is = seen-at ys i x (omega (arith, within)) 
 
 pub wide-at : (xs : List declared.Variable) (i : ℕ) (x : declared.Variable) → i < length xs → x ≡ get_or xs i x → slice_index (map (λ v. length v.options) (map seen_variable xs)) i ≡ length x.options.items
 wide-at [] i x within is = absurd (omega arith)
-wide-at (y ∷ ys) zero x within is = ap (λ (v : declared.Variable). length v.options.items) (sym is)
+wide-at (y ∷ ys) zero x within is = ap (λ (v : declared.Variable). length (map seen_option v.options.items)) (sym is) ∙ length-map x.options.items seen_option
 wide-at (y ∷ ys) (suc i) x within is = wide-at ys i x (omega (arith, within)) is
 
 -- ---- the macros of every program

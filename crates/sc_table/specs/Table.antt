@@ -16,9 +16,16 @@ use Rattle.sc_table.specs.declared.entry.Entry.TheVariants.{Everywhere, Options,
 use Rattle.sc_table.specs.declared.table.MacroTable.{MacroTable}
 use Rattle.sc_table.specs.Parts.{Part, valued, AreParts, AreNamed}
 
--- the definition of an option
-abbrev pub option_at : {A : Type 0} → List (Option (Rc Definition A)) → ℕ → Option Definition
-option_at options k = option_and_then (option_map (λ shared. shared.value)) (slice_get options k)
+-- the definition at a place, if it is one
+abbrev pub definition_at : {A : Type 0} → List (Option (Rc Definition A)) → ℕ → Option Definition
+definition_at definitions place = option_and_then (option_map (λ shared. shared.value)) (slice_get definitions place)
+
+-- the definition of an option, whose place these tell
+abbrev pub option_at : {A : Type 0} → List ℕ → List (Option (Rc Definition A)) → ℕ → Option Definition
+option_at places definitions k = option_and_then (definition_at definitions) (slice_get places k)
+
+abbrev pub seen_shared : {A : Type 0} → List (List ℕ) → Option (Rc Definition A) → Option model.Definition
+seen_shared names o = option_map (λ shared. seen_definition names shared.value) o
 
 -- the definitions of the options, in order
 abbrev pub seen_options : {A : Type 0} → List (List ℕ) → List (Option (Rc Definition A)) → List model.Definition
@@ -29,7 +36,7 @@ seen_options names (Some shared ∷ options) = seen_definition names shared.valu
 -- what an entry says at a configuration
 abbrev pub stored_at : Sets → Entry → List ℕ → Option Definition
 stored_at s (Everywhere shared) config = Some shared.value
-stored_at s (Options variable options) config = option_at options.items (slice_index config variable)
+stored_at s (Options variable places definitions) config = option_at places.items definitions.items (slice_index config variable)
 stored_at s (Parts parts defined) config = slice_get (items_at s (valued parts.items) config) 0
 
 -- the first entry of a name tells
@@ -45,16 +52,19 @@ macros_at s names table config text = macros_in s names table.entries.entries co
 -- the conditions of an entry are the store's
 abbrev pub IsMade : Sets → Entry → Type 0
 IsMade s (Everywhere shared) = Unit {0}
-IsMade s (Options variable options) = (variable < length s.arities) × (length options.items ≡ slice_index s.arities variable)
+IsMade s (Options variable places definitions) = (variable < length s.arities) × (length places.items ≡ slice_index s.arities variable)
 IsMade s (Parts parts defined) = AreParts s (valued parts.items) × IfSome defined (λ cond. Denotes s cond.0 (λ config. is_some (slice_get (items_at s (valued parts.items) config) 0)))
 
+abbrev pub AreHeldOptions : {A : Type 0} → List (List ℕ) → List (Option (Rc Definition A)) → Type 0
+AreHeldOptions names options = All (λ option. IfSome option (λ shared. IsHeldDefinition names shared.value)) options
+
 abbrev pub AreOptionsNamed : {A : Type 0} → List (List ℕ) → List (Option (Rc Definition A)) → Type 0
-AreOptionsNamed names options = All (λ option. IfSome option (λ shared. IsHeldDefinition names shared.value)) options × IsOneToOne (seen_options names options)
+AreOptionsNamed names options = AreHeldOptions names options × IsOneToOne (seen_options names options)
 
 -- the table of texts holds what an entry names, and no two of its definitions are the same
 abbrev pub IsNamed : List (List ℕ) → Entry → Type 0
 IsNamed names (Everywhere shared) = IsHeldDefinition names shared.value
-IsNamed names (Options variable options) = AreOptionsNamed names options.items
+IsNamed names (Options variable places definitions) = AreOptionsNamed names definitions.items
 IsNamed names (Parts parts defined) = AreNamed names (valued parts.items)
 
 -- what a table keeps for the store of conditions and the table of texts

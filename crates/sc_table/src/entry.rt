@@ -1,9 +1,9 @@
-ghost use Rattle.std.specs.Prelude.{◌≡◌, ℕ, ◌<◌, ◌==◌, ◌&&◌, ◌++◌, ◌∷◌, List, [], Contains, length, slice_index, IfOk, IfSome, OnOk, if◌then◌else◌};
+ghost use Rattle.std.specs.Prelude.{◌≡◌, ℕ, ◌<◌, ◌==◌, ◌&&◌, ◌||◌, Bool, ◌++◌, ◌∷◌, List, [], Contains, length, slice_index, IfOk, IfSome, OnOk, if◌then◌else◌};
 ghost use Rattle.std.specs.Option.{option_map, option_to_list};
 ghost use Rattle.c11_macros.specs.Macros.{Definition as ModelDefinition};
 ghost use Rattle.sc_guarded.specs.Items.{items_at};
 ghost use Rattle.sc_macro.specs.Seen.{IsHeldDefinition, seen_definition};
-ghost use Rattle.sc_model.specs.Sets.{IsConfig, IsCond, Keeps};
+ghost use Rattle.sc_model.specs.Sets.{IsConfig, IsCond, Denotes, Keeps};
 ghost use Rattle.sc_table.specs.Parts.{valued, AreSome, AreParts, AreNamed, AreDrawn};
 ghost use Rattle.sc_table.specs.Table.{IsMade, IsNamed, AreOptionsNamed, option_at, seen_options, stored_at};
 
@@ -22,7 +22,10 @@ pub enum Entry {
     /// What the option of a variable tells, as at the start. No condition is made for it yet.
     Options {
         variable: usize,
-        options: Vec<Option<Rc<Definition>>>,
+        /// For each option of the variable the place of its definition.
+        places: Vec<usize>,
+        /// No two are the same.
+        definitions: Vec<Option<Rc<Definition>>>,
     },
     /// Different definitions, each with its configurations.
     Parts {
@@ -58,8 +61,12 @@ impl Entry {
                 add_part(conds, &mut met, by, by, definition)?;
                 Ok(met)
             }
-            Entry::Options { variable, options } => {
-                let met = chosen(alloc, conds, *variable, options, by)?;
+            Entry::Options {
+                variable,
+                places,
+                definitions,
+            } => {
+                let met = chosen(alloc, conds, *variable, places, definitions, by)?;
                 Ok(met)
             }
             Entry::Parts { parts, .. } => {
@@ -70,65 +77,112 @@ impl Entry {
     }
 }
 
-/// The definitions of the options, each with the configurations of `by` that have the option.
+/// The definitions, each with the configurations of `by` whose option of the variable has its
+/// place.
 #[tactic(auto, using(sc_model::proofs::SetLemmas::conditions))]
 fn chosen<C: Conditions>(
     alloc: Global,
     conds: &mut C,
     variable: usize,
-    options: &[Option<Rc<Definition>>],
+    places: &[usize],
+    definitions: &[Option<Rc<Definition>>],
     by: Cond,
 ) -> Result<Vec<(Cond, Rc<Definition>)>, OutOfMemory>
     requires variable { variable < length (C.sets conds.old).arities }
-    requires options { length options.now ≡ slice_index (C.sets conds.old).arities variable }
+    requires places { length places.now ≡ slice_index (C.sets conds.old).arities variable }
     requires by_own { IsCond (C.sets conds.old) by.0 }
     ensures parts { IfOk result (λ met. AreSome (C.sets conds.new) (valued met.items)) }
     ensures items { IfOk result (λ met. (c : List ℕ) → IsConfig (C.sets conds.old).arities c
         → items_at (C.sets conds.new) (valued met.items) c
-        ≡ (if (C.sets conds.old).has by.0 c then option_to_list (option_at options.now (slice_index c variable)) else [])) }
-    ensures named { IfOk result (λ met. (names : List (List ℕ)) → AreOptionsNamed names options.now → AreNamed names (valued met.items)) }
+        ≡ (if (C.sets conds.old).has by.0 c then option_to_list (option_at places.now definitions.now (slice_index c variable)) else [])) }
+    ensures named { IfOk result (λ met. (names : List (List ℕ)) → AreOptionsNamed names definitions.now → AreNamed names (valued met.items)) }
 
     // at every outcome
     ensures keeps { Keeps (C.sets conds.old) (C.sets conds.new) }
 {
     let mut met = Vec::new(alloc);
-    for (index, option) in options.iter().enumerate() {
-        add_option(conds, &mut met, variable, index, by, option)?;
+    for (place, definition) in definitions.iter().enumerate() {
+        let cond = at_place(conds, variable, places, place)?;
+        add_option(conds, &mut met, cond, by, definition)?;
     }
     Ok(met)
 }
 
-/// Adds the definition of an option, where it has one, with the configurations of `by` that have
-/// the option.
+/// The configurations whose option of the variable has this place.
 #[tactic(auto, using(sc_model::proofs::SetLemmas::conditions))]
-fn add_option<C: Conditions>(
+fn at_place<C: Conditions>(
     conds: &mut C,
-    parts: &mut Vec<(Cond, Rc<Definition>)>,
     variable: usize,
-    index: usize,
-    by: Cond,
-    option: &Option<Rc<Definition>>,
-) -> Result<(), OutOfMemory>
-    requires parts { AreSome (C.sets conds.old) (valued parts.old.items) }
+    places: &[usize],
+    place: usize,
+) -> Result<Cond, OutOfMemory>
     requires variable { variable < length (C.sets conds.old).arities }
-    requires option { index < slice_index (C.sets conds.old).arities variable }
-    requires by_own { IsCond (C.sets conds.old) by.0 }
-    ensures parts { OnOk result (AreSome (C.sets conds.new) (valued parts.new.items)) }
-    ensures items { OnOk result ((c : List ℕ) → IsConfig (C.sets conds.old).arities c
-        → items_at (C.sets conds.new) (valued parts.new.items) c ≡ items_at (C.sets conds.old) (valued parts.old.items) c
-        ++ (if (slice_index c variable == index) && (C.sets conds.old).has by.0 c then option_to_list (option_map (λ shared. shared.value) option.now) else [])) }
-    ensures drawn { OnOk result ((names : List (List ℕ)) (from : List ModelDefinition) → AreDrawn names from (valued parts.old.items)
-        → IfSome option.now (λ shared. IsHeldDefinition names shared.value)
-        → IfSome option.now (λ shared. Contains from (seen_definition names shared.value) → ⊥)
-        → AreDrawn names (from ++ seen_options names (option.now ∷ [])) (valued parts.new.items)) }
+    requires places { length places.now ≡ slice_index (C.sets conds.old).arities variable }
+    ensures meaning { IfOk result (λ r. Denotes (C.sets conds.new) r.0 (λ c. slice_index places.now (slice_index c variable) == place)) }
 
     // at every outcome
     ensures keeps { Keeps (C.sets conds.old) (C.sets conds.new) }
 {
-    match option {
+    let mut cond = conds.never();
+    for (option, at) in places.iter().enumerate() {
+        cond = with_option(conds, cond, variable, option, *at == place)?;
+    }
+    Ok(cond)
+}
+
+/// The configurations of `cond`, and where it is taken those with this option of the variable.
+#[tactic(auto, using(sc_model::proofs::SetLemmas::conditions))]
+fn with_option<C: Conditions>(
+    conds: &mut C,
+    cond: Cond,
+    variable: usize,
+    option: usize,
+    is_taken: bool,
+) -> Result<Cond, OutOfMemory>
+    requires own { IsCond (C.sets conds.old) cond.0 }
+    requires variable { variable < length (C.sets conds.old).arities }
+    requires option { option < slice_index (C.sets conds.old).arities variable }
+    ensures meaning { IfOk result (λ r. (f : List ℕ → Bool) → Denotes (C.sets conds.old) cond.0 f
+        → Denotes (C.sets conds.new) r.0 (λ c. is_taken && (slice_index c variable == option) || f c)) }
+
+    // at every outcome
+    ensures keeps { Keeps (C.sets conds.old) (C.sets conds.new) }
+{
+    if !is_taken {
+        return Ok(cond);
+    }
+    let chosen = conds.choose(variable, option)?;
+    let more = conds.apply_or(chosen, cond)?;
+    Ok(more)
+}
+
+/// Adds a definition, where it is one, with the configurations that both conditions have.
+#[tactic(auto, using(sc_model::proofs::SetLemmas::conditions))]
+fn add_option<C: Conditions>(
+    conds: &mut C,
+    parts: &mut Vec<(Cond, Rc<Definition>)>,
+    cond: Cond,
+    by: Cond,
+    definition: &Option<Rc<Definition>>,
+) -> Result<(), OutOfMemory>
+    requires parts { AreSome (C.sets conds.old) (valued parts.old.items) }
+    requires cond_own { IsCond (C.sets conds.old) cond.0 }
+    requires by_own { IsCond (C.sets conds.old) by.0 }
+    ensures parts { OnOk result (AreSome (C.sets conds.new) (valued parts.new.items)) }
+    ensures items { OnOk result ((c : List ℕ) → IsConfig (C.sets conds.old).arities c
+        → items_at (C.sets conds.new) (valued parts.new.items) c ≡ items_at (C.sets conds.old) (valued parts.old.items) c
+        ++ (if (C.sets conds.old).has cond.0 c && (C.sets conds.old).has by.0 c then option_to_list (option_map (λ shared. shared.value) definition.now) else [])) }
+    ensures drawn { OnOk result ((names : List (List ℕ)) (from : List ModelDefinition) → AreDrawn names from (valued parts.old.items)
+        → IfSome definition.now (λ shared. IsHeldDefinition names shared.value)
+        → IfSome definition.now (λ shared. Contains from (seen_definition names shared.value) → ⊥)
+        → AreDrawn names (from ++ seen_options names (definition.now ∷ [])) (valued parts.new.items)) }
+
+    // at every outcome
+    ensures keeps { Keeps (C.sets conds.old) (C.sets conds.new) }
+{
+    match definition {
         None => Ok(()),
         Some(definition) => {
-            let cond = conds.choose(variable, index)?;
             add_part(conds, parts, cond, by, definition)?;
             Ok(())
         }

@@ -1,15 +1,16 @@
-ghost use Rattle.std.specs.Prelude.{◌≡◌, ℕ, ◌<◌, ◌∷◌, ◌++◌, [], true, List, All, Option, Some, map, length, slice_get, slice_index, string_bytes, IfOk, IfSome, OnOk};
+ghost use Rattle.std.specs.Prelude.{◌≡◌, ◌↔◌, IsTrue, ℕ, ◌<◌, ◌∷◌, ◌++◌, [], true, List, All, Option, Some, map, length, slice_get, slice_index, string_bytes, IfOk, IfSome, OnOk};
 ghost use Rattle.std.specs.List.{list_all};
 ghost use Rattle.std.specs.Map.{update};
 ghost use Rattle.std.specs.Option.{option_and_then, option_map, option_or};
 ghost use Rattle.c11_macros.specs.Macros.{Definition as ModelDefinition, Macros, object, items, one_item, definition_of, definition_named, predefined_macros, variable_definition};
-ghost use Rattle.sc_macro.specs.Seen.{IsHeldDefinition, IsHeldReplacement, seen_definition, seen_replacement, text_of};
+ghost use Rattle.sc_macro.specs.Seen.{IsHeldDefinition, IsHeldItem, IsHeldReplacement, seen_definition, seen_item, seen_replacement, text_of};
 ghost use Rattle.sc_model.specs.Bytes.{same_bytes};
-ghost use Rattle.sc_space.specs.Seen.{seen_variable};
+ghost use Rattle.sc_space.specs.Seen as spelled;
+ghost use Rattle.sc_space.specs.Seen.{seen_option, seen_variable};
 ghost use Rattle.sc_space.specs.Settings.{is_date_byte};
-ghost use Rattle.sc_space.specs.Sound.{IsInRange, IsSoundVariable};
-ghost use Rattle.sc_table.specs.Start.{IsEntry, IsStarted};
-ghost use Rattle.sc_table.specs.Table.{AreOptionsNamed};
+ghost use Rattle.sc_space.specs.Sound.{IsSoundVariable};
+ghost use Rattle.sc_table.specs.Start.{FindsOption, IsEntry, IsStarted, PutsOption};
+ghost use Rattle.sc_table.specs.Table.{AreHeldOptions, AreOptionsNamed, definition_at, seen_shared};
 ghost use Rattle.sc_model.specs.Growth.{Extends, IsOneToOne};
 ghost use Rattle.sc_model.specs.Token.{name_of};
 
@@ -17,9 +18,9 @@ use crate::entry::Entry;
 use crate::table::MacroTable;
 use itoa::Buffer;
 use sc_base::{Kind, Name, Names, OutOfMemory};
-use sc_macro::{Definition, Form, Item, Replacement};
-use sc_model::VariableOption;
-use sc_space::Variable;
+use sc_lex::name_of;
+use sc_macro::{Definition, Form, Item, Replacement, same_definition};
+use sc_space::{SpelledItem, Variable, VariableOption};
 use std::alloc::Global;
 use std::rc::Rc;
 
@@ -59,45 +60,135 @@ pub fn option_macro(
     alloc: Global,
     names: &mut Names,
     name: Name,
-    option: VariableOption,
+    option: &VariableOption,
 ) -> Result<Option<Rc<Definition>>, OutOfMemory>
     requires name { name.0 < length names.old }
     ensures held { IfOk result (λ o. IfSome o (λ shared. IsHeldDefinition names.new shared.value)) }
-    ensures seen { IfOk result (λ o. option_map (λ shared. seen_definition names.new shared.value) o ≡ definition_of option) }
+    ensures seen { IfOk result (λ o. option_map (λ shared. seen_definition names.new shared.value) o ≡ definition_of (seen_option option.now)) }
     ensures grows { Extends names.old names.new }
 {
     match option {
         VariableOption::Undefined => Ok(None),
         VariableOption::Number(number) => {
             let mut buffer = Buffer::new();
-            let text = buffer.format(number).as_bytes();
+            let text = buffer.format(*number).as_bytes();
             let definition = one_item_macro(alloc, names, name, Kind::Number, text)?;
+            let shared = Rc::new(alloc, definition)?;
+            Ok(Some(shared))
+        }
+        VariableOption::Text { items, .. } => {
+            let definition = list_macro(alloc, names, name, items)?;
             let shared = Rc::new(alloc, definition)?;
             Ok(Some(shared))
         }
     }
 }
 
-/// What each option defines the name to be.
+/// The macro without arguments that stands for a list.
+#[tactic(auto, using(sc_base::proofs::Growth::growth))]
+fn list_macro(
+    alloc: Global,
+    names: &mut Names,
+    name: Name,
+    list: &[SpelledItem],
+) -> Result<Definition, OutOfMemory>
+    requires name { name.0 < length names.old }
+    ensures held { IfOk result (λ d. IsHeldDefinition names.new d) }
+    ensures seen { IfOk result (λ d. seen_definition names.new d ≡ object (items (map spelled.seen_item list.now))) }
+    ensures grows { Extends names.old names.new }
+{
+    let mut items = Vec::new(alloc);
+    for item in list {
+        items.push(list_item(names, item)?)?;
+    }
+    Ok(Definition {
+        name,
+        form: Form::Object,
+        replacement: Replacement::Items(items),
+    })
+}
+
+#[tactic(auto, using(sc_base::proofs::Growth::growth))]
+fn list_item(names: &mut Names, item: &SpelledItem) -> Result<Item, OutOfMemory>
+    ensures held { IfOk result (λ i. IsHeldItem names.new i) }
+    ensures seen { IfOk result (λ i. seen_item names.new i ≡ spelled.seen_item item.now) }
+    ensures grows { Extends names.old names.new }
+{
+    let name = names.intern(name_of(&item.spelling))?;
+    let spelling = names.intern(&item.spelling)?;
+    Ok(Item {
+        kind: item.kind,
+        name,
+        spelling,
+        space: item.space,
+    })
+}
+
+/// What the options define the name to be, each definition once, and for each option the place of
+/// its definition.
 #[tactic(auto, using(sc_base::proofs::Growth::growth))]
 pub fn option_macros(
     alloc: Global,
     names: &mut Names,
     name: Name,
     options: &[VariableOption],
-) -> Result<Vec<Option<Rc<Definition>>>, OutOfMemory>
+) -> Result<(Vec<usize>, Vec<Option<Rc<Definition>>>), OutOfMemory>
     requires name { name.0 < length names.old }
-    requires different { IsOneToOne options.now }
-    requires in_range { All IsInRange options.now }
-    ensures named { IfOk result (λ list. AreOptionsNamed names.new list.items) }
-    ensures seen { IfOk result (λ list. map (λ o. option_map (λ shared. seen_definition names.new shared.value) o) list.items ≡ map definition_of options.now) }
+    ensures named { IfOk result (λ r. AreOptionsNamed names.new r.1.items) }
+    ensures seen { IfOk result (λ r. map (λ place. option_map (seen_definition names.new) (definition_at r.1.items place)) r.0.items ≡ map definition_of (map seen_option options.now)) }
     ensures grows { Extends names.old names.new }
 {
-    let mut list = Vec::new(alloc);
+    let mut places = Vec::new(alloc);
+    let mut definitions = Vec::new(alloc);
     for option in options {
-        list.push(option_macro(alloc, names, name, *option)?)?;
+        let definition = option_macro(alloc, names, name, option)?;
+        names.one_to_one();
+        places.push(put_definition(&mut definitions, definition)?)?;
     }
-    Ok(list)
+    Ok((places, definitions))
+}
+
+/// The place of a definition among these, to which it is added where it is new.
+fn put_definition(
+    definitions: &mut Vec<Option<Rc<Definition>>>,
+    definition: Option<Rc<Definition>>,
+) -> Result<usize, OutOfMemory>
+    ensures { IfOk result (λ place. PutsOption definitions.old.items definitions.new.items definition place) }
+{
+    if let Some(place) = place_of(definitions, &definition) {
+        return Ok(place);
+    }
+    let place = definitions.len();
+    definitions.push(definition)?;
+    Ok(place)
+}
+
+/// The place of the same definition.
+fn place_of(
+    definitions: &[Option<Rc<Definition>>],
+    definition: &Option<Rc<Definition>>,
+) -> Option<usize>
+    ensures within { IfSome result (λ place. place < length definitions.now) }
+    ensures found { (names : List (List ℕ)) → IsOneToOne names → AreHeldOptions names definitions.now → IfSome definition.now (λ shared. IsHeldDefinition names shared.value)
+        → FindsOption names definitions.now definition.now result }
+{
+    for (place, other) in definitions.iter().enumerate() {
+        if are_same(other, definition) {
+            return Some(place);
+        }
+    }
+    None
+}
+
+fn are_same(a: &Option<Rc<Definition>>, b: &Option<Rc<Definition>>) -> bool
+    ensures { (names : List (List ℕ)) → IsOneToOne names → IfSome a.now (λ shared. IsHeldDefinition names shared.value) → IfSome b.now (λ shared. IsHeldDefinition names shared.value)
+        → (IsTrue result ↔ (seen_shared names a.now ≡ seen_shared names b.now)) }
+{
+    match (a, b) {
+        (None, None) => true,
+        (Some(a), Some(b)) => same_definition(a, b),
+        _ => false,
+    }
 }
 
 /// Gives a name its entry, in the place of the one that it has.
@@ -119,7 +210,6 @@ pub fn add_variables(
     variables: &[Variable],
 ) -> Result<(), OutOfMemory>
     requires empty { table.old.entries.entries ≡ [] }
-    requires sound { All IsSoundVariable (map seen_variable variables.now) }
     ensures started { OnOk result (IsStarted (map (λ v. length v.options) (map seen_variable variables.now)) names.new table.new (variable_definition (map seen_variable variables.now))) }
 
     // at every outcome
@@ -142,20 +232,23 @@ fn add_variable(
     index: usize,
     variable: &Variable,
 ) -> Result<(), OutOfMemory>
-    requires sound { IsSoundVariable (seen_variable variable.now) }
     ensures added { OnOk result ((arities : List ℕ) (macros : List ℕ → Macros) → IsStarted arities names.old table.old macros → index < length arities
         → slice_index arities index ≡ length variable.now.options.items
         → IsStarted arities names.new table.new (λ config. update same_bytes (macros config) (string_bytes variable.now.name)
-        (option_and_then definition_of (slice_get variable.now.options.items (slice_index config index))))) }
+        (option_and_then definition_of (slice_get (map seen_option variable.now.options.items) (slice_index config index))))) }
 
     // at every outcome
     ensures grows { Extends names.old names.new }
 {
     let name = names.intern(variable.name.as_bytes())?;
-    let options = option_macros(alloc, names, name, variable.options.as_slice())?;
+    let (places, definitions) = option_macros(alloc, names, name, variable.options.as_slice())?;
     names.one_to_one();
-    let variable = index;
-    put_entry(table, name, Entry::Options { variable, options })
+    let entry = Entry::Options {
+        variable: index,
+        places,
+        definitions,
+    };
+    put_entry(table, name, entry)
 }
 
 /// A macro that stands for one token in every configuration.

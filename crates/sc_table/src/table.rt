@@ -40,7 +40,7 @@ pub struct MacroTable {
 
 impl MacroTable {
     /// The macros with which the configurations of a space start (C11 6.10.8.1): those of every
-    /// program, and each variable whose option is a number.
+    /// program, and each variable whose option is a number or a text.
     pub fn start(alloc: Global, space: &Space, names: &mut Names) -> Result<MacroTable, OutOfMemory>
         requires sound { IsSound (seen_space space.now) }
         ensures table { IfOk result (λ t. (s : Sets) → s.arities ≡ arities_of (seen_space space.now) → IsTable s names.new t) }

@@ -8,7 +8,7 @@ use Rattle.std.proofs.lemmas.List.Elements.{All-nil, All-cons, All-head}
 use Rattle.std.proofs.lemmas.Option.{cond_some, same_Some, slice_get_within, unwrap_or-slice_get}
 use Rattle.sc_text.specs.Answer.{Condition, choice_part, leaf_part}
 use Rattle.sc_text.specs.Layout.{Counts, Gives, next_condition, next_file, Introduces, nothing, known, new, LaysOut, done, shows}
-use Rattle.sc_model.specs.Space.{Variable, Space, option_text}
+use Rattle.sc_model.specs.Space.{Variable, Space, option_words}
 use Rattle.sc_text.specs.Text.{Printed, TextLine, condition_line, file_line, token_line, leaf_line, choice_line, fault_line, Need, condition_numbered, file_numbered, needs, token_said, part_said, fault_said, says, Reading, condition_at, place_of, branches_of, variable_from, are_options, chosen, with_condition, with_file, with_line, is_read, read_condition, read_line, read_lines}
 use Rattle.sc_text.proofs.ConditionLemmas.{condition_at-push, condition_at-last, chosen-kept}
 use Rattle.sc_model.proofs.ListLemmas.{slice_get-front, slice_get-seam}
@@ -18,7 +18,7 @@ pub record IsNode (space : Space) (conditions : List Condition) (id : ℕ) (name
   pub place : ℕ
   pub variable : Variable
   pub found : variable_from 0 space.variables name ≡ Some (place, variable)
-  pub fits : are_options id (map option_text variable.options) options ≡ true
+  pub fits : are_options id (option_words variable.options) options ≡ true
   pub below : id < length conditions
   pub means : (config : List ℕ) → condition_at conditions id config ≡ chosen conditions place options config
 
@@ -144,7 +144,7 @@ holds_alone space conditions files line holds = All-cons (Holds space conditions
 module _ (space : Space) (r : Reading) where
   -- a node has the configurations that its options choose
   adds_node : (id : ℕ) (name : List ℕ) (options : List (List ℕ × ℕ)) (place : ℕ) (variable : Variable) → 0 < length r.conditions → variable_from 0 space.variables name ≡ Some (place, variable)
-      → id ≡ length r.conditions → are_options id (map option_text variable.options) options ≡ true
+      → id ≡ length r.conditions → are_options id (option_words variable.options) options ≡ true
       → HasRead space r (with_condition r (chosen r.conditions place options)) (condition_line id name options ∷ [])
   adds_node id name options place variable begun found last fits =
       let test = chosen r.conditions place options in
@@ -194,7 +194,7 @@ module _ (space : Space) (r : Reading) where
       by : (o : Option (ℕ × Variable)) → variable_from 0 space.variables name ≡ o → read_condition r id options o ≡ Some s → HasRead space r s (condition_line id name options ∷ [])
       by None found read = absurd (cc)
       by (Some at) found read =
-          let told = cond_some ((id == length r.conditions) && are_options id (map option_text at.1.options) options) (with_condition r (chosen r.conditions at.0 options)) s read in
+          let told = cond_some ((id == length r.conditions) && are_options id (option_words at.1.options) options) (with_condition r (chosen r.conditions at.0 options)) s read in
           let parts = and_parts (id == length r.conditions) _ told.0 in
           subst (λ s. HasRead space r s (condition_line id name options ∷ [])) told.1 (adds_node id name options at.0 at.1 begun found (eqb-true id _ parts.0) parts.1)
   adds_line (file_line id name) s begun read =

@@ -9,7 +9,8 @@ use Rattle.std.specs.Prelude.{slice_index}
 use Rattle.sc_model.specs.Bytes.{same_bytes}
 use Rattle.sc_text.specs.Layout.{sets_of, IsOrdered}
 use Rattle.sc_model.specs.Sets.{IsCanonical, DependsFrom}
-use Rattle.sc_model.specs.Space.{Variable, Space, arities_of, option_text}
+use Rattle.sc_model.proofs.SpaceLemmas.{length-option_words}
+use Rattle.sc_model.specs.Space.{Variable, Space, arities_of, option_words}
 use Rattle.sc_text.specs.Answer.{Condition}
 use Rattle.sc_text.specs.Text.{variable_from, are_options}
 use Rattle.sc_model.proofs.ByteLemmas.{same_bytes-true}
@@ -76,9 +77,9 @@ module _ {space : Space} {conditions : List Condition} {id : ℕ} {name : List �
   IsExpansion-IsNode ordered = record {
     own = record { made = node.below };
     within = omega (arith, within, length-map space.variables (λ (v : Variable). length v.options));
-    long = length-map options (λ (option : List ℕ × ℕ). option.1) ∙ sym (length-map options (λ (option : List ℕ × ℕ). option.0)) ∙ ap length (options-texts id (map option_text node.variable.options) options node.fits)
-        ∙ length-map node.variable.options option_text ∙ sym arity;
-    smaller = options-smaller id (map option_text node.variable.options) options node.fits;
+    long = length-map options (λ (option : List ℕ × ℕ). option.1) ∙ sym (length-map options (λ (option : List ℕ × ℕ). option.0)) ∙ ap length (options-texts id (option_words node.variable.options) options node.fits)
+        ∙ length-option_words node.variable.options ∙ sym arity;
+    smaller = options-smaller id (option_words node.variable.options) options node.fits;
     later = All-map (λ part. DependsFrom (sets_of space conditions) part (node.place + 1)) (λ (option : List ℕ × ℕ). option.1) options (ordered.later node.place node.variable node.found);
     means = λ config listed. node.means config;
   }
@@ -107,7 +108,7 @@ one_node {space} {a = a} {b = b} {options = options} {choices = choices} canonic
     let variable = same_Some node.variable node_too.variable found in
     record {
       names = sym (named node).1 ∙ ap (λ (v : Variable). v.name) variable ∙ (named node_too).1;
-      texts = options-texts a (map option_text node.variable.options) options node.fits ∙ ap (λ (v : Variable). map option_text v.options) variable
-          ∙ sym (options-texts b (map option_text node_too.variable.options) choices node_too.fits);
+      texts = options-texts a (option_words node.variable.options) options node.fits ∙ ap (λ (v : Variable). option_words v.options) variable
+          ∙ sym (options-texts b (option_words node_too.variable.options) choices node_too.fits);
       numbers = parts_correspond canonical canonical_too split split_too positive positive_too c;
     }

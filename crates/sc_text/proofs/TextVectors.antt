@@ -2,16 +2,16 @@
 use Rattle.std.proofs.Common.{◌≡◌, ℕ, refl, arith, codes, List, [], ◌∷◌, Some, Result, Ok}
 use Rattle.std.specs.List.{flat_map}
 use Rattle.std.specs.Fmt.{digits}
-use Rattle.sc_model.specs.declared.variable_option.VariableOption.TheVariants.{Undefined, Number}
 use Rattle.sc_text.specs.Answer.{Condition, token_list, Answer, At, accepted}
 use Rattle.sc_text.specs.Layout.{Counts, at_start, next_condition, next_file, nothing, known, new, LaysOut, done, shows}
 use Rattle.sc_model.specs.Fault.{Fault}
+use Rattle.sc_model.specs.Space as model
 use Rattle.sc_model.specs.Space.{Space}
 use Rattle.sc_model.specs.Token.{Shown}
 use Rattle.sc_text.specs.Text.{TextLine, condition_line, file_line, token_line, end_line, line_text, Printed, condition_numbered, file_numbered, answer_said, Reading, nothing_read, read_lines, numeral}
 
 abbrev space : Space
-space = record { variables = record { name = codes "A"; options = Undefined ∷ Number 1 ∷ [] } ∷ []; include = []; branches = 4096; include_depth = 64; date = []; time = [] }
+space = record { variables = record { name = codes "A"; options = model.undefined ∷ model.number 1 ∷ [] } ∷ []; include = []; branches = 4096; include_depth = 64; date = []; time = [] }
 
 abbrev place : ℕ → Printed
 place line = record { file = 0; position = record { line = line; column = 1 } }

@@ -7,7 +7,7 @@ use Rattle.sc_model.specs.declared.cause.Cause.{Cause}
 use Rattle.sc_model.specs.Bytes.{same_bytes, has_no_newline}
 use Rattle.sc_model.specs.Cause.{code_of, name_of as name_of_cause}
 use Rattle.sc_model.specs.Fault.{Fault}
-use Rattle.sc_model.specs.Space.{Variable, Space, option_text}
+use Rattle.sc_model.specs.Space.{Variable, Space, option_words}
 use Rattle.sc_model.specs.Token.{Position, Place, Shown}
 use Rattle.sc_text.specs.Answer.{Condition, Part, leaf_part, node_part, choice_part, BodyKind, token_list, tree_parts, Body, Answer}
 
@@ -192,7 +192,7 @@ is_read r (file_numbered number) = nat_lt number (length r.files)
 abbrev pub read_condition : Reading → ℕ → List (List ℕ × ℕ) → Option (ℕ × Variable) → Option Reading
 read_condition r id choices None = None
 read_condition r id choices (Some found) =
-    if (id == length r.conditions) && are_options id (map option_text found.1.options) choices
+    if (id == length r.conditions) && are_options id (option_words found.1.options) choices
     then Some (with_condition r (chosen r.conditions found.0 choices)) else None
 
 abbrev pub read_line : Space → Reading → TextLine → Option Reading

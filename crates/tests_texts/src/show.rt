@@ -9,10 +9,9 @@ use sc_grammar::terminal::{ELSE, END, IF, SEMICOLON};
 use sc_guarded::Guarded;
 use sc_items::states;
 use sc_lalr::build;
-use sc_model::VariableOption;
 use sc_presence::{Conditions, PlainSets};
 use sc_show::{show_conflicts, show_tokens};
-use sc_space::{Space, Variable};
+use sc_space::{Space, Variable, VariableOption};
 use std::alloc::Global;
 use std::test::Fail;
 

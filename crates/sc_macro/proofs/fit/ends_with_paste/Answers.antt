@@ -2,7 +2,7 @@ use Rattle.std.proofs.Common.{◌≡◌, ◌∙◌, ◌-◌, ℕ, zero, suc, sym
 use Rattle.c11_macros.specs.Defines as model
 use Rattle.c11_macros.specs.Substitution as substitution
 use Rattle.sc_macro.specs.declared.definition.Item.{Item}
-use Rattle.c11_macros.specs.Macros.{Item as Seen}
+use Rattle.sc_model.specs.Token.{Item as Seen}
 use Rattle.sc_macro.specs.Seen.{seen_item}
 use Rattle.sc_macro.proofs.fit.ends_with_paste.Goals as goal
 

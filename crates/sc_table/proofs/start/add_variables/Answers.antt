@@ -14,16 +14,6 @@ use Rattle.sc_table.specs.Start.{IsStarted}
 use Rattle.sc_table.proofs.Starting.{no_variable, seen-at, variables-step, variables-none, wide-at}
 use Rattle.sc_table.proofs.start.add_variables.Goals as goal
 
-pub add_variable-requires : goal.add_variable-requires
-add_variable-requires c =
-    let vs = map seen_variable c.args.variables.now in
-    let test = c.loop-left-test.true in
-    let within : c.loop-left.left - 1 < length c.args.variables.now = omega (arith, test, c.loop-left.invariant.within) in
-    record {
-      sound = subst IsSoundVariable (sym (seen-at c.args.variables.now (c.loop-left.left - 1) c.index-variables-left.result within c.index-variables-left.is))
-          (All-get_or IsSoundVariable vs (c.loop-left.left - 1) no_variable (omega (arith, within, length-map c.args.variables.now seen_variable)) c.requires.sound);
-    }
-
 pub loop-left-init : goal.loop-left-init
 loop-left-init c = record {
   within = omega arith;

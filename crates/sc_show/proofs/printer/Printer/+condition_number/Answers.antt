@@ -2,7 +2,8 @@ use Rattle.std.proofs.Common.{◌≡◌, ◌+◌, ◌<◌, ◌≤◌, ◌==◌, 
 use Rattle.indexmap.proofs.CallerLemmas.{Contains-list_any}
 use Rattle.sc_base.specs.declared.id.Cond.{Cond}
 use Rattle.sc_model.proofs.SetLemmas.{Keeps-refl, Keeps-trans, DependsFrom-Keeps, IsConfig-kept, le-IsTop, IsTop-Keeps}
-use Rattle.sc_space.specs.Seen.{seen_space, seen_variable}
+use Rattle.std.proofs.lemmas.List.{length-map}
+use Rattle.sc_space.specs.Seen.{seen_option, seen_space, seen_variable}
 use Rattle.sc_show.specs.Rules.{AreFrom, Introduced}
 use Rattle.sc_show.proofs.PrinterChildren.{HasChildren, HasChildren-none, HasChildren-grows, HasChildren-push}
 use Rattle.sc_show.proofs.PrinterNumbers.{same_cond, present, slice_get-position, IsTable-Keeps, pushed, pushed_at}
@@ -14,7 +15,7 @@ pub part-requires-clause-option : goal.part-requires-clause-option
 part-requires-clause-option g t c =
     let below = variable_within c.args.space.now _ c.in-Some-top.variable c.requires.arities c.in-Some-top.ensures.some.depends.within in
     let arity = arity_at (seen_space c.args.space.now) _ _ (seen_variable c.index-named.result.now) (c.loop-option.invariant.keeps.arities ∙ c.requires.arities) (variable_at c.args.space.now _ _ c.index-named.ensures below) in
-    omega (arith, arity)
+    omega (arith, arity, length-map c.index-named.result.now.options.items seen_option)
 
 pub returns-in_err-part-clause-keeps : goal.returns-in_err-part-clause-keeps
 returns-in_err-part-clause-keeps g t c = Keeps-trans c.loop-option.invariant.keeps c.part.ensures.keeps
@@ -102,7 +103,7 @@ returns-clause-lines g t c =
     let placed = subst (λ ns. c.in-Some-top.variable < length ns) (sym was.keeps.arities) c.in-Some-top.ensures.some.depends.within in
     let fresh = sym c.if-not-is_new.false ∙ c.in_ok-number.ensures.added in
     Introduced-node c.args.cond (seen_variable c.index-named.result.now) c.in-Some-top.variable c.in_ok-number.number c.deref.result.now c.requires.names arities
-    (variable_at c.args.space.now _ _ c.index-named.ensures below) placed was.own was.lines was.children (omega arith)
+    (variable_at c.args.space.now _ _ c.index-named.ensures below) placed was.own was.lines was.children (omega (arith, length-map c.index-named.result.now.options.items seen_option))
     (pushed_at (λ (a b : Cond). a.0 == b.0) _ _ c.insert_full.new.self.keys _ fresh c.in_ok-number.ensures.index) (pushed (λ (a b : Cond). a.0 == b.0) _ _ _ c.in_ok-number.number fresh c.in_ok-number.ensures.keys)
     refl refl c.deref.ensures.value c.in_ok-write_condition.ensures
 

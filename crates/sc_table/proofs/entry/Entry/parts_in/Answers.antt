@@ -1,4 +1,4 @@
-use Rattle.std.proofs.Common.{◌∙◌, ◌&&◌, sym, ap, subst, List, length, ◌++◌, ◌∷◌, [], if◌then◌else◌, arith}
+use Rattle.std.proofs.Common.{◌∙◌, ◌&&◌, sym, ap, ap₂, subst, List, length, ◌++◌, ◌∷◌, [], if◌then◌else◌, arith}
 use Rattle.std.specs.Option.{option_to_list}
 use Rattle.std.specs.Prelude.{slice_index}
 use Rattle.sc_guarded.specs.Items.{items_at}
@@ -17,8 +17,8 @@ add_part-requires-clause-parts g c =
 pub chosen-requires-clause-variable : goal.chosen-requires-clause-variable
 chosen-requires-clause-variable g c = (subst (IsMade (g.C.Conditions.sets c.args.conds.now)) c.in-Options.is c.requires.made).0
 
-pub chosen-requires-clause-options : goal.chosen-requires-clause-options
-chosen-requires-clause-options g c =
+pub chosen-requires-clause-places : goal.chosen-requires-clause-places
+chosen-requires-clause-places g c =
     ap length c.deref.ensures.value ∙ (subst (IsMade (g.C.Conditions.sets c.args.conds.now)) c.in-Options.is c.requires.made).1
 
 pub restricted-requires-clause-parts : goal.restricted-requires-clause-parts
@@ -50,7 +50,7 @@ pub returns-in_ok-met-in-Options-clause-items : goal.returns-in_ok-met-in-Option
 returns-in_ok-met-in-Options-clause-items g c = λ x listed.
     let s = g.C.Conditions.sets c.args.conds.now in
     c.in_ok-met-in-Options.ensures.items x listed
-    ∙ (ap (λ os. if s.has c.args.by.0 x then option_to_list (option_at os (slice_index x c.in-Options.variable)) else []) c.deref.ensures.value
+    ∙ (ap₂ (λ places os. if s.has c.args.by.0 x then option_to_list (option_at places os (slice_index x c.in-Options.variable)) else []) c.deref.ensures.value c.deref-in-Options.ensures.value
     ∙ ap (λ (e : Entry). if s.has c.args.by.0 x then option_to_list (stored_at s e x) else []) (sym c.in-Options.is))
 
 pub returns-in_ok-met-in-Options-clause-parts : goal.returns-in_ok-met-in-Options-clause-parts
@@ -60,7 +60,7 @@ returns-in_ok-met-in-Options-clause-parts g c =
 
 pub returns-in_ok-met-in-Options-clause-named : goal.returns-in_ok-met-in-Options-clause-named
 returns-in_ok-met-in-Options-clause-named g c = λ names named.
-    c.in_ok-met-in-Options.ensures.named names (rw c.deref.ensures.value (subst (IsNamed names) c.in-Options.is named))
+    c.in_ok-met-in-Options.ensures.named names (rw c.deref-in-Options.ensures.value (subst (IsNamed names) c.in-Options.is named))
 
 pub returns-in_ok-met-in-Parts-clause-items : goal.returns-in_ok-met-in-Parts-clause-items
 returns-in_ok-met-in-Parts-clause-items g c = λ x listed.
