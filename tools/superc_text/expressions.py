@@ -1,9 +1,10 @@
 """A condition as a short Boolean expression, such as `defined(CONFIG_SMP) && NR_CPUS==4`.
 
 The expression can stand after `#if`: a variable that is not defined counts as 0 there, so an option
-0 beside `undef` is told with `defined`. It comes from an irredundant sum of products of the diagram
-(Minato and Morreale), or from that of its negation, whichever is shorter when common factors are
-taken out.
+0 beside `undef` is told with `defined`. No such expression tells texts apart, so where a variable
+has an option that is a text, its options are told by their words, as `LEVEL=t1`. It comes from an
+irredundant sum of products of the diagram (Minato and Morreale), or from that of its negation,
+whichever is shorter when common factors are taken out.
 """
 from __future__ import annotations
 
@@ -11,6 +12,7 @@ from collections import Counter
 from collections.abc import Iterable, Mapping
 
 from .diagrams import ALWAYS, NEVER, Diagrams
+from .space import is_text
 
 # A product: variables in order, each with the set of its options as bits.
 Literal = tuple[str, int]
@@ -177,13 +179,15 @@ def _joined(written: list[Written], strength: int) -> Written:
 
 def literal_text(name: str, options: tuple[str, ...], chosen: set[int]) -> Written:
     """That the option of a variable is one of these, as short as it can be said."""
-    value_of = [0 if option == "undef" else int(option) for option in options]
     undefined = {place for place, option in enumerate(options) if option == "undef"}
     defined = set(range(len(options))) - undefined
     if undefined and chosen == defined:
         return f"defined({name})", ATOM
     if undefined and chosen == undefined:
         return f"!defined({name})", ATOM
+    if any(map(is_text, options)):
+        return _by_word(name, options, chosen)
+    value_of = [0 if option == "undef" else int(option) for option in options]
     written = _by_value(name, value_of, chosen, set(range(len(options))))
     if undefined and not chosen & undefined:
         inner = _by_value(name, value_of, chosen, defined)
@@ -192,6 +196,19 @@ def literal_text(name: str, options: tuple[str, ...], chosen: set[int]) -> Writt
         inner = _by_value(name, value_of, chosen - undefined, defined)
         written.extend(_joined([(f"!defined({name})", ATOM), one], SUM) for one in inner)
     return min(written, key=lambda one: len(one[0]))
+
+
+def _by_word(name: str, options: tuple[str, ...], chosen: set[int]) -> Written:
+    """The chosen options, or all that are not the others."""
+    inside = [(f"{name}={options[place]}", COMPARISON) for place in sorted(chosen)]
+    outside = [
+        (f"{name}!={option}", COMPARISON)
+        for place, option in enumerate(options)
+        if place not in chosen
+    ]
+    if len(inside) <= len(outside):
+        return _joined(inside, SUM)
+    return _joined(outside, PRODUCT)
 
 
 def _by_value(name: str, value_of: list[int], chosen: set[int], among: set[int]) -> list[Written]:

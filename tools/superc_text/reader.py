@@ -12,13 +12,13 @@ from collections.abc import Callable, Iterable, Iterator
 from .diagrams import ALWAYS, NEVER, Diagrams
 from .grammar import productions
 from .items import CAUSES, Choice, Conflict, Fault, Item, Leaf, Node, Place, Root, Token
-from .space import Variables
+from .space import Variables, is_text
 
 NUMBER = rb"(0|[1-9][0-9]{0,18})"
 COUNT = rb"([1-9][0-9]{0,18})"
 PLACE = NUMBER + rb":" + COUNT + rb":" + COUNT
 SPELLING = rb"([^\s](?:[^\n]*[^\s])?)"
-OPTION = rb"(?:undef|0|[1-9][0-9]{0,18})"
+OPTION = rb"(?:undef|t?(?:0|[1-9][0-9]{0,18}))"
 FORMS = {
     b"c": re.compile(
         rb"c "
@@ -151,9 +151,13 @@ class Reader:
             _need(
                 len(options) <= OPTIONS_AT_MOST, f"a variable has at most {OPTIONS_AT_MOST} options"
             )
-            numbers = [int(option) for option in options if option != "undef"]
             _need(
-                all(number <= LARGEST_OPTION for number in numbers), "an option is at most 2^63-1"
+                all(int(option) <= LARGEST_OPTION for option in options if option.isdecimal()),
+                "an option is at most 2^63-1",
+            )
+            _need(
+                all(option == f"t{k}" for k, option in enumerate(options) if is_text(option)),
+                "an option that is a text has the number of its place",
             )
             self.diagrams.variables[name] = options
         else:

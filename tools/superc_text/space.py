@@ -25,8 +25,18 @@ def variables_of(space: bytes) -> Variables:
 def _options(name: str, options: object) -> tuple[str, ...]:
     if not isinstance(options, list) or not options or not all(map(_is_option, options)):
         raise SpaceError(f"BadOption {name}")
-    return tuple(map(str, options))
+    return tuple(map(_word, range(len(options)), options))
 
 
 def _is_option(option: object) -> bool:
-    return option == "undef" or type(option) is int
+    return isinstance(option, str) or type(option) is int
+
+
+def _word(index: int, option: object) -> str:
+    """How texts write the option of this index."""
+    return f"t{index}" if isinstance(option, str) and option != "undef" else str(option)
+
+
+def is_text(word: str) -> bool:
+    """Whether the word of an option stands for a text."""
+    return word[0] == "t"

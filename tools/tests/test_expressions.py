@@ -35,6 +35,9 @@ class Literals(unittest.TestCase):
             ("undef 0 1", {0, 2}, "!defined(A) || A==1"),
             ("1 2 3 4", {0, 1}, "A<=2"),
             ("1 2 3 4", {2, 3}, "A>=3"),
+            ("undef t1 t2", {1, 2}, "defined(A)"),
+            ("undef t1 4", {1}, "A=t1"),
+            ("t0 t1 4", {0, 2}, "A!=t1"),
         ]
         for options, chosen, text in rows:
             self.assertEqual(literal_text("A", tuple(options.split()), chosen)[0], text)

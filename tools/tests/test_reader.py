@@ -15,6 +15,8 @@ from superc_text import (
     text_of,
 )
 
+from superc_text.space import variables_of
+
 from .helpers import README_TEXT, TREE_TEXT, document
 
 
@@ -26,6 +28,11 @@ class Forms(unittest.TestCase):
             [tuple(fault) for fault in read.faults], [(3, 5, "BadDirective", Place("main.c", 4, 1))]
         )
         self.assertEqual(read.diagrams.variables, {"A": ("undef", "1")})
+
+    def test_options_that_are_texts(self) -> None:
+        read = document(b"c 2 T undef:0 t1:1\ns 0 m.c\nt 2 0:1:1 x\nend\n")
+        self.assertEqual(read.diagrams.variables, {"T": ("undef", "t1")})
+        self.assertEqual(variables_of(b'[variables]\nT = ["undef", "x"]\n'), {"T": ("undef", "t1")})
 
     def test_tree(self) -> None:
         read = document(TREE_TEXT)
@@ -99,6 +106,8 @@ WRONG = [
     (b"c 2 A undef:0 x:1\nend\n", 1, "not written so"),
     (b"c 2 A undef:0 1:3\nend\n", 1, "condition 3 has no line yet"),
     (b"c 2 A undef:0 undef:1\nend\n", 1, "an option stands once"),
+    (b"c 2 A undef:0 t2:1\nend\n", 1, "the number of its place"),
+    (b"c 2 A undef:0 t01:1\nend\n", 1, "not written so"),
     (b"c 2 A 9223372036854775808:0 1:1\nend\n", 1, "at most 2^63-1"),
     (
         b"c 2 A " + b" ".join(b"%d:%d" % (k, k == 0) for k in range(65)) + b"\nend\n",
