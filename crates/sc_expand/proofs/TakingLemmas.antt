@@ -1,5 +1,6 @@
 -- Taking the first token of a list: what the parts of it come to together.
 use Rattle.std.proofs.Common.{◌≡◌, ℕ, ◌<◌, get_or, zero, suc, ◌==◌, ◌||◌, ◌&&◌, not, Bool, true, false, List, [], ◌∷◌, All, map, length, refl, sym, ap, subst, ◌∙◌, arith, if◌then◌else◌}
+use Rattle.std.proofs.Math.Bool.{or-false}
 use Rattle.std.specs.List.{list_any}
 use Rattle.std.proofs.lemmas.Bool.{true≢false}
 use Rattle.c11_macros.specs.Hidden as model
@@ -63,14 +64,10 @@ pub or_true : (a b : Bool) → b ≡ true → (a || b) ≡ true
 or_true true b is = refl
 or_true false b is = is
 
-pub or_false : (b : Bool) → (b || false) ≡ b
-or_false true = refl
-or_false false = refl
-
 -- a set with one name more
 module _ (names : List (List ℕ)) (one made : List Name) (name : Name) (exact : (test : Name → Bool) → list_any test made ≡ (list_any test one || test name)) where
   pub held_with : AreHeld names one → name.0 < length names → AreHeld names made
-  held_with held own = held_union names one (name ∷ []) made held (λ k d h. by k d h) (λ test. exact test ∙ ap (λ b. list_any test one || b) (sym (or_false (test name))))
+  held_with held own = held_union names one (name ∷ []) made held (λ k d h. by k d h) (λ test. exact test ∙ ap (λ b. list_any test one || b) (sym (or-false (test name))))
     where
       by : (k : ℕ) (d : Name) → k < 1 → (get_or (name ∷ []) k d).0 < length names
       by zero d h = own

@@ -4,16 +4,15 @@ use Rattle.std.proofs.lemmas.Bool.{and_parts}
 use Rattle.std.proofs.lemmas.List.Elements.{All-cons, All-head, All-nil, All-tail}
 use Rattle.std.specs.Prelude.{slice_get}
 use Rattle.std.specs.declared.rc.Rc.{Rc}
-use Rattle.c11_macros.specs.Expansion.{case_of, is_looked_up, stays}
+use Rattle.c11_macros.specs.Expansion.{case_of, stays}
 use Rattle.c11_macros.specs.Hidden.{Hidden, Provenance}
 use Rattle.c11_macros.specs.Macros as model
 use Rattle.c11_macros.specs.Macros.{Macros}
 use Rattle.c11_tokens.specs.Lex.{is_identifier_kind}
 use Rattle.sc_base.specs.declared.id.Cond.{Cond}
-use Rattle.sc_base.specs.declared.id.Name.{Name}
 use Rattle.sc_base.specs.declared.place.Place.{Place}
 use Rattle.sc_expand.proofs.Rests.{first-is}
-use Rattle.sc_expand.proofs.PlainCases.{case-hidden, case-undefined}
+use Rattle.sc_expand.proofs.PlainCases.{undefined-stays}
 use Rattle.sc_expand.proofs.SeenLemmas.{macros_at-Grows}
 use Rattle.sc_expand.proofs.TakingParts.{seen_by}
 use Rattle.sc_expand.proofs.TakingTurns.{FirstTaken, first-both, first-grew, first-own, first-ready}
@@ -131,16 +130,6 @@ take-passes s was next item taken uncalled first none both push = by push.out
 
 -- ---- the configurations in which it stays
 
-undefined-stays : (names : List (List ℕ)) (hides : List (List Name)) (macros : Macros) (h : declared.Hidden) (rest : List (Hidden Place)) → IsUndefined names macros h.token → case_of macros (seen_hidden names hides h) rest ≡ stays
-undefined-stays names hides macros h rest undefined = by (is_looked_up t) refl
-  where
-    t : Hidden Place
-    t = seen_hidden names hides h
-
-    by : (b : Bool) → is_looked_up t ≡ b → case_of macros t rest ≡ stays
-    by true looked = case-undefined macros t rest looked (undefined (and_parts (is_identifier_kind t.kind) (not (t.hide t.spelling)) looked).0)
-    by false hidden = case-hidden macros t rest hidden
-
 module _ {s0 s1 : Sets} {n files : List (List ℕ)} {table : MacroTable} {was : Expansion} {item : Cond × declared.Hidden} {cond : Cond} (known : FirstTaken s0 s1 n files table was item cond) where
   -- what is not looked up in the list is not looked up at its first token
   pub first-undefined : LooksUpNone s0 n (macros_at s0 n table) was → (c : List ℕ) → IsConfig s1.arities c → s1.has cond.0 c ≡ true → IsUndefined n (macros_at s1 n table c) item.1.token
@@ -164,8 +153,9 @@ module _ {s0 s1 : Sets} {n files : List (List ℕ)} {table : MacroTable} {was : 
           let live : st.sets.has now.refusals.live.0 c ≡ true =
           ap (λ (e : Expansion). st.sets.has e.refusals.live.0 c) same ∙ (all.at was.refusals.live.0 c known.held.refusals.live listed0 ∙ (first-both known c listed has).1) in
           let macros = macros_at s1 n table c in
-          comes-stays (provenance_of files) macros (seen_hidden n was.sets item.1) begun.rest (at (stores s1 n was.sets) was c) (step_at st now taken c)
-          (undefined-stays n was.sets macros item.1 begun.rest (undefined c listed has)) live (told.comes c macros begun.rest listed has begun.work refl)
+          let t = seen_hidden n was.sets item.1 in
+          comes-stays (provenance_of files) macros t begun.rest (at (stores s1 n was.sets) was c) (step_at st now taken c)
+          (undefined-stays macros t begun.rest (λ looked. undefined c listed has (and_parts (is_identifier_kind t.kind) (not (t.hide t.spelling)) looked).0)) live (told.comes c macros begun.rest listed has begun.work refl)
       stays-here c listed0 listed false lacks = ap (λ (s : Step). s.stays) (told.others c listed lacks)
 
       stays-at : (c : List ℕ) → IsConfig st.sets.arities c → st.sets.has taken.stays.0 c ≡ (st.sets.has item.0.0 c && st.sets.has was.refusals.live.0 c)

@@ -1,4 +1,5 @@
-use Rattle.std.proofs.Common.{◌≡◌, ◌∙◌, ◌<◌, ◌||◌, [], ◌∷◌, Bool, true, false, length, refl, ap}
+use Rattle.std.proofs.Common.{◌≡◌, ◌∙◌, ◌<◌, ◌||◌, [], ◌∷◌, Bool, length, ap, sym}
+use Rattle.std.proofs.Math.Bool.{or-false}
 use Rattle.std.specs.List.{list_any}
 use Rattle.std.proofs.lemmas.List.Elements.{All-cons, All-nil}
 use Rattle.c11_macros.specs.Hidden.{meet}
@@ -20,10 +21,6 @@ returns-clause-is c =
     seen_common names head close met c.requires.head.hide.held c.requires.close.hide.held c.in_ok-met.ensures.exact c.one_to_one.ensures in
     same_sets _ _ (λ text. c.in_ok-hide.ensures.exact (λ name. same_bytes (text_of names name) text) ∙ ap (λ s. s text || same_bytes (text_of names c.args.head.token.spelling) text) common)
 
-or_false : (b : Bool) → b ≡ (b || false)
-or_false true = refl
-or_false false = refl
-
 pub returns-clause-held : goal.returns-clause-held
 returns-clause-held c =
     let names = c.args.names.now in
@@ -35,5 +32,5 @@ returns-clause-held c =
     let P : Name → Type 0 = λ name. name.0 < length names in
     let held : AreHeld names met = held_common names head close met c.requires.head.hide.held c.requires.close.hide.held c.in_ok-met.ensures.exact in
     let one : AreHeld names (spelling ∷ []) = All-cons P spelling [] c.requires.head.token.spelling (All-nil P) in
-    let exact : (test : Name → Bool) → list_any test made ≡ (list_any test met || list_any test (spelling ∷ [])) = λ test. c.in_ok-hide.ensures.exact test ∙ ap (λ b. list_any test met || b) (or_false (test spelling)) in
+    let exact : (test : Name → Bool) → list_any test made ≡ (list_any test met || list_any test (spelling ∷ [])) = λ test. c.in_ok-hide.ensures.exact test ∙ ap (λ b. list_any test met || b) (sym (or-false (test spelling))) in
     record { own = c.in_ok-hide.ensures.own; held = held_union names met (spelling ∷ []) made held one exact }

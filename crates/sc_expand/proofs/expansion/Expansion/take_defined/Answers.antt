@@ -10,7 +10,7 @@ use Rattle.sc_expand.proofs.LastLemmas.{last-later}
 use Rattle.sc_expand.proofs.SeenLemmas.{AreHeld-Grows, IsHeldExpansion-Grows, at-Grows, seen_at-Grows}
 use Rattle.sc_expand.proofs.StopsLemmas.{stops-weaker}
 use Rattle.sc_expand.proofs.TakenLemmas.{taken-each}
-use Rattle.sc_expand.proofs.TakingLemmas.{or_false}
+use Rattle.std.proofs.Math.Bool.{or-false}
 use Rattle.sc_expand.proofs.TakingParts.{none-found}
 use Rattle.sc_expand.proofs.TakingSteps.{called-comes, has_first-Keeps, object-comes, on-ok, same-step}
 use Rattle.sc_expand.proofs.WorkListLemmas.{has_each-Keeps}
@@ -71,7 +71,7 @@ returns-then-is_function_like-clause-taken g c =
           let other = gathered.others x listed no in
           same-step (at-Grows later x mid e held ∙ other.0.0)
           (has_first-Keeps second e.top.work held.top.work.own x mid ∙ first-of-each s1 s0 e.top.work was.top.work x other.1)
-          (told.at x (IsConfig-Keeps second mid) ∙ (ap (λ b. b || s1.has uncalled x) (first.at before.stays.0 x own listed) ∙ (ap (λ b. s0.has before.stays.0 x || b) other.0.1 ∙ or_false (s0.has before.stays.0 x))))
+          (told.at x (IsConfig-Keeps second mid) ∙ (ap (λ b. b || s1.has uncalled x) (first.at before.stays.0 x own listed) ∙ (ap (λ b. s0.has before.stays.0 x || b) other.0.1 ∙ or-false (s0.has before.stays.0 x))))
           (seen_at-Grows all x listed before.made.items c.requires.taken.made);
       others_each = λ x listed no. each x listed ∙ (gathered.others x listed no).1;
       alike = λ x y span p q same called taken alike.

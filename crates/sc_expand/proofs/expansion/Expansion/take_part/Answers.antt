@@ -1,4 +1,5 @@
 use Rattle.std.proofs.Common.{◌≡◌, ◌∙◌, ◌||◌, ℕ, true, List, IsTrue, Some, ap, subst, sym}
+use Rattle.std.proofs.Math.Bool.{or-false}
 use Rattle.std.specs.Option.{option_map}
 use Rattle.c11_macros.specs.Defines.{is_function_like}
 use Rattle.sc_base.proofs.Growth.{Extends-refl}
@@ -8,7 +9,7 @@ use Rattle.sc_expand.proofs.PlainCases.{case-undefined}
 use Rattle.sc_expand.proofs.SeenLemmas.{AreHeld-Grows, IsHeldExpansion-Grows, at-Grows, seen_at-Grows}
 use Rattle.sc_expand.proofs.StopsLemmas.{stops-weaker}
 use Rattle.sc_expand.proofs.TakenLemmas.{taken-each}
-use Rattle.sc_expand.proofs.TakingLemmas.{or_false, or_true}
+use Rattle.sc_expand.proofs.TakingLemmas.{or_true}
 use Rattle.sc_expand.proofs.TakingSteps.{has_first-Keeps, on-ok, same-step}
 use Rattle.sc_expand.proofs.WorkListLemmas.{has_each-Keeps}
 use Rattle.sc_expand.specs.Seen.{Grows, stores}
@@ -40,7 +41,7 @@ returns-in_ok-taken-in-None-clause-taken g c =
           (told.at x (IsConfig-Keeps keeps listed) ∙ or_true (s.has before.stays.0 x) (s.has c.args.cond.0 x) has) (seen_at-Grows grows x listed before.made.items c.requires.taken.made ∙ begun.made));
       others = λ x listed no.
           same-step (at-Grows grows x listed e c.requires.held) (has_first-Keeps keeps e.top.work own x listed)
-          (told.at x (IsConfig-Keeps keeps listed) ∙ (ap (λ b. s.has before.stays.0 x || b) no ∙ or_false (s.has before.stays.0 x))) (seen_at-Grows grows x listed before.made.items c.requires.taken.made);
+          (told.at x (IsConfig-Keeps keeps listed) ∙ (ap (λ b. s.has before.stays.0 x || b) no ∙ or-false (s.has before.stays.0 x))) (seen_at-Grows grows x listed before.made.items c.requires.taken.made);
       others_each = λ x listed no. has_each-Keeps e.top.work x keeps own listed;
       alike = λ x y span p q same called taken alike.
           let stayed = taken.stays in (
