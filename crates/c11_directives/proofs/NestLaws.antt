@@ -1,27 +1,19 @@
 -- The lines of a file are nested in one way.
 use Rattle.std.proofs.Common.{◌≡◌, Bool, true, false, List, [], ◌∷◌, ◌++◌, Option, Some, None, Result, Ok, Err, refl, sym, ap, ◌∙◌, subst, append_assoc, append-nil}
 use Rattle.c11_directives.specs.declared.directive.Conditional.{Conditional}
-use Rattle.c11_directives.specs.declared.directive.Conditional.TheVariants.{If, Ifdef, Ifndef, Elif, Else, Endif}
-use Rattle.c11_directives.specs.Lines.{Line, conditional_of, is_opening, Group, Branches, empty, plain, section, closing, otherwise, alternative, group_lines, branch_lines, Opens, IsGroup, AreBranches, IsTree, GoesOn, IsMisplaced, IsOpenAtEnd, Unclosed, first, more, last, hash_place, Tree, nested, misplaced, unclosed}
+use Rattle.c11_directives.specs.declared.directive.Conditional.TheVariants.{Opening, Alternative, Else, Endif}
+use Rattle.c11_directives.specs.Lines.{Line, conditional_of, Group, Branches, empty, plain, section, closing, otherwise, alternative, group_lines, branch_lines, Opens, IsGroup, AreBranches, IsTree, GoesOn, IsMisplaced, IsOpenAtEnd, Unclosed, first, more, last, hash_place, Tree, nested, misplaced, unclosed}
 use Rattle.sc_model.specs.Token.{Place}
 
 -- the directive goes on with a section or ends it
 abbrev is_branch : Option Conditional → Bool
-is_branch (Some Elif) = true
+is_branch (Some (Alternative test)) = true
 is_branch (Some Else) = true
 is_branch (Some Endif) = true
 is_branch _ = false
 
-opening-branch : (c : Conditional) → is_opening c ≡ true → is_branch (Some c) ≡ false
-opening-branch If o = refl
-opening-branch Ifdef o = refl
-opening-branch Ifndef o = refl
-opening-branch Elif o = cc
-opening-branch Else o = cc
-opening-branch Endif o = cc
-
 Opens-branch : {line : Line} → Opens line → is_branch (conditional_of line) ≡ false
-Opens-branch o = ap is_branch o.named ∙ opening-branch o.conditional o.opening
+Opens-branch o = ap is_branch o.named
 
 -- a group can't go on with these lines
 abbrev stops : List Line → Bool
@@ -31,7 +23,7 @@ stops (line ∷ lines) = is_branch (conditional_of line)
 stops-branches : (bs : Branches) → AreBranches bs → (rest : List Line) → stops (branch_lines bs ++ rest) ≡ true
 stops-branches (closing line) w rest = ap is_branch w
 stops-branches (otherwise head g line) w rest = ap is_branch w.0
-stops-branches (alternative head g bs) w rest = ap is_branch w.0
+stops-branches (alternative head g bs) w rest = ap is_branch w.0.named
 
 -- two groups with what stands behind them
 record Same {T : Type 0} (x y : T) (r s : List Line) : Type 0 where
@@ -119,9 +111,7 @@ tree-same {lines} {g} {h} t u =
 
 -- The first lines of the sections that are open, the innermost first, after one more line.
 abbrev open_by : Line → List Line → Option Conditional → List Line
-open_by line heads (Some If) = line ∷ heads
-open_by line heads (Some Ifdef) = line ∷ heads
-open_by line heads (Some Ifndef) = line ∷ heads
+open_by line heads (Some (Opening test)) = line ∷ heads
 open_by line [] (Some Endif) = []
 open_by line (head ∷ heads) (Some Endif) = heads
 open_by line heads _ = heads
@@ -137,16 +127,8 @@ open_after-append heads (x ∷ xs) ys = open_after-append (open_by x heads (cond
 open_by-is : (line : Line) (heads : List Line) {c : Option Conditional} → conditional_of line ≡ c → open_by line heads (conditional_of line) ≡ open_by line heads c
 open_by-is line heads e = ap (open_by line heads) e
 
-opening-open : (line : Line) (heads : List Line) (c : Conditional) → is_opening c ≡ true → open_by line heads (Some c) ≡ line ∷ heads
-opening-open line heads If o = refl
-opening-open line heads Ifdef o = refl
-opening-open line heads Ifndef o = refl
-opening-open line heads Elif o = cc
-opening-open line heads Else o = cc
-opening-open line heads Endif o = cc
-
 Opens-open : (line : Line) (heads : List Line) → Opens line → open_by line heads (conditional_of line) ≡ line ∷ heads
-Opens-open line heads o = open_by-is line heads o.named ∙ opening-open line heads o.conditional o.opening
+Opens-open line heads o = open_by-is line heads o.named
 
 -- a group closes what it opens
 mutual
@@ -167,7 +149,7 @@ mutual
       ∙ (open_after-append (head ∷ heads) (group_lines g) (line ∷ [])
       ∙ (ap (λ hs. open_after hs (line ∷ [])) (group-open g w.1 (head ∷ heads)) ∙ open_by-is line (head ∷ heads) w.2))
   branches-open (alternative next g bs) w head heads =
-      ap (λ hs. open_after hs (group_lines g ++ branch_lines bs)) (open_by-is next (head ∷ heads) w.0)
+      ap (λ hs. open_after hs (group_lines g ++ branch_lines bs)) (open_by-is next (head ∷ heads) w.0.named)
       ∙ (open_after-append (head ∷ heads) (group_lines g) (branch_lines bs)
       ∙ (ap (λ hs. open_after hs (branch_lines bs)) (group-open g w.1 (head ∷ heads)) ∙ branches-open bs w.2 head heads))
 
@@ -181,7 +163,7 @@ branch-open lines head g heads c named stays w before =
 
 Unclosed-open : {has_else : Bool} {lines : List Line} → Unclosed has_else lines → (heads : List Line) → open_after heads lines ≡ heads
 Unclosed-open (first g w) heads = group-open g w heads
-Unclosed-open (more {lines} head g u named w) heads = branch-open lines head g heads Elif named refl w (Unclosed-open u heads)
+Unclosed-open (more {lines} head g u named w) heads = branch-open lines head g heads (Alternative named.test) named.named refl w (Unclosed-open u heads)
 Unclosed-open (last {lines} head g u named w) heads = branch-open lines head g heads Else named refl w (Unclosed-open u heads)
 
 open-tree : {lines : List Line} {g : Group} → IsTree lines g → open_after [] lines ≡ []

@@ -3,9 +3,9 @@ use Rattle.std.proofs.Common.{◌≡◌, Bool, true, false, List, [], ◌∷◌,
 use Rattle.std.proofs.lemmas.Option.{option_and_then_some}
 use Rattle.std.specs.Option.{option_and_then}
 use Rattle.c11_directives.specs.declared.directive.Conditional.{Conditional}
-use Rattle.c11_directives.specs.declared.directive.Conditional.TheVariants.{If, Ifdef, Ifndef, Elif, Else, Endif}
+use Rattle.c11_directives.specs.declared.directive.Conditional.TheVariants.{Opening, Alternative, Else, Endif}
 use Rattle.c11_directives.specs.declared.directive.Directive.TheVariants as directive
-use Rattle.c11_directives.specs.Lines.{Line, conditional_of, is_opening, Group, Branches, empty, plain, section, closing, otherwise, alternative, group_lines, branch_lines, Opens, IsGroup, AreBranches, IsTree, GoesOn, IsOpenAtEnd, Unclosed, first, more, last, hash_place, Tree, misplaced, unclosed}
+use Rattle.c11_directives.specs.Lines.{Line, conditional_of, Group, Branches, empty, plain, section, closing, otherwise, alternative, group_lines, branch_lines, Opens, IsGroup, AreBranches, IsTree, GoesOn, IsOpenAtEnd, Unclosed, first, more, last, hash_place, Tree, misplaced, unclosed}
 use Rattle.sc_model.specs.Token.{Place}
 use Rattle.c11_directives.specs.Sections.{Sections, closes_section, next_branch, nest_by}
 
@@ -24,16 +24,8 @@ nest_all-append [] ys ss = refl
 nest_all-append (x ∷ xs) ys ss =
     elim (nest x ss) as (λ r. option_and_then (nest_all (xs ++ ys)) r ≡ option_and_then (nest_all ys) (option_and_then (nest_all xs) r)) [ None ↦ refl | Some tt' ↦ nest_all-append xs ys tt' ]
 
-opens_by : (line : Line) (ss : Sections Line) (c : Conditional) → is_opening c ≡ true → nest_by line ss (Some c) ≡ Some ((line, false) ∷ ss)
-opens_by line ss If o = refl
-opens_by line ss Ifdef o = refl
-opens_by line ss Ifndef o = refl
-opens_by line ss Elif o = cc
-opens_by line ss Else o = cc
-opens_by line ss Endif o = cc
-
 opens : (line : Line) (ss : Sections Line) → Opens line → nest line ss ≡ Some ((line, false) ∷ ss)
-opens line ss o = nest_is line ss o.named ∙ opens_by line ss o.conditional o.opening
+opens line ss o = nest_is line ss o.named
 
 -- a group leaves the sections as they were
 mutual
@@ -55,7 +47,7 @@ mutual
       ∙ (nest_all-append (group_lines g) (line ∷ []) ((head, true) ∷ ss)
       ∙ (ap (option_and_then (nest_all (line ∷ []))) (nest-group g w.1 ((head, true) ∷ ss)) ∙ ap (option_and_then (nest_all [])) (nest_is line ((head, true) ∷ ss) w.2)))
   nest-branches (alternative next g bs) w head ss =
-      ap (option_and_then (nest_all (group_lines g ++ branch_lines bs))) (nest_is next ((head, false) ∷ ss) w.0)
+      ap (option_and_then (nest_all (group_lines g ++ branch_lines bs))) (nest_is next ((head, false) ∷ ss) w.0.named)
       ∙ (nest_all-append (group_lines g) (branch_lines bs) ((head, false) ∷ ss)
       ∙ (ap (option_and_then (nest_all (branch_lines bs))) (nest-group g w.1 ((head, false) ∷ ss)) ∙ nest-branches bs w.2 head ss))
 
@@ -147,10 +139,8 @@ nested-by : {ss : Sections Line} {xs : List Line} → Nested ss xs → (line : L
 nested-by {ss} {xs} n line None e ss' s =
     let same : ss ≡ ss' = cc in
     subst (λ r. Nested r (xs ++ line ∷ [])) same (nested-group n (plain line empty) (e, tt))
-nested-by n line (Some If) e ss' s = nested-open n line (record { conditional = If; named = e; opening = refl }) ss' s
-nested-by n line (Some Ifdef) e ss' s = nested-open n line (record { conditional = Ifdef; named = e; opening = refl }) ss' s
-nested-by n line (Some Ifndef) e ss' s = nested-open n line (record { conditional = Ifndef; named = e; opening = refl }) ss' s
-nested-by n line (Some Elif) e ss' s = nested-next false n line ss' (λ lines u. more line empty u e tt) s
+nested-by n line (Some (Opening test)) e ss' s = nested-open n line (record { test = test; named = e }) ss' s
+nested-by n line (Some (Alternative test)) e ss' s = nested-next false n line ss' (λ lines u. more line empty u (record { test = test; named = e }) tt) s
 nested-by n line (Some Else) e ss' s = nested-next true n line ss' (λ lines u. last line empty u e tt) s
 nested-by n line (Some Endif) e ss' s = nested-closed n line e ss' s
 

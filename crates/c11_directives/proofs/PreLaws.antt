@@ -3,15 +3,15 @@ use Rattle.std.proofs.Common.{◌≡◌, ◌⊎◌, inl, inr, ℕ, ◌<◌, not,
 use Rattle.sc_model.specs.declared.cause.Cause.TheVariants.{NotFound, FileTooLarge, UnterminatedComment, BadNesting, BadDirective, Redefined, IncludeDepth, ErrorDirective}
 use Rattle.sc_model.specs.declared.cause.Cause.{Cause}
 use Rattle.c11_macros.specs.Defines.{Defined, reads}
-use Rattle.c11_directives.specs.declared.directive.Conditional.{Conditional}
-use Rattle.c11_directives.specs.declared.directive.Conditional.TheVariants.{If, Ifdef, Ifndef, Elif, Else, Endif}
+use Rattle.c11_directives.specs.declared.directive.Test.{Test}
+use Rattle.c11_directives.specs.declared.directive.Test.TheVariants as test
 use Rattle.c11_directives.specs.declared.directive.Directive.{Directive}
 use Rattle.c11_directives.specs.declared.directive.Directive.TheVariants as directive
 use Rattle.std.specs.Option.{option_map}
 use Rattle.std.specs.Prelude.{unwrap_or}
 use Rattle.c11_tokens.specs.Lex.{Lexed}
 use Rattle.c11_directives.specs.Behind.{behind_name, Says, as_it_stands, expanded, is_numbering}
-use Rattle.c11_directives.specs.Lines.{Line, hash_of, conditional_of, Group, Branches, empty, plain, section, closing, otherwise, alternative, Tree}
+use Rattle.c11_directives.specs.Lines.{Line, hash_of, test_of, Group, Branches, empty, plain, section, closing, otherwise, alternative, Tree}
 use Rattle.c11_expressions.proofs.OneLine.{one_line}
 use Rattle.c11_expressions.specs.Lines as expressions
 use Rattle.c11_headers.specs.Headers.{Header, header_of, candidates}
@@ -87,8 +87,8 @@ refused-is {s} {l} {cause} {fault} at =
 
 -- its operand
 abbrev Named : State → Line → (Bool → Bool) → Option (List ℕ) → Result Bool Fault → Type 0
-Named s l test (Some name) r = r ≡ Ok (test (is_some (s.macros name)))
-Named s l test None r = r ≡ Err (refusal s l BadDirective)
+Named s l holds (Some name) r = r ≡ Ok (holds (is_some (s.macros name)))
+Named s l holds None r = r ≡ Err (refusal s l BadDirective)
 
 -- its expression
 data Evaluated (s : State) (l : Line) : Result Bool Fault → Type 0 where
@@ -98,16 +98,15 @@ data Evaluated (s : State) (l : Line) : Result Bool Fault → Type 0 where
 abbrev as_it_is : Bool → Bool
 as_it_is b = b
 
-abbrev DecidesAs : State → Line → Option Conditional → Result Bool Fault → Type 0
-DecidesAs s l (Some Ifdef) r = Named s l as_it_is (operand_of l) r
-DecidesAs s l (Some Ifndef) r = Named s l not (operand_of l) r
-DecidesAs s l (Some If) r = Evaluated s l r
-DecidesAs s l (Some Elif) r = Evaluated s l r
-DecidesAs s l _ r = ⊥
+abbrev DecidesAs : State → Line → Option Test → Result Bool Fault → Type 0
+DecidesAs s l (Some test.Defined) r = Named s l as_it_is (operand_of l) r
+DecidesAs s l (Some test.Undefined) r = Named s l not (operand_of l) r
+DecidesAs s l (Some test.Expression) r = Evaluated s l r
+DecidesAs s l None r = ⊥
 
-named-sole : (s : State) (l : Line) (test : Bool → Bool) (name : Option (List ℕ)) (r : Result Bool Fault) → Named s l test name r → Sole (Named s l test name) r
-named-sole s l test (Some name) r d q e = d ∙ sym e
-named-sole s l test None r d q e = d ∙ sym e
+named-sole : (s : State) (l : Line) (holds : Bool → Bool) (name : Option (List ℕ)) (r : Result Bool Fault) → Named s l holds name r → Sole (Named s l holds name) r
+named-sole s l holds (Some name) r d q e = d ∙ sym e
+named-sole s l holds None r d q e = d ∙ sym e
 
 evaluated-sole : {s : State} {l : Line} {r : Result Bool Fault} → Evaluated s l r → Sole (Evaluated s l) r
 evaluated-sole {s} {l} (evaluated hash answer is d) q (evaluated hash' answer' is' d') =
@@ -116,13 +115,10 @@ evaluated-sole {s} {l} (evaluated hash answer is d) q (evaluated hash' answer' i
     let moved = subst (λ h. expressions.Decides place_alone s.macros (place_in s h) (map unhidden (behind_name l)) answer') same d' in
     ap decision_of (one_line place_alone s.macros (map unhidden (behind_name l)) answer answer' d moved)
 
-decides-as-sole : (s : State) (l : Line) (c : Option Conditional) (r : Result Bool Fault) → DecidesAs s l c r → Sole (DecidesAs s l c) r
-decides-as-sole s l (Some Ifdef) r d q e = named-sole s l as_it_is (operand_of l) r d q e
-decides-as-sole s l (Some Ifndef) r d q e = named-sole s l not (operand_of l) r d q e
-decides-as-sole s l (Some If) r d q e = evaluated-sole d q e
-decides-as-sole s l (Some Elif) r d q e = evaluated-sole d q e
-decides-as-sole s l (Some Else) r d q e = absurd d
-decides-as-sole s l (Some Endif) r d q e = absurd d
+decides-as-sole : (s : State) (l : Line) (asked : Option Test) (r : Result Bool Fault) → DecidesAs s l asked r → Sole (DecidesAs s l asked) r
+decides-as-sole s l (Some test.Defined) r d q e = named-sole s l as_it_is (operand_of l) r d q e
+decides-as-sole s l (Some test.Undefined) r d q e = named-sole s l not (operand_of l) r d q e
+decides-as-sole s l (Some test.Expression) r d q e = evaluated-sole d q e
 decides-as-sole s l None r d q e = absurd d
 
 -- ---- what a directive makes of the macros
@@ -281,16 +277,15 @@ Taken x g bs s true = Walks x g s
 Taken x g bs s false = WalksBranches x bs s
 
 module _ {x : Context} where
-  decides-as : {s : State} {l : Line} {r : Result Bool Fault} → Decides x s l r → DecidesAs s l (conditional_of l) r
+  decides-as : {s : State} {l : Line} {r : Result Bool Fault} → Decides x s l r → DecidesAs s l (test_of l) r
   decides-as (if_defined name named operand) = rw (named, operand) refl
   decides-as (if_undefined name named operand) = rw (named, operand) refl
   decides-as (no_name fault (inl named) operand at) = rw (named, operand) (ap Err (refused-is at))
   decides-as (no_name fault (inr named) operand at) = rw (named, operand) (ap Err (refused-is at))
-  decides-as (expression hash answer (inl named) is d) = rw named (evaluated hash answer is d)
-  decides-as (expression hash answer (inr named) is d) = rw named (evaluated hash answer is d)
+  decides-as (expression hash answer asked is d) = rw asked (evaluated hash answer is d)
 
   decides-sole : {s : State} {l : Line} {r : Result Bool Fault} → Decides x s l r → Sole (Decides x s l) r
-  decides-sole {s} {l} {r} d q e = decides-as-sole s l (conditional_of l) r (decides-as d) q (decides-as e)
+  decides-sole {s} {l} {r} d q e = decides-as-sole s l (test_of l) r (decides-as d) q (decides-as e)
 
   steps-does : {l : Line} {s : State} {r : Result State Fault} → Steps x l s r → DoesLine x l s l.directive r
   steps-does (text e) = rw e refl

@@ -2,6 +2,7 @@
 use Rattle.std.proofs.Common.{◌≡◌, List, [], ◌∷◌, ◌++◌, map, Option, Some, None, Result, Ok, Err, refl, sym, ap, ◌∙◌, subst, append_assoc, append-nil}
 use Rattle.std.specs.Option.{option_and_then, option_map}
 use Rattle.std.proofs.lemmas.Option.{none-some}
+use Rattle.c11_directives.specs.declared.directive.Conditional.TheVariants.{Opening}
 use Rattle.c11_directives.specs.Lines.{DirectiveNames, Group, Line, Tree, conditional_in, conditional_of, hash_of, hash_place, line_of, lines_of, nested, split_lines}
 use Rattle.c11_directives.specs.Sections.{Sections, nest_by}
 use Rattle.c11_directives.proofs.Nesting.{accepted, head_named, head_within, misplaced_at, nest, nest_all, nest_all-append, open_at_end}
@@ -40,7 +41,7 @@ some-tree [] before [] hashes e =
 some-tree [] before (s ∷ ss) hashes e =
     let opens = head_named before s ss e in
     let at = head_within before s ss e in
-    let place = place-of s.0 (hashes.each at.before s.0 at.after (append-nil before ∙ at.whole)) (λ none. none-some opens.conditional (sym none ∙ opens.named)) in
+    let place = place-of s.0 (hashes.each at.before s.0 at.after (append-nil before ∙ at.whole)) (λ none. none-some (Opening opens.test) (sym none ∙ opens.named)) in
     subst (λ ls. (r : Result Group Place) × Tree ls r) (sym (append-nil before)) (Err place.0, open_at_end before s ss place.0 e place.1)
 some-tree (line ∷ after) before ss hashes e =
     by (λ next there. some-tree after (before ++ line ∷ []) next (subst HaveHashes (sym (append_assoc before (line ∷ []) after)) hashes)

@@ -1,5 +1,5 @@
 -- Each configuration has its tokens, or a first fault.
-use Rattle.std.proofs.Common.{◌≡◌, ℕ, zero, suc, ◌+◌, ◌<◌, ◌≤◌, ◌⊎◌, inl, inr, Bool, true, false, ◌||◌, All, List, [], ◌∷◌, ◌++◌, length, map, Option, Some, None, Result, Ok, Err, refl, sym, ap, ◌∙◌, subst, append_assoc, arith, if◌then◌else◌}
+use Rattle.std.proofs.Common.{◌≡◌, ℕ, zero, suc, ◌+◌, ◌<◌, ◌≤◌, inl, inr, Bool, true, false, ◌||◌, All, List, [], ◌∷◌, ◌++◌, length, map, Option, Some, None, Result, Ok, Err, refl, sym, ap, ◌∙◌, subst, append_assoc, arith, if◌then◌else◌}
 use Rattle.std.specs.List.{list_any}
 use Rattle.std.specs.Option.{option_and_then, option_map, option_or}
 use Rattle.std.specs.Prelude.{slice_get}
@@ -7,11 +7,11 @@ use Rattle.std.proofs.lemmas.List.Elements.{All-cons, All-head, All-nil, All-tai
 use Rattle.std.proofs.lemmas.List.Folds.{list_any-append}
 use Rattle.std.proofs.lemmas.Option.{none-some}
 use Rattle.std.proofs.lemmas.Bool.{cases_Bool, cases_lt, true≢false}
-use Rattle.c11_directives.specs.declared.directive.Conditional.TheVariants.{Elif}
 use Rattle.c11_directives.specs.declared.directive.Directive.{Directive}
 use Rattle.c11_directives.specs.declared.directive.Directive.TheVariants as directive
+use Rattle.c11_directives.specs.declared.directive.Test.{Test}
 use Rattle.c11_directives.specs.Behind.{Says, as_it_stands, begins_with_header, behind_name, expanded, is_numbering}
-use Rattle.c11_directives.specs.Lines.{Group, Branches, Line, Opens, IsGroup, AreBranches, Tree, alternative, closing, conditional_in, conditional_of, empty, group_lines, branch_lines, hash_of, nested, otherwise, plain, section}
+use Rattle.c11_directives.specs.Lines.{Group, Branches, Line, IsGroup, AreBranches, Tree, alternative, closing, conditional_in, empty, group_lines, branch_lines, conditional_of, hash_of, nested, otherwise, plain, section, test_in, test_of}
 use Rattle.c11_directives.specs.Pre.{Carries, Changes, Closes, Context, Decides, Defines, Enters, File, Includes, Pre, RefusedAt, State, Steps, Walks, WalksBranches, back, context_of, decided, deeper, file_lines, initial_state, inside, is_barrier, is_said, operand_of, output_of, place_in, put_out, search, undefined, with_macro, with_macros, with_text, without_macro}
 use Rattle.c11_directives.specs.Pre as pre
 use Rattle.c11_directives.proofs.DecidesLaws.{some_decision}
@@ -300,14 +300,10 @@ module _ (context : Context) (depth : ℕ) (enter : (file : File) (t : State) �
   abbrev HasHash : Line → Type 0
   HasHash line = (line.directive ≡ None → ⊥) → (hash : Token) × (hash_of line ≡ Some hash)
 
-  decides-some : (head : Line) (s : State) → HasHash head → Opens head ⊎ (conditional_of head ≡ Some Elif) → GoesOn depth s → (r : Result Bool Fault) × Decides context s head r
-  decides-some head s hash which goes =
-      let at = hash (named which) in
-      some_decision context s goes.finite.names head at.0 goes.finite.within at.1 which
-    where
-      named : Opens head ⊎ (conditional_of head ≡ Some Elif) → head.directive ≡ None → ⊥
-      named (inl opens) none = none-some opens.conditional (sym (ap conditional_in none) ∙ opens.named)
-      named (inr elif) none = none-some Elif (sym (ap conditional_in none) ∙ elif)
+  decides-some : (head : Line) (s : State) → HasHash head → (test : Test) → test_of head ≡ Some test → GoesOn depth s → (r : Result Bool Fault) × Decides context s head r
+  decides-some head s hash test asked goes =
+      let at = hash (λ none. none-some test (sym (ap (λ d. test_in (conditional_in d)) none) ∙ asked)) in
+      some_decision context s goes.finite.names head at.0 goes.finite.within at.1 test asked
 
   line-then : (line : Line) (rest : Group) (s : State) (r : Result State Fault) → Steps context line s r → EndsWell depth r → ((t : State) → GoesOn depth t → HasEnd depth (Walks context rest t))
       → HasEnd depth (Walks context (plain line rest) s)
@@ -344,7 +340,7 @@ module _ (context : Context) (depth : ℕ) (enter : (file : File) (t : State) �
         line-then line rest s step.end step.ends step.well (λ t well. walks-some rest t grouped.1 (All-tail HasHash line (group_lines rest) hashes) well)
     walks-some (section head group branches rest) s grouped hashes goes =
         let lines = group_lines group ++ branch_lines branches ++ group_lines rest in
-        let d = decides-some head s (All-head HasHash head lines hashes) (inl grouped.0) goes in
+        let d = decides-some head s (All-head HasHash head lines hashes) grouped.0.test (ap test_in grouped.0.named) goes in
         let inside = All-tail HasHash head lines hashes in
         let both = all-left HasHash (group_lines group ++ branch_lines branches) (group_lines rest) inside in
         section-then head group branches rest s d.0 d.1 (walks-some group s grouped.1 (all-left HasHash (group_lines group) (branch_lines branches) both) goes)
@@ -358,7 +354,7 @@ module _ (context : Context) (depth : ℕ) (enter : (file : File) (t : State) �
         record { end = inner.end; ends = pre.last_taken inner.ends; well = inner.well }
     branches-some (alternative head group branches) s are hashes goes =
         let lines = group_lines group ++ branch_lines branches in
-        let d = decides-some head s (All-head HasHash head lines hashes) (inr are.0) goes in
+        let d = decides-some head s (All-head HasHash head lines hashes) are.0.test (ap test_in are.0.named) goes in
         let inside = All-tail HasHash head lines hashes in
         alternative-then head group branches s d.0 d.1 (walks-some group s are.1 (all-left HasHash (group_lines group) (branch_lines branches) inside) goes)
         (branches-some branches s are.2 (all-right HasHash (group_lines group) (branch_lines branches) inside) goes)

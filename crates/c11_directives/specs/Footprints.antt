@@ -1,10 +1,10 @@
 -- What a configuration uses of the source at one name or one line, and what waits at a place of an
 -- expression: its footprint there (6.10.1 to 6.10.4).
-use Rattle.std.specs.Prelude.{◌≡◌, ℕ, ◌-◌, ◌⊎◌, ◌≤◌, true, false, List, [], ◌∷◌, ◌++◌, All, AllPairs, length, map, take, Option, Some, Result, Ok}
-use Rattle.c11_directives.specs.declared.directive.Conditional.TheVariants.{If, Elif}
+use Rattle.std.specs.Prelude.{◌≡◌, ℕ, ◌-◌, ◌≤◌, true, false, List, [], ◌∷◌, ◌++◌, All, AllPairs, length, map, take, Option, Some, Result, Ok}
 use Rattle.c11_directives.specs.declared.directive.Directive.{Directive}
+use Rattle.c11_directives.specs.declared.directive.Test.TheVariants.{Expression}
 use Rattle.c11_directives.specs.Behind.{begins_with_header, behind_name}
-use Rattle.c11_directives.specs.Lines.{Line, conditional_of, hash_of}
+use Rattle.c11_directives.specs.Lines.{Line, hash_of, test_of}
 use Rattle.c11_directives.specs.Pre.{Closes, State, is_barrier, is_said}
 use Rattle.c11_directives.specs.Reaches.{Moment, Reaches, at_end, at_head, at_line}
 use Rattle.c11_expressions.specs.Evaluates.{Spelled}
@@ -85,9 +85,9 @@ pub record PartHas (macros : Macros) (text : List Token) (f : Spot × Used) : Ty
   pub waits : IsPart (spelled next) (map spelled before) part
   pub is : f ≡ (before_token next, waiting part)
 
--- the expression of an #if or #elif, each `defined` replaced (6.10.1p4)
+-- the expression that a line asks about, each `defined` replaced (6.10.1p4)
 pub record IsExpressionOf (macros : Macros) (line : Line) (text : List Token) : Type 0 where
-  pub conditional : (conditional_of line ≡ Some If) ⊎ (conditional_of line ≡ Some Elif)
+  pub asks : test_of line ≡ Some Expression
   pub replaced : without_defined macros (map unhidden (behind_name line)) ≡ Ok (map unhidden text)
 
 -- the line says something without a header name (6.10.2p4, 6.10.4p5)

@@ -3,9 +3,11 @@
 use Rattle.std.specs.Prelude.{◌≡◌, ℕ, Bool, true, false, List, [], ◌∷◌, ◌++◌, map, codes, Option, Some, None, Result, Ok, Err, if◌then◌else◌}
 use Rattle.std.specs.Option.{option_map}
 use Rattle.c11_directives.specs.declared.directive.Conditional.{Conditional}
-use Rattle.c11_directives.specs.declared.directive.Conditional.TheVariants.{If, Ifdef, Ifndef, Elif, Else, Endif}
+use Rattle.c11_directives.specs.declared.directive.Conditional.TheVariants.{Opening, Alternative, Else, Endif}
 use Rattle.c11_directives.specs.declared.directive.Directive.{Directive}
 use Rattle.c11_directives.specs.declared.directive.Directive.TheVariants as directive
+use Rattle.c11_directives.specs.declared.directive.Test.{Test}
+use Rattle.c11_directives.specs.declared.directive.Test.TheVariants.{Expression, Defined, Undefined}
 use Rattle.sc_model.specs.Bytes.{same_bytes}
 use Rattle.c11_tokens.specs.Lex.{is_newline}
 use Rattle.sc_model.specs.Token.{Place, Token, name_of}
@@ -17,10 +19,10 @@ DirectiveNames = List (List ℕ × Directive)
 -- those of C11, and #warning, which is none of them
 abbrev pub c11_directive_names : DirectiveNames
 c11_directive_names =
-    (codes "if", directive.Conditional If)
-    ∷ (codes "ifdef", directive.Conditional Ifdef)
-    ∷ (codes "ifndef", directive.Conditional Ifndef)
-    ∷ (codes "elif", directive.Conditional Elif)
+    (codes "if", directive.Conditional (Opening Expression))
+    ∷ (codes "ifdef", directive.Conditional (Opening Defined))
+    ∷ (codes "ifndef", directive.Conditional (Opening Undefined))
+    ∷ (codes "elif", directive.Conditional (Alternative Expression))
     ∷ (codes "else", directive.Conditional Else)
     ∷ (codes "endif", directive.Conditional Endif)
     ∷ (codes "include", directive.Include)
@@ -78,12 +80,14 @@ conditional_in _ = None
 abbrev pub conditional_of : Line → Option Conditional
 conditional_of line = conditional_in line.directive
 
--- the directive opens a section
-abbrev pub is_opening : Conditional → Bool
-is_opening If = true
-is_opening Ifdef = true
-is_opening Ifndef = true
-is_opening _ = false
+-- what a directive asks, to take its group or to pass it over
+abbrev pub test_in : Option Conditional → Option Test
+test_in (Some (Opening test)) = Some test
+test_in (Some (Alternative test)) = Some test
+test_in _ = None
+
+abbrev pub test_of : Line → Option Test
+test_of line = test_in (conditional_of line)
 
 -- A group: lines that are no conditional directives, and sections.
 mutual
@@ -98,7 +102,7 @@ mutual
     closing : Line → Branches
     -- the line of #else, its group, and the line of #endif
     otherwise : Line → Group → Line → Branches
-    -- the line of #elif, its group, and what follows them
+    -- a line that asks whether its group is taken, the group, and what follows them
     alternative : Line → Group → Branches → Branches
 
 -- the lines, in order
@@ -115,9 +119,13 @@ abbrev mutual
 
 -- the line opens a section
 pub record Opens (line : Line) : Type 0 where
-  pub conditional : Conditional
-  pub named : conditional_of line ≡ Some conditional
-  pub opening : is_opening conditional ≡ true
+  pub test : Test
+  pub named : conditional_of line ≡ Some (Opening test)
+
+-- the line begins a later group of a section, and asks whether it is taken
+pub record Alternates (line : Line) : Type 0 where
+  pub test : Test
+  pub named : conditional_of line ≡ Some (Alternative test)
 
 -- each line stands where its directive may stand
 abbrev mutual
@@ -129,7 +137,7 @@ abbrev mutual
   pub AreBranches : Branches → Type 0
   AreBranches (closing line) = conditional_of line ≡ Some Endif
   AreBranches (otherwise head group line) = (conditional_of head ≡ Some Else) × IsGroup group × (conditional_of line ≡ Some Endif)
-  AreBranches (alternative head group branches) = (conditional_of head ≡ Some Elif) × IsGroup group × AreBranches branches
+  AreBranches (alternative head group branches) = Alternates head × IsGroup group × AreBranches branches
 
 -- the group has exactly these lines
 pub record IsTree (lines : List Line) (group : Group) : Type 0 where
@@ -164,11 +172,11 @@ pub record IsMisplaced (lines : List Line) (place : Place) : Type 0 where
   pub stuck : GoesOn (before ++ line ∷ []) → ⊥
   pub at : hash_place line ≡ Some place
 
--- What follows the first line of a section that isn't closed: its groups, parted by its #elif lines
--- and its #else. Whether that has come is told.
+-- What follows the first line of a section that isn't closed: its groups, parted by the lines of
+-- its alternatives and its #else. Whether that has come is told.
 pub data Unclosed : Bool → List Line → Type 0 where
   first : (group : Group) → IsGroup group → Unclosed false (group_lines group)
-  more : {lines : List Line} (head : Line) (group : Group) → Unclosed false lines → conditional_of head ≡ Some Elif → IsGroup group
+  more : {lines : List Line} (head : Line) (group : Group) → Unclosed false lines → Alternates head → IsGroup group
       → Unclosed false (lines ++ head ∷ group_lines group)
   last : {lines : List Line} (head : Line) (group : Group) → Unclosed false lines → conditional_of head ≡ Some Else → IsGroup group
       → Unclosed true (lines ++ head ∷ group_lines group)

@@ -4,14 +4,14 @@ use Rattle.std.specs.Map.{update}
 use Rattle.std.specs.Option.{option_map}
 use Rattle.sc_model.specs.declared.cause.Cause.{Cause}
 use Rattle.sc_model.specs.declared.cause.Cause.TheVariants.{NotFound, FileTooLarge, UnterminatedComment, BadNesting, BadDirective, Redefined, ProtectedName, IncludeDepth, ErrorDirective}
-use Rattle.c11_directives.specs.declared.directive.Conditional.TheVariants.{If, Ifdef, Ifndef, Elif}
 use Rattle.c11_directives.specs.declared.directive.Directive.{Directive}
 use Rattle.c11_directives.specs.declared.directive.Directive.TheVariants as directive
+use Rattle.c11_directives.specs.declared.directive.Test.TheVariants as test
 use Rattle.c11_directives.specs.Behind.{behind_name, Says, is_numbering}
 use Rattle.c11_expressions.specs.Lines as expressions
 use Rattle.c11_headers.specs.Headers.{Header, header_of, candidates}
 use Rattle.c11_tokens.specs.Lex.{is_identifier_kind, Lexed}
-use Rattle.c11_directives.specs.Lines.{DirectiveNames, c11_directive_names, Line, lines_of, conditional_of, hash_of, Group, Branches, empty, plain, section, closing, otherwise, alternative, Tree}
+use Rattle.c11_directives.specs.Lines.{DirectiveNames, c11_directive_names, Line, lines_of, test_of, hash_of, Group, Branches, empty, plain, section, closing, otherwise, alternative, Tree}
 use Rattle.sc_model.specs.Fault.{Fault, fault_at, first_place}
 use Rattle.sc_model.specs.Outside.{Files, largest_file}
 use Rattle.sc_model.specs.Space.{Space}
@@ -83,13 +83,13 @@ decision_of (Err failure) = Err (fault_of failure)
 
 -- Whether a conditional directive takes its group (6.10.1).
 pub data Decides (context : Context) (s : State) (line : Line) : Result Bool Fault → Type 0 where
-  if_defined : (name : List ℕ) → conditional_of line ≡ Some Ifdef → operand_of line ≡ Some name
+  if_defined : (name : List ℕ) → test_of line ≡ Some test.Defined → operand_of line ≡ Some name
       → Decides context s line (Ok (is_some (s.macros name)))
-  if_undefined : (name : List ℕ) → conditional_of line ≡ Some Ifndef → operand_of line ≡ Some name
+  if_undefined : (name : List ℕ) → test_of line ≡ Some test.Undefined → operand_of line ≡ Some name
       → Decides context s line (Ok (not (is_some (s.macros name))))
-  no_name : (fault : Fault) → (conditional_of line ≡ Some Ifdef) ⊎ (conditional_of line ≡ Some Ifndef) → operand_of line ≡ None
+  no_name : (fault : Fault) → (test_of line ≡ Some test.Defined) ⊎ (test_of line ≡ Some test.Undefined) → operand_of line ≡ None
       → RefusedAt s line BadDirective fault → Decides context s line (Err fault)
-  expression : (hash : Token) (answer : Result Bool (Failure Place)) → (conditional_of line ≡ Some If) ⊎ (conditional_of line ≡ Some Elif)
+  expression : (hash : Token) (answer : Result Bool (Failure Place)) → test_of line ≡ Some test.Expression
       → hash_of line ≡ Some hash → expressions.Decides place_alone s.macros (place_in s hash) (map unhidden (behind_name line)) answer
       → Decides context s line (decision_of answer)
 

@@ -1,7 +1,7 @@
 -- The sections that are open at a line, and what its directive makes of them.
 use Rattle.std.specs.Prelude.{Bool, true, false, List, [], ◌∷◌, Option, Some, None, if◌then◌else◌}
 use Rattle.c11_directives.specs.declared.directive.Conditional.{Conditional}
-use Rattle.c11_directives.specs.declared.directive.Conditional.TheVariants.{If, Ifdef, Ifndef, Elif, Else, Endif}
+use Rattle.c11_directives.specs.declared.directive.Conditional.TheVariants.{Opening, Alternative, Else, Endif}
 
 -- the open sections, the innermost first: for each its first line, or a name of it, and whether its
 -- #else has come
@@ -19,9 +19,7 @@ next_branch is_last (s ∷ ss) = if s.1 then None else Some ((s.0, is_last) ∷ 
 -- the sections after a line, if it may stand there
 abbrev pub nest_by : {H : Type 0} → H → Sections H → Option Conditional → Option (Sections H)
 nest_by line ss None = Some ss
-nest_by line ss (Some If) = Some ((line, false) ∷ ss)
-nest_by line ss (Some Ifdef) = Some ((line, false) ∷ ss)
-nest_by line ss (Some Ifndef) = Some ((line, false) ∷ ss)
-nest_by line ss (Some Elif) = next_branch false ss
+nest_by line ss (Some (Opening test)) = Some ((line, false) ∷ ss)
+nest_by line ss (Some (Alternative test)) = next_branch false ss
 nest_by line ss (Some Else) = next_branch true ss
 nest_by line ss (Some Endif) = closes_section ss

@@ -1,8 +1,8 @@
 //! Laws about the definitions, each the contract of a function without code.
-ghost use Rattle.std.specs.Prelude.{Bool, List, ℕ, ◌≡◌, ◌⊎◌, Result, Some};
-ghost use Rattle.c11_directives.specs.Lines.{DirectiveNames, Group, Line, Opens, Tree, conditional_of, hash_of, lines_of};
+ghost use Rattle.std.specs.Prelude.{Bool, List, ℕ, ◌≡◌, Result, Some};
+ghost use Rattle.c11_directives.specs.Lines.{DirectiveNames, Group, Line, Tree, hash_of, lines_of, test_of};
 ghost use Rattle.c11_directives.specs.Pre.{Context, Decides, Pre, State};
-ghost use Rattle.c11_directives.specs.declared.directive.Conditional.TheVariants.{Elif};
+ghost use Rattle.c11_directives.specs.declared.directive.Test.{Test};
 ghost use Rattle.c11_macros.specs.Expansion.{IsWithin};
 ghost use Rattle.sc_model.specs.Fault.{Fault};
 ghost use Rattle.sc_model.specs.Outside.{Files};
@@ -19,11 +19,10 @@ pub fn nesting_has_an_answer()
     ensures { (names : DirectiveNames) (tokens : List Token) → (r : Result Group Place) × Tree (lines_of names tokens) r }
 {}
 
-/// Where finitely many names are defined each line of an `#if`, `#ifdef`, `#ifndef` or `#elif` is
-/// decided.
+/// Where finitely many names are defined each line that asks whether its group is taken is decided.
 pub fn conditionals_have_an_answer()
     ensures { (context : Context) (s : State) (names : List (List ℕ)) (line : Line) (hash : Token) → IsWithin names s.macros → hash_of line ≡ Some hash
-        → Opens line ⊎ (conditional_of line ≡ Some Elif) → (r : Result Bool Fault) × Decides context s line r }
+        → (test : Test) → test_of line ≡ Some test → (r : Result Bool Fault) × Decides context s line r }
 {}
 
 /// A configuration has one sequence of tokens, or one fault.

@@ -5,7 +5,7 @@
 mod directive;
 mod laws;
 
-pub use directive::{Conditional, Directive};
+pub use directive::{Conditional, Directive, Test};
 pub use laws::{
     conditionals_have_an_answer, nesting_has_an_answer, nesting_has_one_answer,
     preprocessing_has_an_answer, preprocessing_has_one_answer,

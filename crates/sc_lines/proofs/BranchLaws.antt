@@ -9,7 +9,7 @@ use Rattle.sc_lines.specs.Judges.{no_line, line_at}
 use Rattle.c11_directives.specs.Sections.{nest_by}
 use Rattle.c11_directives.proofs.Nesting.{nest_all, nest_all-append, nest-group}
 use Rattle.c11_directives.specs.declared.directive.Conditional.{Conditional}
-use Rattle.c11_directives.specs.declared.directive.Conditional.TheVariants.{If, Ifdef, Ifndef, Elif, Else, Endif}
+use Rattle.c11_directives.specs.declared.directive.Conditional.TheVariants.{Opening, Alternative, Else, Endif}
 use Rattle.c11_directives.specs.Lines.{Line, conditional_of, Group, group_lines}
 
 -- a longer front of a list has the shorter one, and what follows that
@@ -28,10 +28,8 @@ has-front (x ∷ xs) (suc n) (suc m) longer within =
 -- no group goes on with a line that ends a branch
 stuck-by : (line : Line) (c : Option Conditional) → ends_branch c ≡ true → nest_by line [] c ≡ None
 stuck-by line None e = cc
-stuck-by line (Some If) e = cc
-stuck-by line (Some Ifdef) e = cc
-stuck-by line (Some Ifndef) e = cc
-stuck-by line (Some Elif) e = refl
+stuck-by line (Some (Opening test)) e = cc
+stuck-by line (Some (Alternative test)) e = refl
 stuck-by line (Some Else) e = refl
 stuck-by line (Some Endif) e = refl
 

@@ -13,8 +13,8 @@ use Rattle.sc_lines.specs.Judges.{no_line, line_at}
 use Rattle.sc_lines.specs.Split.{FollowFrom, AreLines, tokens_of}
 use Rattle.sc_lines.specs.Unread.{branch_at, sections_at}
 use Rattle.c11_directives.specs.declared.directive.Conditional.{Conditional}
-use Rattle.c11_directives.specs.declared.directive.Conditional.TheVariants.{If, Ifdef, Ifndef, Elif, Else, Endif}
-use Rattle.c11_directives.specs.Lines.{Line, conditional_in, conditional_of, is_opening, Group, Branches, empty, plain, section, closing, otherwise, alternative, group_lines, branch_lines, IsGroup, AreBranches, IsTree}
+use Rattle.c11_directives.specs.declared.directive.Conditional.TheVariants.{Opening, Alternative, Else, Endif}
+use Rattle.c11_directives.specs.Lines.{Line, conditional_in, conditional_of, Group, Branches, empty, plain, section, closing, otherwise, alternative, group_lines, branch_lines, Opens, IsGroup, AreBranches, IsTree}
 
 -- the sections that are open before the lines of these directives, from line i to the last
 abbrev pub sections_from : ℕ → List (Option Conditional) → List Branch
@@ -134,14 +134,9 @@ module _ (ms : List Line) where
       }
 
   -- the first line of a section
-  opening-read : (c : Conditional) → is_opening c ≡ true → (i : ℕ) (head : Line) (lines : List Line) (b : Branch) (ss : List Branch) → conditional_of head ≡ Some c
+  opening-read : (i : ℕ) (head : Line) (lines : List Line) (b : Branch) (ss : List Branch) → Opens head
       → (begins_branch (conditional_of head) ≡ true → IsBranchOf ms i b) → AreRead (suc i) lines (b ∷ ss) → AreRead i (head ∷ lines) ss
-  opening-read If o i head lines b ss e of r = read-more i head lines (Some If) (b ∷ ss) e (of (ap begins_branch e)) r
-  opening-read Ifdef o i head lines b ss e of r = read-more i head lines (Some Ifdef) (b ∷ ss) e (of (ap begins_branch e)) r
-  opening-read Ifndef o i head lines b ss e of r = read-more i head lines (Some Ifndef) (b ∷ ss) e (of (ap begins_branch e)) r
-  opening-read Elif o i head lines b ss e of r = cc
-  opening-read Else o i head lines b ss e of r = cc
-  opening-read Endif o i head lines b ss e of r = cc
+  opening-read i head lines b ss o of r = read-more i head lines (Some (Opening o.test)) (b ∷ ss) o.named (of (ap begins_branch o.named)) r
 
   -- a group leaves the sections as they were
   mutual
@@ -165,7 +160,7 @@ module _ (ms : List Line) where
         let k = branches-read bs w.2 n m tail ss refl first_branch (group-read more w.3 m j rest ss size behind r) in
         let here : Branch = record { next = n; close = k.close } in
         subst (λ ls. AreRead i (head ∷ ls) ss) (sym apart)
-        (opening-read w.0.conditional w.0.opening i head (group_lines g ++ (branch_lines bs ++ tail)) here ss w.0.named
+        (opening-read i head (group_lines g ++ (branch_lines bs ++ tail)) here ss w.0
         (λ begins. branch-of g w.1 i n head (branch_lines bs ++ tail) ss refl whole begins k)
         (group-read g w.1 (suc i) n (branch_lines bs ++ tail) (here ∷ ss) refl first_group k.read))
 
@@ -192,7 +187,7 @@ module _ (ms : List Line) where
         let size : j ≡ n + length (branch_lines bs) = omega (arith, at, length-append (group_lines g) (branch_lines bs)) in
         let k = branches-read bs w.2 n j rest ss size behind r in
         subst (λ ls. Continues i (head ∷ ls) ss) (sym apart)
-        (later-read Elif refl refl (λ i b ss. refl) (λ b ss. refl) g w.1 i n head (branch_lines bs ++ rest) ss w.0 refl whole k
+        (later-read (Alternative w.0.test) refl refl (λ i b ss. refl) (λ b ss. refl) g w.1 i n head (branch_lines bs ++ rest) ss w.0.named refl whole k
         (group-read g w.1 (suc i) n (branch_lines bs ++ rest) (record { next = n; close = k.close } ∷ ss) refl group k.read))
 
   -- the lines of a whole file

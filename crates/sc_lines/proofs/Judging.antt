@@ -11,7 +11,7 @@ use Rattle.c11_directives.specs.Sections.{Sections, nest_by}
 use Rattle.sc_lines.specs.Sections.{sections_of}
 use Rattle.c11_directives.proofs.Nesting.{nest, nest_all, nest_all-append, accepted, misplaced_at, open_at_end, head_named}
 use Rattle.c11_directives.specs.declared.directive.Conditional.{Conditional}
-use Rattle.c11_directives.specs.declared.directive.Conditional.TheVariants.{If, Ifdef, Ifndef, Elif, Else, Endif}
+use Rattle.c11_directives.specs.declared.directive.Conditional.TheVariants.{Opening, Alternative, Else, Endif}
 use Rattle.c11_directives.specs.Lines.{Line, Group, IsTree, conditional_of, Opens, Tree}
 
 -- the sections with their first lines in the place of their numbers
@@ -38,11 +38,9 @@ same_length f g (x ∷ xs) (y ∷ ys) same = let tails : map f xs ≡ map g ys =
 
 nest-lines : (lines : List Line) (i : ℕ) (ss : Sections ℕ) (c : Option Conditional) → nest_by (line_at lines i) (with_lines lines ss) c ≡ option_map (with_lines lines) (nest_by i ss c)
 nest-lines lines i ss None = refl
-nest-lines lines i ss (Some If) = refl
-nest-lines lines i ss (Some Ifdef) = refl
-nest-lines lines i ss (Some Ifndef) = refl
-nest-lines lines i [] (Some Elif) = refl
-nest-lines lines i (s ∷ ss) (Some Elif) =
+nest-lines lines i ss (Some (Opening test)) = refl
+nest-lines lines i [] (Some (Alternative test)) = refl
+nest-lines lines i (s ∷ ss) (Some (Alternative test)) =
     elim s.1 as (λ b. (if b then None else Some ((line_at lines s.0, false) ∷ with_lines lines ss)) ≡ option_map (with_lines lines) (if b then None else Some ((s.0, false) ∷ ss))) [ true ↦ refl | false ↦ refl ]
 nest-lines lines i [] (Some Else) = refl
 nest-lines lines i (s ∷ ss) (Some Else) =
@@ -87,7 +85,7 @@ named-within : (lines : List Line) (i : ℕ) → Opens (line_at lines i) → i <
 named-within lines i o =
     elim (cases_lt i (length lines)) [
       | inl h ↦ h
-      | inr past ↦ (let nothing : line_at lines i ≡ no_line = get_or_past lines i no_line past in let none : conditional_of (line_at lines i) ≡ None = ap conditional_of nothing in let some : conditional_of (line_at lines i) ≡ Some o.conditional = o.named in cc)
+      | inr past ↦ (let nothing : line_at lines i ≡ no_line = get_or_past lines i no_line past in let none : conditional_of (line_at lines i) ≡ None = ap conditional_of nothing in let some : conditional_of (line_at lines i) ≡ Some (Opening o.test) = o.named in cc)
     ]
 
 pub nests-open : (lines : List Line) (s : ℕ × Bool) (ss rest : Sections ℕ) → ss ≡ s ∷ rest → nest_all lines [] ≡ Some (with_lines lines ss) → FailsAt lines s.0
@@ -96,7 +94,7 @@ nests-open lines s ss rest e all =
     let head = head_named lines (line_at lines s.0, s.1) (with_lines lines rest) whole in
     record {
       within = named-within lines s.0 head;
-      directive = λ plain. let named : conditional_of (line_at lines s.0) ≡ Some head.conditional = head.named in cc;
+      directive = λ plain. let named : conditional_of (line_at lines s.0) ≡ Some (Opening head.test) = head.named in cc;
       fault = λ place at. open_at_end lines (line_at lines s.0, s.1) (with_lines lines rest) place whole at;
     }
 

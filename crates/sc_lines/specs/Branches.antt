@@ -4,21 +4,19 @@ use Rattle.sc_lines.specs.declared.line.Branch.{Branch}
 use Rattle.sc_lines.specs.declared.line.Line.{Line}
 use Rattle.sc_lines.specs.Judges.{line_at}
 use Rattle.c11_directives.specs.declared.directive.Conditional.{Conditional}
-use Rattle.c11_directives.specs.declared.directive.Conditional.TheVariants.{If, Ifdef, Ifndef, Elif, Else, Endif}
+use Rattle.c11_directives.specs.declared.directive.Conditional.TheVariants.{Opening, Alternative, Else, Endif}
 use Rattle.c11_directives.specs.Lines as model
 
 -- the line of this directive begins a branch
 abbrev pub begins_branch : Option Conditional → Bool
-begins_branch (Some If) = true
-begins_branch (Some Ifdef) = true
-begins_branch (Some Ifndef) = true
-begins_branch (Some Elif) = true
+begins_branch (Some (Opening test)) = true
+begins_branch (Some (Alternative test)) = true
 begins_branch (Some Else) = true
 begins_branch _ = false
 
 -- the line of this directive ends a branch
 abbrev pub ends_branch : Option Conditional → Bool
-ends_branch (Some Elif) = true
+ends_branch (Some (Alternative test)) = true
 ends_branch (Some Else) = true
 ends_branch (Some Endif) = true
 ends_branch _ = false

@@ -36,8 +36,8 @@ fn branch(
 {
     match conditional {
         None => Ok(None),
-        Some(Conditional::If | Conditional::Ifdef | Conditional::Ifndef) => Ok(sections.pop()),
-        Some(Conditional::Elif | Conditional::Else) => Ok(later_branch(sections, line)),
+        Some(Conditional::Opening(_)) => Ok(sections.pop()),
+        Some(Conditional::Alternative(_) | Conditional::Else) => Ok(later_branch(sections, line)),
         Some(Conditional::Endif) => {
             sections.push(Branch {
                 next: line,
@@ -48,7 +48,7 @@ fn branch(
     }
 }
 
-/// The branch that an `#elif` or `#else` begins.
+/// The branch that a later line of a section begins.
 fn later_branch(sections: &mut Vec<Branch>, line: usize) -> Option<Branch>
     ensures begins { result ≡ innermost (reverse sections.old.items) }
     ensures opens { reverse sections.new.items ≡ branch_here line (reverse sections.old.items) }

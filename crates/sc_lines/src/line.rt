@@ -28,7 +28,7 @@ impl Line {
 /// Where a branch and its section end, by the numbers of their lines.
 #[derive(Clone, Copy, Debug, PartialEq, Eq)]
 pub struct Branch {
-    /// The next `#elif` or `#else` of the section, or else its `#endif`.
+    /// The next line of the section that begins a branch, or else its `#endif`.
     pub next: usize,
     /// The `#endif` of the section.
     pub close: usize,

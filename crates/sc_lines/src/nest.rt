@@ -18,14 +18,14 @@ pub fn nest(
 {
     match conditional {
         None => Ok(true),
-        Some(Conditional::If | Conditional::Ifdef | Conditional::Ifndef) => {
+        Some(Conditional::Opening(_)) => {
             sections.push(Open {
                 head: line,
                 has_else: false,
             })?;
             Ok(true)
         }
-        Some(Conditional::Elif) => Ok(begin_branch(sections, false)),
+        Some(Conditional::Alternative(_)) => Ok(begin_branch(sections, false)),
         Some(Conditional::Else) => Ok(begin_branch(sections, true)),
         Some(Conditional::Endif) => Ok(sections.pop().is_some()),
     }

@@ -5,7 +5,7 @@ ghost use Rattle.c11_directives.specs.Lines.{c11_directive_names, directive_name
 ghost use Rattle.sc_lines.specs.Split.{AreLines, directive_at, token_lines};
 
 use crate::Line;
-use c11_directives::{Conditional, Directive};
+use c11_directives::{Conditional, Directive, Test};
 use sc_base::{Kind, Names, OutOfMemory, Token, is_same};
 use std::alloc::Global;
 
@@ -67,13 +67,13 @@ fn named(word: &[u8]) -> Directive
     ensures { result ≡ directive_named c11_directive_names word.now }
 {
     if is_same(word, b"if") {
-        Directive::Conditional(Conditional::If)
+        Directive::Conditional(Conditional::Opening(Test::Expression))
     } else if is_same(word, b"ifdef") {
-        Directive::Conditional(Conditional::Ifdef)
+        Directive::Conditional(Conditional::Opening(Test::Defined))
     } else if is_same(word, b"ifndef") {
-        Directive::Conditional(Conditional::Ifndef)
+        Directive::Conditional(Conditional::Opening(Test::Undefined))
     } else if is_same(word, b"elif") {
-        Directive::Conditional(Conditional::Elif)
+        Directive::Conditional(Conditional::Alternative(Test::Expression))
     } else if is_same(word, b"else") {
         Directive::Conditional(Conditional::Else)
     } else if is_same(word, b"endif") {

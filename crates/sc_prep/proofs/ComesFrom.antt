@@ -11,7 +11,7 @@ use Rattle.c11_tokens.specs.Lex.{Lexed, is_newline}
 use Rattle.sc_model.specs.Fault.{Fault}
 use Rattle.sc_model.specs.Outside.{largest_file}
 use Rattle.sc_model.specs.Token.{Lexeme, Place, in_file}
-use Rattle.sc_prep.proofs.Machine.{EndsAs, HaveHashes, after, and_false, elif_unasked, follows, given, hashes-parts, inert, inert_line, inert_opens, inert_takes, lines-hashes, opens_taken_by, plain_takes, plain_unasked, runs-join, step_is, takes_conditional, takes_unasked, taking, untaken}
+use Rattle.sc_prep.proofs.Machine.{EndsAs, HaveHashes, after, and_false, alternative_unasked, follows, given, hashes-parts, inert, inert_line, inert_opens, inert_takes, lines-hashes, opens_taken, plain_takes, plain_unasked, runs-join, step_is, takes_conditional, takes_unasked, taking, untaken}
 use Rattle.sc_prep.specs.Footprints.{ComesAt, ComesIn, ComesOver, does, decides, here, later, within, past_all}
 use Rattle.sc_prep.specs.Machine.{Machine, Runs, Takes, acts, asks_by, branched_as, opened, opened_as, next_branch, start, turned}
 use Rattle.sc_prep.specs.Machine as machine
@@ -105,10 +105,10 @@ module _ {x : Context} {chain : List Place} {k : Moment} where
           inert-comes g w.1 next.0 (ap acts turns ∙ e) (comes-before g l w.2 next.2)
     ]
     inert-branches-come (alternative h g bs) w a u ss m s e c = elim (comes-more c) [
-      | inl at ↦ at-unasked w.0 (elif_unasked m a u ss s e) at
+      | inl at ↦ at-unasked w.0.named (alternative_unasked w.0.test m a u ss s e) at
       | inr next ↦
           let turn = turned m false ((a, u) ∷ ss) in
-          let turns : next.0 ≡ turn = takes_unasked w.0 (elif_unasked m a u ss s e) next.1 ∙ ap (next_branch m false) s in
+          let turns : next.0 ≡ turn = takes_unasked w.0.named (alternative_unasked w.0.test m a u ss s e) next.1 ∙ ap (next_branch m false) s in
           elim (comes-append (group_lines g) (branch_lines bs) next.2) [
             | inl before ↦ inert-comes g w.1 next.0 (ap acts turns) before
             | inr past ↦
@@ -193,7 +193,7 @@ module _ (x : Context) (chain : List Place) (k : Moment) where
           let inner = hashes-parts (group_lines g) (branch_lines bs) parts.0 in
           elim (comes-append (group_lines g ++ branch_lines bs) (group_lines rest) next.2) [
             | inl before ↦
-                let o = opens_taken_by x h s has.0 w.0.conditional w.0.named w.0.opening ss next.1 in
+                let o = opens_taken x h s w.0 ss next.1 in
                 decided h g bs s ss w.1 w.2 inner.0 (reaches g w.1 inner.0 s) (reaches-branches bs w.2 inner.1 s) (GroupReaches x (section h g bs rest) s chain k) moments.taken moments.passed
                 o.says o.decides next.0 o.opens before
             | inr past ↦
@@ -213,13 +213,13 @@ module _ (x : Context) (chain : List Place) (k : Moment) where
           (subst (λ m. ComesIn x chain k m (group_lines g)) (takes_unasked w.0 refl next.1) (comes-before g l w.2 next.2)))
     ]
     reaches-branches (alternative h g bs) w has s active ss c = elim (comes-more c) [
-      | inl at ↦ at-own (BranchesReach x (alternative h g bs) s) w.0 at moments.later_head
+      | inl at ↦ at-own (BranchesReach x (alternative h g bs) s) w.0.named at moments.later_head
       | inr next ↦
-          let turn = takes_conditional w.0 next.1 in
+          let turn = takes_conditional w.0.named next.1 in
           let inner = hashes-parts (group_lines g) (branch_lines bs) has.1 in
           decided h g bs s ss w.1 w.2 inner.0 (reaches g w.1 inner.0 s) (reaches-branches bs w.2 inner.1 s) (BranchesReach x (alternative h g bs) s chain k) moments.later_taken moments.later_passed
-          turn.decision (turn.answers.asked (ap (asks_by (untaken active ss s)) w.0)) next.0
-          (turn.is ∙ (step_is (untaken active ss s) h turn.decision w.0 ∙ branched-opened active ss s turn.decision)) next.2
+          turn.decision (turn.answers.asked (ap (asks_by (untaken active ss s)) w.0.named)) next.0
+          (turn.is ∙ (step_is (untaken active ss s) h turn.decision w.0.named ∙ branched-opened active ss s turn.decision)) next.2
     ]
 
 -- ---- a file that is entered

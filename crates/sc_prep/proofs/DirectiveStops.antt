@@ -1,13 +1,15 @@
 -- Why a directive stops: the footprints of which a stage tells are those of the machine before its
 -- line.
-use Rattle.std.proofs.Common.{◌≡◌, ℕ, ◌+◌, ◌&&◌, ◌⊎◌, Bool, true, false, All, List, [], ◌∷◌, drop, map, take, Some, None, Result, Ok, Err, refl, sym, ap, subst, ◌∙◌, if◌then◌else◌}
+use Rattle.std.proofs.Common.{◌≡◌, ℕ, ◌+◌, ◌&&◌, Bool, true, false, All, List, [], ◌∷◌, drop, map, take, Some, None, Result, Ok, Err, refl, sym, ap, subst, ◌∙◌, if◌then◌else◌}
 use Rattle.std.proofs.lemmas.Bool.{and_from, and_parts, true≢false}
 use Rattle.std.specs.Prelude.{IfErr, IfOk, is_none}
 use Rattle.c11_directives.specs.Behind.{begins_with_header, behind_name}
-use Rattle.c11_directives.specs.declared.directive.Conditional.TheVariants.{If, Elif}
+use Rattle.c11_directives.specs.declared.directive.Conditional.TheVariants.{Opening, Alternative}
+use Rattle.c11_directives.specs.declared.directive.Test.{Test}
+use Rattle.c11_directives.specs.declared.directive.Test.TheVariants.{Expression}
 use Rattle.c11_directives.specs.declared.directive.Directive.{Directive}
 use Rattle.c11_directives.specs.Footprints.{DirectiveHas, HasFootprints, MomentsHave, NameHas, TextHas, Used, expression, IsSaid, Spot, before_token, footprint_at, of_head, of_header, of_line, of_name, of_part, said, waiting}
-use Rattle.c11_directives.specs.Lines.{Line, conditional_of, hash_of}
+use Rattle.c11_directives.specs.Lines.{Line, conditional_of, hash_of, test_of}
 use Rattle.c11_directives.specs.Pre.{Context, is_barrier, is_said}
 use Rattle.c11_directives.specs.Reaches.{at_head}
 use Rattle.c11_expressions.specs.Lines.{without_defined}
@@ -81,7 +83,7 @@ expanded-done clean (expanding_fails fault asked is) = absurd (cc)
 
 module _ (files names : List (List ℕ)) {old s : Sets} (keeps : Keeps old s) (w : Walk) (owns : Owns old w) (is : IsTable old names w.table) (among live : Cond)
     (live_is : Denotes s live.0 (λ c. old.has among.0 c && old.has w.prepared.live.0 c)) (l : Line) (hash : Token)
-    (conditional : (conditional_of l ≡ Some If) ⊎ (conditional_of l ≡ Some Elif)) {names1 : List (List ℕ)} {s1 : Sets} {w1 : Walk} (k1 : Keeps s s1) (list : List (Cond × base.Token))
+    (asks : test_of l ≡ Some Expression) {names1 : List (List ℕ)} {s1 : Sets} {w1 : Walk} (k1 : Keeps s s1) (list : List (Cond × base.Token))
     (replaces : SimulatesOneOf files names s w names1 s1 w1
     (λ c m n. ReplacesAt (behind_name l) hash.place (s.has live.0 c && is_none m.fault) m (map (seen names1 files) (items_at s1 list c)) n)) where
   abbrev text_at : List ℕ → List Token
@@ -116,7 +118,7 @@ module _ (files names : List (List ℕ)) {old s : Sets} (keeps : Keeps old s) (w
       stops-as (λ at. at) _ limit stop
       (λ c f listed has. λ m simulates _.
       let a = replaced-before c m listed simulates (λ n at. (has n at tt).0) in
-      (a.asked, of_name (text_at c) (expression (text_at c) (record { conditional = conditional; replaced = a.text })) (has m a.simulates tt).1))
+      (a.asked, of_name (text_at c) (expression (text_at c) (record { asks = asks; replaced = a.text })) (has m a.simulates tt).1))
       (subst
       (λ a. StopsAtPlace a (Comes s1 names1 files w1 any_machine (λ c m f. ((s1.has live.0 c && is_none m.fault) ≡ true) × NameHas m.state.macros (text_at c) f)) limit stop)
       (k1.arities ∙ keeps.arities) stops)
@@ -143,7 +145,7 @@ module _ (files names : List (List ℕ)) {old s : Sets} (keeps : Keeps old s) (w
     part-found h p there on has = λ m simulates _.
         let now = IsConfig-kept k2 there in
         let a = replaced-before p.0 m (IsConfig-kept keeps (IsConfig-kept k1 now)) simulates (λ n at. (expanded-before p.0 n now on at).0) in
-        (a.asked, of_part (text_at p.0) (record { conditional = conditional; replaced = a.text }) (part-has s2 names2 files made h.index h.item h.is p has (expanded-before p.0 m now on a.simulates).1))
+        (a.asked, of_part (text_at p.0) (record { asks = asks; replaced = a.text }) (part-has s2 names2 files made h.index h.item h.is p has (expanded-before p.0 m now on a.simulates).1))
 
     pub part-stops : (stop : Stop) → RefusesAt s2 names2 made behind limit stop → StopsAtPlace old.arities Found limit stop
     part-stops (BranchesFull count) is =
@@ -156,18 +158,18 @@ module _ (files names : List (List ℕ)) {old s : Sets} (keeps : Keeps old s) (w
 comes-deciding : {x : Context} {l : Line} {m : Machine} {f : Spot × Used} → asks_by m (conditional_of l) ≡ true → DirectiveHas m.state.macros l f → MomentsHave (ComesAt x m l) (here_at f.0, f.1)
 comes-deciding {l = l} {m} asks has = record { moment = at_head l m.state; comes = decides asks; has = of_head has }
 
-pub if-stops : (s : Sets) (names files : List (List ℕ)) (w : Walk) (x : Context) (l : Line) → conditional_of l ≡ Some If → (limit : ℕ) (stop : Stop)
+pub opening-stops : (s : Sets) (names files : List (List ℕ)) (w : Walk) (x : Context) (l : Line) {test : Test} → conditional_of l ≡ Some (Opening test) → (limit : ℕ) (stop : Stop)
     → StopsAtPlace s.arities (Comes s names files w any_machine (λ c m f. ((s.has w.acting.0 c && is_none m.fault) ≡ true) × DirectiveHas m.state.macros l f)) limit stop
     → StopsAtPlace s.arities (Comes s names files w any_machine (λ c m. MomentsHave (ComesAt x m l))) limit stop
-if-stops s names files w x l named limit stop = stops-as here_at _ limit stop (λ c f listed has. λ m simulates _.
+opening-stops s names files w x l named limit stop = stops-as here_at _ limit stop (λ c f listed has. λ m simulates _.
     let it = has m simulates tt in
     comes-deciding (ap (asks_by m) named ∙ (sym simulates.acting ∙ (and_parts (s.has w.acting.0 c) (is_none m.fault) it.0).0)) it.1)
 
-pub elif-stops : (s : Sets) (names files : List (List ℕ)) (w : Walk) (x : Context) (l : Line) → conditional_of l ≡ Some Elif → (among : Cond)
+pub alternative-stops : (s : Sets) (names files : List (List ℕ)) (w : Walk) (x : Context) (l : Line) {test : Test} → conditional_of l ≡ Some (Alternative test) → (among : Cond)
     → ((c : List ℕ) (m : Machine) → Simulates s names files w c m → (s.has among.0 c && is_none m.fault) ≡ acts (next_branch m true m.sections)) → (limit : ℕ) (stop : Stop)
     → StopsAtPlace s.arities (Comes s names files w any_machine (λ c m f. ((s.has among.0 c && is_none m.fault) ≡ true) × DirectiveHas m.state.macros l f)) limit stop
     → StopsAtPlace s.arities (Comes s names files w any_machine (λ c m. MomentsHave (ComesAt x m l))) limit stop
-elif-stops s names files w x l named among asked limit stop = stops-as here_at _ limit stop (λ c f listed has. λ m simulates _.
+alternative-stops s names files w x l named among asked limit stop = stops-as here_at _ limit stop (λ c f listed has. λ m simulates _.
     let it = has m simulates tt in
     comes-deciding (ap (asks_by m) named ∙ (sym (asked c m simulates) ∙ it.0)) it.1)
 

@@ -1,10 +1,12 @@
 -- The stages of an expression under all configurations at once, seen at each.
-use Rattle.std.proofs.Common.{◌≡◌, ℕ, ◌&&◌, ◌⊎◌, Bool, true, false, List, [], All, map, length, Option, Some, None, Result, Ok, Err, refl, sym, ap, subst, ◌∙◌}
+use Rattle.std.proofs.Common.{◌≡◌, ℕ, ◌&&◌, Bool, true, false, List, [], All, map, length, Option, Some, None, Result, Ok, Err, refl, sym, ap, subst, ◌∙◌}
 use Rattle.std.proofs.lemmas.Bool.{true≢false}
 use Rattle.std.specs.Prelude.{is_none}
 use Rattle.c11_directives.specs.Behind.{behind_name}
-use Rattle.c11_directives.specs.declared.directive.Conditional.TheVariants.{If, Elif}
-use Rattle.c11_directives.specs.Lines.{Line, conditional_of, hash_of}
+use Rattle.c11_directives.specs.declared.directive.Conditional.TheVariants.{Opening, Alternative}
+use Rattle.c11_directives.specs.declared.directive.Test.{Test}
+use Rattle.c11_directives.specs.declared.directive.Test.TheVariants.{Expression}
+use Rattle.c11_directives.specs.Lines.{Line, conditional_of, hash_of, test_of}
 use Rattle.c11_directives.specs.Pre.{Context, c11}
 use Rattle.c11_expressions.specs.Lines.{Comes, failure, without_defined}
 use Rattle.c11_macros.specs.Hidden.{Failure, Hidden}
@@ -33,7 +35,7 @@ use Rattle.sc_prep.specs.Simulates.{Owns, Simulates, SimulatesOneOf, SimulatesSt
 use Rattle.sc_prep.specs.declared.walk.Walk.{Walk}
 use Rattle.sc_table.proofs.Growth.{IsTable-Keeps, macros_at-Keeps}
 use Rattle.sc_table.specs.Table.{IsTable, macros_at}
-use Rattle.sc_prep.proofs.ExpressionSteps.{at_place, decided-by, decided-elif, decided-if, faults-seen, moved-seen, without-moved}
+use Rattle.sc_prep.proofs.ExpressionSteps.{at_place, decided-alternative, decided-by, decided-opening, faults-seen, moved-seen, without-moved}
 use Rattle.sc_prep.proofs.StageRefusals.{FaultsAt}
 use Rattle.sc_prep.proofs.WalkMoves.{owns-kept, simulates-kept}
 
@@ -232,7 +234,7 @@ module _ (files names : List (List ℕ)) {old s : Sets} (keeps : Keeps old s) (w
   }
 
   module _ {names1 names2 : List (List ℕ)} {s1 s2 s3 : Sets} {w1 w2 w3 : Walk} (k1 : Keeps s s1) (k2 : Keeps s1 s2) (k3 : Keeps s2 s3) (own : IsCond s live.0)
-      (hash : Token) (conditional : (conditional_of l ≡ Some If) ⊎ (conditional_of l ≡ Some Elif)) (hashed : hash_of l ≡ Some hash)
+      (hash : Token) (asks : test_of l ≡ Some Expression) (hashed : hash_of l ≡ Some hash)
       (ts us : List ℕ → List Token) (is_taken : List ℕ → Bool)
       (replaces : SimulatesOneOf files names s w names1 s1 w1 (λ c m n. ReplacesAt (behind_name l) hash.place (s.has live.0 c && is_none m.fault) m (ts c) n))
       (expands : SimulatesOneOf files names1 s1 w1 names2 s2 w2 (λ c m n. ExpandsAt (ts c) (s1.has live.0 c && is_none m.fault) m (us c) n))
@@ -254,7 +256,7 @@ module _ (files names : List (List ℕ)) {old s : Sets} (keeps : Keeps old s) (w
           record {
             machine = d.machine;
             done = subst (λ L. DecidesAt x l L m (is_taken c) d.machine) asked
-                (decided-by x l hash conditional hashed (s.has live.0 c) (ts c) (us c) (λ e. right-none (old.has among.0 c) m.fault (sym asked ∙ e)) a.done
+                (decided-by x l hash asks hashed (s.has live.0 c) (ts c) (us c) (λ e. right-none (old.has among.0 c) m.fault (sym asked ∙ e)) a.done
                 (subst (λ L. ExpandsAt (ts c) (L && is_none a.machine.fault) a.machine (us c) b.machine) same1 b.done)
                 (subst (λ L. EvaluatesAt hash.place (us c) (L && is_none b.machine.fault) b.machine (is_taken c) d.machine) same2 d.done));
             simulates = d.simulates;
@@ -267,7 +269,7 @@ module _ (files names : List (List ℕ)) {old s : Sets} (keeps : Keeps old s) (w
 abbrev pub empty_context : Context
 empty_context = record { files = λ _. None; include = []; include_depth = 0; standard = c11 }
 
-pub section-opened : {names more : List (List ℕ)} {old mid new : Sets} {w v next : Walk} (files : List (List ℕ)) (x : Context) (l : Line) → conditional_of l ≡ Some If → Keeps old mid → (taken : Cond)
+pub section-opened : {names more : List (List ℕ)} {old mid new : Sets} {w v next : Walk} (files : List (List ℕ)) (x : Context) (l : Line) {test : Test} → conditional_of l ≡ Some (Opening test) → Keeps old mid → (taken : Cond)
     → SimulatesOneOf files names old w more mid v (λ c m n. DecidesAt x l (old.has w.acting.0 c && is_none m.fault) m (mid.has taken.0 c) n)
     → SimulatesStep more mid v new next (λ _ c m. opened m (mid.has taken.0 c))
     → SimulatesOneOf files names old w more new next (λ c m n. machine.Decided x m l n)
@@ -278,12 +280,12 @@ section-opened {mid = mid} files x l named keeps taken decides opens = record {
       let a = decides.at c m listed simulates in
       record {
         machine = opened a.machine (mid.has taken.0 c);
-        done = decided-if x l named (ap (λ b. b && is_none m.fault) simulates.acting ∙ and-twice m.active (is_none m.fault)) a.done;
+        done = decided-opening x l named (ap (λ b. b && is_none m.fault) simulates.acting ∙ and-twice m.active (is_none m.fault)) a.done;
         simulates = opens.at files c a.machine (IsConfig-Keeps keeps listed) decides.table a.simulates;
       };
 }
 
-pub section-goes_on : {names more : List (List ℕ)} {old mid new : Sets} {w v next : Walk} (files : List (List ℕ)) (x : Context) (l : Line) → conditional_of l ≡ Some Elif → Keeps old mid → (among taken : Cond)
+pub section-goes_on : {names more : List (List ℕ)} {old mid new : Sets} {w v next : Walk} (files : List (List ℕ)) (x : Context) (l : Line) {test : Test} → conditional_of l ≡ Some (Alternative test) → Keeps old mid → (among taken : Cond)
     → ((c : List ℕ) (m : Machine) → Simulates old names files w c m → (old.has among.0 c && is_none m.fault) ≡ acts (next_branch m true m.sections))
     → SimulatesOneOf files names old w more mid v (λ c m n. DecidesAt x l (old.has among.0 c && is_none m.fault) m (mid.has taken.0 c) n)
     → SimulatesStep more mid v new next (λ _ c m. next_branch m (mid.has taken.0 c) m.sections)
@@ -295,7 +297,7 @@ section-goes_on {mid = mid} files x l named keeps among taken asked decides goes
       let a = decides.at c m listed simulates in
       record {
         machine = next_branch a.machine (mid.has taken.0 c) a.machine.sections;
-        done = decided-elif x l named (asked c m simulates) a.done;
+        done = decided-alternative x l named (asked c m simulates) a.done;
         simulates = goes_on.at files c a.machine (IsConfig-Keeps keeps listed) decides.table a.simulates;
       };
 }

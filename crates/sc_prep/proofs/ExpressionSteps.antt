@@ -1,11 +1,12 @@
 -- The stages of an expression at one configuration.
-use Rattle.std.proofs.Common.{◌≡◌, ℕ, ◌<◌, ◌&&◌, not, ◌⊎◌, Bool, true, false, List, [], ◌∷◌, map, length, Some, None, Result, Ok, Err, get_or, refl, sym, ap, subst, ◌∙◌, arith, if◌then◌else◌}
+use Rattle.std.proofs.Common.{◌≡◌, ℕ, ◌<◌, ◌&&◌, not, Bool, true, false, List, [], ◌∷◌, map, length, Some, None, Result, Ok, Err, get_or, refl, sym, ap, subst, ◌∙◌, arith, if◌then◌else◌}
 use Rattle.std.specs.Prelude.{is_none}
 use Rattle.c11_directives.specs.Behind.{behind_name}
-use Rattle.c11_directives.specs.Lines.{Line, conditional_of, hash_of}
+use Rattle.c11_directives.specs.Lines.{Line, conditional_of, hash_of, test_of}
 use Rattle.c11_directives.specs.Pre.{Context, Decides, decision_of, expression}
-use Rattle.c11_directives.specs.declared.directive.Conditional.{Conditional}
-use Rattle.c11_directives.specs.declared.directive.Conditional.TheVariants.{If, Elif}
+use Rattle.c11_directives.specs.declared.directive.Conditional.TheVariants.{Opening, Alternative}
+use Rattle.c11_directives.specs.declared.directive.Test.{Test}
+use Rattle.c11_directives.specs.declared.directive.Test.TheVariants.{Expression}
 use Rattle.sc_lines.specs.Nests.{seen_line}
 use Rattle.c11_expressions.specs.Lines as lines
 use Rattle.c11_expressions.specs.Lines.{Comes, before, definedness, failure, in_parentheses, is_defined, is_identifier, malformed, unexpanded, without_defined}
@@ -105,7 +106,7 @@ idle-evaluates idle (evaluating_fails why asked none is) = let both = sym idle �
 
 -- ---- the stages joined
 
-module _ (x : Context) (l : Line) (hash : Token) (conditional : (conditional_of l ≡ Some If) ⊎ (conditional_of l ≡ Some Elif)) (hashed : hash_of l ≡ Some hash) where
+module _ (x : Context) (l : Line) (hash : Token) (asks : test_of l ≡ Some Expression) (hashed : hash_of l ≡ Some hash) where
   -- nothing more happens to a line that was refused
   refused-then : {m o p : Machine} {b : Bool} {us : List Token} {is_taken : Bool} (fault : Fault) → Decides x m.state l (Err fault)
       → o ≡ failed m fault → b ≡ false → EvaluatesAt hash.place us b o is_taken p → DecidesAt x l true m is_taken p
@@ -121,7 +122,7 @@ module _ (x : Context) (l : Line) (hash : Token) (conditional : (conditional_of 
       by : (a : Result (List (Hidden Place)) (Failure Place)) → Expands place_alone m.state.macros (map unhidden ts) a → Ok us ≡ text_of_answer a → Decides x m.state l (decision_of answer)
       by (Ok xs) becomes e =
           let same : us ≡ map token_of xs = cc in
-          expression hash answer conditional hashed
+          expression hash answer asks hashed
           (lines.expanded (map unhidden ts) (Ok xs) answer is becomes (comes-expanded hash.place xs answer (subst (λ vs. Comes hash.place (Ok (map unhidden vs)) answer) same comes)))
       by (Err why) becomes e = absurd (cc)
 
@@ -134,7 +135,7 @@ module _ (x : Context) (l : Line) (hash : Token) (conditional : (conditional_of 
       by (Ok xs) becomes e = absurd (cc)
       by (Err why) becomes e =
           let same : fault_of why ≡ fault = cc in
-          subst (λ f. Decides x m.state l (Err f)) same (expression hash (Err why) conditional hashed (lines.expanded (map unhidden ts) (Err why) (Err why) is becomes (unexpanded why)))
+          subst (λ f. Decides x m.state l (Err f)) same (expression hash (Err why) asks hashed (lines.expanded (map unhidden ts) (Err why) (Err why) is becomes (unexpanded why)))
 
   module _ (m : Machine) (none : m.fault ≡ None) where
     evaluated-then : (ts us : List Token) {p : Machine} {is_taken : Bool} → without_defined m.state.macros (map unhidden (behind_name l)) ≡ Ok (map unhidden ts)
@@ -156,7 +157,7 @@ module _ (x : Context) (l : Line) (hash : Token) (conditional : (conditional_of 
     replaced-then ts us {o = o} {p = p} (replacing_fails cause asked is) expands evaluates =
         let why = failure cause hash.place in
         let same = idle-expands refl expands in
-        refused-then (fault_of why) (expression hash (Err why) conditional hashed (malformed cause is)) same (ap (λ (k : Machine). is_none k.fault) same) evaluates
+        refused-then (fault_of why) (expression hash (Err why) asks hashed (malformed cause is)) same (ap (λ (k : Machine). is_none k.fault) same) evaluates
 
   -- the three stages, where L has the configuration
   pub decided-by : (L : Bool) {m n o p : Machine} (ts us : List Token) {is_taken : Bool} → (L ≡ true → m.fault ≡ None) → ReplacesAt (behind_name l) hash.place (L && is_none m.fault) m ts n
@@ -166,40 +167,40 @@ module _ (x : Context) (l : Line) (hash : Token) (conditional : (conditional_of 
       let last = idle-evaluates refl evaluates in
       subst (DecidesAt x l false m is_taken) (sym (last.0 ∙ (idle-expands refl expands ∙ idle-replaces refl replaces))) (deciding_idle refl last.1)
 
--- ---- the line that has the expression
+-- ---- the line that has a test
 
--- what opens a section by an expression does so by what it decides
-pub decided-if : (x : Context) (l : Line) {asked : Bool} {m n : Machine} {is_taken : Bool} → conditional_of l ≡ Some If → asked ≡ acts m → DecidesAt x l asked m is_taken n → Decided x m l (opened n is_taken)
-decided-if x l {m = m} {is_taken = is_taken} named same (deciding_idle quiet untaken) = record {
+-- what opens a section does so by what it decides
+pub decided-opening : (x : Context) (l : Line) {test : Test} {asked : Bool} {m n : Machine} {is_taken : Bool} → conditional_of l ≡ Some (Opening test) → asked ≡ acts m → DecidesAt x l asked m is_taken n → Decided x m l (opened n is_taken)
+decided-opening x l {m = m} {is_taken = is_taken} named same (deciding_idle quiet untaken) = record {
   decision = Ok false;
   answers = record { asked = λ asks. let both = sym quiet ∙ (same ∙ (sym (ap (asks_by m) named) ∙ asks)) in absurd (cc); not_asked = λ _. refl };
   is = ap (opened m) untaken ∙ ap (step_by m l (Ok false)) (sym named);
 }
-decided-if x l {m = m} {is_taken = is_taken} named same (deciding_done asked decides) = record {
+decided-opening x l {m = m} {is_taken = is_taken} named same (deciding_done asked decides) = record {
   decision = Ok is_taken;
   answers = record { asked = λ _. decides; not_asked = λ idle. let both = sym idle ∙ (ap (asks_by m) named ∙ (sym same ∙ asked)) in absurd (cc) };
   is = ap (step_by m l (Ok is_taken)) (sym named);
 }
-decided-if x l {m = m} named same (deciding_fails fault asked untaken decides) = record {
+decided-opening x l {m = m} named same (deciding_fails fault asked untaken decides) = record {
   decision = Err fault;
   answers = record { asked = λ _. decides; not_asked = λ idle. let both = sym idle ∙ (ap (asks_by m) named ∙ (sym same ∙ asked)) in absurd (cc) };
   is = ap (opened (failed m fault)) untaken ∙ ap (step_by m l (Err fault)) (sym named);
 }
 
 -- and what goes on with one
-pub decided-elif : (x : Context) (l : Line) {asked : Bool} {m n : Machine} {is_taken : Bool} → conditional_of l ≡ Some Elif → asked ≡ acts (next_branch m true m.sections) → DecidesAt x l asked m is_taken n
+pub decided-alternative : (x : Context) (l : Line) {test : Test} {asked : Bool} {m n : Machine} {is_taken : Bool} → conditional_of l ≡ Some (Alternative test) → asked ≡ acts (next_branch m true m.sections) → DecidesAt x l asked m is_taken n
     → Decided x m l (next_branch n is_taken n.sections)
-decided-elif x l {m = m} {is_taken = is_taken} named same (deciding_idle quiet untaken) = record {
+decided-alternative x l {m = m} {is_taken = is_taken} named same (deciding_idle quiet untaken) = record {
   decision = Ok false;
   answers = record { asked = λ asks. let both = sym quiet ∙ (same ∙ (sym (ap (asks_by m) named) ∙ asks)) in absurd (cc); not_asked = λ _. refl };
   is = ap (λ b. next_branch m b m.sections) untaken ∙ ap (step_by m l (Ok false)) (sym named);
 }
-decided-elif x l {m = m} {is_taken = is_taken} named same (deciding_done asked decides) = record {
+decided-alternative x l {m = m} {is_taken = is_taken} named same (deciding_done asked decides) = record {
   decision = Ok is_taken;
   answers = record { asked = λ _. decides; not_asked = λ idle. let both = sym idle ∙ (ap (asks_by m) named ∙ (sym same ∙ asked)) in absurd (cc) };
   is = ap (step_by m l (Ok is_taken)) (sym named);
 }
-decided-elif x l {m = m} named same (deciding_fails fault asked untaken decides) = record {
+decided-alternative x l {m = m} named same (deciding_fails fault asked untaken decides) = record {
   decision = Err fault;
   answers = record { asked = λ _. decides; not_asked = λ idle. let both = sym idle ∙ (ap (asks_by m) named ∙ (sym same ∙ asked)) in absurd (cc) };
   is = ap (λ b. next_branch (failed m fault) b m.sections) untaken ∙ ap (step_by m l (Err fault)) (sym named);
@@ -207,9 +208,9 @@ decided-elif x l {m = m} named same (deciding_fails fault asked untaken decides)
 
 -- ---- the # of a line that has one
 
-pub conditional-long : (names files : List (List ℕ)) (line : List base_token.Token) {c : Conditional} → conditional_of (seen_line names files line) ≡ Some c → 0 < length line
-conditional-long names files [] named = absurd (cc)
-conditional-long names files (t ∷ ts) named = omega arith
+pub asking-long : (names files : List (List ℕ)) (line : List base_token.Token) {test : Test} → test_of (seen_line names files line) ≡ Some test → 0 < length line
+asking-long names files [] named = absurd (cc)
+asking-long names files (t ∷ ts) named = omega arith
 
 pub hash-line : (names files : List (List ℕ)) (line : List base_token.Token) (d : base_token.Token) → 0 < length line → hash_of (seen_line names files line) ≡ Some (seen names files (get_or line 0 d))
 hash-line names files [] d long = absurd (omega (arith, long))

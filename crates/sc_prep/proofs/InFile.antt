@@ -3,18 +3,17 @@ use Rattle.std.proofs.Common.{◌≡◌, ℕ, ◌&&◌, not, Bool, true, false, 
 use Rattle.std.specs.List.{AllByRecursion as Every}
 use Rattle.std.specs.Prelude.{IfOk, is_none, if◌then◌else◌}
 use Rattle.c11_directives.specs.declared.directive.Conditional.{Conditional}
-use Rattle.c11_directives.specs.declared.directive.Conditional.TheVariants.{If, Ifdef, Ifndef, Elif, Else, Endif}
+use Rattle.c11_directives.specs.declared.directive.Conditional.TheVariants.{Opening, Alternative, Else, Endif}
 use Rattle.c11_directives.specs.declared.directive.Directive.{Directive}
 use Rattle.c11_directives.specs.Lines.{Line, conditional_of}
-use Rattle.c11_directives.specs.Pre.{Context, State, Carries, changed, not_changed, not_expanded, numbered, not_numbered, no_header, too_deep, included, back, is_barrier, operand_of, put_out, with_macros, with_text}
+use Rattle.c11_directives.specs.Pre.{Context, State, Carries, changed, not_changed, not_expanded, numbered, not_numbered, no_header, too_deep, included, back, is_barrier, put_out, with_macros, with_text}
 use Rattle.c11_macros.specs.Macros.{Macros}
 use Rattle.c11_macros.specs.Results.{result_map}
 use Rattle.sc_model.specs.declared.cause.Cause.{Cause}
-use Rattle.sc_model.specs.declared.cause.Cause.TheVariants.{BadDirective}
 use Rattle.sc_model.specs.Fault.{Fault}
 use Rattle.sc_model.specs.Token.{Token}
 use Rattle.sc_prep.specs.declared.entry.Entry.{Entry}
-use Rattle.sc_prep.specs.Machine.{Machine, acts, acting, refusing, opened, opened_as, opened_by_name, next_branch, branched_as, ended, closing_run, changed_by, changing, plain_by, is_taken, step_by, step, asks_by, arriving, Takes, takes, closes, carries, Runs, start}
+use Rattle.sc_prep.specs.Machine.{Machine, acts, acting, refusing, opened, opened_as, next_branch, branched_as, ended, closing_run, changed_by, changing, plain_by, is_taken, step_by, step, asks_by, arriving, Takes, takes, closes, carries, Runs, start}
 use Rattle.sc_prep.specs.Machine as machine
 use Rattle.sc_prep.specs.Simulates.{IsInside, IsIn, IsAtTop, begins, idles}
 use Rattle.sc_prep.proofs.Machine.{inert_plain, inert_takes}
@@ -74,10 +73,6 @@ opened_as-stays : (m : Machine) (r : Result Bool Fault) → whereabouts (opened_
 opened_as-stays m (Ok test) = refl
 opened_as-stays m (Err fault) = refl
 
-by_name-stays : (m : Machine) (l : Line) (test : List ℕ → Bool) (o : Option (List ℕ)) → whereabouts (opened_by_name m l test o).state ≡ whereabouts m.state
-by_name-stays m l test None = refl
-by_name-stays m l test (Some name) = refl
-
 next-stays : (m : Machine) (test : Bool) (ss : List (Bool × Bool)) → whereabouts (next_branch m test ss).state ≡ whereabouts m.state
 next-stays m test [] = refl
 next-stays m true (s ∷ ss) = refl
@@ -93,10 +88,8 @@ ended-stays m (s ∷ ss) = refl
 
 step-stays : (m : Machine) (l : Line) (r : Result Bool Fault) (c : Option Conditional) → whereabouts (step_by m l r c).state ≡ whereabouts m.state
 step-stays m l r None = plain-stays m l l.directive
-step-stays m l r (Some If) = opened_as-stays m r
-step-stays m l r (Some Ifdef) = by_name-stays m l (is_taken m.state.macros true) (operand_of l)
-step-stays m l r (Some Ifndef) = by_name-stays m l (is_taken m.state.macros false) (operand_of l)
-step-stays m l r (Some Elif) = branched-stays m r
+step-stays m l r (Some (Opening test)) = opened_as-stays m r
+step-stays m l r (Some (Alternative test)) = branched-stays m r
 step-stays m l r (Some Else) = next-stays m true m.sections
 step-stays m l r (Some Endif) = ended-stays m m.sections
 
@@ -128,10 +121,6 @@ idle-inert {m} idle = and-idle m idle.active
 opened-idle : (m : Machine) (test : Bool) → IsIdle m → IsIdle (opened m test)
 opened-idle m test idle = record { active = ap (λ a. a && test) idle.active; sections = (ap (λ a. (a, a && not test)) idle.active, idle.sections) }
 
-by_name-idle : (m : Machine) (l : Line) (test : List ℕ → Bool) (o : Option (List ℕ)) → IsIdle m → IsIdle (opened_by_name m l test o)
-by_name-idle m l test None idle = opened-idle (refusing m l BadDirective) false (record { active = idle.active; sections = idle.sections })
-by_name-idle m l test (Some name) idle = opened-idle m (acts m && test name) idle
-
 next-idle : (m : Machine) (test : Bool) (ss : List (Bool × Bool)) → IsIdle m → Every (λ s. s ≡ (false, false)) ss → IsIdle (next_branch m test ss)
 next-idle m test [] idle all = idle
 next-idle m true (s ∷ ss) idle all = record { active = ap (λ p. p.1) all.0; sections = (ap (λ p. (p.0, false)) all.0, all.1) }
@@ -143,19 +132,15 @@ ended-idle m (s ∷ ss) idle all = record { active = ap (λ p. p.0) all.0; secti
 
 step-idle : (m : Machine) (l : Line) (c : Option Conditional) → IsIdle m → IsIdle (step_by m l (Ok false) c)
 step-idle m l None idle = subst IsIdle (sym (inert_plain m l (idle-inert idle))) idle
-step-idle m l (Some If) idle = opened-idle m false idle
-step-idle m l (Some Ifdef) idle = by_name-idle m l (is_taken m.state.macros true) (operand_of l) idle
-step-idle m l (Some Ifndef) idle = by_name-idle m l (is_taken m.state.macros false) (operand_of l) idle
-step-idle m l (Some Elif) idle = next-idle m false m.sections idle idle.sections
+step-idle m l (Some (Opening test)) idle = opened-idle m false idle
+step-idle m l (Some (Alternative test)) idle = next-idle m false m.sections idle idle.sections
 step-idle m l (Some Else) idle = next-idle m true m.sections idle idle.sections
 step-idle m l (Some Endif) idle = ended-idle m m.sections idle idle.sections
 
 idle-unasked : (m : Machine) (c : Option Conditional) → IsIdle m → asks_by m c ≡ false
 idle-unasked m None idle = refl
-idle-unasked m (Some If) idle = idle-inert idle
-idle-unasked m (Some Ifdef) idle = refl
-idle-unasked m (Some Ifndef) idle = refl
-idle-unasked m (Some Elif) idle = idle-inert (next-idle m true m.sections idle idle.sections)
+idle-unasked m (Some (Opening test)) idle = idle-inert idle
+idle-unasked m (Some (Alternative test)) idle = idle-inert (next-idle m true m.sections idle idle.sections)
 idle-unasked m (Some Else) idle = refl
 idle-unasked m (Some Endif) idle = refl
 

@@ -29,6 +29,7 @@ pub mod Machine
 pub mod MainFile
 pub mod MainWalk
 pub mod NameFootprints
+pub mod NameSteps
 pub mod NameStops
 pub mod NamedFiles
 pub mod NumberMoves

@@ -1,25 +1,26 @@
 -- The walk of one configuration over the lines of a file as they come, and that it is the walk of
 -- their groups.
-use Rattle.std.proofs.Common.{◌≡◌, inl, inr, ℕ, ◌&&◌, not, Bool, true, false, List, [], ◌∷◌, ◌++◌, map, Option, Some, None, Result, Ok, Err, refl, sym, ap, ◌∙◌, subst}
+use Rattle.std.proofs.Common.{◌≡◌, ◌&&◌, not, Bool, true, false, List, [], ◌∷◌, ◌++◌, map, Option, Some, None, Result, Ok, Err, refl, sym, ap, ◌∙◌, subst}
 use Rattle.std.specs.Option.{option_map}
 use Rattle.std.specs.Prelude.{is_none, unwrap_or, if◌then◌else◌}
 use Rattle.sc_model.specs.declared.cause.Cause.{Cause}
-use Rattle.sc_model.specs.declared.cause.Cause.TheVariants.{BadDirective, Redefined}
+use Rattle.sc_model.specs.declared.cause.Cause.TheVariants.{Redefined}
 use Rattle.c11_directives.specs.declared.directive.Conditional.{Conditional}
-use Rattle.c11_directives.specs.declared.directive.Conditional.TheVariants.{If, Ifdef, Ifndef, Elif, Else, Endif}
+use Rattle.c11_directives.specs.declared.directive.Conditional.TheVariants.{Alternative, Endif}
 use Rattle.c11_directives.specs.declared.directive.Directive.{Directive}
+use Rattle.c11_directives.specs.declared.directive.Test.{Test}
 use Rattle.c11_directives.specs.declared.directive.Directive.TheVariants as directive
 use Rattle.c11_directives.specs.Behind.{behind_name}
-use Rattle.c11_directives.specs.Lines.{Line, DirectiveNames, line_of, hash_of, conditional_in, conditional_of, Group, Branches, empty, plain, section, closing, otherwise, alternative, group_lines, branch_lines, IsGroup, AreBranches, Opens, is_opening}
+use Rattle.c11_directives.specs.Lines.{Line, DirectiveNames, line_of, hash_of, conditional_in, conditional_of, Group, Branches, empty, plain, section, closing, otherwise, alternative, group_lines, branch_lines, IsGroup, AreBranches, Opens}
 use Rattle.sc_model.specs.Fault.{Fault, first_place}
-use Rattle.c11_directives.specs.Pre.{Context, State, place_in, with_text, put_out, closed, refused, RefusedAt, operand_of, Decides, if_defined, if_undefined, no_name, with_macro, Defines, fresh, again, redefined, is_barrier, is_said, Changes, ignored, unknown, error, defines, defines_nothing, undefines, with_macros, Steps, text, null, stopped, carried_out, Carries, changed, not_changed, Walks, done, line, line_stops, taken, taken_stops, passed, passed_stops, head_stops, WalksBranches, none_taken, last_taken, later_taken, later_passed, later_stops}
+use Rattle.c11_directives.specs.Pre.{Context, State, place_in, with_text, put_out, closed, refused, RefusedAt, Decides, with_macro, Defines, fresh, again, redefined, is_barrier, is_said, Changes, ignored, unknown, error, defines, defines_nothing, undefines, with_macros, Steps, text, null, stopped, carried_out, Carries, changed, not_changed, Walks, done, line, line_stops, taken, taken_stops, passed, passed_stops, head_stops, WalksBranches, none_taken, last_taken, later_taken, later_passed, later_stops}
 use Rattle.sc_model.specs.Token.{Token}
 use Rattle.c11_macros.specs.Defines.{Defined, reads}
 use Rattle.c11_macros.specs.Macros.{Definition, Macros}
 use Rattle.c11_macros.specs.Same.{same_definition}
 use Rattle.c11_macros.specs.Text.{TextExpands}
 use Rattle.c11_macros.proofs.SameLaws.{same_definition-true, same_definition-false}
-use Rattle.sc_prep.specs.Machine.{Machine, acts, refusal, refusing, acting, turned, opened, opened_by_name, opened_as, next_branch, branched_as, ended, closing_run, is_taken, defined_over, defined_as, changed_by, changing, plain_by, plain_step, step_by, step, asks_by, Answers, ends_run, arriving, Decided, Takes, takes, closes, carries, Runs}
+use Rattle.sc_prep.specs.Machine.{Machine, acts, refusal, refusing, acting, turned, opened, opened_as, next_branch, branched_as, ended, closing_run, is_taken, defined_over, defined_as, changed_by, changing, plain_by, plain_step, step_by, step, asks_by, Answers, ends_run, arriving, Decided, Takes, takes, closes, carries, Runs}
 use Rattle.sc_prep.specs.Machine as machine
 
 -- ---- one line after another
@@ -152,9 +153,6 @@ refused_at s l cause has some =
     let at : option_map (place_in s) (hash_of l) ≡ Some (place_in s hash.0) = ap (option_map (place_in s)) hash.1 in
     record { cause_is = refl; place_is = at ∙ sym (ap (λ o. Some (unwrap_or o (first_place []))) at) }
 
-conditional-some : (l : Line) {c : Conditional} → conditional_of l ≡ Some c → l.directive ≡ None → ⊥
-conditional-some l named none = let same = ap conditional_in none in cc
-
 -- ---- lines that are not taken, or that follow a fault, do nothing
 
 pub inert_refusing : (m : Machine) (l : Line) (cause : Cause) → acts m ≡ false → refusing m l cause ≡ m
@@ -231,39 +229,18 @@ pub record OpensInert (m : Machine) (l : Line) : Type 0 where
   pub test : Bool
   pub opens : step m l (Ok false) ≡ opened m test
 
-inert_by_name : (m : Machine) (l : Line) (test : List ℕ → Bool) (operand : Option (List ℕ)) → acts m ≡ false → (b : Bool) × (opened_by_name m l test operand ≡ opened m b)
-inert_by_name m l test None e = (false, ap (λ n. opened n false) (inert_refusing m l BadDirective e))
-inert_by_name m l test (Some name) e = (acts m && test name, refl)
-
-inert_opens_by : (m : Machine) (l : Line) (c : Conditional) → is_opening c ≡ true → acts m ≡ false → (b : Bool) × (step_by m l (Ok false) (Some c) ≡ opened m b)
-inert_opens_by m l If o e = (false, refl)
-inert_opens_by m l Ifdef o e = inert_by_name m l (is_taken m.state.macros true) (operand_of l) e
-inert_opens_by m l Ifndef o e = inert_by_name m l (is_taken m.state.macros false) (operand_of l) e
-inert_opens_by m l Elif o e = cc
-inert_opens_by m l Else o e = cc
-inert_opens_by m l Endif o e = cc
-
-opening_unasked : (m : Machine) (c : Conditional) → is_opening c ≡ true → acts m ≡ false → asks_by m (Some c) ≡ false
-opening_unasked m If o e = e
-opening_unasked m Ifdef o e = refl
-opening_unasked m Ifndef o e = refl
-opening_unasked m Elif o e = cc
-opening_unasked m Else o e = cc
-opening_unasked m Endif o e = cc
-
 pub inert_opens : (m : Machine) (l : Line) → Opens l → acts m ≡ false → OpensInert m l
-inert_opens m l o e =
-    let found = inert_opens_by m l o.conditional o.opening e in
-    record { quiet = ap (asks_by m) o.named ∙ opening_unasked m o.conditional o.opening e; test = found.0; opens = step_is m l (Ok false) o.named ∙ found.1 }
+inert_opens m l o e = record { quiet = ap (asks_by m) o.named ∙ e; test = false; opens = step_is m l (Ok false) o.named }
 
 pub and_false : (a t n : Bool) → (a && n) ≡ false → ((a && t) && n) ≡ false
 and_false true true n e = e
 and_false true false n e = refl
 and_false false t n e = refl
 
--- The expression of an #elif isn't evaluated whose section took a branch, or that follows a fault.
-pub elif_unasked : (m : Machine) (a u : Bool) (ss : List (Bool × Bool)) → m.sections ≡ (a, u) ∷ ss → (u && is_none m.fault) ≡ false → asks_by m (Some Elif) ≡ false
-elif_unasked m a u ss s e = ap (λ k. acts (next_branch m true k)) s ∙ e
+-- The test of an alternative isn't decided whose section took a branch, or that follows a fault.
+pub alternative_unasked : (test : Test) (m : Machine) (a u : Bool) (ss : List (Bool × Bool)) → m.sections ≡ (a, u) ∷ ss → (u && is_none m.fault) ≡ false
+    → asks_by m (Some (Alternative test)) ≡ false
+alternative_unasked test m a u ss s e = ap (λ k. acts (next_branch m true k)) s ∙ e
 
 mutual
   pub inert : {x : Context} (g : Group) → IsGroup g → (m : Machine) {n : Machine} → acts m ≡ false → Runs x m (group_lines g) n → n ≡ m
@@ -298,7 +275,7 @@ mutual
       let turn = turned m false ((a, u) ∷ ss) in
       let parts = runs-more ran in
       let inner = runs-append (group_lines g) (branch_lines bs) parts.2 in
-      let turns : parts.0 ≡ turn = takes_unasked w.0 (elif_unasked m a u ss s e) parts.1 ∙ ap (next_branch m false) s in
+      let turns : parts.0 ≡ turn = takes_unasked w.0.named (alternative_unasked w.0.test m a u ss s e) parts.1 ∙ ap (next_branch m false) s in
       let group : inner.0 ≡ turn = inert g w.1 parts.0 (ap acts turns) inner.1 ∙ turns in
       inert_branches bs w.2 a u ss inner.0 (ap (λ k. k.sections) group) (ap (λ k. u && is_none k.fault) group ∙ e) inner.2 ∙ ap (λ k. turned k a ss) group
 
@@ -325,7 +302,7 @@ mutual
       (runs-join (group_lines g) (inert_run g w.1 turn e) (runs-once (unasked_taken w.2 refl)))
   inert_branches_run {x} (alternative h g bs) w a u ss m s e =
       let turn = turned m false ((a, u) ∷ ss) in
-      machine.line (subst (Takes x m h) (ap (next_branch m false) s) (unasked_taken w.0 (elif_unasked m a u ss s e)))
+      machine.line (subst (Takes x m h) (ap (next_branch m false) s) (unasked_taken w.0.named (alternative_unasked w.0.test m a u ss s e)))
       (runs-join (group_lines g) (inert_run g w.1 turn refl) (inert_branches_run bs w.2 a u ss turn refl e))
 
 -- ---- after a fault no line changes the state or the fault
@@ -363,38 +340,14 @@ module _ (x : Context) where
     pub decides : Decides x s l says
     pub opens : n ≡ opened_as (taking ss s) says
 
-  opens_by_name : (l : Line) (s : State) (ss : List (Bool × Bool)) (n : Machine) (test : List ℕ → Bool)
-      → ((name : List ℕ) → operand_of l ≡ Some name → Decides x s l (Ok (test name)))
-      → (operand_of l ≡ None → Decides x s l (Err (refusal s l BadDirective)))
-      → n ≡ opened_by_name (taking ss s) l test (operand_of l)
-      → (operand : Option (List ℕ)) → operand_of l ≡ operand → OpensTaken l s ss n
-  opens_by_name l s ss n test some none steps None e = record {
-    says = Err (refusal s l BadDirective);
-    decides = none e;
-    opens = steps ∙ ap (opened_by_name (taking ss s) l test) e;
-  }
-  opens_by_name l s ss n test some none steps (Some name) e = record {
-    says = Ok (test name);
-    decides = some name e;
-    opens = steps ∙ ap (opened_by_name (taking ss s) l test) e;
-  }
-
-  pub opens_taken_by : (l : Line) (s : State) → HasHash l → (c : Conditional) → conditional_of l ≡ Some c → is_opening c ≡ true
-      → (ss : List (Bool × Bool)) {n : Machine} → Takes x (taking ss s) l n → OpensTaken l s ss n
-  opens_taken_by l s has If named o ss taking_it =
-      let does = takes_conditional named taking_it in
+  pub opens_taken : (l : Line) (s : State) → Opens l → (ss : List (Bool × Bool)) {n : Machine} → Takes x (taking ss s) l n → OpensTaken l s ss n
+  opens_taken l s o ss taking_it =
+      let does = takes_conditional o.named taking_it in
       record {
         says = does.decision;
-        decides = does.answers.asked (ap (asks_by (taking ss s)) named);
-        opens = does.is ∙ step_is (taking ss s) l does.decision named;
+        decides = does.answers.asked (ap (asks_by (taking ss s)) o.named);
+        opens = does.is ∙ step_is (taking ss s) l does.decision o.named;
       }
-  opens_taken_by l s has Ifdef named o ss {n} taking_it =
-      opens_by_name l s ss n (is_taken s.macros true) (λ name e. if_defined name named e) (λ e. no_name (refusal s l BadDirective) (inl named) e (refused_at s l BadDirective has (conditional-some l named))) (takes_unasked named refl taking_it) (operand_of l) refl
-  opens_taken_by l s has Ifndef named o ss {n} taking_it =
-      opens_by_name l s ss n (is_taken s.macros false) (λ name e. if_undefined name named e) (λ e. no_name (refusal s l BadDirective) (inr named) e (refused_at s l BadDirective has (conditional-some l named))) (takes_unasked named refl taking_it) (operand_of l) refl
-  opens_taken_by l s has Elif named o ss taking_it = cc
-  opens_taken_by l s has Else named o ss taking_it = cc
-  opens_taken_by l s has Endif named o ss taking_it = cc
 
   -- one part of the lines, and then what follows
   module _ (first : State → Result State Fault → Type 0) {second whole : State → Result State Fault → Type 0} (ys : List Line) (s : State) where
@@ -587,7 +540,7 @@ module _ (x : Context) where
         (plain_takes l s has.0 w.0 ss parts.1) parts.2
     follows (section h g bs rest) w has s ss n ran =
         let first = runs-more ran in
-        let o = opens_taken_by h s has.0 w.0.conditional w.0.named w.0.opening ss first.1 in
+        let o = opens_taken h s w.0 ss first.1 in
         let parts = hashes-parts (group_lines g ++ branch_lines bs) (group_lines rest) has.1 in
         let inner = hashes-parts (group_lines g) (branch_lines bs) parts.0 in
         section_follows h g bs rest s w o.says o.decides (follows g w.1 inner.0 s) (follows_branches bs w.2 inner.1 s) (λ t. follows rest w.3 parts.1 t) ss n o.opens first.2
@@ -612,7 +565,7 @@ module _ (x : Context) where
         }
     follows_branches (alternative h g bs) w has s active ss n ran =
         let parts = runs-more ran in
-        let does = takes_conditional w.0 parts.1 in
+        let does = takes_conditional w.0.named parts.1 in
         let inner = hashes-parts (group_lines g) (branch_lines bs) has.1 in
-        branch_follows h g bs s w does.decision (does.answers.asked (ap (asks_by (untaken active ss s)) w.0))
-        (follows g w.1 inner.0 s) (follows_branches bs w.2 inner.1 s) active ss n (does.is ∙ step_is (untaken active ss s) h does.decision w.0) parts.2
+        branch_follows h g bs s w does.decision (does.answers.asked (ap (asks_by (untaken active ss s)) w.0.named))
+        (follows g w.1 inner.0 s) (follows_branches bs w.2 inner.1 s) active ss n (does.is ∙ step_is (untaken active ss s) h does.decision w.0.named) parts.2

@@ -7,7 +7,7 @@ use Rattle.std.proofs.lemmas.Option.{slice_get-get_or}
 use Rattle.std.specs.Option.{option_map}
 use Rattle.std.specs.Prelude.{is_none, slice_range, unwrap_or, MatchBool}
 use Rattle.c11_directives.specs.declared.directive.Conditional.{Conditional}
-use Rattle.c11_directives.specs.declared.directive.Conditional.TheVariants.{If, Ifdef, Ifndef, Elif, Else, Endif}
+use Rattle.c11_directives.specs.declared.directive.Conditional.TheVariants.{Opening, Alternative, Else, Endif}
 use Rattle.c11_directives.specs.Lines.{Line, conditional_in, conditional_of, Opens, Group, IsTree}
 use Rattle.sc_lines.specs.declared.line.Branch.{Branch}
 use Rattle.sc_lines.specs.declared.line.Line as declared
@@ -17,11 +17,11 @@ use Rattle.sc_lines.proofs.Judging.{same_at, same_length}
 use Rattle.c11_directives.specs.Pre.{Context}
 use Rattle.sc_prep.specs.Machine.{Machine, acts, turned, opened, next_branch, ended, Takes, Runs}
 use Rattle.sc_prep.specs.Passes.{StandFor, EndsAt, PassesOver, nothing, whole_group, plain_line, whole_section}
-use Rattle.sc_prep.proofs.Machine.{runs-join, runs-once, unasked_taken, elif_unasked, inert_run, inert_taken, inert_line_taken, inert_opens, and_false}
+use Rattle.sc_prep.proofs.Machine.{runs-join, runs-once, unasked_taken, alternative_unasked, inert_run, inert_taken, inert_line_taken, inert_opens, and_false}
 
 -- ---- the machine
 
--- the next branch, which the machine doesn't act in: that of an #elif is left to be taken
+-- the next branch, which the machine doesn't act in: an alternative is left to be taken
 record BranchInert (x : Context) (m : Machine) (l : Line) (a u : Bool) (ss : List (Bool × Bool)) : Type 0 where
   active : Bool
   untaken : Bool
@@ -32,13 +32,11 @@ record BranchInert (x : Context) (m : Machine) (l : Line) (a u : Bool) (ss : Lis
 branch-inert : {x : Context} (m : Machine) (l : Line) (c : Option Conditional) (a u : Bool) (ss : List (Bool × Bool)) → conditional_of l ≡ c → begins_branch c ≡ true → ends_branch c ≡ true
     → m.sections ≡ (a, u) ∷ ss → (u && is_none m.fault) ≡ false → BranchInert x m l a u ss
 branch-inert m l None a u ss e begins ends s inactive = cc
-branch-inert m l (Some If) a u ss e begins ends s inactive = cc
-branch-inert m l (Some Ifdef) a u ss e begins ends s inactive = cc
-branch-inert m l (Some Ifndef) a u ss e begins ends s inactive = cc
-branch-inert {x} m l (Some Elif) a u ss e begins ends s inactive = record {
+branch-inert m l (Some (Opening test)) a u ss e begins ends s inactive = cc
+branch-inert {x} m l (Some (Alternative test)) a u ss e begins ends s inactive = record {
   active = false;
   untaken = u;
-  taken = subst (Takes x m l) (ap (next_branch m false) s) (unasked_taken e (elif_unasked m a u ss s inactive));
+  taken = subst (Takes x m l) (ap (next_branch m false) s) (unasked_taken e (alternative_unasked test m a u ss s inactive));
   inactive = refl;
   later = inactive;
 }
@@ -148,16 +146,12 @@ module _ (ms : List Line) where
   over-more : (i j : ℕ) (c : Option Conditional) (branch : Option Branch) → conditional_of (line_at ms j) ≡ c → ends_branch c ≡ false → HasBranch ms j branch → j < length ms
       → PassesOver ms i j → PassesOver ms i (unwrap_or (option_map (λ b. b.close) branch) j + 1)
   over-more i j None None e ends has within over = plain_line over within e
-  over-more i j (Some If) None e ends has within over = let begins = ap begins_branch e in cc
-  over-more i j (Some Ifdef) None e ends has within over = let begins = ap begins_branch e in cc
-  over-more i j (Some Ifndef) None e ends has within over = let begins = ap begins_branch e in cc
-  over-more i j (Some Elif) branch e ends has within over = cc
+  over-more i j (Some (Opening test)) None e ends has within over = let begins = ap begins_branch e in cc
+  over-more i j (Some (Alternative test)) branch e ends has within over = cc
   over-more i j (Some Else) branch e ends has within over = cc
   over-more i j (Some Endif) branch e ends has within over = cc
   over-more i j None (Some branch) e ends has within over = let here = has.next.begins in let begins = ap begins_branch e in cc
-  over-more i j (Some If) (Some branch) e ends has within over = whole_section over within (record { conditional = If; named = e; opening = refl }) has.close
-  over-more i j (Some Ifdef) (Some branch) e ends has within over = whole_section over within (record { conditional = Ifdef; named = e; opening = refl }) has.close
-  over-more i j (Some Ifndef) (Some branch) e ends has within over = whole_section over within (record { conditional = Ifndef; named = e; opening = refl }) has.close
+  over-more i j (Some (Opening test)) (Some branch) e ends has within over = whole_section over within (record { test = test; named = e }) has.close
 
   module _ (found : List declared.Line) (stand : StandFor ms found) where
     found-long : length ms ≡ length found

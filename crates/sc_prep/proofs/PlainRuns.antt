@@ -5,7 +5,7 @@ use Rattle.std.proofs.lemmas.Option.{slice_get_within, unwrap_or-slice_get}
 use Rattle.std.specs.List.{AllByRecursion as Every}
 use Rattle.std.specs.Prelude.{IfOk, is_none, if◌then◌else◌}
 use Rattle.c11_directives.specs.declared.directive.Conditional.{Conditional}
-use Rattle.c11_directives.specs.declared.directive.Conditional.TheVariants.{If, Ifdef, Ifndef, Elif, Else, Endif}
+use Rattle.c11_directives.specs.declared.directive.Conditional.TheVariants.{Opening, Alternative, Else, Endif}
 use Rattle.c11_directives.specs.declared.directive.Directive.{Directive}
 use Rattle.c11_directives.specs.declared.directive.Directive.TheVariants as directive
 use Rattle.c11_directives.specs.Behind.{behind_name}
@@ -32,7 +32,7 @@ use Rattle.sc_model.specs.Sets.{Sets, Keeps}
 use Rattle.sc_model.proofs.SetLemmas.{IsConfig-kept}
 use Rattle.sc_model.specs.Token.{Token}
 use Rattle.sc_prep.specs.declared.walk.Walk.{Walk}
-use Rattle.sc_prep.specs.Machine.{Machine, acts, closing_run, opened_as, opened_by_name, next_branch, branched_as, ended, defined_over, defined_as, changed_by, changing, plain_by, is_taken, step_by, arriving, Takes, takes, closes, carries, Runs}
+use Rattle.sc_prep.specs.Machine.{Machine, acts, closing_run, opened_as, next_branch, branched_as, ended, defined_over, defined_as, changed_by, changing, plain_by, is_taken, step_by, arriving, Takes, takes, closes, carries, Runs}
 use Rattle.sc_prep.specs.Machine as machine
 use Rattle.sc_prep.specs.declared.entry.Entry.{Entry}
 use Rattle.sc_prep.specs.Printable.{ArePlainPaths, IsPlaced, IsPlainOrNewline, IsPlainState, IsPlainToken, ClosesPlain}
@@ -88,10 +88,6 @@ opened-plain : (m : Machine) (r : Result Bool Fault) → IsPlainState m.state �
 opened-plain m (Ok test) plain = plain
 opened-plain m (Err fault) plain = plain
 
-by_name-plain : (m : Machine) (l : Line) (test : List ℕ → Bool) (o : Option (List ℕ)) → IsPlainState m.state → IsPlainState (opened_by_name m l test o).state
-by_name-plain m l test None plain = plain
-by_name-plain m l test (Some name) plain = plain
-
 next-plain : (m : Machine) (test : Bool) (ss : List (Bool × Bool)) → IsPlainState m.state → IsPlainState (next_branch m test ss).state
 next-plain m test [] plain = plain
 next-plain m true (s ∷ ss) plain = plain
@@ -107,10 +103,8 @@ ended-plain m (s ∷ ss) plain = plain
 
 step-plain : (m : Machine) (l : Line) (r : Result Bool Fault) (c : Option Conditional) → IsPlainState m.state → Every IsPlainToken l.tokens → IsPlainState (step_by m l r c).state
 step-plain m l r None plain all = plain_by-plain m l l.directive plain all
-step-plain m l r (Some If) plain all = opened-plain m r plain
-step-plain m l r (Some Ifdef) plain all = by_name-plain m l (is_taken m.state.macros true) (operand_of l) plain
-step-plain m l r (Some Ifndef) plain all = by_name-plain m l (is_taken m.state.macros false) (operand_of l) plain
-step-plain m l r (Some Elif) plain all = branched-plain m r plain
+step-plain m l r (Some (Opening test)) plain all = opened-plain m r plain
+step-plain m l r (Some (Alternative test)) plain all = branched-plain m r plain
 step-plain m l r (Some Else) plain all = next-plain m true m.sections plain
 step-plain m l r (Some Endif) plain all = ended-plain m m.sections plain
 

@@ -3,7 +3,7 @@ use Rattle.std.proofs.Common.{◌≡◌, ℕ, ◌&&◌, not, Bool, true, false, 
 use Rattle.std.proofs.lemmas.List.{reverse-append, map-append}
 use Rattle.std.proofs.lemmas.List.Elements.{All-head, All-tail, All-push, All-pop, All-append, All-map, All-weaker}
 use Rattle.std.specs.Option.{option_to_list}
-use Rattle.std.specs.Prelude.{All, is_none, is_some, if◌then◌else◌}
+use Rattle.std.specs.Prelude.{All, is_none, if◌then◌else◌}
 use Rattle.sc_model.specs.declared.cause.Cause.{Cause}
 use Rattle.sc_table.specs.declared.table.MacroTable.{MacroTable}
 use Rattle.sc_table.specs.Change.{IsOther}
@@ -13,7 +13,7 @@ use Rattle.sc_base.specs.declared.fault.Fault as base
 use Rattle.sc_base.specs.declared.id.Cond.{Cond}
 use Rattle.sc_prep.specs.declared.walk.Section.{Section}
 use Rattle.sc_prep.specs.declared.walk.Walk.{Walk}
-use Rattle.sc_prep.specs.Machine.{Machine, acts, acting, opened, next_branch, ended, turned, refusing, refusing_if, refusal, acting_unless, changing, defined_as, defined_over, is_taken, plain_by, refusal_of}
+use Rattle.sc_prep.specs.Machine.{Machine, acts, acting, opened, next_branch, ended, turned, refusing, refusing_if, refusal, acting_unless, changing, defined_as, defined_over, plain_by, refusal_of}
 use Rattle.sc_prep.specs.Closes.{RefusesEach, has_none}
 use Rattle.sc_prep.specs.Simulates.{section_at, Simulates, OwnsSection, Owns, SimulatesStep}
 use Rattle.sc_lines.specs.Nests.{seen_line}
@@ -519,17 +519,6 @@ and-swapped true true = refl
 and-swapped true false = refl
 and-swapped false true = refl
 and-swapped false false = refl
-
--- a section that a name opens where the table has the machine's macros
-pub taken-as : (m : Machine) (macros : Macros) (wanted : Bool) (name : List ℕ) (b : Bool) → b ≡ acts m → (m.fault ≡ None → macros name ≡ m.state.macros name)
-    → opened m (is_taken macros wanted name && b) ≡ opened m (acts m && is_taken m.state.macros wanted name)
-taken-as m macros wanted name b is same = ap (opened m) (ap (λ a. is_taken macros wanted name && a) is ∙ by (acts m) refl)
-  where
-    by : (a : Bool) → acts m ≡ a → (is_taken macros wanted name && a) ≡ (a && is_taken m.state.macros wanted name)
-    by true e =
-        and-swapped (is_taken macros wanted name) true
-        ∙ ap (λ (d : Option Definition). if wanted then is_some d else not (is_some d)) (same (acts_none true m.active m.fault e))
-    by false e = and-swapped (is_taken macros wanted name) false
 
 -- ---- a directive that has no effect, or is not carried out
 

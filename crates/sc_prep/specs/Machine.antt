@@ -4,8 +4,10 @@ use Rattle.std.specs.Option.{option_map}
 use Rattle.sc_model.specs.declared.cause.Cause.{Cause}
 use Rattle.sc_model.specs.declared.cause.Cause.TheVariants.{BadDirective, ErrorDirective, Redefined}
 use Rattle.c11_directives.specs.declared.directive.Conditional.{Conditional}
-use Rattle.c11_directives.specs.declared.directive.Conditional.TheVariants.{If, Ifdef, Ifndef, Elif, Else, Endif}
+use Rattle.c11_directives.specs.declared.directive.Conditional.TheVariants.{Opening, Alternative, Else, Endif}
 use Rattle.c11_directives.specs.declared.directive.Directive.{Directive}
+use Rattle.c11_directives.specs.declared.directive.Test.{Test}
+use Rattle.c11_directives.specs.declared.directive.Test.TheVariants as tests
 use Rattle.c11_directives.specs.declared.directive.Directive.TheVariants as directive
 use Rattle.c11_directives.specs.Lines.{Line, conditional_of, hash_of}
 use Rattle.sc_model.specs.Fault.{Fault, fault_at, first_place}
@@ -58,10 +60,6 @@ turned m active sections = record m { active = active; sections = sections }
 -- a section begins, and its first branch is taken where the test holds
 abbrev pub opened : Machine → Bool → Machine
 opened m test = turned m (m.active && test) ((m.active, m.active && not test) ∷ m.sections)
-
-abbrev pub opened_by_name : Machine → Line → (List ℕ → Bool) → Option (List ℕ) → Machine
-opened_by_name m l test None = opened (refusing m l BadDirective) false
-opened_by_name m l test (Some name) = opened m (acts m && test name)
 
 -- a section begins with this decision
 abbrev pub opened_as : Machine → Result Bool Fault → Machine
@@ -129,30 +127,32 @@ plain_by m l (Some d) = if is_barrier d then changing m l (changed_by m.state.ma
 abbrev pub plain_step : Machine → Line → Machine
 plain_step m l = plain_by m l l.directive
 
--- whether a branch is taken that wants the name defined, or undefined
+-- the test that wants the name defined, or undefined
+abbrev pub name_test : Bool → Test
+name_test wanted = if wanted then tests.Defined else tests.Undefined
+
+-- whether a branch is taken by such a test
 abbrev pub is_taken : Macros → Bool → List ℕ → Bool
 is_taken macros wanted name = if wanted then is_some (macros name) else not (is_some (macros name))
 
 -- what a line does whose decision is this, where it has one
 abbrev pub step_by : Machine → Line → Result Bool Fault → Option Conditional → Machine
 step_by m l r None = plain_step m l
-step_by m l r (Some If) = opened_as m r
-step_by m l r (Some Ifdef) = opened_by_name m l (is_taken m.state.macros true) (operand_of l)
-step_by m l r (Some Ifndef) = opened_by_name m l (is_taken m.state.macros false) (operand_of l)
-step_by m l r (Some Elif) = branched_as m r
+step_by m l r (Some (Opening test)) = opened_as m r
+step_by m l r (Some (Alternative test)) = branched_as m r
 step_by m l r (Some Else) = next_branch m true m.sections
 step_by m l r (Some Endif) = ended m m.sections
 
 abbrev pub step : Machine → Line → Result Bool Fault → Machine
 step m l r = step_by m l r (conditional_of l)
 
--- The expression of a line is evaluated: that of an #elif only where its section took no branch.
+-- The test of a line is decided: that of an alternative only where its section took no branch.
 abbrev pub asks_by : Machine → Option Conditional → Bool
-asks_by m (Some If) = acts m
-asks_by m (Some Elif) = acts (next_branch m true m.sections)
+asks_by m (Some (Opening test)) = acts m
+asks_by m (Some (Alternative test)) = acts (next_branch m true m.sections)
 asks_by m _ = false
 
--- what the line decides where its expression is evaluated; elsewhere it takes nothing
+-- what the line decides where its test is; elsewhere it takes nothing
 pub record Answers (x : Context) (m : Machine) (l : Line) (r : Result Bool Fault) : Type 0 where
   pub asked : asks_by m (conditional_of l) ≡ true → Decides x m.state l r
   pub not_asked : asks_by m (conditional_of l) ≡ false → r ≡ Ok false

@@ -17,7 +17,7 @@ ghost use Rattle.sc_model.specs.Growth.{Extends};
 ghost use Rattle.sc_prep.specs.Apart.{GathersFrom, StandApart, tokens_in};
 ghost use Rattle.sc_prep.specs.Footprints.{ComesAt, StopsWalk, any_machine};
 ghost use Rattle.sc_prep.specs.Machine as machine;
-ghost use Rattle.sc_prep.specs.Machine.{Decided, Takes, acts, changed_by, changing, defined_as, ends_run, is_taken, plain_by, opened_by_name, refusing, opened};
+ghost use Rattle.sc_prep.specs.Machine.{Decided, Takes, acts, changed_by, changing, defined_as, ends_run, plain_by};
 ghost use Rattle.sc_prep.specs.Simulates.{Owns, SimulatesOneOf, SimulatesStep};
 ghost use Rattle.sc_lines.specs.Nests.{seen_line};
 ghost use Rattle.sc_prep.specs.Printable.{AllPass, ClosesPlain, IsHeldWalk, IsPlaced, StaysHeld, any_token, is_plain};
@@ -186,88 +186,18 @@ impl Walk {
         ensures names { Extends names.old names.new }
     {
         match conditional {
-            Conditional::If => self.if_section(alloc, conds, names, files, limit, line),
-            Conditional::Elif => self.elif_branch(alloc, conds, names, files, limit, line),
-            Conditional::Ifdef => self.named_section(conds, names, line, true),
-            Conditional::Ifndef => self.named_section(conds, names, line, false),
+            Conditional::Opening(test) => {
+                self.open_section(alloc, conds, names, files, limit, line, test)
+            }
+            Conditional::Alternative(test) => {
+                self.continue_section(alloc, conds, names, files, limit, line, test)
+            }
             Conditional::Else => {
                 let always = conds.always();
                 Ok(self.begin_branch(conds, always)?)
             }
             Conditional::Endif => Ok(self.end_section(conds)?),
         }
-    }
-
-    /// A section whose first directive names nothing.
-    #[tactic(auto, using(sc_model::proofs::SetLemmas::conditions))]
-    fn refused_section<C: Conditions>(&mut self, conds: &mut C, line: &[Token]) -> Result<(), Stop>
-        requires owns { Owns (C.sets conds.old) self.old }
-        requires line { 0 < length line.now }
-        ensures printable { OnOk result ((names : List (List ℕ)) → StaysHeld names line.now self.old self.new) }
-        ensures moved { OnOk result ((names : List (List ℕ)) → SimulatesStep names (C.sets conds.old) self.old (C.sets conds.new) self.new
-            (λ files config m. opened (refusing m (seen_line names files line.now) BadDirective) false)) }
-        ensures list { OnOk result (self.new.prepared.list ≡ self.old.prepared.list) }
-        ensures memory { IfErr result (λ s. s ≡ stop.OutOfMemory) }
-        ensures gathered { OnOk result (self.new.gathered ≡ self.old.gathered) }
-        ensures keeps { Keeps (C.sets conds.old) (C.sets conds.new) }
-    {
-        self.refuse_all(conds, Cause::BadDirective, line)?;
-        let never = conds.never();
-        self.begin_section(conds, never)?;
-        Ok(())
-    }
-
-    /// A section whose first branch is taken where a name is defined, or where it is not.
-    #[tactic(auto, using(sc_model::proofs::SetLemmas::conditions))]
-    fn named_section<C: Conditions>(
-        &mut self,
-        conds: &mut C,
-        names: &Names,
-        line: &[Token],
-        wanted: bool,
-    ) -> Result<(), Stop>
-        requires held { All (IsHeld names.now) line.now }
-        requires owns { Owns (C.sets conds.old) self.old }
-        requires table { IsTable (C.sets conds.old) names.now self.old.table }
-        requires line { 0 < length line.now }
-        ensures printable { OnOk result (StaysHeld names.now line.now self.old self.new) }
-        ensures moved { OnOk result (SimulatesStep names.now (C.sets conds.old) self.old (C.sets conds.new) self.new
-            (λ files config m. opened_by_name m (seen_line names.now files line.now) (is_taken m.state.macros wanted) (operand_of (seen_line names.now files line.now)))) }
-        ensures list { OnOk result (self.new.prepared.list ≡ self.old.prepared.list) }
-        ensures memory { IfErr result (λ s. s ≡ stop.OutOfMemory) }
-        ensures gathered { OnOk result (self.new.gathered ≡ self.old.gathered) }
-        ensures keeps { Keeps (C.sets conds.old) (C.sets conds.new) }
-    {
-        match operand(names, line) {
-            None => self.refused_section(conds, line),
-            Some(name) => self.section_of_name(conds, names, name, wanted),
-        }
-    }
-
-    /// A section whose first branch is taken where this name is defined, or where it is not.
-    #[tactic(auto, using(sc_model::proofs::SetLemmas::conditions))]
-    fn section_of_name<C: Conditions>(
-        &mut self,
-        conds: &mut C,
-        names: &Names,
-        name: Name,
-        wanted: bool,
-    ) -> Result<(), Stop>
-        requires held { name.0 < length names.now }
-        requires owns { Owns (C.sets conds.old) self.old }
-        requires table { IsTable (C.sets conds.old) names.now self.old.table }
-        ensures printable { OnOk result ((line : List base.Token) → StaysHeld names.now line self.old self.new) }
-        ensures moved { OnOk result (SimulatesStep names.now (C.sets conds.old) self.old (C.sets conds.new) self.new
-            (λ files config m. opened m (acts m && is_taken m.state.macros wanted (text_at names.now name.0)))) }
-        ensures list { OnOk result (self.new.prepared.list ≡ self.old.prepared.list) }
-        ensures memory { IfErr result (λ s. s ≡ stop.OutOfMemory) }
-        ensures gathered { OnOk result (self.new.gathered ≡ self.old.gathered) }
-        ensures keeps { Keeps (C.sets conds.old) (C.sets conds.new) }
-    {
-        let taken = taken(conds, names, &mut self.table, name, wanted)?;
-        let test = conds.apply_and(taken, self.acting)?;
-        self.begin_section(conds, test)?;
-        Ok(())
     }
 
     /// A line that is no conditional directive.
@@ -435,36 +365,8 @@ fn barrier_in(directive: Option<Directive>) -> Option<Directive>
     }
 }
 
-/// The configurations that define this name, or those that don't.
-#[tactic(auto, using(sc_model::proofs::SetLemmas::conditions))]
-fn taken<C: Conditions>(
-    conds: &mut C,
-    names: &Names,
-    table: &mut MacroTable,
-    name: Name,
-    wanted: bool,
-) -> Result<Cond, Stop>
-    requires table { IsTable (C.sets conds.old) names.now table.old }
-    requires held { name.0 < length names.now }
-    ensures own { IfOk result (λ r. IsCond (C.sets conds.new) r.0) }
-    ensures meaning { IfOk result (λ r. Denotes (C.sets conds.new) r.0 (λ c. is_taken (macros_at (C.sets conds.old) names.now table.old c) wanted (text_at names.now name.0))) }
-    ensures memory { IfErr result (λ s. s ≡ stop.OutOfMemory) }
-
-    // at every outcome
-    ensures table { IsTable (C.sets conds.new) names.now table.new }
-    ensures still { IsStill (C.sets conds.old) (C.sets conds.new) names.now table.old table.new }
-    ensures keeps { Keeps (C.sets conds.old) (C.sets conds.new) }
-{
-    let found = table.defined(conds, names, name)?;
-    if wanted {
-        Ok(found)
-    } else {
-        Ok(conds.negate(found)?)
-    }
-}
-
 /// The identifier after the directive's name.
-fn operand(names: &Names, line: &[Token]) -> Option<Name>
+pub fn operand(names: &Names, line: &[Token]) -> Option<Name>
     requires { All (IsHeld names.now) line.now }
     ensures text { (files : List (List ℕ)) → option_map (λ n. text_at names.now n.0) result ≡ operand_of (seen_line names.now files line.now) }
     ensures own { IfSome result (λ n. n.0 < length names.now) }

@@ -1,8 +1,8 @@
 //! The expression of a line under all configurations at once (C11 6.10.1).
-ghost use Rattle.std.specs.Prelude.{◌≡◌, ◌<◌, ◌∷◌, ◌&&◌, ◌⊎◌, All, List, ℕ, Some, IfErr, IfOk, OnOk, Result, is_none, length, map, true};
-ghost use Rattle.c11_directives.specs.declared.directive.Conditional.TheVariants as conditional;
+ghost use Rattle.std.specs.Prelude.{◌≡◌, ◌<◌, ◌∷◌, ◌&&◌, All, List, ℕ, Some, IfErr, IfOk, OnOk, Result, is_none, length, map, true};
+ghost use Rattle.c11_directives.specs.declared.directive.Test.TheVariants.{Expression};
 ghost use Rattle.c11_directives.specs.Footprints.{DirectiveHas, NameHas};
-ghost use Rattle.c11_directives.specs.Lines.{conditional_of};
+ghost use Rattle.c11_directives.specs.Lines.{test_of};
 ghost use Rattle.c11_directives.specs.Pre.{Context};
 ghost use Rattle.c11_macros.specs.Text.{TextExpands};
 ghost use Rattle.sc_base.specs.declared.stop.Stop.TheVariants as stop;
@@ -37,7 +37,7 @@ impl Walk {
     /// The configurations of `among` for which the expression of this line holds. Those for which
     /// it fails are refused, and those refused before are not asked.
     #[tactic(auto, using(sc_model::proofs::SetLemmas::conditions))]
-    pub fn decision<C: Conditions>(
+    pub fn decide_expression<C: Conditions>(
         &mut self,
         alloc: Global,
         conds: &mut C,
@@ -48,7 +48,7 @@ impl Walk {
         among: Cond,
     ) -> Result<Cond, Stop>
         requires placed { All (IsPlaced names.old (length files.now)) line.now }
-        requires line { (conditional_of (seen_line names.old files.now line.now) ≡ Some conditional.If) ⊎ (conditional_of (seen_line names.old files.now line.now) ≡ Some conditional.Elif) }
+        requires line { test_of (seen_line names.old files.now line.now) ≡ Some Expression }
         requires among_own { IsCond (C.sets conds.old) among.0 }
         requires owns { Owns (C.sets conds.old) self.old }
         requires table { IsTable (C.sets conds.old) names.old self.old.table }

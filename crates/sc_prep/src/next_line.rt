@@ -55,6 +55,6 @@ fn ends_branch(line: &Line) -> bool
 {
     matches!(
         line.conditional(),
-        Some(Conditional::Elif | Conditional::Else | Conditional::Endif)
+        Some(Conditional::Alternative(_) | Conditional::Else | Conditional::Endif)
     )
 }

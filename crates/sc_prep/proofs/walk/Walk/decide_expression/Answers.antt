@@ -1,4 +1,4 @@
-use Rattle.std.proofs.Common.{ℕ, ◌≡◌, ◌⊎◌, inl, inr, List, Some, get_or, rules, sym, subst, ap, ◌∙◌, length}
+use Rattle.std.proofs.Common.{ℕ, ◌≡◌, List, get_or, rules, sym, subst, ap, ◌∙◌, length}
 use Rattle.std.proofs.lemmas.List.{drop-map}
 use Rattle.std.proofs.lemmas.List.Elements.{All-drop, All-get_or}
 use Rattle.std.proofs.lemmas.Result.{IfErr-weaker, IfOk-weaker, on_ok_weaker}
@@ -13,8 +13,6 @@ use Rattle.sc_lines.specs.Nests.{seen_line}
 use Rattle.sc_model.proofs.SetLemmas.{Keeps-trans, Denotes-self, IsConfig-Keeps}
 use Rattle.sc_model.specs.declared.kind.Kind.TheVariants.{Identifier}
 use Rattle.sc_model.specs.Token as model
-use Rattle.c11_directives.specs.Lines.{conditional_of}
-use Rattle.c11_directives.specs.declared.directive.Conditional.TheVariants.{If, Elif}
 use Rattle.sc_base.specs.declared.id.Cond.{Cond}
 use Rattle.sc_model.specs.Sets.{Sets}
 use Rattle.sc_prep.specs.Apart.{StandApart}
@@ -26,21 +24,17 @@ use Rattle.sc_prep.specs.Simulates.{SimulatesOneOf}
 use Rattle.sc_prep.proofs.ApartLemmas.{apart-drop}
 use Rattle.sc_prep.proofs.DirectiveStops.{name-stops, part-stops}
 use Rattle.sc_prep.proofs.ExpressionMoves.{decides-by, decides-none}
-use Rattle.sc_prep.proofs.ExpressionSteps.{conditional-long, hash-line}
+use Rattle.sc_prep.proofs.ExpressionSteps.{asking-long, hash-line}
 use Rattle.sc_prep.proofs.WalkMoves.{owns-kept}
 use Rattle.sc_table.proofs.Growth.{IsTable-Keeps}
-use Rattle.sc_prep.proofs.walk.Walk.decision.Goals as goal
+use Rattle.sc_prep.proofs.walk.Walk.decide_expression.Goals as goal
 
 -- what stands past the last token
 abbrev no_token : Token
 no_token = record { kind = Identifier; name = record { 0 = 0 }; spelling = record { 0 = 0 }; space = false; place = record { file = record { 0 = 0 }; line = 0; column = 0 } }
 
-long : (names files : List (List ℕ)) (line : List Token) → (conditional_of (seen_line names files line) ≡ Some If) ⊎ (conditional_of (seen_line names files line) ≡ Some Elif) → 0 < length line
-long names files line (inl is) = conditional-long names files line is
-long names files line (inr is) = conditional-long names files line is
-
 pub bounds-line-0 : goal.bounds-line-0
-bounds-line-0 g c = long c.args.names.now c.args.files.now c.args.line.now c.requires.line
+bounds-line-0 g c = asking-long c.args.names.now c.args.files.now c.args.line.now c.requires.line
 
 pub replaced-requires-clause-held : goal.replaced-requires-clause-held
 replaced-requires-clause-held g c = subst (All (IsHeld c.args.names.now)) (sym c.behind_name-behind.ensures) (All-drop (IsHeld c.args.names.now) 2 c.args.line.now (λ k d h. (c.requires.placed k d h).held))
@@ -68,7 +62,7 @@ there names files line h placed = (All-get_or (IsPlaced names (length files)) li
 pub expanded-requires-clause-walk : goal.expanded-requires-clause-walk
 expanded-requires-clause-walk g c =
     c.in_ok-replaced.ensures.walk (length c.args.files.now)
-    (there c.args.names.now c.args.files.now c.args.line.now (long c.args.names.now c.args.files.now c.args.line.now c.requires.line) c.requires.placed) c.requires.walk
+    (there c.args.names.now c.args.files.now c.args.line.now (asking-long c.args.names.now c.args.files.now c.args.line.now c.requires.line) c.requires.placed) c.requires.walk
 
 pub evaluated-requires-clause-held : goal.evaluated-requires-clause-held
 evaluated-requires-clause-held g c = λ k d h. (c.in_ok-expanded.ensures.placed k d h).held
@@ -138,13 +132,13 @@ returns-clause-decides g c =
     let left : List ℕ → List model.Token = λ config. map (seen c.expanded.new.names files) (items_at s2 c.in_ok-expanded.expanded config) in
     IfOk-weaker c.evaluated.result _ _ (λ taken evaluates. λ x.
     decides-by files names k1 w c.requires.owns c.requires.table c.args.among c.in_ok-live.live live x l a.keeps b.keeps c.evaluated.ensures.keeps c.in_ok-live.ensures.own
-    hash c.requires.line (hash-line names files line no_token (long names files line c.requires.line)) text left (s3.has taken.0)
+    hash c.requires.line (hash-line names files line no_token (asking-long names files line c.requires.line)) text left (s3.has taken.0)
     (replaces-behind files names line s s1 w c.replaced.new.self c.behind_name-behind.result.now c.behind_name-behind.ensures c.in_ok-live.live c.in_ok-replaced.replaced (a.replaces files c.requires.walk))
     b.expands (evaluates files b.walk)) c.evaluated.ensures.evaluates
 
 pub returns-clause-walk : goal.returns-clause-walk
 returns-clause-walk g c = on_ok_weaker c.evaluated.result (λ stays.
-    stays (length c.args.files.now) (there c.args.names.now c.args.files.now c.args.line.now (long c.args.names.now c.args.files.now c.args.line.now c.requires.line) c.requires.placed) c.in_ok-expanded.ensures.walk)
+    stays (length c.args.files.now) (there c.args.names.now c.args.files.now c.args.line.now (asking-long c.args.names.now c.args.files.now c.args.line.now c.requires.line) c.requires.placed) c.in_ok-expanded.ensures.walk)
     c.evaluated.ensures.walk
 
 pub returns-clause-list : goal.returns-clause-list

@@ -1,6 +1,6 @@
 use Rattle.sc_table.proofs.Growth.{IsTable-Keeps}
 use Rattle.sc_prep.proofs.WalkMoves.{still-after}
-use Rattle.sc_prep.proofs.directives.taken.Goals as goal
+use Rattle.sc_prep.proofs.conditional.taken.Goals as goal
 
 pub returns-in_err-negate-clause-still : goal.returns-in_err-negate-clause-still
 returns-in_err-negate-clause-still g c = still-after c.args.table.now c.defined.new.self c.in_ok-found.ensures.keeps c.in_err-negate.ensures.keeps c.in_ok-found.ensures.table c.in_ok-found.ensures.still
