@@ -1,3 +1,4 @@
 pub mod Laying
 pub mod Pending
+pub mod Sizes
 pub mod Weights

@@ -78,7 +78,7 @@ pub fn project_tree<C: Conditions>(
 }
 
 /// A number that can't be given is want of memory.
-fn one_more(count: usize) -> Result<usize, OutOfMemory>
+pub fn one_more(count: usize) -> Result<usize, OutOfMemory>
     ensures { IfOk result (λ more. more ≡ count + 1) }
 {
     count.checked_add(1).ok_or(OutOfMemory)
