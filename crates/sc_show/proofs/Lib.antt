@@ -1,5 +1,6 @@
 pub mod ConflictLines
 pub mod Ending
+pub mod FaultCounting
 pub mod LinesChoices
 pub mod MergeFaults
 pub mod MergeOrdering
@@ -12,6 +13,7 @@ pub mod PrinterNumbers
 pub mod PrinterReading
 pub mod PrinterSteps
 pub mod ShownItems
+pub mod SummaryLines
 pub mod TokensEnding
 pub mod TokensItemLines
 pub mod TokensShows

@@ -1,9 +1,11 @@
 pub mod Conflicts
+pub mod FaultCount
 pub mod Order
 pub mod Pieces
 pub mod PlainText
 pub mod Prints
 pub mod Rules
 pub mod Shows
+pub mod Summary
 pub mod TreeRules
 pub mod TreeShows

@@ -1,8 +1,11 @@
 ghost use Rattle.std.specs.Prelude.{◌≡◌, ◌<◌, ◌++◌, ◌∷◌, ◌↔◌, [], ℕ, List, All, IsTrue, length, map, IfOk, OnOk};
+ghost use Rattle.std.specs.List.{Contains};
 ghost use Rattle.std.specs.List.Sorted.{IsPermutation};
 ghost use Rattle.sc_guarded.specs.Items.{faults_at, seen_fault};
 ghost use Rattle.sc_text.specs.Layout.{fault_order, IsAscending};
 ghost use Rattle.sc_model.specs.Sets.{IsConfig, IsCond, Keeps};
+ghost use Rattle.sc_model.specs.Fault as shown;
+ghost use Rattle.sc_show.specs.FaultCount.{AreFaultsOf};
 ghost use Rattle.sc_show.specs.Order.{IsKeyOf, IsInOrder, MayFollow, EndsWith};
 ghost use Rattle.sc_guarded.specs.Printable.{IsShowableFault, AreApart};
 
@@ -110,4 +113,40 @@ pub fn merged<C: Conditions>(
         add(conds, files, &mut merged, *fault)?;
     }
     Ok(merged)
+}
+
+/// How many pairs of cause and place the faults of configurations of so many variables have.
+pub fn count_faults<C: Conditions>(
+    alloc: Global,
+    conds: &C,
+    variables: usize,
+    files: &Files,
+    faults: &[Fault],
+) -> Result<usize, OutOfMemory>
+    requires variables { variables ≡ length (C.sets conds.now).arities }
+    requires faults { All (IsShowableFault (C.sets conds.now) files.now) faults.now }
+    ensures { IfOk result (λ count. (different : List shown.Fault) × AreFaultsOf (C.sets conds.now) files.now faults.now different × (length different ≡ count)) }
+{
+    let mut different = Vec::new(alloc);
+    for fault in faults {
+        let mut config = vec![in alloc; 0; variables]?;
+        if conds.example(fault.cond, &mut config) && !has_pair(files, &different, fault) {
+            different.push(*fault)?;
+        }
+    }
+    Ok(different.len())
+}
+
+/// Whether one of the faults has the same cause and place.
+fn has_pair(files: &Files, faults: &[Fault], fault: &Fault) -> bool
+    requires faults { All (λ fault. fault.place.file.0 < length files.now) faults.now }
+    requires fault { fault.now.place.file.0 < length files.now }
+    ensures { IsTrue result ↔ Contains (map (seen_fault files.now) faults.now) (seen_fault files.now fault.now) }
+{
+    for other in faults {
+        if is_same_pair(files, other, fault) {
+            return true;
+        }
+    }
+    false
 }
