@@ -17,7 +17,8 @@ use Rattle.sc_args.proofs.Steps.{IsFaultless, both, level_steps, not_empty}
 use Rattle.clap.specs.Takes.{is_given}
 use Rattle.clap.specs.declared.parser.matches.ValueSource.TheVariants.{CommandLine}
 use Rattle.sc_args.proofs.Values.{AllUsable, IsUsable, choices_are_full, finished_is_full, have_no_defaults, is_full, text_of_given, used_is_full, walk_is_full}
-use Rattle.sc_args.specs.Words.{Asked, asked_by, asked_of, asked_where, asked_with, bad_file, choices_in, choices_rule, conflicts, conflicts_app, file_app, is_file_name, parse, project, project_app, required_rule, superc_app, tokens, usage}
+use Rattle.std.specs.Str.Parse.{digits_value}
+use Rattle.sc_args.specs.Words.{Asked, asked_by, asked_of, asked_to_make, asked_where, asked_with, bad_count, bad_file, choices_in, choices_rule, conflicts, conflicts_app, file_app, is_count, is_file_name, make, make_app, parse, project, project_app, required_rule, superc_app, tokens, usage}
 
 abbrev has_text : Text → List Row → Bool
 has_text id rows = is_some (first_of id rows)
@@ -26,10 +27,14 @@ has_text id rows = is_some (first_of id rows)
 abbrev NamesOnFiles : Text → Text × List Row → Type 0
 NamesOnFiles name p = (p.0 ≡ name) × (has_text (codes "space") p.1 ≡ true) × (has_text (codes "file") p.1 ≡ true)
 
--- A command is named: one on two files, or `conflicts`.
+-- the command that makes a file, with its number
+abbrev NamesMake : Text × List Row → Type 0
+NamesMake p = (p.0 ≡ codes "make") × (has_text (codes "items") p.1 ≡ true)
+
+-- A command is named: one on two files, `conflicts`, or one that makes a file.
 abbrev NamesCommand : Option (Text × List Row) → Type 0
 NamesCommand None = ⊥
-NamesCommand (Some p) = NamesOnFiles (codes "tokens") p ⊎ (NamesOnFiles (codes "parse") p ⊎ (NamesOnFiles (codes "project") p ⊎ (p.0 ≡ codes "conflicts")))
+NamesCommand (Some p) = NamesOnFiles (codes "tokens") p ⊎ (NamesOnFiles (codes "parse") p ⊎ (NamesOnFiles (codes "project") p ⊎ ((p.0 ≡ codes "conflicts") ⊎ NamesMake p)))
 
 -- ---- the subcommand that a step names
 
@@ -158,11 +163,17 @@ record IsEntered (name : Text) (s : Shape) (p : Text × List Text) : Type 0 wher
   rows : entered whole (Some p) ≡ Some (rows_at s p.1)
   kinds : entered_fault whole (Some p) ≡ level_fault s [] nothing_held p.1 false []
 
+abbrev make_built : Shape
+make_built = built_leaf (inherited whole.top make_app.top)
+
 abbrev help_built : Shape
 help_built = built_leaf help_shape
 
+abbrev after_conflicts : List Shape
+after_conflicts = make_built ∷ help_built ∷ []
+
 abbrev after_project : List Shape
-after_project = conflicts_built ∷ help_built ∷ []
+after_project = conflicts_built ∷ after_conflicts
 
 abbrev after_parse : List Shape
 after_parse = project_built ∷ after_project
@@ -191,15 +202,16 @@ entered_as name s p e found = record {
 
 abbrev IsEnteredCommand : Text × List Text → Type 0
 IsEnteredCommand p = IsEntered (codes "tokens") (files_built (codes "tokens")) p ⊎ (IsEntered (codes "parse") (files_built (codes "parse")) p
-    ⊎ (IsEntered (codes "project") project_built p ⊎ IsEntered (codes "conflicts") conflicts_built p))
+    ⊎ (IsEntered (codes "project") project_built p ⊎ (IsEntered (codes "conflicts") conflicts_built p ⊎ IsEntered (codes "make") make_built p)))
 
 -- a name that a shape without aliases answers to
 named_so : (name : Text) (p : Text × List Text) → (bytes_eq name p.0 || false) ≡ true → bytes_eq name p.0 ≡ true
 named_so name p e = sym (or-false (bytes_eq name p.0)) ∙ e
 
-one_of_four : (p : Text × List Text) → bytes_eq p.0 (codes "help") ≡ false → is_some (entered whole (Some p)) ≡ true → IsEnteredCommand p
-one_of_four p no_help is_entered =
-    cases (answers p (files_built (codes "tokens"))) (answers p (files_built (codes "parse"))) (answers p project_built) (answers p conflicts_built) (answers p help_built) refl refl refl refl refl
+one_of_five : (p : Text × List Text) → bytes_eq p.0 (codes "help") ≡ false → is_some (entered whole (Some p)) ≡ true → IsEnteredCommand p
+one_of_five p no_help is_entered =
+    cases (answers p (files_built (codes "tokens"))) (answers p (files_built (codes "parse"))) (answers p project_built) (answers p conflicts_built) (answers p make_built) (answers p help_built) refl refl refl
+    refl refl refl
   where
     no_tokens : answers p (files_built (codes "tokens")) ≡ false → find (answers p) whole.subs ≡ find (answers p) after_tokens
     no_tokens e = found_later (answers p) (files_built (codes "tokens")) after_tokens e
@@ -210,25 +222,30 @@ one_of_four p no_help is_entered =
     no_project : answers p project_built ≡ false → find (answers p) after_parse ≡ find (answers p) after_project
     no_project e = found_later (answers p) project_built after_project e
 
-    no_conflicts : answers p conflicts_built ≡ false → find (answers p) after_project ≡ find (answers p) (help_built ∷ [])
-    no_conflicts e = found_later (answers p) conflicts_built (help_built ∷ []) e
+    no_conflicts : answers p conflicts_built ≡ false → find (answers p) after_project ≡ find (answers p) after_conflicts
+    no_conflicts e = found_later (answers p) conflicts_built after_conflicts e
 
-    cases : (a b c d e : Bool) → answers p (files_built (codes "tokens")) ≡ a → answers p (files_built (codes "parse")) ≡ b → answers p project_built ≡ c → answers p conflicts_built ≡ d
-        → answers p help_built ≡ e → IsEnteredCommand p
-    cases true b c d e ea eb ec ed ee =
+    no_make : answers p make_built ≡ false → find (answers p) after_conflicts ≡ find (answers p) (help_built ∷ [])
+    no_make e = found_later (answers p) make_built (help_built ∷ []) e
+
+    cases : (a b c d m e : Bool) → answers p (files_built (codes "tokens")) ≡ a → answers p (files_built (codes "parse")) ≡ b → answers p project_built ≡ c → answers p conflicts_built ≡ d
+        → answers p make_built ≡ m → answers p help_built ≡ e → IsEnteredCommand p
+    cases true b c d m e ea eb ec ed em ee =
         inl (entered_as (codes "tokens") (files_built (codes "tokens")) p (named_so (codes "tokens") p ea) (found_first (answers p) (files_built (codes "tokens")) after_tokens ea))
-    cases false true c d e ea eb ec ed ee = inr (inl (entered_as (codes "parse") (files_built (codes "parse")) p (named_so (codes "parse") p eb)
+    cases false true c d m e ea eb ec ed em ee = inr (inl (entered_as (codes "parse") (files_built (codes "parse")) p (named_so (codes "parse") p eb)
         (no_tokens ea ∙ found_first (answers p) (files_built (codes "parse")) after_parse eb)))
-    cases false false true d e ea eb ec ed ee = inr (inr (inl (entered_as (codes "project") project_built p (named_so (codes "project") p ec)
+    cases false false true d m e ea eb ec ed em ee = inr (inr (inl (entered_as (codes "project") project_built p (named_so (codes "project") p ec)
         (no_tokens ea ∙ (no_parse eb ∙ found_first (answers p) project_built after_project ec)))))
-    cases false false false true e ea eb ec ed ee = inr (inr (inr (entered_as (codes "conflicts") conflicts_built p (named_so (codes "conflicts") p ed)
-        (no_tokens ea ∙ (no_parse eb ∙ (no_project ec ∙ found_first (answers p) conflicts_built (help_built ∷ []) ed))))))
-    cases false false false false true ea eb ec ed ee =
+    cases false false false true m e ea eb ec ed em ee = inr (inr (inr (inl (entered_as (codes "conflicts") conflicts_built p (named_so (codes "conflicts") p ed)
+        (no_tokens ea ∙ (no_parse eb ∙ (no_project ec ∙ found_first (answers p) conflicts_built after_conflicts ed)))))))
+    cases false false false false true e ea eb ec ed em ee = inr (inr (inr (inr (entered_as (codes "make") make_built p (named_so (codes "make") p em)
+        (no_tokens ea ∙ (no_parse eb ∙ (no_project ec ∙ (no_conflicts ed ∙ found_first (answers p) make_built (help_built ∷ []) em))))))))
+    cases false false false false false true ea eb ec ed em ee =
         let is_help : bytes_eq p.0 (codes "help") ≡ true =
         (bytes_eq-Decides p.0 (codes "help")).1 (sym ((bytes_eq-Decides (codes "help") p.0).0 (named_so (codes "help") p ee))) in
         absurd (both_ways (bytes_eq p.0 (codes "help")) no_help is_help)
-    cases false false false false false ea eb ec ed ee =
-        let nothing : find (answers p) whole.subs ≡ None = no_tokens ea ∙ (no_parse eb ∙ (no_project ec ∙ (no_conflicts ed ∙ found_later (answers p) help_built [] ee))) in
+    cases false false false false false false ea eb ec ed em ee =
+        let nothing : find (answers p) whole.subs ≡ None = no_tokens ea ∙ (no_parse eb ∙ (no_project ec ∙ (no_conflicts ed ∙ (no_make em ∙ found_later (answers p) help_built [] ee)))) in
         absurd (both_ways (is_some (entered whole (Some p))) (ap (λ o. is_some (option_map (λ s. rows_at s p.1) o)) nothing) is_entered)
 
 -- ---- what the words name
@@ -313,13 +330,39 @@ entered_on_files name p e t =
     let have = both_have (files_built name) (files_usable name) refl (files_given name) p.1 (sym t.kinds ∙ e) in
     (refl, have.0, have.1)
 
+make_usable : AllUsable make_built.rules
+make_usable test a found = go (test (one_value_rule 1 (codes "items"))) (test help_flag) found
+  where
+    go : (x y : Bool) → cond x (Some (one_value_rule 1 (codes "items"))) (cond y (Some help_flag) None) ≡ Some a → IsUsable a
+    go true y e = subst IsUsable (ap (λ o. unwrap_or o help_flag) e) (takes_one 1 (codes "items"))
+    go false true e = subst IsUsable (ap (λ o. unwrap_or o help_flag) e) help_fails_always
+    go false false e = absurd (none-some a e)
+
+requires_items : (a : Bool) → (if not a || false then kind.MissingRequiredArgument ∷ [] else []) ≡ [] → a ≡ true
+requires_items true e = refl
+requires_items false e = absurd (not_empty kind.MissingRequiredArgument [] e)
+
+makes : (words : List Text) → level_fault make_built [] nothing_held words false [] ≡ [] → has_text (codes "items") (rows_after make_built.rules [] words) ≡ true
+makes words e =
+    text_of_given (codes "items") (finished make_built.rules end) refl
+    (finished_is_full make_built.rules make_usable make_built.args_override_self end refl steps.settles
+    (walk_is_full make_built make_usable [] words (walk_from nothing_held) steps.walks refl))
+    (requires_items (is_given (codes "items") (finished make_built.rules end)) steps.checks)
+  where
+    steps : IsFaultless make_built [] nothing_held words false []
+    steps = level_steps make_built [] nothing_held words false [] e
+
+    end : Held
+    end = (walk make_built.rules [] nothing_held words).held
+
 entered_command : (p : Text × List Text) → entered_fault whole (Some p) ≡ [] → IsEnteredCommand p → NamesCommand (entered whole (Some p))
 entered_command p e (inl t) = subst NamesCommand (sym t.rows) (inl (entered_on_files (codes "tokens") p e t))
 entered_command p e (inr (inl t)) = subst NamesCommand (sym t.rows) (inr (inl (entered_on_files (codes "parse") p e t)))
 entered_command p e (inr (inr (inl t))) =
     let have = both_have project_built project_usable refl project_given p.1 (sym t.kinds ∙ e) in
     subst NamesCommand (sym t.rows) (inr (inr (inl (refl, have.0, have.1))))
-entered_command p e (inr (inr (inr t))) = subst NamesCommand (sym t.rows) (inr (inr (inr refl)))
+entered_command p e (inr (inr (inr (inl t)))) = subst NamesCommand (sym t.rows) (inr (inr (inr (inl refl))))
+entered_command p e (inr (inr (inr (inr t)))) = subst NamesCommand (sym t.rows) (inr (inr (inr (inr (refl, makes p.1 (sym t.kinds ∙ e))))))
 
 faultless_words_name_a_command : (words : List Text) → fault_of superc_app words ≡ [] → NamesCommand (subcommand_of superc_app words)
 faultless_words_name_a_command words e = go (stop_in (argument_words superc_app words)) refl steps.enters
@@ -334,7 +377,7 @@ faultless_words_name_a_command words e = go (stop_in (argument_words superc_app 
     go : (o : Option (Text × List Text)) → stop_in (argument_words superc_app words) ≡ o → entered_fault whole o ≡ [] → is_some (entered whole o) ≡ true → NamesCommand (entered whole o)
     go None stops below is_entered = absurd (both_ways false refl is_entered)
     go (Some p) stops below is_entered = entered_command p below
-        (one_of_four p (walk_names_no_help whole.top (names_of whole) (argument_words superc_app words) (walk_from nothing_held) p refl refl steps.walks stops) is_entered)
+        (one_of_five p (walk_names_no_help whole.top (names_of whole) (argument_words superc_app words) (walk_from nothing_held) p refl refl steps.walks stops) is_entered)
 
 -- what is asked for by a command that is named
 asked_no_misuse : (asked : Asked) → Ok asked ≢ Err usage
@@ -349,6 +392,14 @@ both_asked command (Some space) (Some file) p q = by (is_file_name file)
 both_asked command None file p q = absurd (false≢true p)
 both_asked command (Some space) None p q = absurd (false≢true q)
 
+make_asked : (word : Option Text) → is_some word ≡ true → asked_to_make word ≢ Err usage
+make_asked (Some word) p = by (is_count word)
+  where
+    by : (b : Bool) → (if b then Ok (make (digits_value 10 word)) else Err bad_count) ≢ Err usage
+    by true e = cc
+    by false e = cc
+make_asked None p = absurd (false≢true p)
+
 named_is_asked : (found : Option (Text × List Row)) → NamesCommand found → asked_by found ≢ Err usage
 named_is_asked None never = absurd never
 named_is_asked (Some p) (inl t) = subst (λ name. asked_by (Some (name, p.1)) ≢ Err usage) (sym t.0)
@@ -357,7 +408,8 @@ named_is_asked (Some p) (inr (inl t)) = subst (λ name. asked_by (Some (name, p.
     (both_asked parse (first_of (codes "space") p.1) (first_of (codes "file") p.1) t.1 t.2)
 named_is_asked (Some p) (inr (inr (inl t))) = subst (λ name. asked_by (Some (name, p.1)) ≢ Err usage) (sym t.0)
     (both_asked (λ space file. project space file (choices_in p.1)) (first_of (codes "space") p.1) (first_of (codes "file") p.1) t.1 t.2)
-named_is_asked (Some p) (inr (inr (inr t))) = subst (λ name. asked_by (Some (name, p.1)) ≢ Err usage) (sym t) (λ e. asked_no_misuse conflicts e)
+named_is_asked (Some p) (inr (inr (inr (inl t)))) = subst (λ name. asked_by (Some (name, p.1)) ≢ Err usage) (sym t) (λ e. asked_no_misuse conflicts e)
+named_is_asked (Some p) (inr (inr (inr (inr t)))) = subst (λ name. asked_by (Some (name, p.1)) ≢ Err usage) (sym t.0) (make_asked (first_of (codes "items") p.1) t.1)
 
 pub taken_words_are_no_misuse : (words : List Text) → fault_of superc_app words ≡ [] → asked_of words ≢ Err usage
 unfolding asked_of

@@ -9,4 +9,5 @@ use Rattle.sc_args.specs.declared.stop.ArgsStop.TheVariants as stop
 abbrev pub RefusesFor : ErrorKind → ArgsStop → Type 0
 RefusesFor k (stop.Usage text) = k ≢ kind.OutOfMemory
 RefusesFor k stop.BadFile = ⊥
+RefusesFor k stop.BadCount = ⊥
 RefusesFor k stop.OutOfMemory = Unit {0}

@@ -1,13 +1,18 @@
-ghost use Rattle.std.specs.Prelude.{◌≡◌, List, ℕ, [], IfErr, IfOk, map, nat_le, option_map, string_bytes, unwrap_or};
+ghost use Rattle.std.specs.Prelude.{◌≡◌, List, ℕ, [], None, Some, IfErr, IfOk, codes, if◌then◌else◌, map, nat_le, option_map, string_bytes, unwrap_or};
 ghost use Rattle.std.specs.List.{list_all};
-ghost use Rattle.clap.specs.Words.{found_of, rows_of, subcommand_rows_of};
+ghost use Rattle.std.specs.Char.{is_ascii_digit};
+ghost use Rattle.std.specs.Str.Parse.{digits_value};
+ghost use Rattle.clap.specs.Words.{first_of, found_of, rows_of, subcommand_rows_of};
 ghost use Rattle.sc_args.specs.Seen.{Answers, Refuses};
-ghost use Rattle.sc_args.specs.Words.{Asked, asked_by, asked_of, asked_on_files, asked_with, choices_in, is_file_name, parse, project, tokens};
+ghost use Rattle.sc_args.specs.Words.{Asked, asked_by, asked_of, asked_on_files, asked_to_make, asked_with, choices_in, is_count, is_file_name, parse, project, tokens};
 ghost use Rattle.sc_args.specs.declared.stop.ArgsStop.TheVariants as stop;
 
 use crate::{ArgsStop, command_line};
 use clap::ArgMatches;
 use std::alloc::Global;
+
+/// The most items of a file that is made.
+const MOST_ITEMS: u32 = 100_000;
 
 /// What the words ask for.
 #[derive(Debug, Drop)]
@@ -30,6 +35,8 @@ pub enum Command {
     },
     /// The resolved conflicts of the tables of C11.
     Conflicts,
+    /// A summary of a file of so many items, which is made and parsed.
+    Make(u32),
 }
 
 impl Command {
@@ -58,6 +65,9 @@ impl Command {
         }
         if matches.subcommand_matches("conflicts").is_some() {
             return Ok(Command::Conflicts);
+        }
+        if let Some(found) = matches.subcommand_matches("make") {
+            return Command::make(alloc, found);
         }
         Err(ArgsStop::no_command(alloc))
     }
@@ -88,6 +98,38 @@ impl Command {
             choices,
         })
     }
+
+    fn make(alloc: Global, found: &ArgMatches<'_>) -> Result<Command, ArgsStop>
+        ensures { Answers result (asked_to_make (first_of (codes "items") (rows_of (found_of found.now)))) }
+    {
+        let Some(word) = found.get_str("items") else {
+            return Err(ArgsStop::no_command(alloc));
+        };
+        match items_in(word) {
+            Some(items) => Ok(Command::Make(items)),
+            None => Err(ArgsStop::BadCount),
+        }
+    }
+}
+
+/// The number of items that a word tells.
+fn items_in(word: &str) -> Option<u32>
+    ensures { result ≡ (if is_count word.now then Some (digits_value 10 word.now) else None) }
+{
+    let bytes = word.as_bytes();
+    if !has_digits_alone(bytes) || bytes.is_empty() || bytes[0] == b'0' {
+        return None;
+    }
+    match word.parse::<u32>() {
+        Ok(items) if (1..=MOST_ITEMS).contains(&items) => Some(items),
+        _ => None,
+    }
+}
+
+fn has_digits_alone(bytes: &[u8]) -> bool
+    ensures { result ≡ list_all is_ascii_digit bytes.now }
+{
+    bytes.iter().all(|byte| byte.is_ascii_digit())
 }
 
 /// The names of the space file and of the main file.

@@ -13,7 +13,7 @@ use std::alloc::{AllocError, Global};
 const STATUSES: &str = "Status:
   0  each configuration is accepted
   1  a configuration is refused: the text says which and why
-  2  the words name no command with its words, or FILE is no file name
+  2  the words name no command with its words, FILE is no file name, or N no number of items
   3  SPACE is absent or refused
   5  configurations differ at one place in more ways than `branches` allows
   6  a file could not be read
@@ -43,6 +43,10 @@ pub(crate) fn superc<'a>(alloc: Global) -> Result<Command<'a>, AllocError>
     let conflicts = Command::new(alloc, "conflicts").about(
         "Show the resolved conflicts of the tables of C11",
     );
+    let items = required(alloc, "items", "N", "How many items, from 1 to 100000");
+    let make = Command::new(alloc, "make")
+        .about("Make a file of N items, parse it and show a summary")
+        .arg(items)?;
     Command::new(alloc, "superc")
         .about("Preprocess and parse C11 under all configurations")
         .after_help(STATUSES)
@@ -50,7 +54,8 @@ pub(crate) fn superc<'a>(alloc: Global) -> Result<Command<'a>, AllocError>
         .subcommand(tokens)?
         .subcommand(parse)?
         .subcommand(project)?
-        .subcommand(conflicts)
+        .subcommand(conflicts)?
+        .subcommand(make)
 }
 
 /// A command on a space file and a main file.

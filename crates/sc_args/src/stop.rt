@@ -15,6 +15,9 @@ pub enum ArgsStop {
     /// The main file's name is empty or holds a byte below 32.
     #[error("bad file name")]
     BadFile,
+    /// The number of items is no decimal from 1 to 100,000 without sign or leading zero.
+    #[error("bad number of items")]
+    BadCount,
     /// No memory was left.
     #[error("out of memory")]
     OutOfMemory,

@@ -50,6 +50,7 @@ module _ (holds : Option Files) (name : List ℕ) (bytes : Option (List ℕ)) (a
   refusal-fails before after text is (stop.Fault fault) read (error.BadSpace line) told = refused-space text line.items (seen_fault fault) is read told
   refusal-fails before after text is (stop.Fault fault) read (error.Usage words) told = absurd told
   refusal-fails before after text is (stop.Fault fault) read error.BadFile told = absurd told
+  refusal-fails before after text is (stop.Fault fault) read error.BadCount told = absurd told
   refusal-fails before after text is (stop.Fault fault) read error.NoSpace told = absurd told
   refusal-fails before after text is (stop.Fault fault) read (error.BranchesFull line) told = absurd told
   refusal-fails before after text is (stop.Fault fault) read error.ReadFault told = absurd told
@@ -58,6 +59,7 @@ module _ (holds : Option Files) (name : List ℕ) (bytes : Option (List ℕ)) (a
   refusal-fails before after text is stop.OutOfMemory read (error.BadSpace line) told = absurd told
   refusal-fails before after text is stop.OutOfMemory read (error.Usage words) told = absurd told
   refusal-fails before after text is stop.OutOfMemory read error.BadFile told = absurd told
+  refusal-fails before after text is stop.OutOfMemory read error.BadCount told = absurd told
   refusal-fails before after text is stop.OutOfMemory read error.NoSpace told = absurd told
   refusal-fails before after text is stop.OutOfMemory read (error.BranchesFull line) told = absurd told
   refusal-fails before after text is stop.OutOfMemory read error.ReadFault told = absurd told
@@ -69,6 +71,7 @@ pub space-fails : (job : Job) (reading : Reading) (name : List ℕ) → job.read
     → (e : RunError) → FailsInSpace reading.holds reading.before reading.after name e → FailsFor job reading e
 space-fails job reading name reads refuses (error.Usage text) fails = fails
 space-fails job reading name reads refuses error.BadFile fails = fails
+space-fails job reading name reads refuses error.BadCount fails = fails
 space-fails job reading name reads refuses error.NoSpace fails = record { files = fails.files; held = fails.held; why = refuses fails.files _ fails.why }
 space-fails job reading name reads refuses (error.BadSpace line) fails = record { files = fails.files; held = fails.held; why = refuses fails.files line.items fails.why }
 space-fails job reading name reads refuses (error.BranchesFull line) fails = absurd fails
@@ -80,6 +83,7 @@ pub choice-fails : (reading : Reading) (name main : List ℕ) (choices : List (L
     → FailsFor (job_of (project name main choices)) reading e
 choice-fails reading name main choices space is (error.Usage text) fails = fails
 choice-fails reading name main choices space is error.BadFile fails = fails
+choice-fails reading name main choices space is error.BadCount fails = fails
 choice-fails reading name main choices space is error.NoSpace fails = absurd fails
 choice-fails reading name main choices space is (error.BadSpace line) fails =
     record { files = is.files; held = is.held; why = inr (record { space = space; fault = fails.0; has_space = is.has; read = fails.1.0; told = fails.1.1 }) }
@@ -105,6 +109,7 @@ fills-job job fills holds name main line space has why is full told = record {
 pub fails-with : (asked : Asked) (reading : Reading) (words : List (List ℕ)) → asked_of words ≡ Ok asked → (e : RunError) → FailsFor (job_of asked) reading e → FailsWith reading words e
 fails-with asked reading words is (error.Usage text) fails = absurd fails
 fails-with asked reading words is error.BadFile fails = absurd fails
+fails-with asked reading words is error.BadCount fails = absurd fails
 fails-with asked reading words is error.NoSpace fails = record { asked = asked; asked_is = is; fails = fails }
 fails-with asked reading words is (error.BadSpace line) fails = record { asked = asked; asked_is = is; fails = fails }
 fails-with asked reading words is (error.BranchesFull line) fails = record { asked = asked; asked_is = is; fails = fails }

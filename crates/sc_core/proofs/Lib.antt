@@ -3,10 +3,13 @@ pub mod Cuts
 pub mod Failing
 pub mod Filling
 pub mod LaidParts
+pub mod MadeItems
+pub mod MadeSpaces
 pub mod ParsedFiles
 pub mod PlainTelling
 pub mod Plains
 pub mod Projecting
+pub mod SummaryLemmas
 pub mod Telling
 pub mod Translating
 pub mod TreeTelling

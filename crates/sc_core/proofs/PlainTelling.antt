@@ -134,14 +134,14 @@ module _ {s new : Sets} (keeps : Keeps s new) (names files : List (List ℕ)) (s
     (answers : HasAnswers (seen_by s names files old) old.root old.faults.items)
     (none : text.is_refused ≡ false → All (λ (f : base.Fault). IsNever s f.cond.0) p.faults.items)
     (some : text.is_refused ≡ true → All (λ (f : base.Fault). IsNever s f.cond.0) p.faults.items → ⊥) where
-  pub tells-plain : (holds : Option Files) (main : List ℕ) → AreTranslated holds space main (seen_by s names files old) old.root old.faults.items → TellsPlain holds space main text
-  tells-plain holds main translated =
+  pub tells-plain : (holds : Option Files) (main : List ℕ) → (most : ℕ) → AreTranslated holds space main (seen_by s names files old) old.root old.faults.items most → TellsPlain holds space main text
+  tells-plain holds main most translated =
       let c = first_config space in
       let at = answers.each c (subst (λ ns. IsConfig ns c) (sym arities) here) in
-      let of_plain = plain-translated c plain holds space main one translated in
-      let told = answer-told keeps names files space p text shows shown arities none some holds main of_plain in
+      let of_plain = plain-translated c plain holds space main most one translated in
+      let told = answer-told keeps names files space p text shows shown arities none some holds main most of_plain in
       record {
-        tells = tells-tree keeps names files space p text shows shown arities none some holds main of_plain;
+        tells = tells-tree keeps names files space p text shows shown arities none some holds main most of_plain;
         result = shown_result at.0;
         same = subst (λ (answer : Answer tree_parts). At answer c (shown_result at.0)) told (result-at keeps names files space p text shows shown arities c here at.0 (stands-plain c plain c refl at.0 at.1));
         plain = subst (λ (answer : Answer tree_parts). IsPlainAnswer answer c (shown_result at.0)) told (plain-told keeps names files space old p text shows shown arities c here one plain answers at.0 at.1);

@@ -145,9 +145,9 @@ module _ {s : Sets} {names files : List (List ℕ)} {old p : ParsedFile} (c : Li
   )
   stands-plain d is (Err fault) stands = subst (λ (fs : List base.Fault). map (seen_fault files) (faults_at s fs d) ≡ fault ∷ []) (sym plain.faults) stands
 
-  pub plain-translated : (holds : Option Files) (space : Space) (main : List ℕ) → ((d : List ℕ) → IsListed space d → d ≡ c)
-      → AreTranslated holds space main (seen_by s names files old) old.root old.faults.items → AreTranslated holds space main (seen_by s names files p) p.root p.faults.items
-  plain-translated holds space main one are = record {
+  pub plain-translated : (holds : Option Files) (space : Space) (main : List ℕ) (most : ℕ) → ((d : List ℕ) → IsListed space d → d ≡ c)
+      → AreTranslated holds space main (seen_by s names files old) old.root old.faults.items most → AreTranslated holds space main (seen_by s names files p) p.root p.faults.items most
+  plain-translated holds space main most one are = record {
     parser = are.parser;
     c11 = are.c11;
     files = are.files;
@@ -155,5 +155,6 @@ module _ {s : Sets} {names files : List (List ℕ)} {old p : ParsedFile} (c : Li
     each = λ d listed.
         let at = are.each d listed in
         record { ordinary = at.ordinary; translated = at.translated; stands = stands-plain d (one d listed) at.ordinary at.stands };
+    classes = are.classes;
     few = are.few;
   }

@@ -93,7 +93,7 @@ module _ {s new : Sets} (keeps : Keeps s new) (names files : List (List ℕ)) (s
   unrefused-by config (Err fault) tree is stands = cc
 
   module _ (none : text.is_refused ≡ false → NoFault) (some : text.is_refused ≡ true → NoFault → ⊥) where
-    module _ {holds : Option Files} {main : List ℕ} (are : AreTranslated holds space main (seen_by s names files p) p.root p.faults.items) where
+    module _ {holds : Option Files} {main : List ℕ} {most : ℕ} (are : AreTranslated holds space main (seen_by s names files p) p.root p.faults.items most) where
       abbrev setting : Setting
       setting = setting_of space main are.parser are.files
 
@@ -117,8 +117,8 @@ module _ {s new : Sets} (keeps : Keeps s new) (names files : List (List ℕ)) (s
         verdict = tells-by text.is_refused NoFault (AcceptsAll space (Translates setting)) none some all-accepted none-refused;
       }
 
-    pub tells-tree : (holds : Option Files) (main : List ℕ) → AreTranslated holds space main (seen_by s names files p) p.root p.faults.items → TellsTree holds space main text
-    tells-tree holds main are = record {
+    pub tells-tree : (holds : Option Files) (main : List ℕ) (most : ℕ) → AreTranslated holds space main (seen_by s names files p) p.root p.faults.items most → TellsTree holds space main text
+    tells-tree holds main most are = record {
       answer = shows.answer;
       text_of = subst (λ pieces. IsTextOf space pieces shows.answer) (sym shows.cut) shows.text_of;
       verdict = tells-by text.is_refused NoFault (HasNoFault space shows.answer) none some none-shown none-had;
@@ -127,9 +127,9 @@ module _ {s new : Sets} (keeps : Keeps s new) (names files : List (List ℕ)) (s
       files = are.files;
       held = are.held;
       right = translation are;
-      few = are.few;
+      few = record { most = most; classes = are.classes; few = are.few };
     }
 
-    pub answer-told : (holds : Option Files) (main : List ℕ) (are : AreTranslated holds space main (seen_by s names files p) p.root p.faults.items) → shows.answer ≡ (tells-tree holds main are).answer
+    pub answer-told : (holds : Option Files) (main : List ℕ) (most : ℕ) (are : AreTranslated holds space main (seen_by s names files p) p.root p.faults.items most) → shows.answer ≡ (tells-tree holds main most are).answer
     unfolding tells-tree
-    answer-told holds main are = refl
+    answer-told holds main most are = refl

@@ -1,4 +1,5 @@
 pub mod Cut
+pub mod Made
 pub mod Ordinary
 pub mod RunError
 pub mod Outcome

@@ -1,25 +1,32 @@
 -- What a run of the program does, by its status.
-use Rattle.std.specs.Prelude.{◌≡◌, ◌⊎◌, ℕ, ◌+◌, Bool, true, false, List, [], ◌∷◌, codes, map, All, Option, Some, None, Result, Ok, Err}
+use Rattle.std.specs.Prelude.{◌≡◌, ◌⊎◌, ℕ, ◌+◌, Bool, true, false, List, [], ◌∷◌, codes, length, map, All, Option, Some, None, Result, Ok, Err}
+use Rattle.std.specs.List.{Contains}
 use Rattle.std.specs.Result.{is_ok}
 use Rattle.c11_parsing.specs.Trees.{Tree}
-use Rattle.sc_args.specs.Words.{Asked, tokens, parse, project as project_tree, conflicts, usage, bad_file, asked_of}
+use Rattle.sc_args.specs.Words.{Asked, tokens, parse, project as project_tree, conflicts, make, usage, bad_file, bad_count, asked_of}
 use Rattle.sc_core.specs.declared.run_error.RunError.{RunError}
 use Rattle.sc_core.specs.declared.run_error.RunError.TheVariants as error
 use Rattle.sc_core.specs.declared.status.Status.{Status}
 use Rattle.sc_core.specs.declared.status.Status.TheVariants.{Accepted, Refused, BadWords, BadSpace, BranchesFull, ReadFault, WriteFault, OutOfMemory}
-use Rattle.sc_core.specs.Cut.{cut_space, first_config}
-use Rattle.sc_core.specs.Ordinary.{HasFewClasses, HasManyBranches, HasManyConfigs, HasManyFootprints, Preprocesses, Setting, Translates}
+use Rattle.sc_core.specs.Cut.{cut_space, first_config, last_config}
+use Rattle.sc_core.specs.Made.{made_files, made_name, made_space}
+use Rattle.sc_core.specs.Ordinary.{HasClasses, HasFewClasses, HasManyBranches, HasManyConfigs, HasManyFootprints, Preprocesses, Setting, Translates}
 use Rattle.sc_core.specs.RunError.{branches_line, line_of, status_of, space_line}
 use Rattle.sc_fork.specs.Parsers.{IsC11Parser}
 use Rattle.sc_text.specs.Answer.{Answer, At, HasSoundChoices, IsRooted, ShownTree, project, token_list, tree_parts}
 use Rattle.sc_text.specs.Layout.{IsTextOf}
 use Rattle.sc_model.specs.Outside.{Files, Rose, Write, Writes, WritesPart, whole_write}
 use Rattle.sc_model.specs.Fault.{Fault}
+use Rattle.sc_model.specs.Growth.{IsOneToOne}
 use Rattle.sc_model.specs.Space.{Space, IsListed}
 use Rattle.sc_model.specs.Token.{Shown, Token, shown}
 use Rattle.sc_show.specs.Conflicts.{conflict_pieces}
 use Rattle.sc_show.specs.Pieces.{IsLine}
+use Rattle.sc_project.specs.declared.size.TreeSize.{TreeSize}
+use Rattle.sc_project.specs.Size.{size_of}
+use Rattle.sc_show.specs.declared.summary.Summary.{Summary}
 use Rattle.sc_show.specs.PlainText.{IsPlainAnswer}
+use Rattle.sc_show.specs.Summary.{summary_pieces}
 use Rattle.sc_show.specs.TreeShows.{shown_tree}
 use Rattle.sc_source.specs.Sink.{WritesCut}
 use Rattle.sc_space.specs.Config.{read_config}
@@ -137,6 +144,41 @@ pub record IsProjectText (choices : List (List ℕ)) (s : Setting) (pieces : Lis
   pub c11 : IsC11Parser s.parser
   pub right : IsProjected s config answer accepted
 
+-- ---- the text of a summary
+
+-- the size of a tree that is accepted
+abbrev pub size_in : Result Tree Fault → Option TreeSize
+size_in (Ok tree) = Some (size_of tree)
+size_in (Err fault) = None
+
+-- it is the size of what ordinary translation gives at the configuration
+abbrev pub HasSizeAt : Setting → List ℕ → Option TreeSize → Type 0
+HasSizeAt s config size = IsRightAt (Translates s config) (λ ordinary. size ≡ size_in ordinary)
+
+-- so many different faults refuse listed configurations
+pub record HasFaults (s : Setting) (count : ℕ) : Type 0 where
+  pub faults : List Fault
+  pub once : IsOneToOne faults
+  pub some : All (λ fault. (config : List ℕ) × IsListed s.space config × Translates s config (Err fault)) faults
+  pub each : (config : List ℕ) → IsListed s.space config → IsRightAt (Translates s config) (λ ordinary. (fault : Fault) → ordinary ≡ Err fault → Contains faults fault)
+  pub many : length faults ≡ count
+
+-- The pieces are the lines of a summary of so many items: the sizes of the trees at two
+-- configurations, how many faults there are, and how many classes at most at one place.
+pub record IsSummaryText (items : ℕ) (s : Setting) (pieces : List (List ℕ)) (accepted : Bool) : Type 0 where
+  pub summary : Summary
+  pub written : pieces ≡ summary_pieces summary
+  pub items_are : summary.items ≡ items
+  pub first : HasSizeAt s (first_config s.space) summary.first
+  pub last : HasSizeAt s (last_config s.space) summary.last
+  pub faults : HasFaults s summary.faults
+  pub classes : HasClasses s summary.classes
+  pub verdict : Tells accepted (AcceptsAll s.space (Translates s))
+
+-- The file that is made is the only one.
+abbrev pub made_setting : ℕ → Setting → Setting
+made_setting items s = record s { files = made_files items; main = made_name }
+
 -- ---- the text of the conflicts
 
 -- The pieces are the lines for the conflicts of the tables of C11, each once and in order.
@@ -220,6 +262,13 @@ job_of conflicts = record {
   text = IsConflictsText;
   fills = λ holds s. ⊥;
 }
+job_of (make items) = record {
+  reads = false;
+  has = λ holds s. s.space ≡ made_space;
+  refuses = λ files line. ⊥;
+  text = λ s. IsSummaryText items (made_setting items s);
+  fills = λ holds s. HasManyBranches (made_setting items s);
+}
 
 -- In a setting that the job has, the pieces are the lines of its text.
 pub record HasTextOf (job : Job) (holds : Option Files) (pieces : List (List ℕ)) (accepted : Bool) : Type 0 where
@@ -249,6 +298,7 @@ pub record FillsBranches (job : Job) (holds : Option Files) (line : List ℕ) : 
 abbrev pub FailsFor : Job → Reading → RunError → Type 0
 FailsFor job reading (error.Usage text) = ⊥
 FailsFor job reading error.BadFile = ⊥
+FailsFor job reading error.BadCount = ⊥
 FailsFor job reading error.NoSpace = RefusesJob job reading.holds (line_of error.NoSpace)
 FailsFor job reading (error.BadSpace line) = RefusesJob job reading.holds line.items
 FailsFor job reading (error.BranchesFull line) = FillsBranches job reading.holds line.items
@@ -273,6 +323,7 @@ pub record FailsAsked (reading : Reading) (words : List (List ℕ)) (why : RunEr
 abbrev pub FailsWith : Reading → List (List ℕ) → RunError → Type 0
 FailsWith reading words (error.Usage text) = asked_of words ≡ Err usage
 FailsWith reading words error.BadFile = asked_of words ≡ Err bad_file
+FailsWith reading words error.BadCount = asked_of words ≡ Err bad_count
 FailsWith reading words error.OutOfMemory = Unit {0}
 FailsWith reading words why = FailsAsked reading words why
 

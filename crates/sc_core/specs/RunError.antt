@@ -3,7 +3,7 @@ use Rattle.std.specs.Prelude.{ℕ, ◌++◌, List, codes, string_bytes}
 use Rattle.sc_args.specs.declared.stop.ArgsStop.{ArgsStop}
 use Rattle.sc_args.specs.declared.stop.ArgsStop.TheVariants as args
 use Rattle.sc_core.specs.declared.run_error.RunError.{RunError}
-use Rattle.sc_core.specs.declared.run_error.RunError.TheVariants.{Usage, BadFile, NoSpace, BadSpace, BranchesFull, ReadFault, OutOfMemory}
+use Rattle.sc_core.specs.declared.run_error.RunError.TheVariants.{Usage, BadFile, BadCount, NoSpace, BadSpace, BranchesFull, ReadFault, OutOfMemory}
 use Rattle.sc_core.specs.declared.status.Status.{Status}
 use Rattle.sc_core.specs.declared.status.Status.TheVariants as status
 use Rattle.sc_source.specs.declared.source.SourceStop.{SourceStop}
@@ -15,6 +15,7 @@ use Rattle.sc_text.specs.Text.{numeral}
 abbrev pub line_of : RunError → List ℕ
 line_of (Usage text) = string_bytes text
 line_of BadFile = codes "superc: bad file name\n"
+line_of BadCount = codes "superc: bad number of items\n"
 line_of NoSpace = codes "superc: space: Absent\n"
 line_of (BadSpace line) = line.items
 line_of (BranchesFull line) = line.items
@@ -24,6 +25,7 @@ line_of OutOfMemory = codes "superc: out of memory\n"
 abbrev pub status_of : RunError → Status
 status_of (Usage text) = status.BadWords
 status_of BadFile = status.BadWords
+status_of BadCount = status.BadWords
 status_of NoSpace = status.BadSpace
 status_of (BadSpace line) = status.BadSpace
 status_of (BranchesFull line) = status.BranchesFull
@@ -33,6 +35,7 @@ status_of OutOfMemory = status.OutOfMemory
 abbrev pub of_args : ArgsStop → RunError
 of_args (args.Usage text) = Usage text
 of_args args.BadFile = BadFile
+of_args args.BadCount = BadCount
 of_args args.OutOfMemory = OutOfMemory
 
 abbrev pub of_source : SourceStop → RunError

@@ -1,5 +1,5 @@
 -- What the text of a command is, before it is written.
-use Rattle.std.specs.Prelude.{◌≡◌, true, false, ◌<◌, ◌+◌, ℕ, not, List, [], ◌∷◌, length, map, All, IfSome, Option, Some, None, Result, Ok, Err}
+use Rattle.std.specs.Prelude.{◌≡◌, true, false, ◌<◌, ◌≤◌, ◌+◌, ℕ, not, List, [], ◌∷◌, length, map, All, IfSome, Option, Some, None, Result, Ok, Err}
 use Rattle.c11_parsing.specs.Parser.{Parser}
 use Rattle.c11_parsing.specs.Trees.{Tree}
 use Rattle.sc_args.specs.Words.{Asked}
@@ -9,7 +9,8 @@ use Rattle.sc_base.specs.declared.stop.Stop.{Stop}
 use Rattle.sc_base.specs.declared.stop.Stop.TheVariants.{BranchesFull, ReadFault, OutOfMemory}
 use Rattle.sc_core.specs.declared.tree_texts.ParsedFile.{ParsedFile}
 use Rattle.sc_core.specs.Cut.{first_config}
-use Rattle.sc_core.specs.Ordinary.{HasFewClasses, HasManyConfigs, Setting, Translates}
+use Rattle.sc_core.specs.Made.{made_name, made_space}
+use Rattle.sc_core.specs.Ordinary.{HasClasses, HasFewClasses, HasManyConfigs, Setting, Translates}
 use Rattle.sc_core.specs.RunError.{line_of, space_line}
 use Rattle.sc_fork.specs.Outcomes.{RootReads}
 use Rattle.sc_fork.specs.Parsers.{IsC11Parser}
@@ -35,7 +36,7 @@ use Rattle.sc_tree.specs.Walks.{is_choice}
 use Rattle.sc_core.specs.declared.run_error.RunError.{RunError}
 use Rattle.sc_core.specs.declared.run_error.RunError.TheVariants as error
 use Rattle.sc_core.specs.declared.output.Output.{Output}
-use Rattle.sc_core.specs.Outcome.{HasNoFault, HasSpace, HasText, HasTextOf, IsTokensText, IsTranslation, MayHold, RefusesSpace, Tells, WhereTold, job_of}
+use Rattle.sc_core.specs.Outcome.{HasNoFault, HasSpace, HasText, HasTextOf, IsSummaryText, IsTokensText, IsTranslation, MayHold, RefusesSpace, Tells, WhereTold, job_of}
 use Rattle.sc_model.specs.Outside.{Files, Rose}
 use Rattle.sc_model.specs.Space.{Space, IsListed}
 use Rattle.sc_show.specs.Pieces.{split_lines_after}
@@ -110,14 +111,15 @@ pub record IsTranslated (s : Setting) (w : Tables) (root : Option TreeId) (fault
   pub translated : Translates s config ordinary
   pub stands : Stands w root faults config ordinary
 
--- each configuration has it, and the file has no more classes than branches
-pub record AreTranslated (holds : Option Files) (space : Space) (main : List ℕ) (w : Tables) (root : Option TreeId) (faults : List base.Fault) : Type 0 where
+-- each configuration has it, and the file has so many classes, no more than branches
+pub record AreTranslated (holds : Option Files) (space : Space) (main : List ℕ) (w : Tables) (root : Option TreeId) (faults : List base.Fault) (most : ℕ) : Type 0 where
   pub parser : Parser
   pub c11 : IsC11Parser parser
   pub files : Files
   pub held : MayHold holds files
   pub each : (config : List ℕ) → IsListed space config → IsTranslated (setting_of space main parser files) w root faults config
-  pub few : HasFewClasses (setting_of space main parser files)
+  pub classes : HasClasses (setting_of space main parser files) most
+  pub few : most ≤ space.branches
 
 -- Each configuration has its tree and no fault, or one fault. Where there is a root, some
 -- configuration has a tree.
@@ -176,6 +178,13 @@ pub record TellsPlain (holds : Option Files) (space : Space) (main : List ℕ) (
   pub result : Result ShownTree Fault
   pub same : At tells.answer (first_config space) result
   pub plain : IsPlainAnswer tells.answer (first_config space) result
+
+-- the summary of a file that is made, in files that the source may hold
+pub record TellsSummary (holds : Option Files) (items : ℕ) (text : Output) : Type 0 where
+  pub parser : Parser
+  pub files : Files
+  pub held : MayHold holds files
+  pub text_of : IsSummaryText items (setting_of made_space made_name parser files) (lines_of text) (not text.is_refused)
 
 -- ---- too many branches
 

@@ -13,6 +13,8 @@ pub enum RunError {
     Usage(String),
     /// The file's name is empty or has a control character.
     BadFile,
+    /// The number of items is none from 1 to 100,000 in decimal.
+    BadCount,
     /// The space file is not there.
     NoSpace,
     /// The space file is refused; this line says why.
@@ -33,7 +35,7 @@ impl RunError {
         ensures { result ≡ status_of self.now }
     {
         match self {
-            RunError::Usage(_) | RunError::BadFile => Status::BadWords,
+            RunError::Usage(_) | RunError::BadFile | RunError::BadCount => Status::BadWords,
             RunError::NoSpace | RunError::BadSpace(_) => Status::BadSpace,
             RunError::BranchesFull(_) => Status::BranchesFull,
             RunError::ReadFault => Status::ReadFault,
@@ -48,6 +50,7 @@ impl RunError {
         match self {
             RunError::Usage(text) => text.as_bytes(),
             RunError::BadFile => b"superc: bad file name\n",
+            RunError::BadCount => b"superc: bad number of items\n",
             RunError::NoSpace => b"superc: space: Absent\n",
             RunError::BadSpace(line) | RunError::BranchesFull(line) => line.as_slice(),
             RunError::ReadFault => b"superc: read fault\n",
@@ -65,6 +68,7 @@ impl From<ArgsStop> for RunError {
         match stop {
             ArgsStop::Usage(text) => RunError::Usage(text),
             ArgsStop::BadFile => RunError::BadFile,
+            ArgsStop::BadCount => RunError::BadCount,
             ArgsStop::OutOfMemory => RunError::OutOfMemory,
         }
     }

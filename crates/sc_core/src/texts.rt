@@ -16,6 +16,7 @@ ghost use Rattle.sc_space.specs.Sound.{IsSound};
 use crate::output::Output;
 use crate::run_error::RunError;
 use crate::space_file::read_space;
+use crate::summaries::make_text;
 use crate::tree_texts::{parse_text, project_text};
 use itoa::Buffer;
 use sc_args::Command;
@@ -48,6 +49,7 @@ pub fn text_for<S: Source>(alloc: Global, words: &[String], src: &mut S) -> Resu
             choices,
         } => project_text(alloc, src, space.as_str(), file.as_str(), &choices),
         Command::Conflicts => Ok(conflicts_text(alloc)?),
+        Command::Make(items) => make_text(alloc, items),
     }
 }
 

@@ -34,10 +34,12 @@ use std::alloc::Global;
 
 /// A tree with choices, and the faults of the configurations that have none.
 #[derive(Drop)]
-struct ParsedFile {
-    trees: Trees,
-    root: Option<TreeId>,
-    faults: Vec<Fault>,
+pub struct ParsedFile {
+    pub trees: Trees,
+    pub root: Option<TreeId>,
+    pub faults: Vec<Fault>,
+    /// The greatest number of classes of configurations at one place.
+    pub classes: usize,
 }
 
 /// The tree and the faults of a file under all configurations of the space of another.
@@ -152,7 +154,7 @@ fn plain_under<C: Conditions, S: Source>(
 
 /// The tree of a file, and the faults of preprocessing and of parsing it.
 #[tactic(auto, using(sc_model::proofs::SetLemmas::conditions))]
-fn parsed<C: Conditions, S: Source>(
+pub fn parsed<C: Conditions, S: Source>(
     alloc: Global,
     src: &mut S,
     conds: &mut C,
@@ -167,7 +169,7 @@ fn parsed<C: Conditions, S: Source>(
     requires paths { ArePlainPaths files.old }
     ensures shown { IfOk result (CanShowTree (C.sets conds.new) names.new files.new) }
     ensures translated { IfOk result (λ p. AreTranslated (S.holds src.old) (seen_space space.now) file.now
-        (seen_by (C.sets conds.new) names.new files.new p) p.root p.faults.items) }
+        (seen_by (C.sets conds.new) names.new files.new p) p.root p.faults.items p.classes) }
     ensures answered { IfOk result (λ p. HasAnswers (seen_by (C.sets conds.new) names.new files.new p) p.root p.faults.items) }
     ensures choices { IfOk result (λ p. AreSound (C.sets conds.new) p.trees) }
     ensures stops { IfErr result (StopsIn (λ s. HasManyBranches s) (S.holds src.old) (S.faults src.old) (S.faults src.new) (seen_space space.now) file.now) }
@@ -197,6 +199,7 @@ fn parsed<C: Conditions, S: Source>(
         trees,
         root: parsed.root,
         faults,
+        classes: parsed.classes,
     })
 }
 
@@ -222,6 +225,7 @@ fn plain<C: Conditions>(
             trees: Trees::new(alloc),
             root: None,
             faults: parsed.faults,
+            classes: parsed.classes,
         });
     };
     let config = vec![in alloc; 0; space.variables.len()]?;
@@ -230,6 +234,7 @@ fn plain<C: Conditions>(
         trees,
         root: Some(root),
         faults: parsed.faults,
+        classes: parsed.classes,
     })
 }
 

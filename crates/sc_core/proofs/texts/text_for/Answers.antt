@@ -5,7 +5,7 @@ use Rattle.std.specs.Prelude.{string_bytes}
 use Rattle.sc_args.proofs.FileNames.{file-named}
 use Rattle.sc_args.specs.declared.command.Command.{Command}
 use Rattle.sc_args.specs.Seen.{seen_command}
-use Rattle.sc_args.specs.Words.{Asked, Misuse, tokens, parse, project, conflicts}
+use Rattle.sc_args.specs.Words.{Asked, Misuse, tokens, parse, project, conflicts, make}
 use Rattle.sc_core.proofs.Failing.{fails-with}
 use Rattle.sc_core.proofs.texts.text_for.Goals as goal
 
@@ -76,3 +76,14 @@ returns-in_ok-conflicts_text-in-Conflicts-clause-text g c =
       asked_is = c.in_ok-space.ensures ∙ ap (λ (command : Command). Ok (seen_command command)) c.in-Conflicts.is;
       text = c.in_ok-conflicts_text-in-Conflicts.ensures (g.S.Source.holds c.args.src.now);
     }
+
+pub returns-in-Make-clause-text : goal.returns-in-Make-clause-text
+returns-in-Make-clause-text g c =
+    let asked = c.in_ok-space.ensures ∙ ap (λ (command : Command). Ok (seen_command command)) c.in-Make.is in
+    IfOk-weaker c.make_text.result _ _ (λ text is. record { asked = make c.in-Make.items; asked_is = asked; text = is }) (c.make_text.ensures.text (g.S.Source.holds c.args.src.now))
+
+pub returns-in-Make-clause-error : goal.returns-in-Make-clause-error
+returns-in-Make-clause-error g c =
+    let asked = c.in_ok-space.ensures ∙ ap (λ (command : Command). Ok (seen_command command)) c.in-Make.is in
+    IfErr-weaker c.make_text.result _ _ (λ e fails. fails-with (make c.in-Make.items) _ _ asked e fails)
+    (c.make_text.ensures.error (record { holds = g.S.Source.holds c.args.src.now; before = g.S.Source.faults c.args.src.now; after = g.S.Source.faults c.args.src.now }))

@@ -105,7 +105,7 @@ returns-clause-translated g c =
     let ordinary = λ (config : List ℕ) (listed : IsConfig s.arities config). made.ordinary.ordinary config (subst (λ ns. IsConfig ns config) made.keeps.arities listed) in
     let ends = λ (bytes : List ℕ) (held : made.ordinary.outside main ≡ Some bytes) (config : List ℕ) (listed : IsConfig s.arities config) (live : s.has prepared.live.0 config ≡ true).
     made.ordinary.ends bytes config held (subst (λ ns. IsConfig ns config) made.keeps.arities listed) live in
-    subst (AreTranslated (g.S.Source.holds c.args.src.now) space main (tables_with new c.parse.new.trees names files) parsed.root) (sym c.in_ok-append.ensures.items)
+    subst (λ faults. AreTranslated (g.S.Source.holds c.args.src.now) space main (tables_with new c.parse.new.trees names files) parsed.root faults parsed.classes) (sym c.in_ok-append.ensures.items)
     (record {
       parser = c11-parser are;
       c11 = c11-is are;
@@ -113,16 +113,13 @@ returns-clause-translated g c =
       held = made.ordinary.held;
       each = translated-at s new c.parse.ensures.keeps names files prepared tables are shown made.owns c.parse.new.trees parsed parsed.events.items parse schedule space main made.ordinary.outside
           arities ordinary ends;
-      few = record {
-        most = parsed.classes;
-        classes = record {
-          c11 = c11-is are;
-          input = listed_input s names files prepared tables are shown;
-          is_input = file-input s names files prepared tables are shown space main made.ordinary.outside arities ordinary ends;
-          most_are = (c.in_ok-parsed.ensures.parse files (listed_input s names files prepared tables are shown) (is-listed-input s names files prepared tables are shown c.new-trees.result)).classes;
-        };
-        few = c.in_ok-parsed.ensures.few;
+      classes = record {
+        c11 = c11-is are;
+        input = listed_input s names files prepared tables are shown;
+        is_input = file-input s names files prepared tables are shown space main made.ordinary.outside arities ordinary ends;
+        most_are = (c.in_ok-parsed.ensures.parse files (listed_input s names files prepared tables are shown) (is-listed-input s names files prepared tables are shown c.new-trees.result)).classes;
       };
+      few = c.in_ok-parsed.ensures.few;
     })
 
 pub returns-clause-answered : goal.returns-clause-answered

@@ -22,7 +22,7 @@ returns-clause-tree g c =
     let text = c.in_ok-text_of.ensures in
     let space = seen_space c.args.space.now in
     tells-plain text.keeps c.parsed.new.names c.parsed.new.files space c.in_ok-parsed.parsed c.in_ok-plain.plain c.in_ok-text_of.field-0 text.text only.shown (made.keeps.arities ∙ c.requires.arities)
-    (only-listed space c.requires.sound.has_options) c.requires.one only.plain made.answered text.none text.some (g.S.Source.holds c.args.src.now) c.args.file.now made.translated
+    (only-listed space c.requires.sound.has_options) c.requires.one only.plain made.answered text.none text.some (g.S.Source.holds c.args.src.now) c.args.file.now c.in_ok-parsed.parsed.classes made.translated
 
 pub returns-in_err-text_of-clause-stops : goal.returns-in_err-text_of-clause-stops
 returns-in_err-text_of-clause-stops g c =

@@ -31,9 +31,9 @@ returns-clause-tree g c =
     let holds = g.S.Source.holds c.args.src.now in
     let arities = made.keeps.arities ∙ c.requires.arities in
     let sound = sound-same s new p.trees text.keeps made.shown.branches made.choices in
-    let told = answer-told text.keeps names files space p out text.text made.shown arities text.none text.some holds main made.translated in
+    let told = answer-told text.keeps names files space p out text.text made.shown arities text.none text.some holds main p.classes made.translated in
     record {
-      tells = tells-tree text.keeps names files space p out text.text made.shown arities text.none text.some holds main made.translated;
+      tells = tells-tree text.keeps names files space p out text.text made.shown arities text.none text.some holds main p.classes made.translated;
       choices = subst (λ (answer : Answer tree_parts). HasSoundChoices space answer.body.parts) told (choices-sound text.keeps names files space p out text.text made.shown arities sound);
       rooted = subst (IsRooted space) told (rooted text.keeps names files space p out text.text made.shown arities made.answered);
     }

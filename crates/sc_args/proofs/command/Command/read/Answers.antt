@@ -20,6 +20,7 @@ refused_where [] words e (stop.Usage text) (inl memory) other = absurd (other me
 refused_where [] words e (stop.Usage text) (inr never) other = absurd never
 refused_where (fault ∷ faults) words e (stop.Usage text) has other = refl
 refused_where faults words e stop.BadFile has never = absurd never
+refused_where faults words e stop.BadCount has never = absurd never
 refused_where faults words e stop.OutOfMemory has _ = tt
 
 refused : (words : List Text) (e : Error) (r : ArgsStop) → HasKind (fault_of superc_app words) e → RefusesFor (kind_of e) r → Refuses r (asked_of words)
