@@ -3,7 +3,7 @@ _superc() {
     local word=${COMP_WORDS[COMP_CWORD]} last=${COMP_WORDS[COMP_CWORD-1]}
     COMPREPLY=()
     if [ "$COMP_CWORD" -eq 1 ]; then
-        mapfile -t COMPREPLY < <(compgen -W 'tokens parse project conflicts' -- "$word")
+        mapfile -t COMPREPLY < <(compgen -W 'tokens parse project conflicts make' -- "$word")
         return
     fi
     case ${COMP_WORDS[1]}:$last in
@@ -11,6 +11,7 @@ _superc() {
         parse:*) mapfile -t COMPREPLY < <(compgen -f -- "$word") ;;
         project:*) mapfile -t COMPREPLY < <(compgen -f -- "$word") ;;
         conflicts:*) ;;
+        make:*) ;;
     esac
 }
 complete -o filenames -F _superc superc

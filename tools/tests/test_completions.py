@@ -53,7 +53,9 @@ class Completions(unittest.TestCase):
 
     @unittest.skipUnless(shutil.which("bash"), "bash is not there")
     def test_what_bash_offers(self) -> None:
-        self.assertEqual(complete("superc", ""), ["tokens", "parse", "project", "conflicts"])
+        self.assertEqual(
+            complete("superc", ""), ["tokens", "parse", "project", "conflicts", "make"]
+        )
         self.assertEqual(complete("superc-view", "t"), ["tokens", "tree"])
         self.assertEqual(complete("superc-view", "at", "--"), ["--input", "--space", "--text"])
         self.assertEqual(complete("superc-view", "dot", "--part", ""), [])
