@@ -75,3 +75,8 @@ pub mod BetweenTurns
 pub mod PhaseCalls
 pub mod PhaseAlike
 pub mod FirstCallLemmas
+pub mod FrontRuns
+pub mod SettlingSteps
+pub mod PlainSettles
+pub mod SettledEnds
+pub mod SettledPlaces

@@ -122,7 +122,7 @@ module _ {P : Type 0} (provenance : Provenance P) (macros : Macros) where
       }
 
   -- the arguments that are asked for, where no # fails
-  asked-each : (d : Definition) (t : Hidden P) (arguments : List (List (Hidden P))) (results : Result (List (List (Hidden P))) (Failure P)) → is_ok (slots t arguments (parts d.form neither (list_of provenance d t))) ≡ true
+  pub asked-each : (d : Definition) (t : Hidden P) (arguments : List (List (Hidden P))) (results : Result (List (List (Hidden P))) (Failure P)) → is_ok (slots t arguments (parts d.form neither (list_of provenance d t))) ≡ true
       → (e : Each provenance macros (map (λ n. (n, argument arguments n)) (wanted_of d.form (list_of provenance d t))) (map (λ a. []) arguments) results)
       → (f : Each provenance macros (asked provenance d t arguments) (map (λ a. []) arguments) results) × (trace_each f ≡ trace_each e)
   asked-each d t arguments results is e =
@@ -193,7 +193,7 @@ module _ {P : Type 0} (provenance : Provenance P) (macros : Macros) where
       ap (λ (f : Footprint). f.fails) (past-first left (length rest) (looked_up_at t) (used.takes n ∷ x.uses) below) ∙ ap (λ (y : Trace). (footprint_from (lower_of n left) y.uses).fails) is
 
   -- no argument is asked for where a # fails
-  none-asked : (d : Definition) (t : Hidden P) (arguments : List (List (Hidden P))) (failure : Failure P) → slots t arguments (parts d.form neither (list_of provenance d t)) ≡ Err failure
+  pub none-asked : (d : Definition) (t : Hidden P) (arguments : List (List (Hidden P))) (failure : Failure P) → slots t arguments (parts d.form neither (list_of provenance d t)) ≡ Err failure
       → (e : Each provenance macros (asked provenance d t arguments) (map (λ a. []) arguments) (Ok (map (λ a. []) arguments))) × (trace_each e ≡ no_trace)
   none-asked d t arguments failure is =
       let same : asked provenance d t arguments ≡ [] = ap (λ made. if is_ok made then map (λ n. (n, argument arguments n)) (wanted_of d.form (list_of provenance d t)) else []) is in

@@ -12,7 +12,7 @@ use Rattle.sc_model.specs.Token.{Item}
 use Rattle.c11_macros.specs.Results.{result_and_then, result_map}
 use Rattle.c11_macros.specs.Substitution as substitution
 use Rattle.c11_macros.specs.Substitution.{Part, Piece, Slot, all_glued, argument, argument_pieces, begins_paste, filled, filled_by, for_parameter, for_paste, glued, hidden_by, hiding, is_text_kind, joined, literal_of, neither, operator, or_placemarker, parts, put_together, wanted_of, pasted_as, piece, pieces_of, placemarker, quoted_spelling, slot_of, slots, spellings, spellings_after, stringized, substituted, tokens_of, with_space}
-use Rattle.c11_macros.specs.Trace.{ExpandsBy, after_step, both, failing, looked_up_at, looks_up, stands, takes, taking, taking_call, trace, trace_each, trace_rescan}
+use Rattle.c11_macros.specs.Trace.{ExpandsBy, Trace, after_step, both, failing, looked_up_at, looks_up, stands, takes, taking, taking_call, trace, trace_each, trace_rescan}
 use Rattle.c11_tokens.specs.Relex.{relexed}
 use Rattle.sc_expand.specs.Moved.{IsKept, moved, moved_answer, moved_failure}
 use Rattle.sc_model.specs.declared.cause.Cause.TheVariants.{BadStringize}
@@ -23,7 +23,7 @@ use Rattle.sc_model.specs.Bytes.{same_bytes}
 -- ---- steps of which each may fail
 
 -- what a step gives, and its failure, each mapped
-abbrev carried : {A B E F : Type 0} → (A → B) → (E → F) → Result A E → Result B F
+abbrev pub carried : {A B E F : Type 0} → (A → B) → (E → F) → Result A E → Result B F
 carried f g (Ok a) = Ok (f a)
 carried f g (Err e) = Err (g e)
 
@@ -46,7 +46,7 @@ carried-if g true x y = refl
 carried-if g false x y = refl
 
 module _ {P Q : Type 0} (f : P → Q) where
-  abbrev all : List (Hidden P) → List (Hidden Q)
+  abbrev pub all : List (Hidden P) → List (Hidden Q)
   all = map (moved f)
 
   moved-carried : (r : Result (List (Hidden P)) (Failure P)) → carried all (moved_failure f) r ≡ moved_answer f r
@@ -350,12 +350,12 @@ module _ {P Q : Type 0} (f : P → Q) where
           ∙ carried-then (map moved_slot) all (moved_failure f) (put_together one head raw expanded names) (put_together two (moved f head) (map all raw) (map all expanded) names) put-moved (slots head raw ps)
           ∙ moved-carried (substituted one form items head raw expanded names)
 
-    object_result-moved : (d : Definition) (t : Hidden P) → object_result two d (moved f t) ≡ moved_answer f (object_result one d t)
+    pub object_result-moved : (d : Definition) (t : Hidden P) → object_result two d (moved f t) ≡ moved_answer f (object_result one d t)
     object_result-moved d t =
         ap (λ list. substituted two d.form list (moved f t) [] [] (with_name t.hide t.spelling)) (list_of-moved d t)
         ∙ substituted-moved t [] [] (with_name t.hide t.spelling) d.form (list_of one d t)
 
-    call_result-moved : (d : Definition) (t : Hidden P) (arguments : List (List (Hidden P))) (close : Hidden P) (results : Result (List (List (Hidden P))) (Failure P))
+    pub call_result-moved : (d : Definition) (t : Hidden P) (arguments : List (List (Hidden P))) (close : Hidden P) (results : Result (List (List (Hidden P))) (Failure P))
         → call_result two d (moved f t) (map all arguments) (moved f close) (carried (map all) (moved_failure f) results) ≡ moved_answer f (call_result one d t arguments close results)
     call_result-moved d t arguments close (Ok lists) =
         ap (λ list. substituted two d.form list (moved f t) (map all arguments) (map all lists) (with_name (meet t.hide close.hide) t.spelling)) (list_of-moved d t)
@@ -373,6 +373,11 @@ module _ {P Q : Type 0} (f : P → Q) where
         ∙ carried-if (map moved_ask) (is_ok (slots t arguments ps)) (map (λ n. (n, argument arguments n)) (wanted_of d.form list)) []
 
     module _ (macros : Macros) where
+      -- the arguments that are asked for
+      asks-back : (d : Definition) (t : Hidden P) (arguments : List (List (Hidden P))) (results : Result (List (List (Hidden Q))) (Failure Q)) (x : Trace)
+          → EachBy two macros (map moved_ask (asked one d t arguments)) (map all (map (λ a. []) arguments)) results x → EachBy two macros (asked two d (moved f t) (map all arguments)) (map (λ a. []) (map all arguments)) results x
+      asks-back d t arguments results x = subst (λ (p : List (ℕ × List (Hidden Q)) × List (List (Hidden Q))). EachBy two macros p.0 p.1 results x) (λ i. (sym (asked-moved d t arguments) i, sym (unexpanded-moved arguments) i))
+
       mutual
         -- what a list expands to is mapped with the list, and its trace is the same
         pub expands-moved : {ts : List (Hidden P)} {r : Result (List (Hidden P)) (Failure P)} (d : Expands one macros ts r) → ExpandsBy two macros (map (moved f) ts) (moved_answer f r) (trace d)
@@ -389,7 +394,7 @@ module _ {P Q : Type 0} (f : P → Q) where
             record { expands = miscounted (all after) (case_of-moved macros t rest ∙ ap moved_case is); by = λ i. both (taking-moved t rest i) (both (taking_call-moved after i) failing) }
         expands-moved (call {t} {rest} {r} d arguments close after results is each g) =
             let lists = carried (map all) (moved_failure f) results in
-            let every = subst (λ (p : List (ℕ × List (Hidden Q)) × List (List (Hidden Q))). EachBy two macros p.0 p.1 lists (trace_each each)) (λ i. (sym (asked-moved d t arguments) i, sym (unexpanded-moved arguments) i)) (each-moved each) in
+            let every = asks-back d t arguments lists (trace_each each) (each-moved each) in
             let h = subst (λ made. RescansBy two macros made (all after) (moved_answer f r) (trace_rescan g)) (sym (call_result-moved d t arguments close results)) (rescans-moved g) in
             record {
               expands = call d (map all arguments) (moved f close) (all after) lists (case_of-moved macros t rest ∙ ap moved_case is) every.each h.goes;
@@ -410,3 +415,7 @@ module _ {P Q : Type 0} (f : P → Q) where
             let e = subst (λ ts. ExpandsBy two macros ts (moved_answer f r) (trace d)) (map-append (moved f) body rest) (expands-moved d) in
             record { goes = on e.expands; by = e.by }
         rescans-moved (refused failure) = record { goes = refused (moved_failure f failure); by = refl }
+
+      pub called-each-moved : (d : Definition) (t : Hidden P) (arguments : List (List (Hidden P))) {results : Result (List (List (Hidden P))) (Failure P)} → Each one macros (asked one d t arguments) (map (λ a. []) arguments) results
+          → Each two macros (asked two d (moved f t) (map all arguments)) (map (λ a. []) (map all arguments)) (carried (map all) (moved_failure f) results)
+      called-each-moved d t arguments {results} each = (asks-back d t arguments (carried (map all) (moved_failure f) results) (trace_each each) (each-moved each)).each

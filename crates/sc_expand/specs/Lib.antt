@@ -23,3 +23,4 @@ pub mod Footprints
 pub mod CallStops
 pub mod WorkLists
 pub mod FirstCalls
+pub mod Open

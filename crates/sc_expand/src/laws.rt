@@ -4,11 +4,13 @@ ghost use Rattle.c11_macros.specs.Expansion.{Expands, IsWithin};
 ghost use Rattle.c11_macros.specs.Footprint.{footprint};
 ghost use Rattle.c11_macros.specs.Hidden.{Failure, Hidden, Provenance};
 ghost use Rattle.c11_macros.specs.Macros.{Macros};
+ghost use Rattle.c11_macros.specs.Runs.{IsHeld, Settles, after_these};
 ghost use Rattle.c11_macros.specs.Text.{TextExpands};
 ghost use Rattle.c11_macros.specs.Trace.{Agree, trace};
 ghost use Rattle.sc_expand.specs.FootprintSteps.{IsPending, LeadsUntil};
-ghost use Rattle.sc_expand.specs.Moved.{IsKept, moved, moved_answer};
+ghost use Rattle.sc_expand.specs.Moved.{IsKept, moved, moved_answer, moved_failure};
 ghost use Rattle.sc_expand.specs.OneLine.{AreOneLine, IsInPlace, IsOneLine};
+ghost use Rattle.sc_expand.specs.Open.{LeadsOn, Waits, closed};
 ghost use Rattle.sc_expand.specs.Plain.{Fails, Leads, Moves, State, scanning};
 ghost use Rattle.sc_model.specs.Bytes.{has_no_newline};
 ghost use Rattle.sc_model.specs.Token.{Token};
@@ -19,6 +21,27 @@ pub fn steps_give_the_expansion<P>()
         → Leads provenance macros (scanning [] list) (scanning out []) → Expands provenance macros list (Ok out) }
     ensures failure { (provenance : Provenance P) (macros : Macros) (list : List (Hidden P)) (s : State P) (failure : Failure P)
         → Leads provenance macros (scanning [] list) s → Fails provenance macros s failure → Expands provenance macros list (Err failure) }
+{}
+
+/// Steps that are steps whatever follows the list settle it. It waits where they come to a state
+/// that waits, and is held by a failure that what follows can't mend.
+pub fn steps_settle_the_list<P>()
+    ensures whole { (provenance : Provenance P) (macros : Macros) (list out : List (Hidden P))
+        → LeadsOn provenance macros (scanning [] list) (scanning out []) → Settles provenance macros list out [] }
+    ensures waits { (provenance : Provenance P) (macros : Macros) (list out rest : List (Hidden P))
+        → LeadsOn provenance macros (scanning [] list) (scanning out rest) → Waits macros (scanning out rest)
+        → Settles provenance macros list out rest }
+    ensures held { (provenance : Provenance P) (macros : Macros) (list : List (Hidden P)) (s : State P) (failure : Failure P)
+        → LeadsOn provenance macros (scanning [] list) s → Fails provenance macros s failure → (Waits macros s → ⊥)
+        → IsHeld provenance macros list failure }
+{}
+
+/// What a list that has settled, or is held, expands to where nothing follows it.
+pub fn settled_list_closes<P>()
+    ensures settled { (provenance : Provenance P) (macros : Macros) (list done rest : List (Hidden P))
+        → Settles provenance macros list done rest → Expands provenance macros list (after_these done (closed rest)) }
+    ensures held { (provenance : Provenance P) (macros : Macros) (list : List (Hidden P)) (failure : Failure P)
+        → IsHeld provenance macros list failure → Expands provenance macros list (Err failure) }
 {}
 
 /// Where finitely many names are defined, steps do not go on for ever: each leaves fewer.
@@ -55,6 +78,16 @@ pub fn expansion_commutes_with_maps_of_places<P, Q>()
     ensures { (one : Provenance P) (two : Provenance Q) (f : P → Q) → IsKept one two f
         → (macros : Macros) (ts : List (Hidden P)) (r : Result (List (Hidden P)) (Failure P))
         → Expands one macros ts r → Expands two macros (map (moved f) ts) (moved_answer f r) }
+{}
+
+/// What a list settles to does not depend on what is kept of the places of its tokens.
+pub fn settling_commutes_with_maps_of_places<P, Q>()
+    ensures settled { (one : Provenance P) (two : Provenance Q) (f : P → Q) → IsKept one two f
+        → (macros : Macros) (list done rest : List (Hidden P)) → Settles one macros list done rest
+        → Settles two macros (map (moved f) list) (map (moved f) done) (map (moved f) rest) }
+    ensures held { (one : Provenance P) (two : Provenance Q) (f : P → Q) → IsKept one two f
+        → (macros : Macros) (list : List (Hidden P)) (failure : Failure P) → IsHeld one macros list failure
+        → IsHeld two macros (map (moved f) list) (moved_failure f failure) }
 {}
 
 /// Where the tokens of a list, the names of their files and the macros' lists have no newline in

@@ -21,7 +21,7 @@ mod work_list;
 
 pub use expanding::expand;
 pub use laws::{
-    expansion_commutes_with_maps_of_places, expansion_stays_on_one_line,
-    steps_depend_on_the_names_looked_up, steps_end, steps_give_the_expansion,
-    steps_take_the_footprint,
+    expansion_commutes_with_maps_of_places, expansion_stays_on_one_line, settled_list_closes,
+    settling_commutes_with_maps_of_places, steps_depend_on_the_names_looked_up, steps_end,
+    steps_give_the_expansion, steps_settle_the_list, steps_take_the_footprint,
 };
