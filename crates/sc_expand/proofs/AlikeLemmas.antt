@@ -47,6 +47,7 @@ module _ {old new : Sets} (keeps : Keeps old new) {c d : List ℕ} (p : IsConfig
   pub AreAlikeRefusals-Keeps : {files : ℕ} (others : ℕ) (r : Refusals) → IsHeldRefusals old files r → AreAlikeRefusals old c d others r → AreAlikeRefusals new c d others r
   AreAlikeRefusals-Keeps others r held alike = record {
     live = IsAlike-Keeps held.live alike.live;
+    waiting = IsAlike-Keeps held.waiting alike.waiting;
     faults = AreAlikeFaults-Keeps (drop others r.faults.items) (All-drop (λ (f : Fault). IsCond old f.cond.0) others r.faults.items held.own) alike.faults;
   }
 
@@ -101,7 +102,7 @@ pub whole-in : {s : Sets} {c d : List ℕ} (others : Others) (span : Span) (e : 
 whole-in {s} {c} {d} others span e all out faults alike below =
     let n = (whole others e).work in
     record {
-      refusals = record { live = alike.refusals.live; faults = subst (λ k. AreAlikeFaults s c d (drop k e.refusals.faults.items)) faults alike.refusals.faults };
+      refusals = record { live = alike.refusals.live; waiting = alike.refusals.waiting; faults = subst (λ k. AreAlikeFaults s c d (drop k e.refusals.faults.items)) faults alike.refusals.faults };
       top = record {
         work = subst (AreAlike s c d) (take-take n span.work e.top.work all) (All-take (λ (item : Cond × Hidden). IsAlike s c d item.0) n (take span.work e.top.work) alike.work);
         out = subst (λ k. AreAlike s c d (drop k e.top.out)) out alike.out;

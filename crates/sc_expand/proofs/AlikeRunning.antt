@@ -1,6 +1,7 @@
 -- Configurations that are alike stay so through the turns of an expansion, where what one of them
 -- looks up is defined alike for both.
 use Rattle.std.proofs.Common.{◌≡◌, ℕ, ◌<◌, Bool, true, List, [], ◌∷◌, Some, drop, length, map, slice_get, inl, inr, sym, ap, subst, ◌∙◌, if◌then◌else◌}
+use Rattle.std.proofs.lemmas.List.Elements.{All-nil}
 use Rattle.std.proofs.lemmas.Option.{slice_get_within}
 use Rattle.c11_macros.specs.Expansion.{IsWithin}
 use Rattle.c11_macros.specs.Hidden as model
@@ -15,7 +16,7 @@ use Rattle.sc_expand.proofs.PlainAgreement.{AgreesFrom, agrees-move, agrees-name
 use Rattle.sc_expand.proofs.PlainTurns.{under}
 use Rattle.sc_expand.proofs.Rests.{first-is}
 use Rattle.sc_expand.proofs.RunLemmas.{IsRunning, rests-at, running-stands, start-state, turned-at}
-use Rattle.sc_expand.specs.Alike.{DefineAlike, DefineNextAlike, IsAlikeExpansion, IsAlikeFrame, IsFirstIn, IsSameCall, Others, no_others}
+use Rattle.sc_expand.specs.Alike.{CallNextAlike, DefineAlike, DefineNextAlike, IsAlikeExpansion, IsAlikeFrame, IsFirstIn, IsSameCall, Others, no_others}
 use Rattle.sc_expand.specs.declared.expansion.Expansion.{Expansion}
 use Rattle.sc_expand.specs.declared.frame.Enclosing.{Enclosing}
 use Rattle.sc_expand.specs.Machine.{IsHeldExpansion, Progress, Stands, state_in}
@@ -24,7 +25,7 @@ use Rattle.sc_expand.specs.Running.{IsRested, IsTurned, IsUntouched}
 use Rattle.sc_expand.specs.Seen.{Grows, Stores, calls_at, provenance_of, seen_at, state_by, view_at}
 use Rattle.sc_expand.specs.Turn.{At}
 use Rattle.sc_guarded.specs.Items.{items_at}
-use Rattle.sc_hoist.specs.Alike.{AreAlike}
+use Rattle.sc_hoist.specs.Alike.{AreAlike, IsAlike}
 use Rattle.sc_model.proofs.SetLemmas.{IsConfig-Keeps}
 use Rattle.sc_model.specs.Sets.{IsConfig, Sets}
 use Rattle.sc_subst.specs.declared.hidden.Hidden.{Hidden}
@@ -93,6 +94,7 @@ module _ (files : List (List ℕ)) (macros : List ℕ → Macros) where
   -- both have the same, and what the one still looks up is defined alike for both
   pub record AreAlikeNow (now : Stores) (e : Expansion) (c d : List ℕ) : Type 0 where
     pub alike : IsAlikeExpansion now.sets c d no_others e
+    pub rest : AreAlike now.sets c d e.rest
     pub agrees : now.sets.has e.refusals.live.0 c ≡ true → AgreesFrom (provenance_of files) (macros c) (macros d) (state_in now e.below.items (view_at now e.top c) c)
 
   -- so it is where they began alike
@@ -100,10 +102,11 @@ module _ (files : List (List ℕ)) (macros : List ℕ → Macros) where
     pub at : (c d : List ℕ) → IsConfig old.sets.arities c → IsConfig old.sets.arities d → DefineAlike (provenance_of files) (macros c) (macros d) (seen_at old was.top.work c) → IsAlikeExpansion old.sets c d no_others was
         → AreAlikeNow now e c d
 
-  pub alike-start : (old : Stores) (was : Expansion) → IsHeldExpansion old (length files) was → IsUntouched was → StayAlike old old was was
+  pub alike-start : (old : Stores) (was : Expansion) → IsHeldExpansion old (length files) was → IsUntouched old.sets was → StayAlike old old was was
   alike-start old was held fresh = record {
     at = λ c d p q defines alike. record {
       alike = alike;
+      rest = subst (AreAlike old.sets c d) (sym fresh.rest) (All-nil (λ (x : Cond × Hidden). IsAlike old.sets c d x.0));
       agrees = λ live.
           subst (AgreesFrom (provenance_of files) (macros c) (macros d)) (sym (start-state files macros old was held fresh c))
           (agrees-start (provenance_of files) (macros c) (macros d) (seen_at old was.top.work c) defines.agree);
@@ -117,6 +120,7 @@ module _ (files : List (List ℕ)) (macros : List ℕ → Macros) where
           let a = stay.at c d p q defines alike in
           record {
             alike = rested.alike (length files) c d no_others r.held (IsConfig-Keeps grows.sets p) (IsConfig-Keeps grows.sets q) a.alike;
+            rest = rested.alike_left (length files) c d r.held (IsConfig-Keeps grows.sets p) (IsConfig-Keeps grows.sets q) a.alike a.rest;
             agrees = agrees-progress (provenance_of files) (macros c) (macros d) now new c e.below.items after.below.items (rests-at grows r began new after rested c p) (running-stands grows r c p) a.agrees;
           };
     }
@@ -126,10 +130,11 @@ module _ (files : List (List ℕ)) (macros : List ℕ → Macros) where
       at = λ c d p q defines alike.
           let a = stay.at c d p q defines alike in
           let next = agrees-next (provenance_of files) (macros c) (macros d) names (within c) now c e (running-stands grows r c p) a.agrees in
+          let defined = subst (λ m. DefineNextAlike now m (other d) c e) (sym (same c p)) (subst (λ m. DefineNextAlike now (macros c) m c e) (sym (same d q)) next) in
+          let called : CallNextAlike now (other c) c d e = record { same = λ takes. whole-call e a.alike } in
           record {
-            alike = turned.alike c d no_others (IsConfig-Keeps grows.sets p) (IsConfig-Keeps grows.sets q)
-                (subst (λ m. DefineNextAlike now m (other d) c e) (sym (same c p)) (subst (λ m. DefineNextAlike now (macros c) m c e) (sym (same d q)) next))
-                (record { same = λ takes. whole-call e a.alike }) (first-of-all e) a.alike;
+            alike = turned.alike c d no_others (IsConfig-Keeps grows.sets p) (IsConfig-Keeps grows.sets q) defined called (first-of-all e) a.alike;
+            rest = turned.alike_left c d (IsConfig-Keeps grows.sets p) (IsConfig-Keeps grows.sets q) defined called a.alike a.rest;
             agrees = agrees-progress (provenance_of files) (macros c) (macros d) now new c e.below.items after.below.items (turned-at grows r began new after other same turned c p) (running-stands grows r c p) a.agrees;
           };
     }

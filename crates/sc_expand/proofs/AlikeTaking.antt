@@ -174,8 +174,8 @@ same-defined false true m n is same = absurd (cc)
 
 -- ---- the token is put out
 
-pub put-alike : (s : Sets) (c d : List ℕ) (others : Others) (now next : Expansion) (taken : Taken) (token : Hidden) → HasPutOut s taken token now next → IsAlikeTaken s c d taken → IsAlikeExpansion s c d others now → IsAlikeExpansion s c d others next
-put-alike s c d others now next taken token put made alike =
+pub put-alike : (before s : Sets) (c d : List ℕ) (others : Others) (now next : Expansion) (taken : Taken) (token : Hidden) → HasPutOut before s taken token now next → IsAlikeTaken s c d taken → IsAlikeExpansion s c d others now → IsAlikeExpansion s c d others next
+put-alike before s c d others now next taken token put made alike =
     let Same : Cond × Hidden → Type 0 = λ item. IsAlike s c d item.0 in
     let here = others_at others (length now.below.items) in
     record {

@@ -31,7 +31,7 @@ module _ (files : List (List ℕ)) (macros : List ℕ → Macros) where
     pub alike : StayAlike files macros old now was e
     pub phase : Phase files macros old now was e
 
-  pub turns-start : (old : Stores) (was : Expansion) → IsHeldExpansion old (length files) was → IsUntouched was → IsBetweenTurns old old was was
+  pub turns-start : (old : Stores) (was : Expansion) → IsHeldExpansion old (length files) was → IsUntouched old.sets was → IsBetweenTurns old old was was
   turns-start old was held fresh = record {
     grows = Grows-refl old;
     running = running-start files macros old was held fresh;

@@ -79,12 +79,15 @@ pub bottom-long : (below : List Enclosing) (t u : Frame) → length t.work ≤ l
 bottom-long [] t u long = long
 bottom-long (e ∷ es) t u long = omega arith
 
-pub bottom-held : {st : Stores} {files : ℕ} (e : Expansion) → IsHeldExpansion st files e → All (λ item. IsCond st.sets item.0.0) (bottom e).work
-bottom-held {st} {files} e held = (by e.below.items held.below).work.own
+pub bottom-frame : {st : Stores} {files : ℕ} (e : Expansion) → IsHeldExpansion st files e → IsHeldFrame st files (bottom e)
+bottom-frame {st} {files} e held = by e.below.items held.below
   where
     by : (below : List Enclosing) → All (IsHeldEnclosing st files) below → IsHeldFrame st files (bottom_by below e.top)
     by [] own = held.top
     by (b ∷ bs) own = (All-head (IsHeldEnclosing st files) b bs own).frame
+
+pub bottom-held : {st : Stores} {files : ℕ} (e : Expansion) → IsHeldExpansion st files e → All (λ item. IsCond st.sets item.0.0) (bottom e).work
+bottom-held e held = (bottom-frame e held).work.own
 
 -- others are put before the list on top
 pub more-bottom : {st : Stores} {new : Sets} → Keeps st.sets new → {c : List ℕ} → IsConfig st.sets.arities c → {files : ℕ} (e : Expansion) → IsHeldExpansion st files e → (top : Frame) (made : List (Cond × Hidden)) → top.work ≡ made ++ e.top.work

@@ -1,6 +1,6 @@
 -- How an expansion begins and ends: tokens get an empty hide set, and lose their hide sets.
 use Rattle.std.proofs.Common.{◌≡◌, ℕ, ◌+◌, List, [], ◌∷◌, ◌++◌, All, map, take, Some, slice_get, sym, ap, subst, ◌∙◌}
-use Rattle.std.proofs.lemmas.List.{map-append, take_more}
+use Rattle.std.proofs.lemmas.List.{append_assoc, map-append, take_more}
 use Rattle.std.proofs.lemmas.List.Elements.{All-push}
 use Rattle.std.proofs.lemmas.Option.{get_or_from_slice_get, slice_get_within}
 use Rattle.sc_base.specs.declared.id.Cond.{Cond}
@@ -26,3 +26,7 @@ pub finished-next : (list later : List (Cond × Token)) (out : List (Cond × Hid
     → later ≡ list ++ (cond, h.token) ∷ [] → later ≡ map bared (take (i + 1) out)
 finished-next list later out i cond h before at pushed =
     pushed ∙ (ap (λ l. l ++ (cond, h.token) ∷ []) before ∙ (sym (map-append bared (take i out) ((cond, h) ∷ [])) ∙ ap (map bared) (sym (take-next out i (cond, h) at))))
+
+pub more-next : {A : Type 0} (front list later more : List A) (i : ℕ) (x : A) → list ≡ front ++ take i more → slice_get more i ≡ Some x → later ≡ list ++ x ∷ [] → later ≡ front ++ take (i + 1) more
+more-next front list later more i x before at pushed =
+    pushed ∙ (ap (λ l. l ++ x ∷ []) before ∙ (append_assoc front (take i more) (x ∷ []) ∙ ap (λ l. front ++ l) (sym (take-next more i x at))))

@@ -1,8 +1,10 @@
 -- A list as it is given, and what the loop leaves of it, as what it expands to at each
 -- configuration.
-use Rattle.std.proofs.Common.{◌≡◌, ℕ, ◌<◌, Bool, true, false, true≢false, List, [], ◌∷◌, All, Some, drop, length, map, slice_get, Ok, Err, refl, sym, ap, subst, ◌∙◌, if◌then◌else◌}
-use Rattle.std.proofs.lemmas.List.Elements.{All-cons, All-head, All-nil, All-tail}
+use Rattle.std.proofs.Common.{◌≡◌, ℕ, ◌<◌, ◌++◌, ◌&&◌, not, Bool, true, false, true≢false, List, [], ◌∷◌, All, Some, drop, length, map, take, slice_get, Ok, Err, refl, sym, ap, subst, ◌∙◌, if◌then◌else◌}
+use Rattle.std.proofs.lemmas.List.Elements.{All-append, All-cons, All-head, All-nil, All-tail}
 use Rattle.c11_macros.specs.Expansion.{Expands}
+use Rattle.c11_macros.specs.Runs.{after_these}
+use Rattle.std.proofs.lemmas.List.{map-append}
 use Rattle.c11_macros.specs.Macros.{Macros}
 use Rattle.sc_base.specs.declared.id.Cond.{Cond}
 use Rattle.sc_base.specs.declared.fault.Fault.{Fault}
@@ -10,7 +12,13 @@ use Rattle.sc_base.specs.declared.id.Name.{Name}
 use Rattle.sc_base.specs.declared.token.Token.{Token}
 use Rattle.sc_base.specs.Seen.{IsHeld, seen}
 use Rattle.sc_expand.proofs.Ending.{bared}
-use Rattle.sc_expand.proofs.AlikeLemmas.{of-all, others-none}
+use Rattle.sc_expand.proofs.AlikeLemmas.{AreAlike-Keeps, AreAlikeFaults-Keeps, of-all, others-none}
+use Rattle.sc_expand.proofs.PuttingOut.{some-Keeps}
+use Rattle.sc_expand.proofs.SettledEnds.{held-closed, settles-closed}
+use Rattle.sc_expand.specs.Closing.{IsClosed, is_several, unclosed_at}
+use Rattle.sc_expand.specs.Open.{closed}
+use Rattle.sc_guarded.proofs.ItemLemmas.{faults_at-append, faults_at-Keeps, items_at-append, items_at-Keeps}
+use Rattle.sc_model.proofs.SetLemmas.{IsConfig-Keeps}
 use Rattle.sc_expand.proofs.SeenLemmas.{AreHeld-nil}
 use Rattle.sc_expand.proofs.TextLemmas.{begun, expanded-fault, expanded-list, seen_hidden-begun, text-defines}
 use Rattle.sc_expand.specs.Alike.{DefineAlike, DefineTextAlike, IsAlikeCall, IsAlikeExpansion, IsAlikeFrame, no_others, others_at}
@@ -24,7 +32,7 @@ use Rattle.sc_expand.specs.Seen.{AreHeld, IsHeldCall, IsHeldEnclosing, IsHeldTok
 use Rattle.sc_guarded.specs.declared.expanded.Expanded.{Expanded}
 use Rattle.sc_guarded.specs.Items.{faults_at, items_at}
 use Rattle.sc_hoist.specs.Alike.{AreAlike, AreAlikeFaults, IsAlike}
-use Rattle.sc_model.specs.Sets.{Sets, IsCond, IsConfig, IsNever}
+use Rattle.sc_model.specs.Sets.{Sets, IsCond, IsConfig, IsNever, Keeps}
 use Rattle.sc_subst.specs.declared.hidden.Hidden.{Hidden}
 use Rattle.sc_subst.specs.Hides.{set_at}
 use Rattle.sc_subst.specs.Seen.{IsHeldHidden, seen_hidden}
@@ -48,7 +56,7 @@ All-given : (P : Cond × Token → Type 0) (xs : List (Cond × Hidden)) → All 
 All-given P [] all = All-nil (λ (x : Cond × Hidden). P (bared x))
 All-given P (x ∷ xs) all = All-cons (λ (x : Cond × Hidden). P (bared x)) x xs (All-head P (bared x) (map bared xs) all) (All-given P xs (All-tail P (bared x) (map bared xs) all))
 
-nothing-mapped : {A B : Type 0} (f : A → B) (xs : List A) → map f xs ≡ [] → xs ≡ []
+pub nothing-mapped : {A B : Type 0} (f : A → B) (xs : List A) → map f xs ≡ [] → xs ≡ []
 nothing-mapped f [] none = refl
 nothing-mapped f (x ∷ xs) none = absurd (cc)
 
@@ -58,15 +66,17 @@ held-both : (names : List (List ℕ)) (s : Sets) (hides : List (List Name)) (fil
     → All (λ (x : Cond × Hidden). x.1.token.place.file.0 < files) xs → All (λ (x : Cond × Hidden). IsHeldToken (stores s names hides) files x.1) xs
 held-both names s hides files xs held placed = λ k d h. record { held = held k d h; file = placed k d h }
 
-pub started-held : (s : Sets) (names : List (List ℕ)) (files : ℕ) (e : Expansion) (list : List (Cond × Token)) (live : Cond) → IsUntouched e → e.refusals.live ≡ live → map bared e.top.work ≡ list
+pub started-held : (s : Sets) (names : List (List ℕ)) (files : ℕ) (e : Expansion) (list : List (Cond × Token)) (live : Cond) → IsUntouched s e → IsCond s e.refusals.waiting.0 → e.refusals.live ≡ live → map bared e.top.work ≡ list
     → All (λ (x : Cond × Hidden). IsHeldHidden names e.sets x.1) e.top.work → All (λ (x : Cond × Token). IsCond s x.0.0) list → All (λ (x : Cond × Token). x.1.place.file.0 < files) list → IsCond s live.0
     → IsHeldExpansion (stores s names e.sets) files e
-started-held s names files e list live fresh live_is tokens held own placed live_own = record {
+started-held s names files e list live fresh waiting live_is tokens held own placed live_own = record {
   refusals = record {
     live = subst (λ (k : Cond). IsCond s k.0) (sym live_is) live_own;
+    waiting = waiting;
     own = subst (All (λ (f : Fault). IsCond s f.cond.0)) (sym fresh.faults) (All-nil (λ (f : Fault). IsCond s f.cond.0));
     placed = subst (All (λ (f : Fault). f.place.file.0 < files)) (sym fresh.faults) (All-nil (λ (f : Fault). f.place.file.0 < files));
   };
+  rest = subst (AreHeld (stores s names e.sets) files) (sym fresh.rest) (AreHeld-nil (stores s names e.sets) files);
   top = record {
     work = record {
       own = All-given (λ (x : Cond × Token). IsCond s x.0.0) e.top.work (subst (All (λ (x : Cond × Token). IsCond s x.0.0)) (sym tokens) own);
@@ -91,67 +101,138 @@ source-is s names hides c (x ∷ xs) none =
 
 -- ---- after the last turn
 
-module _ (old new : Sets) (names later : List (List ℕ)) (files : List (List ℕ)) (macros : Macros) (c : List ℕ) (e after : Expansion) (list : List (Cond × Token)) (live : Cond) (answer : Expanded)
+-- a list with nothing or a name alone stays, and a longer one is a call that is not closed
+closed-few : (names : List (List ℕ)) (hides : List (List Name)) (r : List Hidden) → is_several r ≡ false → closed (map (seen_hidden names hides) r) ≡ Ok (map (seen_hidden names hides) r)
+closed-few names hides [] is = refl
+closed-few names hides (x ∷ []) is = refl
+closed-few names hides (x ∷ (y ∷ ys)) is = absurd (cc)
+
+module _ (old new last : Sets) (names later : List (List ℕ)) (files : List (List ℕ)) (macros : Macros) (c : List ℕ) (e after : Expansion) (list : List (Cond × Token)) (live : Cond) (more answer : Expanded)
     (tokens : map bared e.top.work ≡ list) (unhidden : All (λ (x : Cond × Hidden). set_at e.sets x.1.hide.0 ≡ []) e.top.work) (live_is : e.refusals.live ≡ live)
-    (list_is : answer.list ≡ map bared after.top.out) (faults_are : answer.faults ≡ after.refusals.faults)
-    (done : IsDone (provenance_of files) macros (seen_at (stores old names e.sets) e.top.work c) (seen_at (stores new later after.sets) after.top.out c) (failures_at new after.refusals.faults.items c) (old.has e.refusals.live.0 c)) where
+    (list_is : answer.list ≡ map bared after.top.out ++ more.list) (faults_are : answer.faults.items ≡ after.refusals.faults.items ++ more.faults.items)
+    (first : Keeps old new) (second : Keeps new last) (held : IsHeldExpansion (stores new later after.sets) (length files) after) (live_own : IsCond old live.0) (listed : IsConfig old.arities c)
+    (is_closed : IsClosed new last after.rest live.0 more)
+    (done : IsDone (provenance_of files) macros (seen_at (stores old names e.sets) e.top.work c) (seen_at (stores new later after.sets) after.top.out c) (seen_at (stores new later after.sets) after.rest c)
+    (failures_at new after.refusals.faults.items c) (old.has e.refusals.live.0 c)) where
+  listed1 : IsConfig new.arities c
+  listed1 = IsConfig-Keeps first listed
+
   source : seen_at (stores old names e.sets) e.top.work c ≡ map (begun names) (items_at old list c)
   source = source-is old names e.sets c e.top.work unhidden ∙ ap (λ l. map (begun names) (items_at old l c)) tokens
 
-  faults : failures_at new answer.faults.items c ≡ failures_at new after.refusals.faults.items c
-  faults = ap (λ f. failures_at new f.items c) faults_are
+  abbrev out : List Hidden
+  out = items_at new after.top.out c
 
-  items : items_at new answer.list c ≡ map (λ (h : Hidden). h.token) (items_at new after.top.out c)
-  items = ap (λ l. items_at new l c) list_is ∙ items-bared new after.top.out c
+  abbrev rest : List Hidden
+  rest = items_at new after.rest c
 
-  pub done-expanded : old.has live.0 c ≡ true → IsExpanded new later files answer macros (map (seen names files) (items_at old list c)) c
+  faults : failures_at last answer.faults.items c ≡ failures_at new after.refusals.faults.items c ++ failures_at last more.faults.items c
+  faults =
+      ap (λ l. failures_at last l c) faults_are
+      ∙ (ap (map seen_failure) (faults_at-append last after.refusals.faults.items more.faults.items c)
+      ∙ (map-append seen_failure (faults_at last after.refusals.faults.items c) (faults_at last more.faults.items c)
+      ∙ ap (λ l. map seen_failure l ++ failures_at last more.faults.items c) (faults_at-Keeps after.refusals.faults.items c second held.refusals.own listed1)))
+
+  items : items_at last answer.list c ≡ map (λ (h : Hidden). h.token) out ++ items_at last more.list c
+  items =
+      ap (λ l. items_at last l c) list_is
+      ∙ (items_at-append last (map bared after.top.out) more.list c
+      ∙ ap (λ l. l ++ items_at last more.list c) (items-bared last after.top.out c ∙ ap (map (λ (h : Hidden). h.token)) (items_at-Keeps after.top.out c second held.top.out.own listed1)))
+
+  under : (b : Bool) → old.has live.0 c ≡ b → new.has live.0 c ≡ b
+  under b here = first.at live.0 c live_own listed ∙ here
+
+  more-items : (b several : Bool) → old.has live.0 c ≡ b → is_several rest ≡ several → items_at last more.list c ≡ (if b && not several then map (λ (h : Hidden). h.token) rest else [])
+  more-items b several here is = is_closed.list c listed1 ∙ (λ i. if under b here i && not (is i) then map (λ (h : Hidden). h.token) rest else [])
+
+  more-faults : (b several : Bool) → old.has live.0 c ≡ b → is_several rest ≡ several → failures_at last more.faults.items c ≡ (if b && several then map unclosed_at (take 1 rest) else [])
+  more-faults b several here is = is_closed.faults c listed1 ∙ (λ i. if under b here i && is i then map unclosed_at (take 1 rest) else [])
+
+  no-faults : failures_at last answer.faults.items c ≡ [] → faults_at last answer.faults.items c ≡ []
+  no-faults none = nothing-mapped seen_failure (faults_at last answer.faults.items c) none
+
+  settled-expanded : (several : Bool) → is_several rest ≡ several → old.has live.0 c ≡ true → failures_at new after.refusals.faults.items c ≡ []
+      → Expands (provenance_of files) macros (map (begun names) (items_at old list c)) (after_these (map (seen_hidden later after.sets) out) (closed (map (seen_hidden later after.sets) rest))) → IsExpanded last later files answer macros (map (seen names files) (items_at old list c)) c
+  settled-expanded false few here none d =
+      let both = sym (map-append (seen_hidden later after.sets) out rest) in
+      expanded-list last names later files answer macros c (items_at old list c) after.sets (out ++ rest)
+      (subst (Expands (provenance_of files) macros (map (begun names) (items_at old list c))) (ap (after_these (map (seen_hidden later after.sets) out)) (closed-few later after.sets rest few) ∙ ap (λ l. Ok l) both) d)
+      (items ∙ (ap (λ l. map (λ (h : Hidden). h.token) out ++ l) (more-items true false here few) ∙ sym (map-append (λ (h : Hidden). h.token) out rest)))
+      (no-faults (faults ∙ (λ i. none i ++ more-faults true false here few i)))
+  settled-expanded true many here none d = by rest refl many d
+    where
+      by : (r : List Hidden) → rest ≡ r → is_several r ≡ true
+          → Expands (provenance_of files) macros (map (begun names) (items_at old list c)) (after_these (map (seen_hidden later after.sets) out) (closed (map (seen_hidden later after.sets) rest))) → IsExpanded last later files answer macros (map (seen names files) (items_at old list c)) c
+      by [] is many d = absurd (cc)
+      by (x ∷ []) is many d = absurd (cc)
+      by (x ∷ (y ∷ ys)) is many_too d = expanded-fault last names later files answer macros c (items_at old list c) (unclosed_at x)
+          (subst (Expands (provenance_of files) macros (map (begun names) (items_at old list c))) (ap (λ r. after_these (map (seen_hidden later after.sets) out) (closed (map (seen_hidden later after.sets) r))) is) d)
+          (faults ∙ (λ i. none i ++ (more-faults true true here many ∙ ap (λ r. map unclosed_at (take 1 r)) is) i))
+
+  pub done-expanded : old.has live.0 c ≡ true → IsExpanded last later files answer macros (map (seen names files) (items_at old list c)) c
   done-expanded here = by (old.has e.refusals.live.0 c) (ap (λ (k : Cond). old.has k.0 c) live_is ∙ here) done
     where
-      by : (b : Bool) → b ≡ true → IsDone (provenance_of files) macros (seen_at (stores old names e.sets) e.top.work c) (seen_at (stores new later after.sets) after.top.out c) (failures_at new after.refusals.faults.items c) b
-          → IsExpanded new later files answer macros (map (seen names files) (items_at old list c)) c
-      by b is (running.unasked none) = absurd (true≢false (sym is))
-      by b is (running.expanded none d) = expanded-list new names later files answer macros c (items_at old list c) after.sets (items_at new after.top.out c)
-          (subst (λ l. Expands (provenance_of files) macros l (Ok (seen_at (stores new later after.sets) after.top.out c))) source d) items
-          (nothing-mapped seen_failure (faults_at new answer.faults.items c) (faults ∙ none))
-      by b is (running.refused failure one d) = expanded-fault new names later files answer macros c (items_at old list c) failure
-          (subst (λ l. Expands (provenance_of files) macros l (Err failure)) source d) (faults ∙ one)
+      by : (b : Bool) → b ≡ true → IsDone (provenance_of files) macros (seen_at (stores old names e.sets) e.top.work c) (seen_at (stores new later after.sets) after.top.out c) (seen_at (stores new later after.sets) after.rest c)
+          (failures_at new after.refusals.faults.items c) b → IsExpanded last later files answer macros (map (seen names files) (items_at old list c)) c
+      by b is (running.unasked none left) = absurd (true≢false (sym is))
+      by b is (running.settled none d) = settled-expanded (is_several rest) refl here none
+          (subst (λ l. Expands (provenance_of files) macros l (after_these (map (seen_hidden later after.sets) out) (closed (map (seen_hidden later after.sets) rest)))) source (settles-closed (provenance_of files) macros d))
+      by b is (running.refused failure one left d) =
+          let nothing : rest ≡ [] = nothing-mapped (seen_hidden later after.sets) rest left in
+          expanded-fault last names later files answer macros c (items_at old list c) failure
+          (subst (λ l. Expands (provenance_of files) macros l (Err failure)) source (held-closed (provenance_of files) macros d))
+          (faults ∙ (λ i. one i ++ more-faults true false here (ap is_several nothing) i))
 
-  pub done-empty : IsUntouched e → PutsOut (stores old names e.sets) (stores new later after.sets) e.refusals.live.0 e.top.out after.top.out → IsConfig old.arities c → old.has live.0 c ≡ false → IsEmpty new answer c
-  done-empty fresh out listed other = record {
+  pub done-empty : IsUntouched old e → PutsOut (stores old names e.sets) (stores new later after.sets) e.refusals.live.0 e.top.out after.top.out → old.has live.0 c ≡ false → IsEmpty last answer c
+  done-empty fresh puts other = record {
     list =
-        let nothing : items_at new after.top.out c ≡ [] =
-        nothing-mapped (seen_hidden later after.sets) (items_at new after.top.out c) (out.apart c listed absent ∙ ap (λ l. seen_at (stores old names e.sets) l c) fresh.out) in
-        items ∙ ap (map (λ (h : Hidden). h.token)) nothing;
-    faults = nothing-mapped seen_failure (faults_at new answer.faults.items c) (faults ∙ by (old.has e.refusals.live.0 c) absent done);
+        let nothing : out ≡ [] = nothing-mapped (seen_hidden later after.sets) out (puts.apart c listed absent ∙ ap (λ l. seen_at (stores old names e.sets) l c) fresh.out) in
+        items ∙ (λ i. map (λ (h : Hidden). h.token) (nothing i) ++ more-items false (is_several rest) other refl i);
+    faults = no-faults (faults ∙ (λ i. by (old.has e.refusals.live.0 c) absent done i ++ more-faults false (is_several rest) other refl i));
   }
     where
       absent : old.has e.refusals.live.0 c ≡ false
       absent = ap (λ (k : Cond). old.has k.0 c) live_is ∙ other
 
-      by : (b : Bool) → b ≡ false → IsDone (provenance_of files) macros (seen_at (stores old names e.sets) e.top.work c) (seen_at (stores new later after.sets) after.top.out c) (failures_at new after.refusals.faults.items c) b
-          → failures_at new after.refusals.faults.items c ≡ []
-      by b is (running.unasked none) = none
-      by b is (running.expanded none d) = none
-      by b is (running.refused failure one d) = absurd (true≢false is)
+      by : (b : Bool) → b ≡ false → IsDone (provenance_of files) macros (seen_at (stores old names e.sets) e.top.work c) (seen_at (stores new later after.sets) after.top.out c) (seen_at (stores new later after.sets) after.rest c)
+          (failures_at new after.refusals.faults.items c) b → failures_at new after.refusals.faults.items c ≡ []
+      by b is (running.unasked none left) = none
+      by b is (running.settled none d) = none
+      by b is (running.refused failure one left d) = absurd (true≢false is)
 
-pub answer-held : (s : Sets) (names : List (List ℕ)) (files : ℕ) (after : Expansion) (answer : Expanded) → IsHeldExpansion (stores s names after.sets) files after → answer.list ≡ map bared after.top.out → answer.faults ≡ after.refusals.faults
-    → IsHeldAnswer s names files answer
-answer-held s names files after answer held list_is faults_are = record {
-  own = subst (All (λ (x : Cond × Token). IsCond s x.0.0)) (sym list_is) (All-bared (λ (x : Cond × Token). IsCond s x.0.0) (λ x. IsCond s x.0.0) (λ x own. own) after.top.out held.top.out.own);
-  held = subst (All (λ (x : Cond × Token). IsHeld names x.1)) (sym list_is)
-      (All-bared (λ (x : Cond × Token). IsHeld names x.1) (λ x. IsHeldToken (stores s names after.sets) files x.1) (λ x own. own.held.token) after.top.out held.top.out.held);
-  placed = subst (All (λ (x : Cond × Token). x.1.place.file.0 < files)) (sym list_is)
-      (All-bared (λ (x : Cond × Token). x.1.place.file.0 < files) (λ x. IsHeldToken (stores s names after.sets) files x.1) (λ x own. own.file) after.top.out held.top.out.held);
-  faults_own = subst (λ v. All (λ (f : Fault). IsCond s f.cond.0) v.items) (sym faults_are) held.refusals.own;
-  faults_placed = subst (λ v. All (λ (f : Fault). f.place.file.0 < files) v.items) (sym faults_are) held.refusals.placed;
-}
+module _ (new last : Sets) (later : List (List ℕ)) (files : ℕ) (after : Expansion) (live : ℕ) (more answer : Expanded) (second : Keeps new last) (held : IsHeldExpansion (stores new later after.sets) files after)
+    (list_is : answer.list ≡ map bared after.top.out ++ more.list) (faults_are : answer.faults.items ≡ after.refusals.faults.items ++ more.faults.items) (is_closed : IsClosed new last after.rest live more) where
+  both : (P : Cond × Token → Type 0) → All P (map bared after.top.out) → All P more.list → All P answer.list
+  both P front back = subst (All P) (sym list_is) (All-append P (map bared after.top.out) more.list front back)
 
-pub answer-some : (old new : Stores) (live : ℕ) (e after : Expansion) (answer : Expanded) → IsUntouched e → PutsOut old new live e.top.out after.top.out → answer.list ≡ map bared after.top.out
-    → All (λ (x : Cond × Token). IsNever new.sets x.0.0 → ⊥) answer.list
-answer-some old new live e after answer fresh out list_is =
-    let none : All (λ (x : Cond × Hidden). IsNever old.sets x.0.0 → ⊥) e.top.out = subst (All (λ (x : Cond × Hidden). IsNever old.sets x.0.0 → ⊥)) (sym fresh.out) (All-nil (λ (x : Cond × Hidden). IsNever old.sets x.0.0 → ⊥)) in
-    subst (All (λ (x : Cond × Token). IsNever new.sets x.0.0 → ⊥)) (sym list_is)
-    (All-bared (λ (x : Cond × Token). IsNever new.sets x.0.0 → ⊥) (λ x. IsNever new.sets x.0.0 → ⊥) (λ x some. some) after.top.out (out.some none))
+  pub answer-held : IsHeldAnswer last later files answer
+  answer-held = record {
+    own = both (λ (x : Cond × Token). IsCond last x.0.0) (All-bared (λ (x : Cond × Token). IsCond last x.0.0) (λ x. IsCond new x.0.0) (λ x own. second.own _ own) after.top.out held.top.out.own) is_closed.own;
+    held = both (λ (x : Cond × Token). IsHeld later x.1) (All-bared (λ (x : Cond × Token). IsHeld later x.1) (λ x. IsHeldToken (stores new later after.sets) files x.1) (λ x own. own.held.token) after.top.out held.top.out.held)
+        (is_closed.held later (λ k d h. (held.rest.held k d h).held.token));
+    placed = both (λ (x : Cond × Token). x.1.place.file.0 < files) (All-bared (λ (x : Cond × Token). x.1.place.file.0 < files) (λ x. IsHeldToken (stores new later after.sets) files x.1) (λ x own. own.file) after.top.out held.top.out.held)
+        (is_closed.placed files (λ k d h. (held.rest.held k d h).file));
+    faults_own = subst (All (λ (f : Fault). IsCond last f.cond.0)) (sym faults_are)
+        (All-append (λ (f : Fault). IsCond last f.cond.0) after.refusals.faults.items more.faults.items (λ k d h. second.own _ (held.refusals.own k d h)) is_closed.faults_own);
+    faults_placed = subst (All (λ (f : Fault). f.place.file.0 < files)) (sym faults_are)
+        (All-append (λ (f : Fault). f.place.file.0 < files) after.refusals.faults.items more.faults.items held.refusals.placed (is_closed.faults_placed files (λ k d h. (held.rest.held k d h).file)));
+  }
+
+  pub answer-some : (old : Stores) (began : ℕ) (e : Expansion) → IsUntouched old.sets e → PutsOut old (stores new later after.sets) began e.top.out after.top.out → All (λ (x : Cond × Token). IsNever last x.0.0 → ⊥) answer.list
+  answer-some old began e fresh out =
+      let none : All (λ (x : Cond × Hidden). IsNever old.sets x.0.0 → ⊥) e.top.out = subst (All (λ (x : Cond × Hidden). IsNever old.sets x.0.0 → ⊥)) (sym fresh.out) (All-nil (λ (x : Cond × Hidden). IsNever old.sets x.0.0 → ⊥)) in
+      both (λ (x : Cond × Token). IsNever last x.0.0 → ⊥)
+      (All-bared (λ (x : Cond × Token). IsNever last x.0.0 → ⊥) (λ x. IsNever last x.0.0 → ⊥) (λ x some. some) after.top.out (some-Keeps second after.top.out held.top.out.own (out.some none))) is_closed.some
+
+  pub answer-alike : (c d : List ℕ) → IsConfig new.arities c → IsConfig new.arities d → new.has live c ≡ new.has live d → IsAlikeExpansion new c d no_others after → AreAlike new c d after.rest
+      → AreAlike last c d answer.list × AreAlikeFaults last c d answer.faults.items
+  answer-alike c d p q here alike rest =
+      let out : AreAlike new c d after.top.out = (subst (λ o. IsAlikeFrame new c d o after.top) (others-none (length after.below.items)) alike.top).out in
+      let closed_alike = is_closed.alike c d p q here rest in (
+        both (λ (x : Cond × Token). IsAlike last c d x.0) (All-bared (λ (x : Cond × Token). IsAlike last c d x.0) (λ x. IsAlike last c d x.0) (λ x same. same) after.top.out (AreAlike-Keeps second p q after.top.out held.top.out.own out)) closed_alike.0,
+        subst (AreAlikeFaults last c d) (sym faults_are)
+            (All-append (λ (f : Fault). IsAlike last c d f.cond) after.refusals.faults.items more.faults.items (AreAlikeFaults-Keeps second p q after.refusals.faults.items held.refusals.own alike.refusals.faults) closed_alike.1),
+      )
 
 -- ---- alike configurations
 
@@ -162,11 +243,12 @@ source-defines s names files c one other e list tokens unhidden defines =
     let source = source-is s names e.sets c e.top.work unhidden ∙ ap (λ l. map (begun names) (items_at s l c)) tokens in
     subst (DefineAlike (provenance_of files) one other) (sym source) (text-defines names files one other (items_at s list c) defines)
 
-pub started-alike : (s : Sets) (c d : List ℕ) (e : Expansion) (list : List (Cond × Token)) (live : Cond) → IsUntouched e → e.refusals.live ≡ live → map bared e.top.work ≡ list
-    → IsAlike s c d live → AreAlike s c d list → IsAlikeExpansion s c d no_others e
-started-alike s c d e list live fresh live_is tokens both same = record {
+pub started-alike : (s : Sets) (c d : List ℕ) (e : Expansion) (list : List (Cond × Token)) (live : Cond) → IsUntouched s e → e.refusals.live ≡ live → map bared e.top.work ≡ list
+    → IsAlike s c d live → AreAlike s c d list → IsConfig s.arities c → IsConfig s.arities d → IsAlikeExpansion s c d no_others e
+started-alike s c d e list live fresh live_is tokens both same p q = record {
   refusals = record {
     live = subst (IsAlike s c d) (sym live_is) both;
+    waiting = fresh.waiting.none c p ∙ sym (fresh.waiting.none d q);
     faults = subst (λ fs. AreAlikeFaults s c d (drop 0 fs)) (sym fresh.faults) (All-nil (λ (f : Fault). IsAlike s c d f.cond));
   };
   top = subst (λ (bs : List Enclosing). IsAlikeFrame s c d (others_at no_others (length bs)) e.top) (sym fresh.below) (record {
@@ -179,11 +261,3 @@ started-alike s c d e list live fresh live_is tokens both same = record {
   where
     none-at : {o : Enclosing} (n : ℕ) → slice_get [] n ≡ Some o → ⊥
     none-at n is = cc
-
-pub answer-alike : (s : Sets) (c d : List ℕ) (after : Expansion) (answer : Expanded) → answer.list ≡ map bared after.top.out → answer.faults ≡ after.refusals.faults → IsAlikeExpansion s c d no_others after
-    → AreAlike s c d answer.list × AreAlikeFaults s c d answer.faults.items
-answer-alike s c d after answer list_is faults_are alike =
-    let out : AreAlike s c d after.top.out = (subst (λ o. IsAlikeFrame s c d o after.top) (others-none (length after.below.items)) alike.top).out in (
-      subst (AreAlike s c d) (sym list_is) (All-bared (λ (x : Cond × Token). IsAlike s c d x.0) (λ x. IsAlike s c d x.0) (λ x same. same) after.top.out out),
-      subst (λ v. AreAlikeFaults s c d v.items) (sym faults_are) alike.refusals.faults,
-    )

@@ -4,7 +4,7 @@ use Rattle.std.proofs.lemmas.List.{drop-map, length-map}
 use Rattle.std.proofs.lemmas.List.Elements.{All-head, All-tail, All-weaker}
 use Rattle.std.proofs.lemmas.Option.{slice_get-map}
 use Rattle.std.specs.Option.{option_map}
-use Rattle.c11_macros.specs.Expansion.{Case, Expands, case_of, stays}
+use Rattle.c11_macros.specs.Expansion.{Case, Expands, case_of}
 use Rattle.c11_macros.specs.Footprint.{Arrives, Footprint, begins, footprint, footprint_from, goes_on}
 use Rattle.c11_macros.specs.Hidden.{Failure, Hidden, Provenance}
 use Rattle.c11_macros.specs.Macros.{Macros}

@@ -1,10 +1,12 @@
 -- How a call goes on, as sc_hoist tells it, and what is to be done at its name.
-use Rattle.std.proofs.Common.{◌≡◌, ℕ, zero, suc, Bool, true, false, List, [], ◌∷◌, ◌++◌, map, take, drop, length, codes, Option, Some, None, refl, sym, ap, subst, ◌∙◌, if◌then◌else◌}
+use Rattle.std.proofs.Common.{◌≡◌, ℕ, zero, suc, ◌&&◌, Bool, true, false, List, [], ◌∷◌, ◌++◌, map, take, drop, length, codes, Option, Some, None, refl, sym, ap, subst, ◌∙◌, if◌then◌else◌}
 use Rattle.std.specs.List.{slice_get}
 use Rattle.c11_macros.specs.Call.{Call, arguments_for, call_of}
 use Rattle.c11_macros.specs.Expansion.{case_of, fitted_case, is_looked_up, stays, unclosed}
 use Rattle.c11_macros.specs.Hidden.{Hidden}
+use Rattle.c11_macros.specs.Defines.{is_function_like}
 use Rattle.c11_macros.specs.Macros.{Definition, Macros, function_like}
+use Rattle.c11_macros.specs.Runs.{is_function_named, is_last_name}
 use Rattle.sc_expand.proofs.BeginningLemmas.{call_is}
 use Rattle.sc_expand.proofs.PlainCases.{case-alone, case-bare, case-open}
 use Rattle.sc_expand.specs.Arguments.{parted}
@@ -114,3 +116,17 @@ module _ {P : Type 0} where
         by true opens None e = absurd (let e2 : still ≡ bare = e in cc)
         by true opens (Some index) e = absurd (let e2 : closed ≡ bare = e in cc)
         by false opens o e = case-bare macros t d looked defined parameters variadic formed u us opens
+
+    -- it is a last name where no token follows
+    pub last-alone : (ts : List (Hidden P)) → call_end (spellings ts) ≡ alone → is_last_name macros t ts ≡ true
+    last-alone [] is = (λ i. looked i && is_function_named (defined i)) ∙ ap is_function_like formed
+    last-alone (u ∷ us) is = by (same_bytes u.spelling (codes "(")) (closing_at 0 (spellings us)) is
+      where
+        by : (b : Bool) (o : Option ℕ) → (if b then opened_end o else bare) ≡ alone → false ≡ true
+        by true None e = absurd (let e2 : still ≡ alone = e in cc)
+        by true (Some index) e = absurd (let e2 : closed ≡ alone = e in cc)
+        by false o e = absurd (let e2 : bare ≡ alone = e in cc)
+
+    pub not-last : (ts : List (Hidden P)) → call_end (spellings ts) ≡ bare → is_last_name macros t ts ≡ false
+    not-last [] is = absurd (let e : alone ≡ bare = is in cc)
+    not-last (u ∷ us) is = refl

@@ -1,7 +1,7 @@
 -- What taking the calls of a name out comes to, by how each configuration's call goes on.
-use Rattle.std.proofs.Common.{◌≡◌, ℕ, ◌<◌, ◌&&◌, ◌||◌, Bool, true, false, List, [], ◌∷◌, ◌++◌, All, get_or, length, map, Some, IsTrue, refl, sym, ap, subst, ◌∙◌, true≢false, arith, if◌then◌else◌}
+use Rattle.std.proofs.Common.{◌≡◌, ℕ, ◌<◌, not, ◌&&◌, ◌||◌, Bool, true, false, List, [], ◌∷◌, All, get_or, length, map, Some, IsTrue, refl, sym, ap, subst, ◌∙◌, true≢false, arith, if◌then◌else◌}
 use Rattle.c11_macros.specs.Defines.{is_function_like}
-use Rattle.c11_macros.specs.Expansion.{is_looked_up}
+use Rattle.c11_macros.specs.Expansion.{case_of, is_looked_up, unclosed}
 use Rattle.c11_macros.specs.Hidden as model
 use Rattle.c11_macros.specs.Hidden.{Failure, Provenance, failure_at}
 use Rattle.c11_macros.specs.Macros.{Definition, Macros, list_at}
@@ -10,9 +10,10 @@ use Rattle.sc_base.specs.declared.place.Place.{Place}
 use Rattle.sc_base.specs.declared.stop.Stop.{Stop}
 use Rattle.sc_base.specs.declared.stop.Stop.TheVariants.{BranchesFull, ReadFault, OutOfMemory}
 use Rattle.std.proofs.lemmas.Bool.{and_parts}
+use Rattle.std.proofs.Math.Bool.{and-false}
 use Rattle.sc_expand.proofs.AlikeGathering.{each-same-call}
 use Rattle.sc_expand.proofs.GatherBranches.{first-of-each}
-use Rattle.sc_expand.proofs.GatherCases.{case-still, case-uncalled-alone, case-uncalled-bare, spellings}
+use Rattle.sc_expand.proofs.GatherCases.{case-still, case-uncalled-alone, case-uncalled-bare, last-alone, not-last, spellings}
 use Rattle.sc_expand.proofs.GatherPlaces.{spelled-behind}
 use Rattle.sc_expand.proofs.GatherTaking.{function-form, rest-is}
 use Rattle.sc_expand.proofs.TakingSteps.{state-scanning}
@@ -24,11 +25,15 @@ use Rattle.sc_expand.specs.Gather as gathers
 use Rattle.sc_expand.specs.Gather.{Gathers}
 use Rattle.sc_expand.specs.Having.{has_each, tokens_in}
 use Rattle.sc_expand.specs.Machine.{at}
+use Rattle.sc_expand.specs.Open as waiting
+use Rattle.sc_expand.specs.Open.{Waits}
 use Rattle.sc_expand.specs.Plain.{Fails, open_call}
-use Rattle.sc_expand.specs.Seen.{AreHeld, Grows, Stores, seen_at, stores}
+use Rattle.sc_expand.specs.Refusing.{is_left, left_end}
+use Rattle.sc_expand.specs.Seen.{AreHeld, Grows, Stores, seen_at, state_of, stores}
 use Rattle.sc_expand.specs.CallStops.{StopsAt}
 use Rattle.sc_expand.specs.Taking.{has_first}
-use Rattle.sc_expand.specs.Turn.{At}
+use Rattle.sc_expand.specs.Turn as turn
+use Rattle.sc_expand.specs.Turn.{At, EndsBy, held_up, with_end}
 use Rattle.sc_hoist.specs.Branches.{Refuses, lists_at}
 use Rattle.sc_hoist.specs.Calls.{CallEnd, alone, bare, call_end, call_end_at, call_places, closed, is_end, still}
 use Rattle.sc_hoist.specs.declared.branch.Branch.{Branch}
@@ -100,24 +105,25 @@ stops-at cond list limit OutOfMemory keeps held told is = tt
 -- ---- one configuration
 
 -- what the parts of it came to, where the name is called so
-pub record Ending (old mid now new : Stores) (e0 e1 e2 : Expansion) (branches : List Branch) (failure : Failure Place) (c place : List ℕ) (refused uncalled has : Bool) (end : CallEnd) : Type 0 where
+pub record Ending (old mid now new : Stores) (e0 e1 e2 : Expansion) (branches : List Branch) (failure : Failure Place) (c place : List ℕ) (whole refused uncalled has : Bool) (end : CallEnd) : Type 0 where
   pub lists : lists_at mid.sets branches c ≡ (if has && is_end closed end then place ∷ [] else [])
-  pub refused_is : refused ≡ (has && is_end still end)
-  pub uncalled_is : uncalled ≡ ((has && is_end bare end) || (has && is_end alone end))
+  pub refused_is : refused ≡ is_left whole (has && is_end still end) (has && is_end alone end)
+  pub uncalled_is : uncalled ≡ ((has && is_end bare end) || (not whole && (has && is_end alone end)))
   pub other : refused ≡ false → at mid e1 c ≡ at old e0 c
   pub dead : refused ≡ true → (at mid e1 c).live ≡ false
-  pub failures : refused ≡ true → (at mid e1 c).failures ≡ (at old e0 c).failures ++ failure ∷ []
+  pub ends : refused ≡ true → (at mid e1 c).ends ≡ with_end (at old e0 c).ends (left_end whole failure)
+  pub view : (at mid e1 c).view ≡ (at old e0 c).view
   pub each : has_each mid.sets e1.top.work c ≡ has_each old.sets e0.top.work c
   pub last : at new e2 c ≡ at now e2 c
   pub last_each : has_each new.sets e2.top.work c ≡ has_each now.sets e2.top.work c
 
-module _ (old mid now new : Stores) (e0 e1 e2 : Expansion) (branches : List Branch) (form : declared_form.Form) (items : List declared_item.Item) (head : Hidden) (c place : List ℕ) (refused uncalled : Bool)
+module _ (old mid now new : Stores) (e0 e1 e2 : Expansion) (branches : List Branch) (form : declared_form.Form) (items : List declared_item.Item) (head : Hidden) (c place : List ℕ) (whole refused uncalled : Bool)
     (listed : IsConfig mid.sets.arities c) (done : AreGathered mid now e1 e2 form items head branches) where
   abbrev failure : Failure Place
   failure = failure_at UnterminatedCall (seen_hidden old.names old.hides head)
 
   abbrev Ended : Bool → CallEnd → Type 0
-  Ended has end = Ending old mid now new e0 e1 e2 branches failure c place refused uncalled has end
+  Ended has end = Ending old mid now new e0 e1 e2 branches failure c place whole refused uncalled has end
 
   -- where no branch has it, it is as it was but for what was refused
   untaken : (has : Bool) (end : CallEnd) → Ended has end → (has && is_end closed end) ≡ false → (at new e2 c ≡ at mid e1 c) × (has_each new.sets e2.top.work c ≡ has_each old.sets e0.top.work c)
@@ -128,44 +134,69 @@ module _ (old mid now new : Stores) (e0 e1 e2 : Expansion) (branches : List Bran
   pub ended-other : (end : CallEnd) → Ended false end → ((at new e2 c ≡ at old e0 c) × (uncalled ≡ false)) × (has_each new.sets e2.top.work c ≡ has_each old.sets e0.top.work c)
   ended-other end is =
       let same = untaken false end is refl in
-      ((same.0 ∙ is.other is.refused_is, is.uncalled_is), same.1)
+      ((same.0 ∙ is.other (is.refused_is ∙ and-false whole), is.uncalled_is ∙ and-false (not whole)), same.1)
 
   pub ended-first : (end : CallEnd) → Ended true end → has_first old.sets e0.top.work c ≡ true → (at new e2 c).live ≡ true → has_first new.sets e2.top.work c ≡ uncalled
-  ended-first closed is stands live = first-of-each new.sets now.sets e2.top.work e2.top.work c is.last_each ∙ (done.first c place listed is.lists ∙ sym is.uncalled_is)
+  ended-first closed is stands live = first-of-each new.sets now.sets e2.top.work e2.top.work c is.last_each ∙ (done.first c place listed is.lists ∙ sym (is.uncalled_is ∙ and-false (not whole)))
   ended-first still is stands live = let gone = ap (λ (a : At). a.live) (untaken true still is refl).0 ∙ is.dead is.refused_is in absurd (true≢false (sym live ∙ gone))
   ended-first bare is stands live = first-of-each new.sets old.sets e2.top.work e0.top.work c (untaken true bare is refl).1 ∙ (stands ∙ sym is.uncalled_is)
-  ended-first alone is stands live = first-of-each new.sets old.sets e2.top.work e0.top.work c (untaken true alone is refl).1 ∙ (stands ∙ sym is.uncalled_is)
+  ended-first alone is stands live = by whole refl
+    where
+      by : (b : Bool) → whole ≡ b → has_first new.sets e2.top.work c ≡ uncalled
+      by true opens = (let gone = ap (λ (a : At). a.live) (untaken true alone is refl).0 ∙ is.dead (is.refused_is ∙ ap (λ b. b && true) opens) in absurd (true≢false (sym live ∙ gone)))
+      by false closes = first-of-each new.sets old.sets e2.top.work e0.top.work c (untaken true alone is refl).1 ∙ (stands ∙ sym (is.uncalled_is ∙ ap (λ b. not b && true) closes))
 
   module _ (provenance : Provenance Place) (macros : Macros) (d : Definition) (rest : List (model.Hidden Place)) (work : (at old e0 c).view.work ≡ seen_hidden old.names old.hides head ∷ rest) (calls : (at old e0 c).view.calls ≡ [])
       (same : seen_hidden mid.names mid.hides head ≡ seen_hidden old.names old.hides head) (looked : is_looked_up (seen_hidden old.names old.hides head) ≡ true)
-      (defined : macros (seen_hidden old.names old.hides head).spelling ≡ Some d) (function : IsTrue (is_function_like d.form)) (macro : IsMacro mid provenance macros form items head d) where
+      (defined : macros (seen_hidden old.names old.hides head).spelling ≡ Some d) (function : IsTrue (is_function_like d.form)) (macro : IsMacro mid provenance macros form items head d) (opens : (at old e0 c).whole ≡ whole) where
     abbrev t : model.Hidden Place
     t = seen_hidden old.names old.hides head
 
+    -- what follows the list, or nothing, decides
+    left-gathers : (end : CallEnd) → Ended true end → at new e2 c ≡ at mid e1 c → refused ≡ true → EndsBy provenance macros (at old e0 c).whole (state_of (at old e0 c).view) (left_end whole failure)
+        → Gathers provenance macros t rest (at old e0 c) (at new e2 c) false
+    left-gathers end is left gone by = gathers.ended (left_end whole failure) by
+        (record { live = ap (λ (a : At). a.live) left ∙ is.dead gone; ends = ap (λ (a : At). a.ends) left ∙ is.ends gone; view = λ w. ap (λ (a : At). a.view) left ∙ is.view })
+
+    left-still : (b : Bool) → (at old e0 c).whole ≡ b → case_of macros t rest ≡ unclosed → EndsBy provenance macros (at old e0 c).whole (state_of (at old e0 c).view) (left_end b failure)
+    left-still true whole case = held_up whole (subst (Waits macros) (state-scanning (at old e0 c).view (t ∷ rest) work calls) (waiting.open_call (at old e0 c).view.out rest t case))
+    left-still false inside case =
+        let a = at old e0 c in
+        turn.refused failure (subst (λ s. Fails provenance macros s failure) (state-scanning a.view (t ∷ rest) work calls) (open_call a.view.out rest t case)) (λ whole. absurd (true≢false (sym whole ∙ inside)))
+
     pub ended-gathers : (end : CallEnd) → Ended true end → call_end (spellings rest) ≡ end → Gathers provenance macros t rest (at old e0 c) (at new e2 c) uncalled
     ended-gathers closed is ends =
-        let here = is.other is.refused_is in
+        let here = is.other (is.refused_is ∙ and-false whole) in
         let it = done.gathers c place provenance macros d rest listed is.lists (ap (λ (a : At). a.view.work) here ∙ (work ∙ ap (λ t. t ∷ rest) (sym same))) macro in
         let one = subst (λ t. Gathers provenance macros t rest (at mid e1 c) (at now e2 c) false) same it in
         let two = subst (λ a. Gathers provenance macros t rest a (at now e2 c) false) here one in
         let three = subst (λ b. Gathers provenance macros t rest (at old e0 c) b false) (sym is.last) two in
-        subst (Gathers provenance macros t rest (at old e0 c) (at new e2 c)) (sym is.uncalled_is) three
+        subst (Gathers provenance macros t rest (at old e0 c) (at new e2 c)) (sym (is.uncalled_is ∙ and-false (not whole))) three
     ended-gathers still is ends =
         let f = function-form d.form function in
         let case = case-still macros t d looked defined f.parameters f.variadic f.is rest ends in
-        let left = (untaken true still is refl).0 in
-        let a = at old e0 c in
-        let fails = subst (λ s. Fails provenance macros s failure) (state-scanning a.view (t ∷ rest) work calls) (open_call a.view.out rest t case) in
-        let it = gathers.failed failure fails (ap (λ (a : At). a.live) left ∙ is.dead is.refused_is) (ap (λ (a : At). a.failures) left ∙ is.failures is.refused_is) in
-        subst (Gathers provenance macros t rest (at old e0 c) (at new e2 c)) (sym is.uncalled_is) it
+        subst (Gathers provenance macros t rest (at old e0 c) (at new e2 c)) (sym (is.uncalled_is ∙ and-false (not whole)))
+        (left-gathers still is (untaken true still is refl).0 is.refused_is (left-still whole opens case))
     ended-gathers bare is ends =
         let f = function-form d.form function in
         let case = case-uncalled-bare macros t d looked defined f.parameters f.variadic f.is rest ends in
-        subst (Gathers provenance macros t rest (at old e0 c) (at new e2 c)) (sym is.uncalled_is) (gathers.uncalled case ((untaken true bare is refl).0 ∙ is.other is.refused_is))
-    ended-gathers alone is ends =
-        let f = function-form d.form function in
-        let case = case-uncalled-alone macros t d looked defined f.parameters f.variadic f.is rest ends in
-        subst (Gathers provenance macros t rest (at old e0 c) (at new e2 c)) (sym is.uncalled_is) (gathers.uncalled case ((untaken true alone is refl).0 ∙ is.other is.refused_is))
+        let last = not-last macros t d looked defined f.parameters f.variadic f.is rest ends in
+        subst (Gathers provenance macros t rest (at old e0 c) (at new e2 c)) (sym is.uncalled_is) (gathers.uncalled case (λ whole. last) ((untaken true bare is refl).0 ∙ is.other (is.refused_is ∙ and-false whole)))
+    ended-gathers alone is ends = by whole refl
+      where
+        by : (b : Bool) → whole ≡ b → Gathers provenance macros t rest (at old e0 c) (at new e2 c) uncalled
+        by true b_is =
+            let f = function-form d.form function in
+            let last = last-alone macros t d looked defined f.parameters f.variadic f.is rest ends in
+            subst (Gathers provenance macros t rest (at old e0 c) (at new e2 c)) (sym (is.uncalled_is ∙ ap (λ b. not b && true) b_is))
+            (left-gathers alone is (untaken true alone is refl).0 (is.refused_is ∙ ap (λ b. b && true) b_is)
+            (subst (λ b. EndsBy provenance macros (at old e0 c).whole (state_of (at old e0 c).view) (left_end b failure)) (sym b_is)
+            (held_up (opens ∙ b_is) (subst (Waits macros) (state-scanning (at old e0 c).view (t ∷ rest) work calls) (waiting.alone (at old e0 c).view.out rest t last)))))
+        by false b_is =
+            let f = function-form d.form function in
+            let case = case-uncalled-alone macros t d looked defined f.parameters f.variadic f.is rest ends in
+            subst (Gathers provenance macros t rest (at old e0 c) (at new e2 c)) (sym (is.uncalled_is ∙ ap (λ b. not b && true) b_is))
+            (gathers.uncalled case (λ whole. absurd (true≢false (sym whole ∙ (opens ∙ b_is)))) ((untaken true alone is refl).0 ∙ is.other (is.refused_is ∙ ap (λ b. b && true) b_is)))
 
 -- how the call goes on, by what follows the name
 pub end-behind : (st : Stores) (list : List (Cond × Hidden)) (c : List ℕ) (t : model.Hidden Place) (rest : List (model.Hidden Place)) → has_first st.sets list c ≡ true → seen_at st list c ≡ t ∷ rest

@@ -1,6 +1,7 @@
 -- The parts of the configurations of a name, by how its call goes on.
-use Rattle.std.proofs.Common.{◌≡◌, ℕ, ◌≤◌, ◌&&◌, ◌||◌, Bool, true, false, List, [], ◌∷◌, ◌++◌, All, length, get_or, refl, sym, ap, subst, ◌<◌, true≢false, ◌∙◌, arith, if◌then◌else◌, map, IsTrue}
+use Rattle.std.proofs.Common.{◌≡◌, ℕ, ◌≤◌, not, ◌&&◌, ◌||◌, Bool, true, false, List, [], ◌∷◌, All, length, get_or, refl, sym, ap, subst, ◌<◌, true≢false, ◌∙◌, arith, if◌then◌else◌, map, IsTrue}
 use Rattle.std.proofs.lemmas.Bool.{and_parts}
+use Rattle.std.proofs.Math.Bool.{and-false}
 use Rattle.c11_macros.specs.Defines.{is_function_like}
 use Rattle.c11_macros.specs.Hidden.{Failure, failure_at}
 use Rattle.c11_macros.specs.Macros.{list_at}
@@ -10,9 +11,9 @@ use Rattle.sc_expand.proofs.AlikeGathering.{each-same-call}
 use Rattle.sc_expand.proofs.AlikeLemmas.{IsAlike-Keeps, IsAlikeIn-Keeps}
 use Rattle.sc_expand.proofs.GatherBranches.{called-later, spelled-same}
 use Rattle.sc_expand.proofs.GatherEnds.{Ending, end-behind, end-is, ended-first, ended-gathers, ended-other, macro-is}
-use Rattle.sc_expand.proofs.GatherSteps.{refused-alike, refused-failures, refused-held, refused-live, refused-other}
 use Rattle.sc_expand.proofs.LastLemmas.{last-earlier, last-later}
-use Rattle.sc_expand.proofs.SeenLemmas.{Grows-trans, IsHeldExpansion-Grows, at-Grows}
+use Rattle.sc_expand.proofs.SeenLemmas.{Grows-trans, IsHeldExpansion-Grows, at-Grows, view_at-Grows}
+use Rattle.sc_expand.proofs.TakingLemmas.{gone, stays-there}
 use Rattle.sc_expand.proofs.TakingSteps.{has_first-Keeps}
 use Rattle.sc_expand.proofs.WorkListLemmas.{has_each-Keeps}
 use Rattle.sc_expand.specs.Called.{AreGathered, IsBranch, IsCalled, IsGathered}
@@ -20,11 +21,11 @@ use Rattle.sc_expand.specs.Alike.{IsAlikeIn, IsSameCall, Span}
 use Rattle.sc_expand.specs.Having.{tokens_in}
 use Rattle.sc_expand.specs.declared.expansion.Expansion.{Expansion}
 use Rattle.sc_expand.specs.declared.refusals.Refusals.{Refusals}
-use Rattle.sc_expand.specs.Machine.{IsHeldExpansion, at}
-use Rattle.sc_expand.specs.Refusing.{Refuses}
+use Rattle.sc_expand.specs.Machine.{IsHeldExpansion, at, ends_at, is_whole}
+use Rattle.sc_expand.specs.Refusing.{LeavesOpen, is_left, left_end}
 use Rattle.sc_expand.specs.Seen.{Grows, Stores, provenance_of, stores}
 use Rattle.sc_expand.specs.Taking.{has_first}
-use Rattle.sc_expand.specs.Turn.{At}
+use Rattle.sc_expand.specs.Turn.{At, with_end}
 use Rattle.sc_hoist.proofs.BranchLemmas.{lists_at-Keeps}
 use Rattle.sc_hoist.proofs.PartLemmas.{one_list}
 use Rattle.sc_hoist.specs.Alike.{IsAlike}
@@ -40,22 +41,24 @@ use Rattle.sc_model.specs.declared.cause.Cause.TheVariants.{UnterminatedCall}
 use Rattle.sc_subst.proofs.Later.{hidden_later}
 use Rattle.sc_subst.specs.declared.hidden.Hidden.{Hidden}
 use Rattle.sc_subst.specs.Seen.{IsHeldHidden, seen_hidden}
-use Rattle.sc_model.proofs.SetLemmas.{Denotes-Keeps, IsConfig-Keeps, IsConfig-kept, Keeps-trans}
+use Rattle.sc_model.proofs.SetLemmas.{IsConfig-Keeps, IsConfig-kept, Keeps-trans}
 use Rattle.sc_model.specs.Growth.{Extends}
 use Rattle.sc_model.specs.Sets.{Denotes, IsConfig, Keeps, Sets}
 
 -- the configurations were parted, and those of a call that is not closed were refused
-pub record Parted (s0 s1 s2 s3 : Sets) (names later : List (List ℕ)) (files : ℕ) (e : Expansion) (r : Refusals) (cond closes stays_open : ℕ) (branches : List Branch) (failure : Failure Place) : Type 0 where
+pub record Parted (s0 s1 s2 s3 : Sets) (names later : List (List ℕ)) (files : ℕ) (e : Expansion) (r : Refusals) (cond closes opens bares alones uncalled : ℕ) (branches : List Branch) (failure : Failure Place) : Type 0 where
   pub first : Keeps s0 s1
   pub second : Keeps s1 s2
   pub third : Keeps s2 s3
   pub longer : Extends names later
   pub held : IsHeldExpansion (stores s0 names e.sets) files e
   pub closed_is : Denotes s1 closes (λ c. s0.has cond c && is_end closed (call_end_at s0 names (tokens_in e.top.work) 0 c))
-  pub open_is : Denotes s1 stays_open (λ c. s0.has cond c && is_end still (call_end_at s0 names (tokens_in e.top.work) 0 c))
+  pub open_is : Denotes s1 opens (λ c. s0.has cond c && is_end still (call_end_at s0 names (tokens_in e.top.work) 0 c))
+  pub bare_is : Denotes s1 bares (λ c. s0.has cond c && is_end bare (call_end_at s0 names (tokens_in e.top.work) 0 c))
+  pub alone_is : Denotes s1 alones (λ c. s0.has cond c && is_end alone (call_end_at s0 names (tokens_in e.top.work) 0 c))
   pub lists : (c : List ℕ) → IsConfig s1.arities c → lists_at s2 branches c ≡ (if s1.has closes c then call_places s1 names (tokens_in e.top.work) 0 c ∷ [] else [])
   pub are : AreBranches s2 branches
-  pub refuses : Refuses s2 s3 stays_open failure e.refusals r
+  pub leaves : LeavesOpen s2 s3 (is_whole e.below.items) opens bares alones uncalled failure e.refusals r
   pub agree : (c d : List ℕ) → IsConfig s1.arities c → IsConfig s1.arities d → s1.has closes c ≡ s1.has closes d
       → call_places s1 names (tokens_in e.top.work) 0 c ≡ call_places s1 names (tokens_in e.top.work) 0 d → Agree s2 branches c d
 
@@ -65,8 +68,8 @@ part-same end one two true false is same = absurd (cc)
 part-same end one two false true is same = absurd (cc)
 part-same end one two false false is same = refl
 
-module _ {s0 s1 s2 s3 : Sets} {names later : List (List ℕ)} {files : ℕ} {e : Expansion} {r : Refusals} {cond closes stays_open : ℕ} {branches : List Branch} {failure : Failure Place}
-    (parts : Parted s0 s1 s2 s3 names later files e r cond closes stays_open branches failure) where
+module _ {s0 s1 s2 s3 : Sets} {names later : List (List ℕ)} {files : ℕ} {e : Expansion} {r : Refusals} {cond closes opens bares alones uncalled : ℕ} {branches : List Branch} {failure : Failure Place}
+    (parts : Parted s0 s1 s2 s3 names later files e r cond closes opens bares alones uncalled branches failure) where
   abbrev st0 : Stores
   st0 = stores s0 names e.sets
 
@@ -100,8 +103,26 @@ module _ {s0 s1 s2 s3 : Sets} {names later : List (List ℕ)} {files : ℕ} {e :
   held2 : IsHeldExpansion st2 files e
   held2 = IsHeldExpansion-Grows g12 e held1
 
-  other : (c : List ℕ) → IsConfig s2.arities c → s2.has stays_open c ≡ false → at st3 refused c ≡ at st2 e c
-  other = refused-other g23 e held2 parts.refuses
+  abbrev whole : Bool
+  whole = is_whole e.below.items
+
+  -- those that are left open
+  abbrev left : List ℕ → Bool
+  left c = is_left whole (s2.has opens c) (s2.has alones c)
+
+  left-is : (c : List ℕ) → IsConfig s1.arities c
+      → left c ≡ is_left whole (s0.has cond c && is_end still (call_end_at s0 names (tokens_in e.top.work) 0 c)) (s0.has cond c && is_end alone (call_end_at s0 names (tokens_in e.top.work) 0 c))
+  left-is c listed1 =
+      let stills = parts.second.at opens c parts.open_is.own listed1 ∙ parts.open_is.at c listed1 in
+      let alone_too = parts.second.at alones c parts.alone_is.own listed1 ∙ parts.alone_is.at c listed1 in
+      λ i. is_left whole (stills i) (alone_too i)
+
+  other : (c : List ℕ) → IsConfig s2.arities c → left c ≡ false → at st3 refused c ≡ at st2 e c
+  other c listed lacks =
+      let lives = parts.leaves.live.at c (IsConfig-Keeps parts.third listed) ∙ stays-there (s2.has e.refusals.live.0 c) (left c) lacks in
+      let view = view_at-Grows g23 c listed e.top held2.top in
+      let ends = parts.leaves.ends c listed held2.refusals.own held2.refusals.waiting ∙ ap (λ b. if b then with_end (ends_at s2 e.refusals c) (left_end whole failure) else ends_at s2 e.refusals c) lacks in
+      λ i. record { live = lives i; whole = whole; view = view i; ends = ends i }
 
   pub one-at-most : (c : List ℕ) → IsConfig s3.arities c → length (lists_at s3 branches c) ≤ 1
   one-at-most c listed =
@@ -125,7 +146,7 @@ module _ {s0 s1 s2 s3 : Sets} {names later : List (List ℕ)} {files : ℕ} {e :
         let end = call_end_at s0 names (tokens_in e.top.work) 0 c in
         let two = and_parts (s0.has cond c) (is_end closed end) (sym (parts.closed_is.at c listed1) ∙ has) in
         let ends = end-is closed end two.1 in
-        let no_fault : s2.has stays_open c ≡ false = parts.second.at stays_open c parts.open_is.own listed1 ∙ (parts.open_is.at c listed1 ∙ (λ i. two.0 i && is_end still (ends i))) in
+        let no_fault : left c ≡ false = left-is c listed1 ∙ ((λ i. is_left whole (two.0 i && is_end still (ends i)) (two.0 i && is_end alone (ends i))) ∙ and-false whole) in
         let first = stands c listed0 two.0 in
         let own = parts.held.top.work.own in
         let same1 = at-Grows g01 c listed0 e parts.held in
@@ -191,70 +212,79 @@ module _ {s0 s1 s2 s3 : Sets} {names later : List (List ℕ)} {files : ℕ} {e :
     pub each-branch : All (λ (b : Branch). IsAlike s3 c d b.cond) branches
     each-branch = λ k x h. IsAlike-Keeps parts.third c2 d2 (parts.are.own k x h) (branches-alike (s1.has closes c) refl k x h)
 
+    later-alike : (end : CallEnd) (k : ℕ) → Denotes s1 k (λ c. s0.has cond c && is_end end (call_end_at s0 names (tokens_in e.top.work) 0 c)) → s2.has k c ≡ s2.has k d
+    later-alike end k told =
+        let both = told.at c c1 ∙ (end-alike end ∙ sym (told.at d d1)) in
+        parts.second.at k c told.own c1 ∙ (both ∙ sym (parts.second.at k d told.own d1))
+
+    pub uncalled-alike : s3.has uncalled c ≡ s3.has uncalled d
+    uncalled-alike =
+        let bare_too = later-alike bare bares parts.bare_is in
+        let alone_too = later-alike alone alones parts.alone_is in
+        parts.leaves.uncalled_is.at c (IsConfig-Keeps parts.third c2) ∙ ((λ i. bare_too i || (not whole && alone_too i)) ∙ sym (parts.leaves.uncalled_is.at d (IsConfig-Keeps parts.third d2)))
+
     pub parted-alike : (span : Span) → IsAlikeIn s0 c d span e → IsAlikeIn s3 c d span refused
     parted-alike span alike =
-        let opens = parts.open_is.at c c1 ∙ (end-alike still ∙ sym (parts.open_is.at d d1)) in
-        let later = parts.second.at stays_open c parts.open_is.own c1 ∙ (opens ∙ sym (parts.second.at stays_open d parts.open_is.own d1)) in
-        refused-alike g23 e held2 parts.refuses c d span c2 d2 later (IsAlikeIn-Keeps (Keeps-trans parts.first parts.second) at_c at_d span e parts.held alike)
+        let kept = IsAlikeIn-Keeps (Keeps-trans parts.first parts.second) at_c at_d span e parts.held alike in
+        let later = IsAlikeIn-Keeps parts.third c2 d2 span e held2 kept in
+        record {
+          refusals = parts.leaves.alike c d span.faults c2 d2 held2.refusals.own held2.refusals.waiting (later-alike still opens parts.open_is) (later-alike alone alones parts.alone_is) kept.refusals;
+          work = later.work;
+          out = later.out;
+          calls = later.calls;
+        }
 
   -- ---- the end
 
-  ending-at : (s4 s5 : Sets) (last_names : List (List ℕ)) (e2 : Expansion) (uncalled : ℕ) → Keeps s3 s4 → Keeps s4 s5 → IsHeldExpansion (stores s4 last_names e2.sets) files e2
-      → Denotes s5 uncalled (λ c. (s0.has cond c && is_end bare (call_end_at s0 names (tokens_in e.top.work) 0 c)) || (s0.has cond c && is_end alone (call_end_at s0 names (tokens_in e.top.work) 0 c)))
-      → (c : List ℕ) → IsConfig s0.arities c
-      → Ending st0 st3 (stores s4 last_names e2.sets) (stores s5 last_names e2.sets) e refused e2 branches failure c (call_places s1 names (tokens_in e.top.work) 0 c) (s2.has stays_open c) (s5.has uncalled c)
-      (s0.has cond c) (call_end_at s0 names (tokens_in e.top.work) 0 c)
-  ending-at s4 s5 last_names e2 uncalled fourth fifth held4 told c listed0 =
+  pub ending : (s4 : Sets) (last_names : List (List ℕ)) (e2 : Expansion) → Keeps s3 s4 → IsHeldExpansion (stores s4 last_names e2.sets) files e2 → (c : List ℕ) → IsConfig s0.arities c → (has : Bool) → s0.has cond c ≡ has
+      → Ending st0 st3 (stores s4 last_names e2.sets) (stores s4 last_names e2.sets) e refused e2 branches failure c (call_places s1 names (tokens_in e.top.work) 0 c) whole (left c) (s4.has uncalled c)
+      has (call_end_at s0 names (tokens_in e.top.work) 0 c)
+  ending s4 last_names e2 fourth held4 c listed0 has has_is =
       let listed1 = IsConfig-Keeps parts.first listed0 in
       let listed2 = IsConfig-Keeps parts.second listed1 in
       let listed3 = IsConfig-Keeps parts.third listed2 in
-      let listed4 = IsConfig-Keeps fourth listed3 in
-      let listed5 = IsConfig-Keeps fifth listed4 in
-      let place = call_places s1 names (tokens_in e.top.work) 0 c in
-      let g45 : Grows (stores s4 last_names e2.sets) (stores s5 last_names e2.sets) = record { sets = fifth; names = Extends-refl last_names; hides = Extends-refl e2.sets } in
-      let same = at-Grows g02 c listed0 e parts.held in
-      record {
-        lists = lists_at-Keeps branches c parts.third parts.are.own listed2 ∙ (parts.lists c listed1 ∙ ap (λ b. if b then place ∷ [] else []) (parts.closed_is.at c listed1));
-        refused_is = parts.second.at stays_open c parts.open_is.own listed1 ∙ parts.open_is.at c listed1;
-        uncalled_is = told.at c listed5;
-        other = λ lacks. other c listed2 lacks ∙ same;
-        dead = λ has. refused-live g23 e held2 parts.refuses c listed2 has;
-        failures = λ has. refused-failures g23 e held2 parts.refuses c listed2 has ∙ ap (λ (a : At). a.failures ++ failure ∷ []) same;
-        each = has_each-Keeps e.top.work c (Keeps-trans parts.first (Keeps-trans parts.second parts.third)) parts.held.top.work.own listed0;
-        last = at-Grows g45 c listed4 e2 held4;
-        last_each = has_each-Keeps e2.top.work c fifth held4.top.work.own listed4;
-      }
-
-  pub ending : (s4 s5 : Sets) (last_names : List (List ℕ)) (e2 : Expansion) (uncalled : ℕ) → Keeps s3 s4 → Keeps s4 s5 → IsHeldExpansion (stores s4 last_names e2.sets) files e2
-      → Denotes s5 uncalled (λ c. (s0.has cond c && is_end bare (call_end_at s0 names (tokens_in e.top.work) 0 c)) || (s0.has cond c && is_end alone (call_end_at s0 names (tokens_in e.top.work) 0 c)))
-      → (c : List ℕ) → IsConfig s0.arities c → (has : Bool) → s0.has cond c ≡ has
-      → Ending st0 st3 (stores s4 last_names e2.sets) (stores s5 last_names e2.sets) e refused e2 branches failure c (call_places s1 names (tokens_in e.top.work) 0 c) (s2.has stays_open c) (s5.has uncalled c)
-      has (call_end_at s0 names (tokens_in e.top.work) 0 c)
-  ending s4 s5 last_names e2 uncalled fourth fifth held4 told c listed has is =
       let place = call_places s1 names (tokens_in e.top.work) 0 c in
       let end = call_end_at s0 names (tokens_in e.top.work) 0 c in
-      subst (λ b. Ending st0 st3 (stores s4 last_names e2.sets) (stores s5 last_names e2.sets) e refused e2 branches failure c place (s2.has stays_open c) (s5.has uncalled c) b end) is
-      (ending-at s4 s5 last_names e2 uncalled fourth fifth held4 told c listed)
+      let same = at-Grows g02 c listed0 e parts.held in
+      let bare_now = parts.second.at bares c parts.bare_is.own listed1 ∙ (parts.bare_is.at c listed1 ∙ ap (λ b. b && is_end bare end) has_is) in
+      let alone_now = parts.second.at alones c parts.alone_is.own listed1 ∙ (parts.alone_is.at c listed1 ∙ ap (λ b. b && is_end alone end) has_is) in
+      record {
+        lists = lists_at-Keeps branches c parts.third parts.are.own listed2 ∙ (parts.lists c listed1 ∙ ap (λ b. if b then place ∷ [] else []) (parts.closed_is.at c listed1 ∙ ap (λ b. b && is_end closed end) has_is));
+        refused_is = left-is c listed1 ∙ ap (λ b. is_left whole (b && is_end still end) (b && is_end alone end)) has_is;
+        uncalled_is = fourth.at uncalled c parts.leaves.uncalled_is.own listed3 ∙ (parts.leaves.uncalled_is.at c listed3 ∙ (λ i. bare_now i || (not whole && alone_now i)));
+        other = λ lacks. other c listed2 lacks ∙ same;
+        dead = λ has. parts.leaves.live.at c listed3 ∙ gone (s2.has e.refusals.live.0 c) (left c) has;
+        ends = λ has. parts.leaves.ends c listed2 held2.refusals.own held2.refusals.waiting ∙ (ap (λ b. if b then with_end (ends_at s2 e.refusals c) (left_end whole failure) else ends_at s2 e.refusals c) has
+            ∙ ap (λ (a : At). with_end a.ends (left_end whole failure)) same);
+        view = view_at-Grows g23 c listed2 e.top held2.top ∙ ap (λ (a : At). a.view) same;
+        each = has_each-Keeps e.top.work c (Keeps-trans parts.first (Keeps-trans parts.second parts.third)) parts.held.top.work.own listed0;
+        last = refl;
+        last_each = refl;
+      }
 
   pub parted-config : (c : List ℕ) → IsConfig s0.arities c → IsConfig s3.arities c
   parted-config c listed = IsConfig-Keeps parts.third (IsConfig-Keeps parts.second (IsConfig-Keeps parts.first listed))
 
   pub parted-held : failure.place.file.0 < files → IsHeldExpansion st3 files refused
-  parted-held within = refused-held g23 e held2 parts.refuses within
+  parted-held within =
+      let later = IsHeldExpansion-Grows g23 e held2 in
+      record { refusals = parts.leaves.held files within held2.refusals; rest = later.rest; top = later.top; below = later.below }
 
 -- ---- all configurations
 
 -- what was promised of the branches that were found is so of them where they are read
-pub parted-by : (s0 s1 s2 s3 : Sets) (names later : List (List ℕ)) (files : ℕ) (e : Expansion) (r : Refusals) (cond closes stays_open : ℕ) (found branches : List Branch) (failure : Failure Place) → branches ≡ found
+pub parted-by : (s0 s1 s2 s3 : Sets) (names later : List (List ℕ)) (files : ℕ) (e : Expansion) (r : Refusals) (cond closes opens bares alones uncalled : ℕ) (found branches : List Branch) (failure : Failure Place) → branches ≡ found
     → Keeps s0 s1 → Keeps s1 s2 → Keeps s2 s3 → Extends names later → IsHeldExpansion (stores s0 names e.sets) files e
     → Denotes s1 closes (λ c. s0.has cond c && is_end closed (call_end_at s0 names (tokens_in e.top.work) 0 c))
-    → Denotes s1 stays_open (λ c. s0.has cond c && is_end still (call_end_at s0 names (tokens_in e.top.work) 0 c))
+    → Denotes s1 opens (λ c. s0.has cond c && is_end still (call_end_at s0 names (tokens_in e.top.work) 0 c))
+    → Denotes s1 bares (λ c. s0.has cond c && is_end bare (call_end_at s0 names (tokens_in e.top.work) 0 c))
+    → Denotes s1 alones (λ c. s0.has cond c && is_end alone (call_end_at s0 names (tokens_in e.top.work) 0 c))
     → ((c : List ℕ) → IsConfig s1.arities c → lists_at s2 found c ≡ (if s1.has closes c then call_places s1 names (tokens_in e.top.work) 0 c ∷ [] else [])) → AreBranches s2 found
-    → Refuses s2 s3 stays_open failure e.refusals r
+    → LeavesOpen s2 s3 (is_whole e.below.items) opens bares alones uncalled failure e.refusals r
     → ((c d : List ℕ) → IsConfig s1.arities c → IsConfig s1.arities d → s1.has closes c ≡ s1.has closes d
     → call_places s1 names (tokens_in e.top.work) 0 c ≡ call_places s1 names (tokens_in e.top.work) 0 d → Agree s2 found c d)
-    → Parted s0 s1 s2 s3 names later files e r cond closes stays_open branches failure
-parted-by s0 s1 s2 s3 names later files e r cond closes stays_open found branches failure value first second third longer held closed_is open_is lists are refuses agree = record {
+    → Parted s0 s1 s2 s3 names later files e r cond closes opens bares alones uncalled branches failure
+parted-by s0 s1 s2 s3 names later files e r cond closes opens bares alones uncalled found branches failure value first second third longer held closed_is open_is bare_is alone_is lists are leaves agree = record {
   first = first;
   second = second;
   third = third;
@@ -262,58 +292,49 @@ parted-by s0 s1 s2 s3 names later files e r cond closes stays_open found branche
   held = held;
   closed_is = closed_is;
   open_is = open_is;
+  bare_is = bare_is;
+  alone_is = alone_is;
   lists = λ c listed. ap (λ bs. lists_at s2 bs c) value ∙ lists c listed;
   are = subst (AreBranches s2) (sym value) are;
-  refuses = refuses;
+  leaves = leaves;
   agree = λ c d at_c at_d same placed. subst (λ bs. Agree s2 bs c d) (sym value) (agree c d at_c at_d same placed);
 }
 
-module _ {s0 s1 s2 s3 : Sets} {names later : List (List ℕ)} {e : Expansion} {r : Refusals} {cond closes stays_open : ℕ} {branches : List Branch} (files : List (List ℕ)) (head : Hidden)
-    (parts : Parted s0 s1 s2 s3 names later (length files) e r cond closes stays_open branches (failure_at UnterminatedCall (seen_hidden names e.sets head)))
+module _ {s0 s1 s2 s3 : Sets} {names later : List (List ℕ)} {e : Expansion} {r : Refusals} {cond closes opens bares alones uncalled : ℕ} {branches : List Branch} (files : List (List ℕ)) (head : Hidden)
+    (parts : Parted s0 s1 s2 s3 names later (length files) e r cond closes opens bares alones uncalled branches (failure_at UnterminatedCall (seen_hidden names e.sets head)))
     (head_held : IsHeldHidden names e.sets head) (definition : declared_definition.Definition) (items made : List declared_item.Item) (is_definition : IsHeldDefinition names definition) (value : items ≡ made) (own : All (IsHeldItem later) made)
     (list : map (seen_item later) made ≡ list_at (seen_replacement later definition.replacement) (seen_place files head.token.place)) (function : IsTrue (is_function_like (seen_form names definition.form)))
     (stands : (c : List ℕ) → IsConfig s0.arities c → s0.has cond c ≡ true → has_first s0 e.top.work c ≡ true) (waits : (c : List ℕ) → IsConfig s0.arities c → s0.has cond c ≡ true → (at (stores s0 names e.sets) e c).view.calls ≡ [])
-    (s4 s5 : Sets) (last : List (List ℕ)) (e4 : Expansion) (bares alones uncalled : ℕ) (fourth : Keeps s3 s4) (fifth : Keeps s4 s5) (held4 : IsHeldExpansion (stores s4 last e4.sets) (length files) e4)
-    (bare_is : Denotes s1 bares (λ c. s0.has cond c && is_end bare (call_end_at s0 names (tokens_in e.top.work) 0 c))) (alone_is : Denotes s1 alones (λ c. s0.has cond c && is_end alone (call_end_at s0 names (tokens_in e.top.work) 0 c)))
-    (meaning : (f g : List ℕ → Bool) → Denotes s4 bares f → Denotes s4 alones g → Denotes s5 uncalled (λ c. f c || g c))
+    (s4 : Sets) (last : List (List ℕ)) (e4 : Expansion) (fourth : Keeps s3 s4) (held4 : IsHeldExpansion (stores s4 last e4.sets) (length files) e4)
     (done : AreGathered (stores s3 later e.sets) (stores s4 last e4.sets) (record e { refusals = r }) e4 definition.form items head branches) where
-  uncalled_is : Denotes s5 uncalled (λ c. (s0.has cond c && is_end bare (call_end_at s0 names (tokens_in e.top.work) 0 c)) || (s0.has cond c && is_end alone (call_end_at s0 names (tokens_in e.top.work) 0 c)))
-  uncalled_is =
-      let mid = Keeps-trans parts.second (Keeps-trans parts.third fourth) in
-      meaning _ _ (Denotes-Keeps mid bare_is) (Denotes-Keeps mid alone_is)
-
   ended : (c : List ℕ) → IsConfig s0.arities c → (has : Bool) → s0.has cond c ≡ has
-      → Ending (stores s0 names e.sets) (stores s3 later e.sets) (stores s4 last e4.sets) (stores s5 last e4.sets) e (record e { refusals = r }) e4 branches (failure_at UnterminatedCall (seen_hidden names e.sets head)) c
-      (call_places s1 names (tokens_in e.top.work) 0 c) (s2.has stays_open c) (s5.has uncalled c) has (call_end_at s0 names (tokens_in e.top.work) 0 c)
-  ended = ending parts s4 s5 last e4 uncalled fourth fifth held4 uncalled_is
+      → Ending (stores s0 names e.sets) (stores s3 later e.sets) (stores s4 last e4.sets) (stores s4 last e4.sets) e (record e { refusals = r }) e4 branches (failure_at UnterminatedCall (seen_hidden names e.sets head)) c
+      (call_places s1 names (tokens_in e.top.work) 0 c) (is_whole e.below.items) (left parts c) (s4.has uncalled c) has (call_end_at s0 names (tokens_in e.top.work) 0 c)
+  ended = ending parts s4 last e4 fourth held4
 
-  pub is-gathered : IsGathered files (stores s0 names e.sets) (stores s5 last e4.sets) e e4 cond uncalled definition head
+  pub is-gathered : IsGathered files (stores s0 names e.sets) (stores s4 last e4.sets) e e4 cond uncalled definition head
   is-gathered = record {
-    own = uncalled_is.own;
+    own = fourth.own _ parts.leaves.uncalled_is.own;
     gathers = λ c macros rest listed has work looked is.
         let st0 = stores s0 names e.sets in
         let provenance = provenance_of files in
         let here = ap (map (seen_item later)) value ∙ list in
         let macro = macro-is s3 names later e.sets provenance macros definition head items head_held is_definition (subst (All (IsHeldItem later)) (sym value) own) parts.longer looked is here in
-        ended-gathers st0 (stores s3 later e.sets) (stores s4 last e4.sets) (stores s5 last e4.sets) e (record e { refusals = r }) e4 branches definition.form items head c (call_places s1 names (tokens_in e.top.work) 0 c) (s2.has stays_open c)
-        (s5.has uncalled c) (parted-config parts c listed) done provenance macros (seen_definition names definition) rest work (waits c listed has) (hidden_later head head_held parts.longer (Extends-refl e.sets)) looked is function macro
+        ended-gathers st0 (stores s3 later e.sets) (stores s4 last e4.sets) (stores s4 last e4.sets) e (record e { refusals = r }) e4 branches definition.form items head c (call_places s1 names (tokens_in e.top.work) 0 c) (is_whole e.below.items) (left parts c)
+        (s4.has uncalled c) (parted-config parts c listed) done provenance macros (seen_definition names definition) rest work (waits c listed has) (hidden_later head head_held parts.longer (Extends-refl e.sets)) looked is function macro refl
         (call_end_at s0 names (tokens_in e.top.work) 0 c) (ended c listed true has) (end-behind st0 e.top.work c (seen_hidden names e.sets head) rest (stands c listed has) work);
     others = λ c listed lacks.
-        ended-other (stores s0 names e.sets) (stores s3 later e.sets) (stores s4 last e4.sets) (stores s5 last e4.sets) e (record e { refusals = r }) e4 branches definition.form items head c (call_places s1 names (tokens_in e.top.work) 0 c)
-        (s2.has stays_open c) (s5.has uncalled c) (parted-config parts c listed) done (call_end_at s0 names (tokens_in e.top.work) 0 c) (ended c listed false lacks);
+        ended-other (stores s0 names e.sets) (stores s3 later e.sets) (stores s4 last e4.sets) (stores s4 last e4.sets) e (record e { refusals = r }) e4 branches definition.form items head c (call_places s1 names (tokens_in e.top.work) 0 c)
+        (is_whole e.below.items) (left parts c) (s4.has uncalled c) (parted-config parts c listed) done (call_end_at s0 names (tokens_in e.top.work) 0 c) (ended c listed false lacks);
     first = λ c listed has live.
-        ended-first (stores s0 names e.sets) (stores s3 later e.sets) (stores s4 last e4.sets) (stores s5 last e4.sets) e (record e { refusals = r }) e4 branches definition.form items head c (call_places s1 names (tokens_in e.top.work) 0 c)
-        (s2.has stays_open c) (s5.has uncalled c) (parted-config parts c listed) done (call_end_at s0 names (tokens_in e.top.work) 0 c) (ended c listed true has) (stands c listed has) live;
+        ended-first (stores s0 names e.sets) (stores s3 later e.sets) (stores s4 last e4.sets) (stores s4 last e4.sets) e (record e { refusals = r }) e4 branches definition.form items head c (call_places s1 names (tokens_in e.top.work) 0 c)
+        (is_whole e.below.items) (left parts c) (s4.has uncalled c) (parted-config parts c listed) done (call_end_at s0 names (tokens_in e.top.work) 0 c) (ended c listed true has) (stands c listed has) live;
     alike = λ c d span at_c at_d same call was.
         let c3 = parted-config parts c at_c in
         let d3 = parted-config parts d at_d in
-        let c4 = IsConfig-Keeps fourth c3 in
-        let d4 = IsConfig-Keeps fourth d3 in
-        let kept = done.alike c d span c3 d3 (each-branch parts c d at_c at_d same call) (parted-alike parts c d at_c at_d same call span was) in
-        let bares = end-alike parts c d at_c at_d same call bare in
-        let alones = end-alike parts c d at_c at_d same call alone in (
-          IsAlikeIn-Keeps fifth c4 d4 span e4 held4 kept,
-          uncalled_is.at c (IsConfig-Keeps fifth c4) ∙ ((λ i. bares i || alones i) ∙ sym (uncalled_is.at d (IsConfig-Keeps fifth d4))),
+        let kept = done.alike c d span c3 d3 (each-branch parts c d at_c at_d same call) (parted-alike parts c d at_c at_d same call span was) in (
+          kept,
+          fourth.at uncalled c parts.leaves.uncalled_is.own c3 ∙ (uncalled-alike parts c d at_c at_d same call ∙ sym (fourth.at uncalled d parts.leaves.uncalled_is.own d3)),
         );
     rest = λ c listed. (let it = ended c listed (s0.has cond c) refl in last-earlier it.each (last-later (done.rest c (parted-config parts c listed)) it.last_each));
   }

@@ -12,9 +12,11 @@ use Rattle.sc_expand.specs.Alike.{IsAlikeIn, Span}
 use Rattle.sc_expand.specs.declared.call.Call.{Call}
 use Rattle.sc_expand.specs.declared.expansion.Expansion.{Expansion}
 use Rattle.sc_expand.specs.declared.refusals.Refusals.{Refusals}
-use Rattle.sc_expand.specs.Machine.{IsHeldExpansion, at, with_call}
+use Rattle.sc_expand.specs.Machine.{IsHeldExpansion, at, ends_at, is_whole, with_call}
 use Rattle.sc_expand.specs.Plain.{Waiting}
 use Rattle.sc_expand.specs.Refusing.{Refuses}
+use Rattle.sc_base.specs.declared.id.Cond.{Cond}
+use Rattle.sc_expand.specs.Turn.{fails, with_end}
 use Rattle.sc_expand.specs.Seen.{Grows, IsHeldCall, IsHeldFrame, Stores, calls_at, failures_at, waiting_at}
 use Rattle.sc_expand.specs.Turn.{At}
 use Rattle.sc_model.proofs.SetLemmas.{IsConfig-Keeps}
@@ -60,24 +62,34 @@ module _ {old new : Stores} (grows : Grows old new) {files : ℕ} (e : Expansion
     pub refused-live : (c : List ℕ) → IsConfig old.sets.arities c → old.sets.has cond c ≡ true → new.sets.has r.live.0 c ≡ false
     refused-live c listed has = refuses.live.at c (IsConfig-Keeps grows.sets listed) ∙ gone (old.sets.has e.refusals.live.0 c) (old.sets.has cond c) has
 
-    pub refused-failures : (c : List ℕ) → IsConfig old.sets.arities c → old.sets.has cond c ≡ true → failures_at new.sets r.faults.items c ≡ (at old e c).failures ++ failure ∷ []
-    refused-failures c listed has = refuses.failures c listed held.refusals.own ∙ ap (λ b. failures_at old.sets e.refusals.faults.items c ++ (if b then failure ∷ [] else [])) has
+    pub refused-ends-if : (b : Bool) (c : List ℕ) → IsConfig old.sets.arities c → old.sets.has cond c ≡ b → ends_at new.sets r c ≡ (if b then with_end (at old e c).ends (fails failure) else (at old e c).ends)
+    refused-ends-if b c listed has = by b (refuses.failures c listed held.refusals.own ∙ ap (λ b. failures_at old.sets e.refusals.faults.items c ++ (if b then failure ∷ [] else [])) has)
+      where
+        waiting : new.sets.has r.waiting.0 c ≡ old.sets.has e.refusals.waiting.0 c
+        waiting = ap (λ (k : Cond). new.sets.has k.0 c) refuses.waiting ∙ grows.sets.at e.refusals.waiting.0 c held.refusals.waiting listed
+
+        by : (b : Bool) → failures_at new.sets r.faults.items c ≡ failures_at old.sets e.refusals.faults.items c ++ (if b then failure ∷ [] else [])
+            → ends_at new.sets r c ≡ (if b then with_end (at old e c).ends (fails failure) else (at old e c).ends)
+        by true more = λ i. record { failures = more i; waiting = waiting i }
+        by false none = let all = none ∙ append-nil (failures_at old.sets e.refusals.faults.items c) in λ i. record { failures = all i; waiting = waiting i }
+
+    pub refused-ends : (c : List ℕ) → IsConfig old.sets.arities c → old.sets.has cond c ≡ true → ends_at new.sets r c ≡ with_end (at old e c).ends (fails failure)
+    refused-ends c listed has = refused-ends-if true c listed has
 
     pub refused-other : (c : List ℕ) → IsConfig old.sets.arities c → old.sets.has cond c ≡ false → at new (record e { refusals = r }) c ≡ at old e c
     refused-other c listed lacks =
         let lives = refuses.live.at c (IsConfig-Keeps grows.sets listed) ∙ stays-there (old.sets.has e.refusals.live.0 c) (old.sets.has cond c) lacks in
         let view = view_at-Grows grows c listed e.top held.top in
-        let none = refuses.failures c listed held.refusals.own
-        ∙ (ap (λ b. failures_at old.sets e.refusals.faults.items c ++ (if b then failure ∷ [] else [])) lacks ∙ append-nil (failures_at old.sets e.refusals.faults.items c)) in
-        λ i. record { live = lives i; view = view i; failures = none i }
+        let none = refused-ends-if false c listed lacks in
+        λ i. record { live = lives i; whole = is_whole e.below.items; view = view i; ends = none i }
 
     pub refused-held : {hides : List (List Name)} → failure.place.file.0 < files → IsHeldExpansion new files (record e { sets = hides; refusals = r })
     refused-held within =
         let later = IsHeldExpansion-Grows grows e held in
-        record { refusals = refuses.held files within held.refusals; top = later.top; below = later.below }
+        record { refusals = refuses.held files within held.refusals; rest = later.rest; top = later.top; below = later.below }
 
     pub refused-alike : {hides : List (List Name)} (c d : List ℕ) (span : Span) → IsConfig old.sets.arities c → IsConfig old.sets.arities d → old.sets.has cond c ≡ old.sets.has cond d
         → IsAlikeIn old.sets c d span e → IsAlikeIn new.sets c d span (record e { sets = hides; refusals = r })
     refused-alike c d span p q same alike =
         let kept = IsAlikeIn-Keeps grows.sets p q span e held alike in
-        record { refusals = refuses.alike c d span.faults p q held.refusals.own same alike.refusals; work = kept.work; out = kept.out; calls = kept.calls }
+        record { refusals = refuses.alike c d span.faults p q held.refusals.own held.refusals.waiting same alike.refusals; work = kept.work; out = kept.out; calls = kept.calls }

@@ -5,7 +5,7 @@ use Rattle.c11_macros.specs.Call.{arguments_for}
 use Rattle.c11_macros.specs.Defines.{is_function_like}
 use Rattle.c11_macros.specs.Expansion.{called, case_of, fitted_case, misfit}
 use Rattle.c11_macros.specs.Hidden as model
-use Rattle.c11_macros.specs.Hidden.{Provenance, failure_at}
+use Rattle.c11_macros.specs.Hidden.{Failure, Provenance, failure_at}
 use Rattle.c11_macros.specs.Macros.{Definition, Form, Macros, function_like, object_like}
 use Rattle.sc_base.proofs.Growth.{Extends-refl, Extends-trans}
 use Rattle.sc_base.specs.declared.id.Cond.{Cond}
@@ -15,7 +15,7 @@ use Rattle.sc_expand.proofs.AlikeLemmas.{IsAlike-Keeps}
 use Rattle.sc_expand.proofs.GatherCases.{case-closed}
 use Rattle.sc_expand.proofs.LastLemmas.{last-later}
 use Rattle.sc_expand.proofs.SeenLemmas.{IsHeldExpansion-Grows, at-Grows}
-use Rattle.sc_expand.proofs.TakingSteps.{has_first-Keeps, seen-first, state-scanning}
+use Rattle.sc_expand.proofs.TakingSteps.{decided-called, decided-misfit, has_first-Keeps, no-wait, seen-first, state-scanning}
 use Rattle.sc_expand.proofs.WorkListLemmas.{has_each-Keeps}
 use Rattle.sc_expand.specs.Alike.{IsAlikeIn, Span}
 use Rattle.sc_expand.specs.Arguments.{parted}
@@ -25,11 +25,13 @@ use Rattle.sc_expand.specs.declared.frame.Frame.{Frame}
 use Rattle.sc_expand.specs.Gather as gathers
 use Rattle.sc_expand.specs.Gather.{Gathers}
 use Rattle.sc_expand.specs.Having.{HasLast, has_each}
-use Rattle.sc_expand.specs.Machine.{IsHeldExpansion, KeepsLists, at, with_call}
-use Rattle.sc_expand.specs.Plain.{Fails, bad_stringize, gathered, miscounted}
-use Rattle.sc_expand.specs.Seen.{AreHeld, Grows, IsHeldEnclosing, IsHeldFrame, IsHeldRefusals, Stores, failures_at, seen_at, stores, view_at}
+use Rattle.sc_expand.specs.Machine.{IsHeldExpansion, KeepsLists, at, ends_at, is_whole, with_call}
+use Rattle.sc_expand.specs.Open.{Waits}
+use Rattle.sc_expand.specs.Plain.{Fails, bad_stringize, gathered, miscounted, scanning}
+use Rattle.sc_expand.specs.Seen.{AreHeld, Grows, IsHeldEnclosing, IsHeldFrame, IsHeldRefusals, Stores, seen_at, stores, view_at}
 use Rattle.sc_expand.specs.Taking.{has_first}
-use Rattle.sc_expand.specs.Turn.{At}
+use Rattle.sc_expand.specs.Turn as turn
+use Rattle.sc_expand.specs.Turn.{At, EndsBy, with_end}
 use Rattle.sc_hoist.specs.Alike.{IsAlike}
 use Rattle.sc_hoist.specs.Branches.{lists_at}
 use Rattle.sc_hoist.specs.declared.branch.Branch.{Branch}
@@ -50,6 +52,13 @@ use Rattle.sc_subst.specs.Seen.{IsHeldHidden, seen_hidden}
 
 module _ (provenance : Provenance Place) (macros : Macros) (t : model.Hidden Place) (rest after : List (model.Hidden Place)) (a mid b : At) (work : a.view.work ≡ t ∷ rest) (calls : a.view.calls ≡ [])
     (taken : mid ≡ record a { view = record a.view { work = after } }) where
+  -- a failure, whatever follows the list
+  failed-gathers : (failure : Failure Place) → Fails provenance macros (scanning a.view.out (t ∷ rest)) failure → (Waits macros (scanning a.view.out (t ∷ rest)) → ⊥)
+      → b.live ≡ false → b.ends ≡ with_end mid.ends (turn.fails failure) → Gathers provenance macros t rest a b false
+  failed-gathers failure fails free dead ends =
+      gathers.ended (turn.fails failure) (subst (λ s. EndsBy provenance macros a.whole s (turn.fails failure)) (state-scanning a.view (t ∷ rest) work calls) (turn.refused failure fails (λ whole. free)))
+      (record { live = dead; ends = ends ∙ ap (λ (m : At). with_end m.ends (turn.fails failure)) taken; view = λ no. absurd (no-wait no) })
+
   -- a call that begins was taken out
   begun-gathers : (d : Definition) (close : model.Hidden Place) (arguments : List (List (model.Hidden Place))) → case_of macros t rest ≡ called d arguments close after
       → Begins provenance d t close arguments mid b → Gathers provenance macros t rest a b false
@@ -57,16 +66,13 @@ module _ (provenance : Provenance Place) (macros : Macros) (t : model.Hidden Pla
       let w = gathered provenance d t arguments close template in
       let put : At → At = λ m. record m { view = with_call m.view w } in
       gathers.taken_out d arguments close after template case stands (same ∙ (ap put taken ∙ (λ i. record a { view = record a.view { work = after; calls = calls i ++ w ∷ [] } })))
-  begun-gathers d close arguments case (refused failure each dead failures) =
-      gathers.failed failure (subst (λ s. Fails provenance macros s failure) (state-scanning a.view (t ∷ rest) work calls) (bad_stringize a.view.out rest after t close d arguments failure case each))
-      dead (failures ∙ ap (λ (m : At). m.failures ++ failure ∷ []) taken)
+  begun-gathers d close arguments case (refused failure each dead ends) =
+      let fails = bad_stringize a.view.out rest after t close d arguments failure case each in
+      failed-gathers failure fails (decided-called macros a.view.out t rest d arguments close after case) dead ends
 
   -- another number of arguments is a failure
-  misfit-gathers : case_of macros t rest ≡ misfit after → b.live ≡ false → b.failures ≡ mid.failures ++ failure_at WrongArguments t ∷ [] → Gathers provenance macros t rest a b false
-  misfit-gathers case dead failures =
-      let failure = failure_at WrongArguments t in
-      gathers.failed failure (subst (λ s. Fails provenance macros s failure) (state-scanning a.view (t ∷ rest) work calls) (miscounted a.view.out rest after t case))
-      dead (failures ∙ ap (λ (m : At). m.failures ++ failure ∷ []) taken)
+  misfit-gathers : case_of macros t rest ≡ misfit after → b.live ≡ false → b.ends ≡ with_end mid.ends (turn.fails (failure_at WrongArguments t)) → Gathers provenance macros t rest a b false
+  misfit-gathers case dead ends = failed-gathers (failure_at WrongArguments t) (miscounted a.view.out rest after t case) (decided-misfit macros a.view.out t rest after case) dead ends
 
 -- ---- lists
 
@@ -127,6 +133,7 @@ pub record KeepsWork (was now : Expansion) : Type 0 where
   pub work : now.top.work ≡ was.top.work
   pub below : now.below ≡ was.below
   pub out : now.top.out ≡ was.top.out
+  pub rest : now.rest ≡ was.rest
 
 module _ {s0 s1 : Sets} {names : List (List ℕ)} {e0 e1 : Expansion} {branch : Branch} {between : List Hidden} {close : Hidden} (left : HasLeft s0 s1 names e0 e1 branch between close)
     (files : ℕ) (held : IsHeldExpansion (stores s0 names e0.sets) files e0) where
@@ -147,6 +154,7 @@ module _ {s0 s1 : Sets} {names : List (List ℕ)} {e0 e1 : Expansion} {branch : 
       let later = IsHeldExpansion-Grows left-grows e0 held in
       record {
         refusals = subst (IsHeldRefusals s1 files) (sym left.refusals) later.refusals;
+        rest = subst (AreHeld mid files) (sym left.waiting) later.rest;
         top = subst (IsHeldFrame mid files) (sym left.top) (record { work = left-work; out = later.top.out; calls = later.top.calls });
         below = subst (λ b. All (IsHeldEnclosing mid files) b.items) (sym left.below) later.below;
       }
@@ -155,7 +163,7 @@ module _ {s0 s1 : Sets} {names : List (List ℕ)} {e0 e1 : Expansion} {branch : 
   left-at c listed ws is =
       let put : At → List (model.Hidden Place) → At = λ a l. record a { view = record a.view { work = l } } in
       let one : at mid e1 c ≡ put (at mid e0 c) (seen_at mid e1.top.work c) =
-      λ i. record { live = s1.has (left.refusals i).live.0 c; view = view_at mid (left.top i) c; failures = failures_at s1 (left.refusals i).faults.items c } in
+      λ i. record { live = s1.has (left.refusals i).live.0 c; whole = is_whole (left.below i).items; view = view_at mid (left.top i) c; ends = ends_at s1 (left.refusals i) c } in
       one ∙ (λ i. put (at-Grows left-grows c listed e0 held i) (is i))
 
   pub left-other : (c : List ℕ) → IsConfig s0.arities c → s0.has branch.cond.0 c ≡ false → at mid e1 c ≡ at old e0 c
@@ -205,7 +213,7 @@ module _ {s0 s1 : Sets} {names : List (List ℕ)} {e0 e1 : Expansion} {branch : 
       gathered-lists : KeepsLists e0 e2
       gathered-lists =
           let tokens = λ (l : List (Cond × Hidden)). map (λ (item : Cond × Hidden). item.1) l in
-          record { below = kept.below ∙ left.below; out = kept.out ∙ ap (λ (f : Frame). f.out) left.top; tokens = ap tokens kept.work ∙ left.tokens }
+          record { below = kept.below ∙ left.below; rest = kept.rest ∙ left.waiting; out = kept.out ∙ ap (λ (f : Frame). f.out) left.top; tokens = ap tokens kept.work ∙ left.tokens }
 
       gathered-alike : (c d : List ℕ) (span : Span) → IsConfig s0.arities c → IsConfig s0.arities d → All (λ b. IsAlike s0 c d b.cond) (branch ∷ []) → IsAlikeIn s0 c d span e0 → IsAlikeIn s2 c d span e2
       gathered-alike c d span at_c at_d branches was =
@@ -238,9 +246,9 @@ module _ {s0 s1 : Sets} {names : List (List ℕ)} {e0 e1 : Expansion} {branch : 
       }
 
       pub misfit-gathered : fit ≡ None → ((c : List ℕ) → IsConfig s1.arities c → s1.has branch.cond.0 c ≡ true → (at new e2 c).live ≡ false)
-          → ((c : List ℕ) → IsConfig s1.arities c → s1.has branch.cond.0 c ≡ true → (at new e2 c).failures ≡ (at mid e1 c).failures ++ failure_at WrongArguments (seen_hidden names e0.sets head) ∷ [])
+          → ((c : List ℕ) → IsConfig s1.arities c → s1.has branch.cond.0 c ≡ true → (at new e2 c).ends ≡ with_end (at mid e1 c).ends (turn.fails (failure_at WrongArguments (seen_hidden names e0.sets head))))
           → AreGathered old new e0 e2 form items head (branch ∷ [])
-      misfit-gathered none dead failures = record {
+      misfit-gathered none dead ends = record {
         held = later_held;
         lists = gathered-lists;
         gathers = λ c place provenance macros d rest listed lists work is.
@@ -250,7 +258,7 @@ module _ {s0 s1 : Sets} {names : List (List ℕ)} {e0 e1 : Expansion} {branch : 
             let t = seen_hidden names e0.sets head in
             let after = seen_at mid e1.top.work c in
             let case = left-case c provenance macros d rest listed has work is ∙ ap (λ o. fitted_case d (seen_hidden names e0.sets close) after (seen_fit names e0.sets o)) none in
-            misfit-gathers provenance macros t rest after (at old e0 c) (at mid e1 c) (at new e2 c) work (is_branch.each c listed has).calls (left-at c listed after refl) case (dead c listed1 has1) (failures c listed1 has1);
+            misfit-gathers provenance macros t rest after (at old e0 c) (at mid e1 c) (at new e2 c) work (is_branch.each c listed has).calls (left-at c listed after refl) case (dead c listed1 has1) (ends c listed1 has1);
         first = gathered-first;
         others = gathered-others;
         alike = gathered-alike;

@@ -4,7 +4,7 @@ use Rattle.sc_expand.specs.declared.expansion.Expansion.{Expansion}
 use Rattle.sc_expand.specs.Machine.{KeepsLists}
 
 pub lists-same : (e : Expansion) → KeepsLists e e
-lists-same e = record { below = refl; out = refl; tokens = refl }
+lists-same e = record { below = refl; rest = refl; out = refl; tokens = refl }
 
 pub lists-then : {was mid now : Expansion} → KeepsLists was mid → KeepsLists mid now → KeepsLists was now
-lists-then one two = record { below = two.below ∙ one.below; out = two.out ∙ one.out; tokens = two.tokens ∙ one.tokens }
+lists-then one two = record { below = two.below ∙ one.below; rest = two.rest ∙ one.rest; out = two.out ∙ one.out; tokens = two.tokens ∙ one.tokens }

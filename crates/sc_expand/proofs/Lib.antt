@@ -8,6 +8,7 @@ pub mod PlainTotal
 pub mod PlainTables
 pub mod PlainTurns
 pub mod PlainCases
+pub mod OpenLemmas
 pub mod PlainNames
 pub mod PlainAgreement
 pub mod PlainFootprint
@@ -55,7 +56,10 @@ pub mod GatherFiles
 pub mod GatherBranches
 pub mod GatherEnds
 pub mod GatherParts
+pub mod LeavingLemmas
 pub mod PuttingOut
+pub mod WaitingLemmas
+pub mod WaitingTaking
 pub mod UnchangedLemmas
 pub mod UnchangedTaking
 pub mod UnchangedAnswers
@@ -80,3 +84,5 @@ pub mod SettlingSteps
 pub mod PlainSettles
 pub mod SettledEnds
 pub mod SettledPlaces
+pub mod ClosingLemmas
+pub mod RestrictedLists

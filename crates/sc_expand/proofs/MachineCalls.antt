@@ -5,6 +5,8 @@ use Rattle.c11_macros.specs.Hidden as model
 use Rattle.c11_macros.specs.Hidden.{Provenance}
 use Rattle.c11_macros.specs.Macros.{Macros}
 use Rattle.sc_base.specs.declared.place.Place.{Place}
+use Rattle.sc_expand.proofs.OpenLemmas.{called-waits, expands-not, under-waits}
+use Rattle.sc_expand.specs.Open.{Waits}
 use Rattle.sc_expand.proofs.UnchangedLemmas.{never-empty}
 use Rattle.sc_expand.proofs.MachineLemmas.{IsBelow, IsOnTop, alone, below-stands, called_in, goes, pending_at, stands-cases, state-top, stops, top-stands}
 use Rattle.sc_expand.proofs.PlainTurns.{move-under, under}
@@ -184,3 +186,23 @@ module _ (st : Stores) (c : List ℕ) where
           | inr gone ↦ (below-stands st c (view_at st e.frame c) gone.0 gone.1.view, state-less v (view_at st e.frame c) gone.0)
         ]
       ]
+
+      -- what follows the list doesn't decide how the call goes on, or its argument
+      pub called-decides : (v : View) (w : Waiting Place) → Stands st c below (with_call v w) → Waits macros (state_in st below (with_call v w) c) → ⊥
+      called-decides v w stands waits = elim (stands-cases st c stands) [
+        | inl top ↦ under-waits (map (pending_at st c) below) (state_of (with_call v w)) (called-waits v.out v.work v.calls w) (subst (Waits macros) (state-top st c (with_call v w) top.0) waits)
+        | inr b ↦ absurd (never-empty v.calls w (ap (λ v. v.calls) b.1))
+      ]
+
+      pub argument-decides : (v : View) → st.sets.has e.call.cond.0 c ≡ true → Stands st c (below ++ e ∷ []) v → Waits macros (state_in st (below ++ e ∷ []) v c) → ⊥
+      argument-decides v has stands waits = elim (stands-cases st c stands) [
+        | inl whole ↦ inside-waits below (subst (Waits macros) (state-top st c v whole.0) waits)
+        | inr b ↦ elim (below-less below b.0) [
+          | inl stop ↦ absurd (true≢false (sym has ∙ stop.not))
+          | inr gone ↦ absurd (true≢false (sym has ∙ gone.1.call))
+        ]
+      ]
+        where
+          inside-waits : (bs : List Enclosing) → Waits macros (under (map (pending_at st c) (bs ++ e ∷ [])) (state_of v)) → ⊥
+          inside-waits [] w = expands-not w
+          inside-waits (b ∷ bs) w = expands-not w

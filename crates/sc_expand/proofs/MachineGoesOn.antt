@@ -6,17 +6,18 @@ use Rattle.c11_macros.specs.Hidden.{Provenance}
 use Rattle.c11_macros.specs.Macros.{Macros}
 use Rattle.sc_base.specs.declared.id.Cond.{Cond}
 use Rattle.sc_base.specs.declared.place.Place.{Place}
-use Rattle.sc_expand.proofs.MachineCalls.{argument_view, enter-called, enter-other}
+use Rattle.sc_expand.proofs.MachineCalls.{argument_view, called-decides, enter-called, enter-other}
 use Rattle.sc_expand.proofs.MachineLemmas.{Stands-Grows, state_in-Grows, turn-progress}
-use Rattle.sc_expand.proofs.SeenLemmas.{AreHeld-nil, failures_at-Grows, view_at-Grows, waiting_at-Grows}
+use Rattle.sc_expand.proofs.SeenLemmas.{AreHeld-nil, ends_at-Grows, view_at-Grows, waiting_at-Grows}
 use Rattle.sc_expand.specs.declared.call.Call.{Call}
 use Rattle.sc_expand.specs.declared.call.Wanted.{Wanted}
 use Rattle.sc_expand.specs.declared.expansion.Expansion.{Expansion}
 use Rattle.sc_expand.specs.declared.frame.Enclosing.{Enclosing}
-use Rattle.sc_expand.specs.Machine.{HasEntered, IsHeldExpansion, Progress, Stands, at, at_call, gone, no_view, rests, state_in, steps, with_call}
+use Rattle.sc_expand.specs.Machine.{HasEntered, IsHeldExpansion, Progress, Stands, at, at_call, ends_at, gone, is_whole, no_view, rests, state_in, steps, with_call}
 use Rattle.sc_expand.specs.Plain.{Moves, without_first}
-use Rattle.sc_expand.specs.Seen.{AreHeld, Grows, IsHeldCall, IsHeldEnclosing, IsHeldRefusals, IsHeldTemplate, IsHeldToken, Stores, calls_at, failures_at, seen_at, seen_wanted, view_at, waiting_at}
-use Rattle.sc_expand.specs.Turn.{At, Turn, failed, moved, over, passed}
+use Rattle.sc_expand.specs.Seen.{AreHeld, Grows, IsHeldCall, IsHeldEnclosing, IsHeldRefusals, IsHeldTemplate, IsHeldToken, Stores, calls_at, seen_at, seen_wanted, view_at, waiting_at}
+use Rattle.sc_expand.specs.Turn as turns
+use Rattle.sc_expand.specs.Turn.{At, Turn, moved, over, passed}
 use Rattle.sc_guarded.proofs.ItemLemmas.{items_at-under}
 use Rattle.sc_model.specs.Sets.{IsCond, IsConfig}
 use Rattle.sc_subst.specs.declared.hidden.Hidden.{Hidden}
@@ -26,9 +27,9 @@ use Rattle.sc_subst.specs.Seen.{IsHeldSet, seen_hidden}
 
 module _ (provenance : Provenance Place) (macros : Macros) {old new : Stores} (grows : Grows old new) (files : ℕ) (c : List ℕ) (listed : IsConfig old.sets.arities c) where
   -- what was refused does not matter
-  pub replaced-progress : (below : List Enclosing) → All (IsHeldEnclosing old files) below → (a other b : At) (takes took : Bool) → Turn provenance macros other b took → other.live ≡ a.live → other.failures ≡ a.failures
-      → (a.live ≡ true → (other.view ≡ a.view) × (took ≡ takes)) → Progress provenance macros old new c below below a b takes
-  replaced-progress below held a other b takes took turn live failures same = by a.live refl
+  pub replaced-progress : (below : List Enclosing) → All (IsHeldEnclosing old files) below → (a other b : At) (takes took : Bool) → Turn provenance macros other b took → other.live ≡ a.live → other.whole ≡ a.whole → other.ends ≡ a.ends
+      → a.whole ≡ is_whole below → (a.live ≡ true → (other.view ≡ a.view) × (took ≡ takes)) → Progress provenance macros old new c below below a b takes
+  replaced-progress below held a other b takes took turn live opens failures whole same = by a.live refl
     where
       ended : Turn provenance macros other b took → a.live ≡ false → Progress provenance macros old new c below below a b takes
       ended turn not = is took turn
@@ -36,15 +37,15 @@ module _ (provenance : Provenance Place) (macros : Macros) {old new : Stores} (g
           is : (t : Bool) → Turn provenance macros other b t → Progress provenance macros old new c below below a b takes
           is t (passed still fs view) = gone not (still ∙ (live ∙ not)) (fs ∙ failures)
           is t (over was ended fs) = gone not ended (fs ∙ failures)
-          is t (moved was now fs m few) = absurd (true≢false (sym was ∙ (live ∙ not)))
-          is t (failed failure was ended fs f) = absurd (true≢false (sym was ∙ (live ∙ not)))
+          is t (moved was now fs free m few) = absurd (true≢false (sym was ∙ (live ∙ not)))
+          is t (turns.ended end was ended fs f) = absurd (true≢false (sym was ∙ (live ∙ not)))
 
       by : (l : Bool) → a.live ≡ l → Progress provenance macros old new c below below a b takes
       by false not = ended turn not
       by true is =
           let both = same is in
-          let path : other ≡ a = λ i. record { live = live i; view = both.0 i; failures = failures i } in
-          turn-progress provenance macros grows files c listed below held (subst (Turn provenance macros a b) both.1 (subst (λ o. Turn provenance macros o b took) path turn))
+          let path : other ≡ a = λ i. record { live = live i; whole = opens i; view = both.0 i; ends = failures i } in
+          turn-progress provenance macros grows files c listed below held whole (subst (Turn provenance macros a b) both.1 (subst (λ o. Turn provenance macros o b took) path turn))
 
   module _ (e after : Expansion) (call later : Call) (w : Wanted) (ws : List Wanted) (held : IsHeldExpansion old files e) (held_call : IsHeldCall old files call)
       (cond : new.sets.has later.cond.0 c ≡ (old.sets.has call.cond.0 c && old.sets.has e.refusals.live.0 c))
@@ -56,8 +57,8 @@ module _ (provenance : Provenance Place) (macros : Macros) {old new : Stores} (g
     same-live : new.sets.has after.refusals.live.0 c ≡ old.sets.has e.refusals.live.0 c
     same-live = ap (λ r. new.sets.has r.live.0 c) refusals ∙ grows.sets.at e.refusals.live.0 c held.refusals.live listed
 
-    same-failures : failures_at new.sets after.refusals.faults.items c ≡ failures_at old.sets e.refusals.faults.items c
-    same-failures = ap (λ r. failures_at new.sets r.faults.items c) refusals ∙ failures_at-Grows grows c listed e.refusals.faults.items held.refusals.own
+    same-ends : ends_at new.sets after.refusals c ≡ ends_at old.sets e.refusals c
+    same-ends = ap (λ r. ends_at new.sets r c) refusals ∙ ends_at-Grows grows c listed e.refusals held.refusals
 
     chosen : (b : Bool) (list : List Hidden) → new.sets.has later.cond.0 c ≡ b → seen_at new (map (λ (t : Hidden). (later.cond, t)) list) c ≡ map (seen_hidden new.names new.hides) (if b then list else [])
     chosen b list known = ap (map (seen_hidden new.names new.hides)) (items_at-under new.sets later.cond list c ∙ ap (λ h. if h then list else []) known)
@@ -74,8 +75,8 @@ module _ (provenance : Provenance Place) (macros : Macros) {old new : Stores} (g
       where
         by : (l b : Bool) → old.sets.has e.refusals.live.0 c ≡ l → old.sets.has call.cond.0 c ≡ b
             → Progress provenance macros old new c e.below.items after.below.items (record (at old e c) { view = if b then with_call (view_at old e.top c) (waiting_at old call c) else view_at old e.top c }) (at new after c) b
-        by false b not known = gone not (same-live ∙ not) same-failures
-        by true true live has = steps live (same-live ∙ live) same-failures (λ stands.
+        by false b not known = gone not (same-live ∙ not) same-ends
+        by true true live has = steps live (same-live ∙ live) same-ends (λ stands w. called-decides old c enclosing provenance macros e.below.items (view_at old e.top c) (waiting_at old call c) stands w) (λ stands.
             let narrowed : new.sets.has later.cond.0 c ≡ true = cond ∙ (ap (λ h. h && old.sets.has e.refusals.live.0 c) has ∙ live) in
             let top = view_at-Grows grows c listed e.top held.top in
             let call_is = waiting_at-Grows grows c listed call held_call in
@@ -92,7 +93,7 @@ module _ (provenance : Provenance Place) (macros : Macros) {old new : Stores} (g
                   (subst (λ l. Moves provenance macros (state_in old e.below.items (with_call (view_at old e.top c) (waiting_at old call c)) c) (state_in new l (argument_view [] (seen_list new.names new.hides w.tokens)) c)) (sym entered.below)
                   (subst (λ s. Moves provenance macros s (state_in new (e.below.items ++ enclosing ∷ []) (argument_view [] (seen_list new.names new.hides w.tokens)) c)) was r.1)),
             ))
-        by true false live absent = rests (same-live) same-failures (λ l stands.
+        by true false live absent = rests (same-live) same-ends (λ l stands.
             let narrowed : new.sets.has later.cond.0 c ≡ false = cond ∙ ap (λ h. h && old.sets.has e.refusals.live.0 c) absent in
             let top = view_at-Grows grows c listed e.top held.top in
             let there = subst (Stands new c e.below.items) (sym top) (Stands-Grows grows files c listed held.below stands) in
@@ -131,6 +132,7 @@ pub entered-held : (st : Stores) (files : ℕ) (e after : Expansion) (later : Ca
     → after.refusals ≡ e.refusals → HasEntered e after later w → IsHeldExpansion st files after
 entered-held st files e after later w held held_call tokens refusals entered = record {
   refusals = subst (IsHeldRefusals st.sets files) (sym refusals) held.refusals;
+  rest = subst (AreHeld st files) (sym entered.rest) held.rest;
   top = record {
     work = subst (AreHeld st files) (sym entered.work) (under-held later.cond w.tokens held_call.own tokens);
     out = subst (AreHeld st files) (sym entered.out) (AreHeld-nil st files);

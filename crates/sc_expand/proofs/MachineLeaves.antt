@@ -6,13 +6,13 @@ use Rattle.c11_macros.specs.Hidden.{Provenance}
 use Rattle.c11_macros.specs.Macros.{Macros}
 use Rattle.sc_base.specs.declared.id.Cond.{Cond}
 use Rattle.sc_base.specs.declared.place.Place.{Place}
-use Rattle.sc_expand.proofs.MachineCalls.{argument_view, calls_at-append, leave-called, leave-other}
+use Rattle.sc_expand.proofs.MachineCalls.{argument-decides, argument_view, calls_at-append, leave-called, leave-other}
 use Rattle.sc_expand.specs.declared.call.Wanted.{Wanted}
 use Rattle.sc_expand.specs.declared.expansion.Expansion.{Expansion}
 use Rattle.sc_expand.specs.declared.frame.Enclosing.{Enclosing}
-use Rattle.sc_expand.specs.Machine.{IsHeldExpansion, IsResumed, Progress, Stands, at, gone, rests, state_in, steps, with_call}
+use Rattle.sc_expand.specs.Machine.{IsHeldExpansion, IsResumed, Progress, Stands, at, ends_at, gone, rests, state_in, steps, with_call}
 use Rattle.sc_expand.specs.Plain.{Moves, with_expanded}
-use Rattle.sc_expand.specs.Seen.{AreHeld, IsHeldCall, IsHeldEnclosing, IsHeldRefusals, IsHeldTemplate, IsHeldToken, Stores, calls_at, failures_at, seen_at, view_at, waiting_at}
+use Rattle.sc_expand.specs.Seen.{AreHeld, IsHeldCall, IsHeldEnclosing, IsHeldRefusals, IsHeldTemplate, IsHeldToken, Stores, calls_at, seen_at, view_at, waiting_at}
 use Rattle.sc_model.specs.Sets.{IsCond}
 use Rattle.sc_subst.specs.declared.hidden.Hidden.{Hidden}
 use Rattle.sc_subst.specs.declared.hidden.Hide.{Hide}
@@ -20,7 +20,7 @@ use Rattle.sc_subst.specs.Seen.{IsHeldSet}
 
 module _ (provenance : Provenance Place) (macros : Macros) (st : Stores) (c : List ℕ) (below : List Enclosing) (o : Enclosing) (e after : Expansion)
     (resumed : IsResumed o e.top.out after.top.calls.items) (work : after.top.work ≡ o.frame.work) (out : after.top.out ≡ o.frame.out) (refusals : after.refusals ≡ e.refusals)
-    (rest : e.top.work ≡ []) (none : e.top.calls.items ≡ []) where
+    (rest : e.top.work ≡ []) (none : e.top.calls.items ≡ []) (waiting : after.rest ≡ e.rest) where
   pub same-waiting : waiting_at st resumed.call c ≡ with_expanded (waiting_at st o.call c) o.parameter (seen_at st e.top.out c)
   same-waiting =
       let lists = ap (map (λ list. seen_at st list c)) resumed.expanded ∙ map-set (λ (list : List (Cond × Hidden)). seen_at st list c) o.call.expanded.items o.parameter e.top.out in
@@ -48,15 +48,15 @@ module _ (provenance : Provenance Place) (macros : Macros) (st : Stores) (c : Li
   pub left-progress : Progress provenance macros st st c (below ++ o ∷ []) below (at st e c) (at st after c) (st.sets.has o.call.cond.0 c)
   left-progress = by (st.sets.has e.refusals.live.0 c) (st.sets.has o.call.cond.0 c) refl refl
     where
-      same : failures_at st.sets after.refusals.faults.items c ≡ failures_at st.sets e.refusals.faults.items c
-      same = ap (λ r. failures_at st.sets r.faults.items c) refusals
+      same : ends_at st.sets after.refusals c ≡ ends_at st.sets e.refusals c
+      same = ap (λ r. ends_at st.sets r c) refusals
 
       live : st.sets.has after.refusals.live.0 c ≡ st.sets.has e.refusals.live.0 c
       live = ap (λ r. st.sets.has r.live.0 c) refusals
 
       by : (l b : Bool) → st.sets.has e.refusals.live.0 c ≡ l → st.sets.has o.call.cond.0 c ≡ b → Progress provenance macros st st c (below ++ o ∷ []) below (at st e c) (at st after c) b
       by false b not known = gone not (live ∙ not) same
-      by true true is has = steps is (live ∙ is) same (λ stands.
+      by true true is has = steps is (live ∙ is) same (λ stands w. argument-decides st c o provenance macros below (view_at st e.top c) has stands w) (λ stands.
           let list = seen_at st e.top.out c in
           let w = with_expanded (waiting_at st o.call c) o.parameter list in
           let r = leave-called st c o provenance macros below w list has refl (subst (Stands st c (below ++ o ∷ [])) before stands) in
@@ -73,6 +73,7 @@ module _ (provenance : Provenance Place) (macros : Macros) (st : Stores) (c : Li
   pub left-held : (files : ℕ) → IsHeldExpansion st files e → IsHeldEnclosing st files o → after.below ≡ e.below → IsHeldExpansion st files after
   left-held files held enclosing below_is = record {
     refusals = subst (IsHeldRefusals st.sets files) (sym refusals) held.refusals;
+    rest = subst (AreHeld st files) (sym waiting) held.rest;
     top = record {
       work = subst (AreHeld st files) (sym work) enclosing.frame.work;
       out = subst (AreHeld st files) (sym out) enclosing.frame.out;

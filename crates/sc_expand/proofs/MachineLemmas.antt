@@ -1,20 +1,23 @@
 -- A turn of the frame on top, as a step of the whole.
-use Rattle.std.proofs.Common.{◌≡◌, ◌⊎◌, inl, inr, ℕ, ◌≤◌, Bool, true, false, true≢false, List, [], ◌∷◌, ◌++◌, All, map, length, Err, refl, sym, ap, subst, ◌∙◌, if◌then◌else◌}
+use Rattle.std.proofs.Common.{◌≡◌, ◌⊎◌, inl, inr, ℕ, ◌≤◌, Bool, true, false, true≢false, List, [], ◌∷◌, All, map, length, refl, sym, ap, subst, ◌∙◌, if◌then◌else◌}
 use Rattle.std.proofs.lemmas.List.Elements.{All-cons, All-head, All-nil, All-tail}
-use Rattle.c11_macros.specs.Expansion.{Expands}
 use Rattle.c11_macros.specs.Hidden as model
 use Rattle.c11_macros.specs.Hidden.{Failure, Provenance}
 use Rattle.c11_macros.specs.Macros.{Macros}
+use Rattle.c11_macros.specs.Runs.{IsHeld, Settles}
 use Rattle.sc_base.specs.declared.place.Place.{Place}
-use Rattle.sc_expand.proofs.PlainReaches.{Reaches, reaches-fail, reaches-move}
+use Rattle.sc_expand.proofs.PlainSettles.{Opens, opens-fail, opens-move, opens-wait}
 use Rattle.sc_expand.proofs.PlainTurns.{Pending, fails-under, move-under, under}
 use Rattle.sc_expand.proofs.SeenLemmas.{calls_at-Grows, view_at-Grows, seen_at-Grows, waiting_at-Grows}
 use Rattle.sc_expand.specs.declared.frame.Enclosing.{Enclosing}
-use Rattle.sc_expand.specs.Machine.{IsAbsent, Progress, Stands, fails, gone, here, inside, no_view, on_top, rests, state_in, steps}
+use Rattle.sc_expand.specs.Machine.{IsAbsent, Progress, Stands, ends, gone, here, inside, is_whole, no_view, on_top, rests, state_in, steps}
+use Rattle.sc_expand.specs.Open as open_end
+use Rattle.sc_expand.specs.Open.{Waits}
 use Rattle.sc_expand.specs.Plain as plain
 use Rattle.sc_expand.specs.Plain.{Fails, Moves, State, expanding, scanning}
 use Rattle.sc_expand.specs.Seen.{Grows, IsHeldEnclosing, Stores, View, calls_at, seen_at, state_of, view_at, waiting_at}
-use Rattle.sc_expand.specs.Turn.{At, Turn, failed, moved, over, passed}
+use Rattle.sc_expand.specs.Turn as turn
+use Rattle.sc_expand.specs.Turn.{At, End, Ends, EndsBy, IsDecided, Turn, ended, held_up, moved, no_end, over, passed, refused, with_end}
 use Rattle.sc_model.specs.Sets.{IsConfig}
 
 -- ---- the state by the view of the frame on top
@@ -124,11 +127,13 @@ no-fail (plain.bad_paste out work w failure is made) e = absurd (cc)
 no-fail (plain.inside_fails out work w n f) e = absurd (cc)
 
 module _ (provenance : Provenance Place) (macros : Macros) where
-  -- a configuration was never in the run, goes on, or has its one failure
-  pub data IsTold (source : List (model.Hidden Place)) (st : Stores) (c : List ℕ) (below : List Enclosing) (a : At) : Bool → Type 0 where
-    unasked : a.live ≡ false → a.failures ≡ [] → IsTold source st c below a false
-    going : a.live ≡ true → a.failures ≡ [] → Stands st c below a.view → Reaches provenance macros source (state_in st below a.view c) → IsTold source st c below a true
-    refused : (failure : Failure Place) → a.live ≡ false → a.failures ≡ failure ∷ [] → Expands provenance macros source (Err failure) → IsTold source st c below a true
+  -- A configuration was never in the run, goes on, has its one failure, or waits. This was put out
+  -- of the whole list, and this is left.
+  pub data IsTold (source out left : List (model.Hidden Place)) (st : Stores) (c : List ℕ) (below : List Enclosing) (a : At) : Bool → Type 0 where
+    unasked : a.live ≡ false → a.ends ≡ no_end → IsTold source out left st c below a false
+    going : a.live ≡ true → a.ends ≡ no_end → Stands st c below a.view → Opens provenance macros source (state_in st below a.view c) → IsTold source out left st c below a true
+    failed : (failure : Failure Place) → a.live ≡ false → a.ends ≡ with_end no_end (turn.fails failure) → IsHeld provenance macros source failure → IsTold source out left st c below a true
+    waiting : a.live ≡ false → a.ends ≡ with_end no_end turn.waits → Settles provenance macros source out left → IsTold source out left st c below a true
 
   module _ {old new : Stores} (grows : Grows old new) (files : ℕ) (c : List ℕ) (listed : IsConfig old.sets.arities c) (below : List Enclosing) (held : All (IsHeldEnclosing old files) below) where
     state-same : (v w : View) → w ≡ v → state_in old below v c ≡ state_in new below w c
@@ -148,18 +153,41 @@ module _ (provenance : Provenance Place) (macros : Macros) where
       | inr below ↦ absurd (no-move m (ap state_of below.1))
     ]
 
-    failure-lifts : (v : View) (failure : Failure Place) → Stands old c below v → Fails provenance macros (state_of v) failure → Fails provenance macros (state_in old below v c) failure
-    failure-lifts v failure stands f = elim (stands-cases old c stands) [
+  module _ (old : Stores) (c : List ℕ) where
+    failure-lifts : (below : List Enclosing) (v : View) (failure : Failure Place) → Stands old c below v → Fails provenance macros (state_of v) failure → Fails provenance macros (state_in old below v c) failure
+    failure-lifts below v failure stands f = elim (stands-cases old c stands) [
       | inl top ↦ subst (λ s. Fails provenance macros s failure) (sym (state-top old c v top.0)) (fails-under provenance macros (map (pending_at old c) below) (state_of v) failure f)
-      | inr below ↦ absurd (no-fail f (ap state_of below.1))
+      | inr other ↦ absurd (no-fail f (ap state_of other.1))
     ]
 
-    -- a turn of the frame on top is one of the whole
-    pub turn-progress : {a b : At} {takes : Bool} → Turn provenance macros a b takes → Progress provenance macros old new c below below a b takes
-    turn-progress {a} {b} (passed still same view) = rests still same (λ live stands. (subst (Stands new c below) (sym (view live)) (Stands-Grows grows files c listed held stands), state-same a.view b.view (view live)))
-    turn-progress (over was not same) = gone was not same
-    turn-progress {a} {b} (moved was now same m few) = steps was now same (λ stands. step-lifts a.view b.view stands m few)
-    turn-progress {a} {b} (failed failure was not same f) = fails failure was not same (λ stands. failure-lifts a.view failure stands f)
+    -- what waits is in no argument
+    waits-under : (below : List Enclosing) (s : State Place) → IsDecided (is_whole below) macros s → Waits macros (under (map (pending_at old c) below) s) → ⊥
+    waits-under [] s decided w = decided refl w
+    waits-under (e ∷ es) s decided w = elim w [ ]
+
+    decided-lifts : (below : List Enclosing) (v : View) → (v ≡ no_view → ⊥) → Stands old c below v → IsDecided (is_whole below) macros (state_of v) → Waits macros (state_in old below v c) → ⊥
+    decided-lifts below v some stands decided w = elim (stands-cases old c stands) [
+      | inl top ↦ waits-under below (state_of v) decided (subst (Waits macros) (state-top old c v top.0) w)
+      | inr other ↦ some other.1
+    ]
+
+    -- the frame on top ends as the whole does
+    ends-lifts : (below : List Enclosing) (v : View) (end : End) → Stands old c below v → EndsBy provenance macros (is_whole below) (state_of v) end → EndsBy provenance macros true (state_in old below v c) end
+    ends-lifts below v _ stands (refused failure f decided) = refused failure (failure-lifts below v failure stands f) (λ all. decided-lifts below v (λ none. no-fail f (ap state_of none)) stands decided)
+    ends-lifts [] v _ stands (held_up all w) = held_up refl w
+    ends-lifts (e ∷ es) v _ stands (held_up all w) = absurd (true≢false (sym all))
+
+  -- a turn of the frame on top is one of the whole
+  pub turn-progress : {old new : Stores} (grows : Grows old new) (files : ℕ) (c : List ℕ) (listed : IsConfig old.sets.arities c) (below : List Enclosing) (held : All (IsHeldEnclosing old files) below) {a b : At} {takes : Bool}
+      → a.whole ≡ is_whole below → Turn provenance macros a b takes → Progress provenance macros old new c below below a b takes
+  turn-progress {old} {new} grows files c listed below held {a} {b} top (passed still same view) =
+      rests still same (λ live stands. (subst (Stands new c below) (sym (view live)) (Stands-Grows grows files c listed held stands), state-same grows files c listed below held a.view b.view (view live)))
+  turn-progress grows files c listed below held top (over was not same) = gone was not same
+  turn-progress {old} grows files c listed below held {a} {b} top (moved was now same decided m few) =
+      steps was now same (λ stands. decided-lifts old c below a.view (λ none. no-move m (ap state_of none)) stands (subst (λ o. IsDecided o macros (state_of a.view)) top decided))
+      (λ stands. step-lifts grows files c listed below held a.view b.view stands m few)
+  turn-progress {old} grows files c listed below held {a} top (ended end was not same by) =
+      ends end was not same (λ stands. ends-lifts old c below a.view end stands (subst (λ o. EndsBy provenance macros o (state_of a.view) end) top by))
 
   module _ (old new : Stores) (c : List ℕ) (below later : List Enclosing) where
     -- what a configuration that is still in the run did
@@ -173,32 +201,56 @@ module _ (provenance : Provenance Place) (macros : Macros) where
         let was = sym still ∙ live in
         (was, record { step = inr (stays was (stands was)).1; moves = λ no. absurd (true≢false (sym no)) })
     progress-step (gone was not same) live stands = absurd (true≢false (sym live ∙ not))
-    progress-step (steps was now same move) live stands = (was, record { step = inl (move (stands was)).1; moves = λ yes. (move (stands was)).1 })
-    progress-step (fails failure was not same f) live stands = absurd (true≢false (sym live ∙ not))
+    progress-step (steps was now same free move) live stands = (was, record { step = inl (move (stands was)).1; moves = λ yes. (move (stands was)).1 })
+    progress-step (ends end was not same by) live stands = absurd (true≢false (sym live ∙ not))
 
     module _ (source : List (model.Hidden Place)) where
-      pub told-progress : {a b : At} {started : Bool} (takes : Bool) → Progress provenance macros old new c below later a b takes → IsTold source old c below a started → IsTold source new c later b started
-      told-progress {a} {b} takes progress (unasked not none) = by takes progress
-        where
-          by : (t : Bool) → Progress provenance macros old new c below later a b t → IsTold source new c later b false
-          by t (rests still same stays) = unasked (still ∙ not) (same ∙ none)
-          by t (gone was ended same) = unasked ended (same ∙ none)
-          by t (steps was now same move) = absurd (true≢false (sym was ∙ not))
-          by t (fails failure was ended same f) = absurd (true≢false (sym was ∙ not))
-      told-progress {a} {b} takes progress (refused failure not one expands) = by takes progress
-        where
-          by : (t : Bool) → Progress provenance macros old new c below later a b t → IsTold source new c later b true
-          by t (rests still same stays) = refused failure (still ∙ not) (same ∙ one) expands
-          by t (gone was ended same) = refused failure ended (same ∙ one) expands
-          by t (steps was now same move) = absurd (true≢false (sym was ∙ not))
-          by t (fails other was ended same f) = absurd (true≢false (sym was ∙ not))
-      told-progress {a} {b} takes progress (going live none stands reaches) = by takes progress
-        where
-          by : (t : Bool) → Progress provenance macros old new c below later a b t → IsTold source new c later b true
-          by t (rests still same stays) = let l = stays live stands in going (still ∙ live) (same ∙ none) l.0 (subst (Reaches provenance macros source) l.1 reaches)
-          by t (gone was ended same) = absurd (true≢false (sym live ∙ was))
-          by t (steps was now same move) =
-              let l = move stands in
-              going now (same ∙ none) l.0 (reaches-move provenance macros source (state_in old below a.view c) (state_in new later b.view c) reaches l.1)
-          by t (fails failure was ended same f) =
-              refused failure ended (same ∙ ap (λ l. l ++ failure ∷ []) none) (reaches-fail provenance macros source (state_in old below a.view c) failure reaches (f stands))
+      -- what waits has put out and left what its state says
+      settles-waiting : {out left : List (model.Hidden Place)} {s : State Place} → Opens provenance macros source s → Waits macros s → ((o w : List (model.Hidden Place)) → s ≡ scanning o w → (o ≡ out) × (w ≡ left)) → Settles provenance macros source out left
+      settles-waiting opens (open_end.alone o rest t is) told = let q = told o (t ∷ rest) refl in subst (λ (p : List (model.Hidden Place) × List (model.Hidden Place)). Settles provenance macros source p.0 p.1) (λ i. (q.0 i, q.1 i)) (opens-wait provenance macros source o (t ∷ rest) opens (open_end.alone o rest t is))
+      settles-waiting opens (open_end.open_call o rest t is) told = let q = told o (t ∷ rest) refl in subst (λ (p : List (model.Hidden Place) × List (model.Hidden Place)). Settles provenance macros source p.0 p.1) (λ i. (q.0 i, q.1 i)) (opens-wait provenance macros source o (t ∷ rest) opens (open_end.open_call o rest t is))
+
+      module _ {out left out2 left2 : List (model.Hidden Place)} where
+        told-ends : {s : State Place} {b : At} (was : Ends) (end : End) → Opens provenance macros source s → was ≡ no_end → b.live ≡ false → b.ends ≡ with_end was end → EndsBy provenance macros true s end
+            → (b.ends.waiting ≡ true → (out ≡ out2) × (left ≡ left2)) → ((o w : List (model.Hidden Place)) → s ≡ scanning o w → (o ≡ out) × (w ≡ left)) → IsTold source out2 left2 new c later b true
+        told-ends {s} was _ opens none not same (refused failure f decided) kept told =
+            failed failure not (same ∙ ap (λ e. with_end e (turn.fails failure)) none) (opens-fail provenance macros source s failure opens f (decided refl))
+        told-ends was _ opens none not same (held_up all w) kept told =
+            let q = kept (ap (λ e. e.waiting) same) in
+            waiting not (same ∙ ap (λ e. with_end e turn.waits) none) (subst (λ (p : List (model.Hidden Place) × List (model.Hidden Place)). Settles provenance macros source p.0 p.1) (λ i. (q.0 i, q.1 i)) (settles-waiting opens w told))
+
+        pub told-progress : {a b : At} {started : Bool} (takes : Bool) → Progress provenance macros old new c below later a b takes → (b.ends.waiting ≡ true → (out ≡ out2) × (left ≡ left2))
+            → (a.ends ≡ no_end → (o w : List (model.Hidden Place)) → state_in old below a.view c ≡ scanning o w → (o ≡ out) × (w ≡ left)) → IsTold source out left old c below a started → IsTold source out2 left2 new c later b started
+        told-progress {a} {b} takes progress kept told (unasked not none) = by takes progress
+          where
+            by : (t : Bool) → Progress provenance macros old new c below later a b t → IsTold source out2 left2 new c later b false
+            by t (rests still same stays) = unasked (still ∙ not) (same ∙ none)
+            by t (gone was over_now same) = unasked over_now (same ∙ none)
+            by t (steps was now same free move) = absurd (true≢false (sym was ∙ not))
+            by t (ends end was over_now same f) = absurd (true≢false (sym was ∙ not))
+        told-progress {a} {b} takes progress kept told (failed failure not one holds) = by takes progress
+          where
+            by : (t : Bool) → Progress provenance macros old new c below later a b t → IsTold source out2 left2 new c later b true
+            by t (rests still same stays) = failed failure (still ∙ not) (same ∙ one) holds
+            by t (gone was over_now same) = failed failure over_now (same ∙ one) holds
+            by t (steps was now same free move) = absurd (true≢false (sym was ∙ not))
+            by t (ends end was over_now same f) = absurd (true≢false (sym was ∙ not))
+        told-progress {a} {b} takes progress kept told (waiting not one settles) = by takes progress
+          where
+            still-waits : b.live ≡ false → b.ends ≡ a.ends → IsTold source out2 left2 new c later b true
+            still-waits done same = let q = kept (ap (λ e. e.waiting) (same ∙ one)) in waiting done (same ∙ one) (subst (λ (p : List (model.Hidden Place) × List (model.Hidden Place)). Settles provenance macros source p.0 p.1) (λ i. (q.0 i, q.1 i)) settles)
+
+            by : (t : Bool) → Progress provenance macros old new c below later a b t → IsTold source out2 left2 new c later b true
+            by t (rests still same stays) = still-waits (still ∙ not) same
+            by t (gone was over_now same) = still-waits over_now same
+            by t (steps was now same free move) = absurd (true≢false (sym was ∙ not))
+            by t (ends end was over_now same f) = absurd (true≢false (sym was ∙ not))
+        told-progress {a} {b} takes progress kept told (going live none stands opens) = by takes progress
+          where
+            by : (t : Bool) → Progress provenance macros old new c below later a b t → IsTold source out2 left2 new c later b true
+            by t (rests still same stays) = let l = stays live stands in going (still ∙ live) (same ∙ none) l.0 (subst (Opens provenance macros source) l.1 opens)
+            by t (gone was over_now same) = absurd (true≢false (sym live ∙ was))
+            by t (steps was now same free move) =
+                let l = move stands in
+                going now (same ∙ none) l.0 (opens-move provenance macros source (state_in old below a.view c) (state_in new later b.view c) opens l.1 (free stands))
+            by t (ends end was not same f) = told-ends a.ends end opens none not same (f stands) kept (told none)

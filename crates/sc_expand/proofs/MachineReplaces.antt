@@ -1,5 +1,5 @@
 -- A call that is replaced, or refused, is a turn of the frame that it left.
-use Rattle.std.proofs.Common.{◌≡◌, ℕ, ◌≤◌, ◌&&◌, not, Bool, true, false, List, [], ◌∷◌, ◌++◌, map, reverse, length, append-nil, Ok, Err, refl, sym, ap, subst, ◌∙◌, arith, if◌then◌else◌}
+use Rattle.std.proofs.Common.{◌≡◌, ℕ, ◌≤◌, ◌&&◌, not, Bool, true, false, List, [], ◌∷◌, ◌++◌, map, reverse, length, Ok, Err, refl, sym, ap, subst, ◌∙◌, arith, if◌then◌else◌}
 use Rattle.std.proofs.Math.Bool.{and-false, and-true}
 use Rattle.c11_macros.specs.Hidden.{Failure}
 use Rattle.c11_macros.specs.Macros.{Macros}
@@ -7,14 +7,16 @@ use Rattle.c11_macros.specs.Results.{result_map}
 use Rattle.c11_macros.specs.Substitution.{hiding, with_space}
 use Rattle.sc_base.specs.declared.id.Cond.{Cond}
 use Rattle.sc_base.specs.declared.place.Place.{Place}
-use Rattle.sc_expand.proofs.SeenLemmas.{calls_at-Grows, failures_at-Grows, seen_at-Grows, seen_at-append}
+use Rattle.sc_expand.proofs.SeenLemmas.{calls_at-Grows, ends_at-Grows, seen_at-Grows, seen_at-append}
 use Rattle.sc_expand.specs.declared.call.Call.{Call}
 use Rattle.sc_expand.specs.declared.expansion.Expansion.{Expansion}
-use Rattle.sc_expand.specs.Machine.{IsHeldExpansion, at, at_call, with_call}
+use Rattle.sc_expand.specs.Machine.{IsHeldExpansion, at, at_call, ends_at, with_call}
+use Rattle.sc_expand.specs.Open.{Waits}
+use Rattle.sc_expand.proofs.OpenLemmas.{waits-not}
 use Rattle.sc_expand.specs.Plain as plain
 use Rattle.sc_expand.specs.Plain.{Fails, Moves, State, Waiting, replacement_of, scanning, waiting}
-use Rattle.sc_expand.specs.Seen.{Grows, Stores, calls_at, failures_at, provenance_of, seen_at, seen_template, seen_wanted, state_by, state_of, view_at, waiting_at}
-use Rattle.sc_expand.specs.Turn.{Turn, failed, moved, passed}
+use Rattle.sc_expand.specs.Seen.{Grows, Stores, calls_at, provenance_of, seen_at, seen_template, seen_wanted, state_by, state_of, view_at, waiting_at}
+use Rattle.sc_expand.specs.Turn.{Turn, ended, fails, moved, passed, refused, with_end}
 use Rattle.sc_model.proofs.SetLemmas.{IsConfig-Keeps}
 use Rattle.sc_model.specs.declared.cause.Cause.{Cause}
 use Rattle.sc_model.specs.Sets.{IsConfig, Denotes}
@@ -42,8 +44,8 @@ module _ {old new : Stores} (grows : Grows old new) (files : ℕ) (e after : Exp
     same-live : new.sets.has after.refusals.live.0 c ≡ old.sets.has e.refusals.live.0 c
     same-live = ap (λ r. new.sets.has r.live.0 c) refusals ∙ grows.sets.at e.refusals.live.0 c held.refusals.live listed
 
-    same-failures : failures_at new.sets after.refusals.faults.items c ≡ failures_at old.sets e.refusals.faults.items c
-    same-failures = ap (λ r. failures_at new.sets r.faults.items c) refusals ∙ failures_at-Grows grows c listed e.refusals.faults.items held.refusals.own
+    same-ends : ends_at new.sets after.refusals c ≡ ends_at old.sets e.refusals c
+    same-ends = ap (λ r. ends_at new.sets r c) refusals ∙ ends_at-Grows grows c listed e.refusals held.refusals
 
     pub replaced-turn : (old.sets.has call.cond.0 c ≡ true → old.sets.has e.refusals.live.0 c ≡ true) → (old.sets.has call.cond.0 c ≡ true → calls_at old e.top.calls.items c ≡ [])
         → (old.sets.has call.cond.0 c ≡ true → seen_at new made c
@@ -56,7 +58,7 @@ module _ {old new : Stores} (grows : Grows old new) (files : ℕ) (e after : Exp
             → Turn (provenance_of table) macros (record (at old e c) { view = if b then with_call (view_at old e.top c) (waiting_at old call c) else view_at old e.top c }) (at new after c) b
         by false absent =
             let work_is = same-work ∙ ap (λ l. l ++ seen_at old e.top.work c) (nothing absent) in
-            passed same-live same-failures (λ l. λ i. record { out = same-out i; work = work_is i; calls = same-calls i })
+            passed same-live same-ends (λ l. λ i. record { out = same-out i; work = work_is i; calls = same-calls i })
         by true has =
             let body = seen_at new made c in
             let here = live has in
@@ -70,7 +72,7 @@ module _ {old new : Stores} (grows : Grows old new) (files : ℕ) (e after : Exp
             let empty : calls_at new after.top.calls.items c ≡ [] = same-calls ∙ gone in
             let later : state_by (seen_at new after.top.out c) (seen_at new after.top.work c) (calls_at new after.top.calls.items c) ≡ scanning (seen_at old e.top.out c) (body ++ seen_at old e.top.work c) =
             λ i. state_by (same-out i) (same-work i) (empty i) in
-            moved here (same-live ∙ here) same-failures
+            moved here (same-live ∙ here) same-ends (λ whole w. waits-not (subst (Waits macros) was w))
             (subst (λ s. Moves (provenance_of table) macros s (state_of (view_at new after.top c))) (sym was)
             (subst (Moves (provenance_of table) macros (waiting (seen_at old e.top.out c) (seen_at old e.top.work c) (waiting_at old call c))) (sym later) move))
             (subst (λ cs. length cs ≤ 1) (sym empty) (omega arith))
@@ -79,7 +81,7 @@ module _ {old new : Stores} (grows : Grows old new) (files : ℕ) (e after : Exp
   pub refused-turn : (cause : Cause) → after.top.work ≡ e.top.work
       → seen_template old call.head.token.place call.template ≡ Err (record { cause = cause; place = call.head.token.place })
       → Denotes new.sets after.refusals.live.0 (λ c. old.sets.has e.refusals.live.0 c && not (old.sets.has call.cond.0 c))
-      → failures_at new.sets after.refusals.faults.items c ≡ failures_at old.sets e.refusals.faults.items c ++ (if old.sets.has call.cond.0 c then record { cause = cause; place = call.head.token.place } ∷ [] else [])
+      → ends_at new.sets after.refusals c ≡ (if old.sets.has call.cond.0 c then with_end (ends_at old.sets e.refusals c) (fails (record { cause = cause; place = call.head.token.place })) else ends_at old.sets e.refusals c)
       → (old.sets.has call.cond.0 c ≡ true → old.sets.has e.refusals.live.0 c ≡ true) → (old.sets.has call.cond.0 c ≡ true → calls_at old e.top.calls.items c ≡ [])
       → Turn (provenance_of table) macros (at_call old e call c) (at new after c) (old.sets.has call.cond.0 c)
   refused-turn cause work template told failures live free = by (old.sets.has call.cond.0 c) refl (told.at c (IsConfig-Keeps grows.sets listed)) failures
@@ -88,20 +90,20 @@ module _ {old new : Stores} (grows : Grows old new) (files : ℕ) (e after : Exp
       same-work = ap (λ l. seen_at new l c) work ∙ seen_at-Grows grows c listed e.top.work held.top.work
 
       by : (b : Bool) → old.sets.has call.cond.0 c ≡ b → new.sets.has after.refusals.live.0 c ≡ (old.sets.has e.refusals.live.0 c && not (old.sets.has call.cond.0 c))
-          → failures_at new.sets after.refusals.faults.items c ≡ failures_at old.sets e.refusals.faults.items c ++ (if old.sets.has call.cond.0 c then record { cause = cause; place = call.head.token.place } ∷ [] else [])
+          → ends_at new.sets after.refusals c ≡ (if old.sets.has call.cond.0 c then with_end (ends_at old.sets e.refusals c) (fails (record { cause = cause; place = call.head.token.place })) else ends_at old.sets e.refusals c)
           → Turn (provenance_of table) macros (record (at old e c) { view = if b then with_call (view_at old e.top c) (waiting_at old call c) else view_at old e.top c }) (at new after c) b
       by false absent alive failed_at =
           passed (alive ∙ (ap (λ b. old.sets.has e.refusals.live.0 c && not b) absent ∙ and-true (old.sets.has e.refusals.live.0 c)))
-          (failed_at ∙ (ap (λ b. failures_at old.sets e.refusals.faults.items c ++ (if b then record { cause = cause; place = call.head.token.place } ∷ [] else [])) absent ∙ append-nil (failures_at old.sets e.refusals.faults.items c)))
+          (failed_at ∙ ap (λ b. if b then with_end (ends_at old.sets e.refusals c) (fails (record { cause = cause; place = call.head.token.place })) else ends_at old.sets e.refusals c) absent)
           (λ l. λ i. record { out = same-out i; work = same-work i; calls = same-calls i })
       by true has alive failed_at =
           let failure : Failure Place = record { cause = cause; place = call.head.token.place } in
           let result : replacement_of (provenance_of table) (waiting_at old call c) ≡ Err failure =
           ap (result_map (λ slots. hiding (provenance_of table) (hide_at old.names old.hides call.hide.0) (with_space call.head.token.space (filled_in (map (λ list. seen_at old list c) call.expanded.items) slots)))) template in
-          let fails : Fails (provenance_of table) macros (waiting (seen_at old e.top.out c) (seen_at old e.top.work c) (waiting_at old call c)) failure = plain.bad_paste (seen_at old e.top.out c) (seen_at old e.top.work c) (waiting_at old call c) failure wanted result in
+          let stuck : Fails (provenance_of table) macros (waiting (seen_at old e.top.out c) (seen_at old e.top.work c) (waiting_at old call c)) failure = plain.bad_paste (seen_at old e.top.out c) (seen_at old e.top.work c) (waiting_at old call c) failure wanted result in
           let was : state_by (seen_at old e.top.out c) (seen_at old e.top.work c) (calls_at old e.top.calls.items c ++ waiting_at old call c ∷ []) ≡ waiting (seen_at old e.top.out c) (seen_at old e.top.work c) (waiting_at old call c) =
           ap (λ cs. state_by (seen_at old e.top.out c) (seen_at old e.top.work c) (cs ++ waiting_at old call c ∷ [])) (free has) in
-          failed failure (live has)
+          ended (fails failure) (live has)
           (alive ∙ (ap (λ b. old.sets.has e.refusals.live.0 c && not b) has ∙ and-false (old.sets.has e.refusals.live.0 c)))
-          (failed_at ∙ ap (λ b. failures_at old.sets e.refusals.faults.items c ++ (if b then failure ∷ [] else [])) has)
-          (subst (λ s. Fails (provenance_of table) macros s failure) (sym was) fails)
+          (failed_at ∙ ap (λ b. if b then with_end (ends_at old.sets e.refusals c) (fails failure) else ends_at old.sets e.refusals c) has)
+          (refused failure (subst (λ s. Fails (provenance_of table) macros s failure) (sym was) stuck) (λ whole w. waits-not (subst (Waits macros) was w)))

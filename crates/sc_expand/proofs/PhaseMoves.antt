@@ -28,7 +28,7 @@ use Rattle.sc_expand.specs.declared.frame.Enclosing.{Enclosing}
 use Rattle.sc_expand.specs.FootprintSteps as steps
 use Rattle.sc_expand.specs.FootprintSteps.{IsPending, lower_of}
 use Rattle.sc_expand.specs.Having.{behind_at}
-use Rattle.sc_expand.specs.Machine.{IsAbsent, IsHeldExpansion, Progress, Stands, at, fails, gone, no_view, rests, state_in, steps as stepped}
+use Rattle.sc_expand.specs.Machine.{IsAbsent, IsHeldExpansion, Progress, Stands, at, ends, gone, no_view, rests, state_in, steps as stepped}
 use Rattle.sc_expand.specs.Plain as plain
 use Rattle.sc_expand.specs.Plain.{Moves, State, Waiting, expanding, scanning, waiting}
 use Rattle.sc_expand.specs.Running.{HasEnded, IsAsLong, IsTurned, Rest, all, bottom, bottom_by, but_first, next_of, put, took}
@@ -254,8 +254,8 @@ still : {provenance : Provenance Place} {macros : Macros} {old new : Stores} {c 
     → b.live ≡ true → (a.live ≡ true → Stands old c bs a.view) → state_in old bs a.view c ≡ state_in new later b.view c
 still not (rests same failures stays) live stands = let was = sym same ∙ live in (stays was (stands was)).1
 still not (gone was ended failures) live stands = absurd (true≢false (sym live ∙ ended))
-still not (stepped was now failures move) live stands = absurd (true≢false not)
-still not (fails failure was ended failures f) live stands = absurd (true≢false not)
+still not (stepped was now failures free move) live stands = absurd (true≢false not)
+still not (ends end was ended failures f) live stands = absurd (true≢false not)
 
 module _ (files : List (List ℕ)) (macros : List ℕ → Macros)
     {old now : Stores} {was e : Expansion} (grows : Grows old now) (r : IsRunning files macros old now was e) (began : IsHeldExpansion old (length files) was)

@@ -20,7 +20,7 @@ use Rattle.sc_expand.proofs.PhaseMoves.{state-bottom}
 use Rattle.sc_expand.proofs.Phases.{IsAtName, IsInside, IsReady, Phase, Uses, rest_of, bound_of, end_of, last_at, name_of, print_of, state_now, taken_by}
 use Rattle.sc_expand.proofs.PlainCompletes.{ends, scanned}
 use Rattle.sc_expand.proofs.PlainFootprint.{UsesFrom, uses-less, uses-over, uses-start}
-use Rattle.sc_expand.proofs.RunLemmas.{IsRunning, rests-at, running-stands, start-state}
+use Rattle.sc_expand.proofs.RunLemmas.{IsRunning, rests-at, running-stands, start-state, told-apart}
 use Rattle.sc_expand.specs.Alike.{IsAlikeCall, IsAlikeEnclosing, IsAlikeExpansion, IsAlikeFrame, Others, others_at}
 use Rattle.sc_expand.specs.declared.call.Call.{Call}
 use Rattle.sc_expand.specs.declared.expansion.Expansion.{Expansion}
@@ -77,7 +77,7 @@ module _ (s : Sets) (c d : List ℕ) (others : Others) (b : ℕ) where
   pub alike-fewer : (e : Expansion) → length (bottom e).work - b ≤ length (bottom e).work - others.behind → IsAlikeExpansion s c d others e
       → IsAlikeExpansion s c d (record { behind = b; out = others.out; faults = others.faults }) e
   alike-fewer e less alike = record {
-    refusals = record { live = alike.refusals.live; faults = alike.refusals.faults };
+    refusals = record { live = alike.refusals.live; waiting = alike.refusals.waiting; faults = alike.refusals.faults };
     top = alike-top e.below.items e.top less alike.top;
     below = λ n o is. alike-below e.below.items e.top less n o is (alike.below n o is);
   }
@@ -86,7 +86,7 @@ module _ (s : Sets) (c d : List ℕ) (others : Others) (b : ℕ) where
 
 module _ (files : List (List ℕ)) (macros : List ℕ → Macros) where
   -- no configuration has come to a name
-  pub phase-start : (old : Stores) (was : Expansion) → IsHeldExpansion old (length files) was → IsUntouched was → Phase files macros old old was was
+  pub phase-start : (old : Stores) (was : Expansion) → IsHeldExpansion old (length files) was → IsUntouched old.sets was → Phase files macros old old was was
   phase-start old was held fresh = record {
     at = 0;
     n = length was.top.work;
@@ -219,11 +219,12 @@ never-some : {A : Type 0} (x : A) → None ≡ Some x → ⊥
 never-some x is = cc
 
 -- who is still live was so when the list began
-told-asked : {provenance : Provenance Place} {macros : Macros} {source : List (model.Hidden Place)} {st : Stores} {c : List ℕ} {below : List Enclosing} {a : At} {asked : Bool}
-    → IsTold provenance macros source st c below a asked → a.live ≡ true → asked ≡ true
+told-asked : {provenance : Provenance Place} {macros : Macros} {source out left : List (model.Hidden Place)} {st : Stores} {c : List ℕ} {below : List Enclosing} {a : At} {asked : Bool}
+    → IsTold provenance macros source out left st c below a asked → a.live ≡ true → asked ≡ true
 told-asked (told.unasked refused none) live = absurd (true≢false (sym live ∙ refused))
 told-asked (told.going live' none stands reaches) live = refl
-told-asked (told.refused failure not one expands) live = refl
+told-asked (told.failed failure not one holds) live = refl
+told-asked (told.waiting not one settles) live = refl
 
 module _ {files : List (List ℕ)} {macros : List ℕ → Macros} (names : List (List ℕ)) (within : (c : List ℕ) → IsWithin names (macros c)) {old now : Stores} {was e : Expansion}
     (r : IsRunning files macros old now was e) (phase : Phase files macros old now was e)
@@ -392,11 +393,12 @@ module _ {files : List (List ℕ)} {macros : List ℕ → Macros} (names : List 
 
   -- with the same footprint they have the same up to the last that it takes
   alike-name : (c d : List ℕ) (it : Comes c) (jt : Comes d) → taken_by it.uses ≡ taken_by jt.uses → now.sets.has item.0.0 c ≡ now.sets.has item.0.0 d
-      → now.sets.has e.refusals.live.0 c ≡ now.sets.has e.refusals.live.0 d
+      → now.sets.has e.refusals.live.0 c ≡ now.sets.has e.refusals.live.0 d → now.sets.has e.refusals.waiting.0 c ≡ now.sets.has e.refusals.waiting.0 d
       → IsAlikeExpansion now.sets c d (record { behind = lower_of (bound_of it.uses) (length rest); out = length e.top.out; faults = length e.refusals.faults.items }) e
-  alike-name c d it jt taken first live = record {
+  alike-name c d it jt taken first live waiting = record {
     refusals = record {
       live = live;
+      waiting = waiting;
       faults = subst (AreAlikeFaults now.sets c d) (sym (drop_all (length e.refusals.faults.items) e.refusals.faults.items (omega arith))) (All-nil (λ (fault : Fault). IsAlike now.sets c d fault.cond));
     };
     top = subst (λ (bs : List Enclosing). IsAlikeFrame now.sets c d (others_at others (length bs)) e.top) (sym none) (record {
@@ -479,7 +481,7 @@ module _ {files : List (List ℕ)} {macros : List ℕ → Macros} (names : List 
             (whole.0 + more, ap (λ l. end_of left (seen_at now l c)) bottom-is ∙ (ap (drop more) whole.1 ∙ drop-drop more whole.0 (seen_at old was.top.work c)));
         alike = λ c d p q k l taken agree live live_d pending pending_d.
             alike-name c d (comes c p k) (comes d q l) taken
-            ((and_parts (now.sets.has item.0.0 c) (now.sets.has e.refusals.live.0 c) k).0 ∙ sym (and_parts (now.sets.has item.0.0 d) (now.sets.has e.refusals.live.0 d) l).0) (live ∙ sym live_d);
+            ((and_parts (now.sets.has item.0.0 c) (now.sets.has e.refusals.live.0 c) k).0 ∙ sym (and_parts (now.sets.has item.0.0 d) (now.sets.has e.refusals.live.0 d) l).0) (live ∙ sym live_d) (told-apart (r.told c p) live ∙ sym (told-apart (r.told d q) live_d));
       }
 
 -- the phase goes on, or comes to the next name

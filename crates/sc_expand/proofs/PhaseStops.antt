@@ -1,7 +1,6 @@
 -- Where the name that stands first has so many different calls, so many configurations come to one
 -- name of the list with different footprints.
 use Rattle.std.proofs.Common.{◌≡◌, ◌⊎◌, inl, inr, ℕ, ◌+◌, ◌<◌, ◌≤◌, Bool, true, false, List, [], ◌∷◌, All, Option, None, Some, drop, length, refl, sym, ap, subst, ◌∙◌, arith}
-use Rattle.c11_macros.specs.Call.{arguments_for}
 use Rattle.c11_macros.specs.Expansion.{IsWithin, case_of, fitted_case, is_looked_up, stays}
 use Rattle.c11_macros.specs.Hidden as model
 use Rattle.c11_macros.specs.Macros.{Definition, Macros}

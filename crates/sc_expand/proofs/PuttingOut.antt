@@ -7,6 +7,7 @@ use Rattle.sc_expand.proofs.TakingLemmas.{AreHeld-single}
 use Rattle.sc_expand.specs.Seen.{AreHeld, IsHeldToken, Stores, seen_at}
 use Rattle.sc_expand.specs.Unchanged.{IsPushed, absent, pushed}
 use Rattle.sc_guarded.proofs.ItemLemmas.{map-one}
+use Rattle.sc_hoist.specs.Alike.{AreAlike, IsAlike}
 use Rattle.sc_model.proofs.SetLemmas.{IsConfig-Keeps}
 use Rattle.sc_model.specs.Sets.{Sets, IsCond, IsConfig, IsNever, Keeps}
 use Rattle.sc_subst.specs.declared.hidden.Hidden.{Hidden}
@@ -47,3 +48,9 @@ pushed-some {s} {cond} {token} {before} (pushed some is) all =
     let Some : Item → Type 0 = λ item. IsNever s item.0.0 → ⊥ in
     subst (All Some) (sym is) (All-append Some before ((cond, token) ∷ []) all (All-cons Some (cond, token) [] some (All-nil Some)))
 pushed-some {s} (absent never is) all = subst (All (λ (item : Item). IsNever s item.0.0 → ⊥)) (sym is) all
+
+pub pushed-alike : (s : Sets) (c d : List ℕ) {cond : Cond} {token : Hidden} {before after : List (Cond × Hidden)} → IsPushed s cond token before after → IsAlike s c d cond → AreAlike s c d before → AreAlike s c d after
+pushed-alike s c d {cond} {token} {before} (pushed some is) same all =
+    let Same : Item → Type 0 = λ item. IsAlike s c d item.0 in
+    subst (AreAlike s c d) (sym is) (All-append Same before ((cond, token) ∷ []) all (All-cons Same (cond, token) [] same (All-nil Same)))
+pushed-alike s c d (absent never is) same all = subst (AreAlike s c d) (sym is) all

@@ -12,21 +12,25 @@ use Rattle.sc_expand.proofs.MachineCalls.{calls_at-append, leave-other}
 use Rattle.sc_expand.proofs.MachineLemmas.{Stands-Grows, state_in-Grows}
 use Rattle.sc_expand.proofs.SeenLemmas.{AreHeld-tail, Grows-refl, Grows-trans, IsHeldExpansion-Grows, at-Grows}
 use Rattle.sc_expand.proofs.UnchangedLemmas.{drops-first, drops-nothing, drops-then, never-empty, not-both}
-use Rattle.sc_expand.specs.Alike.{AreAlikeRefusals, IsAlikeCall, IsAlikeEnclosing, IsAlikeFrame, others_at}
+use Rattle.sc_expand.specs.Alike.{AreAlikeRefusals, IsAlikeCall, IsAlikeEnclosing, IsAlikeFrame, no_others, others_at}
 use Rattle.sc_expand.specs.Having.{behind_at}
 use Rattle.sc_expand.specs.declared.call.Call.{Call}
 use Rattle.sc_expand.specs.declared.expansion.Expansion.{Expansion}
 use Rattle.sc_expand.specs.declared.frame.Enclosing.{Enclosing}
 use Rattle.sc_expand.specs.declared.frame.Frame.{Frame}
-use Rattle.sc_expand.specs.Machine.{IsHeldExpansion, Progress, Stands, at, fails, gone, rests, state_in, steps}
-use Rattle.sc_expand.specs.Plain.{Fails, Moves}
+use Rattle.sc_expand.specs.Machine.{IsHeldExpansion, Progress, Stands, at, ends, ends_at, gone, rests, state_in, steps}
+use Rattle.sc_expand.specs.Open.{Waits}
+use Rattle.sc_expand.specs.Waiting as waiting
+use Rattle.sc_expand.specs.Waiting.{KeepsFirst}
+use Rattle.sc_expand.proofs.WaitingLemmas.{dropped-alike, dropped-left, kept-held, kept-later, left-then, rest-alike, same-left}
+use Rattle.sc_expand.specs.Plain.{Moves}
 use Rattle.sc_expand.specs.Running as running
 use Rattle.sc_expand.specs.Running.{IsDropped, IsReady, IsRested, bottom, bottom_by, last_of, next_by, next_of, put_by}
-use Rattle.sc_expand.specs.Seen.{AreHeld, Grows, IsHeldCall, IsHeldEnclosing, IsHeldFrame, IsHeldRefusals, Stores, calls_at, failures_at, seen_at, view_at, waiting_at}
-use Rattle.sc_expand.specs.Turn.{At}
+use Rattle.sc_expand.specs.Seen.{AreHeld, Grows, IsHeldCall, IsHeldEnclosing, IsHeldFrame, IsHeldRefusals, Stores, calls_at, seen_at, view_at, waiting_at}
+use Rattle.sc_expand.specs.Turn.{At, EndsBy, with_end}
 use Rattle.sc_guarded.specs.Items.{items_at}
 use Rattle.sc_hoist.specs.Alike.{AreAlike, IsAlike}
-use Rattle.sc_model.proofs.SetLemmas.{IsConfig-Keeps, IsConfig-kept}
+use Rattle.sc_model.proofs.SetLemmas.{IsConfig-Keeps, IsConfig-kept, Keeps-refl}
 use Rattle.sc_model.proofs.ListLemmas.{slice_get-seam}
 use Rattle.sc_model.specs.Sets.{Sets, Denotes, IsCond, IsConfig, IsNever, Keeps}
 use Rattle.sc_subst.specs.declared.hidden.Hidden.{Hidden}
@@ -57,6 +61,10 @@ next-argument e below o none empty is =
 pub some-same : {A : Type 0} {x y : A} → Some x ≡ Some y → x ≡ y
 some-same is = cc
 
+pub first-is : {A : Type 0} (xs : List A) (x : A) → slice_get xs 0 ≡ Some x → xs ≡ x ∷ drop 1 xs
+first-is [] x is = cc
+first-is (y ∷ ys) x is = ap (λ z. z ∷ ys) (some-same is)
+
 -- ---- what was put out
 
 pub put-same : (below : List Enclosing) (t u : Frame) → t.out ≡ u.out → put_by below t ≡ put_by below u
@@ -75,16 +83,16 @@ module _ {provenance : Provenance Place} {macros : Macros} {old mid new : Stores
   progress-then first second not (rests still same stays) (rests still' same' stays') =
       rests (still' ∙ still) (same' ∙ same) (λ live stands. let r = stays live stands in let q = stays' (still ∙ live) r.0 in (q.0, r.1 ∙ q.1))
   progress-then first second not (rests still same stays) (gone was ended same') = gone (sym still ∙ was) ended (same' ∙ same)
-  progress-then first second not (rests still same stays) (steps was now same' move) =
-      steps (sym still ∙ was) now (same' ∙ same) (λ stands. let r = stays (sym still ∙ was) stands in let q = move r.0 in (q.0, subst (λ s. Moves provenance macros s (state_in new three z.view c)) (sym r.1) q.1))
-  progress-then first second not (rests still same stays) (fails failure was ended same' f) =
-      fails failure (sym still ∙ was) ended (same' ∙ ap (λ l. l ++ failure ∷ []) same) (λ stands. let r = stays (sym still ∙ was) stands in subst (λ s. Fails provenance macros s failure) (sym r.1) (f r.0))
+  progress-then first second not (rests still same stays) (steps was now same' free move) =
+      steps (sym still ∙ was) now (same' ∙ same) (λ stands w. (let r = stays (sym still ∙ was) stands in free r.0 (subst (Waits macros) r.1 w))) (λ stands. let r = stays (sym still ∙ was) stands in let q = move r.0 in (q.0, subst (λ s. Moves provenance macros s (state_in new three z.view c)) (sym r.1) q.1))
+  progress-then first second not (rests still same stays) (ends end was ended same' by) =
+      ends end (sym still ∙ was) ended (same' ∙ ap (λ l. with_end l end) same) (λ stands. let r = stays (sym still ∙ was) stands in subst (λ s. EndsBy provenance macros true s end) (sym r.1) (by r.0))
   progress-then first second not (gone was ended same) (rests still' same' stays') = gone was (still' ∙ ended) (same' ∙ same)
   progress-then first second not (gone was ended same) (gone was' ended' same') = gone was ended' (same' ∙ same)
-  progress-then first second not (gone was ended same) (steps was' now same' move) = absurd (true≢false (sym was' ∙ ended))
-  progress-then first second not (gone was ended same) (fails failure was' ended' same' f) = absurd (true≢false (sym was' ∙ ended))
-  progress-then first second not (steps was now same move) q = absurd (true≢false not)
-  progress-then first second not (fails failure was ended same f) q = absurd (true≢false not)
+  progress-then first second not (gone was ended same) (steps was' now same' free move) = absurd (true≢false (sym was' ∙ ended))
+  progress-then first second not (gone was ended same) (ends end was' ended' same' by) = absurd (true≢false (sym was' ∙ ended))
+  progress-then first second not (steps was now same free move) q = absurd (true≢false not)
+  progress-then first second not (ends end was ended same by) q = absurd (true≢false not)
 
 -- ---- nothing happens
 
@@ -99,10 +107,12 @@ module _ {old new : Stores} (grows : Grows old new) (e : Expansion) where
     progress = λ files provenance macros c held listed.
         let now = at-Grows grows c listed e held in
         let view = ap (λ a. a.view) now in
-        rests (ap (λ a. a.live) now) (ap (λ a. a.failures) now) (λ live stands. (
+        rests (ap (λ a. a.live) now) (ap (λ a. a.ends) now) (λ live stands. (
           subst (Stands new c e.below.items) (sym view) (Stands-Grows grows files c listed held.below stands),
           sym (ap (λ v. state_in new e.below.items v c) view ∙ state_in-Grows grows files c listed e.below.items (view_at old e.top c) held.below),
         ));
+    left = λ files held. same-left grows e e held refl refl refl;
+    alike_left = λ files c d held p q alike all. rest-alike e grows held refl p q all;
     drops = λ files held uncalled. drops-nothing old.sets e uncalled;
     alike = λ files c d others held p q alike. IsAlikeExpansion-Keeps grows.sets p q others e held alike;
     rest = λ files c held p live. behind-Keeps grows.sets p (bottom e).work (bottom-held e held);
@@ -124,7 +134,7 @@ module _ (st : Stores) (e after : Expansion) (refusals : after.refusals ≡ e.re
       → (st.sets.has e.refusals.live.0 c ≡ true → Stands st c e.below.items (view_at st e.top c)
       → Stands st c after.below.items (view_at st after.top c) × (state_in st e.below.items (view_at st e.top c) c ≡ state_in st after.below.items (view_at st after.top c) c))
       → Progress provenance macros st st c e.below.items after.below.items (at st e c) (at st after c) false
-  by_view c stays = rests (ap (λ r. st.sets.has r.live.0 c) refusals) (ap (λ r. failures_at st.sets r.faults.items c) refusals) stays
+  by_view c stays = rests (ap (λ r. st.sets.has r.live.0 c) refusals) (ap (λ r. ends_at st.sets r c) refusals) stays
 
   same_view : (c : List ℕ) → after.below ≡ e.below → view_at st after.top c ≡ view_at st e.top c → Stands st c e.below.items (view_at st e.top c)
       → Stands st c after.below.items (view_at st after.top c) × (state_in st e.below.items (view_at st e.top c) c ≡ state_in st after.below.items (view_at st after.top c) c)
@@ -140,14 +150,16 @@ module _ (st : Stores) (e after : Expansion) (refusals : after.refusals ≡ e.re
 
   -- the first token, also where calls wait
   pub rested-token : (item : Cond × Hidden) → ((c : List ℕ) → IsConfig st.sets.arities c → st.sets.has item.0.0 c ≡ true → st.sets.has e.refusals.live.0 c ≡ true → ⊥)
-      → e.top.work ≡ item ∷ after.top.work → after.top.calls.items ≡ e.top.calls.items → after.top.out ≡ e.top.out → after.below ≡ e.below → IsRested st st e after
-  rested-token item never work calls out below = record {
+      → e.top.work ≡ item ∷ after.top.work → after.top.calls.items ≡ e.top.calls.items → after.top.out ≡ e.top.out → after.below ≡ e.below
+      → KeepsFirst st.sets st.sets e.refusals.waiting.0 e.below.items e.top.work e.rest after.rest → IsRested st st e after
+  rested-token item never work calls out below kept_first = record {
     grows = Grows-refl st;
     refusals = refusals;
     sets = sets;
     out = ap (λ b. put_by b.items after.top) below ∙ put-same e.below.items after.top e.top out;
     held = λ files held. record {
       refusals = subst (IsHeldRefusals st.sets files) (sym refusals) held.refusals;
+      rest = kept-held st (Keeps-refl st.sets) held.top.work.own files held.top.work.held kept_first held.rest;
       top = record {
         work = AreHeld-tail item after.top.work (subst (AreHeld st files) work held.top.work);
         out = subst (AreHeld st files) (sym out) held.top.out;
@@ -162,6 +174,8 @@ module _ (st : Stores) (e after : Expansion) (refusals : after.refusals ≡ e.re
         let first = ap (λ l. seen_at st l c) out in
         let third = ap (λ l. calls_at st l c) calls in
         λ i. record { out = first i; work = fewer i; calls = third i }));
+    alike_left = λ files c d held p q alike all. dropped-alike st e after held below kept_first p q alike all;
+    left = λ files held. dropped-left st (Keeps-refl st.sets) e after held refusals below out (ap (drop 1) (sym work)) kept_first;
     drops = λ files held uncalled. drops-first st.sets e after item never work calls out below uncalled;
     alike = λ files c d others held p q alike.
         let here = others_at others (length e.below.items) in
@@ -181,14 +195,15 @@ module _ (st : Stores) (e after : Expansion) (refusals : after.refusals ≡ e.re
   }
 
   pub rested-dropped : ((cond : Cond) → next_of e ≡ Some cond → (c : List ℕ) → IsConfig st.sets.arities c → st.sets.has cond.0 c ≡ true → st.sets.has e.refusals.live.0 c ≡ true → ⊥)
-      → IsDropped e after → IsRested st st e after
-  rested-dropped never (running.call k calls work out below) = record {
+      → IsDropped st.sets st.sets e after → IsRested st st e after
+  rested-dropped never (running.call k calls work out below rest) = record {
     grows = Grows-refl st;
     refusals = refusals;
     sets = sets;
     out = ap (λ b. put_by b.items after.top) below ∙ put-same e.below.items after.top e.top out;
     held = λ files held. record {
       refusals = subst (IsHeldRefusals st.sets files) (sym refusals) held.refusals;
+      rest = subst (AreHeld st files) (sym rest) held.rest;
       top = record {
         work = subst (AreHeld st files) (sym work) held.top.work;
         out = subst (AreHeld st files) (sym out) held.top.out;
@@ -204,6 +219,9 @@ module _ (st : Stores) (e after : Expansion) (refusals : after.refusals ≡ e.re
         let first = ap (λ l. seen_at st l c) out in
         let second = ap (λ l. seen_at st l c) work in
         λ i. record { out = first i; work = second i; calls = fewer i }));
+    alike_left = λ files c d held p q alike all. rest-alike after (Grows-refl st) held rest p q all;
+    left = λ files held. same-left (Grows-refl st) e after held rest (ap (λ b. (bottom_by b.items after.top).work) below ∙ bottom-same e.below.items after.top e.top work)
+        (ap (λ b. put_by b.items after.top) below ∙ put-same e.below.items after.top e.top out);
     drops = λ files held uncalled. absurd (never-empty after.top.calls.items k (sym calls ∙ uncalled.calls));
     alike = λ files c d others held p q alike.
         let here = others_at others (length e.below.items) in
@@ -218,9 +236,9 @@ module _ (st : Stores) (e after : Expansion) (refusals : after.refusals ≡ e.re
         };
     rest = λ files c held p live. ap (λ l. behind_at st.sets l c) (ap (λ b. (bottom_by b.items after.top).work) below ∙ bottom-same e.below.items after.top e.top work);
   }
-  rested-dropped never (running.token item none later work out below) =
-      rested-token item (λ c listed has live. never item.0 (next-token e item after.top.work none work) c listed has live) work (later ∙ sym none) out below
-  rested-dropped never (running.argument o none empty below top) = record {
+  rested-dropped never (running.token item none later work out below kept_first) =
+      rested-token item (λ c listed has live. never item.0 (next-token e item after.top.work none work) c listed has live) work (later ∙ sym none) out below kept_first
+  rested-dropped never (running.argument o none empty below top rest) = record {
     grows = Grows-refl st;
     refusals = refusals;
     sets = sets;
@@ -229,6 +247,7 @@ module _ (st : Stores) (e after : Expansion) (refusals : after.refusals ≡ e.re
         let popped = All-pop (IsHeldEnclosing st files) e.below.items after.below.items (Some o) below held.below in
         record {
           refusals = subst (IsHeldRefusals st.sets files) (sym refusals) held.refusals;
+          rest = subst (AreHeld st files) (sym rest) held.rest;
           top = subst (IsHeldFrame st files) (sym top) popped.1.frame;
           below = popped.0;
         };
@@ -238,6 +257,10 @@ module _ (st : Stores) (e after : Expansion) (refusals : after.refusals ≡ e.re
           subst (λ t. Stands st c after.below.items (view_at st t c)) (sym top) r.0,
           ap (λ bs. state_in st bs (view_at st e.top c) c) below ∙ (r.1 ∙ ap (λ t. state_in st after.below.items (view_at st t c) c) (sym top)),
         ));
+    alike_left = λ files c d held p q alike all. rest-alike after (Grows-refl st) held rest p q all;
+    left = λ files held. same-left (Grows-refl st) e after held rest
+        (ap (λ t. (bottom_by after.below.items t).work) top ∙ (sym (ap (λ f. f.work) (bottom-less after.below.items o e.top)) ∙ sym (ap (λ bs. (bottom_by bs e.top).work) below)))
+        (ap (λ t. put_by after.below.items t) top ∙ (sym (put-less after.below.items o e.top) ∙ sym (ap (λ bs. put_by bs e.top) below)));
     drops = λ files held uncalled. absurd (never-empty after.below.items o (sym below ∙ uncalled.below));
     alike = λ files c d others held p q alike.
         let last = enclosing-last {others = others} e after.below.items o below alike in
@@ -250,6 +273,12 @@ module _ (st : Stores) (e after : Expansion) (refusals : after.refusals ≡ e.re
         ap (λ l. behind_at st.sets l c) (ap (λ t. (bottom_by after.below.items t).work) top ∙ (sym (ap (λ f. f.work) (bottom-less after.below.items o e.top)) ∙ sym (ap (λ bs. (bottom_by bs e.top).work) below)));
   }
 
+-- the store grew as what is next was dropped
+pub dropped-later : {old : Stores} (new : Stores) {files : ℕ} → Keeps old.sets new.sets → {e after : Expansion} → IsHeldExpansion old files e → IsDropped old.sets new.sets e after → IsDropped new.sets new.sets e after
+dropped-later new keeps held (running.call k calls work out below rest) = running.call k calls work out below rest
+dropped-later new keeps held (running.token item none later work out below kept_first) = running.token item none later work out below (kept-later keeps held.top.work.own held.refusals.waiting kept_first)
+dropped-later new keeps held (running.argument o none empty below top rest) = running.argument o none empty below top rest
+
 -- ---- one after the other
 
 pub rested-then : {old mid new : Stores} {one two three : Expansion} → IsRested old mid one two → IsRested mid new two three → IsRested old new one three
@@ -261,6 +290,8 @@ rested-then {old} {mid} {new} {one} {two} {three} a b = record {
   held = λ files held. b.held files (a.held files held);
   progress = λ files provenance macros c held listed.
       progress-then false false refl (a.progress files provenance macros c held listed) (b.progress files provenance macros c (a.held files held) (IsConfig-Keeps a.grows.sets listed));
+  alike_left = λ files c d held p q alike all. b.alike_left files c d (a.held files held) (IsConfig-Keeps a.grows.sets p) (IsConfig-Keeps a.grows.sets q) (a.alike files c d no_others held p q alike) (a.alike_left files c d held p q alike all);
+  left = λ files held. left-then one two three a.grows b.grows held (a.held files held) a.refusals b.refusals (a.left files held) (b.left files (a.held files held));
   drops = λ files held uncalled.
       let first = a.drops files held uncalled in
       drops-then old.sets mid.sets one two three a.grows.sets held.refusals.live held.top.work.own a.refusals first (b.drops files (a.held files held) first.uncalled);
@@ -274,14 +305,14 @@ abbrev with_work : Expansion → List (Cond × Hidden) → Expansion
 with_work e work = record e { top = record e.top { work = work } }
 
 -- first tokens that all stand under one condition
-module _ (st : Stores) (e : Expansion) (cond : Cond) (never : (c : List ℕ) → IsConfig st.sets.arities c → st.sets.has cond.0 c ≡ true → st.sets.has e.refusals.live.0 c ≡ true → ⊥) where
+module _ (st : Stores) (e : Expansion) (inside : e.below.items ≡ [] → ⊥) (cond : Cond) (never : (c : List ℕ) → IsConfig st.sets.arities c → st.sets.has cond.0 c ≡ true → st.sets.has e.refusals.live.0 c ≡ true → ⊥) where
   pub rested-tokens : (n : ℕ) (work : List (Cond × Hidden)) → All (λ (item : Cond × Hidden). item.0 ≡ cond) (take n work) → IsRested st st (with_work e work) (with_work e (drop n work))
   rested-tokens zero work same = rested-Grows (Grows-refl st) (with_work e work)
   rested-tokens (suc n) [] same = rested-Grows (Grows-refl st) (with_work e [])
   rested-tokens (suc n) (item ∷ work) same =
       let Same : Cond × Hidden → Type 0 = λ x. x.0 ≡ cond in
       let is : item.0 ≡ cond = All-head Same item (take n work) same in
-      rested-then (rested-token st (with_work e (item ∷ work)) (with_work e work) refl refl item (λ c listed has. never c listed (subst (λ (x : Cond). st.sets.has x.0 c ≡ true) is has)) refl refl refl refl)
+      rested-then (rested-token st (with_work e (item ∷ work)) (with_work e work) refl refl item (λ c listed has. never c listed (subst (λ (x : Cond). st.sets.has x.0 c ≡ true) is has)) refl refl refl refl (waiting.none (λ whole. absurd (inside whole)) refl))
       (rested-tokens n work (All-tail Same item (take n work) same))
 
 -- ---- it grows lighter
@@ -319,6 +350,9 @@ module _ {old new : Sets} (keeps : Keeps old new) (e : Expansion) (next met : Co
       let second : old.has e.refusals.live.0 c ≡ true = sym (keeps.at e.refusals.live.0 c live_own was) ∙ live in
       true≢false ((λ i. sym first i && sym second i) ∙ (sym (both.at c listed) ∙ never.none c listed))
 
+pub never-Keeps : {old new : Sets} → Keeps old new → {cond : Cond} → IsCond old cond.0 → IsNever old cond.0 → IsNever new cond.0
+never-Keeps keeps {cond} own never = record { none = λ c listed. (let was = IsConfig-kept keeps listed in keeps.at cond.0 c own was ∙ never.none c was) }
+
 -- two conditions that no configuration has both
 pub never-at : {old new : Sets} → Keeps old new → (a b met : Cond) → IsCond old a.0 → IsCond old b.0 → Denotes new met.0 (λ c. old.has a.0 c && old.has b.0 c) → IsNever new met.0
     → (c : List ℕ) → IsConfig new.arities c → new.has a.0 c ≡ true → new.has b.0 c ≡ true → ⊥
@@ -327,7 +361,3 @@ never-at {old} {new} keeps a b met own other both never c listed has live =
     let first : old.has a.0 c ≡ true = sym (keeps.at a.0 c own was) ∙ has in
     let second : old.has b.0 c ≡ true = sym (keeps.at b.0 c other was) ∙ live in
     true≢false ((λ i. sym first i && sym second i) ∙ (sym (both.at c listed) ∙ never.none c listed))
-
-pub first-is : {A : Type 0} (xs : List A) (x : A) → slice_get xs 0 ≡ Some x → xs ≡ x ∷ drop 1 xs
-first-is [] x is = cc
-first-is (y ∷ ys) x is = ap (λ z. z ∷ ys) (some-same is)

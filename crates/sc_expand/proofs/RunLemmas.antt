@@ -1,27 +1,30 @@
 -- What holds at each turn of the loop, from the first to the last.
-use Rattle.std.proofs.Common.{◌≡◌, ◌⊎◌, inl, inr, ℕ, ◌<◌, ◌≤◌, Bool, true, false, true≢false, List, [], length, refl, sym, ap, subst, ◌∙◌, arith}
+use Rattle.std.proofs.Common.{◌≡◌, ◌⊎◌, inl, inr, ℕ, ◌<◌, ◌≤◌, Bool, true, false, true≢false, List, [], ◌∷◌, ◌++◌, append-nil, length, refl, sym, ap, subst, ◌∙◌, arith, if◌then◌else◌}
 use Rattle.std.proofs.lemmas.Bool.{cases_lt}
 use Rattle.c11_macros.specs.Expansion.{IsWithin}
 use Rattle.c11_macros.specs.Hidden as model
 use Rattle.c11_macros.specs.Hidden.{Provenance}
 use Rattle.c11_macros.specs.Macros.{Macros}
+use Rattle.c11_macros.specs.Runs.{Settles}
 use Rattle.sc_base.specs.declared.id.Cond.{Cond}
 use Rattle.sc_base.specs.declared.place.Place.{Place}
 use Rattle.sc_expand.proofs.MachineLemmas as told
 use Rattle.sc_expand.proofs.MachineLemmas.{IsTold, progress-step, told-progress}
-use Rattle.sc_expand.proofs.PlainReaches.{Reaches, reaches-end, reaches-start}
+use Rattle.sc_expand.proofs.PlainSettles.{Opens, opens-end, opens-start}
 use Rattle.sc_expand.proofs.PlainTurns.{IsTurn, steps_left, turn-le, turn-less}
 use Rattle.sc_expand.proofs.SeenLemmas.{AreHeld-Grows, Grows-refl}
 use Rattle.sc_expand.proofs.Turning.{puts-nothing, puts-same}
 use Rattle.sc_expand.proofs.UnchangedLemmas.{drops-pass, looks-later, passes-all, passes-Keeps, passes-nothing, passes-then}
 use Rattle.sc_expand.specs.declared.expansion.Expansion.{Expansion}
 use Rattle.sc_expand.specs.declared.frame.Enclosing.{Enclosing}
-use Rattle.sc_expand.specs.Machine.{IsExpansion, IsHeldExpansion, Progress, Stands, at, on_top, state_in}
-use Rattle.sc_expand.specs.Plain.{scanning}
+use Rattle.sc_expand.specs.declared.frame.Frame.{Frame}
+use Rattle.sc_expand.specs.Machine.{IsExpansion, IsHeldExpansion, Progress, Stands, at, ends, ends_at, gone, on_top, rests, state_in, steps}
+use Rattle.sc_expand.specs.Plain.{Waiting, expanding, scanning}
 use Rattle.sc_expand.specs.Running as running
-use Rattle.sc_expand.specs.Running.{HasEnded, IsDone, IsRested, IsTurned, IsUntouched, PutsOut, put_by, put_out}
-use Rattle.sc_expand.specs.Seen.{Grows, Stores, calls_at, failures_at, provenance_of, seen_at, state_by, view_at}
-use Rattle.sc_expand.specs.Turn.{At}
+use Rattle.sc_expand.specs.Running.{HasEnded, IsApart, IsDone, IsRested, IsTurned, IsUntouched, KeepsLeft, PutsOut, bottom, bottom_by, left_at, put_by, put_out}
+use Rattle.sc_expand.specs.Seen.{Grows, Stores, calls_at, failures_at, provenance_of, seen_at, state_by, state_of, view_at, waiting_at}
+use Rattle.sc_expand.specs.Turn as turn
+use Rattle.sc_expand.specs.Turn.{At, End, Ends, no_end, with_end}
 use Rattle.sc_model.proofs.SetLemmas.{IsConfig-Keeps, IsConfig-kept}
 use Rattle.sc_expand.specs.Unchanged.{IsRestricted, LooksUpNone, Passes}
 use Rattle.sc_model.specs.Sets.{IsConfig}
@@ -31,7 +34,8 @@ use Rattle.sc_subst.specs.declared.hidden.Hidden.{Hidden}
 pub record IsRunning (files : List (List ℕ)) (macros : List ℕ → Macros) (old now : Stores) (was e : Expansion) : Type 0 where
   pub held : IsHeldExpansion now (length files) e
   pub told : (c : List ℕ) → IsConfig old.sets.arities c
-      → IsTold (provenance_of files) (macros c) (seen_at old was.top.work c) now c e.below.items (at now e c) (old.sets.has was.refusals.live.0 c)
+      → IsTold (provenance_of files) (macros c) (seen_at old was.top.work c) (seen_at now (put_out e) c) (left_at now e c) now c e.below.items (at now e c) (old.sets.has was.refusals.live.0 c)
+  pub rest : (c : List ℕ) → IsConfig old.sets.arities c → now.sets.has e.refusals.waiting.0 c ≡ false → seen_at now e.rest c ≡ []
   pub out : PutsOut old now was.refusals.live.0 was.top.out (put_out e)
   pub passes : LooksUpNone old.sets old.names macros was → Passes now.sets was e
 
@@ -52,7 +56,7 @@ steps_in arities files macros names within st e = steps_left arities (provenance
 
 -- ---- the start
 
-module _ (files : List (List ℕ)) (macros : List ℕ → Macros) (old : Stores) (was : Expansion) (held : IsHeldExpansion old (length files) was) (fresh : IsUntouched was) where
+module _ (files : List (List ℕ)) (macros : List ℕ → Macros) (old : Stores) (was : Expansion) (held : IsHeldExpansion old (length files) was) (fresh : IsUntouched old.sets was) where
   -- nothing was put out yet
   pub start-state : (c : List ℕ) → state_in old was.below.items (view_at old was.top c) c ≡ scanning [] (seen_at old was.top.work c)
   start-state c =
@@ -63,36 +67,86 @@ module _ (files : List (List ℕ)) (macros : List ℕ → Macros) (old : Stores)
   pub running-start : IsRunning files macros old old was was
   running-start = record {
     held = held;
-    told = λ c listed. told_at c (old.sets.has was.refusals.live.0 c) refl;
+    told = λ c listed. told_at c listed (old.sets.has was.refusals.live.0 c) refl;
+    rest = λ c listed none. ap (λ l. seen_at old l c) fresh.rest;
     out = subst (PutsOut old old was.refusals.live.0 was.top.out) (sym (ap (λ bs. put_by bs was.top) fresh.below)) (puts-nothing (Grows-refl old) was.refusals.live.0 was.top.out held.top.out);
     passes = λ none. passes-nothing old.sets was (record { below = fresh.below; calls = fresh.calls });
   }
     where
-      told_at : (c : List ℕ) (b : Bool) → old.sets.has was.refusals.live.0 c ≡ b → IsTold (provenance_of files) (macros c) (seen_at old was.top.work c) old c was.below.items (at old was c) b
-      told_at c false refused = told.unasked refused (ap (λ l. failures_at old.sets l c) fresh.faults)
-      told_at c true live =
+      ends-none : (c : List ℕ) → IsConfig old.sets.arities c → ends_at old.sets was.refusals c ≡ no_end
+      ends-none c listed =
+          let failures : failures_at old.sets was.refusals.faults.items c ≡ [] = ap (λ l. failures_at old.sets l c) fresh.faults in
+          λ i. record { failures = failures i; waiting = fresh.waiting.none c listed i }
+
+      told_at : (c : List ℕ) → IsConfig old.sets.arities c → (b : Bool) → old.sets.has was.refusals.live.0 c ≡ b
+          → IsTold (provenance_of files) (macros c) (seen_at old was.top.work c) (seen_at old (put_out was) c) (left_at old was c) old c was.below.items (at old was c) b
+      told_at c listed false refused = told.unasked refused (ends-none c listed)
+      told_at c listed true live =
           let none : calls_at old was.top.calls.items c ≡ [] = ap (λ l. calls_at old l c) fresh.calls in
           let few : length (calls_at old was.top.calls.items c) ≤ 1 = subst (λ ws. length ws ≤ 1) (sym none) (omega arith) in
           let stands : Stands old c [] (view_at old was.top c) = on_top few in
-          told.going live (ap (λ l. failures_at old.sets l c) fresh.faults) (subst (λ bs. Stands old c bs (view_at old was.top c)) (sym fresh.below) stands)
-          (subst (Reaches (provenance_of files) (macros c) (seen_at old was.top.work c)) (sym (start-state c)) (reaches-start (provenance_of files) (macros c) (seen_at old was.top.work c)))
+          told.going live (ends-none c listed) (subst (λ bs. Stands old c bs (view_at old was.top c)) (sym fresh.below) stands)
+          (subst (Opens (provenance_of files) (macros c) (seen_at old was.top.work c)) (sym (start-state c)) (opens-start (provenance_of files) (macros c) (seen_at old was.top.work c)))
+
+-- ---- what is left at the bottom
+
+-- a state that scans the whole list has put out and left what the bottom has
+bottom-top : (st : Stores) (c : List ℕ) (o w : List (model.Hidden Place)) (frame : Frame) → state_of (view_at st frame c) ≡ scanning o w → (o ≡ seen_at st frame.out c) × (w ≡ seen_at st frame.work c)
+bottom-top st c o w frame is = by (calls_at st frame.calls.items c) is
+  where
+    by : (ws : List (Waiting Place)) → state_by (seen_at st frame.out c) (seen_at st frame.work c) ws ≡ scanning o w → (o ≡ seen_at st frame.out c) × (w ≡ seen_at st frame.work c)
+    by [] is = (cc, cc)
+    by (x ∷ xs) is = absurd (cc)
+
+bottom-state : (st : Stores) (c : List ℕ) (o w : List (model.Hidden Place)) (below : List Enclosing) (top : Frame) → state_in st below (view_at st top c) c ≡ scanning o w
+    → (o ≡ seen_at st (put_by below top) c) × (w ≡ seen_at st (bottom_by below top).work c)
+bottom-state st c o w [] top is = bottom-top st c o w top is
+bottom-state st c o w (e ∷ es) top is = by (st.sets.has e.call.cond.0 c) is
+  where
+    by : (b : Bool) → (if b then expanding (seen_at st e.frame.out c) (seen_at st e.frame.work c) (waiting_at st e.call c) e.parameter (state_in st es (view_at st top c) c) else state_of (view_at st e.frame c)) ≡ scanning o w
+        → (o ≡ seen_at st e.frame.out c) × (w ≡ seen_at st e.frame.work c)
+    by true is = absurd (cc)
+    by false is = bottom-top st c o w e.frame is
+
+-- what waits goes on to wait
+waits-on : {provenance : Provenance Place} {macros : Macros} {old new : Stores} {c : List ℕ} {below later : List Enclosing} {a b : At} {takes : Bool} → Progress provenance macros old new c below later a b takes → a.ends.waiting ≡ true → b.ends.waiting ≡ true
+waits-on (rests still same stays) waits = ap (λ e. e.waiting) same ∙ waits
+waits-on (gone was not same) waits = ap (λ e. e.waiting) same ∙ waits
+waits-on (steps was now same free move) waits = ap (λ e. e.waiting) same ∙ waits
+waits-on {a} (ends end was not same by) waits = ap (λ e. e.waiting) same ∙ kept end
+  where
+    kept : (end : End) → (with_end a.ends end).waiting ≡ true
+    kept (turn.fails failure) = waits
+    kept turn.waits = refl
 
 -- ---- what is told at a configuration
 
-module _ {provenance : Provenance Place} {macros : Macros} {source : List (model.Hidden Place)} {st : Stores} {c : List ℕ} {below : List Enclosing} {a : At} where
-  told-stands : {asked : Bool} → IsTold provenance macros source st c below a asked → a.live ≡ true → Stands st c below a.view
+module _ {provenance : Provenance Place} {macros : Macros} {source out left : List (model.Hidden Place)} {st : Stores} {c : List ℕ} {below : List Enclosing} {a : At} where
+  told-stands : {asked : Bool} → IsTold provenance macros source out left st c below a asked → a.live ≡ true → Stands st c below a.view
   told-stands (told.unasked refused none) live = absurd (true≢false (sym live ∙ refused))
-  told-stands (told.going live' none stands reaches) live = stands
-  told-stands (told.refused failure not one expands) live = absurd (true≢false (sym live ∙ not))
+  told-stands (told.going live' none stands opens) live = stands
+  told-stands (told.failed failure not one holds) live = absurd (true≢false (sym live ∙ not))
+  told-stands (told.waiting not one settles) live = absurd (true≢false (sym live ∙ not))
 
-  told-refused : {asked : Bool} → asked ≡ false → IsTold provenance macros source st c below a asked → a.live ≡ false
+  pub told-apart : {asked : Bool} → IsTold provenance macros source out left st c below a asked → a.live ≡ true → a.ends.waiting ≡ false
+  told-apart (told.unasked refused none) live = ap (λ e. e.waiting) none
+  told-apart (told.going live' none stands opens) live = ap (λ e. e.waiting) none
+  told-apart (told.failed failure not one holds) live = ap (λ e. e.waiting) one
+  told-apart (told.waiting not one settles) live = absurd (true≢false (sym live ∙ not))
+
+  told-refused : {asked : Bool} → asked ≡ false → IsTold provenance macros source out left st c below a asked → a.live ≡ false
   told-refused not (told.unasked refused none) = refused
-  told-refused not (told.going live none stands reaches) = absurd (true≢false not)
-  told-refused not (told.refused failure refused one expands) = refused
+  told-refused not (told.going live none stands opens) = absurd (true≢false not)
+  told-refused not (told.failed failure refused one holds) = refused
+  told-refused not (told.waiting refused one settles) = refused
 
 module _ {files : List (List ℕ)} {macros : List ℕ → Macros} {old now : Stores} {was e : Expansion} (grows : Grows old now) (r : IsRunning files macros old now was e) where
   pub running-stands : (c : List ℕ) → IsConfig old.sets.arities c → now.sets.has e.refusals.live.0 c ≡ true → Stands now c e.below.items (view_at now e.top c)
   running-stands c listed live = told-stands (r.told c listed) live
+
+  -- and one that is live does not wait
+  running-apart : (c : List ℕ) → IsConfig old.sets.arities c → IsApart now.sets e c
+  running-apart c listed live = told-apart (r.told c listed) live
 
   -- one that was refused at first is so still
   pub running-fewer : (c : List ℕ) → IsConfig old.sets.arities c → old.sets.has was.refusals.live.0 c ≡ false → now.sets.has e.refusals.live.0 c ≡ false
@@ -106,9 +160,26 @@ module _ {files : List (List ℕ)} {macros : List ℕ → Macros} {old now : Sto
 
   module _ (new : Stores) (after : Expansion) (takes : List ℕ → Bool)
       (progress : (c : List ℕ) → IsConfig old.sets.arities c → Progress (provenance_of files) (macros c) now new c e.below.items after.below.items (at now e c) (at new after c) (takes c)) where
-    told-later : (c : List ℕ) → IsConfig old.sets.arities c → IsTold (provenance_of files) (macros c) (seen_at old was.top.work c) new c after.below.items (at new after c) (old.sets.has was.refusals.live.0 c)
-    told-later c listed =
-        told-progress (provenance_of files) (macros c) now new c e.below.items after.below.items (seen_at old was.top.work c) (takes c) (progress c listed) (r.told c listed)
+    module _ (left : KeepsLeft now new e after) where
+      told-later : (c : List ℕ) → IsConfig old.sets.arities c
+          → IsTold (provenance_of files) (macros c) (seen_at old was.top.work c) (seen_at new (put_out after) c) (left_at new after c) new c after.below.items (at new after c) (old.sets.has was.refusals.live.0 c)
+      told-later c listed =
+          let there = IsConfig-Keeps grows.sets listed in
+          told-progress (provenance_of files) (macros c) now new c e.below.items after.below.items (seen_at old was.top.work c) (takes c) (progress c listed)
+          (λ waits. let apart = running-apart c listed in (sym (left.put c there apart waits), sym (left.left c there apart waits))) (λ none o w is. scanned c listed (ap (λ x. x.waiting) none) o w is) (r.told c listed)
+        where
+          scanned : (c : List ℕ) → IsConfig old.sets.arities c → now.sets.has e.refusals.waiting.0 c ≡ false → (o w : List (model.Hidden Place)) → state_in now e.below.items (view_at now e.top c) c ≡ scanning o w
+              → (o ≡ seen_at now (put_out e) c) × (w ≡ left_at now e c)
+          scanned c listed none o w is =
+              let q = bottom-state now c o w e.below.items e.top is in
+              (q.0, q.1 ∙ ap (λ l. l ++ seen_at now (bottom e).work c) (sym (r.rest c listed none)))
+
+      rest-later : (c : List ℕ) → IsConfig old.sets.arities c → new.sets.has after.refusals.waiting.0 c ≡ false → seen_at new after.rest c ≡ []
+      rest-later c listed none = left.others c (IsConfig-Keeps grows.sets listed) none ∙ r.rest c listed (by (now.sets.has e.refusals.waiting.0 c) refl)
+        where
+          by : (b : Bool) → now.sets.has e.refusals.waiting.0 c ≡ b → b ≡ false
+          by true is = absurd (true≢false (sym (waits-on (progress c listed) is) ∙ none))
+          by false is = refl
 
     is-turn : IsTurn old.sets.arities (provenance_of files) macros (λ c. now.sets.has e.refusals.live.0 c) (λ c. new.sets.has after.refusals.live.0 c)
         (λ c. state_in now e.below.items (view_at now e.top c) c) (λ c. state_in new after.below.items (view_at new after.top c) c)
@@ -118,8 +189,8 @@ module _ {files : List (List ℕ)} {macros : List ℕ → Macros} {old now : Sto
           (s.0, s.1.step);
     }
 
-    pub running-later : IsHeldExpansion new (length files) after → PutsOut now new e.refusals.live.0 (put_out e) (put_out after) → (LooksUpNone old.sets old.names macros was → Passes new.sets was after) → IsRunning files macros old new was after
-    running-later held out passes = record { held = held; told = told-later; out = puts-then grows running-fewer r.out out; passes = passes }
+    pub running-later : IsHeldExpansion new (length files) after → PutsOut now new e.refusals.live.0 (put_out e) (put_out after) → (LooksUpNone old.sets old.names macros was → Passes new.sets was after) → KeepsLeft now new e after → IsRunning files macros old new was after
+    running-later held out passes left = record { held = held; told = told-later left; rest = rest-later left; out = puts-then grows running-fewer r.out out; passes = passes }
 
     module _ (names : List (List ℕ)) (within : (c : List ℕ) → IsWithin names (macros c)) where
       pub running-le : steps_in old.sets.arities files macros names within new after ≤ steps_in old.sets.arities files macros names within now e
@@ -159,6 +230,7 @@ module _ {files : List (List ℕ)} {macros : List ℕ → Macros} {old now : Sto
         let p = r.passes none in
         let q = passes-then now.sets was e after p (drops-pass now.sets e after rested.refusals (rested.drops (length files) r.held p.uncalled)) in
         passes-Keeps was after rested.grows.sets (grows.sets.own was.refusals.live.0 began.refusals.live) (AreHeld-Grows grows was.top.work began.top.work).own q)
+        (rested.left (length files) r.held)
 
     pub rested-le : (names : List (List ℕ)) (within : (c : List ℕ) → IsWithin names (macros c)) → steps_in old.sets.arities files macros names within new after ≤ steps_in old.sets.arities files macros names within now e
     rested-le names within = running-le grows r new after (λ c. false) rests-at names within
@@ -173,7 +245,7 @@ module _ {files : List (List ℕ)} {macros : List ℕ → Macros} {old now : Sto
         let looks = looks-later grows macros other same (length files) was e began none p in
         let live = grows.sets.own was.refusals.live.0 began.refusals.live in
         let own = (AreHeld-Grows grows was.top.work began.top.work).own in
-        passes-then new.sets was e after (passes-Keeps was e turned.grows.sets live own p) (turned.passes p.uncalled looks))
+        passes-then new.sets was e after (passes-Keeps was e turned.grows.sets live own p) (turned.passes p.uncalled looks)) turned.left
 
     pub turned-less : (names : List (List ℕ)) (within : (c : List ℕ) → IsWithin names (macros c)) → went ≡ true → steps_in old.sets.arities files macros names within new after < steps_in old.sets.arities files macros names within now e
     turned-less names within there = running-less grows r new after turned.takes turned-at names within (turned.some there)
@@ -182,20 +254,33 @@ module _ {files : List (List ℕ)} {macros : List ℕ → Macros} {old now : Sto
 
 module _ {files : List (List ℕ)} {macros : List ℕ → Macros} {old now : Stores} {was e : Expansion} (r : IsRunning files macros old now was e) (ended : HasEnded e) where
   pub running-done : (c : List ℕ) → IsConfig old.sets.arities c
-      → IsDone (provenance_of files) (macros c) (seen_at old was.top.work c) (seen_at now e.top.out c) (failures_at now.sets e.refusals.faults.items c) (old.sets.has was.refusals.live.0 c)
+      → IsDone (provenance_of files) (macros c) (seen_at old was.top.work c) (seen_at now e.top.out c) (seen_at now e.rest c) (failures_at now.sets e.refusals.faults.items c) (old.sets.has was.refusals.live.0 c)
   running-done c listed = by (r.told c listed)
     where
-      by : {asked : Bool} → IsTold (provenance_of files) (macros c) (seen_at old was.top.work c) now c e.below.items (at now e c) asked
-          → IsDone (provenance_of files) (macros c) (seen_at old was.top.work c) (seen_at now e.top.out c) (failures_at now.sets e.refusals.faults.items c) asked
-      by (told.unasked refused none) = running.unasked none
-      by (told.refused failure not one expands) = running.refused failure one expands
-      by (told.going live none stands reaches) =
-          let work : seen_at now e.top.work c ≡ [] = ap (λ l. seen_at now l c) ended.work in
+      work : seen_at now e.top.work c ≡ []
+      work = ap (λ l. seen_at now l c) ended.work
+
+      nothing : {a : Ends} → ends_at now.sets e.refusals c ≡ a → a.waiting ≡ false → seen_at now e.rest c ≡ []
+      nothing is none = r.rest c listed (ap (λ a. a.waiting) is ∙ none)
+
+      out : seen_at now (put_out e) c ≡ seen_at now e.top.out c
+      out = ap (λ bs. seen_at now (put_by bs e.top) c) ended.below
+
+      left : left_at now e c ≡ seen_at now e.rest c
+      left = ap (λ bs. seen_at now e.rest c ++ seen_at now (bottom_by bs e.top).work c) ended.below ∙ (ap (λ l. seen_at now e.rest c ++ l) work ∙ append-nil (seen_at now e.rest c))
+
+      by : {asked : Bool} → IsTold (provenance_of files) (macros c) (seen_at old was.top.work c) (seen_at now (put_out e) c) (left_at now e c) now c e.below.items (at now e c) asked
+          → IsDone (provenance_of files) (macros c) (seen_at old was.top.work c) (seen_at now e.top.out c) (seen_at now e.rest c) (failures_at now.sets e.refusals.faults.items c) asked
+      by (told.unasked refused none) = running.unasked (ap (λ a. a.failures) none) (nothing none refl)
+      by (told.failed failure not one holds) = running.refused failure (ap (λ a. a.failures) one) (nothing one refl) holds
+      by (told.waiting not one settles) =
+          running.settled (ap (λ a. a.failures) one) (subst (λ (p : List (model.Hidden Place) × List (model.Hidden Place)). Settles (provenance_of files) (macros c) (seen_at old was.top.work c) p.0 p.1) (λ i. (out i, left i)) settles)
+      by (told.going live none stands opens) =
           let calls : calls_at now e.top.calls.items c ≡ [] = ap (λ l. calls_at now l c) ended.calls in
           let state : state_in now e.below.items (view_at now e.top c) c ≡ scanning (seen_at now e.top.out c) [] =
           ap (λ bs. state_in now bs (view_at now e.top c) c) ended.below ∙ (λ i. state_by (seen_at now e.top.out c) (work i) (calls i)) in
-          running.expanded none (reaches-end (provenance_of files) (macros c) (seen_at old was.top.work c) (seen_at now e.top.out c)
-          (subst (Reaches (provenance_of files) (macros c) (seen_at old was.top.work c)) state reaches))
+          running.settled (ap (λ a. a.failures) none) (subst (Settles (provenance_of files) (macros c) (seen_at old was.top.work c) (seen_at now e.top.out c)) (sym (nothing none refl))
+          (opens-end (provenance_of files) (macros c) (seen_at old was.top.work c) (seen_at now e.top.out c) (subst (Opens (provenance_of files) (macros c) (seen_at old was.top.work c)) state opens)))
 
   pub running-out : PutsOut old now was.refusals.live.0 was.top.out e.top.out
   running-out = subst (PutsOut old now was.refusals.live.0 was.top.out) (ap (λ bs. put_by bs e.top) ended.below) r.out

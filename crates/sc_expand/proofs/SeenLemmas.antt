@@ -16,7 +16,7 @@ use Rattle.sc_expand.specs.declared.expansion.Expansion.{Expansion}
 use Rattle.sc_expand.specs.declared.frame.Enclosing.{Enclosing}
 use Rattle.sc_expand.specs.declared.frame.Frame.{Frame}
 use Rattle.sc_expand.specs.declared.refusals.Refusals.{Refusals}
-use Rattle.sc_expand.specs.Machine.{IsHeldExpansion, at}
+use Rattle.sc_expand.specs.Machine.{IsHeldExpansion, at, ends_at, is_whole}
 use Rattle.sc_expand.specs.Plain.{Waiting}
 use Rattle.sc_expand.specs.Seen.{AreHeld, Grows, IsHeldCall, IsHeldEnclosing, IsHeldFrame, IsHeldRefusals, IsHeldPartIn, IsHeldTemplate, IsHeldToken, Stores, calls_at, failures_at, seen_at, seen_failure, seen_template, seen_wanted, view_at, waiting_at}
 use Rattle.sc_guarded.proofs.ItemLemmas.{faults_at-Keeps, items_at-append}
@@ -115,12 +115,14 @@ module _ {old new : Stores} (grows : Grows old new) where
   IsHeldRefusals-Grows {files} r held = record {
     live = grows.sets.own r.live.0 held.live;
     own = λ k d h. grows.sets.own (get_or r.faults.items k d).cond.0 (held.own k d h);
+    waiting = grows.sets.own _ held.waiting;
     placed = held.placed;
   }
 
   pub IsHeldExpansion-Grows : {files : ℕ} (e : Expansion) → IsHeldExpansion old files e → IsHeldExpansion new files e
   IsHeldExpansion-Grows {files} e held = record {
     refusals = IsHeldRefusals-Grows e.refusals held.refusals;
+    rest = AreHeld-Grows e.rest held.rest;
     top = IsHeldFrame-Grows e.top held.top;
     below = All-weaker (IsHeldEnclosing old files) (IsHeldEnclosing new files) (λ e own. IsHeldEnclosing-Grows e own) e.below.items held.below;
   }
@@ -184,12 +186,18 @@ module _ {old new : Stores} (grows : Grows old new) where
     pub failures_at-Grows : (faults : List Fault) → All (λ f. IsCond old.sets f.cond.0) faults → failures_at new.sets faults c ≡ failures_at old.sets faults c
     failures_at-Grows faults own = ap (map seen_failure) (faults_at-Keeps faults c grows.sets own listed)
 
+    pub ends_at-Grows : {files : ℕ} (r : Refusals) → IsHeldRefusals old.sets files r → ends_at new.sets r c ≡ ends_at old.sets r c
+    ends_at-Grows r held =
+        let failures = failures_at-Grows r.faults.items held.own in
+        let waiting = grows.sets.at r.waiting.0 c held.waiting listed in
+        λ i. record { failures = failures i; waiting = waiting i }
+
     pub at-Grows : {files : ℕ} (e : Expansion) → IsHeldExpansion old files e → at new e c ≡ at old e c
     at-Grows e held =
         let live = grows.sets.at e.refusals.live.0 c held.refusals.live listed in
         let view = view_at-Grows e.top held.top in
-        let failures = failures_at-Grows e.refusals.faults.items held.refusals.own in
-        λ i. record { live = live i; view = view i; failures = failures i }
+        let ends = ends_at-Grows e.refusals held.refusals in
+        λ i. record { live = live i; whole = is_whole e.below.items; view = view i; ends = ends i }
 
 -- ---- tables
 

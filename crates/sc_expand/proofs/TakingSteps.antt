@@ -1,23 +1,29 @@
 -- What taking a name comes to, by what its parts did.
-use Rattle.std.proofs.Common.{◌≡◌, ◌∙◌, ◌∷◌, ◌++◌, ℕ, Bool, true, false, List, [], All, Some, Result, Ok, Err, ap, refl, sym, subst, length, take, get_or, zero, suc, ◌<◌, true≢false, map, append-nil, ◌≤◌, arith, if◌then◌else◌}
+use Rattle.std.proofs.Common.{◌≡◌, ◌∙◌, ◌∷◌, ◌++◌, ◌&&◌, ℕ, Bool, true, false, List, [], All, None, Some, Result, Ok, Err, ap, refl, sym, subst, length, take, get_or, zero, suc, ◌<◌, true≢false, map, append-nil, ◌≤◌, arith, if◌then◌else◌}
+use Rattle.std.proofs.Math.Bool.{and-false}
 use Rattle.std.specs.Prelude.{OnOk}
 use Rattle.std.proofs.lemmas.List.Elements.{All-head}
 use Rattle.c11_macros.specs.Defines.{is_function_like}
-use Rattle.c11_macros.specs.Expansion.{is_looked_up, object_result}
-use Rattle.c11_macros.specs.Hidden.{Hidden, Provenance}
+use Rattle.c11_macros.proofs.LongerLists.{last-stays}
+use Rattle.c11_macros.specs.Expansion as expansion
+use Rattle.c11_macros.specs.Expansion.{Case, called, case_of, is_looked_up, misfit, object_result, replaced, unclosed}
+use Rattle.c11_macros.specs.Hidden.{Failure, Hidden, Provenance}
 use Rattle.c11_macros.specs.Macros.{Definition, Form, Macros, function_like, object_like}
 use Rattle.sc_base.specs.declared.id.Cond.{Cond}
 use Rattle.sc_base.specs.declared.place.Place.{Place}
 use Rattle.sc_expand.proofs.PlainCases.{case-object}
 use Rattle.sc_expand.specs.Gather as gathers
 use Rattle.sc_expand.specs.Gather.{Gathers}
-use Rattle.sc_expand.specs.Plain.{Fails, Moves, State, Waiting, bad_object, gather, gathered, object, scanning, stay}
+use Rattle.c11_macros.specs.Runs.{is_function_named, is_last_name}
+use Rattle.sc_expand.specs.Open.{Waits, alone, open_call}
+use Rattle.sc_expand.specs.Plain.{Moves, State, Waiting, bad_object, gather, gathered, object, scanning, stay}
 use Rattle.sc_expand.specs.Seen.{Stores, View, seen_at, state_by, state_of}
 use Rattle.sc_guarded.specs.Items.{items_at}
 use Rattle.sc_subst.specs.Seen.{seen_hidden}
 use Rattle.sc_expand.specs.Taking as taking
 use Rattle.sc_expand.specs.Taking.{Comes, Replaces, Step, has_first}
-use Rattle.sc_expand.specs.Turn.{At, Turn, failed, moved}
+use Rattle.sc_expand.specs.Turn as turn
+use Rattle.sc_expand.specs.Turn.{At, EndsBy, IsDecided, Turn, ended, fails, moved, refused, waits}
 use Rattle.sc_model.specs.Sets.{Sets, IsCond, IsConfig, Keeps}
 use Rattle.sc_subst.specs.declared.hidden.Hidden as declared
 
@@ -40,24 +46,57 @@ object-form : (f : Form) → is_function_like f ≡ false → f ≡ object_like
 object-form object_like is = refl
 object-form (function_like ps variadic) is = absurd (cc)
 
+-- ---- what follows the list doesn't decide
+
+pub no-wait : {failure : Failure Place} → fails failure ≡ waits → ⊥
+no-wait is = cc
+
+pub last-undefined : (macros : Macros) (t : Hidden Place) (rest : List (Hidden Place)) → macros t.spelling ≡ None → is_last_name macros t rest ≡ false
+last-undefined macros t [] is = ap (λ o. is_looked_up t && is_function_named o) is ∙ and-false (is_looked_up t)
+last-undefined macros t (u ∷ us) is = refl
+
+pub last-hidden : (macros : Macros) (t : Hidden Place) (rest : List (Hidden Place)) → is_looked_up t ≡ false → is_last_name macros t rest ≡ false
+last-hidden macros t [] is = ap (λ b. b && is_function_named (macros t.spelling)) is
+last-hidden macros t (u ∷ us) is = refl
+
+module _ (macros : Macros) (out : List (Hidden Place)) (t : Hidden Place) (rest : List (Hidden Place)) where
+  -- a name alone stays
+  pub decided-by : (k : Case Place) → case_of macros t rest ≡ k → (k ≡ expansion.stays → is_last_name macros t rest ≡ false) → (k ≡ unclosed → ⊥) → Waits macros (scanning out (t ∷ rest)) → ⊥
+  decided-by k is last closed (alone _ _ _ one) = absurd (true≢false (sym one ∙ last (sym is ∙ last-stays macros t rest one)))
+  decided-by k is last closed (open_call _ _ _ one) = closed (sym is ∙ one)
+
+  pub decided-stays : case_of macros t rest ≡ expansion.stays → is_last_name macros t rest ≡ false → Waits macros (scanning out (t ∷ rest)) → ⊥
+  decided-stays is last = decided-by expansion.stays is (λ same. last) (λ no. cc)
+
+  pub decided-object : (d : Definition) → case_of macros t rest ≡ replaced d → Waits macros (scanning out (t ∷ rest)) → ⊥
+  decided-object d is = decided-by (replaced d) is (λ no. cc) (λ no. cc)
+
+  pub decided-misfit : (after : List (Hidden Place)) → case_of macros t rest ≡ misfit after → Waits macros (scanning out (t ∷ rest)) → ⊥
+  decided-misfit after is = decided-by (misfit after) is (λ no. cc) (λ no. cc)
+
+  pub decided-called : (d : Definition) (arguments : List (List (Hidden Place))) (close : Hidden Place) (after : List (Hidden Place)) → case_of macros t rest ≡ called d arguments close after → Waits macros (scanning out (t ∷ rest)) → ⊥
+  decided-called d arguments close after is = decided-by (called d arguments close after) is (λ no. cc) (λ no. cc)
+
 module _ (provenance : Provenance Place) (macros : Macros) (t : Hidden Place) (rest : List (Hidden Place)) where
   pub object-comes : (d : Definition) (a b : At) (before after : List (Hidden Place)) (first stays : Bool) → is_looked_up t ≡ true → macros t.spelling ≡ Some d → is_function_like d.form ≡ false
       → a.view.work ≡ t ∷ rest → a.view.calls ≡ [] → before ≡ [] → first ≡ true → stays ≡ false → Replaces (object_result provenance d t) a b before after
       → Comes provenance macros t rest a (record { at = b; first = first; stays = stays; made = after })
   object-comes d a b before after first stays looked is formed work calls none f s (taking.put_in body ok same made) =
       taking.put d body (case-object macros t d looked is rest (object-form d.form formed)) ok (same-step same f s (made ∙ ap (λ l. l ++ body) none))
-  object-comes d a b before after first stays looked is formed work calls none f s (taking.refused failure err live failures) =
-      taking.failed failure (subst (λ s. Fails provenance macros s failure) (state-scanning a.view (t ∷ rest) work calls)
-      (bad_object a.view.out rest t d failure (case-object macros t d looked is rest (object-form d.form formed)) err)) live failures
+  object-comes d a b before after first stays looked is formed work calls none f s (taking.refused failure err live ends) =
+      let case = case-object macros t d looked is rest (object-form d.form formed) in
+      let here = state-scanning a.view (t ∷ rest) work calls in
+      taking.ended (fails failure) (subst (λ s. EndsBy provenance macros a.whole s (fails failure)) here (refused failure (bad_object a.view.out rest t d failure case err) (λ whole. decided-object macros a.view.out t rest d case)))
+      (record { live = live; ends = ends; view = λ no. absurd (no-wait no) }) (λ no. absurd (no-wait no))
 
   pub called-comes : (a b now : At) (uncalled first stays : Bool) (made : List (Hidden Place)) → now ≡ b → a.live ≡ true → (b.live ≡ true → first ≡ uncalled) → stays ≡ uncalled → made ≡ []
       → Gathers provenance macros t rest a b uncalled → Comes provenance macros t rest a (record { at = now; first = first; stays = stays; made = made })
-  called-comes a b now uncalled first stays made is live f s m (gathers.uncalled case same) =
-      taking.kept case (same-step (is ∙ same) (f (ap (λ (x : At). x.live) same ∙ live)) s m)
+  called-comes a b now uncalled first stays made is live f s m (gathers.uncalled case last same) =
+      taking.kept case last (same-step (is ∙ same) (f (ap (λ (x : At). x.live) same ∙ live)) s m)
   called-comes a b now uncalled first stays made is live f s m (gathers.taken_out d arguments close after template case stands same) =
       taking.taken_out d arguments close after template case stands (same-step (is ∙ same) (f (ap (λ (x : At). x.live) same ∙ live)) s m)
-  called-comes a b now uncalled first stays made is live f s m (gathers.failed failure fails dead failures) =
-      taking.failed failure fails (ap (λ (x : At). x.live) is ∙ dead) (ap (λ (x : At). x.failures) is ∙ failures)
+  called-comes a b now uncalled first stays made is live f s m (gathers.ended end ends e) =
+      taking.ended end ends (record { live = ap (λ (x : At). x.live) is ∙ e.live; ends = ap (λ (x : At). x.ends) is ∙ e.ends; view = λ w. ap (λ (x : At). x.view) is ∙ e.view w }) (λ w. (s, m))
 
 -- ---- the end of a turn
 
@@ -65,7 +104,7 @@ module _ (provenance : Provenance Place) (macros : Macros) (t : Hidden Place) (r
 -- was left
 pub record Ends (t x : Hidden Place) (left : List (Hidden Place)) (s : Step) (b : At) : Type 0 where
   pub live : b.live ≡ s.at.live
-  pub failures : b.failures ≡ s.at.failures
+  pub ends : b.ends ≡ s.at.ends
   pub out : b.view.out ≡ s.at.view.out ++ (if s.stays then t ∷ [] else [])
   pub calls : b.view.calls ≡ s.at.view.calls
   pub work : b.view.work ≡ s.made ++ left
@@ -84,27 +123,39 @@ module _ (provenance : Provenance Place) (macros : Macros) (t x : Hidden Place) 
   begins : (s : State Place) → Moves provenance macros (scanning a.view.out (t ∷ rest)) s → Moves provenance macros (state_of a.view) s
   begins s m = subst (λ u. Moves provenance macros u s) (state-scanning a.view (t ∷ rest) work calls) m
 
+  decided : IsDecided a.whole macros (scanning a.view.out (t ∷ rest)) → IsDecided a.whole macros (state_of a.view)
+  decided free = subst (IsDecided a.whole macros) (state-scanning a.view (t ∷ rest) work calls) free
+
   pub comes-turn : (s : Step) → Comes provenance macros t rest a s → Ends t x left s b → Turn provenance macros a b true
-  comes-turn s (taking.kept case same) ends =
+  comes-turn s (taking.kept case last same) ends =
       let e = subst (λ s. Ends t x left s b) same ends in
-      moved live (e.live ∙ live) e.failures
+      moved live (e.live ∙ live) e.ends (decided (λ whole. decided-stays macros a.view.out t rest case (last whole)))
       (begins (state_of b.view) (subst (λ u. Moves provenance macros (scanning a.view.out (t ∷ rest)) u)
       (state-is b.view (a.view.out ++ t ∷ []) rest [] e.out (e.work ∙ same-left e.first) (e.calls ∙ calls)) (stay a.view.out rest t case)))
       (few b.view.calls [] (e.calls ∙ calls) (omega arith))
   comes-turn s (taking.put d body case ok same) ends =
       let e = subst (λ s. Ends t x left s b) same ends in
-      moved live (e.live ∙ live) e.failures
+      moved live (e.live ∙ live) e.ends (decided (λ whole. decided-object macros a.view.out t rest d case))
       (begins (state_of b.view) (subst (λ u. Moves provenance macros (scanning a.view.out (t ∷ rest)) u)
       (state-is b.view a.view.out (body ++ rest) [] (e.out ∙ append-nil a.view.out) (e.work ∙ ap (λ l. body ++ l) (same-left e.first)) (e.calls ∙ calls)) (object a.view.out rest body t d case ok)))
       (few b.view.calls [] (e.calls ∙ calls) (omega arith))
   comes-turn s (taking.taken_out d arguments close after template case stands same) ends =
       let e = subst (λ s. Ends t x left s b) same ends in
       let w = gathered provenance d t arguments close template in
-      moved live (e.live ∙ live) e.failures
+      moved live (e.live ∙ live) e.ends (decided (λ whole. decided-called macros a.view.out t rest d arguments close after case))
       (begins (state_of b.view) (subst (λ u. Moves provenance macros (scanning a.view.out (t ∷ rest)) u)
       (state-is b.view a.view.out after (w ∷ []) (e.out ∙ append-nil a.view.out) (e.work ∙ sym e.first) e.calls) (gather a.view.out rest after t close d arguments template case stands)))
       (few b.view.calls (w ∷ []) e.calls (omega arith))
-  comes-turn s (taking.failed failure fails dead failures) ends = failed failure live (ends.live ∙ dead) (ends.failures ∙ failures) fails
+  comes-turn s (taking.ended end by e first) ends = ended end live (ends.live ∙ e.live) (ends.ends ∙ e.ends) by
+
+-- a configuration that begins to wait has what it had
+pub comes-waits : (provenance : Provenance Place) (macros : Macros) (t : Hidden Place) (rest : List (Hidden Place)) (a : At) (s : Step) → Comes provenance macros t rest a s → a.ends.waiting ≡ false → s.at.ends.waiting ≡ true
+    → (s.at.view ≡ a.view) × ((s.stays ≡ false) × (s.made ≡ []))
+comes-waits provenance macros t rest a s (taking.kept case last same) was now = absurd (true≢false (sym now ∙ (ap (λ (s : Step). s.at.ends.waiting) same ∙ was)))
+comes-waits provenance macros t rest a s (taking.put d body case ok same) was now = absurd (true≢false (sym now ∙ (ap (λ (s : Step). s.at.ends.waiting) same ∙ was)))
+comes-waits provenance macros t rest a s (taking.taken_out d arguments close after template case stands same) was now = absurd (true≢false (sym now ∙ (ap (λ (s : Step). s.at.ends.waiting) same ∙ was)))
+comes-waits provenance macros t rest a s (taking.ended (fails failure) by e first) was now = absurd (true≢false (sym now ∙ (ap (λ (x : turn.Ends). x.waiting) e.ends ∙ was)))
+comes-waits provenance macros t rest a s (taking.ended waits by e first) was now = (e.view refl, first refl)
 
 -- the first token of a list, and those behind it
 pub seen-first : (st : Stores) (first : Cond × declared.Hidden) (list : List (Cond × declared.Hidden)) (c : List ℕ)

@@ -10,10 +10,12 @@ use Rattle.sc_base.specs.declared.id.Cond.{Cond}
 use Rattle.sc_base.specs.declared.place.Place.{Place}
 use Rattle.sc_expand.proofs.PuttingOut.{pushed-held, pushed-seen}
 use Rattle.sc_expand.proofs.Rests.{first-is}
-use Rattle.sc_expand.proofs.SeenLemmas.{AreHeld-append, at-Grows, macros_at-Grows, seen_at-append, seen_hidden-Grows, token-Grows}
-use Rattle.sc_expand.proofs.TakingSteps.{Ends, comes-turn, has_first-Keeps, same-step, seen-first}
-use Rattle.sc_expand.specs.Machine.{IsHeldExpansion, at}
-use Rattle.sc_expand.specs.Seen.{AreHeld, Grows, IsHeldCall, IsHeldEnclosing, IsHeldRefusals, IsHeldToken, Stores, View, calls_at, failures_at, provenance_of, seen_at, stores}
+use Rattle.sc_expand.proofs.SeenLemmas.{AreHeld-append, at-Grows, macros_at-Grows, seen_at-Grows, seen_at-append, seen_hidden-Grows, token-Grows}
+use Rattle.sc_expand.proofs.TakingSteps.{Ends, comes-turn, comes-waits, has_first-Keeps, same-step, seen-first}
+use Rattle.sc_expand.specs.Machine.{IsHeldExpansion, at, ends_at}
+use Rattle.sc_expand.proofs.WaitingLemmas.{kept-held}
+use Rattle.sc_expand.specs.Running.{IsApart}
+use Rattle.sc_expand.specs.Seen.{AreHeld, Grows, IsHeldCall, IsHeldEnclosing, IsHeldRefusals, IsHeldToken, Stores, View, calls_at, provenance_of, seen_at, stores}
 use Rattle.sc_expand.specs.Taking.{Comes, HasPutOut, IsBegun, IsHeldTaken, Step, Takes, has_first, step_at, untaken}
 use Rattle.sc_expand.specs.Turn.{At, Turn, over, passed}
 use Rattle.sc_expand.specs.declared.expansion.Expansion.{Expansion}
@@ -66,21 +68,22 @@ seen-by-first st (x ∷ xs) token c is =
 
 -- ---- the token is put out
 
-module _ (st : Stores) {now next : Expansion} {taken : Taken} {token : declared.Hidden} (put : HasPutOut st.sets taken token now next) where
+module _ (st : Stores) {now next : Expansion} {taken : Taken} {token : declared.Hidden} {before : Sets} (put : HasPutOut before st.sets taken token now next) where
   pub put-ends : (c : List ℕ) → IsConfig st.sets.arities c → slice_get (map (λ (x : Cond × declared.Hidden). x.1) now.top.work) 0 ≡ Some token
       → Ends (seen_hidden st.names st.hides token) (seen_hidden st.names st.hides token) (seen_at st (drop 1 now.top.work) c) (step_at st now taken c) (at st next c)
   put-ends c listed first = record {
     live = ap (λ r. st.sets.has r.live.0 c) put.refusals;
-    failures = ap (λ r. failures_at st.sets r.faults.items c) put.refusals;
+    ends = ap (λ r. ends_at st.sets r c) put.refusals;
     out = pushed-seen st put.out c listed;
     calls = ap (λ l. calls_at st l.items c) put.calls;
     work = ap (λ l. seen_at st l c) put.work ∙ seen_at-append st taken.made.items (drop 1 now.top.work) c;
     first = seen-by-first st now.top.work token c first;
   }
 
-  pub put-held : (files : ℕ) → IsHeldExpansion st files now → IsHeldTaken st files taken → IsHeldToken st files token → IsHeldExpansion st files next
-  put-held files held made own = record {
+  pub put-held : Keeps before st.sets → All (λ (x : Cond × declared.Hidden). IsCond before x.0.0) now.top.work → (files : ℕ) → IsHeldExpansion st files now → IsHeldTaken st files taken → IsHeldToken st files token → IsHeldExpansion st files next
+  put-held keeps now_own files held made own = record {
     refusals = subst (IsHeldRefusals st.sets files) (sym put.refusals) held.refusals;
+    rest = kept-held st keeps now_own files held.top.work.held put.rest held.rest;
     top = record {
       work = subst (AreHeld st files) (sym put.work) (AreHeld-append taken.made.items (drop 1 now.top.work) made.made (record {
         own = All-drop (λ (x : Cond × declared.Hidden). IsCond st.sets x.0.0) 1 now.top.work held.top.work.own;
@@ -91,6 +94,19 @@ module _ (st : Stores) {now next : Expansion} {taken : Taken} {token : declared.
     };
     below = subst (λ l. All (IsHeldEnclosing st files) l.items) (sym put.below) held.below;
   }
+
+-- the token as it is seen before it is put out
+pub put-seen : {st last : Stores} {now next : Expansion} {taken : Taken} {token : declared.Hidden} {files : ℕ} → Grows st last → IsHeldExpansion st files now → IsCond st.sets taken.stays.0 → HasPutOut st.sets last.sets taken token now next
+    → (c : List ℕ) → IsConfig st.sets.arities c → seen_at last next.top.out c ≡ seen_at st now.top.out c ++ (if st.sets.has taken.stays.0 c then seen_hidden last.names last.hides token ∷ [] else [])
+put-seen {st} {last} {now} {next} {taken} {token} later held own put c listed =
+    pushed-seen last put.out c (IsConfig-Keeps later.sets listed)
+    ∙ (let first = seen_at-Grows later c listed now.top.out held.top.out in let has = later.sets.at taken.stays.0 c own listed in
+    λ i. first i ++ (if has i then seen_hidden last.names last.hides token ∷ [] else []))
+
+-- a step as it is seen before the token is put out
+pub step-Grows : {st last : Stores} {files : ℕ} → Grows st last → (now : Expansion) (taken : Taken) → IsHeldExpansion st files now → IsHeldTaken st files taken → (c : List ℕ) → IsConfig st.sets.arities c → step_at last now taken c ≡ step_at st now taken c
+step-Grows later now taken held made c listed =
+    same-step (at-Grows later c listed now held) (has_first-Keeps later.sets now.top.work held.top.work.own c listed) (later.sets.at taken.stays.0 c made.stays listed) (seen_at-Grows later c listed taken.made.items made.made)
 
 -- ---- the turn
 
@@ -106,13 +122,13 @@ turn-by provenance macros t x left a b s true true is calls comes others ends =
     comes-turn provenance macros t x came.0 left a b is came.1.0 calls s came.1.1 ends
 turn-by provenance macros t x left a b s true false is calls comes others ends =
     let e = subst (λ s. Ends t x left s b) (others refl) ends in
-    over is (e.live ∙ is) e.failures
+    over is (e.live ∙ is) e.ends
 turn-by provenance macros t x left a b s false true is calls comes others ends =
     let e = subst (λ s. Ends t x left s b) (others refl) ends in
-    passed e.live e.failures (λ live. same-view a.view b.view left e.out e.work e.first e.calls)
+    passed e.live e.ends (λ live. same-view a.view b.view left e.out e.work e.first e.calls)
 turn-by provenance macros t x left a b s false false is calls comes others ends =
     let e = subst (λ s. Ends t x left s b) (others refl) ends in
-    passed e.live e.failures (λ live. absurd (true≢false (sym live ∙ is)))
+    passed e.live e.ends (λ live. absurd (true≢false (sym live ∙ is)))
 
 -- the stores grew, and nothing is known of the token still
 untaken-Grows : {old new : Stores} {files : ℕ} → Grows old new → (e : Expansion) → IsHeldExpansion old files e → (c : List ℕ) → IsConfig old.sets.arities c → untaken new e c ≡ untaken old e c
@@ -163,9 +179,9 @@ module _ {s0 s1 : Sets} {n files : List (List ℕ)} {table : MacroTable} {was : 
       first-begun st1 was item c known.first known.calls (known.keeps.at item.0.0 c own listed0 ∙ both.0) (known.keeps.at was.refusals.live.0 c known.held.refusals.live listed0 ∙ both.1)
 
   module _ {st : Stores} {now : Expansion} {taken : Taken} (grows : Grows st1 st) (told : Takes files (macros_at s1 n table) st1 st was now taken item.1 cond.0) (next : Expansion) where
-    pub take-turn : (c : List ℕ) (left : List (Hidden Place)) → IsConfig s0.arities c → Ends (seen_hidden st.names st.hides item.1) (seen_hidden st.names st.hides item.1) left (step_at st now taken c) (at st next c)
-        → Turn (provenance_of files) (macros_at s0 n table c) (at st0 was c) (at st next c) (s0.has item.0.0 c)
-    take-turn c left listed ends =
+    pub take-turn : (c : List ℕ) (left : List (Hidden Place)) (b : At) → IsConfig s0.arities c → Ends (seen_hidden st.names st.hides item.1) (seen_hidden st.names st.hides item.1) left (step_at st now taken c) b
+        → Turn (provenance_of files) (macros_at s0 n table c) (at st0 was c) b (s0.has item.0.0 c)
+    take-turn c left b listed ends =
         let a = at st0 was c in
         let macros = macros_at s0 n table c in
         let t = seen_hidden n was.sets item.1 in
@@ -175,7 +191,7 @@ module _ {s0 s1 : Sets} {n files : List (List ℕ)} {table : MacroTable} {was : 
         let kept = at-Grows first-grew c listed was known.held in
         let same : u ≡ t = seen_hidden-Grows grows item.1 (token-Grows first-grew item.1 first-item) in
         let firsts : has_first s0 was.top.work c ≡ s0.has item.0.0 c = ap (λ l. has_first s0 l c) (first-is was.top.work item known.first) in
-        turn-by (provenance_of files) macros t u left a (at st next c) s (s0.has item.0.0 c) (s0.has was.refusals.live.0 c) refl (ap (λ l. calls_at st0 l c) known.calls)
+        turn-by (provenance_of files) macros t u left a b s (s0.has item.0.0 c) (s0.has was.refusals.live.0 c) refl (ap (λ l. calls_at st0 l c) known.calls)
         (λ has live.
         let begun = first-begun st0 was item c known.first known.calls has live in
         let both : s1.has cond.0 c ≡ true = known.meets.at c listed1 ∙ (λ i. has i && live i) in (
@@ -187,12 +203,40 @@ module _ {s0 s1 : Sets} {n files : List (List ℕ)} {table : MacroTable} {was : 
           ),
         ))
         (λ no. told.others c listed1 (known.meets.at c listed1 ∙ no) ∙ (untaken-Grows first-grew was known.held c listed ∙ same-step refl firsts refl refl))
-        (subst (λ v. Ends v u left s (at st next c)) same ends)
+        (subst (λ v. Ends v u left s b) same ends)
 
     -- a configuration that was refused puts out nothing more
-    pub refused-out : HasPutOut st.sets taken item.1 now next → (c : List ℕ) → IsConfig s0.arities c → s0.has was.refusals.live.0 c ≡ false → seen_at st next.top.out c ≡ seen_at st0 was.top.out c
-    refused-out put c listed dead =
+    pub refused-out : {last : Stores} → Grows st last → IsHeldExpansion st (length files) now → HasPutOut st.sets last.sets taken item.1 now next → (c : List ℕ) → IsConfig s0.arities c → s0.has was.refusals.live.0 c ≡ false
+        → seen_at last next.top.out c ≡ seen_at st0 was.top.out c
+    refused-out {last} later held put c listed dead =
         let listed1 = IsConfig-Keeps known.keeps listed in
         let same = told.others c listed1 (known.meets.at c listed1 ∙ not_both (s0.has item.0.0 c) (s0.has was.refusals.live.0 c) dead) ∙ untaken-Grows first-grew was known.held c listed in
-        pushed-seen st put.out c (IsConfig-Keeps grows.sets listed1)
-        ∙ (ap (λ (s : Step). s.at.view.out ++ (if s.stays then seen_hidden st.names st.hides item.1 ∷ [] else [])) same ∙ append-nil (seen_at st0 was.top.out c))
+        put-seen later held told.taken.stays put c (IsConfig-Keeps grows.sets listed1)
+        ∙ (ap (λ (s : Step). s.at.view.out ++ (if s.stays then seen_hidden last.names last.hides item.1 ∷ [] else [])) same ∙ append-nil (seen_at st0 was.top.out c))
+
+    -- a configuration that waits has what it had, and puts out nothing more
+    pub take-waits : (c : List ℕ) → IsConfig s0.arities c → IsApart s0 was c → st.sets.has now.refusals.waiting.0 c ≡ true
+        → ((at st now c).view ≡ (at st0 was c).view) × ((st.sets.has taken.stays.0 c ≡ false) × (seen_at st taken.made.items c ≡ []))
+    take-waits c listed apart waits = by (s0.has item.0.0 c) (s0.has was.refusals.live.0 c) refl refl
+      where
+        listed1 : IsConfig s1.arities c
+        listed1 = IsConfig-Keeps known.keeps listed
+
+        untouched : (s0.has item.0.0 c && s0.has was.refusals.live.0 c) ≡ false → ((at st now c).view ≡ (at st0 was c).view) × ((st.sets.has taken.stays.0 c ≡ false) × (seen_at st taken.made.items c ≡ []))
+        untouched lacks =
+            let same = told.others c listed1 (known.meets.at c listed1 ∙ lacks) ∙ untaken-Grows first-grew was known.held c listed in
+            (ap (λ (s : Step). s.at.view) same, (ap (λ (s : Step). s.stays) same, ap (λ (s : Step). s.made) same))
+
+        by : (b l : Bool) → s0.has item.0.0 c ≡ b → s0.has was.refusals.live.0 c ≡ l → ((at st now c).view ≡ (at st0 was c).view) × ((st.sets.has taken.stays.0 c ≡ false) × (seen_at st taken.made.items c ≡ []))
+        by true true has live =
+            let a = at st0 was c in
+            let macros = macros_at s0 n table c in
+            let t = seen_hidden n was.sets item.1 in
+            let kept = at-Grows first-grew c listed was known.held in
+            let begun = first-begun st0 was item c known.first known.calls has live in
+            let both : s1.has cond.0 c ≡ true = known.meets.at c listed1 ∙ (λ i. has i && live i) in
+            let comes = subst (λ a. Comes (provenance_of files) macros t begun.rest a (step_at st now taken c)) kept
+            (told.comes c macros begun.rest listed1 both (ap (λ (a : At). a.view.work) kept ∙ begun.work) (sym (macros_at-Grows first-grew known.is_table c (text_of n item.1.token.spelling) listed))) in
+            comes-waits (provenance_of files) macros t begun.rest a (step_at st now taken c) comes (apart live) waits
+        by true false has dead = untouched ((λ i. has i && dead i))
+        by false l lacks live = untouched ((λ i. lacks i && s0.has was.refusals.live.0 c))

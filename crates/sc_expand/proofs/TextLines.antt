@@ -1,6 +1,6 @@
 -- What a text expands to stands on one line, where its tokens and the macros' lists do; and which
 -- macros' lists do.
-use Rattle.std.proofs.Common.{◌≡◌, ℕ, zero, suc, ◌&&◌, not, Bool, true, false, List, [], ◌∷◌, ◌++◌, All, IfOk, map, codes, decimal, Option, Some, None, Result, Ok, Err, refl, sym, subst, ◌∙◌, slice_get, if◌then◌else◌}
+use Rattle.std.proofs.Common.{◌≡◌, ℕ, zero, suc, Bool, true, false, List, [], ◌∷◌, All, map, codes, decimal, Option, Some, None, Result, Ok, Err, refl, sym, subst, ◌∙◌, slice_get, if◌then◌else◌}
 use Rattle.std.proofs.lemmas.Bool.{true_from_ne_false, true≢false}
 use Rattle.std.proofs.lemmas.List.Elements.{All-from_recursion, All-head, All-map, All-tail, All-weaker, recursion_from_All}
 use Rattle.std.specs.List.{AllByRecursion as Every}
@@ -9,8 +9,7 @@ use Rattle.std.specs.Option.{IfSome, option_and_then, option_or}
 use Rattle.c11_macros.proofs.OneLineLists.{PlainDefinition, PlainItem, PlainToken, both}
 use Rattle.c11_macros.specs.Expansion.{Expands}
 use Rattle.c11_macros.specs.Hidden.{Failure, Hidden}
-use Rattle.c11_macros.specs.Macros.{Definition, Form, Macros, definition_named, definition_of, escaped, function_like, initial_macros, items, number_item, object_like, predefined_macros, string_item, variable_definition}
-use Rattle.sc_model.specs.Token.{Item}
+use Rattle.c11_macros.specs.Macros.{Definition, Macros, definition_named, definition_of, escaped, initial_macros, number_item, predefined_macros, string_item, variable_definition}
 use Rattle.c11_macros.specs.Text.{TextExpands, place_alone, text_of_answer, token_of, unhidden}
 use Rattle.sc_base.specs.declared.id.Cond.{Cond}
 use Rattle.sc_expand.proofs.PlainLines.{decimal-plain, escaped-plain, quoted-plain, stays-on_one_line}

@@ -4,6 +4,7 @@ use Rattle.std.proofs.lemmas.List.Elements.{All-head, All-pop}
 use Rattle.std.specs.Global.{Vec}
 use Rattle.c11_macros.specs.Macros.{Macros}
 use Rattle.sc_base.specs.declared.id.Cond.{Cond}
+use Rattle.sc_expand.proofs.WaitingLemmas.{rest-alike, same-left}
 use Rattle.sc_expand.proofs.AlikeFilling.{alike-leave}
 use Rattle.sc_expand.proofs.Dropping.{IsNone}
 use Rattle.sc_expand.proofs.MachineCalls.{calls_at-append, last-alone}
@@ -13,7 +14,7 @@ use Rattle.sc_expand.proofs.BottomLemmas.{bottom-held, bottom-less, bottom-same,
 use Rattle.sc_expand.proofs.Rests.{next-argument, next-call, put-less, put-same, some-same}
 use Rattle.sc_expand.proofs.SeenLemmas.{Grows-refl, seen_at-Grows}
 use Rattle.sc_expand.proofs.UnchangedLemmas.{never-empty}
-use Rattle.sc_expand.specs.Alike.{CallNextAlike, DefineNextAlike, IsAlikeCall, IsAlikeEnclosing, IsAlikeExpansion, IsAlikeFrame, IsFirstIn, Others, TakesName, others_at}
+use Rattle.sc_expand.specs.Alike.{CallNextAlike, DefineNextAlike, IsAlikeCall, IsAlikeEnclosing, IsAlikeExpansion, IsAlikeFrame, IsFirstIn, Others, TakesName, no_others, others_at}
 use Rattle.sc_expand.specs.declared.call.Call.{Call}
 use Rattle.sc_expand.specs.declared.expansion.Expansion.{Expansion}
 use Rattle.sc_expand.specs.declared.frame.Enclosing.{Enclosing}
@@ -21,10 +22,11 @@ use Rattle.sc_expand.specs.declared.frame.Frame.{Frame}
 use Rattle.sc_expand.specs.Machine.{IsExpansion, IsHeldExpansion, IsResumed, Progress, Stands, at, at_call, rests, state_in, with_call}
 use Rattle.sc_expand.specs.Having.{HasLast, HasMore}
 use Rattle.sc_expand.specs.Running as running
-use Rattle.sc_expand.specs.Running.{GoesOn, IsAsLong, IsReady, IsTurned, PutsOut, Rest, TakesFirst, bottom, bottom_by, last_of, next_by, next_of, put_by, put_out}
-use Rattle.sc_expand.specs.Seen.{AreHeld, Grows, IsHeldCall, IsHeldEnclosing, IsHeldFrame, Stores, View, calls_at, provenance_of, view_at, waiting_at}
+use Rattle.sc_expand.specs.Running.{GoesOn, IsAsLong, IsReady, IsTurned, KeepsLeft, PutsOut, Rest, TakesFirst, bottom, bottom_by, last_of, next_by, next_of, put_by, put_out}
+use Rattle.sc_expand.specs.Seen.{AreHeld, Grows, IsHeldCall, IsHeldEnclosing, IsHeldFrame, Stores, View, calls_at, provenance_of, seen_at, view_at, waiting_at}
 use Rattle.sc_expand.specs.Unchanged as unchanged
 use Rattle.sc_expand.specs.Unchanged.{IsUncalled, LooksUpNone, Passes}
+use Rattle.sc_hoist.specs.Alike.{AreAlike}
 use Rattle.sc_model.proofs.SetLemmas.{IsConfig-Keeps}
 use Rattle.sc_model.specs.Sets.{IsConfig, Sets}
 use Rattle.sc_subst.specs.declared.hidden.Hidden.{Hidden}
@@ -113,6 +115,7 @@ module _ {st : Stores} {files : ℕ} (e : Expansion) (held : IsHeldExpansion st 
   pub popped-held : (r : Option Call) → e.top.calls.items ≡ calls.items ++ option_to_list r → IsHeldExpansion st files (with_calls e calls)
   popped-held r popped = record {
     refusals = held.refusals;
+    rest = held.rest;
     top = record { work = held.top.work; out = held.top.out; calls = (All-pop (IsHeldCall st files) e.top.calls.items calls.items r popped held.top.calls).0 };
     below = held.below;
   }
@@ -123,6 +126,7 @@ module _ {st : Stores} {files : ℕ} (e : Expansion) (held : IsHeldExpansion st 
   pub below-held : (r : Option Call) (below : Vec Enclosing) (o : Option Enclosing) → e.top.calls.items ≡ calls.items ++ option_to_list r → e.below.items ≡ below.items ++ option_to_list o → IsHeldExpansion st files (with_below e calls below)
   below-held r below o popped less = record {
     refusals = held.refusals;
+    rest = held.rest;
     top = (popped-held r popped).top;
     below = (All-pop (IsHeldEnclosing st files) e.below.items below.items o less held.below).0;
   }
@@ -212,21 +216,34 @@ module _ (st : Stores) (e after : Expansion) (same : (bottom after).work ≡ (bo
   long-same : IsAsLong e after
   long-same = running.all (omega (arith, ap length same))
 
+-- ---- what waits, where a call was popped
+
+left-over : {old new : Stores} (e after : Expansion) (calls : Vec Call) (r : Option Call) → e.top.calls.items ≡ calls.items ++ option_to_list r → KeepsLeft old new (with_calls e calls) after → KeepsLeft old new e after
+left-over {old} {new} e after calls r popped kept = record {
+  left = λ c listed apart waits. kept.left c listed apart waits ∙ ap (λ (l : List (Cond × Hidden)). seen_at old e.rest c ++ seen_at old l c) (bottom-same e.below.items (with_calls e calls).top e.top refl);
+  put = λ c listed apart waits. kept.put c listed apart waits ∙ ap (λ (l : List (Cond × Hidden)). seen_at old l c) (put-same e.below.items (with_calls e calls).top e.top refl);
+  others = kept.others;
+  some = kept.some;
+}
+
 -- ---- turns
 
 module _ {old new : Stores} (grows : Grows old new) (files : List (List ℕ)) (macros : List ℕ → Macros) (e after : Expansion) (is : IsExpansion old (length files) e) where
   -- a turn of the configurations that have what is next
-  next-turn : (next : Cond) → next_of e ≡ Some next → IsReady old.sets e → IsHeldExpansion new (length files) after → PutsOut old new e.refusals.live.0 (put_out e) (put_out after) → IsAsLong e after → ((c : List ℕ) → IsConfig old.sets.arities c → Rest old new e after c)
+  next-turn : (next : Cond) → next_of e ≡ Some next → IsReady old.sets e → IsHeldExpansion new (length files) after → PutsOut old new e.refusals.live.0 (put_out e) (put_out after) → KeepsLeft old new e after
+      → ((c d : List ℕ) → IsConfig old.sets.arities c → IsConfig old.sets.arities d → DefineNextAlike old (macros c) (macros d) c e → CallNextAlike old (macros c) c d e → IsAlikeExpansion old.sets c d no_others e → AreAlike old.sets c d e.rest → AreAlike new.sets c d after.rest) → IsAsLong e after → ((c : List ℕ) → IsConfig old.sets.arities c → Rest old new e after c)
       → (IsUncalled e → LooksUpNone old.sets old.names macros e → Passes new.sets e after)
       → ((c d : List ℕ) (others : Others) → IsConfig old.sets.arities c → IsConfig old.sets.arities d → DefineNextAlike old (macros c) (macros d) c e → CallNextAlike old (macros c) c d e → IsFirstIn others e
       → IsAlikeExpansion old.sets c d others e → IsAlikeExpansion new.sets c d others after)
       → ((c : List ℕ) → IsConfig old.sets.arities c → Progress (provenance_of files) (macros c) old new c e.below.items after.below.items (at old e c) (at new after c) (old.sets.has next.0 c)) → IsTurned files macros old new e after true
-  next-turn next here ready held out long rest passes alike progress = record {
+  next-turn next here ready held out left alike_left long rest passes alike progress = record {
     grows = grows;
     held = held;
     out = out;
     takes = λ c. old.sets.has next.0 c;
     progress = progress;
+    left = left;
+    alike_left = alike_left;
     long = long;
     which = λ cond is c. ap (λ (k : Cond). old.sets.has k.0 c) (some-same (sym here ∙ is));
     some = λ went. ready.some next here;
@@ -242,6 +259,8 @@ module _ {old new : Stores} (grows : Grows old new) (files : List (List ℕ)) (m
       next-turn call.cond (next-call e calls.items call popped) ready
       (gone.held (length files) (popped-held e is.held calls (Some call) popped) (call-held e is.held calls call popped))
       (puts-same grows e.refusals.live.0 e after is.held (gone.out ∙ put-same e.below.items (with_calls e calls).top e.top refl))
+      (left-over e after calls (Some call) popped (gone.left (length files) (popped-held e is.held calls (Some call) popped) (call-held e is.held calls call popped)))
+      (λ c d p q defines same inside all. rest-alike after grows is.held gone.waits p q all)
       (running.all (omega (arith, gone.long, ap length whole)))
       (λ c listed. running.put (subst (λ l. HasMore old.sets new.sets l (bottom after).work c) whole (gone.rest c listed)))
       (λ uncalled none. absurd (never-empty calls.items call (sym popped ∙ uncalled.calls)))
@@ -252,6 +271,8 @@ module _ {old new : Stores} (grows : Grows old new) (files : List (List ℕ)) (m
       → TakesFirst files macros old new (with_calls e calls) after item.0.0 → IsTurned files macros old new e after true
   taken-turn calls none item first ready taken = next-turn item.0 (next-first e item none.before first) ready taken.held
       (puts-top grows e.refusals.live.0 e after is.held taken.below taken.out)
+      (left-over e after calls None (none-split none) taken.left)
+      (λ c d p q defines same inside all. taken.alike_left c d p q (defines-next e calls none defines) (calls-next e calls none same) (none-alike e inside calls none) all)
       (long-taken grows e after taken.below none.before item first taken.long)
       (λ c listed. rest-taken grows e after taken.below none.before item first is.held listed (taken.rest c listed))
       (λ uncalled looks.
@@ -259,7 +280,7 @@ module _ {old new : Stores} (grows : Grows old new) (files : List (List ℕ)) (m
       record { passed = p.passed; put = p.put; work = p.work; out = p.out; restricted = p.restricted; refusals = p.refusals; uncalled = p.uncalled })
       (λ c d others p q defines same inside both. taken.alike c d others p q (defines-next e calls none defines) (calls-next e calls none same) (first-next e calls none inside) (none-alike e both calls none))
       (λ c listed.
-      let progress = turn-progress (provenance_of files) (macros c) grows (length files) c listed e.below.items is.held.below (taken.turns c listed) in
+      let progress = turn-progress (provenance_of files) (macros c) grows (length files) c listed e.below.items is.held.below refl (taken.turns c listed) in
       subst (λ b. Progress (provenance_of files) (macros c) old new c e.below.items b.items (at old e c) (at new after c) (old.sets.has item.0.0 c)) (sym taken.below)
       (subst (λ a. Progress (provenance_of files) (macros c) old new c e.below.items e.below.items a (at new after c) (old.sets.has item.0.0 c)) (at-none old c e calls none) progress))
 
@@ -271,10 +292,10 @@ module _ (st : Stores) (files : List (List ℕ)) (macros : List ℕ → Macros) 
       ∙ (bottom-same below.items after.top o.frame work ∙ (sym (ap (λ f. f.work) (bottom-less below.items o e.top)) ∙ sym (ap (λ bs. (bottom_by bs e.top).work) less)))
 
   pub left-turn : (calls : Vec Call) (below : Vec Enclosing) (o : Enclosing) → IsNone Call e.top.calls.items calls.items → e.top.work ≡ [] → e.below.items ≡ below.items ++ o ∷ [] → IsReady st.sets e
-      → IsResumed o e.top.out after.top.calls.items → after.top.work ≡ o.frame.work → after.top.out ≡ o.frame.out → after.refusals ≡ e.refusals → after.below ≡ below → IsTurned files macros st st e after true
-  left-turn calls below o none empty less ready resumed work out refusals later = record {
+      → IsResumed o e.top.out after.top.calls.items → after.top.work ≡ o.frame.work → after.top.out ≡ o.frame.out → after.refusals ≡ e.refusals → after.below ≡ below → after.rest ≡ e.rest → IsTurned files macros st st e after true
+  left-turn calls below o none empty less ready resumed work out refusals later waiting = record {
     grows = Grows-refl st;
-    held = left-held (provenance_of files) (macros []) st [] below.items o (with_below e calls below) after resumed work out refusals empty none.after (length files)
+    held = left-held (provenance_of files) (macros []) st [] below.items o (with_below e calls below) after resumed work out refusals empty none.after waiting (length files)
         (below-held e is.held calls None below (Some o) (none-split none) less) (enclosing-held e is.held calls below o less) later;
     out = puts-same (Grows-refl st) e.refusals.live.0 e after is.held
         (ap (λ b. put_by b.items after.top) later ∙ (put-same below.items after.top o.frame out ∙ (sym (put-less below.items o e.top) ∙ sym (ap (λ bs. put_by bs e.top) less))));
@@ -282,7 +303,10 @@ module _ (st : Stores) (files : List (List ℕ)) (macros : List ℕ → Macros) 
     progress = λ c listed.
         subst (λ b. Progress (provenance_of files) (macros c) st st c e.below.items b.items (at st e c) (at st after c) (st.sets.has o.call.cond.0 c)) (sym later)
         (subst (λ bs. Progress (provenance_of files) (macros c) st st c bs below.items (at st e c) (at st after c) (st.sets.has o.call.cond.0 c)) (sym less)
-        (left-progress (provenance_of files) (macros c) st c below.items o e after resumed work out refusals empty none.before));
+        (left-progress (provenance_of files) (macros c) st c below.items o e after resumed work out refusals empty none.before waiting));
+    alike_left = λ c d p q defines same inside all. rest-alike after (Grows-refl st) is.held waiting p q all;
+    left = same-left (Grows-refl st) e after is.held waiting (left-bottom below o less work later)
+        (ap (λ b. put_by b.items after.top) later ∙ (put-same below.items after.top o.frame out ∙ (sym (put-less below.items o e.top) ∙ sym (ap (λ bs. put_by bs e.top) less))));
     long = long-same st e after (left-bottom below o less work later);
     which = λ cond is c. ap (λ (k : Cond). st.sets.has k.0 c) (some-same (sym (next-argument e below.items o none.before empty less) ∙ is));
     some = λ went. ready.some o.call.cond (next-argument e below.items o none.before empty less);
@@ -311,6 +335,9 @@ module _ (st : Stores) (files : List (List ℕ)) (macros : List ℕ → Macros) 
           subst (λ bs. Stands st c bs (view_at st (record e.top { calls = calls }) c)) (sym lists) (subst (Stands st c e.below.items) (sym view) stands),
           ap (λ v. state_in st e.below.items v c) (sym view) ∙ ap (λ bs. state_in st bs (view_at st (record e.top { calls = calls }) c) c) (sym lists),
         ));
+    alike_left = λ c d p q defines same inside all. rest-alike (with_below e calls below) (Grows-refl st) is.held refl p q all;
+    left = same-left (Grows-refl st) e (with_below e calls below) is.held refl (alone-bottom calls below less)
+        (ap (λ bs. put_by bs (record e.top { calls = calls })) (less.after ∙ sym less.before) ∙ put-same e.below.items (record e.top { calls = calls }) e.top refl);
     long = long-same st e (with_below e calls below) (alone-bottom calls below less);
     which = λ cond is c. absurd (not-some-none (sym (next-none e none.before empty less.before) ∙ is));
     some = λ went. absurd (true≢false (sym went));

@@ -91,16 +91,16 @@ found-none s names has macro parts found none some = parts-none s parts (λ c li
 
 pub comes-stays : (provenance : Provenance Place) (macros : Macros) (t : Hidden Place) (rest : List (Hidden Place)) (a : At) (b : Step) → case_of macros t rest ≡ stays → b.at.live ≡ true
     → Comes provenance macros t rest a b → b.stays ≡ true
-comes-stays provenance macros t rest a b case live (taking.kept is same) = ap (λ (s : Step). s.stays) same
+comes-stays provenance macros t rest a b case live (taking.kept is last same) = ap (λ (s : Step). s.stays) same
 comes-stays provenance macros t rest a b case live (taking.put d body is ok same) = absurd (cc)
 comes-stays provenance macros t rest a b case live (taking.taken_out d arguments close after template is stands same) = absurd (cc)
-comes-stays provenance macros t rest a b case live (taking.failed failure fails dead failures) = absurd (true≢false (sym live ∙ dead))
+comes-stays provenance macros t rest a b case live (taking.ended end by e first) = absurd (true≢false (sym live ∙ e.live))
 
 -- ---- it is put out
 
-pub take-passes : (s : Sets) (was next : Expansion) (item : Cond × declared.Hidden) (taken : Taken) → IsUncalled was → slice_get was.top.work 0 ≡ Some item → taken.made.items ≡ []
-    → Denotes s taken.stays.0 (λ c. s.has item.0.0 c && s.has was.refusals.live.0 c) → HasPutOut s taken item.1 was next → Passes s was next
-take-passes s was next item taken uncalled first none both push = by push.out
+pub take-passes : (before s : Sets) (was next : Expansion) (item : Cond × declared.Hidden) (taken : Taken) → IsUncalled was → slice_get was.top.work 0 ≡ Some item → taken.made.items ≡ []
+    → Denotes s taken.stays.0 (λ c. s.has item.0.0 c && s.has was.refusals.live.0 c) → HasPutOut before s taken item.1 was next → Passes s was next
+take-passes before s was next item taken uncalled first none both push = by push.out
   where
     whole : was.top.work ≡ item ∷ next.top.work
     whole = first-is was.top.work item first ∙ ap (λ l. item ∷ l) (sym (push.work ∙ ap (λ l. l ++ drop 1 was.top.work) none))

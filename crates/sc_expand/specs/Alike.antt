@@ -41,6 +41,7 @@ pub record Span : Type 0 where
 -- those that were not refused, and each fault after so many others
 pub record AreAlikeRefusals (s : Sets) (c d : List ℕ) (others : ℕ) (r : Refusals) : Type 0 where
   pub live : IsAlike s c d r.live
+  pub waiting : IsAlike s c d r.waiting
   pub faults : AreAlikeFaults s c d (drop others r.faults.items)
 
 -- what the span has of the list on top, and each of its calls

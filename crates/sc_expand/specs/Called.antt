@@ -16,7 +16,7 @@ use Rattle.sc_expand.specs.Machine.{IsHeldExpansion, KeepsLists, at, with_call}
 use Rattle.sc_expand.specs.Plain.{IsTemplate, gathered}
 use Rattle.sc_expand.specs.Seen.{AreHeld, IsHeldToken, Stores, calls_at, provenance_of, seen_at, stores}
 use Rattle.sc_expand.specs.Taking.{has_first}
-use Rattle.sc_expand.specs.Turn.{At}
+use Rattle.sc_expand.specs.Turn.{At, fails, with_end}
 use Rattle.sc_hoist.specs.Branches.{lists_at}
 use Rattle.sc_hoist.specs.Calls.{call_end_at, call_places, closed}
 use Rattle.sc_hoist.specs.declared.branch.Branch.{Branch}
@@ -72,6 +72,7 @@ pub record HasLeft (old new : Sets) (names : List (List ℕ)) (was now : Expansi
   pub top : now.top ≡ record was.top { work = now.top.work }
   pub refusals : now.refusals ≡ was.refusals
   pub below : now.below ≡ was.below
+  pub waiting : now.rest ≡ was.rest
   pub tokens : map (λ item. item.1) now.top.work ≡ map (λ item. item.1) was.top.work
   pub call : (c : List ℕ) → IsConfig old.arities c → old.has branch.cond.0 c ≡ true
       → IsCall (seen_at (stores old names was.sets) (drop 1 was.top.work) c) (seen_list names was.sets between) (seen_hidden names was.sets close) (seen_at (stores new names now.sets) now.top.work c)
@@ -89,7 +90,7 @@ pub data Begins (provenance : Provenance Place) (d : Definition) (t close : mode
   waits : (template : Result (List (Slot Place)) (Failure Place)) → IsTemplate provenance d t arguments template
       → b ≡ record a { view = with_call a.view (gathered provenance d t arguments close template) } → Begins provenance d t close arguments a b
   refused : (failure : Failure Place) → slots t arguments (parts d.form neither (list_of provenance d t)) ≡ Err failure
-      → b.live ≡ false → b.failures ≡ a.failures ++ failure ∷ [] → Begins provenance d t close arguments a b
+      → b.live ≡ false → b.ends ≡ with_end a.ends (fails failure) → Begins provenance d t close arguments a b
 
 -- The call of a name with these arguments begins to wait in the configurations of a condition, or
 -- is refused; the others are as they were.
@@ -101,6 +102,7 @@ pub record HasBegun (old new : Stores) (was now : Expansion) (cond : ℕ) (form 
   pub others : (c : List ℕ) → IsConfig old.sets.arities c → old.sets.has cond c ≡ false → at new now c ≡ at old was c
   pub work : now.top.work ≡ was.top.work
   pub below : now.below ≡ was.below
+  pub rest : now.rest ≡ was.rest
   pub out : now.top.out ≡ was.top.out
   pub alike : (c d : List ℕ) (span : Span) → IsConfig old.sets.arities c → IsConfig old.sets.arities d → old.sets.has cond c ≡ old.sets.has cond d
       → IsAlikeIn old.sets c d span was → IsAlikeIn new.sets c d span now

@@ -1,6 +1,6 @@
 -- The expansion of a list under all configurations at once, seen at one.
 use Rattle.std.specs.Prelude.{◌≡◌, ℕ, ◌≤◌, Bool, true, false, List, [], ◌∷◌, ◌++◌, All, length, map, slice_set, if◌then◌else◌}
-use Rattle.c11_macros.specs.Hidden.{Failure, Provenance}
+use Rattle.c11_macros.specs.Hidden.{Provenance}
 use Rattle.c11_macros.specs.Macros.{Macros}
 use Rattle.sc_base.specs.declared.id.Cond.{Cond}
 use Rattle.sc_base.specs.declared.place.Place.{Place}
@@ -8,27 +8,40 @@ use Rattle.sc_expand.specs.declared.call.Call.{Call}
 use Rattle.sc_expand.specs.declared.call.Wanted.{Wanted}
 use Rattle.sc_expand.specs.declared.expansion.Expansion.{Expansion}
 use Rattle.sc_expand.specs.declared.frame.Enclosing.{Enclosing}
-use Rattle.sc_expand.specs.Plain.{Fails, Moves, State, Waiting, expanding}
-use Rattle.sc_expand.specs.Seen.{IsHeldEnclosing, IsHeldFrame, IsHeldRefusals, Stores, View, calls_at, failures_at, seen_at, state_of, view_at, waiting_at}
-use Rattle.sc_expand.specs.Turn.{At}
-use Rattle.sc_model.specs.Sets.{IsConfig}
+use Rattle.sc_expand.specs.declared.refusals.Refusals.{Refusals}
+use Rattle.sc_expand.specs.Open.{Waits}
+use Rattle.sc_expand.specs.Plain.{Moves, State, Waiting, expanding}
+use Rattle.sc_expand.specs.Seen.{AreHeld, IsHeldEnclosing, IsHeldFrame, IsHeldRefusals, Stores, View, calls_at, failures_at, seen_at, state_of, view_at, waiting_at}
+use Rattle.sc_expand.specs.Turn.{At, End, Ends, EndsBy, with_end}
+use Rattle.sc_model.specs.Sets.{Sets, IsConfig}
 use Rattle.sc_subst.specs.declared.hidden.Hidden.{Hidden}
 
 -- the stores hold all of it, and the table of file names its files
 pub record IsHeldExpansion (st : Stores) (files : ℕ) (e : Expansion) : Type 0 where
   pub refusals : IsHeldRefusals st.sets files e.refusals
+  pub rest : AreHeld st files e.rest
   pub top : IsHeldFrame st files e.top
   pub below : All (IsHeldEnclosing st files) e.below.items
 
--- the lists below, what was put out and the tokens of the list on top are as they were
+-- the lists below, what was put out or waits, and the tokens of the list on top are as they were
 pub record KeepsLists (was now : Expansion) : Type 0 where
   pub below : now.below ≡ was.below
+  pub rest : now.rest ≡ was.rest
   pub out : now.top.out ≡ was.top.out
   pub tokens : map (λ item. item.1) now.top.work ≡ map (λ item. item.1) was.top.work
 
+-- how the configuration ended
+abbrev pub ends_at : Sets → Refusals → List ℕ → Ends
+ends_at s r c = record { failures = failures_at s r.faults.items c; waiting = s.has r.waiting.0 c }
+
+-- no list is below that on top, which is the whole list
+abbrev pub is_whole : List Enclosing → Bool
+is_whole [] = true
+is_whole (e ∷ es) = false
+
 -- what the configuration has on top
 abbrev pub at : Stores → Expansion → List ℕ → At
-at st e c = record { live = st.sets.has e.refusals.live.0 c; view = view_at st e.top c; failures = failures_at st.sets e.refusals.faults.items c }
+at st e c = record { live = st.sets.has e.refusals.live.0 c; whole = is_whole e.below.items; view = view_at st e.top c; ends = ends_at st.sets e.refusals c }
 
 -- what the configuration has of a list, with one call more
 abbrev pub with_call : View → Waiting Place → View
@@ -64,15 +77,15 @@ state_in st (e ∷ es) v c =
     else state_of (view_at st e.frame c)
 
 -- What a turn of the loop does at a configuration, with the lists below before it and after it: one
--- that takes part makes one step or has its failure; another stays as it is.
+-- that takes part makes one step or ends; another stays as it is.
 pub data Progress (provenance : Provenance Place) (macros : Macros) (old new : Stores) (c : List ℕ) (below later : List Enclosing) (a b : At) : Bool → Type 0 where
-  rests : b.live ≡ a.live → b.failures ≡ a.failures
+  rests : b.live ≡ a.live → b.ends ≡ a.ends
       → (a.live ≡ true → Stands old c below a.view → Stands new c later b.view × (state_in old below a.view c ≡ state_in new later b.view c)) → Progress provenance macros old new c below later a b false
-  gone : {takes : Bool} → a.live ≡ false → b.live ≡ false → b.failures ≡ a.failures → Progress provenance macros old new c below later a b takes
-  steps : a.live ≡ true → b.live ≡ true → b.failures ≡ a.failures
+  gone : {takes : Bool} → a.live ≡ false → b.live ≡ false → b.ends ≡ a.ends → Progress provenance macros old new c below later a b takes
+  steps : a.live ≡ true → b.live ≡ true → b.ends ≡ a.ends → (Stands old c below a.view → Waits macros (state_in old below a.view c) → ⊥)
       → (Stands old c below a.view → Stands new c later b.view × Moves provenance macros (state_in old below a.view c) (state_in new later b.view c)) → Progress provenance macros old new c below later a b true
-  fails : (failure : Failure Place) → a.live ≡ true → b.live ≡ false → b.failures ≡ a.failures ++ failure ∷ []
-      → (Stands old c below a.view → Fails provenance macros (state_in old below a.view c) failure) → Progress provenance macros old new c below later a b true
+  ends : (end : End) → a.live ≡ true → b.live ≡ false → b.ends ≡ with_end a.ends end
+      → (Stands old c below a.view → EndsBy provenance macros true (state_in old below a.view c) end) → Progress provenance macros old new c below later a b true
 
 -- each configuration that was not refused stands in one frame
 pub record IsExpansion (st : Stores) (files : ℕ) (e : Expansion) : Type 0 where
@@ -85,6 +98,7 @@ pub record HasEntered (was now : Expansion) (call : Call) (wanted : Wanted) : Ty
   pub work : now.top.work ≡ map (λ token. (call.cond, token)) wanted.tokens
   pub out : now.top.out ≡ []
   pub calls : now.top.calls.items ≡ []
+  pub rest : now.rest ≡ was.rest
 
 -- the call of the enclosing list waits again, behind the others, and its argument expanded to this
 pub record IsResumed (e : Enclosing) (list : List (Cond × Hidden)) (calls : List Call) : Type 0 where

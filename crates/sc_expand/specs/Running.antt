@@ -1,21 +1,23 @@
 -- The turns of an expansion, from the first to the last.
-use Rattle.std.specs.Prelude.{◌≡◌, ℕ, ◌+◌, ◌-◌, ◌++◌, Bool, true, false, List, [], ◌∷◌, All, Option, Some, None, Ok, Err, length, slice_get, sum_by, ◌≤◌, suc}
-use Rattle.c11_macros.specs.Expansion.{Expands}
+use Rattle.std.specs.Prelude.{◌≡◌, ℕ, ◌+◌, ◌-◌, ◌++◌, Bool, true, false, List, [], ◌∷◌, All, Option, Some, None, length, slice_get, sum_by, ◌≤◌, suc}
 use Rattle.c11_macros.specs.Hidden as model
 use Rattle.c11_macros.specs.Hidden.{Failure, Provenance}
 use Rattle.c11_macros.specs.Macros.{Macros}
+use Rattle.c11_macros.specs.Runs.{IsHeld, Settles}
 use Rattle.sc_base.specs.declared.id.Cond.{Cond}
 use Rattle.sc_base.specs.declared.place.Place.{Place}
 use Rattle.sc_expand.specs.declared.call.Call.{Call}
 use Rattle.sc_expand.specs.declared.expansion.Expansion.{Expansion}
 use Rattle.sc_expand.specs.declared.frame.Enclosing.{Enclosing}
 use Rattle.sc_expand.specs.declared.frame.Frame.{Frame}
-use Rattle.sc_expand.specs.Alike.{CallNextAlike, DefineNextAlike, IsAlikeCall, IsAlikeExpansion, IsFirstIn, Others}
+use Rattle.sc_expand.specs.Alike.{CallNextAlike, DefineNextAlike, IsAlikeCall, IsAlikeExpansion, IsFirstIn, Others, no_others}
 use Rattle.sc_expand.specs.Having.{HasLast, HasMore, behind_at}
 use Rattle.sc_expand.specs.Machine.{IsHeldExpansion, Progress, at, at_call}
 use Rattle.sc_expand.specs.Seen.{Grows, IsHeldCall, Stores, provenance_of, seen_at}
 use Rattle.sc_expand.specs.Turn.{Turn}
 use Rattle.sc_expand.specs.Unchanged.{Drops, IsUncalled, LooksUpNone, Passes}
+use Rattle.sc_expand.specs.Waiting.{KeepsFirst}
+use Rattle.sc_hoist.specs.Alike.{AreAlike}
 use Rattle.sc_model.specs.Sets.{Sets, IsConfig, IsNever}
 use Rattle.sc_subst.specs.declared.hidden.Hidden.{Hidden}
 
@@ -47,10 +49,11 @@ abbrev pub weight : Expansion → ℕ
 weight e = frame_weight e.top + sum_by (λ o. frame_weight o.frame) e.below.items
 
 -- The call, the token or the argument that is next is gone.
-pub data IsDropped (e after : Expansion) : Type 0 where
-  call : (k : Call) → e.top.calls.items ≡ after.top.calls.items ++ k ∷ [] → after.top.work ≡ e.top.work → after.top.out ≡ e.top.out → after.below ≡ e.below → IsDropped e after
-  token : (item : Cond × Hidden) → e.top.calls.items ≡ [] → after.top.calls.items ≡ [] → e.top.work ≡ item ∷ after.top.work → after.top.out ≡ e.top.out → after.below ≡ e.below → IsDropped e after
-  argument : (o : Enclosing) → e.top.calls.items ≡ [] → e.top.work ≡ [] → e.below.items ≡ after.below.items ++ o ∷ [] → after.top ≡ o.frame → IsDropped e after
+pub data IsDropped (old new : Sets) (e after : Expansion) : Type 0 where
+  call : (k : Call) → e.top.calls.items ≡ after.top.calls.items ++ k ∷ [] → after.top.work ≡ e.top.work → after.top.out ≡ e.top.out → after.below ≡ e.below → after.rest ≡ e.rest → IsDropped old new e after
+  token : (item : Cond × Hidden) → e.top.calls.items ≡ [] → after.top.calls.items ≡ [] → e.top.work ≡ item ∷ after.top.work → after.top.out ≡ e.top.out → after.below ≡ e.below
+      → KeepsFirst old new e.refusals.waiting.0 e.below.items e.top.work e.rest after.rest → IsDropped old new e after
+  argument : (o : Enclosing) → e.top.calls.items ≡ [] → e.top.work ≡ [] → e.below.items ≡ after.below.items ++ o ∷ [] → after.top ≡ o.frame → after.rest ≡ e.rest → IsDropped old new e after
 
 -- ---- what was put out
 
@@ -74,6 +77,24 @@ pub record PutsOut (old new : Stores) (live : ℕ) (before after : List (Cond ×
   pub apart : (c : List ℕ) → IsConfig old.sets.arities c → old.sets.has live c ≡ false → seen_at new after c ≡ seen_at old before c
   pub some : All (λ item. IsNever old.sets item.0.0 → ⊥) before → All (λ item. IsNever new.sets item.0.0 → ⊥) after
 
+-- ---- what waits
+
+-- what a configuration that waits has left of the whole list
+abbrev pub left_at : Stores → Expansion → List ℕ → List (model.Hidden Place)
+left_at st e c = seen_at st e.rest c ++ seen_at st (bottom e).work c
+
+-- one that goes on doesn't wait
+abbrev pub IsApart : Sets → Expansion → List ℕ → Type 0
+IsApart s e c = s.has e.refusals.live.0 c ≡ true → s.has e.refusals.waiting.0 c ≡ false
+
+-- A configuration that waits has left what it had and has put out what it had; another has nothing
+-- new that waits.
+pub record KeepsLeft (old new : Stores) (was now : Expansion) : Type 0 where
+  pub left : (c : List ℕ) → IsConfig old.sets.arities c → IsApart old.sets was c → new.sets.has now.refusals.waiting.0 c ≡ true → left_at new now c ≡ left_at old was c
+  pub put : (c : List ℕ) → IsConfig old.sets.arities c → IsApart old.sets was c → new.sets.has now.refusals.waiting.0 c ≡ true → seen_at new (put_out now) c ≡ seen_at old (put_out was) c
+  pub others : (c : List ℕ) → IsConfig old.sets.arities c → new.sets.has now.refusals.waiting.0 c ≡ false → seen_at new now.rest c ≡ seen_at old was.rest c
+  pub some : All (λ item. IsNever old.sets item.0.0 → ⊥) was.rest → All (λ item. IsNever new.sets item.0.0 → ⊥) now.rest
+
 -- ---- turns
 
 -- each configuration that was not refused is where it was, and so is what was put out
@@ -85,6 +106,9 @@ pub record IsRested (old new : Stores) (e after : Expansion) : Type 0 where
   pub held : (files : ℕ) → IsHeldExpansion old files e → IsHeldExpansion new files after
   pub progress : (files : ℕ) (provenance : Provenance Place) (macros : Macros) (c : List ℕ) → IsHeldExpansion old files e → IsConfig old.sets.arities c
       → Progress provenance macros old new c e.below.items after.below.items (at old e c) (at new after c) false
+  pub left : (files : ℕ) → IsHeldExpansion old files e → KeepsLeft old new e after
+  pub alike_left : (files : ℕ) (c d : List ℕ) → IsHeldExpansion old files e → IsConfig old.sets.arities c → IsConfig old.sets.arities d → IsAlikeExpansion old.sets c d no_others e
+      → AreAlike old.sets c d e.rest → AreAlike new.sets c d after.rest
   pub drops : (files : ℕ) → IsHeldExpansion old files e → IsUncalled e → Drops old.sets e after
   pub alike : (files : ℕ) (c d : List ℕ) (others : Others) → IsHeldExpansion old files e → IsConfig old.sets.arities c → IsConfig old.sets.arities d
       → IsAlikeExpansion old.sets c d others e → IsAlikeExpansion new.sets c d others after
@@ -118,6 +142,9 @@ pub record IsTurned (files : List (List ℕ)) (macros : List ℕ → Macros) (ol
   pub takes : List ℕ → Bool
   pub progress : (c : List ℕ) → IsConfig old.sets.arities c
       → Progress (provenance_of files) (macros c) old new c e.below.items after.below.items (at old e c) (at new after c) (takes c)
+  pub left : KeepsLeft old new e after
+  pub alike_left : (c d : List ℕ) → IsConfig old.sets.arities c → IsConfig old.sets.arities d → DefineNextAlike old (macros c) (macros d) c e → CallNextAlike old (macros c) c d e
+      → IsAlikeExpansion old.sets c d no_others e → AreAlike old.sets c d e.rest → AreAlike new.sets c d after.rest
   pub long : IsAsLong e after
   pub which : (cond : Cond) → next_of e ≡ Some cond → (c : List ℕ) → takes c ≡ old.sets.has cond.0 c
   pub some : went ≡ true → ((c : List ℕ) → IsConfig old.sets.arities c → takes c ≡ true → old.sets.has e.refusals.live.0 c ≡ true → ⊥) → ⊥
@@ -132,6 +159,8 @@ pub record IsTurned (files : List (List ℕ)) (macros : List ℕ → Macros) (ol
 -- a call that was taken from the list on top was replaced there, or refused
 pub record IsReplaced (old new : Stores) (was now : Expansion) (call : Call) : Type 0 where
   pub held : (files : ℕ) → IsHeldExpansion old files was → IsHeldCall old files call → IsHeldExpansion new files now
+  pub left : (files : ℕ) → IsHeldExpansion old files was → IsHeldCall old files call → KeepsLeft old new was now
+  pub waits : now.rest ≡ was.rest
   pub below : now.below ≡ was.below
   pub out : now.top.out ≡ was.top.out
   pub turns : (files : List (List ℕ)) (macros : Macros) (c : List ℕ) → IsConfig old.sets.arities c → Turn (provenance_of files) macros (at_call old was call c) (at new now c) (old.sets.has call.cond.0 c)
@@ -143,6 +172,8 @@ pub record IsReplaced (old new : Stores) (was now : Expansion) (call : Call) : T
 -- a call that was taken from the list on top has made its step
 pub record GoesOn (old new : Stores) (was now : Expansion) (call : Call) : Type 0 where
   pub held : (files : ℕ) → IsHeldExpansion old files was → IsHeldCall old files call → IsHeldExpansion new files now
+  pub left : (files : ℕ) → IsHeldExpansion old files was → IsHeldCall old files call → KeepsLeft old new was now
+  pub waits : now.rest ≡ was.rest
   pub progress : (files : List (List ℕ)) (macros : Macros) (c : List ℕ) → IsConfig old.sets.arities c
       → Progress (provenance_of files) macros old new c was.below.items now.below.items (at_call old was call c) (at new now c) (old.sets.has call.cond.0 c)
   pub out : put_out now ≡ put_out was
@@ -159,6 +190,9 @@ pub record TakesFirst (files : List (List ℕ)) (macros : List ℕ → Macros) (
   pub below : now.below ≡ was.below
   pub turns : (c : List ℕ) → IsConfig old.sets.arities c → Turn (provenance_of files) (macros c) (at old was c) (at new now c) (old.sets.has has c)
   pub out : PutsOut old new was.refusals.live.0 was.top.out now.top.out
+  pub left : KeepsLeft old new was now
+  pub alike_left : (c d : List ℕ) → IsConfig old.sets.arities c → IsConfig old.sets.arities d → DefineNextAlike old (macros c) (macros d) c was → CallNextAlike old (macros c) c d was
+      → IsAlikeExpansion old.sets c d no_others was → AreAlike old.sets c d was.rest → AreAlike new.sets c d now.rest
   pub passes : IsUncalled was → LooksUpNone old.sets old.names macros was → Passes new.sets was now
   pub alike : (c d : List ℕ) (others : Others) → IsConfig old.sets.arities c → IsConfig old.sets.arities d → DefineNextAlike old (macros c) (macros d) c was
       → CallNextAlike old (macros c) c d was → IsFirstIn others was → IsAlikeExpansion old.sets c d others was → IsAlikeExpansion new.sets c d others now
@@ -167,16 +201,18 @@ pub record TakesFirst (files : List (List ℕ)) (macros : List ℕ → Macros) (
 
 -- ---- whole runs
 
--- nothing was expanded yet
-pub record IsUntouched (e : Expansion) : Type 0 where
+-- nothing was expanded yet, and no configuration waits
+pub record IsUntouched (s : Sets) (e : Expansion) : Type 0 where
   pub below : e.below.items ≡ []
   pub out : e.top.out ≡ []
   pub calls : e.top.calls.items ≡ []
   pub faults : e.refusals.faults.items ≡ []
+  pub rest : e.rest ≡ []
+  pub waiting : IsNever s e.refusals.waiting.0
 
--- A configuration that takes part has what the list expands to, or its failure alone; another has
--- no failure.
-pub data IsDone (provenance : Provenance Place) (macros : Macros) (source out : List (model.Hidden Place)) (failures : List (Failure Place)) : Bool → Type 0 where
-  unasked : failures ≡ [] → IsDone provenance macros source out failures false
-  expanded : failures ≡ [] → Expands provenance macros source (Ok out) → IsDone provenance macros source out failures true
-  refused : (failure : Failure Place) → failures ≡ failure ∷ [] → Expands provenance macros source (Err failure) → IsDone provenance macros source out failures true
+-- A configuration that takes part has what the list settles to, or its failure alone; another has
+-- no failure and nothing that waits.
+pub data IsDone (provenance : Provenance Place) (macros : Macros) (source out rest : List (model.Hidden Place)) (failures : List (Failure Place)) : Bool → Type 0 where
+  unasked : failures ≡ [] → rest ≡ [] → IsDone provenance macros source out rest failures false
+  settled : failures ≡ [] → Settles provenance macros source out rest → IsDone provenance macros source out rest failures true
+  refused : (failure : Failure Place) → failures ≡ failure ∷ [] → rest ≡ [] → IsHeld provenance macros source failure → IsDone provenance macros source out rest failures true

@@ -146,5 +146,6 @@ failures_at s faults c = map seen_failure (faults_at s faults c)
 
 pub record IsHeldRefusals (s : Sets) (files : ℕ) (r : Refusals) : Type 0 where
   pub live : IsCond s r.live.0
+  pub waiting : IsCond s r.waiting.0
   pub own : All (λ f. IsCond s f.cond.0) r.faults.items
   pub placed : All (λ f. f.place.file.0 < files) r.faults.items

@@ -11,6 +11,7 @@ use Rattle.c11_macros.specs.Expansion.{case_of, called, is_looked_up, object_res
 use Rattle.c11_macros.specs.Hidden as model
 use Rattle.c11_macros.specs.Hidden.{Failure, Provenance}
 use Rattle.c11_macros.specs.Macros.{Definition, Macros}
+use Rattle.c11_macros.specs.Runs.{is_last_name}
 use Rattle.c11_macros.specs.Substitution.{Slot}
 use Rattle.sc_base.specs.declared.id.Cond.{Cond}
 use Rattle.sc_base.specs.declared.place.Place.{Place}
@@ -18,13 +19,14 @@ use Rattle.sc_expand.specs.declared.expansion.Expansion.{Expansion}
 use Rattle.sc_expand.specs.declared.taking.Taken.{Taken}
 use Rattle.sc_expand.specs.Alike.{IsAlikeIn, IsAlikeTaken, IsFunctionLike, IsSameCall, Span}
 use Rattle.sc_hoist.specs.Alike.{AreAlike}
-use Rattle.sc_expand.specs.Gather.{without_call}
+use Rattle.sc_expand.specs.Gather.{IsEnded, without_call}
 use Rattle.sc_expand.specs.Having.{HasLast, has_each}
 use Rattle.sc_expand.specs.Machine.{IsHeldExpansion, KeepsLists, at}
-use Rattle.sc_expand.specs.Plain.{Fails, IsTemplate, gathered}
+use Rattle.sc_expand.specs.Plain.{IsTemplate, gathered}
 use Rattle.sc_expand.specs.Seen.{AreHeld, Stores, provenance_of, seen_at, state_of}
-use Rattle.sc_expand.specs.Turn.{At}
+use Rattle.sc_expand.specs.Turn.{At, End, EndsBy, fails, waits, with_end}
 use Rattle.sc_expand.specs.Unchanged.{IsPushed, IsUndefined}
+use Rattle.sc_expand.specs.Waiting.{KeepsFirst}
 use Rattle.sc_model.specs.Sets.{Sets, IsCond, IsConfig}
 use Rattle.sc_subst.specs.declared.hidden.Hidden.{Hidden}
 
@@ -66,18 +68,18 @@ pub record IsBegun (t : model.Hidden Place) (a : Step) : Type 0 where
 -- What taking the token comes to, with this behind it: it stays, is replaced, is taken out with its
 -- call, or is refused.
 pub data Comes (provenance : Provenance Place) (macros : Macros) (t : model.Hidden Place) (rest : List (model.Hidden Place)) (a : At) (b : Step) : Type 0 where
-  kept : case_of macros t rest ≡ stays → b ≡ record { at = a; first = true; stays = true; made = [] } → Comes provenance macros t rest a b
+  kept : case_of macros t rest ≡ stays → (a.whole ≡ true → is_last_name macros t rest ≡ false) → b ≡ record { at = a; first = true; stays = true; made = [] } → Comes provenance macros t rest a b
   put : (d : Definition) (body : List (model.Hidden Place)) → case_of macros t rest ≡ replaced d → object_result provenance d t ≡ Ok body
       → b ≡ record { at = a; first = true; stays = false; made = body } → Comes provenance macros t rest a b
   taken_out : (d : Definition) (arguments : List (List (model.Hidden Place))) (close : model.Hidden Place) (after : List (model.Hidden Place)) (template : Result (List (Slot Place)) (Failure Place))
       → case_of macros t rest ≡ called d arguments close after → IsTemplate provenance d t arguments template
       → b ≡ record { at = without_call a (gathered provenance d t arguments close template) after; first = false; stays = false; made = [] } → Comes provenance macros t rest a b
-  failed : (failure : Failure Place) → Fails provenance macros (state_of a.view) failure → b.at.live ≡ false → b.at.failures ≡ a.failures ++ failure ∷ [] → Comes provenance macros t rest a b
+  ended : (end : End) → EndsBy provenance macros a.whole (state_of a.view) end → IsEnded a b.at end → (end ≡ waits → (b.stays ≡ false) × (b.made ≡ [])) → Comes provenance macros t rest a b
 
 -- an object-like macro's name is replaced, or refused
 pub data Replaces (r : Result (List (model.Hidden Place)) (Failure Place)) (a b : At) (before after : List (model.Hidden Place)) : Type 0 where
   put_in : (body : List (model.Hidden Place)) → r ≡ Ok body → b ≡ a → after ≡ before ++ body → Replaces r a b before after
-  refused : (failure : Failure Place) → r ≡ Err failure → b.live ≡ false → b.failures ≡ a.failures ++ failure ∷ [] → Replaces r a b before after
+  refused : (failure : Failure Place) → r ≡ Err failure → b.live ≡ false → b.ends ≡ with_end a.ends (fails failure) → Replaces r a b before after
 
 -- the definition of a function-like macro
 abbrev pub IsFunction : List (List ℕ) → Option (Rc declared.Definition Global) → Type 0
@@ -116,6 +118,7 @@ pub record HasPut (files : List (List ℕ)) (old st : Stores) (was now : Expansi
   pub held : IsHeldExpansion st (length files) now
   pub made : AreHeld st (length files) after
   pub below : now.below ≡ was.below
+  pub rest : now.rest ≡ was.rest
   pub top : now.top ≡ was.top
   pub replaces : (c : List ℕ) → IsConfig old.sets.arities c → old.sets.has cond c ≡ true
       → Replaces (object_result (provenance_of files) definition (seen_hidden old.names old.hides head)) (at old was c) (at st now c) (seen_at old before c) (seen_at st after c)
@@ -124,7 +127,8 @@ pub record HasPut (files : List (List ℕ)) (old st : Stores) (was now : Expansi
       → IsAlikeIn old.sets c d span was → IsAlikeIn st.sets c d span now × AreAlike st.sets c d after
 
 -- the name is no longer first: it was put out where it stays, and what replaces it is first
-pub record HasPutOut (s : Sets) (taken : Taken) (token : Hidden) (was now : Expansion) : Type 0 where
+pub record HasPutOut (old s : Sets) (taken : Taken) (token : Hidden) (was now : Expansion) : Type 0 where
+  pub rest : KeepsFirst old s was.refusals.waiting.0 was.below.items was.top.work was.rest now.rest
   pub refusals : now.refusals ≡ was.refusals
   pub below : now.below ≡ was.below
   pub calls : now.top.calls ≡ was.top.calls

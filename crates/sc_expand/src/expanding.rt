@@ -1,5 +1,5 @@
 //! Macro expansion of a list of tokens that differ by configuration.
-ghost use Rattle.std.specs.Prelude.{◌≡◌, ℕ, ◌<◌, [], List, All, true, false, length, map, IfErr, IfOk};
+ghost use Rattle.std.specs.Prelude.{◌≡◌, ℕ, ◌<◌, ◌++◌, [], List, All, true, false, length, map, IfErr, IfOk, OnOk};
 ghost use Rattle.c11_macros.specs.Text.{place_alone, unhidden};
 ghost use Rattle.sc_base.specs.Seen.{IsHeld, seen};
 ghost use Rattle.sc_expand.specs.Alike.{DefineTextAlike};
@@ -10,16 +10,17 @@ ghost use Rattle.sc_expand.specs.Running.{IsUntouched};
 ghost use Rattle.sc_expand.specs.Unchanged.{DefinesNone, IsRestricted};
 ghost use Rattle.sc_guarded.specs.Items.{items_at};
 ghost use Rattle.sc_model.specs.Growth.{Extends};
-ghost use Rattle.sc_model.specs.Sets.{IsConfig, IsCond, IsNever, Keeps};
+ghost use Rattle.sc_model.specs.Sets.{IsConfig, IsCond, IsNever, Keeps, Sets};
 ghost use Rattle.sc_subst.specs.Hides.{set_at};
 ghost use Rattle.sc_subst.specs.Seen.{IsHeldHidden};
 ghost use Rattle.sc_table.specs.Table.{IsTable, macros_at};
 
+use crate::closing::close;
 use crate::expansion::Expansion;
 use crate::frame::Frame;
 use crate::refusals::Refusals;
 use crate::work_list::WorkList;
-use sc_base::{Cond, Files, Names, OutOfMemory, Stop, Token};
+use sc_base::{Cond, Fault, Files, Names, OutOfMemory, Stop, Token};
 use sc_guarded::{Expanded, Guarded};
 use sc_presence::Conditions;
 use sc_subst::{Hidden, HideSets};
@@ -67,15 +68,25 @@ pub fn expand<C: Conditions>(
     ensures still { (c text : List ℕ) → IsConfig (C.sets conds.old).arities c → macros_at (C.sets conds.new) names.new table.now c text
         ≡ macros_at (C.sets conds.old) names.old table.now c text }
 {
-    let mut expansion = started(alloc, list, live)?;
+    let never = conds.never();
+    let mut expansion = started(alloc, list, live, never)?;
     expansion.run(conds, table, names, files, limit)?;
-    let expanded = finished(expansion)?;
+    let closed = close(alloc, conds, &expansion.rest, live)?;
+    let mut expanded = finished(expansion)?;
+    append_tokens(&mut expanded.list, &closed.list)?;
+    append_faults(&mut expanded.faults, &closed.faults)?;
     Ok(expanded)
 }
 
 /// The expansion of a list before its first turn.
-fn started(alloc: Global, list: &Guarded<Token>, live: Cond) -> Result<Expansion, OutOfMemory>
-    ensures untouched { IfOk result IsUntouched }
+fn started(
+    alloc: Global,
+    list: &Guarded<Token>,
+    live: Cond,
+    never: Cond,
+) -> Result<Expansion, OutOfMemory>
+    ensures untouched { IfOk result (λ e. (s : Sets) → IsNever s never.0 → IsUntouched s e) }
+    ensures waiting { IfOk result (λ e. e.refusals.waiting ≡ never) }
     ensures live { IfOk result (λ e. e.refusals.live ≡ live) }
     ensures tokens { IfOk result (λ e. map (λ item. (item.0, item.1.token)) e.top.work ≡ list.now) }
     ensures unhidden { IfOk result (λ e. All (λ item. set_at e.sets item.1.hide.0 ≡ []) e.top.work) }
@@ -89,8 +100,10 @@ fn started(alloc: Global, list: &Guarded<Token>, live: Cond) -> Result<Expansion
         sets,
         refusals: Refusals {
             live,
+            waiting: never,
             faults: Vec::new(alloc),
         },
+        rest: Guarded::new(alloc)?,
         top: Frame {
             work: WorkList::over(alloc, items),
             out: Guarded::new(alloc)?,
@@ -133,4 +146,25 @@ fn finished(expansion: Expansion) -> Result<Expanded, OutOfMemory>
         list,
         faults: expansion.refusals.faults,
     })
+}
+
+/// Puts tokens behind others.
+fn append_tokens(list: &mut Guarded<Token>, more: &Guarded<Token>) -> Result<(), OutOfMemory>
+    ensures { OnOk result (list.new ≡ list.old ++ more.now) }
+{
+    for index in 0..more.len() {
+        let (cond, token) = more.item(index);
+        list.push(cond, *token)?;
+    }
+    Ok(())
+}
+
+/// Puts faults behind others.
+fn append_faults(faults: &mut Vec<Fault>, more: &[Fault]) -> Result<(), OutOfMemory>
+    ensures { OnOk result (faults.new.items ≡ faults.old.items ++ more.now) }
+{
+    for fault in more {
+        faults.push(*fault)?;
+    }
+    Ok(())
 }

@@ -1,6 +1,7 @@
 use crate::frame::{Enclosing, Frame};
 use crate::refusals::Refusals;
-use sc_subst::HideSets;
+use sc_guarded::Guarded;
+use sc_subst::{Hidden, HideSets};
 use std::alloc::Global;
 
 /// The expansion of a list under all configurations at once. The first token of a list is taken in
@@ -11,6 +12,8 @@ pub struct Expansion {
     pub alloc: Global,
     pub sets: HideSets,
     pub refusals: Refusals,
+    /// What the configurations that wait have left of the whole list.
+    pub rest: Guarded<Hidden>,
     /// The list that is being expanded.
     pub top: Frame,
     /// The lists in whose calls it stands as an argument, the whole list first.

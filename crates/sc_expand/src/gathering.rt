@@ -18,6 +18,7 @@ use crate::arguments::arguments;
 use crate::beginning::{begin_call, between, take_out};
 use crate::expansion::Expansion;
 use crate::first_calls::first_calls;
+use crate::waiting::is_whole;
 use sc_base::{Cause, Cond, Files, Names, OutOfMemory, Stop};
 use sc_hoist::{Branch, closed_calls};
 use sc_macro::{Definition, Form, Item};
@@ -70,11 +71,10 @@ impl Expansion {
         let found = first_calls(alloc, conds, names, work, cond)?;
         let ends = found.ends;
         let branches = closed_calls(alloc, conds, names, work, 0, found, limit)?;
-        self.refusals
-            .refuse(conds, ends.still, Cause::UnterminatedCall, place)?;
+        let whole = is_whole(&self.below);
+        let uncalled = self.refusals.leave_open(conds, whole, &ends, place)?;
         let items = items_at(alloc, names, files, &definition.replacement, place)?;
         self.gather_calls(conds, names, &branches, &definition.form, &items, head)?;
-        let uncalled = conds.apply_or(ends.bare, ends.alone)?;
         Ok(uncalled)
     }
 }

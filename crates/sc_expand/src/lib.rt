@@ -4,6 +4,7 @@
 mod arguments;
 mod beginning;
 mod call;
+mod closing;
 mod expanding;
 mod expansion;
 mod filling;
@@ -17,6 +18,7 @@ mod running;
 mod source;
 mod taking;
 mod turns;
+mod waiting;
 mod work_list;
 
 pub use expanding::expand;

@@ -1,5 +1,5 @@
 //! The loop of an expansion.
-ghost use Rattle.std.specs.Prelude.{◌≡◌, ◌<◌, ℕ, List, Some, length, true, IfErr, IfOk, IsSome, OnOk};
+ghost use Rattle.std.specs.Prelude.{All, [], false, ◌≡◌, ◌<◌, ℕ, List, Some, length, true, IfErr, IfOk, IsSome, OnOk};
 ghost use Rattle.std.specs.Bool.{OnFalse, OnTrue};
 ghost use Rattle.sc_expand.specs.Alike.{DefineAlike, IsAlikeExpansion, TakesName, no_others};
 ghost use Rattle.sc_expand.specs.Footprints.{StopsAtName};
@@ -8,12 +8,14 @@ ghost use Rattle.sc_expand.specs.Running.{IsDone, IsDropped, IsReady, IsRested, 
 ghost use Rattle.sc_expand.specs.Seen.{Grows, failures_at, provenance_of, seen_at, stores};
 ghost use Rattle.sc_expand.specs.CallStops.{StopsAt};
 ghost use Rattle.sc_expand.specs.Unchanged.{IsRestricted, LooksUpNone};
+ghost use Rattle.sc_hoist.specs.Alike.{AreAlike};
 ghost use Rattle.sc_model.specs.Growth.{Extends};
-ghost use Rattle.sc_model.specs.Sets.{IsConfig, Keeps};
+ghost use Rattle.sc_model.specs.Sets.{IsCond, IsConfig, Keeps};
 ghost use Rattle.sc_subst.specs.Seen.{seen_hidden};
 ghost use Rattle.sc_table.specs.Table.{IsTable, macros_at};
 
 use crate::expansion::Expansion;
+use crate::waiting::is_whole;
 use sc_base::{Cond, Files, Names, OutOfMemory, Stop};
 use sc_presence::Conditions;
 use sc_table::MacroTable;
@@ -29,14 +31,17 @@ impl Expansion {
         limit: usize,
     ) -> Result<(), Stop>
         requires held { IsHeldExpansion (stores (C.sets conds.old) names.old self.old.sets) (length files.now) self.old }
-        requires untouched { IsUntouched self.old }
+        requires untouched { IsUntouched (C.sets conds.old) self.old }
         requires table { IsTable (C.sets conds.old) names.old table.now }
         ensures held { OnOk result (IsHeldExpansion (stores (C.sets conds.new) names.new self.new.sets) (length files.now) self.new) }
         ensures done { OnOk result ((c : List ℕ) → IsConfig (C.sets conds.old).arities c
             → IsDone (provenance_of files.now) (macros_at (C.sets conds.old) names.old table.now c)
             (seen_at (stores (C.sets conds.old) names.old self.old.sets) self.old.top.work c)
-            (seen_at (stores (C.sets conds.new) names.new self.new.sets) self.new.top.out c) (failures_at (C.sets conds.new) self.new.refusals.faults.items c)
+            (seen_at (stores (C.sets conds.new) names.new self.new.sets) self.new.top.out c)
+            (seen_at (stores (C.sets conds.new) names.new self.new.sets) self.new.rest c) (failures_at (C.sets conds.new) self.new.refusals.faults.items c)
             ((C.sets conds.old).has self.old.refusals.live.0 c)) }
+        ensures rest { OnOk result ((c : List ℕ) → IsConfig (C.sets conds.old).arities c → (C.sets conds.new).has self.new.refusals.waiting.0 c ≡ false
+            → seen_at (stores (C.sets conds.new) names.new self.new.sets) self.new.rest c ≡ []) }
         ensures out { OnOk result (PutsOut (stores (C.sets conds.old) names.old self.old.sets)
             (stores (C.sets conds.new) names.new self.new.sets) self.old.refusals.live.0 self.old.top.out self.new.top.out) }
         ensures unchanged { OnOk result (LooksUpNone (C.sets conds.old) names.old (macros_at (C.sets conds.old) names.old table.now) self.old
@@ -48,7 +53,8 @@ impl Expansion {
             → (C.sets conds.old).has self.old.refusals.live.0 c ≡ true
             → DefineAlike (provenance_of files.now) (macros_at (C.sets conds.old) names.old table.now c) (macros_at (C.sets conds.old) names.old table.now d)
             (seen_at (stores (C.sets conds.old) names.old self.old.sets) self.old.top.work c)
-            → IsAlikeExpansion (C.sets conds.old) c d no_others self.old → IsAlikeExpansion (C.sets conds.new) c d no_others self.new) }
+            → IsAlikeExpansion (C.sets conds.old) c d no_others self.old
+            → IsAlikeExpansion (C.sets conds.new) c d no_others self.new × AreAlike (C.sets conds.new) c d self.new.rest) }
 
         // at every outcome
         ensures grows { Grows (stores (C.sets conds.old) names.old self.old.sets) (stores (C.sets conds.new) names.new self.new.sets) }
@@ -156,7 +162,11 @@ impl Expansion {
         if !conds.is_never(cond) {
             return Ok(false);
         }
-        self.top.work.drop_alike();
+        if is_whole(&self.below) {
+            self.drop_first(conds)?;
+        } else {
+            self.top.work.drop_alike();
+        }
         Ok(true)
     }
 
@@ -200,7 +210,7 @@ impl Expansion {
         if !conds.is_never(cond) {
             return Ok(false);
         }
-        self.drop_next();
+        self.drop_next(conds)?;
         Ok(true)
     }
 
@@ -218,21 +228,26 @@ impl Expansion {
     }
 
     /// Drops what the next turn would take.
-    fn drop_next(&mut self)
-        requires { IsSome (next_of self.old) }
-        ensures dropped { IsDropped self.old self.new }
-        ensures refusals { self.new.refusals ≡ self.old.refusals }
+    fn drop_next<C: Conditions>(&mut self, conds: &mut C) -> Result<(), OutOfMemory>
+        requires some { IsSome (next_of self.old) }
+        requires waiting { IsCond (C.sets conds.old) self.old.refusals.waiting.0 }
+        requires work { All (λ item. IsCond (C.sets conds.old) item.0.0) self.old.top.work }
+        ensures dropped { OnOk result (IsDropped (C.sets conds.old) (C.sets conds.new) self.old self.new) }
+        ensures refusals { OnOk result (self.new.refusals ≡ self.old.refusals) }
+
+        // at every outcome
+        ensures keeps { Keeps (C.sets conds.old) (C.sets conds.new) }
         ensures sets { self.new.sets ≡ self.old.sets }
     {
         if self.top.calls.pop().is_some() {
-            return;
+            return Ok(());
         }
         if self.top.work.first().is_some() {
-            self.top.work.drop_first();
-            return;
+            return self.drop_first(conds);
         }
         if let Some(enclosing) = self.below.pop() {
             self.top = enclosing.frame;
         }
+        Ok(())
     }
 }

@@ -22,8 +22,8 @@ ghost use Rattle.sc_subst.specs.Stops.{OnFault};
 ghost use Rattle.sc_table.specs.Table.{IsTable, macros_at};
 
 use crate::expansion::Expansion;
+use crate::waiting::push_token;
 use sc_base::{Cond, Files, Kind, Names, OutOfMemory, Stop};
-use sc_guarded::Guarded;
 use sc_macro::Definition;
 use sc_presence::Conditions;
 use sc_subst::{Hidden, Hide, HideSets, SubstStop, items_at, substitute};
@@ -156,17 +156,20 @@ impl Expansion {
     /// The name is no longer first: it is put out where it stays, and what replaces it is first.
     fn put_out<C: Conditions>(
         &mut self,
-        conds: &C,
+        conds: &mut C,
         token: Hidden,
         taken: &Taken,
     ) -> Result<(), OutOfMemory>
-        requires stays { IsCond (C.sets conds.now) taken.now.stays.0 }
-        ensures put { OnOk result (HasPutOut (C.sets conds.now) taken.now token self.old self.new) }
+        requires waiting { IsCond (C.sets conds.old) self.old.refusals.waiting.0 }
+        requires work { All (λ item. IsCond (C.sets conds.old) item.0.0) self.old.top.work }
+        requires stays { IsCond (C.sets conds.old) taken.now.stays.0 }
+        ensures put { OnOk result (HasPutOut (C.sets conds.old) (C.sets conds.new) taken.now token self.old self.new) }
 
         // at every outcome
+        ensures keeps { Keeps (C.sets conds.old) (C.sets conds.new) }
         ensures sets { self.new.sets ≡ self.old.sets }
     {
-        self.top.work.drop_first();
+        self.drop_first(conds)?;
         push_token(conds, &mut self.top.out, taken.stays, token)?;
         self.top.work.put_first(&taken.made)?;
         Ok(())
@@ -330,23 +333,6 @@ impl Expansion {
             Err(SubstStop::OutOfMemory) => Err(Stop::OutOfMemory),
         }
     }
-}
-
-/// Adds a token, unless no configuration has it.
-fn push_token<C: Conditions>(
-    conds: &C,
-    list: &mut Guarded<Hidden>,
-    cond: Cond,
-    token: Hidden,
-) -> Result<(), OutOfMemory>
-    requires { IsCond (C.sets conds.now) cond.0 }
-    ensures { OnOk result (IsPushed (C.sets conds.now) cond token list.old list.new) }
-{
-    if conds.is_never(cond) {
-        return Ok(());
-    }
-    list.push(cond, token)?;
-    Ok(())
 }
 
 /// The list that replaces an object-like macro's name.

@@ -46,6 +46,7 @@ impl Expansion {
 
         // at every outcome
         ensures below { self.new.below ≡ self.old.below }
+        ensures rest { self.new.rest ≡ self.old.rest }
         ensures refusals { self.new.refusals ≡ self.old.refusals }
         ensures sets { self.new.sets ≡ self.old.sets }
     {

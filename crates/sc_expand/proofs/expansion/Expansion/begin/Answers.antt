@@ -5,7 +5,7 @@ use Rattle.c11_macros.specs.Macros.{Form}
 use Rattle.c11_macros.specs.Substitution.{neither, parts, slots}
 use Rattle.sc_expand.proofs.AlikeGathering.{begun-alike}
 use Rattle.sc_expand.proofs.BeginningLemmas.{in_none, in_some, is_gathered, is_template}
-use Rattle.sc_expand.proofs.GatherSteps.{pushed-at, pushed-held, pushed-other, refused-alike, refused-failures, refused-held, refused-live, refused-other}
+use Rattle.sc_expand.proofs.GatherSteps.{pushed-at, pushed-held, pushed-other, refused-alike, refused-ends, refused-held, refused-live, refused-other}
 use Rattle.sc_expand.proofs.SeenLemmas.{IsHeldExpansion-Grows}
 use Rattle.sc_expand.proofs.TakingSteps.{on-ok}
 use Rattle.sc_expand.specs.Alike.{IsAlikeCall}
@@ -35,7 +35,7 @@ returns-in_ok-push-in-Some-clause-begun g c =
       held = λ files held head raw.
           let later = IsHeldExpansion-Grows grows e held in
           let told = in_some _ c.in_ok-made.made call c.in-Some.is c.in_ok-made.ensures.held in
-          record { refusals = later.refusals; top = pushed-held grows e held call c.push.new.self pushed (told s files c.requires.cond_own head raw); below = later.below };
+          record { refusals = later.refusals; rest = later.rest; top = pushed-held grows e held call c.push.new.self pushed (told s files c.requires.cond_own head raw); below = later.below };
       begins = λ x provenance d listed has formed list.
           let items = map (seen_item n) c.args.items.now in
           let raw = c.args.raw.now in
@@ -45,6 +45,7 @@ returns-in_ok-push-in-Some-clause-begun g c =
       others = λ x listed lacks. pushed-other grows e held call c.push.new.self pushed x listed (ap (λ a. s.has a.0 x) begun.under ∙ lacks);
       work = refl;
       below = refl;
+      rest = refl;
       out = refl;
       alike = λ x y span p q same alike.
           let P : Call → Type 0 = IsAlikeCall s x y in
@@ -66,10 +67,11 @@ returns-in-None-clause-begun g c = on-ok c.refuse.result
           let t = seen_hidden n h c.args.head in
           let none = in_none c.in_ok-made.made c.in-None.is c.in_ok-made.ensures.none in
           refused (failure_at BadStringize t) ((λ i. slots t (seen_arguments n h c.args.raw.now) (parts (formed i) neither (list i))) ∙ none t refl)
-          (refused-live grows e held refuses x listed has) (refused-failures grows e held refuses x listed has);
+          (refused-live grows e held refuses x listed has) (refused-ends grows e held refuses x listed has);
       others = λ x listed lacks. refused-other grows e held refuses x listed lacks;
       work = refl;
       below = refl;
+      rest = refl;
       out = refl;
       alike = λ x y span p q same alike. refused-alike grows e held refuses x y span p q same alike;
     })

@@ -1,10 +1,10 @@
 use Rattle.std.proofs.Common.{true≢false, sym, subst, ◌∙◌}
 use Rattle.sc_base.proofs.Growth.{Extends-refl}
-use Rattle.sc_expand.proofs.Rests.{never-next, next-own, ready-some, rested-dropped, rested-Grows, rested-then}
-use Rattle.sc_expand.proofs.SeenLemmas.{Grows-refl}
+use Rattle.sc_expand.proofs.Rests.{never-next, next-own, ready-some, dropped-later, never-Keeps, rested-dropped, rested-Grows, rested-then}
+use Rattle.sc_expand.proofs.SeenLemmas.{Grows-refl, IsHeldExpansion-Grows}
 use Rattle.sc_expand.specs.Running.{IsRested}
 use Rattle.sc_expand.specs.Seen.{Grows, stores}
-use Rattle.sc_model.proofs.SetLemmas.{Denotes-self}
+use Rattle.sc_model.proofs.SetLemmas.{Denotes-self, Denotes-Keeps, Keeps-trans}
 use Rattle.sc_expand.proofs.expansion.Expansion.drop_one.Goals as goal
 
 pub returns-in-None-clause-rested : goal.returns-in-None-clause-rested
@@ -32,15 +32,22 @@ returns-then-not-is_never-clause-ready g c =
 pub returns-clause-rested : goal.returns-clause-rested
 returns-clause-rested g c = λ names.
     let was = g.C.Conditions.sets c.args.conds.now in
-    let now = g.C.Conditions.sets c.apply_and.new.self in
+    let first = g.C.Conditions.sets c.apply_and.new.self in
+    let now = g.C.Conditions.sets c.drop_next.new.conds in
     let e = c.args.self.now in
     let old = stores was names e.sets in
-    let mid = stores now names e.sets in
+    let mid = stores first names e.sets in
+    let new = stores now names e.sets in
     let grows : Grows old mid = record { sets = c.apply_and.ensures.keeps; names = Extends-refl names; hides = Extends-refl e.sets } in
+    let later : Grows mid new = record { sets = c.drop_next.ensures.keeps; names = Extends-refl names; hides = Extends-refl e.sets } in
     let held = c.requires.held.1.1 in
+    let wide : Grows (stores was c.requires.held.0 e.sets) (stores first c.requires.held.0 e.sets) = record { sets = c.apply_and.ensures.keeps; names = Extends-refl c.requires.held.0; hides = Extends-refl e.sets } in
+    let held_mid = IsHeldExpansion-Grows wide e held in
     let is = sym c.next_cond.ensures ∙ c.in-Some.is in
     let own = next-own e held c.in-Some.cond is in
     let both = c.in_ok-cond.ensures.meaning (was.has c.in-Some.cond.0) (was.has e.refusals.live.0) (Denotes-self was c.in-Some.cond.0 own) (Denotes-self was e.refusals.live.0 held.refusals.live) in
-    let never = never-next c.apply_and.ensures.keeps e c.in-Some.cond c.in_ok-cond.cond is own held.refusals.live both (c.is_never.ensures.0 c.if-not-is_never.false) in
+    let never = never-next (Keeps-trans c.apply_and.ensures.keeps c.drop_next.ensures.keeps) e c.in-Some.cond c.in_ok-cond.cond is own held.refusals.live (Denotes-Keeps c.drop_next.ensures.keeps both)
+    (never-Keeps c.drop_next.ensures.keeps both.own (c.is_never.ensures.0 c.if-not-is_never.false)) in
     subst (λ h. IsRested old (stores now names h) e c.drop_next.new.self) (sym c.drop_next.ensures.sets)
-    (rested-then (rested-Grows grows e) (rested-dropped mid e c.drop_next.new.self c.drop_next.ensures.refusals c.drop_next.ensures.sets never c.drop_next.ensures.dropped))
+    (rested-then (rested-then (rested-Grows grows e) (rested-Grows later e))
+    (rested-dropped new e c.drop_next.new.self c.in_ok-drop_next.ensures.refusals c.drop_next.ensures.sets never (dropped-later new c.drop_next.ensures.keeps held_mid c.in_ok-drop_next.ensures.dropped)))

@@ -1,15 +1,15 @@
-use Rattle.std.proofs.Common.{◌<◌, length, rules}
+use Rattle.std.proofs.Common.{◌<◌, ◌∙◌, ap, length, rules, subst}
 use Rattle.std.proofs.lemmas.List.Elements.{All-map}
 use Rattle.std.proofs.lemmas.Result.{err_from_is_err_and}
 use Rattle.c11_macros.specs.Hidden.{failure_at}
-use Rattle.sc_base.proofs.Growth.{Extends-refl}
 use Rattle.sc_base.specs.declared.id.Cond.{Cond}
 use Rattle.sc_base.specs.declared.token.Token.{Token}
 use Rattle.sc_expand.proofs.GatherEnds.{stops-at}
 use Rattle.sc_expand.proofs.GatherParts.{are-branches, is-gathered, one-at-most, parted-by, parted-held}
 use Rattle.sc_expand.proofs.GatherTaking.{head-held}
-use Rattle.sc_expand.proofs.SeenLemmas.{IsHeldExpansion-Grows}
-use Rattle.sc_expand.specs.Seen.{Grows, IsHeldToken, stores}
+use Rattle.sc_expand.specs.Machine.{is_whole}
+use Rattle.sc_expand.specs.Refusing.{LeavesOpen}
+use Rattle.sc_expand.specs.Seen.{IsHeldToken, stores}
 use Rattle.sc_model.proofs.SetLemmas.{Keeps-trans}
 use Rattle.sc_model.specs.declared.cause.Cause.TheVariants.{UnterminatedCall}
 use Rattle.sc_model.specs.Sets.{IsCond}
@@ -47,8 +47,8 @@ returns-in_err-branches-clause-stops g c =
 pub returns-in_err-branches-clause-keeps : goal.returns-in_err-branches-clause-keeps
 returns-in_err-branches-clause-keeps g c = Keeps-trans c.first_calls.ensures.keeps c.closed_calls.ensures.keeps
 
-pub returns-in_err-refuse-clause-keeps : goal.returns-in_err-refuse-clause-keeps
-returns-in_err-refuse-clause-keeps g c = Keeps-trans (Keeps-trans c.first_calls.ensures.keeps c.closed_calls.ensures.keeps) c.refuse.ensures.keeps
+pub returns-in_err-uncalled-clause-keeps : goal.returns-in_err-uncalled-clause-keeps
+returns-in_err-uncalled-clause-keeps g c = Keeps-trans (Keeps-trans c.first_calls.ensures.keeps c.closed_calls.ensures.keeps) c.leave_open.ensures.keeps
 
 pub items_at-requires-clause-file : goal.items_at-requires-clause-file
 items_at-requires-clause-file g c =
@@ -57,21 +57,21 @@ items_at-requires-clause-file g c =
     head.file
 
 pub returns-in_err-items-clause-keeps : goal.returns-in_err-items-clause-keeps
-returns-in_err-items-clause-keeps g c = Keeps-trans (Keeps-trans c.first_calls.ensures.keeps c.closed_calls.ensures.keeps) c.refuse.ensures.keeps
+returns-in_err-items-clause-keeps g c = Keeps-trans (Keeps-trans c.first_calls.ensures.keeps c.closed_calls.ensures.keeps) c.leave_open.ensures.keeps
 
 pub gather_calls-requires : goal.gather_calls-requires
 gather_calls-requires g c =
     let s0 = g.C.Conditions.sets c.args.conds.now in
     let s1 = g.C.Conditions.sets c.first_calls.new.conds in
     let s2 = g.C.Conditions.sets c.closed_calls.new.conds in
-    let s3 = g.C.Conditions.sets c.refuse.new.conds in
+    let s3 = g.C.Conditions.sets c.leave_open.new.conds in
     let n = c.args.names.now in
     let e0 = c.args.self.now in
     let files = length c.args.files.now in
     let ends = c.in_ok-found.found.ends in
-    let parts = parted-by s0 s1 s2 s3 n c.items_at.new.names files e0 c.refuse.new.self c.args.cond.0 ends.closed.0 ends.still.0 c.in_ok-branches.branches.items c.deref.result.now
-    (failure_at UnterminatedCall (seen_hidden n e0.sets c.args.head)) c.deref.ensures.value c.first_calls.ensures.keeps c.closed_calls.ensures.keeps c.refuse.ensures.keeps c.items_at.ensures.names c.requires.held
-    c.in_ok-found.ensures.closed c.in_ok-found.ensures.still c.in_ok-branches.ensures.lists c.in_ok-branches.ensures.branches c.in_ok-refuse.ensures.refuses
+    let parts = parted-by s0 s1 s2 s3 n c.items_at.new.names files e0 c.leave_open.new.self c.args.cond.0 ends.closed.0 ends.still.0 ends.bare.0 ends.alone.0 c.in_ok-uncalled.uncalled.0 c.in_ok-branches.branches.items c.deref-2.result.now
+    (failure_at UnterminatedCall (seen_hidden n e0.sets c.args.head)) c.deref-2.ensures.value c.first_calls.ensures.keeps c.closed_calls.ensures.keeps c.leave_open.ensures.keeps c.items_at.ensures.names c.requires.held
+    c.in_ok-found.ensures.closed c.in_ok-found.ensures.still c.in_ok-found.ensures.bare c.in_ok-found.ensures.alone c.in_ok-branches.ensures.lists c.in_ok-branches.ensures.branches (subst (λ b. LeavesOpen s2 s3 b ends.still.0 ends.bare.0 ends.alone.0 c.in_ok-uncalled.uncalled.0 (failure_at UnterminatedCall (seen_hidden n e0.sets c.args.head)) e0.refusals c.leave_open.new.self) (c.is_whole-whole.ensures ∙ ap is_whole c.deref.ensures.value) c.in_ok-uncalled.ensures.leaves)
     c.in_ok-branches.ensures.agree in
     let head = head-held (IsHeldToken (stores s0 n e0.sets) files) e0.top.work c.args.head c.requires.held.top.work.held c.requires.head in
     let held3 = parted-held parts head.file in
@@ -86,48 +86,36 @@ gather_calls-requires g c =
     }
 
 pub returns-in_err-gather_calls-clause-keeps : goal.returns-in_err-gather_calls-clause-keeps
-returns-in_err-gather_calls-clause-keeps g c = Keeps-trans (Keeps-trans (Keeps-trans c.first_calls.ensures.keeps c.closed_calls.ensures.keeps) c.refuse.ensures.keeps) c.gather_calls.ensures.keeps
-
-pub apply_or-requires-clause-a_own : goal.apply_or-requires-clause-a_own
-apply_or-requires-clause-a_own g c = (Keeps-trans (Keeps-trans c.closed_calls.ensures.keeps c.refuse.ensures.keeps) c.gather_calls.ensures.keeps).own _ c.in_ok-found.ensures.bare.own
-
-pub apply_or-requires-clause-b_own : goal.apply_or-requires-clause-b_own
-apply_or-requires-clause-b_own g c = (Keeps-trans (Keeps-trans c.closed_calls.ensures.keeps c.refuse.ensures.keeps) c.gather_calls.ensures.keeps).own _ c.in_ok-found.ensures.alone.own
-
-pub returns-in_err-uncalled-clause-keeps : goal.returns-in_err-uncalled-clause-keeps
-returns-in_err-uncalled-clause-keeps g c = Keeps-trans (Keeps-trans (Keeps-trans (Keeps-trans c.first_calls.ensures.keeps c.closed_calls.ensures.keeps) c.refuse.ensures.keeps) c.gather_calls.ensures.keeps) c.apply_or.ensures.keeps
+returns-in_err-gather_calls-clause-keeps g c = Keeps-trans (Keeps-trans (Keeps-trans c.first_calls.ensures.keeps c.closed_calls.ensures.keeps) c.leave_open.ensures.keeps) c.gather_calls.ensures.keeps
 
 pub returns : goal.returns
 returns g c =
     let s0 = g.C.Conditions.sets c.args.conds.now in
     let s1 = g.C.Conditions.sets c.first_calls.new.conds in
     let s2 = g.C.Conditions.sets c.closed_calls.new.conds in
-    let s3 = g.C.Conditions.sets c.refuse.new.conds in
+    let s3 = g.C.Conditions.sets c.leave_open.new.conds in
     let n = c.args.names.now in
     let e0 = c.args.self.now in
     let files = length c.args.files.now in
     let ends = c.in_ok-found.found.ends in
-    let parts = parted-by s0 s1 s2 s3 n c.items_at.new.names files e0 c.refuse.new.self c.args.cond.0 ends.closed.0 ends.still.0 c.in_ok-branches.branches.items c.deref.result.now
-    (failure_at UnterminatedCall (seen_hidden n e0.sets c.args.head)) c.deref.ensures.value c.first_calls.ensures.keeps c.closed_calls.ensures.keeps c.refuse.ensures.keeps c.items_at.ensures.names c.requires.held
-    c.in_ok-found.ensures.closed c.in_ok-found.ensures.still c.in_ok-branches.ensures.lists c.in_ok-branches.ensures.branches c.in_ok-refuse.ensures.refuses
+    let parts = parted-by s0 s1 s2 s3 n c.items_at.new.names files e0 c.leave_open.new.self c.args.cond.0 ends.closed.0 ends.still.0 ends.bare.0 ends.alone.0 c.in_ok-uncalled.uncalled.0 c.in_ok-branches.branches.items c.deref-2.result.now
+    (failure_at UnterminatedCall (seen_hidden n e0.sets c.args.head)) c.deref-2.ensures.value c.first_calls.ensures.keeps c.closed_calls.ensures.keeps c.leave_open.ensures.keeps c.items_at.ensures.names c.requires.held
+    c.in_ok-found.ensures.closed c.in_ok-found.ensures.still c.in_ok-found.ensures.bare c.in_ok-found.ensures.alone c.in_ok-branches.ensures.lists c.in_ok-branches.ensures.branches (subst (λ b. LeavesOpen s2 s3 b ends.still.0 ends.bare.0 ends.alone.0 c.in_ok-uncalled.uncalled.0 (failure_at UnterminatedCall (seen_hidden n e0.sets c.args.head)) e0.refusals c.leave_open.new.self) (c.is_whole-whole.ensures ∙ ap is_whole c.deref.ensures.value) c.in_ok-uncalled.ensures.leaves)
     c.in_ok-branches.ensures.agree in
     let head = head-held (IsHeldToken (stores s0 n e0.sets) files) e0.top.work c.args.head c.requires.held.top.work.held c.requires.head in
     let held3 = parted-held parts head.file in
     let s4 = g.C.Conditions.sets c.gather_calls.new.conds in
-    let s5 = g.C.Conditions.sets c.apply_or.new.self in
     let n2 = c.gather_calls.new.names in
     let e4 = c.gather_calls.new.self in
     let held4 = c.in_ok-gather_calls.ensures.gathered.held files held3 in
     let lists = c.in_ok-gather_calls.ensures.gathered.lists in
-    let later : Grows (stores s4 n2 e4.sets) (stores s5 n2 e4.sets) = record { sets = c.apply_or.ensures.keeps; names = Extends-refl n2; hides = Extends-refl e4.sets } in
     record {
-      held = IsHeldExpansion-Grows later e4 held4;
-      lists = record { below = lists.below; out = lists.out; tokens = lists.tokens };
-      gathered = is-gathered c.args.files.now c.args.head parts head.held c.args.definition.now c.deref-2.result.now _ c.requires.definition c.deref-2.ensures.value c.in_ok-items.ensures.own c.in_ok-items.ensures.is
-          c.requires.function c.requires.stands c.requires.calls s4 s5 n2 e4 ends.bare.0 ends.alone.0 c.in_ok-uncalled.uncalled.0 c.gather_calls.ensures.keeps c.apply_or.ensures.keeps
-          held4 c.in_ok-found.ensures.bare c.in_ok-found.ensures.alone c.in_ok-uncalled.ensures.meaning c.in_ok-gather_calls.ensures.gathered;
+      held = held4;
+      lists = record { below = lists.below; rest = lists.rest; out = lists.out; tokens = lists.tokens };
+      gathered = is-gathered c.args.files.now c.args.head parts head.held c.args.definition.now c.deref-3.result.now _ c.requires.definition c.deref-3.ensures.value c.in_ok-items.ensures.own c.in_ok-items.ensures.is
+          c.requires.function c.requires.stands c.requires.calls s4 n2 e4 c.gather_calls.ensures.keeps held4 c.in_ok-gather_calls.ensures.gathered;
       stops = tt;
-      keeps = Keeps-trans (Keeps-trans (Keeps-trans (Keeps-trans c.first_calls.ensures.keeps c.closed_calls.ensures.keeps) c.refuse.ensures.keeps) c.gather_calls.ensures.keeps) c.apply_or.ensures.keeps;
+      keeps = Keeps-trans (Keeps-trans (Keeps-trans c.first_calls.ensures.keeps c.closed_calls.ensures.keeps) c.leave_open.ensures.keeps) c.gather_calls.ensures.keeps;
       names = search rules;
       sets = search rules;
     }

@@ -7,7 +7,7 @@ use Rattle.sc_base.proofs.Growth.{Extends-refl}
 use Rattle.sc_base.specs.declared.id.Name.{Name}
 use Rattle.sc_expand.proofs.BeginningLemmas.{in_some}
 use Rattle.sc_expand.proofs.GatherFiles.{arguments-held}
-use Rattle.sc_expand.proofs.GatherSteps.{refused-alike, refused-failures, refused-held, refused-live, refused-other}
+use Rattle.sc_expand.proofs.GatherSteps.{refused-alike, refused-ends, refused-held, refused-live, refused-other}
 use Rattle.sc_expand.proofs.GatherTaking.{begun-gathered, function-form, head-held, left-grows, left-held, misfit-gathered, seen_fit}
 use Rattle.sc_expand.proofs.SeenLemmas.{token-Grows}
 use Rattle.sc_expand.proofs.TakingSteps.{on-ok}
@@ -92,7 +92,7 @@ returns-in-Some-clause-gathered g c = on-ok c.begin.result
     let hidden = in_some _ c.in_ok-fit.fit c.in-Some.raw c.in-Some.is (c.in_ok-fit.ensures.own e0.sets (λ k d h. (tokens files held k d h).held)) in
     let grows : Grows (stores s1 n e1.sets) (stores s2 n2 e2.sets) = record { sets = c.begin.ensures.keeps; names = c.begin.ensures.names; hides = c.begin.ensures.sets } in
     let began = subst (HasBegun (stores s1 n e1.sets) (stores s2 n2 e2.sets) e1 e2 c.args.branch.now.cond.0 form c.args.items.now c.args.head close) c.deref.ensures.value begun in
-    begun-gathered left files held form c.args.items.now c.args.head c.requires.branch c.requires.function (Some raw) fits n2 s2 e2 grows (record { work = began.work; below = began.below; out = began.out })
+    begun-gathered left files held form c.args.items.now c.args.head c.requires.branch c.requires.function (Some raw) fits n2 s2 e2 grows (record { work = began.work; below = began.below; out = began.out; rest = began.rest })
     (λ k held.
     let own = arguments-held (stores s0 n e0.sets) k between raw f.parameters f.variadic (sym (fits f.parameters f.variadic f.is)) (tokens k held) hidden in
     let grew = left-grows left k held in
@@ -122,9 +122,9 @@ returns-clause-gathered g c = on-ok c.refuse.result
     λ parameters variadic is. sym (ap (option_map (λ made. seen_arguments n e0.sets made.items)) c.in-None.is) ∙ c.in_ok-fit.ensures.is e0.sets parameters variadic is in
     let grows : Grows (stores (g.C.Conditions.sets c.take_call.new.conds) n e1.sets) (stores s2 n e1.sets) = record { sets = c.refuse.ensures.keeps; names = Extends-refl n; hides = Extends-refl e1.sets } in
     let mid = left-held left files held in
-    misfit-gathered left files held c.args.form.now c.args.items.now c.args.head c.requires.branch c.requires.function None fits n s2 (record e1 { refusals = c.refuse.new.self }) grows (record { work = refl; below = refl; out = refl })
+    misfit-gathered left files held c.args.form.now c.args.items.now c.args.head c.requires.branch c.requires.function None fits n s2 (record e1 { refusals = c.refuse.new.self }) grows (record { work = refl; below = refl; out = refl; rest = refl })
     (λ k held. refused-held grows e1 (left-held left k held) refuses (head-held (IsHeldToken (stores s0 n e0.sets) k) e0.top.work c.args.head held.top.work.held c.requires.head).file)
-    (refused-other grows e1 mid refuses) (refused-alike grows e1 mid refuses) refl (refused-live grows e1 mid refuses) (refused-failures grows e1 mid refuses))
+    (refused-other grows e1 mid refuses) (refused-alike grows e1 mid refuses) refl (refused-live grows e1 mid refuses) (refused-ends grows e1 mid refuses))
     c.refuse.ensures.refuses
 
 pub returns-clause-keeps : goal.returns-clause-keeps

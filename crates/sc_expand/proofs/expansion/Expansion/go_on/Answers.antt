@@ -3,12 +3,13 @@ use Rattle.std.proofs.Math.Bool.{and-true}
 use Rattle.std.proofs.lemmas.Bool.{and_parts}
 use Rattle.std.proofs.lemmas.List.Elements.{All-pop}
 use Rattle.sc_base.proofs.Growth.{Extends-refl}
+use Rattle.sc_expand.proofs.WaitingLemmas.{left-Grows, same-left}
 use Rattle.sc_expand.proofs.AlikeFilling.{alike-enter, alike-narrowed}
 use Rattle.sc_expand.proofs.AlikeLemmas.{IsAlikeExpansion-Keeps}
 use Rattle.sc_expand.proofs.BottomLemmas.{bottom-held, bottom-less, more-Keeps, more-none}
 use Rattle.sc_expand.proofs.MachineGoesOn.{entered-held, entered-progress, later-held, replaced-progress}
 use Rattle.sc_expand.proofs.Rests.{put-same}
-use Rattle.sc_expand.proofs.SeenLemmas.{IsHeldCall-Grows, IsHeldExpansion-Grows, calls_at-Grows, failures_at-Grows, view_at-Grows, waiting_at-Grows}
+use Rattle.sc_expand.proofs.SeenLemmas.{IsHeldCall-Grows, IsHeldExpansion-Grows, calls_at-Grows, ends_at-Grows, view_at-Grows, waiting_at-Grows}
 use Rattle.sc_expand.proofs.TakingSteps.{on-ok}
 use Rattle.sc_expand.specs.declared.call.Wanted.{Wanted}
 use Rattle.sc_expand.specs.Machine.{Progress, at, at_call, with_call}
@@ -44,6 +45,8 @@ returns-in-Some-clause-gone_on g c = on-ok c.enter.result
           entered-held mid files e after later w (IsHeldExpansion-Grows grows e held) (later-held call later (Some w) wide c.in_ok-call.ensures.own popped refl refl refl refl) tokens c.enter.ensures.refusals entered;
       progress = λ table macros config listed.
           entered-progress (provenance_of table) macros grows c.requires.held.0 config listed e after call later w c.pop.new.self.items held held_call (both.at config (IsConfig-Keeps keeps listed)) popped refl c.enter.ensures.refusals entered;
+      waits = entered.rest;
+      left = λ files held held_call. same-left {old = old} {new = mid} grows e after held entered.rest (ap (λ f. f.work) whole) (ap (λ f. f.out) whole);
       out = ap (λ f. f.out) whole;
       alike = λ x y others p q call_alike alike.
           let narrowed = alike-narrowed {old = old} keeps p q e.refusals.live call later held_call both refl alike.refusals.live call_alike in
@@ -119,11 +122,13 @@ returns-in-None-clause-gone_on g c = on-ok c.replace.result
           let top = view_at-Grows grows config listed e.top held.top in
           let progress = replaced-progress (provenance_of table) macros whole c.requires.held.0 config listed e.below.items held.below (at_call old e call config) (at_call mid e later config) (at new after config)
           (was.has call.cond.0 config) (mid.sets.has later.cond.0 config) (replaced.turns table macros config there)
-          (keeps.at e.refusals.live.0 config held.refusals.live listed) (failures_at-Grows grows config listed e.refusals.faults.items held.refusals.own)
+          (keeps.at e.refusals.live.0 config held.refusals.live listed) refl (ends_at-Grows grows config listed e.refusals held.refusals) refl
           (λ live.
           let has : mid.sets.has later.cond.0 config ≡ was.has call.cond.0 config = narrowed ∙ (ap (λ l. was.has call.cond.0 config && l) live ∙ and-true (was.has call.cond.0 config)) in
           (λ i. if has i then with_call (top i) (call_is i) else top i, has)) in
           subst (λ l. Progress (provenance_of table) macros old new config e.below.items l (at_call old e call config) (at new after config) (was.has call.cond.0 config)) (sym below) progress;
+      waits = replaced.waits;
+      left = λ files held held_call. left-Grows grows held (replaced.left files (IsHeldExpansion-Grows grows e held) (later-held call later None (IsHeldCall-Grows grows call held_call) c.in_ok-call.ensures.own popped refl refl refl refl));
       out = ap (λ bs. put_by bs after.top) below ∙ put-same e.below.items after.top e.top replaced.out;
       alike = λ x y others p q call_alike alike.
           let narrowed = alike-narrowed {old = old} keeps p q e.refusals.live call later held_call both refl alike.refusals.live call_alike in

@@ -1,6 +1,6 @@
 use Rattle.std.proofs.Common.{◌∙◌, ◌++◌, refl, map, ap, sym, subst, append-nil, length}
 use Rattle.c11_macros.specs.Hidden.{failure_at}
-use Rattle.sc_expand.proofs.GatherSteps.{refused-alike, refused-failures, refused-held, refused-live, refused-other}
+use Rattle.sc_expand.proofs.GatherSteps.{refused-alike, refused-ends, refused-held, refused-live, refused-other}
 use Rattle.sc_expand.proofs.SeenLemmas.{AreHeld-Grows, AreHeld-append, IsHeldExpansion-Grows, at-Grows, seen_at-Grows, seen_at-append}
 use Rattle.sc_expand.proofs.TakingLemmas.{AreHeld-under, file-placed, seen-under}
 use Rattle.sc_expand.specs.Seen.{AreHeld, Grows, seen_at, stores}
@@ -24,10 +24,11 @@ returns-in_ok-put_under-in-Ok g c =
     let made = c.in_ok-put_under-in-Ok.ensures ∙ ap (λ ts. before ++ map (λ t. (c.args.cond, t)) ts) c.deref.ensures.value in
     record {
       put = record {
-        held = record { refusals = held.refusals; top = held.top; below = held.below };
+        held = record { refusals = held.refusals; rest = held.rest; top = held.top; below = held.below };
         made = subst (AreHeld st files) (sym made) (AreHeld-append before (map (λ t. (c.args.cond, t)) list) (AreHeld-Grows grows before c.requires.made)
             (AreHeld-under st files c.args.cond list c.requires.cond_own c.in-Ok.ensures.own (file-placed c.args.head.token.place files list c.requires.head.file c.in-Ok.ensures.placed)));
         below = refl;
+        rest = refl;
         top = refl;
         replaces = λ x listed has.
             let front = seen_at-Grows grows x listed before c.requires.made in
@@ -65,10 +66,11 @@ returns-in_ok-refuse-in-Err-Fault g c =
         held = refused-held grows e held refuses c.requires.head.file;
         made = AreHeld-Grows grows before c.requires.made;
         below = refl;
+        rest = refl;
         top = refl;
         replaces = λ x listed has.
             refused (failure_at c.in-Err-Fault.cause (seen_hidden c.args.names.now e.sets c.args.head)) (rw c.in-Err-Fault.field-0-is at c.in-Err-Fault.ensures.err)
-            (refused-live grows e held refuses x listed has) (refused-failures grows e held refuses x listed has);
+            (refused-live grows e held refuses x listed has) (refused-ends grows e held refuses x listed has);
         others = λ x listed has. (refused-other grows e held refuses x listed has, seen_at-Grows grows x listed before c.requires.made);
         alike = λ x y span p q same was alike. (refused-alike grows e held refuses x y span p q same alike, AreAlike-Keeps keeps p q before c.requires.made.own was);
       };

@@ -1,9 +1,10 @@
 use Rattle.std.proofs.Common.{◌≡◌, ◌-◌, ◌++◌, All, Ok, arith, length, length-append, map, take, refl, sym, ap, subst, ◌∙◌}
 use Rattle.sc_base.proofs.Growth.{Extends-refl}
 use Rattle.sc_base.specs.declared.id.Cond.{Cond}
+use Rattle.sc_expand.proofs.WaitingLemmas.{put-left, same-left, unless}
 use Rattle.sc_expand.proofs.AlikeLemmas.{All-but-put, IsAlikeExpansion-Keeps}
 use Rattle.sc_expand.proofs.BottomLemmas.{bottom-held, bottom-long, more-bottom, more-none}
-use Rattle.sc_expand.proofs.GatherSteps.{refused-held}
+use Rattle.sc_expand.proofs.GatherSteps.{refused-ends-if, refused-held}
 use Rattle.sc_expand.proofs.MachineReplaces.{refused-turn, replaced-turn}
 use Rattle.sc_expand.proofs.SeenLemmas.{AreHeld-append, IsHeldExpansion-Grows}
 use Rattle.sc_expand.proofs.TakingSteps.{on-ok}
@@ -31,9 +32,13 @@ returns-in-Parts-clause-replaced g c =
           let parts : All (IsHeldPartIn old files) c.deref.result.now = subst (All (IsHeldPartIn old files)) (sym c.deref.ensures.value) (subst (IsHeldTemplate old files) c.in-Parts.is held_call.template) in
           record {
             refusals = later.refusals;
+            rest = later.rest;
             top = record { work = subst (AreHeld new files) (sym work) (AreHeld-append made e.top.work (filled.held files parts held_call) later.top.work); out = later.top.out; calls = later.top.calls };
             below = later.below;
           };
+      waits = refl;
+      left = λ files held held_call. put-left {old = old} {new = new} grows e (record e { sets = c.fill.new.sets; top = record e.top { work = c.put_first.new.self } }) held made refl refl refl work (λ config listed apart waits.
+          filled.none config listed (unless (g.C.Conditions.sets c.args.conds.now) c.args.call.cond.0 e config (c.requires.live config listed) apart (sym (filled.keeps.at e.refusals.waiting.0 config held.refusals.waiting listed) ∙ waits)));
       below = refl;
       out = refl;
       turns = λ table macros config listed.
@@ -68,15 +73,17 @@ returns-clause-replaced g c = on-ok c.refuse.result
     let grows : Grows old new = record { sets = c.refuse.ensures.keeps; names = Extends-refl c.args.names.now; hides = Extends-refl e.sets } in
     record {
       held = λ files held held_call. refused-held grows e held refuses held_call.head.file;
+      waits = refl;
+      left = λ files held held_call. same-left {old = old} {new = new} grows e (record e { refusals = c.refuse.new.self }) held refl refl refl;
       below = refl;
       out = refl;
       turns = λ table macros config listed.
           refused-turn grows c.requires.held.0 e (record e { refusals = c.refuse.new.self }) c.args.call held refl refl c.requires.wanted
           table macros config listed c.in-Refused.cause refl (ap (seen_template old c.args.call.head.token.place) c.in-Refused.is) refuses.live
-          (refuses.failures config listed held.refusals.own) (λ has. c.requires.live config listed has) (λ has. c.requires.calls config listed has);
+          (refused-ends-if grows e held refuses (old.sets.has c.args.call.cond.0 config) config listed refl) (λ has. c.requires.live config listed has) (λ has. c.requires.calls config listed has);
       alike = λ x y others p q call_alike alike.
           let later = IsAlikeExpansion-Keeps {old = old} c.refuse.ensures.keeps p q others e held alike in
-          record { refusals = refuses.alike x y others.faults p q held.refusals.own call_alike.cond alike.refusals; top = later.top; below = later.below };
+          record { refusals = refuses.alike x y others.faults p q held.refusals.own held.refusals.waiting call_alike.cond alike.refusals; top = later.top; below = later.below };
       long = omega arith;
       rest = λ config listed. more-none c.refuse.ensures.keeps listed (bottom e).work (bottom e).work (bottom-held e held) refl;
     })

@@ -50,10 +50,11 @@ returns-then-not-went g c =
     record {
       held = turned.held;
       done = running-done after.running ended;
+      rest = after.running.rest;
       out = running-out after.running ended;
       unchanged = running-unchanged after.running ended c.requires.untouched.out;
       stops = tt;
-      alike = λ one two p q here defines were. (after.alike.at one two p q defines were).alike;
+      alike = λ one two p q here defines were. let now = after.alike.at one two p q defines were in (now.alike, now.rest);
       grows = after.grows;
     }
 

@@ -1,11 +1,14 @@
-use Rattle.std.proofs.Common.{◌≡◌, ◌∙◌, ◌≤◌, ℕ, suc, true, All, List, Some, ap, arith, drop, length, sym, subst, ◌&&◌, refl}
+use Rattle.std.proofs.Common.{◌≡◌, ◌∙◌, ◌≤◌, ◌++◌, ℕ, suc, true, All, List, Some, ap, arith, drop, length, sym, subst, ◌&&◌, refl}
 use Rattle.std.proofs.lemmas.Result.{err_from_is_err_and}
 use Rattle.std.specs.Prelude.{slice_get}
 use Rattle.c11_macros.specs.Expansion.{is_looked_up}
 use Rattle.sc_base.specs.declared.id.Cond.{Cond}
 use Rattle.sc_expand.proofs.PuttingOut.{pushed-some, some-Keeps}
-use Rattle.sc_expand.proofs.SeenLemmas.{IsHeldExpansion-Grows, IsTable-Grows, token-Grows, macros_at-Grows}
-use Rattle.sc_expand.proofs.TakingTurns.{first-both, first-grew, first-item, first-ready, first-taken, first-token, put-ends, put-held, refused-out, take-turn}
+use Rattle.sc_expand.proofs.SeenLemmas.{AreHeld-Grows, IsHeldExpansion-Grows, IsTable-Grows, token-Grows, macros_at-Grows, seen_hidden-Grows}
+use Rattle.sc_expand.proofs.TakingTurns.{first-both, first-grew, first-item, first-own, first-ready, first-taken, first-token, put-ends, put-held, refused-out, step-Grows, take-turn, take-waits}
+use Rattle.sc_expand.proofs.TakingSteps.{Ends}
+use Rattle.sc_expand.proofs.WaitingTaking.{first-of-all, put-out-alike, put-out-left, stays-later}
+use Rattle.sc_expand.specs.Running.{KeepsLeft}
 use Rattle.sc_expand.proofs.UnchangedTaking.{first-undefined, stays-both, take-passes}
 use Rattle.sc_expand.specs.declared.expansion.Expansion.{Expansion}
 use Rattle.sc_expand.specs.Machine.{IsHeldExpansion, at}
@@ -14,17 +17,20 @@ use Rattle.sc_expand.specs.Taking.{HasPutOut}
 use Rattle.sc_expand.specs.Turn.{Turn}
 use Rattle.sc_model.proofs.SetLemmas.{IsConfig-Keeps, IsConfig-kept, Keeps-trans}
 use Rattle.sc_model.specs.Growth.{Extends}
-use Rattle.sc_model.specs.Sets.{IsNever}
+use Rattle.sc_hoist.specs.Alike.{AreAlike}
+use Rattle.sc_base.proofs.Growth.{Extends-refl}
+use Rattle.std.proofs.lemmas.List.Elements.{All-append, All-drop}
+use Rattle.sc_model.specs.Sets.{IsCond, IsConfig, IsNever}
 use Rattle.sc_subst.specs.declared.hidden.Hidden.{Hidden}
 use Rattle.sc_table.specs.Table.{macros_at}
 use Rattle.sc_expand.proofs.AlikeGathering.{each-same-call}
-use Rattle.sc_expand.proofs.AlikeLemmas.{alike-of, in-whole, whole, whole-in, IsAlikeExpansion-Keeps, IsAlikeIn-Keeps}
+use Rattle.sc_expand.proofs.AlikeLemmas.{AreAlike-Keeps, IsAlike-Keeps, alike-of, in-whole, whole, whole-in, IsAlikeExpansion-Keeps, IsAlikeIn-Keeps}
 use Rattle.sc_expand.proofs.AlikeTaking.{alike-first, put-alike, same-long, takes-name, whole-same}
-use Rattle.sc_expand.proofs.LastLemmas.{last-earlier}
+use Rattle.sc_expand.proofs.LastLemmas.{last-earlier, last-later}
 use Rattle.sc_expand.proofs.StopsLemmas.{stops-earlier}
 use Rattle.sc_expand.proofs.TakenLemmas.{long-put, taken-put}
 use Rattle.sc_expand.proofs.WorkListLemmas.{has_each-Keeps}
-use Rattle.sc_expand.specs.Alike.{IsAlikeEnclosing, IsFunctionLike, Span, TakesName, others_at}
+use Rattle.sc_expand.specs.Alike.{CallNextAlike, DefineNextAlike, IsAlikeEnclosing, IsAlikeExpansion, IsAlikeTaken, IsFirstIn, IsFunctionLike, Others, Span, TakesName, no_others, others_at}
 use Rattle.sc_expand.specs.declared.frame.Enclosing.{Enclosing}
 use Rattle.sc_expand.specs.Having.{HasLast}
 use Rattle.sc_macro.specs.Seen.{text_of}
@@ -44,7 +50,7 @@ take_under-requires g c =
     }
 
 pub returns-in_err-put_out-clause-keeps : goal.returns-in_err-put_out-clause-keeps
-returns-in_err-put_out-clause-keeps g c = Keeps-trans c.apply_and.ensures.keeps c.take_under.ensures.keeps
+returns-in_err-put_out-clause-keeps g c = Keeps-trans (Keeps-trans c.apply_and.ensures.keeps c.take_under.ensures.keeps) c.put_out.ensures.keeps
 
 pub returns-in_err-taken-clause-stops : goal.returns-in_err-taken-clause-stops
 returns-in_err-taken-clause-stops g c =
@@ -67,7 +73,11 @@ returns g c =
     let n = c.args.names.now in
     let h = c.args.self.now.sets in
     let n2 = c.take_under.new.names in
+    let s3 = g.C.Conditions.sets c.put_out.new.conds in
     let st = stores s2 n2 c.take_under.new.self.sets in
+    let last = stores s3 n2 c.take_under.new.self.sets in
+    let later : Grows st last = record { sets = c.put_out.ensures.keeps; names = Extends-refl n2; hides = Extends-refl c.take_under.new.self.sets } in
+    let held_now = IsHeldExpansion-Grows later c.take_under.new.self c.in_ok-taken.ensures.takes.held in
     let table = c.args.table.now in
     let files = c.args.files.now in
     let was = c.args.self.now in
@@ -85,54 +95,72 @@ returns g c =
     let second = c.take_under.ensures.keeps in
     let known = first-taken files cond first held c.requires.table c.requires.first c.requires.calls c.in_ok-cond.ensures.meaning in
     let grows : Grows (stores s1 n h) st = record { sets = second; names = c.take_under.ensures.names; hides = c.take_under.ensures.sets } in
-    let all : Grows (stores s0 n h) st = record { sets = Keeps-trans first second; names = grows.names; hides = grows.hides } in
+    let before : Grows (stores s0 n h) st = record { sets = Keeps-trans first second; names = grows.names; hides = grows.hides } in
+    let all : Grows (stores s0 n h) last = record { sets = Keeps-trans before.sets later.sets; names = grows.names; hides = grows.hides } in
     let long = same-long work now.top.work told.lists.tokens in
-    let SomeHas : List (Cond × Hidden) → Type 0 = All (λ (item : Cond × Hidden). IsNever s2 item.0.0 → ⊥) in
+    let took : (x y : List ℕ) (others : Others) → IsConfig s0.arities x → IsConfig s0.arities y → DefineNextAlike (stores s0 n h) (macros_at s0 n table x) (macros_at s0 n table y) x was → CallNextAlike (stores s0 n h) (macros_at s0 n table x) x y was → IsFirstIn others was
+    → IsAlikeExpansion s0 x y others was → IsAlikeExpansion s2 x y others now × IsAlikeTaken s2 x y taken = λ x y others p q defined called inside alike.
+    let p1 = IsConfig-Keeps first p in
+    let q1 = IsConfig-Keeps first q in
+    let many = inside.is item c.requires.first c.requires.calls in
+    let has_alike = alike-first s0 x y (others_at others (length was.below.items)).behind work item c.requires.first many alike.top.work in
+    let live_alike = alike.refusals.live in
+    let text = text_of n c.args.token.token.spelling in
+    let span = whole others was in
+    let came = told.alike x y span p1 q1 (alike-of known.meets p1 q1 (λ i. has_alike i && live_alike i))
+    (λ has looked like. each-same-call work work (first-grew known) held.top.work refl (has_each-Keeps work x first held.top.work.own p) (has_each-Keeps work y first held.top.work.own q)
+    (called.same (takes-name known x p1 has looked like)))
+    (λ has looked.
+    let both = first-both known x p1 has in
+    macros_at-Grows (first-grew known) c.requires.table x text p ∙ (defined.same item c.requires.first c.requires.calls both.0 both.1 looked ∙ sym (macros_at-Grows (first-grew known) c.requires.table y text q)))
+    (IsAlikeIn-Keeps first p q span was held (in-whole others was alike)) in
+    let below = subst (λ l. (i : ℕ) (o : Enclosing) → slice_get l.items i ≡ Some o → IsAlikeEnclosing s2 x y (others_at others i) o) (sym told.lists.below)
+    (IsAlikeExpansion-Keeps before.sets p q others was held alike).below in
+    let same = whole-same others was now told.lists.below long in
+    let few = ap (λ (s : Span). s.work) same in
+    (whole-in others span now (omega (arith, few)) (ap (λ (s : Span). s.out) (sym same)) refl came.0 below, came.1) in
+    let SomeHas : List (Cond × Hidden) → Type 0 = All (λ (item : Cond × Hidden). IsNever s3 item.0.0 → ⊥) in
     record {
       taken = record {
         held =
             let token = token-Grows all c.args.token (first-item known) in
-            subst (λ hides. IsHeldExpansion (stores s2 n2 hides) (length files) next) (sym same_sets)
-            (put-held st put (length files) told.held told.taken token);
+            subst (λ hides. IsHeldExpansion (stores s3 n2 hides) (length files) next) (sym same_sets)
+            (put-held last put later.sets told.held.top.work.own (length files) held_now (record { stays = later.sets.own _ told.taken.stays; made = AreHeld-Grows later taken.made.items told.taken.made }) token);
         below = put.below ∙ told.lists.below;
         turns = λ x listed.
             let at_first = ap (λ l. slice_get l 0) told.lists.tokens ∙ first-token work item c.requires.first in
-            let ends = put-ends st put x (IsConfig-Keeps all.sets listed) at_first in
-            subst (λ hides. Turn (provenance_of files) (macros_at s0 n table x) (at (stores s0 n h) was x) (at (stores s2 n2 hides) next x) (s0.has c.args.has.0 x)) (sym same_sets)
-            (take-turn known grows told next x (seen_at st (drop 1 now.top.work) x) listed ends);
+            let token = token-Grows before c.args.token (first-item known) in
+            let same = seen_hidden-Grows later c.args.token token in
+            let ends = subst (λ s. Ends (seen_hidden n2 c.take_under.new.self.sets c.args.token) (seen_hidden n2 c.take_under.new.self.sets c.args.token) (seen_at last (drop 1 now.top.work) x) s (at last next x))
+            (step-Grows later now taken told.held told.taken x (IsConfig-Keeps before.sets listed)) (put-ends last put x (IsConfig-Keeps all.sets listed) at_first) in
+            subst (λ hides. Turn (provenance_of files) (macros_at s0 n table x) (at (stores s0 n h) was x) (at (stores s3 n2 hides) next x) (s0.has c.args.has.0 x)) (sym same_sets)
+            (take-turn known grows told next x (seen_at last (drop 1 now.top.work) x) (at last next x) listed ends);
+        left = subst (λ hides. KeepsLeft (stores s0 n h) (stores s3 n2 hides) was next) (sym same_sets) (put-out-left before later was now next taken c.args.token held told.held told.taken told.lists put
+            (λ x listed apart waits. take-waits known grows told next x listed apart waits));
         out = record {
           apart = λ x listed dead.
-              subst (λ hides. seen_at (stores s2 n2 hides) next.top.out x ≡ seen_at (stores s0 n h) was.top.out x) (sym same_sets)
-              (refused-out known grows told next put x listed dead);
-          some = λ before. pushed-some put.out (subst SomeHas (sym told.lists.out) (some-Keeps all.sets was.top.out held.top.out.own before));
+              subst (λ hides. seen_at (stores s3 n2 hides) next.top.out x ≡ seen_at (stores s0 n h) was.top.out x) (sym same_sets)
+              (refused-out known grows told next later told.held put x listed dead);
+          some = λ some. pushed-some put.out (subst SomeHas (sym told.lists.out) (some-Keeps all.sets was.top.out held.top.out.own some));
         };
         passes = λ uncalled looks.
             let undefined = first-undefined known looks in
             let same = told.undefined undefined in
-            take-passes s2 was next item taken uncalled c.requires.first same.1 (stays-both known grows told same.0 undefined) (subst (λ (e : Expansion). HasPutOut s2 taken c.args.token e next) same.0 put);
+            take-passes s2 s3 was next item taken uncalled c.requires.first same.1 (stays-later later.sets told.taken.stays item was (before.sets.own _ (first-own (stores s0 n h) (length files) work item c.requires.first held.top.work)) (before.sets.own _ held.refusals.live) (stays-both known grows told same.0 undefined)) (subst (λ (e : Expansion). HasPutOut s2 s3 taken c.args.token e next) same.0 put);
         long = subst (λ l. length work ≤ suc (length l)) (sym put.work) (long-put work now.top.work taken.made.items long);
-        rest = λ x listed. subst (λ l. HasLast s0 s2 work l x) (sym put.work) (last-earlier (has_each-Keeps work x first held.top.work.own listed) (taken-put (told.rest x (IsConfig-Keeps first listed)) long));
+        rest = λ x listed.
+            let own = All-append (λ (item : Cond × Hidden). IsCond s2 item.0.0) taken.made.items (drop 1 now.top.work) told.taken.made.own (All-drop (λ (item : Cond × Hidden). IsCond s2 item.0.0) 1 now.top.work told.held.top.work.own) in
+            subst (λ l. HasLast s0 s3 work l x) (sym put.work)
+            (last-later (last-earlier (has_each-Keeps work x first held.top.work.own listed) (taken-put (told.rest x (IsConfig-Keeps first listed)) long)) (has_each-Keeps (taken.made.items ++ drop 1 now.top.work) x later.sets own (IsConfig-Keeps before.sets listed)));
         alike = λ x y others p q defined called inside alike.
-            let p1 = IsConfig-Keeps first p in
-            let q1 = IsConfig-Keeps first q in
-            let many = inside.is item c.requires.first c.requires.calls in
-            let has_alike = alike-first s0 x y (others_at others (length was.below.items)).behind work item c.requires.first many alike.top.work in
-            let live_alike = alike.refusals.live in
-            let text = text_of n c.args.token.token.spelling in
-            let span = whole others was in
-            let came = told.alike x y span p1 q1 (alike-of known.meets p1 q1 (λ i. has_alike i && live_alike i))
-            (λ has looked like. each-same-call work work (first-grew known) held.top.work refl (has_each-Keeps work x first held.top.work.own p) (has_each-Keeps work y first held.top.work.own q)
-            (called.same (takes-name known x p1 has looked like)))
-            (λ has looked.
-            let both = first-both known x p1 has in
-            macros_at-Grows (first-grew known) c.requires.table x text p ∙ (defined.same item c.requires.first c.requires.calls both.0 both.1 looked ∙ sym (macros_at-Grows (first-grew known) c.requires.table y text q)))
-            (IsAlikeIn-Keeps first p q span was held (in-whole others was alike)) in
-            let below = subst (λ l. (i : ℕ) (o : Enclosing) → slice_get l.items i ≡ Some o → IsAlikeEnclosing s2 x y (others_at others i) o) (sym told.lists.below)
-            (IsAlikeExpansion-Keeps all.sets p q others was held alike).below in
-            let same = whole-same others was now told.lists.below long in
-            let few = ap (λ (s : Span). s.work) same in
-            put-alike s2 x y others now next taken c.args.token put came.1
-            (whole-in others span now (omega (arith, few)) (ap (λ (s : Span). s.out) (sym same)) refl came.0 below);
+            let came = took x y others p q defined called inside alike in
+            put-alike s2 s3 x y others now next taken c.args.token put
+            (record { stays = IsAlike-Keeps later.sets (IsConfig-Keeps before.sets p) (IsConfig-Keeps before.sets q) told.taken.stays came.1.stays; made = AreAlike-Keeps later.sets (IsConfig-Keeps before.sets p) (IsConfig-Keeps before.sets q) taken.made.items told.taken.made.own came.1.made })
+            (IsAlikeExpansion-Keeps {old = st} later.sets (IsConfig-Keeps before.sets p) (IsConfig-Keeps before.sets q) others now told.held came.0);
+        alike_left = λ x y p q defined called inside every.
+            let came = took x y no_others p q defined called (first-of-all was) inside in
+            put-out-alike {st = st} {new = last} later now next taken c.args.token told.held put (IsConfig-Keeps before.sets p) (IsConfig-Keeps before.sets q) came.0
+            (subst (AreAlike s2 x y) (sym told.lists.rest) (AreAlike-Keeps before.sets p q was.rest held.rest.own every));
       };
       stops = tt;
       keeps = all.sets;

@@ -79,6 +79,7 @@ returns g c =
       top = refl;
       refusals = refl;
       below = refl;
+      waiting = refl;
       tokens = out.items;
       call = λ x listed has.
           call-taken st list _ branch.places.items x c.in_ok-between.between c.item.result end c.len-last.result (branch-placed st c.args.self.now branch c.requires.branch x listed has)

@@ -110,7 +110,7 @@ returns-clause-taken g c = on-ok c.put_object.result
     record {
       held = put.held;
       taken = record { stays = keeps.own _ c.requires.taken.stays; made = put.made };
-      lists = record { below = put.below; out = ap (λ (f : Frame). f.out) put.top; tokens = ap (λ (f : Frame). map (λ (item : Cond × Hidden). item.1) f.work) put.top };
+      lists = record { below = put.below; rest = put.rest; out = ap (λ (f : Frame). f.out) put.top; tokens = ap (λ (f : Frame). map (λ (item : Cond × Hidden). item.1) f.work) put.top };
       comes = λ x macros rest listed has work is.
           let begun = c.requires.begun x listed has in
           let formed = sym (c.is_function_like.ensures n) ∙ c.if-is_function_like.false in

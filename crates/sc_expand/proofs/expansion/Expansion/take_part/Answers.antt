@@ -10,7 +10,7 @@ use Rattle.sc_expand.proofs.SeenLemmas.{AreHeld-Grows, IsHeldExpansion-Grows, at
 use Rattle.sc_expand.proofs.StopsLemmas.{stops-weaker}
 use Rattle.sc_expand.proofs.TakenLemmas.{taken-each}
 use Rattle.sc_expand.proofs.TakingLemmas.{or_true}
-use Rattle.sc_expand.proofs.TakingSteps.{has_first-Keeps, on-ok, same-step}
+use Rattle.sc_expand.proofs.TakingSteps.{has_first-Keeps, last-undefined, on-ok, same-step}
 use Rattle.sc_expand.proofs.WorkListLemmas.{has_each-Keeps}
 use Rattle.sc_expand.specs.Seen.{Grows, stores}
 use Rattle.sc_expand.specs.Taking.{IsFunction, IsTaken, kept}
@@ -37,6 +37,7 @@ returns-in_ok-taken-in-None-clause-taken g c =
       comes = λ x macros rest listed has work is.
           let begun = c.requires.begun x listed has in
           kept (case-undefined macros (seen_hidden n e.sets c.args.head) rest c.requires.name (is ∙ ap (option_map (λ shared. seen_definition n shared.value)) c.in-None.is))
+          (λ whole. last-undefined macros (seen_hidden n e.sets c.args.head) rest (is ∙ ap (option_map (λ shared. seen_definition n shared.value)) c.in-None.is))
           (same-step (at-Grows grows x listed e c.requires.held) (has_first-Keeps keeps e.top.work own x listed ∙ begun.first)
           (told.at x (IsConfig-Keeps keeps listed) ∙ or_true (s.has before.stays.0 x) (s.has c.args.cond.0 x) has) (seen_at-Grows grows x listed before.made.items c.requires.taken.made ∙ begun.made));
       others = λ x listed no.

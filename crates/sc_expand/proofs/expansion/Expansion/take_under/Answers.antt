@@ -6,7 +6,7 @@ use Rattle.sc_expand.proofs.KeepingLists.{lists-same}
 use Rattle.sc_expand.proofs.PlainCases.{case-hidden}
 use Rattle.sc_expand.proofs.SeenLemmas.{AreHeld-nil}
 use Rattle.sc_expand.proofs.TakenLemmas.{taken-each}
-use Rattle.sc_expand.proofs.TakingSteps.{same-step}
+use Rattle.sc_expand.proofs.TakingSteps.{last-hidden, same-step}
 use Rattle.sc_expand.specs.Seen.{AreHeld, seen_at, stores}
 use Rattle.sc_expand.specs.Taking.{kept}
 use Rattle.sc_hoist.specs.Alike.{AreAlike, IsAlike}
@@ -26,7 +26,7 @@ returns-clause-takes g c =
       held = c.requires.held;
       taken = record { stays = c.requires.cond_own; made = subst (AreHeld st _) (sym none) (AreHeld-nil st _) };
       lists = lists-same e;
-      comes = λ x macros rest listed has work is. kept (case-hidden macros t rest hidden) (same-step refl (c.requires.begun x listed has).first has (ap (λ l. seen_at st l x) none));
+      comes = λ x macros rest listed has work is. kept (case-hidden macros t rest hidden) (λ whole. last-hidden macros t rest hidden) (same-step refl (c.requires.begun x listed has).first has (ap (λ l. seen_at st l x) none));
       others = λ x listed no. same-step refl refl no (ap (λ l. seen_at st l x) none);
       undefined = λ undefined. (refl, none);
       rest = λ x listed. taken-each refl;

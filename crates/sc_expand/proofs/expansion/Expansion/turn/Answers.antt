@@ -56,7 +56,7 @@ returns-in-Some-pop-clause-turned g c =
     let empty = no-first c.args.self.now.top.work c.first.result c.first.ensures (not-some c.first.result c.in_default-first.not-Some) in
     subst (λ h. IsTurned c.args.files.now macros old (stores (g.C.Conditions.sets c.args.conds.now) c.args.names.now h) c.args.self.now c.leave.new.self true) (sym c.leave.ensures.sets)
     (left-turn old c.args.files.now macros c.args.self.now c.leave.new.self c.requires.is c.pop.new.self c.pop-2.new.self c.in-Some-pop.enclosing none empty c.in-Some-pop.ensures.items c.requires.ready
-    c.in_ok-leave.ensures.calls c.in_ok-leave.ensures.work c.in_ok-leave.ensures.out c.leave.ensures.refusals c.leave.ensures.below)
+    c.in_ok-leave.ensures.calls c.in_ok-leave.ensures.work c.in_ok-leave.ensures.out c.leave.ensures.refusals c.leave.ensures.below c.leave.ensures.rest)
 
 pub returns-clause-turned : goal.returns-clause-turned
 returns-clause-turned g c =

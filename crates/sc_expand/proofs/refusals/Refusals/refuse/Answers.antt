@@ -1,4 +1,4 @@
-use Rattle.std.proofs.Common.{◌∙◌, ◌++◌, ◌∷◌, ◌<◌, ◌&&◌, [], All, append-nil, drop, map, not, sym, ap, subst, if◌then◌else◌}
+use Rattle.std.proofs.Common.{◌∙◌, ◌++◌, ◌∷◌, ◌<◌, ◌&&◌, [], All, append-nil, drop, map, not, refl, sym, ap, subst, if◌then◌else◌}
 use Rattle.std.proofs.lemmas.List.{map-append}
 use Rattle.std.proofs.lemmas.List.Elements.{All-drop, All-push}
 use Rattle.sc_base.specs.declared.fault.Fault.{Fault}
@@ -19,9 +19,10 @@ returns-then-is_never-clause-refuses g c =
     let faults = c.args.self.now.faults.items in
     record {
       live = record { own = c.requires.live; at = λ x listed. sym (stays-there (s.has c.args.self.now.live.0 x) (s.has c.args.cond.0 x) (never.none x listed)) };
+      waiting = refl;
       failures = λ x listed own. sym (ap (λ b. failures_at s faults x ++ (if b then record { cause = c.args.cause; place = c.args.place } ∷ [] else [])) (never.none x listed) ∙ append-nil (failures_at s faults x));
       held = λ files within was. was;
-      alike = λ x y others p q own same alike. alike;
+      alike = λ x y others p q own waiting_own same alike. alike;
     }
 
 pub returns-clause-refuses : goal.returns-clause-refuses
@@ -34,6 +35,7 @@ returns-clause-refuses g c =
     let live = c.in_ok-live.ensures.meaning _ _ (Denotes-Keeps c.negate.ensures.keeps (Denotes-self old c.args.self.now.live.0 c.requires.live)) (c.in_ok-others.ensures.meaning _ (Denotes-self old c.args.cond.0 c.requires.own)) in
     record {
       live = live;
+      waiting = refl;
       failures = λ x listed own.
           ap (λ l. failures_at new l x) c.in_ok-push.ensures.items
           ∙ (ap (map seen_failure) (faults_at-append new faults (fault ∷ []) x)
@@ -46,14 +48,16 @@ returns-clause-refuses g c =
           let Placed : Fault → Type 0 = λ f. f.place.file.0 < files in
           record {
             live = c.in_ok-live.ensures.own;
+            waiting = keeps.own _ was.waiting;
             own = subst (All Own) (sym c.in_ok-push.ensures.items) (All-push Own faults fault (λ k d h. keeps.own _ (was.own k d h)) (keeps.own _ c.requires.own));
             placed = subst (All Placed) (sym c.in_ok-push.ensures.items) (All-push Placed faults fault was.placed within);
           };
-      alike = λ x y others p q own same alike.
+      alike = λ x y others p q own waiting_own same alike.
           let P : Fault → Type 0 = λ f. IsAlike new x y f.cond in
           let kept = AreAlikeFaults-Keeps keeps p q (drop others faults) (All-drop (λ (f : Fault). IsCond old f.cond.0) others faults own) alike.faults in
           record {
             live = alike-of live (IsConfig-Keeps keeps p) (IsConfig-Keeps keeps q) (λ i. alike.live i && not (same i));
+            waiting = IsAlike-Keeps keeps p q waiting_own alike.waiting;
             faults = subst (λ l. All P (drop others l)) (sym c.in_ok-push.ensures.items) (All-drop-push P others faults fault kept (IsAlike-Keeps keeps p q c.requires.own same));
           };
     }

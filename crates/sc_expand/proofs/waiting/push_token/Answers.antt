@@ -1,6 +1,6 @@
 use Rattle.std.proofs.Common.{◌∙◌, true≢false, refl, sym}
 use Rattle.sc_expand.specs.Unchanged.{absent, pushed}
-use Rattle.sc_expand.proofs.taking.push_token.Goals as goal
+use Rattle.sc_expand.proofs.waiting.push_token.Goals as goal
 
 pub returns-then-is_never : goal.returns-then-is_never
 returns-then-is_never g c = absent (c.is_never.ensures.0 c.if-is_never.true) refl

@@ -1,0 +1,227 @@
+-- What configurations that wait keep of the whole list.
+use Rattle.std.proofs.Common.{◌≡◌, ℕ, ◌-◌, ◌&&◌, Bool, true, false, List, [], ◌∷◌, ◌++◌, All, append-nil, arith, drop, length, slice_get, Some, refl, sym, ap, subst, ◌∙◌, if◌then◌else◌}
+use Rattle.std.proofs.Math.Bool.{and-false, and-true}
+use Rattle.std.proofs.lemmas.List.{append_assoc, take_all}
+use Rattle.std.proofs.lemmas.List.Elements.{All-head}
+use Rattle.sc_base.specs.declared.id.Cond.{Cond}
+use Rattle.sc_expand.proofs.BottomLemmas.{bottom-frame}
+use Rattle.sc_expand.proofs.AlikeLemmas.{AreAlike-Keeps, alike-of, others-none}
+use Rattle.sc_expand.proofs.PuttingOut.{pushed-alike, pushed-held, pushed-seen, pushed-some, some-Keeps}
+use Rattle.sc_expand.proofs.SeenLemmas.{Grows-refl, seen_at-Grows, seen_at-append}
+use Rattle.sc_expand.proofs.TakingSteps.{seen-first}
+use Rattle.sc_expand.specs.declared.expansion.Expansion.{Expansion}
+use Rattle.sc_expand.specs.declared.frame.Enclosing.{Enclosing}
+use Rattle.sc_expand.specs.Machine.{IsHeldExpansion, is_whole}
+use Rattle.sc_expand.specs.Alike.{IsAlikeExpansion, IsAlikeFrame, no_others}
+use Rattle.sc_expand.specs.Running.{IsApart, KeepsLeft, bottom, bottom_by, put_out}
+use Rattle.sc_expand.specs.Seen.{AreHeld, Grows, IsHeldToken, Stores, seen_at}
+use Rattle.sc_expand.specs.Waiting as waiting
+use Rattle.sc_expand.specs.Waiting.{KeepsFirst}
+use Rattle.sc_hoist.specs.Alike.{AreAlike, IsAlike}
+use Rattle.sc_model.proofs.SetLemmas.{IsConfig-Keeps, IsConfig-kept, Keeps-refl}
+use Rattle.sc_model.specs.Sets.{Sets, IsCond, IsConfig, IsNever, Keeps}
+use Rattle.sc_subst.specs.declared.hidden.Hidden.{Hidden}
+use Rattle.sc_subst.specs.Seen.{seen_hidden}
+
+pub below-none : (below : List Enclosing) → is_whole below ≡ true → below ≡ []
+below-none [] is = refl
+below-none (e ∷ es) is = cc
+
+pub below-some : (below : List Enclosing) → is_whole below ≡ false → below ≡ [] → ⊥
+below-some [] is none = cc
+below-some (e ∷ es) is none = cc
+
+-- ---- the first token
+
+first-is : (list : List (Cond × Hidden)) (item : Cond × Hidden) → slice_get list 0 ≡ Some item → list ≡ item ∷ drop 1 list
+first-is [] item is = absurd (cc)
+first-is (x ∷ xs) item is = let same : x ≡ item = cc in ap (λ y. y ∷ xs) same
+
+split : (b : Bool) {A : Type 0} (front behind : List A) (h : A) → (front ++ (if b then h ∷ [] else [])) ++ behind ≡ front ++ (if b then h ∷ behind else behind)
+split true front behind h = append_assoc front (h ∷ []) behind
+split false front behind h = ap (λ l. l ++ behind) (append-nil front)
+
+first-has : (P : Cond × Hidden → Type 0) (list : List (Cond × Hidden)) (item : Cond × Hidden) → slice_get list 0 ≡ Some item → All P list → P item
+first-has P [] item is all = absurd (cc)
+first-has P (x ∷ xs) item is all = let same : x ≡ item = cc in subst P same (All-head P x xs all)
+
+module _ {old : Sets} (st : Stores) (keeps : Keeps old st.sets) {waits : ℕ} {below : List Enclosing} {work before after : List (Cond × Hidden)} (own : All (λ (item : Cond × Hidden). IsCond old item.0.0) work) where
+  -- those that wait have left the same
+  pub kept-left : KeepsFirst old st.sets waits below work before after → below ≡ [] → (c : List ℕ) → IsConfig old.arities c → old.has waits c ≡ true
+      → seen_at st after c ++ seen_at st (drop 1 work) c ≡ seen_at st before c ++ seen_at st work c
+  kept-left (waiting.kept item cond whole first meets put) is c listed has =
+      let h = seen_hidden st.names st.hides item.1 in
+      let cond_is : st.sets.has cond.0 c ≡ st.sets.has item.0.0 c =
+      meets.at c (IsConfig-Keeps keeps listed) ∙ (ap (λ b. old.has item.0.0 c && b) has ∙ (and-true (old.has item.0.0 c) ∙ sym (keeps.at item.0.0 c (first-has (λ (item : Cond × Hidden). IsCond old item.0.0) work item first own) listed))) in
+      ap (λ l. l ++ seen_at st (drop 1 work) c) (pushed-seen st put c (IsConfig-Keeps keeps listed) ∙ ap (λ b. seen_at st before c ++ (if b then h ∷ [] else [])) cond_is)
+      ∙ (split (st.sets.has item.0.0 c) (seen_at st before c) (seen_at st (drop 1 work) c) h
+      ∙ ap (λ l. seen_at st before c ++ l) (sym (ap (λ l. seen_at st l c) (first-is work item first) ∙ seen-first st item (drop 1 work) c)))
+  kept-left (waiting.none empty same) is c listed has = (λ i. seen_at st (same i) c ++ seen_at st (drop 1 (empty is i)) c) ∙ ap (λ l. seen_at st before c ++ seen_at st l c) (sym (empty is))
+
+  -- the others have nothing new that waits
+  pub kept-others : KeepsFirst old st.sets waits below work before after → (c : List ℕ) → IsConfig old.arities c → old.has waits c ≡ false → seen_at st after c ≡ seen_at st before c
+  kept-others (waiting.kept item cond whole first meets put) c listed lacks =
+      pushed-seen st put c (IsConfig-Keeps keeps listed)
+      ∙ (ap (λ b. seen_at st before c ++ (if b then seen_hidden st.names st.hides item.1 ∷ [] else [])) (meets.at c (IsConfig-Keeps keeps listed) ∙ (ap (λ b. old.has item.0.0 c && b) lacks ∙ and-false (old.has item.0.0 c)))
+      ∙ append-nil (seen_at st before c))
+  kept-others (waiting.none empty same) c listed lacks = ap (λ l. seen_at st l c) same
+
+  pub kept-inside : KeepsFirst old st.sets waits below work before after → (below ≡ [] → ⊥) → after ≡ before
+  kept-inside (waiting.kept item cond whole first meets put) inside = absurd (inside whole)
+  kept-inside (waiting.none empty same) inside = same
+
+  pub kept-alike : KeepsFirst old st.sets waits below work before after → (c d : List ℕ) → IsConfig old.arities c → IsConfig old.arities d → AreAlike old c d work → old.has waits c ≡ old.has waits d
+      → All (λ (item : Cond × Hidden). IsCond old item.0.0) before → AreAlike old c d before → AreAlike st.sets c d after
+  kept-alike (waiting.kept item cond whole first meets put) c d p q works both own_before same =
+      let has : IsAlike old c d item.0 = first-has (λ (x : Cond × Hidden). IsAlike old c d x.0) work item first works in
+      pushed-alike st.sets c d put (alike-of meets (IsConfig-Keeps keeps p) (IsConfig-Keeps keeps q) (λ i. has i && both i)) (AreAlike-Keeps keeps p q before own_before same)
+  kept-alike (waiting.none empty is) c d p q works both own_before same = subst (AreAlike st.sets c d) (sym is) (AreAlike-Keeps keeps p q before own_before same)
+
+  pub kept-some : KeepsFirst old st.sets waits below work before after → All (λ (item : Cond × Hidden). IsNever st.sets item.0.0 → ⊥) before → All (λ (item : Cond × Hidden). IsNever st.sets item.0.0 → ⊥) after
+  kept-some (waiting.kept item cond whole first meets put) some = pushed-some put some
+  kept-some (waiting.none empty same) some = subst (All (λ (item : Cond × Hidden). IsNever st.sets item.0.0 → ⊥)) (sym same) some
+
+  pub kept-held : (files : ℕ) → All (λ (item : Cond × Hidden). IsHeldToken st files item.1) work → KeepsFirst old st.sets waits below work before after → AreHeld st files before → AreHeld st files after
+  kept-held files held (waiting.kept item cond whole first meets put) was = pushed-held st files put meets.own (first-has (λ (x : Cond × Hidden). IsHeldToken st files x.1) work item first held) was
+  kept-held files held (waiting.none empty same) was = subst (AreHeld st files) (sym same) was
+
+-- the store grew before
+pub kept-later : {old new : Sets} (keeps : Keeps old new) {waits : ℕ} {below : List Enclosing} {work before after : List (Cond × Hidden)} → All (λ (item : Cond × Hidden). IsCond old item.0.0) work → IsCond old waits
+    → KeepsFirst old new waits below work before after → KeepsFirst new new waits below work before after
+kept-later {old} {new} keeps {waits} {work = work} own waits_own (waiting.kept item cond whole first meets put) =
+    waiting.kept item cond whole first (record {
+      own = meets.own;
+      at = λ c listed.
+          let was = IsConfig-kept keeps listed in
+          meets.at c listed ∙ (λ i. sym (keeps.at item.0.0 c (first-has (λ (x : Cond × Hidden). IsCond old x.0.0) work item first own) was) i && sym (keeps.at waits c waits_own was) i);
+    }) put
+kept-later keeps own waits_own (waiting.none empty same) = waiting.none empty same
+
+-- a condition of which all go on has none that waits
+pub unless : (s : Sets) (cond : ℕ) (e : Expansion) (c : List ℕ) → (s.has cond c ≡ true → s.has e.refusals.live.0 c ≡ true) → IsApart s e c → s.has e.refusals.waiting.0 c ≡ true → s.has cond c ≡ false
+unless s cond e c live apart waits = by (s.has cond c) refl
+  where
+    by : (b : Bool) → s.has cond c ≡ b → b ≡ false
+    by true has = sym waits ∙ apart (live has)
+    by false lacks = refl
+
+-- ---- all that is left
+
+-- the list below all others, what it was expanded to and what waits are as they were
+pub same-left : {old new : Stores} {files : ℕ} → Grows old new → (was now : Expansion) → IsHeldExpansion old files was → now.rest ≡ was.rest → (bottom now).work ≡ (bottom was).work → put_out now ≡ put_out was → KeepsLeft old new was now
+same-left {old} {new} grows was now held rest work out = record {
+  left = λ c listed apart waits.
+      let first = ap (λ l. seen_at new l c) rest ∙ seen_at-Grows grows c listed was.rest held.rest in
+      let second = ap (λ l. seen_at new l c) work ∙ seen_at-Grows grows c listed (bottom was).work (bottom-frame was held).work in
+      λ i. first i ++ second i;
+  put = λ c listed apart waits. ap (λ l. seen_at new l c) out ∙ seen_at-Grows grows c listed (put_out was) (bottom-frame was held).out;
+  others = λ c listed lacks. ap (λ l. seen_at new l c) rest ∙ seen_at-Grows grows c listed was.rest held.rest;
+  some = λ all. subst (All (λ (item : Cond × Hidden). IsNever new.sets item.0.0 → ⊥)) (sym rest) (some-Keeps grows.sets was.rest held.rest.own all);
+}
+
+-- what waits is as it was
+pub rest-alike : {old new : Stores} {files : ℕ} {was : Expansion} (now : Expansion) → Grows old new → IsHeldExpansion old files was → now.rest ≡ was.rest → {c d : List ℕ} → IsConfig old.sets.arities c → IsConfig old.sets.arities d
+    → AreAlike old.sets c d was.rest → AreAlike new.sets c d now.rest
+rest-alike {old} {new} {files} {was} now grows held same {c} {d} p q all = subst (AreAlike new.sets c d) (sym same) (AreAlike-Keeps grows.sets p q was.rest held.rest.own all)
+
+-- all of the whole list
+pub whole-alike : {s : Sets} {c d : List ℕ} (e : Expansion) → e.below.items ≡ [] → IsAlikeExpansion s c d no_others e → AreAlike s c d e.top.work
+whole-alike {s} {c} {d} e is alike =
+    let top = subst (λ o. IsAlikeFrame s c d o e.top) (others-none (length e.below.items)) alike.top in
+    subst (AreAlike s c d) (take_all (length e.top.work - 0) e.top.work (omega arith)) top.work
+
+-- the first token of the list on top is gone
+pub dropped-left : (st : Stores) {files : ℕ} → Keeps st.sets st.sets → (was now : Expansion) → IsHeldExpansion st files was → now.refusals ≡ was.refusals → now.below ≡ was.below → now.top.out ≡ was.top.out
+    → now.top.work ≡ drop 1 was.top.work → KeepsFirst st.sets st.sets was.refusals.waiting.0 was.below.items was.top.work was.rest now.rest → KeepsLeft st st was now
+dropped-left st {files} keeps was now held refusals below out work kept_first = by was.below.items refl
+  where
+    Named : List (Cond × Hidden) → Type 0
+    Named = All (λ (item : Cond × Hidden). IsNever st.sets item.0.0 → ⊥)
+
+    by : (bs : List Enclosing) → was.below.items ≡ bs → KeepsLeft st st was now
+    by [] is =
+        let whole = ap (λ b. b.items) below ∙ is in
+        let bottom_was : bottom was ≡ was.top = ap (λ l. bottom_by l was.top) is in
+        let bottom_now : bottom now ≡ now.top = ap (λ l. bottom_by l now.top) whole in
+        let put : put_out now ≡ put_out was = ap (λ f. f.out) bottom_now ∙ (out ∙ sym (ap (λ f. f.out) bottom_was)) in
+        record {
+          left = λ c listed apart waits.
+              let has = ap (λ r. st.sets.has r.waiting.0 c) (sym refusals) ∙ waits in
+              (ap (λ f. seen_at st now.rest c ++ seen_at st f.work c) bottom_now ∙ ap (λ l. seen_at st now.rest c ++ seen_at st l c) work)
+              ∙ (kept-left st keeps held.top.work.own kept_first is c listed has ∙ sym (ap (λ f. seen_at st was.rest c ++ seen_at st f.work c) bottom_was));
+          put = λ c listed apart waits. ap (λ l. seen_at st l c) put;
+          others = λ c listed lacks. kept-others st keeps held.top.work.own kept_first c listed (ap (λ r. st.sets.has r.waiting.0 c) (sym refusals) ∙ lacks);
+          some = λ all. kept-some st keeps held.top.work.own kept_first all;
+        }
+    by (b ∷ bs) is =
+        let rest = kept-inside st keeps held.top.work.own kept_first (λ whole. (let no : b ∷ bs ≡ [] = sym is ∙ whole in cc)) in
+        let bottom_same : bottom now ≡ bottom was = ap (λ l. bottom_by l.items now.top) below ∙ (ap (λ l. bottom_by l now.top) is ∙ sym (ap (λ l. bottom_by l was.top) is)) in
+        same-left (Grows-refl st) was now held rest (ap (λ f. f.work) bottom_same) (ap (λ f. f.out) bottom_same)
+
+pub dropped-alike : (st : Stores) {files : ℕ} (was now : Expansion) → IsHeldExpansion st files was → now.below ≡ was.below
+    → KeepsFirst st.sets st.sets was.refusals.waiting.0 was.below.items was.top.work was.rest now.rest → {c d : List ℕ} → IsConfig st.sets.arities c → IsConfig st.sets.arities d → IsAlikeExpansion st.sets c d no_others was
+    → AreAlike st.sets c d was.rest → AreAlike st.sets c d now.rest
+dropped-alike st was now held below kept_first {c} {d} p q alike all = by was.below.items refl
+  where
+    by : (bs : List Enclosing) → was.below.items ≡ bs → AreAlike st.sets c d now.rest
+    by [] is = kept-alike st (Keeps-refl st.sets) held.top.work.own kept_first c d p q (whole-alike was is alike) alike.refusals.waiting held.rest.own all
+    by (b ∷ bs) is = rest-alike now (Grows-refl st) held (kept-inside st (Keeps-refl st.sets) held.top.work.own kept_first (λ whole. (let no : b ∷ bs ≡ [] = sym is ∙ whole in cc))) p q all
+
+-- one after the other
+module _ {old mid new : Stores} {files : ℕ} (one two three : Expansion) (grows : Grows old mid) (later : Grows mid new) (held : IsHeldExpansion old files one) (middle : IsHeldExpansion mid files two)
+    (first : two.refusals ≡ one.refusals) (second : three.refusals ≡ two.refusals) where
+  same-waiting : (c : List ℕ) → IsConfig old.sets.arities c → new.sets.has three.refusals.waiting.0 c ≡ mid.sets.has two.refusals.waiting.0 c
+  same-waiting c listed = ap (λ r. new.sets.has r.waiting.0 c) second ∙ later.sets.at two.refusals.waiting.0 c middle.refusals.waiting (IsConfig-Keeps grows.sets listed)
+
+  still-apart : (c : List ℕ) → IsConfig old.sets.arities c → IsApart old.sets one c → IsApart mid.sets two c
+  still-apart c listed apart live =
+      let was = sym (ap (λ r. mid.sets.has r.live.0 c) first ∙ grows.sets.at one.refusals.live.0 c held.refusals.live listed) ∙ live in
+      ap (λ r. mid.sets.has r.waiting.0 c) first ∙ (grows.sets.at one.refusals.waiting.0 c held.refusals.waiting listed ∙ apart was)
+
+  pub left-then : KeepsLeft old mid one two → KeepsLeft mid new two three → KeepsLeft old new one three
+  left-then a b = record {
+    left = λ c listed apart waits. b.left c (IsConfig-Keeps grows.sets listed) (still-apart c listed apart) waits ∙ a.left c listed apart (sym (same-waiting c listed) ∙ waits);
+    put = λ c listed apart waits. b.put c (IsConfig-Keeps grows.sets listed) (still-apart c listed apart) waits ∙ a.put c listed apart (sym (same-waiting c listed) ∙ waits);
+    others = λ c listed lacks. b.others c (IsConfig-Keeps grows.sets listed) lacks ∙ a.others c listed (sym (same-waiting c listed) ∙ lacks);
+    some = λ all. b.some (a.some all);
+  }
+
+-- the store grew before
+pub left-Grows : {old mid new : Stores} {files : ℕ} {was now : Expansion} → Grows old mid → IsHeldExpansion old files was → KeepsLeft mid new was now → KeepsLeft old new was now
+left-Grows {old} {mid} {new} {files} {was} {now} grows held kept = record {
+  left = λ c listed apart waits. kept.left c (IsConfig-Keeps grows.sets listed) (later c listed apart) waits
+      ∙ (let one = seen_at-Grows grows c listed was.rest held.rest in let two = seen_at-Grows grows c listed (bottom was).work (bottom-frame was held).work in λ i. one i ++ two i);
+  put = λ c listed apart waits. kept.put c (IsConfig-Keeps grows.sets listed) (later c listed apart) waits ∙ seen_at-Grows grows c listed (put_out was) (bottom-frame was held).out;
+  others = λ c listed lacks. kept.others c (IsConfig-Keeps grows.sets listed) lacks ∙ seen_at-Grows grows c listed was.rest held.rest;
+  some = λ all. kept.some (some-Keeps grows.sets was.rest held.rest.own all);
+}
+  where
+    later : (c : List ℕ) → IsConfig old.sets.arities c → IsApart old.sets was c → IsApart mid.sets was c
+    later c listed apart live = grows.sets.at was.refusals.waiting.0 c held.refusals.waiting listed ∙ apart (sym (grows.sets.at was.refusals.live.0 c held.refusals.live listed) ∙ live)
+
+-- others are put before the list on top, and none of them where a configuration waits
+pub put-left : {old new : Stores} {files : ℕ} → Grows old new → (was now : Expansion) → IsHeldExpansion old files was → (made : List (Cond × Hidden)) → now.rest ≡ was.rest → now.below ≡ was.below → now.top.out ≡ was.top.out
+    → now.top.work ≡ made ++ was.top.work → ((c : List ℕ) → IsConfig old.sets.arities c → IsApart old.sets was c → new.sets.has now.refusals.waiting.0 c ≡ true → seen_at new made c ≡ []) → KeepsLeft old new was now
+put-left {old} {new} {files} grows was now held made rest below out work none = by was.below.items refl
+  where
+    by : (bs : List Enclosing) → was.below.items ≡ bs → KeepsLeft old new was now
+    by [] is =
+        let bottom_was : bottom was ≡ was.top = ap (λ l. bottom_by l was.top) is in
+        let bottom_now : bottom now ≡ now.top = ap (λ l. bottom_by l.items now.top) below ∙ ap (λ l. bottom_by l now.top) is in
+        let put : put_out now ≡ put_out was = ap (λ f. f.out) bottom_now ∙ (out ∙ sym (ap (λ f. f.out) bottom_was)) in
+        let same = same-left grows was (record now { top = record now.top { work = was.top.work } }) held rest
+        (ap (λ l. (bottom_by l.items (record now.top { work = was.top.work })).work) below ∙ (ap (λ l. (bottom_by l (record now.top { work = was.top.work })).work) is ∙ sym (ap (λ f. f.work) bottom_was)))
+        (ap (λ l. (bottom_by l.items (record now.top { work = was.top.work })).out) below ∙ (ap (λ l. (bottom_by l (record now.top { work = was.top.work })).out) is ∙ (out ∙ sym (ap (λ f. f.out) bottom_was)))) in
+        record {
+          left = λ c listed apart waits.
+              let nothing = ap (λ l. seen_at new l c) work ∙ (seen_at-append new made was.top.work c ∙ ap (λ l. l ++ seen_at new was.top.work c) (none c listed apart waits)) in
+              ap (λ f. seen_at new now.rest c ++ seen_at new f.work c) bottom_now
+              ∙ ((let one = ap (λ l. seen_at new l c) rest ∙ seen_at-Grows grows c listed was.rest held.rest in let two = nothing ∙ seen_at-Grows grows c listed was.top.work held.top.work in λ i. one i ++ two i)
+              ∙ sym (ap (λ f. seen_at old was.rest c ++ seen_at old f.work c) bottom_was));
+          put = λ c listed apart waits. ap (λ l. seen_at new l c) put ∙ seen_at-Grows grows c listed (put_out was) (bottom-frame was held).out;
+          others = same.others;
+          some = same.some;
+        }
+    by (b ∷ bs) is =
+        let bottom_same : bottom now ≡ bottom was = ap (λ l. bottom_by l.items now.top) below ∙ (ap (λ l. bottom_by l now.top) is ∙ sym (ap (λ l. bottom_by l was.top) is)) in
+        same-left grows was now held rest (ap (λ f. f.work) bottom_same) (ap (λ f. f.out) bottom_same)

@@ -1,0 +1,98 @@
+-- What configurations that wait have left as the first token of a list is taken.
+use Rattle.std.proofs.Common.{◌≡◌, ◌<◌, ◌&&◌, ℕ, Bool, true, false, List, [], ◌∷◌, ◌++◌, All, append-nil, arith, drop, length, slice_get, Some, refl, sym, ap, subst, ◌∙◌, if◌then◌else◌}
+use Rattle.sc_base.specs.declared.id.Cond.{Cond}
+use Rattle.sc_expand.proofs.AlikeLemmas.{others-none}
+use Rattle.sc_expand.proofs.PuttingOut.{some-Keeps}
+use Rattle.sc_expand.proofs.SeenLemmas.{Grows-trans, seen_at-Grows, seen_at-append}
+use Rattle.sc_expand.proofs.TakingTurns.{put-seen}
+use Rattle.sc_expand.proofs.WaitingLemmas.{kept-alike, kept-inside, kept-left, kept-others, kept-some, rest-alike, same-left, whole-alike}
+use Rattle.sc_expand.specs.declared.expansion.Expansion.{Expansion}
+use Rattle.sc_expand.specs.declared.frame.Enclosing.{Enclosing}
+use Rattle.sc_expand.specs.declared.taking.Taken.{Taken}
+use Rattle.sc_expand.specs.Machine.{IsHeldExpansion, KeepsLists, at}
+use Rattle.sc_expand.specs.Running.{IsApart, KeepsLeft, bottom, bottom_by}
+use Rattle.sc_expand.specs.Seen.{Grows, Stores, View, seen_at}
+use Rattle.sc_expand.specs.Taking.{HasPutOut, IsHeldTaken}
+use Rattle.sc_expand.specs.Alike.{IsAlikeExpansion, IsFirstIn, no_others}
+use Rattle.sc_hoist.specs.Alike.{AreAlike}
+use Rattle.sc_model.proofs.SetLemmas.{IsConfig-Keeps, IsConfig-kept}
+use Rattle.sc_model.specs.Sets.{Denotes, IsCond, IsConfig, IsNever, Keeps, Sets}
+use Rattle.sc_subst.specs.declared.hidden.Hidden.{Hidden}
+use Rattle.sc_subst.specs.Seen.{seen_hidden}
+
+pub put-out-left : {old st new : Stores} {files : ℕ} → Grows old st → Grows st new → (was now next : Expansion) (taken : Taken) (token : Hidden) → IsHeldExpansion old files was → IsHeldExpansion st files now → IsHeldTaken st files taken
+    → KeepsLists was now → HasPutOut st.sets new.sets taken token now next
+    → ((c : List ℕ) → IsConfig old.sets.arities c → IsApart old.sets was c → st.sets.has now.refusals.waiting.0 c ≡ true
+    → ((at st now c).view ≡ (at old was c).view) × ((st.sets.has taken.stays.0 c ≡ false) × (seen_at st taken.made.items c ≡ []))) → KeepsLeft old new was next
+put-out-left {old} {st} {new} {files} grows later was now next taken token held held_now made lists put waits_same = by was.below.items refl
+  where
+    all : Grows old new
+    all = Grows-trans grows later
+
+    below_same : next.below ≡ was.below
+    below_same = put.below ∙ lists.below
+
+    still : (c : List ℕ) → IsConfig old.sets.arities c → (b : Bool) → new.sets.has next.refusals.waiting.0 c ≡ b → st.sets.has now.refusals.waiting.0 c ≡ b
+    still c listed b waits = sym (ap (λ r. new.sets.has r.waiting.0 c) put.refusals ∙ later.sets.at now.refusals.waiting.0 c held_now.refusals.waiting (IsConfig-Keeps grows.sets listed)) ∙ waits
+
+    by : (bs : List Enclosing) → was.below.items ≡ bs → KeepsLeft old new was next
+    by [] is =
+        let none : now.below.items ≡ [] = ap (λ b. b.items) lists.below ∙ is in
+        let bottom_was : bottom was ≡ was.top = ap (λ l. bottom_by l was.top) is in
+        let bottom_next : bottom next ≡ next.top = ap (λ l. bottom_by l.items next.top) below_same ∙ ap (λ l. bottom_by l next.top) is in
+        record {
+          left = λ c listed apart waits.
+              let listed1 = IsConfig-Keeps grows.sets listed in
+              let has = still c listed true waits in
+              let same = waits_same c listed apart has in
+              let nothing = seen_at-Grows later c listed1 taken.made.items made.made ∙ same.1.1 in
+              let work = ap (λ l. seen_at new l c) put.work ∙ (seen_at-append new taken.made.items (drop 1 now.top.work) c ∙ ap (λ l. l ++ seen_at new (drop 1 now.top.work) c) nothing) in
+              let rest = ap (λ l. seen_at new l c) lists.rest ∙ seen_at-Grows all c listed was.rest held.rest in
+              let list = seen_at-Grows later c listed1 now.top.work held_now.top.work ∙ ap (λ (v : View). v.work) same.0 in
+              ap (λ f. seen_at new next.rest c ++ seen_at new f.work c) bottom_next
+              ∙ (ap (λ l. seen_at new next.rest c ++ l) work
+              ∙ (kept-left new later.sets held_now.top.work.own put.rest none c listed1 has
+              ∙ ((λ i. rest i ++ list i) ∙ sym (ap (λ f. seen_at old was.rest c ++ seen_at old f.work c) bottom_was))));
+          put = λ c listed apart waits.
+              let listed1 = IsConfig-Keeps grows.sets listed in
+              let same = waits_same c listed apart (still c listed true waits) in
+              ap (λ f. seen_at new f.out c) bottom_next
+              ∙ (put-seen later held_now made.stays put c listed1
+              ∙ (ap (λ b. seen_at st now.top.out c ++ (if b then seen_hidden new.names new.hides token ∷ [] else [])) same.1.0
+              ∙ (append-nil (seen_at st now.top.out c) ∙ (ap (λ (v : View). v.out) same.0 ∙ sym (ap (λ f. seen_at old f.out c) bottom_was)))));
+          others = λ c listed lacks.
+              kept-others new later.sets held_now.top.work.own put.rest c (IsConfig-Keeps grows.sets listed) (still c listed false lacks)
+              ∙ (ap (λ l. seen_at new l c) lists.rest ∙ seen_at-Grows all c listed was.rest held.rest);
+          some = λ every. kept-some new later.sets held_now.top.work.own put.rest (subst (All (λ (item : Cond × Hidden). IsNever new.sets item.0.0 → ⊥)) (sym lists.rest) (some-Keeps all.sets was.rest held.rest.own every));
+        }
+    by (b ∷ bs) is =
+        let rest = kept-inside new later.sets held_now.top.work.own put.rest (λ whole. (let no : b ∷ bs ≡ [] = sym is ∙ (sym (ap (λ b. b.items) lists.below) ∙ whole) in cc)) in
+        let bottom_same : bottom next ≡ bottom was = ap (λ l. bottom_by l.items next.top) below_same ∙ (ap (λ l. bottom_by l next.top) is ∙ sym (ap (λ l. bottom_by l was.top) is)) in
+        same-left all was next held (rest ∙ lists.rest) (ap (λ f. f.work) bottom_same) (ap (λ f. f.out) bottom_same)
+
+-- both have what waits, or neither
+pub put-out-alike : {st new : Stores} {files : ℕ} → Grows st new → (now next : Expansion) (taken : Taken) (token : Hidden) → IsHeldExpansion st files now → HasPutOut st.sets new.sets taken token now next → {c d : List ℕ} → IsConfig st.sets.arities c → IsConfig st.sets.arities d
+    → IsAlikeExpansion st.sets c d no_others now → AreAlike st.sets c d now.rest → AreAlike new.sets c d next.rest
+put-out-alike {st} {new} later now next taken token held put {c} {d} p q alike every = by now.below.items refl
+  where
+    by : (bs : List Enclosing) → now.below.items ≡ bs → AreAlike new.sets c d next.rest
+    by [] is = kept-alike new later.sets held.top.work.own put.rest c d p q (whole-alike now is alike) alike.refusals.waiting held.rest.own every
+    by (b ∷ bs) is = rest-alike next later held (kept-inside new later.sets held.top.work.own put.rest (λ whole. (let no : b ∷ bs ≡ [] = sym is ∙ whole in cc))) p q every
+
+-- the first token is one of all that are looked at
+pub first-of-all : (e : Expansion) → IsFirstIn no_others e
+first-of-all e = record { is = λ item first none. subst (λ o. o.behind < length e.top.work) (sym (others-none (length e.below.items))) (some-first e.top.work item first) }
+  where
+    some-first : (list : List (Cond × Hidden)) (item : Cond × Hidden) → slice_get list 0 ≡ Some item → 0 < length list
+    some-first [] item is = absurd (cc)
+    some-first (x ∷ xs) item is = omega arith
+
+-- where it stays, as it is seen once the token is put out
+pub stays-later : {s t : Sets} → Keeps s t → {stays : Cond} → IsCond s stays.0 → (item : Cond × Hidden) (was : Expansion) → IsCond s item.0.0 → IsCond s was.refusals.live.0
+    → Denotes s stays.0 (λ c. s.has item.0.0 c && s.has was.refusals.live.0 c) → Denotes t stays.0 (λ c. t.has item.0.0 c && t.has was.refusals.live.0 c)
+stays-later keeps own item was item_own live_own told = record {
+  own = keeps.own _ own;
+  at = λ c listed.
+      let before = IsConfig-kept keeps listed in
+      keeps.at _ c own before ∙ (told.at c before ∙ (λ i. sym (keeps.at item.0.0 c item_own before) i && sym (keeps.at was.refusals.live.0 c live_own before) i));
+}

@@ -1,0 +1,26 @@
+use Rattle.std.proofs.Common.{◌||◌, ◌∙◌, refl, sym, ap}
+use Rattle.std.proofs.Math.Bool.{or-false}
+use Rattle.sc_expand.proofs.TakingLemmas.{stays-there}
+use Rattle.sc_model.proofs.SetLemmas.{Denotes-self, Denotes-Keeps}
+use Rattle.sc_expand.proofs.refusals.Refusals.wait.Goals as goal
+
+pub returns-then-is_never-clause-waits : goal.returns-then-is_never-clause-waits
+returns-then-is_never-clause-waits g c =
+    let s = g.C.Conditions.sets c.args.conds.now in
+    let never = c.is_never.ensures.0 c.if-is_never.true in
+    record {
+      live = record { own = c.requires.live; at = λ x listed. sym (stays-there (s.has c.args.self.now.live.0 x) (s.has c.args.cond.0 x) (never.none x listed)) };
+      waiting = record { own = c.requires.waiting; at = λ x listed. sym (ap (λ b. s.has c.args.self.now.waiting.0 x || b) (never.none x listed) ∙ or-false (s.has c.args.self.now.waiting.0 x)) };
+      faults = refl;
+    }
+
+pub returns-clause-waits : goal.returns-clause-waits
+returns-clause-waits g c =
+    let old = g.C.Conditions.sets c.args.conds.now in
+    let n = c.negate.ensures.keeps in
+    let a = c.apply_and.ensures.keeps in
+    record {
+      live = Denotes-Keeps c.apply_or.ensures.keeps (c.in_ok-live.ensures.meaning _ _ (Denotes-Keeps n (Denotes-self old c.args.self.now.live.0 c.requires.live)) (c.in_ok-others.ensures.meaning _ (Denotes-self old c.args.cond.0 c.requires.own)));
+      waiting = c.in_ok-waiting.ensures.meaning _ _ (Denotes-Keeps a (Denotes-Keeps n (Denotes-self old c.args.self.now.waiting.0 c.requires.waiting))) (Denotes-Keeps a (Denotes-Keeps n (Denotes-self old c.args.cond.0 c.requires.own)));
+      faults = refl;
+    }
