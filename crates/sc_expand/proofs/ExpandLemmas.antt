@@ -48,7 +48,7 @@ items-bared s (x ∷ xs) c = by (s.has x.0.0 c) (items-bared s xs c)
     by true same = ap (λ l. x.1.token ∷ l) same
     by false same = same
 
-All-bared : (P : Cond × Token → Type 0) (Q : Cond × Hidden → Type 0) → ((x : Cond × Hidden) → Q x → P (bared x)) → (xs : List (Cond × Hidden)) → All Q xs → All P (map bared xs)
+pub All-bared : (P : Cond × Token → Type 0) (Q : Cond × Hidden → Type 0) → ((x : Cond × Hidden) → Q x → P (bared x)) → (xs : List (Cond × Hidden)) → All Q xs → All P (map bared xs)
 All-bared P Q weaker [] all = All-nil P
 All-bared P Q weaker (x ∷ xs) all = All-cons P (bared x) (map bared xs) (weaker x (All-head Q x xs all)) (All-bared P Q weaker xs (All-tail Q x xs all))
 

@@ -86,3 +86,4 @@ pub mod SettledEnds
 pub mod SettledPlaces
 pub mod ClosingLemmas
 pub mod RestrictedLists
+pub mod SettlingLemmas

@@ -26,3 +26,4 @@ pub mod WorkLists
 pub mod FirstCalls
 pub mod Open
 pub mod Closing
+pub mod Settling

@@ -1,4 +1,4 @@
--- Configurations that are refused.
+-- Configurations that are refused, or wait.
 use Rattle.std.specs.Prelude.{◌≡◌, ℕ, ◌<◌, ◌&&◌, ◌||◌, ◌++◌, ◌∷◌, [], not, Bool, true, false, List, All, if◌then◌else◌}
 use Rattle.c11_macros.specs.Hidden.{Failure}
 use Rattle.sc_base.specs.declared.place.Place.{Place}
@@ -25,8 +25,8 @@ pub record BeginsToWait (old new : Sets) (cond : ℕ) (was now : Refusals) : Typ
   pub waiting : Denotes new now.waiting.0 (λ c. old.has was.waiting.0 c || old.has cond c)
   pub faults : now.faults ≡ was.faults
 
--- What is decided where a call is not closed, or a name stands alone: in the whole list it
--- waits for what follows, and in an argument an open call is refused and a name alone is none.
+-- Who ends where a call is not closed, or a name stands alone: in the whole list it waits for what
+-- follows, and in an argument an open call is refused and a name alone is none.
 abbrev pub is_left : Bool → Bool → Bool → Bool
 is_left whole still alone = still || (whole && alone)
 

@@ -133,7 +133,7 @@ fn unhidden(
 }
 
 /// What the list has become, without hide sets.
-fn finished(expansion: Expansion) -> Result<Expanded, OutOfMemory>
+pub fn finished(expansion: Expansion) -> Result<Expanded, OutOfMemory>
     ensures list { IfOk result (λ e. e.list ≡ map (λ item. (item.0, item.1.token)) expansion.top.out) }
     ensures faults { IfOk result (λ e. e.faults ≡ expansion.refusals.faults) }
 {

@@ -15,15 +15,18 @@ mod laws;
 mod refusals;
 mod role;
 mod running;
+mod settling;
 mod source;
 mod taking;
 mod turns;
 mod waiting;
 mod work_list;
 
+pub use closing::close;
 pub use expanding::expand;
 pub use laws::{
     expansion_commutes_with_maps_of_places, expansion_stays_on_one_line, settled_list_closes,
     settling_commutes_with_maps_of_places, steps_depend_on_the_names_looked_up, steps_end,
     steps_give_the_expansion, steps_settle_the_list, steps_take_the_footprint,
 };
+pub use settling::{Settled, settle};

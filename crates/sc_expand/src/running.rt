@@ -106,7 +106,7 @@ impl Expansion {
         Ok(false)
     }
 
-    /// Drops the calls, first tokens and finished arguments that only refused configurations have.
+    /// Drops the calls, first tokens and finished arguments of no configuration that goes on.
     fn drop_refused<C: Conditions>(&mut self, conds: &mut C) -> Result<(), OutOfMemory>
         requires held { (names : List (List ℕ)) × ((files : ℕ) × IsHeldExpansion (stores (C.sets conds.old) names self.old.sets) files self.old) }
         ensures rested { OnOk result ((names : List (List ℕ))
@@ -122,7 +122,7 @@ impl Expansion {
         Ok(())
     }
 
-    /// Drops the first tokens that only refused configurations have, also where calls wait. The
+    /// Drops the first tokens of no configuration that goes on, also where calls wait. The
     /// tokens of a call that has left the list are such, and no list is kept with them while the
     /// call's arguments expand.
     fn drop_first_tokens<C: Conditions>(&mut self, conds: &mut C) -> Result<(), OutOfMemory>
@@ -142,7 +142,7 @@ impl Expansion {
         }
     }
 
-    /// Drops the first token if only refused configurations have it, with those that were
+    /// Drops the first token if no configuration that goes on has it, with those that were
     /// restricted with it, and says whether it did.
     fn drop_first_token<C: Conditions>(&mut self, conds: &mut C) -> Result<bool, OutOfMemory>
         requires held { (names : List (List ℕ)) × ((files : ℕ) × IsHeldExpansion (stores (C.sets conds.old) names self.old.sets) files self.old) }
@@ -170,7 +170,7 @@ impl Expansion {
         Ok(true)
     }
 
-    /// Drops what the next turns would take, as long as only refused configurations have it.
+    /// Drops what the next turns would take, as long as no configuration that goes on has it.
     fn drop_turns<C: Conditions>(&mut self, conds: &mut C) -> Result<(), OutOfMemory>
         requires held { (names : List (List ℕ)) × ((files : ℕ) × IsHeldExpansion (stores (C.sets conds.old) names self.old.sets) files self.old) }
         ensures rested { OnOk result ((names : List (List ℕ))
@@ -189,7 +189,7 @@ impl Expansion {
         }
     }
 
-    /// Drops what the next turn would take, if only refused configurations have it, and says
+    /// Drops what the next turn would take, if no configuration that goes on has it, and says
     /// whether it did.
     fn drop_one<C: Conditions>(&mut self, conds: &mut C) -> Result<bool, OutOfMemory>
         requires held { (names : List (List ℕ)) × ((files : ℕ) × IsHeldExpansion (stores (C.sets conds.old) names self.old.sets) files self.old) }
