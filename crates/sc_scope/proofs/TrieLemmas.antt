@@ -20,7 +20,7 @@ use Rattle.sc_scope.proofs.SearchLemmas.{AreOwn-Keeps}
 
 abbrev pub height : Trie → ℕ
 height Empty = 0
-height (Full' p left here q right) = 1 + (height left + height right)
+height (Full' number p left here q right) = 1 + (height left + height right)
 
 even_at : (left right : Level) (n : ℕ) → (if (2 * n) % 2 == 0 then left ((2 * n) / 2) else right ((2 * n) / 2)) ≡ left n
 even_at left right n =

@@ -21,7 +21,7 @@ at_branch left here right (suc n) = if n % 2 == 0 then left (n / 2) else right (
 
 abbrev pub bindings_at : Trie → ℕ → List (Cond × NameKind)
 bindings_at Empty = λ n. []
-bindings_at (Full' p left here q right) = at_branch (bindings_at left) (bindings_of here) (bindings_at right)
+bindings_at (Full' number p left here q right) = at_branch (bindings_at left) (bindings_of here) (bindings_at right)
 
 abbrev pub levels_of : declared.Levels → List Level
 levels_of Bottom = []

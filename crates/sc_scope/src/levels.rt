@@ -1,12 +1,15 @@
-ghost use Rattle.std.specs.Prelude.{◌≡◌, [], ◌∷◌, drop, length, map, IfOk};
+ghost use Rattle.std.specs.Prelude.{◌≡◌, [], ◌∷◌, All, List, drop, length, map, IfOk};
+ghost use Rattle.sc_model.specs.Growth.{Extends};
 ghost use Rattle.sc_model.specs.Sets.{IsCond, Keeps};
 ghost use Rattle.sc_scope.specs.Kept.{bindings_at, levels_of};
 ghost use Rattle.sc_scope.specs.Kinds.{MergesLevels};
-ghost use Rattle.sc_scope.specs.Levels.{bound, joined};
+ghost use Rattle.sc_scope.specs.Levels.{Level, bound, joined};
+ghost use Rattle.sc_scope.specs.Numbered.{levels_made, AreNumbered, IsNumbered};
 ghost use Rattle.sc_scope.specs.Search.{OwnsLevels};
 
 use crate::bindings::Bindings;
 use crate::kind::NameKind;
+use crate::numbers::Numbers;
 use crate::trie::Trie;
 use sc_base::{Cond, Name, OutOfMemory};
 use sc_presence::Conditions;
@@ -37,7 +40,8 @@ impl Drop for Levels {
 impl Levels {
     /// Another owner of the same levels.
     pub(crate) fn share(&self) -> Result<Levels, OutOfMemory>
-        ensures { IfOk result (λ levels. levels_of levels ≡ levels_of self.now) }
+        ensures levels { IfOk result (λ levels. levels_of levels ≡ levels_of self.now) }
+        ensures numbered { IfOk result (λ levels. (made : List Level) → AreNumbered made self.now → AreNumbered made levels) }
     {
         match self {
             Levels::Bottom => Ok(Levels::Bottom),
@@ -47,7 +51,8 @@ impl Levels {
 
     /// The levels below the top.
     pub(crate) fn popped(&self) -> Result<Levels, OutOfMemory>
-        ensures { IfOk result (λ levels. levels_of levels ≡ drop 1 (levels_of self.now)) }
+        ensures levels { IfOk result (λ levels. levels_of levels ≡ drop 1 (levels_of self.now)) }
+        ensures numbered { IfOk result (λ levels. (made : List Level) → AreNumbered made self.now → AreNumbered made levels) }
     {
         match self {
             Levels::Bottom => Ok(Levels::Bottom),
@@ -56,15 +61,20 @@ impl Levels {
     }
 
     /// The levels with the bindings of the top before those of the level below, where there is one.
-    pub(crate) fn joined(&self, alloc: Global) -> Result<Levels, OutOfMemory>
-        ensures { IfOk result (λ levels. levels_of levels ≡ joined (levels_of self.now)) }
+    pub(crate) fn joined(&self, numbers: &mut Numbers, alloc: Global) -> Result<Levels, OutOfMemory>
+        requires { AreNumbered (levels_made numbers.old) self.now }
+        ensures levels { IfOk result (λ levels. levels_of levels ≡ joined (levels_of self.now)) }
+        ensures numbered { IfOk result (λ levels. AreNumbered (levels_made numbers.new) levels) }
+
+        // at every outcome
+        ensures grows { Extends (levels_made numbers.old) (levels_made numbers.new) }
     {
         match self {
             Levels::Bottom => Ok(Levels::Bottom),
             Levels::Level(below, top) => match below.as_ref() {
                 Levels::Bottom => self.share(),
                 Levels::Level(rest, next) => {
-                    Ok(Levels::Level(rest.clone()?, top.before(alloc, next)?))
+                    Ok(Levels::Level(rest.clone()?, top.before(numbers, alloc, next)?))
                 }
             },
         }
@@ -73,18 +83,25 @@ impl Levels {
     /// The levels with one more binding of the name in the top one, where there is one.
     pub(crate) fn bound(
         &self,
+        numbers: &mut Numbers,
         alloc: Global,
         name: Name,
         kind: NameKind,
         cond: Cond,
     ) -> Result<Levels, OutOfMemory>
-        ensures { IfOk result (λ levels. levels_of levels ≡ bound name.0 (cond, kind) (levels_of self.now)) }
+        requires { AreNumbered (levels_made numbers.old) self.now }
+        ensures levels { IfOk result (λ levels. levels_of levels ≡ bound name.0 (cond, kind) (levels_of self.now)) }
+        ensures numbered { IfOk result (λ levels. AreNumbered (levels_made numbers.new) levels) }
+
+        // at every outcome
+        ensures grows { Extends (levels_made numbers.old) (levels_made numbers.new) }
     {
         match self {
             Levels::Bottom => Ok(Levels::Bottom),
             Levels::Level(below, top) => {
                 let bindings = top.get(name.0)?.bound(alloc, cond, kind)?;
-                Ok(Levels::Level(below.clone()?, top.set(alloc, name.0, bindings)?))
+                let top = top.set(numbers, alloc, name.0, bindings)?;
+                Ok(Levels::Level(below.clone()?, top))
             }
         }
     }
@@ -94,6 +111,7 @@ impl Levels {
     pub(crate) fn merged<C: Conditions>(
         &self,
         conds: &mut C,
+        numbers: &mut Numbers,
         alloc: Global,
         here: Cond,
         other: &Levels,
@@ -104,13 +122,17 @@ impl Levels {
         requires own { OwnsLevels (C.sets conds.old) (levels_of self.now) }
         requires other_own { OwnsLevels (C.sets conds.old) (levels_of other.now) }
         requires count { length (levels_of self.now) ≡ length (levels_of other.now) }
+        requires numbered { AreNumbered (levels_made numbers.old) self.now }
+        requires other_numbered { AreNumbered (levels_made numbers.old) other.now }
         ensures merges { IfOk result (λ levels. MergesLevels (C.sets conds.old) (C.sets conds.new) here there
             (levels_of self.now) (levels_of other.now) (levels_of levels)) }
+        ensures numbered { IfOk result (λ levels. AreNumbered (levels_made numbers.new) levels) }
 
         // at every outcome
         ensures keeps { Keeps (C.sets conds.old) (C.sets conds.new) }
+        ensures grows { Extends (levels_made numbers.old) (levels_made numbers.new) }
     {
-        let tops = merged_tops(conds, alloc, here, self, there, other)?;
+        let tops = merged_tops(conds, numbers, alloc, here, self, there, other)?;
         stacked(alloc, tops)
     }
 }
@@ -120,6 +142,7 @@ impl Levels {
 /// Each level as it is on both sides, the top first.
 fn merged_tops<C: Conditions>(
     conds: &mut C,
+    numbers: &mut Numbers,
     alloc: Global,
     here: Cond,
     left: &Levels,
@@ -131,11 +154,15 @@ fn merged_tops<C: Conditions>(
     requires left_own { OwnsLevels (C.sets conds.old) (levels_of left.now) }
     requires right_own { OwnsLevels (C.sets conds.old) (levels_of right.now) }
     requires count { length (levels_of left.now) ≡ length (levels_of right.now) }
+    requires left_numbered { AreNumbered (levels_made numbers.old) left.now }
+    requires right_numbered { AreNumbered (levels_made numbers.old) right.now }
     ensures merges { IfOk result (λ tops. MergesLevels (C.sets conds.old) (C.sets conds.new) here there
         (levels_of left.now) (levels_of right.now) (map bindings_at tops.items)) }
+    ensures numbered { IfOk result (λ tops. All (IsNumbered (levels_made numbers.new)) tops.items) }
 
     // at every outcome
     ensures keeps { Keeps (C.sets conds.old) (C.sets conds.new) }
+    ensures grows { Extends (levels_made numbers.old) (levels_made numbers.new) }
 {
     let mut tops = Vec::new(alloc);
     let mut left = left;
@@ -146,7 +173,7 @@ fn merged_tops<C: Conditions>(
             Levels::Level(left_below, left_top) => match right {
                 Levels::Bottom => return Ok(tops),
                 Levels::Level(right_below, right_top) => {
-                    let top = left_top.merged(conds, alloc, here, right_top, there)?;
+                    let top = left_top.merged(conds, numbers, alloc, here, right_top, there)?;
                     tops.push(top)?;
                     left = left_below;
                     right = right_below;
@@ -158,7 +185,8 @@ fn merged_tops<C: Conditions>(
 
 /// These as levels, the first on top.
 fn stacked(alloc: Global, tops: Vec<Trie>) -> Result<Levels, OutOfMemory>
-    ensures { IfOk result (λ levels. levels_of levels ≡ map bindings_at tops.items) }
+    ensures levels { IfOk result (λ levels. levels_of levels ≡ map bindings_at tops.items) }
+    ensures numbered { IfOk result (λ levels. (made : List Level) → All (IsNumbered made) tops.items → AreNumbered made levels) }
 {
     let mut tops = tops;
     let mut levels = Levels::Bottom;

@@ -5,6 +5,7 @@ ghost use Rattle.sc_scope.specs.Levels.{bound, joined, no_bindings};
 
 use crate::kind::NameKind;
 use crate::levels::Levels;
+use crate::numbers::Numbers;
 use crate::search::{Search, search_levels};
 use crate::trie::Trie;
 use sc_base::{Cond, Name, OutOfMemory};
@@ -24,12 +25,15 @@ pub struct Scopes {
 
 impl Scopes {
     ghost use Rattle.sc_scope.specs.Kinds.{KeepsKinds};
+    ghost use Rattle.sc_model.specs.Growth.{Extends};
+    ghost use Rattle.sc_scope.specs.Numbered.{levels_made, HasNumbers};
     ghost use Rattle.sc_scope.specs.Search.{bindings_in, is_typedef_at, AreOwn, OwnsLevels};
     ghost use Rattle.sc_scope.specs.Seen.{levels_in};
 
     /// No levels. The scopes keep `alloc` for those that come.
     pub fn new(alloc: Global) -> Self
-        ensures { levels_in result ≡ [] }
+        ensures levels { levels_in result ≡ [] }
+        ensures numbered { (numbers : Numbers) → HasNumbers numbers result }
     {
         Scopes {
             top: Levels::Bottom,
@@ -40,7 +44,8 @@ impl Scopes {
 
     /// Another owner of the same levels.
     pub fn share(&self) -> Result<Scopes, OutOfMemory>
-        ensures { IfOk result (λ scopes. levels_in scopes ≡ levels_in self.now) }
+        ensures levels { IfOk result (λ scopes. levels_in scopes ≡ levels_in self.now) }
+        ensures numbered { IfOk result (λ scopes. (numbers : Numbers) → HasNumbers numbers self.now → HasNumbers numbers scopes) }
     {
         Ok(Scopes {
             top: self.top.share()?,
@@ -60,6 +65,7 @@ impl Scopes {
     pub fn push(&mut self) -> Result<(), OutOfMemory>
         ensures ok { OnOk result (levels_in self.new ≡ no_bindings ∷ levels_in self.old) }
         ensures err { OnErr result (levels_in self.new ≡ levels_in self.old) }
+        ensures numbered { (numbers : Numbers) → HasNumbers numbers self.old → HasNumbers numbers self.new }
     {
         let Some(count) = self.count.checked_add(1) else {
             return Err(OutOfMemory);
@@ -74,6 +80,7 @@ impl Scopes {
     pub fn pop(&mut self) -> Result<(), OutOfMemory>
         ensures ok { OnOk result (levels_in self.new ≡ drop 1 (levels_in self.old)) }
         ensures err { OnErr result (levels_in self.new ≡ levels_in self.old) }
+        ensures numbered { (numbers : Numbers) → HasNumbers numbers self.old → HasNumbers numbers self.new }
     {
         self.top = self.top.popped()?;
         self.count = self.count.saturating_sub(1);
@@ -81,11 +88,16 @@ impl Scopes {
     }
 
     /// Puts the bindings of the top level before those of the level below, where there is one.
-    pub fn join(&mut self) -> Result<(), OutOfMemory>
+    pub fn join(&mut self, numbers: &mut Numbers) -> Result<(), OutOfMemory>
+        requires { HasNumbers numbers.old self.old }
         ensures ok { OnOk result (levels_in self.new ≡ joined (levels_in self.old)) }
         ensures err { OnErr result (levels_in self.new ≡ levels_in self.old) }
+
+        // at every outcome
+        ensures numbered { HasNumbers numbers.new self.new }
+        ensures grows { Extends (levels_made numbers.old) (levels_made numbers.new) }
     {
-        self.top = self.top.joined(self.alloc)?;
+        self.top = self.top.joined(numbers, self.alloc)?;
         if self.count > 1 {
             self.count -= 1;
         }
@@ -93,11 +105,22 @@ impl Scopes {
     }
 
     /// Binds the name in the top level, where there is one.
-    pub fn bind(&mut self, name: Name, kind: NameKind, cond: Cond) -> Result<(), OutOfMemory>
+    pub fn bind(
+        &mut self,
+        numbers: &mut Numbers,
+        name: Name,
+        kind: NameKind,
+        cond: Cond,
+    ) -> Result<(), OutOfMemory>
+        requires { HasNumbers numbers.old self.old }
         ensures ok { OnOk result (levels_in self.new ≡ bound name.0 (cond, kind) (levels_in self.old)) }
         ensures err { OnErr result (levels_in self.new ≡ levels_in self.old) }
+
+        // at every outcome
+        ensures numbered { HasNumbers numbers.new self.new }
+        ensures grows { Extends (levels_made numbers.old) (levels_made numbers.new) }
     {
-        self.top = self.top.bound(self.alloc, name, kind, cond)?;
+        self.top = self.top.bound(numbers, self.alloc, name, kind, cond)?;
         Ok(())
     }
 
@@ -131,6 +154,7 @@ impl Scopes {
     pub fn merge<C: Conditions>(
         &mut self,
         conds: &mut C,
+        numbers: &mut Numbers,
         here: Cond,
         other: &Scopes,
         there: Cond,
@@ -140,6 +164,8 @@ impl Scopes {
         requires own { OwnsLevels (C.sets conds.old) (levels_in self.old) }
         requires other_own { OwnsLevels (C.sets conds.old) (levels_in other.now) }
         requires count { length (levels_in self.old) ≡ length (levels_in other.now) }
+        requires numbered { HasNumbers numbers.old self.old }
+        requires other_numbered { HasNumbers numbers.old other.now }
         ensures own { OnOk result (OwnsLevels (C.sets conds.new) (levels_in self.new)) }
         ensures count { OnOk result (length (levels_in self.new) ≡ length (levels_in self.old)) }
         ensures here { OnOk result (KeepsKinds (C.sets conds.old) (C.sets conds.new) here there (levels_in self.old) (levels_in self.new)) }
@@ -147,9 +173,13 @@ impl Scopes {
         ensures err { OnErr result (levels_in self.new ≡ levels_in self.old) }
 
         // at every outcome
+        ensures numbered { HasNumbers numbers.new self.new }
+        ensures grows { Extends (levels_made numbers.old) (levels_made numbers.new) }
         ensures keeps { Keeps (C.sets conds.old) (C.sets conds.new) }
     {
-        self.top = self.top.merged(conds, self.alloc, here, &other.top, there)?;
+        self.top = self
+            .top
+            .merged(conds, numbers, self.alloc, here, &other.top, there)?;
         Ok(())
     }
 }

@@ -1,32 +1,37 @@
-ghost use Rattle.std.specs.Prelude.{◌≡◌, ◌++◌, ◌==◌, ℕ, IfOk, IsTrue, if◌then◌else◌};
+ghost use Rattle.std.specs.Prelude.{◌≡◌, ◌++◌, ◌==◌, ℕ, List, IfOk, IsTrue, if◌then◌else◌};
+ghost use Rattle.sc_model.specs.Growth.{Extends};
 ghost use Rattle.sc_model.specs.Sets.{IsCond, Keeps};
 ghost use Rattle.sc_scope.specs.Kept.{at_branch, bindings_of, bindings_at, bindings_after, level_after};
 ghost use Rattle.sc_scope.specs.Kinds.{MergesLevel, NarrowsLevel, OwnsLevel};
+ghost use Rattle.sc_scope.specs.Levels.{Level};
+ghost use Rattle.sc_scope.specs.Numbered.{levels_made, IsNumbered, IsNumberedIfSome};
 
 use crate::bindings::Bindings;
 use crate::merge::{merged_bindings, narrowed_bindings};
+use crate::numbers::Numbers;
 use sc_base::{Cond, OutOfMemory};
 use sc_presence::Conditions;
 use std::alloc::Global;
 use std::rc::Rc;
 
 /// The bindings of the names of one level. Name 0 stands at the root, and the name after `n` on the
-/// side of the last bit of `n`, as name `n / 2`.
+/// side of the last bit of `n`, as name `n / 2`. Each part that is not empty has a number.
 #[derive(Drop)]
 pub(crate) enum Trie {
     Empty,
-    Full(Rc<Trie>, Bindings, Rc<Trie>),
+    Full(usize, Rc<Trie>, Bindings, Rc<Trie>),
 }
 
 impl Trie {
     /// Another owner of the same bindings.
     pub(crate) fn share(&self) -> Result<Trie, OutOfMemory>
-        ensures { IfOk result (λ trie. (n : ℕ) → bindings_at trie n ≡ bindings_at self.now n) }
+        ensures bindings { IfOk result (λ trie. (n : ℕ) → bindings_at trie n ≡ bindings_at self.now n) }
+        ensures numbered { IfOk result (λ trie. (made : List Level) → IsNumbered made self.now → IsNumbered made trie) }
     {
         match self {
             Trie::Empty => Ok(Trie::Empty),
-            Trie::Full(left, here, right) => {
-                Ok(Trie::Full(left.clone()?, here.share()?, right.clone()?))
+            Trie::Full(number, left, here, right) => {
+                Ok(Trie::Full(*number, left.clone()?, here.share()?, right.clone()?))
             }
         }
     }
@@ -37,7 +42,7 @@ impl Trie {
     {
         match self {
             Trie::Empty => Ok(Bindings::Unbound),
-            Trie::Full(left, here, right) => {
+            Trie::Full(_, left, here, right) => {
                 if name == 0 {
                     here.share()
                 } else if (name - 1) % 2 == 0 {
@@ -52,28 +57,35 @@ impl Trie {
     /// The same but for one name, which has these bindings.
     pub(crate) fn set(
         &self,
+        numbers: &mut Numbers,
         alloc: Global,
         name: usize,
         bindings: Bindings,
     ) -> Result<Trie, OutOfMemory>
-        ensures { IfOk result (λ trie. (n : ℕ) → bindings_at trie n ≡ (if n == name then bindings_of bindings else bindings_at self.now n)) }
+        requires { IsNumbered (levels_made numbers.old) self.now }
+        ensures bindings { IfOk result (λ trie. (n : ℕ) → bindings_at trie n ≡ (if n == name then bindings_of bindings else bindings_at self.now n)) }
+        ensures numbered { IfOk result (λ trie. IsNumbered (levels_made numbers.new) trie) }
+
+        // at every outcome
+        ensures grows { Extends (levels_made numbers.old) (levels_made numbers.new) }
     {
         let (left, here, right) = self.parts(alloc)?;
         if name == 0 {
-            return Ok(Trie::Full(left, bindings, right));
+            return numbers.branch(left, bindings, right);
         }
         let half = (name - 1) / 2;
         if (name - 1) % 2 == 0 {
-            let left = Rc::new(alloc, left.set(alloc, half, bindings)?)?;
-            Ok(Trie::Full(left, here, right))
+            let left = Rc::new(alloc, left.set(numbers, alloc, half, bindings)?)?;
+            numbers.branch(left, here, right)
         } else {
-            let right = Rc::new(alloc, right.set(alloc, half, bindings)?)?;
-            Ok(Trie::Full(left, here, right))
+            let right = Rc::new(alloc, right.set(numbers, alloc, half, bindings)?)?;
+            numbers.branch(left, here, right)
         }
     }
 
     fn parts(&self, alloc: Global) -> Result<(Rc<Trie>, Bindings, Rc<Trie>), OutOfMemory>
-        ensures { IfOk result (λ parts. (n : ℕ) → at_branch (bindings_at parts.0.value) (bindings_of parts.1) (bindings_at parts.2.value) n ≡ bindings_at self.now n) }
+        ensures bindings { IfOk result (λ parts. (n : ℕ) → at_branch (bindings_at parts.0.value) (bindings_of parts.1) (bindings_at parts.2.value) n ≡ bindings_at self.now n) }
+        ensures numbered { IfOk result (λ parts. (made : List Level) → IsNumbered made self.now → IsNumbered made parts.0.value × IsNumbered made parts.2.value) }
     {
         match self {
             Trie::Empty => {
@@ -81,39 +93,48 @@ impl Trie {
                 let right = Rc::new(alloc, Trie::Empty)?;
                 Ok((left, Bindings::Unbound, right))
             }
-            Trie::Full(left, here, right) => Ok((left.clone()?, here.share()?, right.clone()?)),
+            Trie::Full(_, left, here, right) => Ok((left.clone()?, here.share()?, right.clone()?)),
         }
     }
 
     /// The bindings of these names, before those that the names have below.
-    pub(crate) fn before(&self, alloc: Global, below: &Trie) -> Result<Trie, OutOfMemory>
-        ensures { IfOk result (λ trie. (n : ℕ) → bindings_at trie n ≡ bindings_at self.now n ++ bindings_at below.now n) }
+    pub(crate) fn before(
+        &self,
+        numbers: &mut Numbers,
+        alloc: Global,
+        below: &Trie,
+    ) -> Result<Trie, OutOfMemory>
+        requires numbered { IsNumbered (levels_made numbers.old) self.now }
+        requires below_numbered { IsNumbered (levels_made numbers.old) below.now }
+        ensures bindings { IfOk result (λ trie. (n : ℕ) → bindings_at trie n ≡ bindings_at self.now n ++ bindings_at below.now n) }
+        ensures numbered { IfOk result (λ trie. IsNumbered (levels_made numbers.new) trie) }
+
+        // at every outcome
+        ensures grows { Extends (levels_made numbers.old) (levels_made numbers.new) }
     {
         match self {
             Trie::Empty => below.share(),
-            Trie::Full(left, here, right) => match below {
+            Trie::Full(_, left, here, right) => match below {
                 Trie::Empty => self.share(),
-                Trie::Full(left_below, here_below, right_below) => {
-                    let left = Rc::new(alloc, left.before(alloc, left_below)?)?;
+                Trie::Full(_, left_below, here_below, right_below) => {
+                    let left = Rc::new(alloc, left.before(numbers, alloc, left_below)?)?;
                     let here = here.before(alloc, here_below)?;
-                    let right = Rc::new(alloc, right.before(alloc, right_below)?)?;
-                    Ok(Trie::Full(left, here, right))
+                    let right = Rc::new(alloc, right.before(numbers, alloc, right_below)?)?;
+                    numbers.branch(left, here, right)
                 }
             },
         }
     }
 
-    /// Whether each name has the same bindings on both sides, in tries of one shape.
+    /// Whether both have the same number, or are empty.
     fn same(&self, other: &Trie) -> bool
-        ensures { IsTrue result → bindings_at self.now ≡ bindings_at other.now }
+        ensures { IsTrue result → (made : List Level) → IsNumbered made self.now → IsNumbered made other.now → bindings_at self.now ≡ bindings_at other.now }
     {
         match self {
             Trie::Empty => matches!(other, Trie::Empty),
-            Trie::Full(left, here, right) => match other {
+            Trie::Full(number, _, _, _) => match other {
                 Trie::Empty => false,
-                Trie::Full(other_left, other_here, other_right) => {
-                    here.same(other_here) && left.same(other_left) && right.same(other_right)
-                }
+                Trie::Full(other_number, _, _, _) => *number == *other_number,
             },
         }
     }
@@ -122,23 +143,26 @@ impl Trie {
     fn narrowed<C: Conditions>(
         &self,
         conds: &mut C,
+        numbers: &mut Numbers,
         alloc: Global,
         cond: Cond,
     ) -> Result<Trie, OutOfMemory>
         requires cond_own { IsCond (C.sets conds.old) cond.0 }
         requires own { OwnsLevel (C.sets conds.old) (bindings_at self.now) }
         ensures narrows { IfOk result (λ trie. NarrowsLevel (C.sets conds.old) (C.sets conds.new) cond (bindings_at self.now) (bindings_at trie)) }
+        ensures numbered { IfOk result (λ trie. IsNumbered (levels_made numbers.new) trie) }
 
         // at every outcome
         ensures keeps { Keeps (C.sets conds.old) (C.sets conds.new) }
+        ensures grows { Extends (levels_made numbers.old) (levels_made numbers.new) }
     {
         match self {
             Trie::Empty => Ok(Trie::Empty),
-            Trie::Full(left, here, right) => {
-                let left = left.narrowed(conds, alloc, cond)?;
+            Trie::Full(_, left, here, right) => {
+                let left = Rc::new(alloc, left.narrowed(conds, numbers, alloc, cond)?)?;
                 let here = narrowed_bindings(conds, alloc, cond, here)?;
-                let right = right.narrowed(conds, alloc, cond)?;
-                branch(alloc, left, here, right)
+                let right = Rc::new(alloc, right.narrowed(conds, numbers, alloc, cond)?)?;
+                numbers.branch(left, here, right)
             }
         }
     }
@@ -148,6 +172,7 @@ impl Trie {
     pub(crate) fn merged<C: Conditions>(
         &self,
         conds: &mut C,
+        numbers: &mut Numbers,
         alloc: Global,
         here: Cond,
         other: &Trie,
@@ -157,13 +182,17 @@ impl Trie {
         requires there_own { IsCond (C.sets conds.old) there.0 }
         requires own { OwnsLevel (C.sets conds.old) (bindings_at self.now) }
         requires other_own { OwnsLevel (C.sets conds.old) (bindings_at other.now) }
+        requires numbered { IsNumbered (levels_made numbers.old) self.now }
+        requires other_numbered { IsNumbered (levels_made numbers.old) other.now }
         ensures merges { IfOk result (λ merged. MergesLevel (C.sets conds.old) (C.sets conds.new) here there
             (bindings_at self.now) (bindings_at other.now) (bindings_at merged)) }
+        ensures numbered { IfOk result (λ merged. IsNumbered (levels_made numbers.new) merged) }
 
         // at every outcome
         ensures keeps { Keeps (C.sets conds.old) (C.sets conds.new) }
+        ensures grows { Extends (levels_made numbers.old) (levels_made numbers.new) }
     {
-        match self.merge(conds, alloc, here, other, there)? {
+        match self.merge(conds, numbers, alloc, here, other, there)? {
             Some(merged) => Ok(merged),
             None => self.share(),
         }
@@ -174,6 +203,7 @@ impl Trie {
     fn merge<C: Conditions>(
         &self,
         conds: &mut C,
+        numbers: &mut Numbers,
         alloc: Global,
         here: Cond,
         other: &Trie,
@@ -183,11 +213,15 @@ impl Trie {
         requires there_own { IsCond (C.sets conds.old) there.0 }
         requires own { OwnsLevel (C.sets conds.old) (bindings_at self.now) }
         requires other_own { OwnsLevel (C.sets conds.old) (bindings_at other.now) }
+        requires numbered { IsNumbered (levels_made numbers.old) self.now }
+        requires other_numbered { IsNumbered (levels_made numbers.old) other.now }
         ensures merges { IfOk result (λ merged. MergesLevel (C.sets conds.old) (C.sets conds.new) here there
             (bindings_at self.now) (bindings_at other.now) (level_after merged (bindings_at self.now))) }
+        ensures numbered { IfOk result (IsNumberedIfSome (levels_made numbers.new)) }
 
         // at every outcome
         ensures keeps { Keeps (C.sets conds.old) (C.sets conds.new) }
+        ensures grows { Extends (levels_made numbers.old) (levels_made numbers.new) }
     {
         if self.same(other) {
             return Ok(None);
@@ -195,32 +229,24 @@ impl Trie {
         match self {
             Trie::Empty => match other {
                 Trie::Empty => Ok(None),
-                Trie::Full(..) => Ok(Some(other.narrowed(conds, alloc, there)?)),
+                Trie::Full(..) => Ok(Some(other.narrowed(conds, numbers, alloc, there)?)),
             },
-            Trie::Full(left, top, right) => match other {
-                Trie::Empty => Ok(Some(self.narrowed(conds, alloc, here)?)),
-                Trie::Full(other_left, other_top, other_right) => {
-                    let new_left = left.merge(conds, alloc, here, other_left, there)?;
+            Trie::Full(_, left, top, right) => match other {
+                Trie::Empty => Ok(Some(self.narrowed(conds, numbers, alloc, here)?)),
+                Trie::Full(_, other_left, other_top, other_right) => {
+                    let new_left = left.merge(conds, numbers, alloc, here, other_left, there)?;
                     let new_top = merged_bindings(conds, alloc, here, top, there, other_top)?;
-                    let new_right = right.merge(conds, alloc, here, other_right, there)?;
+                    let new_right = right.merge(conds, numbers, alloc, here, other_right, there)?;
                     let changes = Changes {
                         left: new_left,
                         top: new_top,
                         right: new_right,
                     };
-                    changes.applied(alloc, left, top, right)
+                    changes.applied(numbers, alloc, left, top, right)
                 }
             },
         }
     }
-}
-
-fn branch(alloc: Global, left: Trie, here: Bindings, right: Trie) -> Result<Trie, OutOfMemory>
-    ensures { IfOk result (λ trie. bindings_at trie ≡ at_branch (bindings_at left) (bindings_of here) (bindings_at right)) }
-{
-    let left = Rc::new(alloc, left)?;
-    let right = Rc::new(alloc, right)?;
-    Ok(Trie::Full(left, here, right))
 }
 
 /// What is new of a trie that is not empty.
@@ -235,13 +261,21 @@ impl Changes {
     /// The trie after these changes, or nothing where there are none.
     fn applied(
         self,
+        numbers: &mut Numbers,
         alloc: Global,
         left: &Rc<Trie>,
         top: &Bindings,
         right: &Rc<Trie>,
     ) -> Result<Option<Trie>, OutOfMemory>
-        ensures { IfOk result (λ after. (n : ℕ) → level_after after (at_branch (bindings_at left.now.value) (bindings_of top.now) (bindings_at right.now.value)) n
+        requires changes { IsNumberedIfSome (levels_made numbers.old) self.left × IsNumberedIfSome (levels_made numbers.old) self.right }
+        requires left { IsNumbered (levels_made numbers.old) left.now.value }
+        requires right { IsNumbered (levels_made numbers.old) right.now.value }
+        ensures bindings { IfOk result (λ after. (n : ℕ) → level_after after (at_branch (bindings_at left.now.value) (bindings_of top.now) (bindings_at right.now.value)) n
             ≡ at_branch (level_after self.left (bindings_at left.now.value)) (bindings_after self.top (bindings_of top.now)) (level_after self.right (bindings_at right.now.value)) n) }
+        ensures numbered { IfOk result (IsNumberedIfSome (levels_made numbers.new)) }
+
+        // at every outcome
+        ensures grows { Extends (levels_made numbers.old) (levels_made numbers.new) }
     {
         if self.left.is_none() && self.top.is_none() && self.right.is_none() {
             return Ok(None);
@@ -254,7 +288,7 @@ impl Changes {
         let left = trie_after(alloc, new_left, left)?;
         let top = bindings_after(new_top, top)?;
         let right = trie_after(alloc, new_right, right)?;
-        Ok(Some(Trie::Full(left, top, right)))
+        Ok(Some(numbers.branch(left, top, right)?))
     }
 }
 
@@ -263,7 +297,8 @@ fn trie_after(
     change: Option<Trie>,
     before: &Rc<Trie>,
 ) -> Result<Rc<Trie>, OutOfMemory>
-    ensures { IfOk result (λ after. bindings_at after.value ≡ level_after change (bindings_at before.now.value)) }
+    ensures bindings { IfOk result (λ after. bindings_at after.value ≡ level_after change (bindings_at before.now.value)) }
+    ensures numbered { IfOk result (λ after. (made : List Level) → IsNumberedIfSome made change → IsNumbered made before.now.value → IsNumbered made after.value) }
 {
     match change {
         Some(trie) => Ok(Rc::new(alloc, trie)?),

@@ -8,4 +8,4 @@ pub returns-clause-merges : goal.returns-clause-merges
 returns-clause-merges g c =
     IfOk-weaker c.stacked.result _ _
     (λ levels is. subst (MergesLevels _ _ c.args.here c.args.there (levels_of c.args.self.now) (levels_of c.args.other.now)) (sym is) c.in_ok-tops.ensures.merges)
-    c.stacked.ensures
+    c.stacked.ensures.levels

@@ -3,6 +3,7 @@ use Rattle.std.proofs.lemmas.Result.{IfOk-weaker}
 use Rattle.sc_model.proofs.SetLemmas.{Keeps-trans}
 use Rattle.sc_scope.specs.Kept.{bindings_at, bindings_of}
 use Rattle.sc_scope.specs.Kinds.{NarrowsLevel, OwnsLevel}
+use Rattle.sc_scope.proofs.NumberLemmas.{IsNumbered-Extends}
 use Rattle.sc_scope.proofs.SearchLemmas.{AreOwn-Keeps}
 use Rattle.sc_scope.proofs.TrieLemmas.{height, full-narrows, none-narrows, own-left, own-level, own-right, own-top}
 use Rattle.sc_scope.proofs.trie.Trie.+narrowed.Goals as goal
@@ -32,6 +33,14 @@ pub returns-in_err-right-in-Full-clause-keeps : goal.returns-in_err-right-in-Ful
 returns-in_err-right-in-Full-clause-keeps g t c =
     Keeps-trans c.narrowed.ensures.keeps (Keeps-trans c.narrowed_bindings.ensures.keeps c.narrowed-in-Full.ensures.keeps)
 
+pub returns-in_err-narrowed-in-Full-2-clause-keeps : goal.returns-in_err-narrowed-in-Full-2-clause-keeps
+returns-in_err-narrowed-in-Full-2-clause-keeps g t c =
+    Keeps-trans c.narrowed.ensures.keeps (Keeps-trans c.narrowed_bindings.ensures.keeps c.narrowed-in-Full.ensures.keeps)
+
+pub branch-numbers-requires-clause-left : goal.branch-numbers-requires-clause-left
+branch-numbers-requires-clause-left g t c =
+    rw c.in_ok-left-in-Full.ensures.ok (IsNumbered-Extends _ c.narrowed-in-Full.ensures.grows c.in_ok-narrowed-in-Full.ensures.numbered)
+
 pub returns-in_ok-right-in-Full-clause-keeps : goal.returns-in_ok-right-in-Full-clause-keeps
 returns-in_ok-right-in-Full-clause-keeps g t c =
     Keeps-trans c.narrowed.ensures.keeps (Keeps-trans c.narrowed_bindings.ensures.keeps c.narrowed-in-Full.ensures.keeps)
@@ -40,6 +49,7 @@ pub returns-in_ok-right-in-Full-clause-narrows : goal.returns-in_ok-right-in-Ful
 returns-in_ok-right-in-Full-clause-narrows g t c =
     let all = full-narrows c.args.cond (bindings_at c.in-Full.left.value) (bindings_at c.in-Full.right.value) _ _ _ _ c.narrowed.ensures.keeps
     c.narrowed_bindings.ensures.keeps c.narrowed-in-Full.ensures.keeps c.requires.cond_own (rw c.in-Full.is at c.requires.own)
-    (rw c.deref.ensures at c.in_ok-left-in-Full.ensures.narrows) c.in_ok-here-in-Full.ensures.narrows
-    (rw c.deref-in-Full.ensures at c.in_ok-right-in-Full.ensures.narrows) in
-    IfOk-weaker c.branch-alloc.result _ _ (λ trie is. rw c.in-Full.is (subst (NarrowsLevel _ _ c.args.cond _) (sym is) all)) c.branch-alloc.ensures
+    (rw c.deref.ensures at c.in_ok-narrowed-in-Full.ensures.narrows) c.in_ok-here-in-Full.ensures.narrows
+    (rw c.deref-in-Full.ensures at c.in_ok-narrowed-in-Full-2.ensures.narrows) in
+    IfOk-weaker c.branch-numbers.result _ _
+    (λ trie is. rw c.in-Full.is (subst (NarrowsLevel _ _ c.args.cond _) (sym (rw (c.in_ok-left-in-Full.ensures.ok, c.in_ok-right-in-Full.ensures.ok) at is)) all)) c.branch-numbers.ensures.bindings
