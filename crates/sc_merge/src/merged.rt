@@ -4,6 +4,7 @@ ghost use Rattle.sc_merge.specs.Merges.{AddsChoices, KeepsShown, KeepValues, Own
 ghost use Rattle.sc_model.specs.Growth.{Extends};
 ghost use Rattle.sc_model.specs.Sets.{Denotes, IsCond, Keeps};
 ghost use Rattle.sc_scope.specs.Kinds.{KeepsKinds};
+ghost use Rattle.sc_scope.specs.Numbered.{levels_made, HasNumbers};
 ghost use Rattle.sc_scope.specs.Search.{OwnsLevels};
 ghost use Rattle.sc_scope.specs.Seen.{levels_in};
 ghost use Rattle.sc_stack.specs.Entries.{states_of, values_of};
@@ -12,7 +13,7 @@ use crate::subparser::Subparser;
 use crate::values::merged_values;
 use sc_base::{Cond, OutOfMemory};
 use sc_presence::Conditions;
-use sc_scope::Scopes;
+use sc_scope::{Numbers, Scopes};
 use sc_stack::Stack;
 use sc_tree::Trees;
 use std::alloc::Global;
@@ -23,16 +24,20 @@ pub fn merge<C: Conditions>(
     alloc: Global,
     conds: &mut C,
     trees: &mut Trees,
+    numbers: &mut Numbers,
     a: &Subparser,
     b: &Subparser,
 ) -> Result<Subparser, OutOfMemory>
     requires a_own { OwnsSubparser (C.sets conds.old) (length trees.old) a.now }
     requires b_own { OwnsSubparser (C.sets conds.old) (length trees.old) b.now }
+    requires a_numbered { HasNumbers numbers.old a.now.scopes }
+    requires b_numbered { HasNumbers numbers.old b.now.scopes }
     requires alike { AreAlike a.now b.now }
     requires silent { map is_some (values_of a.now.stack) ≡ map is_some (values_of b.now.stack) }
     ensures own { IfOk result (λ m. OwnsSubparser (C.sets conds.new) (length trees.new) m) }
     ensures cond { IfOk result (λ m. (f g : List ℕ → Bool) → Denotes (C.sets conds.old) a.now.cond.0 f
         → Denotes (C.sets conds.old) b.now.cond.0 g → Denotes (C.sets conds.new) m.cond.0 (λ c. f c || g c)) }
+    ensures numbered { IfOk result (λ m. HasNumbers numbers.new m.scopes) }
     ensures alike { IfOk result (λ m. AreAlike a.now m) }
     ensures trees { IfOk result (λ m. map is_some (values_of m.stack) ≡ map is_some (values_of a.now.stack)) }
     ensures first { IfOk result (λ m. KeepsShown (C.sets conds.old) (C.sets conds.new) trees.old trees.new a.now.cond b.now.cond a.now m) }
@@ -42,9 +47,10 @@ pub fn merge<C: Conditions>(
     ensures keeps { Keeps (C.sets conds.old) (C.sets conds.new) }
     ensures adds { AddsChoices a.now.cond b.now.cond trees.old trees.new }
     ensures grows { Extends trees.old trees.new }
+    ensures numbers { Extends (levels_made numbers.old) (levels_made numbers.new) }
 {
     let stack = merged_stack(alloc, trees, a.cond, &a.stack, b.cond, &b.stack)?;
-    let scopes = merged_scopes(conds, a.cond, &a.scopes, b.cond, &b.scopes)?;
+    let scopes = merged_scopes(conds, numbers, a.cond, &a.scopes, b.cond, &b.scopes)?;
     let cond = conds.apply_or(a.cond, b.cond)?;
     Ok(Subparser {
         cond,
@@ -86,6 +92,7 @@ fn merged_stack(
 /// The scopes on both sides.
 fn merged_scopes<C: Conditions>(
     conds: &mut C,
+    numbers: &mut Numbers,
     here: Cond,
     left: &Scopes,
     there: Cond,
@@ -96,6 +103,9 @@ fn merged_scopes<C: Conditions>(
     requires left_own { OwnsLevels (C.sets conds.old) (levels_in left.now) }
     requires right_own { OwnsLevels (C.sets conds.old) (levels_in right.now) }
     requires count { length (levels_in left.now) ≡ length (levels_in right.now) }
+    requires left_numbered { HasNumbers numbers.old left.now }
+    requires right_numbered { HasNumbers numbers.old right.now }
+    ensures numbered { IfOk result (λ scopes. HasNumbers numbers.new scopes) }
     ensures own { IfOk result (λ scopes. OwnsLevels (C.sets conds.new) (levels_in scopes)) }
     ensures count { IfOk result (λ scopes. length (levels_in scopes) ≡ length (levels_in left.now)) }
     ensures left { IfOk result (λ scopes. KeepsKinds (C.sets conds.old) (C.sets conds.new) here there (levels_in left.now) (levels_in scopes)) }
@@ -103,8 +113,9 @@ fn merged_scopes<C: Conditions>(
 
     // at every outcome
     ensures keeps { Keeps (C.sets conds.old) (C.sets conds.new) }
+    ensures numbers { Extends (levels_made numbers.old) (levels_made numbers.new) }
 {
     let mut scopes = left.share()?;
-    scopes.merge(conds, here, right, there)?;
+    scopes.merge(conds, numbers, here, right, there)?;
     Ok(scopes)
 }
