@@ -4,6 +4,7 @@ pub mod EnabledLemmas
 pub mod GrowLemmas
 pub mod KindLemmas
 pub mod MarkLemmas
+pub mod NumberLemmas
 pub mod OutcomeLemmas
 pub mod OwnLemmas
 pub mod PhaseLemmas

@@ -2,10 +2,11 @@
 use Rattle.std.proofs.Common.{◌≡◌, ℕ, ◌<◌, false, List, [], ◌∷◌, All, length, Option, Some, None, slice_get, sym, subst}
 use Rattle.std.specs.Prelude.{IfSome, slice_set}
 use Rattle.std.proofs.lemmas.List.Elements.{All-nil, All-cons, All-head, All-tail, All-append, All-set, All-weaker}
-use Rattle.std.proofs.lemmas.Option.{slice_get_within, get_or_from_slice_get}
+use Rattle.std.proofs.lemmas.Option.{slice_get_within}
 use Rattle.sc_base.specs.declared.id.Cond.{Cond}
 use Rattle.sc_base.specs.declared.token.Token.{Token}
 use Rattle.sc_fork.proofs.GrowLemmas.{OwnsEnded-Grows, OwnsRow-Grows}
+use Rattle.sc_fork.proofs.PieceLemmas.{at-all}
 use Rattle.sc_fork.specs.declared.enabled.Enabled.{Enabled}
 use Rattle.sc_fork.specs.declared.event.Event.{Event}
 use Rattle.sc_fork.specs.declared.fork.Core.{Core}
@@ -13,7 +14,7 @@ use Rattle.sc_fork.specs.declared.piece.Piece.{Piece}
 use Rattle.sc_fork.specs.declared.piece.Piece.TheVariants.{Going, Over}
 use Rattle.sc_fork.specs.declared.source.Source.{Source}
 use Rattle.sc_fork.specs.Enabled.{IsEnabled, can_split, can_reduce, can_shift, can_classify, can_merge}
-use Rattle.sc_fork.specs.Owns.{IsSource, OwnsCore, OwnsEnabled, OwnsEnded, OwnsPiece, OwnsRow}
+use Rattle.sc_fork.specs.Owns.{AllNumbered, EachIs, IsSource, OwnsCore, OwnsEnded, OwnsPiece, OwnsRow}
 use Rattle.sc_fork.specs.Pieces.{Becomes, going_of, over_of, numbers_of, without}
 use Rattle.sc_merge.specs.declared.subparser.Subparser.{Subparser}
 use Rattle.sc_model.specs.Growth.{Extends}
@@ -22,19 +23,16 @@ use Rattle.sc_tree.specs.Lines.{Line}
 
 -- ---- the subparsers of an event
 
-row-own : (P : Subparser → Type 0) (rows : List (Option Subparser)) (n : ℕ) (s : Subparser) → slice_get rows n ≡ Some (Some s) → All (λ (row : Option Subparser). IfSome row P) rows → P s
-row-own P rows n s at own =
-    let Q : Option Subparser → Type 0 = λ row. IfSome row P in
-    subst Q (get_or_from_slice_get rows n (Some s) None at) (own n None (slice_get_within rows n (Some s) at))
+module _ (P : Subparser → Type 0) (rows : List (Option Subparser)) where
+  row-is : (n : ℕ) (s : Subparser) → slice_get rows n ≡ Some (Some s) → All (λ (row : Option Subparser). IfSome row P) rows → P s
+  row-is n s at all = at-all (λ (row : Option Subparser). IfSome row P) rows n (Some s) all at
 
-pub owns-enabled : (sets : Sets) (count : ℕ) (source : Source) (rows : List (Option Subparser)) (e : Event) (can : Enabled) → IsEnabled source rows e can
-    → All (λ (row : Option Subparser). IfSome row (OwnsRow sets count source)) rows → OwnsEnabled sets count source can
-owns-enabled sets count source rows _ _ (can_split n i s has phase) own = row-own (OwnsRow sets count source) rows n s.now has own
-owns-enabled sets count source rows _ _ (can_reduce n j p s has phase action) own = row-own (OwnsRow sets count source) rows n s.now has own
-owns-enabled sets count source rows _ _ (can_shift n j s has phase action) own = row-own (OwnsRow sets count source) rows n s.now has own
-owns-enabled sets count source rows _ _ (can_classify n j s has phase) own = row-own (OwnsRow sets count source) rows n s.now has own
-owns-enabled sets count source rows _ _ (can_merge n m s t has_n has_m apart alike) own =
-    (row-own (OwnsRow sets count source) rows n s.now has_n own, row-own (OwnsRow sets count source) rows m t.now has_m own)
+  pub each-is : (source : Source) (e : Event) (can : Enabled) → IsEnabled source rows e can → All (λ (row : Option Subparser). IfSome row P) rows → EachIs P can
+  each-is source _ _ (can_split n i s has phase) all = row-is n s.now has all
+  each-is source _ _ (can_reduce n j p s has phase action) all = row-is n s.now has all
+  each-is source _ _ (can_shift n j s has phase action) all = row-is n s.now has all
+  each-is source _ _ (can_classify n j s has phase) all = row-is n s.now has all
+  each-is source _ _ (can_merge n m s t has_n has_m apart alike) all = (row-is n s.now has_n all, row-is m t.now has_m all)
 
 one-within : (rows : List (Option Subparser)) (n : ℕ) (s : Subparser) (numbers : List ℕ) → slice_get rows n ≡ Some (Some s) → All (λ (k : ℕ). k < length rows) numbers
     → All (λ (k : ℕ). k < length rows) (n ∷ numbers)
@@ -50,20 +48,21 @@ numbers-within source rows _ _ (can_merge n m s t has_n has_m apart alike) =
 
 -- ---- the core after it
 
-without-own : (P : Subparser → Type 0) (numbers : List ℕ) (rows : List (Option Subparser)) → All (λ (row : Option Subparser). IfSome row P) rows
+pub without-own : (P : Subparser → Type 0) (numbers : List ℕ) (rows : List (Option Subparser)) → All (λ (row : Option Subparser). IfSome row P) rows
     → All (λ (row : Option Subparser). IfSome row P) (without numbers rows)
 without-own P [] rows own = own
 without-own P (n ∷ numbers) rows own =
     without-own P numbers (slice_set rows n None) (All-set (λ (row : Option Subparser). IfSome row P) rows n None tt own)
 
-module _ (sets : Sets) (count : ℕ) (source : Source) where
-  going-own : (pieces : List Piece) → All (OwnsPiece sets count source) pieces → All (λ (row : Option Subparser). IfSome row (OwnsRow sets count source)) (going_of pieces)
-  going-own [] own = All-nil (λ (row : Option Subparser). IfSome row (OwnsRow sets count source))
-  going-own (Going s ∷ pieces) own =
-      All-cons (λ (row : Option Subparser). IfSome row (OwnsRow sets count source)) (Some s) (going_of pieces) (All-head (OwnsPiece sets count source) (Going s) pieces own)
-      (going-own pieces (All-tail (OwnsPiece sets count source) (Going s) pieces own))
-  going-own (Over e ∷ pieces) own = going-own pieces (All-tail (OwnsPiece sets count source) (Over e) pieces own)
+-- what is so of each piece that goes on is so of each new row
+module _ (P : Subparser → Type 0) (Q : Piece → Type 0) (goes : (s : Subparser) → Q (Going s) → P s) where
+  pub going-all : (pieces : List Piece) → All Q pieces → All (λ (row : Option Subparser). IfSome row P) (going_of pieces)
+  going-all [] all = All-nil (λ (row : Option Subparser). IfSome row P)
+  going-all (Going s ∷ pieces) all =
+      All-cons (λ (row : Option Subparser). IfSome row P) (Some s) (going_of pieces) (goes s (All-head Q (Going s) pieces all)) (going-all pieces (All-tail Q (Going s) pieces all))
+  going-all (Over e ∷ pieces) all = going-all pieces (All-tail Q (Over e) pieces all)
 
+module _ (sets : Sets) (count : ℕ) (source : Source) where
   over-own : (pieces : List Piece) → All (OwnsPiece sets count source) pieces → All (OwnsEnded sets count source) (over_of pieces)
   over-own [] own = All-nil (OwnsEnded sets count source)
   over-own (Going s ∷ pieces) own = over-own pieces (All-tail (OwnsPiece sets count source) (Going s) pieces own)
@@ -71,7 +70,7 @@ module _ (sets : Sets) (count : ℕ) (source : Source) where
       All-cons (OwnsEnded sets count source) e (over_of pieces) (All-head (OwnsPiece sets count source) (Over e) pieces own)
       (over-own pieces (All-tail (OwnsPiece sets count source) (Over e) pieces own))
 
-row-weaker : (P Q : Subparser → Type 0) → ((s : Subparser) → P s → Q s) → (row : Option Subparser) → IfSome row P → IfSome row Q
+pub row-weaker : (P Q : Subparser → Type 0) → ((s : Subparser) → P s → Q s) → (row : Option Subparser) → IfSome row P → IfSome row Q
 row-weaker P Q weaker None own = own
 row-weaker P Q weaker (Some s) own = weaker s own
 
@@ -86,12 +85,14 @@ OwnsCore-Grows {old} {new} {lines} {added} core keeps longer own = record {
   rows = λ usable. All-weaker (λ (row : Option Subparser). IfSome row (OwnsRow old (length lines) core.source)) (λ (row : Option Subparser). IfSome row (OwnsRow new (length added) core.source))
       (row-weaker (OwnsRow old (length lines) core.source) (OwnsRow new (length added) core.source) (OwnsRow-Grows keeps longer core.source)) core.rows.items (own.rows usable);
   ended = λ usable. All-weaker (OwnsEnded old (length lines) core.source) (OwnsEnded new (length added) core.source) (OwnsEnded-Grows keeps longer core.source) core.ended.items (own.ended usable);
+  numbered = own.numbered;
 }
 
 module _ {old new : Sets} {lines added : List Line} (before after : Core) (keeps : Keeps old new) (own : OwnsCore old (length lines) before) (source : after.source ≡ before.source) where
   pub owns-after : (e : Event) (pieces : List Piece) (made : List ℕ) → Extends lines added → before.is_given_up ≡ false → Becomes before e pieces after made
-      → All (OwnsPiece new (length added) before.source) pieces → OwnsCore new (length added) after
-  owns-after e pieces made longer usable becomes owned =
+      → All (OwnsPiece new (length added) before.source) pieces → AllNumbered after.scope_numbers after.rows.items
+      → OwnsCore new (length added) after
+  owns-after e pieces made longer usable becomes owned numbered =
       let grown = OwnsCore-Grows before keeps longer own in
       record {
         source = subst IsSource (sym source) own.source;
@@ -100,10 +101,11 @@ module _ {old new : Sets} {lines added : List Line} (before after : Core) (keeps
             (subst (All Row) (sym becomes.rows)
             (All-append Row (without (numbers_of e) before.rows.items) (going_of pieces)
             (without-own (OwnsRow new (length added) before.source) (numbers_of e) before.rows.items (grown.rows usable))
-            (going-own new (length added) before.source pieces owned)));
+            (going-all (OwnsRow new (length added) before.source) (OwnsPiece new (length added) before.source) (λ s owns. owns) pieces owned)));
         ended = λ now. subst (λ (s : Source). All (OwnsEnded new (length added) s) after.ended.items) (sym source) (subst (All (OwnsEnded new (length added) before.source)) (sym becomes.ended)
             (All-append (OwnsEnded new (length added) before.source) before.ended.items (over_of pieces) (grown.ended usable)
             (over-own new (length added) before.source pieces owned)));
+        numbered = λ now. numbered;
       }
     where
       Row : Option Subparser → Type 0

@@ -9,6 +9,8 @@ use Rattle.lr_tables.specs.declared.grammar.Action.TheVariants as action
 use Rattle.lr_tables.specs.Paths.{Path}
 use Rattle.sc_base.specs.declared.id.Cond.{Cond}
 use Rattle.sc_base.specs.declared.id.TreeId.{TreeId}
+use Rattle.sc_base.specs.declared.token.Token.{Token}
+use Rattle.sc_fork.specs.Choices.{AddsLeaves}
 use Rattle.sc_fork.specs.declared.enabled.Enabled.{Enabled}
 use Rattle.sc_fork.specs.declared.enabled.Enabled.TheVariants.{Split, Reduce, Shift, Classify, Merge}
 use Rattle.sc_fork.specs.declared.event.Event.{Event}
@@ -24,7 +26,7 @@ use Rattle.sc_merge.specs.Keys.{AreAlike}
 use Rattle.sc_merge.specs.Merges.{AddsChoices, IsChoice, OwnsSubparser}
 use Rattle.sc_model.specs.Sets.{Sets, IsCond, Keeps}
 use Rattle.sc_stack.specs.Entries.{states_of, values_of}
-use Rattle.sc_tree.specs.Lines.{Line, branches_of, OwnsBranches}
+use Rattle.sc_tree.specs.Lines.{Line, leaf, choice, branches_of, OwnsBranches}
 
 -- ---- what an event that a core can do tells
 
@@ -38,8 +40,9 @@ reduce-is : (source : Source) (rows : List (Option Subparser)) (event : Event) (
     → (s.now.phase ≡ At j) × (action_in source s.now j ≡ Some (action.Reduce p))
 reduce-is source rows _ _ _ _ (can_reduce n j p s has phase does) = (phase, does)
 
-shift-is : (source : Source) (rows : List (Option Subparser)) (event : Event) (s : Bor Subparser) (j : ℕ) → IsEnabled source rows event (Shift s j) → s.now.phase ≡ At j
-shift-is source rows _ _ _ (can_shift n j s has phase other) = phase
+shift-is : (source : Source) (rows : List (Option Subparser)) (event : Event) (s : Bor Subparser) (j : ℕ) → IsEnabled source rows event (Shift s j)
+    → (s.now.phase ≡ At j) × ((p : ℕ) → action_in source s.now j ≡ Some (action.Reduce p) → ⊥)
+shift-is source rows _ _ _ (can_shift n j s has phase other) = (phase, other)
 
 classify-is : (source : Source) (rows : List (Option Subparser)) (event : Event) (s : Bor Subparser) (j : ℕ) → IsEnabled source rows event (Classify s j) → s.now.phase ≡ Named j
 classify-is source rows _ _ _ (can_classify n j s has phase) = phase
@@ -58,7 +61,10 @@ module _ (source : Source) (e : Enabled) where
   reduce-action s j p same can = (reduce-is source can.0 can.1.0 s j p (subst (IsEnabled source can.0 can.1.0) same can.1.1)).1
 
   pub shift-phase : (s : Bor Subparser) (j : ℕ) → e ≡ Shift s j → CanDo source e → s.now.phase ≡ At j
-  shift-phase s j same can = shift-is source can.0 can.1.0 s j (subst (IsEnabled source can.0 can.1.0) same can.1.1)
+  shift-phase s j same can = (shift-is source can.0 can.1.0 s j (subst (IsEnabled source can.0 can.1.0) same can.1.1)).0
+
+  pub shift-action : (s : Bor Subparser) (j : ℕ) → e ≡ Shift s j → CanDo source e → (p : ℕ) → action_in source s.now j ≡ Some (action.Reduce p) → ⊥
+  shift-action s j same can = (shift-is source can.0 can.1.0 s j (subst (IsEnabled source can.0 can.1.0) same can.1.1)).1
 
   pub classify-phase : (s : Bor Subparser) (j : ℕ) → e ≡ Classify s j → CanDo source e → s.now.phase ≡ Named j
   classify-phase s j same can = classify-is source can.0 can.1.0 s j (subst (IsEnabled source can.0 can.1.0) same can.1.1)
@@ -67,32 +73,17 @@ module _ (source : Source) (e : Enabled) where
   merge-alike s t same can = merge-is source can.0 can.1.0 s t (subst (IsEnabled source can.0 can.1.0) same can.1.1)
 
   module _ (sets : Sets) (count : ℕ) where
-    pub split-owned : (s : Bor Subparser) (i : ℕ) → e ≡ Split s i → OwnsEnabled sets count source e → OwnsRow sets count source s.now
-    split-owned s i same own = subst (OwnsEnabled sets count source) same own
-
-    pub reduce-owned : (s : Bor Subparser) (j p : ℕ) → e ≡ Reduce s j p → OwnsEnabled sets count source e → OwnsRow sets count source s.now
-    reduce-owned s j p same own = subst (OwnsEnabled sets count source) same own
-
-    pub shift-owned : (s : Bor Subparser) (j : ℕ) → e ≡ Shift s j → OwnsEnabled sets count source e → OwnsRow sets count source s.now
-    shift-owned s j same own = subst (OwnsEnabled sets count source) same own
-
-    pub classify-owned : (s : Bor Subparser) (j : ℕ) → e ≡ Classify s j → OwnsEnabled sets count source e → OwnsRow sets count source s.now
-    classify-owned s j same own = subst (OwnsEnabled sets count source) same own
-
-    pub merge-owned : (s t : Bor Subparser) → e ≡ Merge s t → OwnsEnabled sets count source e → OwnsRow sets count source s.now × OwnsRow sets count source t.now
-    merge-owned s t same own = subst (OwnsEnabled sets count source) same own
-
     pub split-within : (s : Bor Subparser) (i : ℕ) → e ≡ Split s i → CanDo source e → OwnsEnabled sets count source e → i ≤ length source.list.now
-    split-within s i same can own = subst (IsWithin (length source.list.now)) (split-phase s i same can) (split-owned s i same own).within
+    split-within s i same can own = subst (IsWithin (length source.list.now)) (split-phase s i same can) (subst (OwnsEnabled sets count source) same own).within
 
     pub reduce-within : (s : Bor Subparser) (j p : ℕ) → e ≡ Reduce s j p → CanDo source e → OwnsEnabled sets count source e → j ≤ length source.list.now
-    reduce-within s j p same can own = subst (IsWithin (length source.list.now)) (reduce-phase s j p same can) (reduce-owned s j p same own).within
+    reduce-within s j p same can own = subst (IsWithin (length source.list.now)) (reduce-phase s j p same can) (subst (OwnsEnabled sets count source) same own).within
 
     pub shift-within : (s : Bor Subparser) (j : ℕ) → e ≡ Shift s j → CanDo source e → OwnsEnabled sets count source e → j ≤ length source.list.now
-    shift-within s j same can own = subst (IsWithin (length source.list.now)) (shift-phase s j same can) (shift-owned s j same own).within
+    shift-within s j same can own = subst (IsWithin (length source.list.now)) (shift-phase s j same can) (subst (OwnsEnabled sets count source) same own).within
 
     pub classify-within : (s : Bor Subparser) (j : ℕ) → e ≡ Classify s j → CanDo source e → OwnsEnabled sets count source e → j < length source.list.now
-    classify-within s j same can own = subst (IsWithin (length source.list.now)) (classify-phase s j same can) (classify-owned s j same own).within
+    classify-within s j same can own = subst (IsWithin (length source.list.now)) (classify-phase s j same can) (subst (OwnsEnabled sets count source) same own).within
 
   -- ---- what is made
 
@@ -139,7 +130,20 @@ merged-row old new count more source s m is own alike owns trees = record {
       record { symbols = p.symbols; path = subst (λ states. Path c11.are.grammar c11.states states p.symbols) (sym alike.states) p.path; trees = trees ∙ p.trees };
 }
 
--- ---- the branches of new choices
+-- ---- new choices
+
+pub at-all : {A : Type 0} (P : A → Type 0) (xs : List A) (i : ℕ) (x : A) → All P xs → slice_get xs i ≡ Some x → P x
+at-all P xs i x all at = subst P (get_or_from_slice_get xs i x x at) (all i x (slice_get_within xs i x at))
+
+pub merge-leaves : (list : List (Cond × Token)) (here there : Cond) (old new : List Line) → AddsChoices here there old new → AddsLeaves list old new
+merge-leaves list here there old new adds = record {
+  added = adds.added;
+  is = adds.is;
+  leaves = λ i place spelling at.
+      let made : IsChoice here there (leaf place spelling) = at-all (IsChoice here there) adds.added i (leaf place spelling) adds.choices at in
+      let apart : leaf place spelling ≡ choice ((here, made.left) ∷ ((there, made.right) ∷ [])) = made.is in
+      absurd (cc);
+}
 
 append-cases : {A : Type 0} (xs ys : List A) (i : ℕ) (x : A) → slice_get (xs ++ ys) i ≡ Some x → (slice_get xs i ≡ Some x) ⊎ ((j : ℕ) × (slice_get ys j ≡ Some x))
 append-cases [] ys i x at = inr (i, at)
@@ -160,6 +164,5 @@ merge-branches old new lines added here there keeps own own_here own_there adds 
         → All (λ (branch : Cond × TreeId). IsCond new branch.0.0) (branches_of line)
     by i line (inl at) = λ k d below. keeps.own (get_or (branches_of line) k d).0.0 (own.each i line at k d below)
     by i line (inr found) =
-        let same : get_or adds.added found.0 line ≡ line = get_or_from_slice_get adds.added found.0 line line found.1 in
-        let made : IsChoice here there line = subst (IsChoice here there) same (adds.choices found.0 line (slice_get_within adds.added found.0 line found.1)) in
+        let made : IsChoice here there line = at-all (IsChoice here there) adds.added found.0 line adds.choices found.1 in
         subst (λ x. All (λ (branch : Cond × TreeId). IsCond new branch.0.0) (branches_of x)) (sym made.is) (both made.left made.right)

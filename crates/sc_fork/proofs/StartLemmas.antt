@@ -12,7 +12,7 @@ use Rattle.sc_fork.specs.declared.fork.Core.{Core}
 use Rattle.sc_fork.specs.declared.piece.Ended.{Ended}
 use Rattle.sc_fork.specs.declared.source.Source.{Source}
 use Rattle.sc_fork.specs.Cores.{AreRows, no_rows, full_row, AreOver, none_over, IsCore, Starts}
-use Rattle.sc_fork.specs.Owns.{IsOnPath, IsWithin, IsFirst, OwnsRow, OwnsEnded, IsSource, OwnsCore}
+use Rattle.sc_fork.specs.Owns.{AllNumbered, IsOnPath, IsWithin, IsFirst, OwnsRow, OwnsEnded, IsSource, OwnsCore}
 use Rattle.sc_fork.specs.Seen.{IsInput, IsSeen, IsSeenAt, next_unknown}
 use Rattle.sc_fork.specs.Starts.{AreFirst, no_first, one_first}
 use Rattle.sc_fork.proofs.Possible.{possible}
@@ -28,6 +28,7 @@ use Rattle.sc_scope.specs.Shows.{Shows, more_shown, none_shown}
 use Rattle.sc_stack.specs.Entries.{Entry, states_of, values_of}
 use Rattle.sc_base.specs.declared.id.TreeId.{TreeId}
 use Rattle.sc_base.specs.declared.token.Token.{Token}
+use Rattle.sc_scope.specs.Numbered.{HasNumbers}
 use Rattle.sc_tree.specs.Reads.{Tables}
 
 first-owned : (sets : Sets) (count : ℕ) (live : Cond) (s : Subparser) → IsCond sets live.0 → IsFirst live s → OwnsSubparser sets count s
@@ -106,8 +107,15 @@ start-owns sets count begun live source items own first ended = record {
   items = items;
   rows = λ usable. by begun.rows.items first;
   ended = λ usable. subst (All (OwnsEnded sets count begun.source)) (sym ended) (All-nil (OwnsEnded sets count begun.source));
+  numbered = λ usable. numbers begun.rows.items first;
 }
   where
+    numbers : (rows : List (Option Subparser)) → AreFirst sets live rows → AllNumbered begun.scope_numbers rows
+    numbers _ (no_first never) = All-nil (λ (row : Option Subparser). IfSome row (λ s. HasNumbers begun.scope_numbers s.scopes))
+    numbers _ (one_first s some is) =
+        All-cons (λ (row : Option Subparser). IfSome row (λ s. HasNumbers begun.scope_numbers s.scopes)) (Some s) [] (is.numbered begun.scope_numbers)
+        (All-nil (λ (row : Option Subparser). IfSome row (λ s. HasNumbers begun.scope_numbers s.scopes)))
+
     Owned : Option Subparser → Type 0
     Owned row = IfSome row (OwnsRow sets count begun.source)
 

@@ -13,6 +13,8 @@ use Rattle.sc_merge.specs.declared.subparser.Subparser.{Subparser}
 use Rattle.sc_model.specs.declared.cause.Cause.TheVariants.{Syntax}
 use Rattle.sc_model.specs.Sets.{Sets, IsNever}
 use Rattle.sc_scope.specs.Search.{is_typedef_at}
+use Rattle.sc_scope.specs.declared.numbers.Numbers.{Numbers}
+use Rattle.sc_scope.specs.Numbered.{HasNumbers}
 use Rattle.sc_scope.specs.Seen.{levels_in}
 use Rattle.sc_stack.specs.Entries.{state_of}
 
@@ -31,6 +33,7 @@ pub record IsBehind (s : Subparser) (at : ℕ) (cond : Cond) (state : ℕ) (next
   pub cond_is : next.cond ≡ cond
   pub stack : next.stack ≡ record { state = state; value = None } ∷ s.stack
   pub levels : levels_in next.scopes ≡ levels_in s.scopes
+  pub numbered : (numbers : Numbers) → HasNumbers numbers s.scopes → HasNumbers numbers next.scopes
   pub phase : next.phase ≡ Between (at + 1)
 
 -- the part, where some configuration has the condition

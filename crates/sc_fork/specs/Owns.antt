@@ -26,7 +26,9 @@ use Rattle.sc_merge.specs.declared.subparser.Phase.TheVariants.{Between, At, Nam
 use Rattle.sc_merge.specs.declared.subparser.Subparser.{Subparser}
 use Rattle.sc_merge.specs.Merges.{OwnsSubparser}
 use Rattle.sc_model.specs.Sets.{Sets, IsCond}
+use Rattle.sc_scope.specs.declared.numbers.Numbers.{Numbers}
 use Rattle.sc_scope.specs.Levels.{no_bindings}
+use Rattle.sc_scope.specs.Numbered.{HasNumbers}
 use Rattle.sc_scope.specs.Seen.{levels_in}
 use Rattle.sc_stack.specs.Entries.{Entry, states_of, values_of}
 
@@ -84,13 +86,29 @@ abbrev pub OwnsPiece : Sets → ℕ → Source → Piece → Type 0
 OwnsPiece sets count source (Going s) = OwnsRow sets count source s
 OwnsPiece sets count source (Over e) = OwnsEnded sets count source e
 
--- the subparsers that an event names are owned
+-- each subparser that an event names is so
+abbrev pub EachIs : (Subparser → Type 0) → Enabled → Type 0
+EachIs P (enabled.Split s i) = P s.now
+EachIs P (enabled.Reduce s j p) = P s.now
+EachIs P (enabled.Shift s j) = P s.now
+EachIs P (enabled.Classify s j) = P s.now
+EachIs P (enabled.Merge s t) = P s.now × P t.now
+
 abbrev pub OwnsEnabled : Sets → ℕ → Source → Enabled → Type 0
-OwnsEnabled sets count source (enabled.Split s i) = OwnsRow sets count source s.now
-OwnsEnabled sets count source (enabled.Reduce s j p) = OwnsRow sets count source s.now
-OwnsEnabled sets count source (enabled.Shift s j) = OwnsRow sets count source s.now
-OwnsEnabled sets count source (enabled.Classify s j) = OwnsRow sets count source s.now
-OwnsEnabled sets count source (enabled.Merge s t) = OwnsRow sets count source s.now × OwnsRow sets count source t.now
+OwnsEnabled sets count source = EachIs (OwnsRow sets count source)
+
+-- the scopes of the piece have numbers from these, if it goes on
+abbrev pub IsNumbered : Numbers → Piece → Type 0
+IsNumbered numbers (Going s) = HasNumbers numbers s.scopes
+IsNumbered numbers (Over e) = Unit {0}
+
+-- the scopes of the subparsers that an event names have numbers from these
+abbrev pub AreNumbered : Numbers → Enabled → Type 0
+AreNumbered numbers = EachIs (λ s. HasNumbers numbers s.scopes)
+
+-- the scopes of each subparser have numbers from these
+abbrev pub AllNumbered : Numbers → List (Option Subparser) → Type 0
+AllNumbered numbers rows = All (λ (row : Option Subparser). IfSome row (λ s. HasNumbers numbers s.scopes)) rows
 
 -- The core is one of the stores with these conditions and with so many trees. Nothing is kept by a
 -- core that was given up.
@@ -99,10 +117,12 @@ pub record OwnsCore (sets : Sets) (count : ℕ) (core : Core) : Type 0 where
   pub items : All (λ (item : Cond × Token). IsCond sets item.0.0) core.source.list.now
   pub rows : core.is_given_up ≡ false → All (λ (row : Option Subparser). IfSome row (OwnsRow sets count core.source)) core.rows.items
   pub ended : core.is_given_up ≡ false → All (OwnsEnded sets count core.source) core.ended.items
+  pub numbered : core.is_given_up ≡ false → AllNumbered core.scope_numbers core.rows.items
 
 -- no frames, one level without bindings, before the first element
 pub record IsFirst (live : Cond) (s : Subparser) : Type 0 where
   pub cond : s.cond ≡ live
   pub stack : s.stack ≡ []
   pub levels : levels_in s.scopes ≡ no_bindings ∷ []
+  pub numbered : (numbers : Numbers) → HasNumbers numbers s.scopes
   pub phase : s.phase ≡ Between 0

@@ -31,6 +31,8 @@ use Rattle.sc_model.specs.Fault.{Fault, fault_at}
 use Rattle.sc_model.specs.Growth.{IsOneToOne}
 use Rattle.sc_model.specs.Token as plain
 use Rattle.sc_model.specs.Sets.{Sets, IsConfig, IsCond}
+use Rattle.sc_scope.specs.declared.numbers.Numbers.{Numbers}
+use Rattle.sc_scope.specs.Numbered.{HasNumbers}
 use Rattle.sc_scope.specs.Seen.{levels_in}
 use Rattle.sc_stack.specs.Entries.{state_of, states_of}
 use Rattle.sc_tree.specs.Lines.{Line}
@@ -103,6 +105,7 @@ pub record IsPartOf (parent : Subparser) (part : Cond × ℕ) (s : Subparser) : 
   pub cond : s.cond ≡ part.0
   pub stack : s.stack ≡ parent.stack
   pub levels : levels_in s.scopes ≡ levels_in parent.scopes
+  pub numbered : (numbers : Numbers) → HasNumbers numbers parent.scopes → HasNumbers numbers s.scopes
   pub phase : s.phase ≡ At part.1
 
 pub data ArePartsOf (parent : Subparser) : List (Cond × ℕ) → List kept.Piece → Type 0 where

@@ -9,6 +9,8 @@ use Rattle.sc_fork.specs.declared.piece.Ended.{Ended}
 use Rattle.sc_merge.specs.declared.subparser.Phase.{Phase}
 use Rattle.sc_merge.specs.declared.subparser.Phase.TheVariants.{Between, Named}
 use Rattle.sc_merge.specs.declared.subparser.Subparser.{Subparser}
+use Rattle.sc_scope.specs.declared.numbers.Numbers.{Numbers}
+use Rattle.sc_scope.specs.Numbered.{HasNumbers}
 use Rattle.sc_scope.specs.Seen.{levels_in}
 use Rattle.sc_stack.specs.Entries.{Entry, values_of}
 use Rattle.sc_tree.specs.Lines.{Line, leaf, node}
@@ -24,6 +26,7 @@ pub record IsShifted (lines : List Line) (item : Cond × Token) (at x state : �
   pub cond : s.cond ≡ parent.cond
   pub stack : s.stack ≡ record { state = state; value = Some id } ∷ parent.stack
   pub levels : levels_in s.scopes ≡ levels_in parent.scopes
+  pub numbered : (numbers : Numbers) → HasNumbers numbers parent.scopes → HasNumbers numbers s.scopes
   pub phase : s.phase ≡ phase_after at x
 
 -- the production of a whole text: 2 is that of an empty one

@@ -2,10 +2,12 @@
 ghost use Rattle.std.specs.Prelude.{◌≡◌, ◌<◌, ◌&&◌, ◌+◌, ℕ, All, List, length, IfOk, OnOk};
 ghost use Rattle.c11_parsing.specs.Core as core;
 ghost use Rattle.sc_fork.specs.Kinds.{AddsKind, is_type_at};
-ghost use Rattle.sc_fork.specs.Owns.{OwnsPiece, OwnsRow};
+ghost use Rattle.sc_fork.specs.Owns.{IsNumbered, OwnsPiece, OwnsRow};
 ghost use Rattle.sc_fork.specs.Pieces.{IfGoing};
 ghost use Rattle.sc_fork.specs.Seen.{Events};
 ghost use Rattle.sc_model.specs.Sets.{Denotes, IsCond, Keeps};
+ghost use Rattle.sc_scope.specs.declared.numbers.Numbers.{Numbers};
+ghost use Rattle.sc_scope.specs.Numbered.{HasNumbers};
 ghost use Rattle.sc_scope.specs.Search.{OwnsLevels};
 ghost use Rattle.sc_scope.specs.Seen.{levels_in};
 ghost use Rattle.sc_tree.specs.Lines.{Line};
@@ -36,6 +38,7 @@ pub(crate) fn classify<C: Conditions>(
         → Events (C.sets conds.old) (C.sets conds.new) lines lines source.now parent.now core.classify pieces.items) }
     ensures own { (count : ℕ) → OwnsRow (C.sets conds.old) count source.now parent.now
         → IfOk result (λ pieces. All (OwnsPiece (C.sets conds.new) count source.now) pieces.items) }
+    ensures numbered { (numbers : Numbers) → HasNumbers numbers parent.now.scopes → IfOk result (λ pieces. All (IsNumbered numbers) pieces.items) }
     ensures phases { IfOk result (λ pieces. All (IfGoing (λ next. next.phase ≡ Phase.Between (at + 1))) pieces.items) }
 
     // at every outcome

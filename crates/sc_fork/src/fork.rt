@@ -10,7 +10,7 @@ ghost use Rattle.sc_fork.specs.Choices.{AddsLeaves, AreSound};
 ghost use Rattle.sc_fork.specs.Cores.{IsApplied, IsCore, IsFinished, Starts};
 ghost use Rattle.sc_fork.specs.Enabled.{Has, HasNone, IsEnabled, IsRefused, LooksAt};
 ghost use Rattle.sc_fork.specs.Outcomes.{IsOutcome, OwnsOutcome};
-ghost use Rattle.sc_fork.specs.Owns.{HasC11Tables, AreTerminals, IsFirst, OwnsCore, OwnsEnabled, OwnsPiece, IsSource};
+ghost use Rattle.sc_fork.specs.Owns.{HasC11Tables, AreNumbered, AreTerminals, IsFirst, IsNumbered, OwnsCore, OwnsEnabled, OwnsPiece, IsSource};
 ghost use Rattle.sc_fork.specs.Pieces.{AddsOwnChoices, AreInOrder, AreMade, Becomes, HasMade, InNextPhase, numbers_of, without};
 ghost use Rattle.sc_fork.specs.Seen.{action_in};
 ghost use Rattle.sc_fork.specs.Starts.{AreFirst};
@@ -19,6 +19,7 @@ ghost use Rattle.sc_merge.specs.Keys.{IsKeyOf};
 ghost use Rattle.sc_merge.specs.Merges.{tables_with};
 ghost use Rattle.sc_model.specs.Growth.{Extends};
 ghost use Rattle.sc_model.specs.Sets.{IsCond, Keeps};
+ghost use Rattle.sc_scope.specs.Numbered.{levels_made};
 ghost use Rattle.sc_tree.specs.Lines.{Line, OwnsBranches};
 
 use crate::classifying::classify;
@@ -37,7 +38,7 @@ use sc_guarded::Guarded;
 use sc_lalr::Tables;
 use sc_merge::{Key, Phase, Subparser, key, merge};
 use sc_presence::Conditions;
-use sc_scope::Scopes;
+use sc_scope::{Numbers, Scopes};
 use sc_stack::Stack;
 use sc_tree::Trees;
 use std::alloc::Global;
@@ -49,6 +50,7 @@ pub struct Core<'a> {
     pub(crate) source: Source<'a>,
     pub(crate) rows: Vec<Row>,
     pub(crate) ended: Vec<Ended>,
+    pub(crate) scope_numbers: Numbers,
     pub(crate) is_given_up: bool,
 }
 
@@ -83,6 +85,7 @@ impl<'a> Core<'a> {
             source,
             rows,
             ended: Vec::new(alloc),
+            scope_numbers: Numbers::new(),
             is_given_up: false,
         })
     }
@@ -120,7 +123,10 @@ impl<'a> Core<'a> {
             return Err(CoreStop::GivenUp);
         }
         let pieces = match enabled_event(&self.source, &self.rows, event) {
-            Ok(enabled) => pieces_of(alloc, conds, trees, &self.source, enabled),
+            Ok(enabled) => {
+                let numbers = &mut self.scope_numbers;
+                pieces_of(alloc, conds, trees, numbers, &self.source, enabled)
+            }
             Err(fact) => return Err(CoreStop::NotEnabled { fact }),
         };
         let Ok(pieces) = pieces else {
@@ -153,6 +159,7 @@ impl<'a> Core<'a> {
 
         // at every outcome
         ensures source { self.new.source ≡ self.old.source }
+        ensures numbers { self.new.scope_numbers ≡ self.old.scope_numbers }
         ensures given_up { self.new.is_given_up ≡ self.old.is_given_up }
     {
         self.remove(event);
@@ -176,6 +183,7 @@ impl<'a> Core<'a> {
         ensures rows { self.new.rows.items ≡ without (numbers_of event) self.old.rows.items }
         ensures source { self.new.source ≡ self.old.source }
         ensures ended { self.new.ended ≡ self.old.ended }
+        ensures numbers { self.new.scope_numbers ≡ self.old.scope_numbers }
         ensures given_up { self.new.is_given_up ≡ self.old.is_given_up }
     {
         match event {
@@ -283,6 +291,7 @@ fn pieces_of<C: Conditions>(
     alloc: Global,
     conds: &mut C,
     trees: &mut Trees,
+    numbers: &mut Numbers,
     source: &Source<'_>,
     enabled: Enabled<'_>,
 ) -> Result<Vec<Piece>, OutOfMemory>
@@ -290,9 +299,11 @@ fn pieces_of<C: Conditions>(
     requires items { All (λ item. IsCond (C.sets conds.old) item.0.0) source.now.list.now }
     requires event { (rows : List (Option Subparser)) × ((event : Event) × IsEnabled source.now rows event enabled) }
     requires own { OwnsEnabled (C.sets conds.old) (length trees.old) source.now enabled }
+    requires numbered { AreNumbered numbers.old enabled }
     requires branches { OwnsBranches (C.sets conds.old) trees.old }
     ensures pieces { IfOk result (λ pieces. AreMade (C.sets conds.old) (C.sets conds.new) trees.old trees.new source.now enabled.entry pieces.items) }
     ensures own { IfOk result (λ pieces. All (OwnsPiece (C.sets conds.new) (length trees.new) source.now) pieces.items) }
+    ensures numbered { IfOk result (λ pieces. All (IsNumbered numbers.new) pieces.items) }
     ensures phases { IfOk result (λ pieces. All (InNextPhase source.now enabled.entry) pieces.items) }
     ensures order { IfOk result (λ pieces. AreInOrder enabled.entry pieces.items) }
 
@@ -302,11 +313,12 @@ fn pieces_of<C: Conditions>(
     ensures keeps { Keeps (C.sets conds.old) (C.sets conds.new) }
     ensures grows { Extends trees.old trees.new }
     ensures branches { OwnsBranches (C.sets conds.new) trees.new }
+    ensures numbers { Extends (levels_made numbers.old) (levels_made numbers.new) }
 {
     match enabled {
         Enabled::Split(parent, from) => split(alloc, conds, source, parent, from),
         Enabled::Reduce(parent, at, production) => {
-            let piece = reduce(alloc, conds, trees, source, parent, at, production)?;
+            let piece = reduce(alloc, conds, trees, numbers, source, parent, at, production)?;
             Ok(vec![in alloc; piece]?)
         }
         Enabled::Shift(parent, at) => {
@@ -315,7 +327,7 @@ fn pieces_of<C: Conditions>(
         }
         Enabled::Classify(parent, at) => classify(alloc, conds, source, parent, at),
         Enabled::Merge(left, right) => {
-            let merged = merge(alloc, conds, trees, left, right)?;
+            let merged = merge(alloc, conds, trees, numbers, left, right)?;
             Ok(vec![in alloc; Piece::Going(merged)]?)
         }
     }

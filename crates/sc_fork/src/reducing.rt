@@ -7,7 +7,7 @@ ghost use Rattle.lr_tables.specs.declared.grammar.Action.TheVariants.{Reduce};
 ghost use Rattle.sc_base.specs.declared.id.Cond.{Cond};
 ghost use Rattle.sc_base.specs.declared.token.Token.{Token};
 ghost use Rattle.sc_fork.specs.Choices.{AddsLeaves, AddsNoChoices};
-ghost use Rattle.sc_fork.specs.Owns.{IsSource, OwnsPiece, OwnsRow};
+ghost use Rattle.sc_fork.specs.Owns.{IsNumbered, IsSource, OwnsPiece, OwnsRow};
 ghost use Rattle.sc_fork.specs.Pieces.{IfGoing, IsReducedBy};
 ghost use Rattle.sc_fork.specs.Reducing.{BindsUnder, IsValueOf, Rebinds};
 ghost use Rattle.sc_fork.specs.Seen.{Events, action_in};
@@ -15,6 +15,7 @@ ghost use Rattle.sc_grammar.specs.Production.{symbols_of};
 ghost use Rattle.sc_merge.specs.declared.subparser.Phase.TheVariants.{At};
 ghost use Rattle.sc_model.specs.Growth.{Extends};
 ghost use Rattle.sc_model.specs.Sets.{IsCond, Keeps};
+ghost use Rattle.sc_scope.specs.Numbered.{levels_made, HasNumbers};
 ghost use Rattle.sc_scope.specs.Search.{OwnsLevels};
 ghost use Rattle.sc_scope.specs.Seen.{levels_in};
 ghost use Rattle.sc_scope.specs.Shows.{kind_of};
@@ -28,7 +29,7 @@ use sc_base::{Cause, Cond, Name, OutOfMemory, TreeId};
 use sc_grammar::production;
 use sc_merge::Subparser;
 use sc_presence::Conditions;
-use sc_scope::{NameKind, Scopes};
+use sc_scope::{NameKind, Numbers, Scopes};
 use sc_tree::Trees;
 use std::alloc::Global;
 
@@ -37,6 +38,7 @@ pub(crate) fn reduce<C: Conditions>(
     alloc: Global,
     conds: &mut C,
     trees: &mut Trees,
+    numbers: &mut Numbers,
     source: &Source<'_>,
     parent: &Subparser,
     at: usize,
@@ -47,10 +49,12 @@ pub(crate) fn reduce<C: Conditions>(
     requires source { IsSource source.now }
     requires action { action_in source.now parent.now at ≡ Some (Reduce number) }
     requires own { OwnsRow (C.sets conds.old) (length trees.old) source.now parent.now }
+    requires numbered { HasNumbers numbers.old parent.now.scopes }
     requires branches { OwnsBranches (C.sets conds.old) trees.old }
     ensures piece { IfOk result (λ piece. Events (C.sets conds.old) (C.sets conds.new) trees.old trees.new source.now parent.now core.reduce (piece ∷ [])) }
     ensures own { IfOk result (OwnsPiece (C.sets conds.new) (length trees.new) source.now) }
     ensures reduced { IfOk result (IfGoing (IsReducedBy source.now at number parent.now)) }
+    ensures numbered { IfOk result (IsNumbered numbers.new) }
 
     // at every outcome
     ensures choices { AddsNoChoices trees.old trees.new }
@@ -58,6 +62,7 @@ pub(crate) fn reduce<C: Conditions>(
     ensures keeps { Keeps (C.sets conds.old) (C.sets conds.new) }
     ensures grows { Extends trees.old trees.new }
     ensures branches { OwnsBranches (C.sets conds.new) trees.new }
+    ensures numbers { Extends (levels_made numbers.old) (levels_made numbers.new) }
 {
     let rule = production(number);
     let mut stack = parent.stack.share()?;
@@ -67,7 +72,7 @@ pub(crate) fn reduce<C: Conditions>(
     };
     let value = value_of(alloc, trees, number, &values)?;
     stack.push(state, value)?;
-    let scopes = marked_scopes(alloc, conds, trees, parent, rule.mark, value)?;
+    let scopes = marked_scopes(alloc, conds, trees, numbers, parent, rule.mark, value)?;
     Ok(Piece::Going(Subparser {
         cond: parent.cond,
         stack,
@@ -118,6 +123,7 @@ fn marked_scopes<C: Conditions>(
     alloc: Global,
     conds: &mut C,
     trees: &Trees,
+    numbers: &mut Numbers,
     parent: &Subparser,
     mark: Option<Mark>,
     tree: Option<TreeId>,
@@ -126,16 +132,28 @@ fn marked_scopes<C: Conditions>(
     requires branches { OwnsBranches (C.sets conds.old) trees.now }
     requires cond { IsCond (C.sets conds.old) parent.now.cond.0 }
     requires own { OwnsLevels (C.sets conds.old) (levels_in parent.now.scopes) }
+    requires numbered { HasNumbers numbers.old parent.now.scopes }
     ensures levels { IfOk result (λ scopes. Rebinds (C.sets conds.old) (C.sets conds.new) trees.now parent.now.cond tree (marked c11_declarators mark)
         (levels_in parent.now.scopes) (levels_in scopes)) }
     ensures own { IfOk result (λ scopes. OwnsLevels (C.sets conds.new) (levels_in scopes)) }
+    ensures numbered { IfOk result (λ scopes. HasNumbers numbers.new scopes) }
 
     // at every outcome
     ensures keeps { Keeps (C.sets conds.old) (C.sets conds.new) }
+    ensures numbers { Extends (levels_made numbers.old) (levels_made numbers.new) }
 {
     let mut scopes = parent.scopes.share()?;
     let Some(mark) = mark else { return Ok(scopes) };
-    change_scopes(alloc, conds, trees, &mut scopes, parent.cond, mark, tree)?;
+    change_scopes(
+        alloc,
+        conds,
+        trees,
+        numbers,
+        &mut scopes,
+        parent.cond,
+        mark,
+        tree,
+    )?;
     Ok(scopes)
 }
 
@@ -144,6 +162,7 @@ fn change_scopes<C: Conditions>(
     alloc: Global,
     conds: &mut C,
     trees: &Trees,
+    numbers: &mut Numbers,
     scopes: &mut Scopes,
     cond: Cond,
     mark: Mark,
@@ -153,26 +172,31 @@ fn change_scopes<C: Conditions>(
     requires branches { OwnsBranches (C.sets conds.old) trees.now }
     requires cond { IsCond (C.sets conds.old) cond.0 }
     requires own { OwnsLevels (C.sets conds.old) (levels_in scopes.old) }
+    requires numbered { HasNumbers numbers.old scopes.old }
     ensures levels { OnOk result (Rebinds (C.sets conds.old) (C.sets conds.new) trees.now cond tree (marked c11_declarators (Some mark))
         (levels_in scopes.old) (levels_in scopes.new)) }
 
     // at every outcome
     ensures own { OwnsLevels (C.sets conds.new) (levels_in scopes.new) }
     ensures keeps { Keeps (C.sets conds.old) (C.sets conds.new) }
+    ensures numbered { HasNumbers numbers.new scopes.new }
+    ensures numbers { Extends (levels_made numbers.old) (levels_made numbers.new) }
 {
     match mark {
         Mark::Push => scopes.push()?,
         Mark::Pop => scopes.pop()?,
-        Mark::Join => scopes.join()?,
+        Mark::Join => scopes.join(numbers)?,
         Mark::PushParameters => {
             scopes.push()?;
-            bind_parameters(alloc, conds, trees, scopes, cond, tree)?;
+            bind_parameters(alloc, conds, trees, numbers, scopes, cond, tree)?;
         }
         Mark::BindVariable => {
-            bind_declared(alloc, conds, trees, scopes, cond, NameKind::Variable, tree)?;
+            let kind = NameKind::Variable;
+            bind_declared(alloc, conds, trees, numbers, scopes, cond, kind, tree)?;
         }
         Mark::BindTypedef => {
-            bind_declared(alloc, conds, trees, scopes, cond, NameKind::Typedef, tree)?;
+            let kind = NameKind::Typedef;
+            bind_declared(alloc, conds, trees, numbers, scopes, cond, kind, tree)?;
         }
     }
     Ok(())
@@ -183,6 +207,7 @@ fn bind_parameters<C: Conditions>(
     alloc: Global,
     conds: &mut C,
     trees: &Trees,
+    numbers: &mut Numbers,
     scopes: &mut Scopes,
     cond: Cond,
     tree: Option<TreeId>,
@@ -191,18 +216,21 @@ fn bind_parameters<C: Conditions>(
     requires branches { OwnsBranches (C.sets conds.old) trees.now }
     requires cond { IsCond (C.sets conds.old) cond.0 }
     requires own { OwnsLevels (C.sets conds.old) (levels_in scopes.old) }
+    requires numbered { HasNumbers numbers.old scopes.old }
     ensures levels { OnOk result (Rebinds (C.sets conds.old) (C.sets conds.new) trees.now cond tree (λ tree. bind_all variable (parameters_by c11_declarators tree))
         (levels_in scopes.old) (levels_in scopes.new)) }
 
     // at every outcome
     ensures own { OwnsLevels (C.sets conds.new) (levels_in scopes.new) }
     ensures keeps { Keeps (C.sets conds.old) (C.sets conds.new) }
+    ensures numbered { HasNumbers numbers.new scopes.new }
+    ensures numbers { Extends (levels_made numbers.old) (levels_made numbers.new) }
 {
     let Some(tree) = tree else { return Ok(()) };
     let Ok(names) = trees.parameters(alloc, conds, tree) else {
         return Err(OutOfMemory);
     };
-    bind_under(conds, scopes, cond, NameKind::Variable, &names)?;
+    bind_under(conds, numbers, scopes, cond, NameKind::Variable, &names)?;
     Ok(())
 }
 
@@ -211,6 +239,7 @@ fn bind_declared<C: Conditions>(
     alloc: Global,
     conds: &mut C,
     trees: &Trees,
+    numbers: &mut Numbers,
     scopes: &mut Scopes,
     cond: Cond,
     kind: NameKind,
@@ -220,24 +249,28 @@ fn bind_declared<C: Conditions>(
     requires branches { OwnsBranches (C.sets conds.old) trees.now }
     requires cond { IsCond (C.sets conds.old) cond.0 }
     requires own { OwnsLevels (C.sets conds.old) (levels_in scopes.old) }
+    requires numbered { HasNumbers numbers.old scopes.old }
     ensures levels { OnOk result (Rebinds (C.sets conds.old) (C.sets conds.new) trees.now cond tree (λ tree. bind_all (kind_of kind) (declared_by c11_declarators tree))
         (levels_in scopes.old) (levels_in scopes.new)) }
 
     // at every outcome
     ensures own { OwnsLevels (C.sets conds.new) (levels_in scopes.new) }
     ensures keeps { Keeps (C.sets conds.old) (C.sets conds.new) }
+    ensures numbered { HasNumbers numbers.new scopes.new }
+    ensures numbers { Extends (levels_made numbers.old) (levels_made numbers.new) }
 {
     let Some(tree) = tree else { return Ok(()) };
     let Ok(names) = trees.declared(alloc, conds, tree) else {
         return Err(OutOfMemory);
     };
-    bind_under(conds, scopes, cond, kind, &names)?;
+    bind_under(conds, numbers, scopes, cond, kind, &names)?;
     Ok(())
 }
 
 /// Binds each name in the configurations that both conditions have, where there are any.
 fn bind_under<C: Conditions>(
     conds: &mut C,
+    numbers: &mut Numbers,
     scopes: &mut Scopes,
     cond: Cond,
     kind: NameKind,
@@ -246,14 +279,17 @@ fn bind_under<C: Conditions>(
     requires cond { IsCond (C.sets conds.old) cond.0 }
     requires names { All (λ name. IsCond (C.sets conds.old) name.0.0) names.now }
     requires own { OwnsLevels (C.sets conds.old) (levels_in scopes.old) }
+    requires numbered { HasNumbers numbers.old scopes.old }
     ensures binds { OnOk result (BindsUnder (C.sets conds.old) (C.sets conds.new) cond kind names.now (levels_in scopes.old) (levels_in scopes.new)) }
 
     // at every outcome
     ensures own { OwnsLevels (C.sets conds.new) (levels_in scopes.new) }
     ensures keeps { Keeps (C.sets conds.old) (C.sets conds.new) }
+    ensures numbered { HasNumbers numbers.new scopes.new }
+    ensures numbers { Extends (levels_made numbers.old) (levels_made numbers.new) }
 {
     for name in names {
-        bind_one(conds, scopes, cond, kind, *name)?;
+        bind_one(conds, numbers, scopes, cond, kind, *name)?;
     }
     Ok(())
 }
@@ -261,6 +297,7 @@ fn bind_under<C: Conditions>(
 /// Binds the name in the configurations that both conditions have, where there are any.
 fn bind_one<C: Conditions>(
     conds: &mut C,
+    numbers: &mut Numbers,
     scopes: &mut Scopes,
     cond: Cond,
     kind: NameKind,
@@ -269,16 +306,19 @@ fn bind_one<C: Conditions>(
     requires cond { IsCond (C.sets conds.old) cond.0 }
     requires name { IsCond (C.sets conds.old) name.0.0 }
     requires own { OwnsLevels (C.sets conds.old) (levels_in scopes.old) }
+    requires numbered { HasNumbers numbers.old scopes.old }
     ensures binds { OnOk result (BindsUnder (C.sets conds.old) (C.sets conds.new) cond kind (name ∷ []) (levels_in scopes.old) (levels_in scopes.new)) }
 
     // at every outcome
     ensures own { OwnsLevels (C.sets conds.new) (levels_in scopes.new) }
     ensures keeps { Keeps (C.sets conds.old) (C.sets conds.new) }
+    ensures numbered { HasNumbers numbers.new scopes.new }
+    ensures numbers { Extends (levels_made numbers.old) (levels_made numbers.new) }
 {
     let part = conds.apply_and(cond, name.0)?;
     if conds.is_never(part) {
         return Ok(());
     }
-    scopes.bind(name.1, kind, part)?;
+    scopes.bind(numbers, name.1, kind, part)?;
     Ok(())
 }

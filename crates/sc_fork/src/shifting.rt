@@ -7,13 +7,15 @@ ghost use Rattle.sc_base.specs.declared.id.Cond.{Cond};
 ghost use Rattle.sc_base.specs.declared.token.Token.{Token};
 ghost use Rattle.sc_fork.specs.Choices.{AddsLeaves, AddsNoChoices};
 ghost use Rattle.sc_fork.specs.declared.source.Source.{Source};
-ghost use Rattle.sc_fork.specs.Owns.{IsSource, OwnsAnswer, OwnsPiece, OwnsRow};
+ghost use Rattle.sc_fork.specs.Owns.{IsNumbered, IsSource, OwnsAnswer, OwnsPiece, OwnsRow};
 ghost use Rattle.sc_fork.specs.Pieces.{IfGoing, IsPast};
 ghost use Rattle.sc_fork.specs.Seen.{Events, action_in};
 ghost use Rattle.sc_fork.specs.Shifts.{IsShifted, IsAccepted};
 ghost use Rattle.sc_merge.specs.Merges.{OwnsValues};
 ghost use Rattle.sc_model.specs.Growth.{Extends};
 ghost use Rattle.sc_model.specs.Sets.{Sets};
+ghost use Rattle.sc_scope.specs.declared.numbers.Numbers.{Numbers};
+ghost use Rattle.sc_scope.specs.Numbered.{HasNumbers};
 ghost use Rattle.sc_stack.specs.Entries.{values_of};
 ghost use Rattle.sc_tree.specs.Lines.{OwnsBranches};
 
@@ -42,6 +44,7 @@ pub(crate) fn shift(
     requires no_reduction { (p : ℕ) → action_in source.now parent.now at ≡ Some (Reduce p) → ⊥ }
     ensures piece { IfOk result (λ piece. (sets : Sets) → Events sets sets trees.old trees.new source.now parent.now core.shift (piece ∷ [])) }
     ensures own { (sets : Sets) → OwnsRow sets (length trees.old) source.now parent.now → IfOk result (OwnsPiece sets (length trees.new) source.now) }
+    ensures numbered { (numbers : Numbers) → HasNumbers numbers parent.now.scopes → IfOk result (IsNumbered numbers) }
     ensures phase { IfOk result (IfGoing (IsPast source.now at)) }
 
     // at every outcome

@@ -1,10 +1,12 @@
 //! A subparser is parted by the next element of its configurations.
 ghost use Rattle.std.specs.Prelude.{◌≡◌, ◌≤◌, ℕ, List, All, AllPairs, length, IfOk};
 ghost use Rattle.c11_parsing.specs.Core as core;
-ghost use Rattle.sc_fork.specs.Owns.{OwnsPiece, OwnsRow};
+ghost use Rattle.sc_fork.specs.Owns.{IsNumbered, OwnsPiece, OwnsRow};
 ghost use Rattle.sc_fork.specs.Pieces.{IfGoing, LooksBefore, LooksFrom};
 ghost use Rattle.sc_fork.specs.Seen.{Events, IsPartOf, ArePartsOf};
 ghost use Rattle.sc_model.specs.Sets.{IsCond, Keeps};
+ghost use Rattle.sc_scope.specs.declared.numbers.Numbers.{Numbers};
+ghost use Rattle.sc_scope.specs.Numbered.{HasNumbers};
 ghost use Rattle.sc_tree.specs.Lines.{Line};
 
 use crate::piece::Piece;
@@ -30,6 +32,7 @@ pub(crate) fn split<C: Conditions>(
         → Events (C.sets conds.old) (C.sets conds.new) lines lines source.now parent.now core.split pieces.items) }
     ensures own { (count : ℕ) → OwnsRow (C.sets conds.old) count source.now parent.now
         → IfOk result (λ pieces. All (OwnsPiece (C.sets conds.new) count source.now) pieces.items) }
+    ensures numbered { (numbers : Numbers) → HasNumbers numbers parent.now.scopes → IfOk result (λ pieces. All (IsNumbered numbers) pieces.items) }
     ensures phases { IfOk result (λ pieces. All (IfGoing (LooksFrom from (length source.now.list.now))) pieces.items) }
     ensures order { IfOk result (λ pieces. AllPairs LooksBefore pieces.items) }
 

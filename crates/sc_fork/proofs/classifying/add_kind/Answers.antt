@@ -25,6 +25,7 @@ returns g c =
     (record {
       cond_is = refl;
       stack = c.stack.view_is ∙ c.in_ok-push-2.ensures.ok ∙ ap (λ es. record { state = c.in-Some.state; value = None } ∷ es) c.in_ok-stack.ensures;
-      levels = c.in_ok-share.ensures;
+      levels = c.in_ok-share.ensures.levels;
+      numbered = c.in_ok-share.ensures.numbered;
       phase = refl;
     })

@@ -1,4 +1,5 @@
 use Rattle.sc_fork.proofs.KindLemmas.{classify-events, classify-owns}
+use Rattle.sc_fork.proofs.NumberLemmas.{kinds-numbered}
 use Rattle.sc_fork.proofs.PhaseLemmas.{kind-phases}
 use Rattle.sc_model.proofs.SetLemmas.{Keeps-trans, Denotes-Keeps, Denotes-self}
 use Rattle.sc_fork.proofs.classifying.classify.Goals as goal
@@ -31,6 +32,11 @@ returns-clause-own g c =
     c.add_kind.new.pieces.items c.add_kind-2.new.pieces.items c.requires.at (Keeps-trans (Keeps-trans c.typedefs.ensures.keeps c.negate.ensures.keeps) c.apply_and.ensures.keeps)
     ((Keeps-trans c.negate.ensures.keeps c.apply_and.ensures.keeps).own c.in_ok-types.types.0 c.in_ok-types.ensures.meaning.own) c.in_ok-variables.ensures.own
     c.new-pieces.ensures.items c.in_ok-add_kind.ensures c.in_ok-add_kind-2.ensures
+
+pub returns-clause-numbered : goal.returns-clause-numbered
+returns-clause-numbered g c = λ numbers has.
+    kinds-numbered numbers c.args.parent.now has (g.C.Conditions.sets c.apply_and.new.self) c.args.source.now c.args.at c.in_ok-types.types c.in_ok-variables.variables
+    c.new-pieces.result.items c.add_kind.new.pieces.items c.add_kind-2.new.pieces.items c.new-pieces.ensures.items c.in_ok-add_kind.ensures c.in_ok-add_kind-2.ensures
 
 pub returns-clause-keeps : goal.returns-clause-keeps
 returns-clause-keeps g c = Keeps-trans (Keeps-trans c.typedefs.ensures.keeps c.negate.ensures.keeps) c.apply_and.ensures.keeps

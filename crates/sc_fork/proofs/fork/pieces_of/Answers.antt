@@ -1,8 +1,8 @@
 use Rattle.std.proofs.Common.{length}
 use Rattle.sc_fork.specs.declared.piece.Piece.TheVariants.{Going}
-use Rattle.sc_fork.specs.Owns.{OwnsPiece}
+use Rattle.sc_fork.specs.Owns.{IsNumbered, OwnsPiece}
 use Rattle.sc_fork.proofs.PhaseLemmas.{reduce-next, shift-next, merge-next, reduce-order, shift-order, merge-order}
-use Rattle.sc_fork.proofs.PieceLemmas.{split-phase, reduce-phase, reduce-action, shift-phase, classify-phase, merge-alike, split-owned, classify-owned, merge-owned, split-within, reduce-within, shift-within, classify-within, made-reduce, made-shift, made-merge, all-one, silent-alike, merged-row, merge-branches}
+use Rattle.sc_fork.proofs.PieceLemmas.{split-phase, reduce-phase, reduce-action, shift-phase, shift-action, classify-phase, merge-alike, split-within, reduce-within, shift-within, classify-within, made-reduce, made-shift, made-merge, all-one, silent-alike, merged-row, merge-branches, merge-leaves}
 use Rattle.sc_fork.proofs.fork.pieces_of.Goals as goal
 
 pub split-requires-clause-phase : goal.split-requires-clause-phase
@@ -30,6 +30,9 @@ pub shift-requires-clause-at : goal.shift-requires-clause-at
 shift-requires-clause-at g c =
     shift-within c.args.source.now c.args.enabled (g.C.Conditions.sets c.args.conds.now) (length c.args.trees.now) c.in-Shift.parent c.in-Shift.at c.in-Shift.is c.requires.event c.requires.own
 
+pub shift-requires-clause-no_reduction : goal.shift-requires-clause-no_reduction
+shift-requires-clause-no_reduction g c = shift-action c.args.source.now c.args.enabled c.in-Shift.parent c.in-Shift.at c.in-Shift.is c.requires.event
+
 pub classify-requires-clause-phase : goal.classify-requires-clause-phase
 classify-requires-clause-phase g c = classify-phase c.args.source.now c.args.enabled c.in-Classify.parent c.in-Classify.at c.in-Classify.is c.requires.event
 
@@ -44,28 +47,26 @@ merge-requires-clause-alike g c = merge-alike c.args.source.now c.args.enabled c
 pub merge-requires-clause-silent : goal.merge-requires-clause-silent
 merge-requires-clause-silent g c =
     let s = g.C.Conditions.sets c.args.conds.now in
-    let own = merge-owned c.args.source.now c.args.enabled s (length c.args.trees.now) c.in-Merge.left c.in-Merge.right c.in-Merge.is c.requires.own in
+    let own = rw c.in-Merge.is at c.requires.own in
     silent-alike s (length c.args.trees.now) c.args.source.now c.in-Merge.left.now c.in-Merge.right.now c.requires.source own.0 own.1
     (merge-alike c.args.source.now c.args.enabled c.in-Merge.left c.in-Merge.right c.in-Merge.is c.requires.event)
 
 pub returns-in_err-merged-in-Merge-clause-branches : goal.returns-in_err-merged-in-Merge-clause-branches
 returns-in_err-merged-in-Merge-clause-branches g c =
     let s = g.C.Conditions.sets in
-    let own = merge-owned c.args.source.now c.args.enabled (s c.args.conds.now) (length c.args.trees.now) c.in-Merge.left c.in-Merge.right c.in-Merge.is c.requires.own in
+    let own = rw c.in-Merge.is at c.requires.own in
     merge-branches (s c.args.conds.now) (s c.merge.new.conds) c.args.trees.now c.merge.new.trees c.in-Merge.left.now.cond c.in-Merge.right.now.cond c.merge.ensures.keeps c.requires.branches
     own.0.owns.cond own.1.owns.cond c.merge.ensures.adds
 
 pub returns-in_err-vec-in-Merge-clause-branches : goal.returns-in_err-vec-in-Merge-clause-branches
 returns-in_err-vec-in-Merge-clause-branches g c =
     let s = g.C.Conditions.sets in
-    let own = merge-owned c.args.source.now c.args.enabled (s c.args.conds.now) (length c.args.trees.now) c.in-Merge.left c.in-Merge.right c.in-Merge.is c.requires.own in
+    let own = rw c.in-Merge.is at c.requires.own in
     merge-branches (s c.args.conds.now) (s c.merge.new.conds) c.args.trees.now c.merge.new.trees c.in-Merge.left.now.cond c.in-Merge.right.now.cond c.merge.ensures.keeps c.requires.branches
     own.0.owns.cond own.1.owns.cond c.merge.ensures.adds
 
 pub returns-in-Split-clause-own : goal.returns-in-Split-clause-own
-returns-in-Split-clause-own g c =
-    c.split.ensures.own (length c.args.trees.now)
-    (split-owned c.args.source.now c.args.enabled (g.C.Conditions.sets c.args.conds.now) (length c.args.trees.now) c.in-Split.parent c.in-Split.from c.in-Split.is c.requires.own)
+returns-in-Split-clause-own g c = c.split.ensures.own (length c.args.trees.now) (rw c.in-Split.is at c.requires.own)
 
 pub returns-in_ok-vec-in-Reduce-clause-pieces : goal.returns-in_ok-vec-in-Reduce-clause-pieces
 returns-in_ok-vec-in-Reduce-clause-pieces g c =
@@ -80,9 +81,7 @@ returns-in_ok-vec-in-Shift-clause-pieces g c =
     c.in-Shift.parent c.in-Shift.at c.in-Shift.is (c.in_ok-piece-in-Shift.ensures.piece s)
 
 pub returns-in-Classify-clause-own : goal.returns-in-Classify-clause-own
-returns-in-Classify-clause-own g c =
-    c.classify.ensures.own (length c.args.trees.now)
-    (classify-owned c.args.source.now c.args.enabled (g.C.Conditions.sets c.args.conds.now) (length c.args.trees.now) c.in-Classify.parent c.in-Classify.at c.in-Classify.is c.requires.own)
+returns-in-Classify-clause-own g c = c.classify.ensures.own (length c.args.trees.now) (rw c.in-Classify.is at c.requires.own)
 
 pub returns-in_ok-vec-in-Merge-clause-pieces : goal.returns-in_ok-vec-in-Merge-clause-pieces
 returns-in_ok-vec-in-Merge-clause-pieces g c =
@@ -102,7 +101,7 @@ returns-in_ok-vec-in-Merge-clause-pieces g c =
 pub returns-in_ok-vec-in-Merge-clause-own : goal.returns-in_ok-vec-in-Merge-clause-own
 returns-in_ok-vec-in-Merge-clause-own g c =
     let s = g.C.Conditions.sets in
-    let own = merge-owned c.args.source.now c.args.enabled (s c.args.conds.now) (length c.args.trees.now) c.in-Merge.left c.in-Merge.right c.in-Merge.is c.requires.own in
+    let own = rw c.in-Merge.is at c.requires.own in
     all-one (OwnsPiece (s c.merge.new.conds) (length c.merge.new.trees) c.args.source.now) c.in_ok-vec-in-Merge.field-0.items (Going c.in_ok-merged-in-Merge.merged)
     c.in_ok-vec-in-Merge.ensures.items
     (merged-row (s c.args.conds.now) (s c.merge.new.conds) (length c.args.trees.now) (length c.merge.new.trees) c.args.source.now c.in-Merge.left.now c.in_ok-merged-in-Merge.merged
@@ -111,7 +110,7 @@ returns-in_ok-vec-in-Merge-clause-own g c =
 pub returns-in_ok-vec-in-Merge-clause-branches : goal.returns-in_ok-vec-in-Merge-clause-branches
 returns-in_ok-vec-in-Merge-clause-branches g c =
     let s = g.C.Conditions.sets in
-    let own = merge-owned c.args.source.now c.args.enabled (s c.args.conds.now) (length c.args.trees.now) c.in-Merge.left c.in-Merge.right c.in-Merge.is c.requires.own in
+    let own = rw c.in-Merge.is at c.requires.own in
     merge-branches (s c.args.conds.now) (s c.merge.new.conds) c.args.trees.now c.merge.new.trees c.in-Merge.left.now.cond c.in-Merge.right.now.cond c.merge.ensures.keeps c.requires.branches
     own.0.owns.cond own.1.owns.cond c.merge.ensures.adds
 
@@ -142,3 +141,31 @@ returns-in_ok-vec-in-Merge-clause-phases g c =
 pub returns-in_ok-vec-in-Merge-clause-order : goal.returns-in_ok-vec-in-Merge-clause-order
 returns-in_ok-vec-in-Merge-clause-order g c =
     merge-order c.args.source.now c.args.enabled c.in_ok-vec-in-Merge.field-0.items c.in_ok-merged-in-Merge.merged c.in_ok-vec-in-Merge.ensures.items c.in-Merge.left c.in-Merge.right c.in-Merge.is
+
+pub returns-in-Split-clause-numbered : goal.returns-in-Split-clause-numbered
+returns-in-Split-clause-numbered g c = c.split.ensures.numbered c.args.numbers.now (rw c.in-Split.is at c.requires.numbered)
+
+pub returns-in-Classify-clause-numbered : goal.returns-in-Classify-clause-numbered
+returns-in-Classify-clause-numbered g c = c.classify.ensures.numbered c.args.numbers.now (rw c.in-Classify.is at c.requires.numbered)
+
+pub returns-in_ok-vec-in-Shift-clause-numbered : goal.returns-in_ok-vec-in-Shift-clause-numbered
+returns-in_ok-vec-in-Shift-clause-numbered g c =
+    all-one (IsNumbered c.args.numbers.now) c.in_ok-vec-in-Shift.field-0.items c.in_ok-piece-in-Shift.piece c.in_ok-vec-in-Shift.ensures.items
+    (c.in_ok-piece-in-Shift.ensures.numbered c.args.numbers.now (rw c.in-Shift.is at c.requires.numbered))
+
+pub returns-in_ok-vec-in-Reduce-clause-numbered : goal.returns-in_ok-vec-in-Reduce-clause-numbered
+returns-in_ok-vec-in-Reduce-clause-numbered g c =
+    all-one (IsNumbered c.reduce.new.numbers) c.in_ok-vec-in-Reduce.field-0.items c.in_ok-piece-in-Reduce.piece c.in_ok-vec-in-Reduce.ensures.items c.in_ok-piece-in-Reduce.ensures.numbered
+
+pub returns-in_ok-vec-in-Merge-clause-numbered : goal.returns-in_ok-vec-in-Merge-clause-numbered
+returns-in_ok-vec-in-Merge-clause-numbered g c =
+    all-one (IsNumbered c.merge.new.numbers) c.in_ok-vec-in-Merge.field-0.items (Going c.in_ok-merged-in-Merge.merged) c.in_ok-vec-in-Merge.ensures.items c.in_ok-merged-in-Merge.ensures.numbered
+
+pub returns-in_err-merged-in-Merge-clause-leaves : goal.returns-in_err-merged-in-Merge-clause-leaves
+returns-in_err-merged-in-Merge-clause-leaves g c = merge-leaves _ _ _ _ _ c.merge.ensures.adds
+
+pub returns-in_err-vec-in-Merge-clause-leaves : goal.returns-in_err-vec-in-Merge-clause-leaves
+returns-in_err-vec-in-Merge-clause-leaves g c = merge-leaves _ _ _ _ _ c.merge.ensures.adds
+
+pub returns-in_ok-vec-in-Merge-clause-leaves : goal.returns-in_ok-vec-in-Merge-clause-leaves
+returns-in_ok-vec-in-Merge-clause-leaves g c = merge-leaves _ _ _ _ _ c.merge.ensures.adds

@@ -33,3 +33,21 @@ returns-in_ok-bind_parameters-in-PushParameters-clause-levels g c =
     mark-parameters (g.C.Conditions.sets c.args.conds.now) c.args.trees.now c.args.cond c.args.tree (levels_in c.args.scopes.now) (levels_in c.bind_parameters.new.scopes) c.args.mark
     (g.C.Conditions.sets c.bind_parameters.new.conds) (levels_in c.push-in-PushParameters.new.self) c.in-PushParameters.is c.in_ok-push-in-PushParameters.ensures.ok
     c.in_ok-bind_parameters-in-PushParameters.ensures.levels
+
+pub returns-in_err-push-in-Push-clause-numbered : goal.returns-in_err-push-in-Push-clause-numbered
+returns-in_err-push-in-Push-clause-numbered g c = c.push.ensures.numbered c.args.numbers.now c.requires.numbered
+
+pub returns-in_ok-push-in-Push-clause-numbered : goal.returns-in_ok-push-in-Push-clause-numbered
+returns-in_ok-push-in-Push-clause-numbered g c = c.push.ensures.numbered c.args.numbers.now c.requires.numbered
+
+pub returns-in_err-pop-in-Pop-clause-numbered : goal.returns-in_err-pop-in-Pop-clause-numbered
+returns-in_err-pop-in-Pop-clause-numbered g c = c.pop.ensures.numbered c.args.numbers.now c.requires.numbered
+
+pub returns-in_ok-pop-in-Pop-clause-numbered : goal.returns-in_ok-pop-in-Pop-clause-numbered
+returns-in_ok-pop-in-Pop-clause-numbered g c = c.pop.ensures.numbered c.args.numbers.now c.requires.numbered
+
+pub returns-in_err-push-in-PushParameters-clause-numbered : goal.returns-in_err-push-in-PushParameters-clause-numbered
+returns-in_err-push-in-PushParameters-clause-numbered g c = c.push-in-PushParameters.ensures.numbered c.args.numbers.now c.requires.numbered
+
+pub bind_parameters-requires-clause-numbered : goal.bind_parameters-requires-clause-numbered
+bind_parameters-requires-clause-numbered g c = c.push-in-PushParameters.ensures.numbered c.args.numbers.now c.requires.numbered

@@ -49,6 +49,11 @@ returns-in_ok-shifted-clause-own c =
     c.in-Some-state_after.state (c.in_ok-shifted.ensures.shifted item.0 item.1) c.args.source.now c.requires.source (omega arith) (sym c.in-Some.ensures)
     (action-is (goal.at.returns-in_ok-shifted-clause-own c).In-Some-state_after) own
 
+pub returns-in_ok-shifted-clause-numbered : goal.returns-in_ok-shifted-clause-numbered
+returns-in_ok-shifted-clause-numbered c =
+    let item = found-within c.args.source.now.list.now c.args.at (omega arith) in
+    (c.in_ok-shifted.ensures.shifted item.0 item.1).numbered
+
 pub returns-in_ok-shifted-clause-branches : goal.returns-in_ok-shifted-clause-branches
 returns-in_ok-shifted-clause-branches c = λ sets own. adds-branches sets c.args.trees.now c.shift_token.new.trees c.shift_token.ensures.choices own
 

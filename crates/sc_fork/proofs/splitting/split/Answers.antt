@@ -1,4 +1,5 @@
 use Rattle.std.proofs.Common.{length}
+use Rattle.sc_fork.proofs.NumberLemmas.{parts-numbered}
 use Rattle.sc_fork.proofs.PhaseLemmas.{parts-look, parts-rise}
 use Rattle.sc_fork.proofs.SplitLemmas.{part-none, part-more, part-all, parts-within, split-events, split-own}
 use Rattle.sc_fork.proofs.splitting.split.Goals as goal
@@ -25,6 +26,12 @@ returns-clause-own g c =
     let s = g.C.Conditions.sets in
     split-own (s c.args.conds.now) (s c.follow.new.conds) c.args.source.now c.args.parent.now c.args.from c.in-Ok.parts.items c.loop-part.pieces.items c.requires.from c.follow.ensures.keeps
     c.in-Ok.ensures.next c.in-Ok.ensures.some c.in-Ok.ensures.rising c.in-Ok.ensures.own
+    (part-all c.args.parent.now c.deref-part-items.result.now c.in-Ok.parts.items c.loop-part.part-index c.loop-part.pieces.items c.deref-part-items.ensures.value c.loop-part-test.false
+    c.loop-part.invariant)
+
+pub returns-clause-numbered : goal.returns-clause-numbered
+returns-clause-numbered g c = λ numbers has.
+    parts-numbered numbers c.args.parent.now has c.in-Ok.parts.items c.loop-part.pieces.items
     (part-all c.args.parent.now c.deref-part-items.result.now c.in-Ok.parts.items c.loop-part.part-index c.loop-part.pieces.items c.deref-part-items.ensures.value c.loop-part-test.false
     c.loop-part.invariant)
 
