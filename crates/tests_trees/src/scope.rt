@@ -2,7 +2,7 @@ ghost use Rattle.std.specs.Prelude.{◌≡◌, ◌∷◌, []};
 
 use sc_base::Name;
 use sc_presence::{Conditions, PlainSets};
-use sc_scope::{NameKind, Scopes, scopes_own_their_conditions};
+use sc_scope::{NameKind, Numbers, Scopes, scopes_own_their_conditions};
 use std::alloc::Global;
 use std::process::Abort;
 use std::test::Fail;
@@ -15,11 +15,12 @@ fn checks_hiding<C: Conditions>(rt: &impl Abort, alloc: Global, conds: &mut C) -
     requires { (C.sets conds.old).arities ≡ 2 ∷ [] }
 {
     let chosen = conds.choose(0, 1)?;
+    let mut numbers = Numbers::new();
     let mut scopes = Scopes::new(alloc);
     scopes.push()?;
-    scopes.bind(NAME, NameKind::Typedef, conds.always())?;
+    scopes.bind(&mut numbers, NAME, NameKind::Typedef, conds.always())?;
     scopes.push()?;
-    scopes.bind(NAME, NameKind::Variable, chosen)?;
+    scopes.bind(&mut numbers, NAME, NameKind::Variable, chosen)?;
     scopes_own_their_conditions();
     let types = scopes.typedef_under(conds, NAME, conds.always())?;
     assert!(rt; conds.holds(types, &[0]) && !conds.holds(types, &[1]));
@@ -29,12 +30,13 @@ fn checks_hiding<C: Conditions>(rt: &impl Abort, alloc: Global, conds: &mut C) -
 /// Of two owners one takes off the inner level, in which the name is bound, and the other joins it
 /// to the outer one.
 fn checks_join<C: Conditions>(rt: &impl Abort, alloc: Global, conds: &mut C) -> Result<(), Fail> {
+    let mut numbers = Numbers::new();
     let mut scopes = Scopes::new(alloc);
     scopes.push()?;
     scopes.push()?;
-    scopes.bind(NAME, NameKind::Typedef, conds.always())?;
+    scopes.bind(&mut numbers, NAME, NameKind::Typedef, conds.always())?;
     let mut other = scopes.share()?;
-    other.join()?;
+    other.join(&mut numbers)?;
     scopes.pop()?;
     assert_eq!(rt; (scopes.levels(), other.levels()), (1, 1));
     scopes_own_their_conditions();
