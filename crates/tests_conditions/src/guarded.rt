@@ -4,6 +4,7 @@ ghost use Rattle.sc_model.specs.Sets.{IsCond};
 use sc_base::{Cond, FileId, Kind, Name, OutOfMemory, Place, Token};
 use sc_guarded::Guarded;
 use sc_presence::{Conditions, PlainSets};
+use sc_project::project_tokens;
 use std::alloc::Global;
 use std::process::Abort;
 use std::test::Fail;
@@ -44,7 +45,7 @@ fn checks_list<C: Conditions>(rt: &impl Abort, alloc: Global, conds: &mut C) -> 
     let parts = list.follow(alloc, conds, 1, conds.always())?;
     assert_eq!(rt; parts.len(), 2);
     list.restrict(conds, 0, chosen)?;
-    assert_eq!(rt; list.project(alloc, conds, &[1])?.len(), 2);
+    assert_eq!(rt; project_tokens(alloc, conds, &list, &[1])?.len(), 2);
     assert_eq!(rt; list.project(alloc, conds, &[0])?.len(), 0);
     Ok(())
 }

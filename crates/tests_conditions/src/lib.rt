@@ -2,6 +2,8 @@
 #![tactic(auto)]
 
 #[cfg(test)]
+mod diagram;
+#[cfg(test)]
 mod guarded;
 #[cfg(test)]
 mod presence;

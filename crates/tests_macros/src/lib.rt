@@ -1,5 +1,7 @@
-//! The tests of lists of tokens that calls share, over public calls.
+//! The tests of lists of tokens that calls share, and of expressions, over public calls.
 #![tactic(auto)]
 
 #[cfg(test)]
 mod closing;
+#[cfg(test)]
+mod expression;
