@@ -1,8 +1,8 @@
 -- Why a directive stops: the footprints of which a stage tells are those of the machine before its
 -- line.
-use Rattle.std.proofs.Common.{◌≡◌, ℕ, ◌+◌, ◌&&◌, Bool, true, false, All, List, [], ◌∷◌, drop, map, take, Some, None, Result, Ok, Err, refl, sym, ap, subst, ◌∙◌, if◌then◌else◌}
+use Rattle.std.proofs.Common.{◌≡◌, ℕ, ◌+◌, ◌&&◌, Bool, true, false, All, List, [], ◌∷◌, drop, map, take, Some, None, Result, Ok, refl, sym, ap, subst, ◌∙◌, if◌then◌else◌}
 use Rattle.std.proofs.lemmas.Bool.{and_from, and_parts, true≢false}
-use Rattle.std.specs.Prelude.{IfErr, IfOk, is_none}
+use Rattle.std.specs.Prelude.{IfErr, is_none}
 use Rattle.c11_directives.specs.Behind.{begins_with_header, behind_name}
 use Rattle.c11_directives.specs.declared.directive.Conditional.TheVariants.{Opening, Alternative}
 use Rattle.c11_directives.specs.declared.directive.Test.{Test}
@@ -61,10 +61,6 @@ lists-stop limit ReadFault same to h = tt
 lists-stop limit OutOfMemory same to h = tt
 
 -- what several clauses of an answer say together
-pub all-of : {X Y : Type 0} {A B C D E : X → Type 0} (r : Result X Y) → ((x : X) → A x → B x → C x → D x → E x) → IfOk r A → IfOk r B → IfOk r C → IfOk r D → IfOk r E
-all-of (Ok x) to a b c d = to x a b c d
-all-of (Err y) to a b c d = tt
-
 -- ---- at one configuration
 
 -- where the machine is not refused, an earlier stage left it as it was

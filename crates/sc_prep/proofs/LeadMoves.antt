@@ -25,6 +25,7 @@ use Rattle.sc_prep.specs.Machine.{Machine}
 use Rattle.sc_prep.specs.Preprocesses.{Stops}
 use Rattle.sc_prep.specs.Printable.{IsHeldWalk, IsPlaced, any_token}
 use Rattle.sc_prep.specs.Simulates.{IsReady, Leads, Owns, OwnsSection, Simulates, SimulatesOneOf}
+use Rattle.sc_prep.specs.Stages.{IsStored}
 use Rattle.sc_prep.specs.declared.content.Content.{Content}
 use Rattle.sc_prep.specs.declared.content.Contents.{Contents}
 use Rattle.sc_prep.specs.declared.entering.Around.{Around}
@@ -109,6 +110,10 @@ pub ready-moved : {old new : Sets} {names more files : List (List ℕ)} {holds :
     → IsReady new more files holds next contents
 ready-moved {files = files} grows moved held ready =
     record { owns = moved.owns; table = moved.table; held = held; read = contents-later grows (Extends-refl files) ready.read }
+
+-- what a stage needs of it
+pub stored-ready : {s : Sets} {names files : List (List ℕ)} {holds : Option Files} {w : Walk} {contents : Contents} → IsReady s names files holds w contents → IsStored s names (length files) w
+stored-ready ready = record { owns = ready.owns; table = ready.table; held = ready.held }
 
 -- ---- what one call leads to, and the next
 

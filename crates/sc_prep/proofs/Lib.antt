@@ -44,6 +44,7 @@ pub mod Refusing
 pub mod RunLemmas
 pub mod SaidMoves
 pub mod StageRefusals
+pub mod Stages
 pub mod Stopping
 pub mod TakeLine
 pub mod VoidFootprints

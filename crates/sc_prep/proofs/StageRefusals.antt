@@ -14,7 +14,8 @@ use Rattle.sc_model.specs.Sets.{Sets, IsConfig, IsCond, Keeps}
 use Rattle.sc_prep.specs.Closes.{RefusesEach, has_none, is_empty}
 use Rattle.sc_prep.specs.Machine.{Machine, acts}
 use Rattle.sc_prep.specs.Printable.{IsHeldWalk, any_token}
-use Rattle.sc_prep.specs.Simulates.{Owns, Simulates, SimulatesOneOf}
+use Rattle.sc_prep.specs.Simulates.{Owns, Simulates}
+use Rattle.sc_prep.specs.Stages.{Stage}
 use Rattle.sc_prep.specs.declared.walk.Walk.{Walk}
 use Rattle.sc_table.proofs.Growth.{IsTable-Keeps}
 use Rattle.sc_table.specs.declared.table.MacroTable.{MacroTable}
@@ -133,36 +134,28 @@ module _ (files names more : List (List ℕ)) {old mid new : Sets} (keeps : Keep
         };
       })
 
-  -- what the machine does with the fault of each configuration
-  pub refused-as-told : (does : List ℕ → Machine → Machine → Type 0)
+  -- what the stage does with the fault of each configuration
+  pub refused-stage : (does : List ℕ → Machine → Machine → Type 0) → All (λ (f : base.Fault). f.place.file.0 < length files) faults
       → ((c : List ℕ) (m : Machine) → IsConfig old.arities c → Simulates old names files w c m → FaultsAt mid files faults c m (does c m))
-      → SimulatesOneOf files names old w more new next does
-  refused-as-told does each = record {
-    owns = owns_next;
-    table = subst (λ (v : Walk). IsTable new more v.table) (sym refuses.same) (IsTable-Keeps later is_table);
-    at = λ c m listed simulates.
-        let x = each c m listed simulates in
-        record { machine = with_fault m x.fault; done = x.done; simulates = entered c m listed simulates x.fault x.told x.fresh };
-  }
-
--- the tables hold the walk behind it
-pub refused-each-held : {names more : List (List ℕ)} {mid new : Sets} (files : ℕ) (grows : Extends names more) (w next : Walk) (table : MacroTable) (faults : List base.Fault)
-    → RefusesEach mid (record w { table = table }) faults new next → All (λ (f : base.Fault). f.place.file.0 < files) faults
-    → IsHeldWalk names files any_token w → IsHeldWalk more files any_token next
-refused-each-held {more = more} files grows w next table faults refuses placed held =
-    let IsIn : base.Fault → Type 0 = λ f. f.place.file.0 < files in
-    subst (λ (v : Walk). IsHeldWalk more files any_token v) (sym refuses.same) (record {
-      gathered = list-grown grows files w.gathered held.gathered;
-      list = list-grown grows files w.prepared.list held.list;
-      passed = λ k d h. refl;
-      faults = subst (All IsIn) (sym refuses.faults) (All-append IsIn w.prepared.faults.items faults held.faults placed);
-    })
-
--- nothing is put out
-pub refused-each-list : {mid new : Sets} (w next : Walk) (table : MacroTable) (faults : List base.Fault) → RefusesEach mid (record w { table = table }) faults new next
-    → next.prepared.list ≡ w.prepared.list
-refused-each-list w next table faults refuses = ap (λ (v : Walk). v.prepared.list) refuses.same
-
--- nor gathered
-pub refused-each-gathered : {mid new : Sets} (w next : Walk) (table : MacroTable) (faults : List base.Fault) → RefusesEach mid (record w { table = table }) faults new next → next.gathered ≡ w.gathered
-refused-each-gathered w next table faults refuses = ap (λ (v : Walk). v.gathered) refuses.same
+      → Stage files names old w more new next does
+  refused-stage does placed each =
+      let IsIn : base.Fault → Type 0 = λ f. f.place.file.0 < length files in
+      record {
+        simulates = record {
+          owns = owns_next;
+          table = subst (λ (v : Walk). IsTable new more v.table) (sym refuses.same) (IsTable-Keeps later is_table);
+          at = λ c m listed simulates.
+              let x = each c m listed simulates in
+              record { machine = with_fault m x.fault; done = x.done; simulates = entered c m listed simulates x.fault x.told x.fresh };
+        };
+        text = record {
+          held = subst (λ (v : Walk). IsHeldWalk more (length files) any_token v) (sym refuses.same) (record {
+            gathered = list-grown grows (length files) w.gathered held.gathered;
+            list = list-grown grows (length files) w.prepared.list held.list;
+            passed = λ k d h. refl;
+            faults = subst (All IsIn) (sym refuses.faults) (All-append IsIn w.prepared.faults.items faults held.faults placed);
+          });
+          list = ap (λ (v : Walk). v.prepared.list) refuses.same;
+          gathered = ap (λ (v : Walk). v.gathered) refuses.same;
+        };
+      }

@@ -13,3 +13,4 @@ pub mod Passes
 pub mod Preprocesses
 pub mod Printable
 pub mod Simulates
+pub mod Stages

@@ -1,23 +1,15 @@
 //! What the lines of `#include` and `#line` say behind the name of the directive.
-ghost use Rattle.std.specs.Prelude.{◌≡◌, ◌<◌, All, List, ℕ, Some, IfErr, IfOk, OnOk, drop, length, map, true};
+ghost use Rattle.std.specs.Prelude.{◌≡◌, ◌<◌, All, List, ℕ, IfErr, IfOk, OnOk, drop, length, map};
 ghost use Rattle.c11_directives.specs.Behind.{begins_with_header};
 ghost use Rattle.c11_directives.specs.declared.directive.Directive.TheVariants as directive;
-ghost use Rattle.c11_directives.specs.declared.directive.Directive.{Directive};
-ghost use Rattle.c11_directives.specs.Footprints.{DirectiveHas, HasFootprints};
-ghost use Rattle.c11_directives.specs.Pre.{Context, is_said};
-ghost use Rattle.sc_expand.specs.Stops.{StopsBy};
+ghost use Rattle.c11_directives.specs.Pre.{Context};
 ghost use Rattle.sc_base.specs.Seen.{IsHeld, seen};
-ghost use Rattle.sc_guarded.specs.Items.{items_at};
 ghost use Rattle.sc_lines.specs.Nests.{seen_line};
 ghost use Rattle.sc_model.specs.Growth.{Extends};
-ghost use Rattle.sc_model.specs.Sets.{IsCond, IsConfig, Keeps};
-ghost use Rattle.sc_hoist.specs.Places.{places_at};
-ghost use Rattle.sc_prep.specs.Apart.{StandApart};
-ghost use Rattle.sc_prep.specs.Footprints.{Comes, HaveLists, StopsWalk, any_machine};
-ghost use Rattle.sc_prep.specs.Machine.{Carried, SaysAt, acts};
-ghost use Rattle.sc_prep.specs.Printable.{ArePlaced, IsHeldWalk, IsPlaced, any_token};
-ghost use Rattle.sc_prep.specs.Simulates.{Owns, SimulatesOneOf};
-ghost use Rattle.sc_table.specs.Table.{IsTable};
+ghost use Rattle.sc_model.specs.Sets.{Keeps};
+ghost use Rattle.sc_prep.specs.Machine.{Carried};
+ghost use Rattle.sc_prep.specs.Printable.{IsPlaced};
+ghost use Rattle.sc_prep.specs.Stages.{IsStored, SaysLine, Stage, StopsSaid};
 
 use crate::alternatives::alternatives;
 use crate::numbering::not_numbered;
@@ -42,23 +34,9 @@ impl Walk {
         line: &[Token],
     ) -> Result<Guarded<Token>, Stop>
         requires placed { All (IsPlaced names.old (length files.now)) line.now }
-        requires owns { Owns (C.sets conds.old) self.old }
-        requires table { IsTable (C.sets conds.old) names.old self.old.table }
-        requires walk { IsHeldWalk names.old (length files.now) any_token self.old }
-        ensures says { IfOk result (λ list. SimulatesOneOf files.now names.old (C.sets conds.old) self.old names.new (C.sets conds.new) self.new
-            (λ config m n. SaysAt (seen_line names.old files.now line.now) m (map (seen names.new files.now) (items_at (C.sets conds.new) list config)) n)) }
-        ensures own { IfOk result (λ list. All (λ item. IsCond (C.sets conds.new) item.0.0) list) }
-        ensures placed { IfOk result (ArePlaced names.new (length files.now)) }
-        ensures walk { OnOk result (IsHeldWalk names.new (length files.now) any_token self.new) }
-        ensures list { OnOk result (self.new.prepared.list ≡ self.old.prepared.list) }
-        ensures stops { IfErr result (StopsBy (C.sets conds.old).arities limit) }
-        ensures gathered { OnOk result (self.new.gathered ≡ self.old.gathered) }
-        ensures lists { IfOk result (λ list. (d : Directive) (count : ℕ) → (seen_line names.old files.now line.now).directive ≡ Some d → is_said d ≡ true → StandApart line.now
-            → HaveLists (C.sets conds.old).arities (λ c. (C.sets conds.new).has self.new.acting.0 c) (λ c. places_at (C.sets conds.new) list c) count
-            → HasFootprints (IsConfig (C.sets conds.old).arities) (Comes (C.sets conds.old) names.old files.now self.old any_machine (λ config m f. (acts m ≡ true) × DirectiveHas m.state.macros (seen_line names.old files.now line.now) f)) count) }
-        ensures footprints { (d : Directive) → (seen_line names.old files.now line.now).directive ≡ Some d → is_said d ≡ true → StandApart line.now
-            → IfErr result (StopsWalk (C.sets conds.old) names.old files.now self.old any_machine
-            (λ config m f. (acts m ≡ true) × DirectiveHas m.state.macros (seen_line names.old files.now line.now) f) limit) }
+        requires stored { IsStored (C.sets conds.old) names.old (length files.now) self.old }
+        ensures says { IfOk result (SaysLine files.now names.old (C.sets conds.old) self.old line.now names.new (C.sets conds.new) self.new) }
+        ensures stops { IfErr result (StopsSaid (C.sets conds.old) names.old files.now self.old line.now limit) }
 
         // at every outcome
         ensures keeps { Keeps (C.sets conds.old) (C.sets conds.new) }
@@ -85,18 +63,10 @@ impl Walk {
     ) -> Result<(), Stop>
         requires placed { All (IsPlaced names.old (length files.now)) line.now }
         requires line { 0 < length line.now }
-        requires owns { Owns (C.sets conds.old) self.old }
-        requires table { IsTable (C.sets conds.old) names.old self.old.table }
-        requires walk { IsHeldWalk names.old (length files.now) any_token self.old }
-        ensures carries { OnOk result ((x : Context) → SimulatesOneOf files.now names.old (C.sets conds.old) self.old names.new (C.sets conds.new) self.new
+        requires stored { IsStored (C.sets conds.old) names.old (length files.now) self.old }
+        ensures carries { OnOk result ((x : Context) → Stage files.now names.old (C.sets conds.old) self.old names.new (C.sets conds.new) self.new
             (λ config m n. Carried x (seen_line names.old files.now line.now) directive.Line m n)) }
-        ensures walk { OnOk result (IsHeldWalk names.new (length files.now) any_token self.new) }
-        ensures list { OnOk result (self.new.prepared.list ≡ self.old.prepared.list) }
-        ensures stops { IfErr result (StopsBy (C.sets conds.old).arities limit) }
-        ensures gathered { OnOk result (self.new.gathered ≡ self.old.gathered) }
-        ensures footprints { (d : Directive) → (seen_line names.old files.now line.now).directive ≡ Some d → is_said d ≡ true → StandApart line.now
-            → IfErr result (StopsWalk (C.sets conds.old) names.old files.now self.old any_machine
-            (λ config m f. (acts m ≡ true) × DirectiveHas m.state.macros (seen_line names.old files.now line.now) f) limit) }
+        ensures stops { IfErr result (StopsSaid (C.sets conds.old) names.old files.now self.old line.now limit) }
 
         // at every outcome
         ensures keeps { Keeps (C.sets conds.old) (C.sets conds.new) }

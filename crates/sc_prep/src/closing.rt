@@ -2,16 +2,13 @@ ghost use Rattle.std.specs.Prelude.{◌≡◌, ℕ, ◌<◌, ◌++◌, ◌∷◌
 ghost use Rattle.sc_base.specs.declared.token.Token as base;
 ghost use Rattle.sc_base.specs.declared.id.Cond.{Cond};
 ghost use Rattle.c11_directives.specs.Footprints.{NameHas};
-ghost use Rattle.sc_expand.specs.Stops.{StopsBy};
 ghost use Rattle.sc_model.specs.Growth.{Extends};
 ghost use Rattle.sc_model.specs.Sets.{Sets, IsCond, Keeps};
 ghost use Rattle.sc_prep.specs.Closes.{IsWithin, PutsOut, RefusesEach};
-ghost use Rattle.sc_prep.specs.Apart.{GathersFrom, StandApart, tokens_in};
-ghost use Rattle.sc_prep.specs.Footprints.{StopsWalk, any_machine};
+ghost use Rattle.sc_prep.specs.Apart.{tokens_in};
 ghost use Rattle.sc_prep.specs.Machine.{acts};
-ghost use Rattle.sc_prep.specs.Printable.{AllPass, ClosesPlain, IsHeldWalk, any_token, is_plain};
-ghost use Rattle.sc_prep.specs.Simulates.{Closed, Owns, SimulatesOneOf};
-ghost use Rattle.sc_table.specs.Table.{IsTable};
+ghost use Rattle.sc_prep.specs.Simulates.{Closed, Owns};
+ghost use Rattle.sc_prep.specs.Stages.{IsStored, LineStage, StopsStage};
 
 use crate::walk::Walk;
 use sc_base::{Cond, Fault, Files, Names, OutOfMemory, Stop, Token};
@@ -31,17 +28,10 @@ impl Walk {
         files: &Files,
         limit: usize,
     ) -> Result<(), Stop>
-        requires owns { Owns (C.sets conds.old) self.old }
-        requires table { IsTable (C.sets conds.old) names.old self.old.table }
-        requires walk { IsHeldWalk names.old (length files.now) any_token self.old }
-        ensures closes { OnOk result (SimulatesOneOf files.now names.old (C.sets conds.old) self.old names.new (C.sets conds.new) self.new (λ config m n. Closed m n)) }
-        ensures walk { OnOk result (IsHeldWalk names.new (length files.now) any_token self.new) }
-        ensures plain { OnOk result (ClosesPlain (C.sets conds.old) names.old files.now self.old → AllPass (is_plain names.old) self.old.prepared.list
-            → AllPass (is_plain names.new) self.new.prepared.list) }
-        ensures stops { IfErr result (StopsBy (C.sets conds.old).arities limit) }
-        ensures gathers { OnOk result (GathersFrom [] self.old self.new) }
-        ensures footprints { StandApart (tokens_in self.old.gathered)
-            → IfErr result (StopsWalk (C.sets conds.old) names.old files.now self.old any_machine
+        requires stored { IsStored (C.sets conds.old) names.old (length files.now) self.old }
+        ensures closes { OnOk result (LineStage files.now names.old (C.sets conds.old) self.old [] names.new (C.sets conds.new) self.new
+            (λ config m n. Closed m n)) }
+        ensures stops { IfErr result (StopsStage (C.sets conds.old) names.old files.now self.old (tokens_in self.old.gathered)
             (λ config m f. (acts m ≡ true) × NameHas m.state.macros m.state.run f) limit) }
 
         // at every outcome

@@ -1,21 +1,19 @@
 //! The sections of conditional directives, and what decides whether a group is taken (C11 6.10.1).
-ghost use Rattle.std.specs.Prelude.{◌≡◌, ◌<◌, ◌&&◌, All, List, ℕ, Some, IfErr, IfOk, OnOk, is_none, length, true};
+ghost use Rattle.std.specs.Prelude.{◌≡◌, ◌<◌, All, List, ℕ, Some, IfErr, IfOk, OnOk, length, true};
 ghost use Rattle.c11_directives.specs.declared.directive.Conditional.TheVariants as conditional;
-ghost use Rattle.c11_directives.specs.Footprints.{DirectiveHas, MomentsHave};
+ghost use Rattle.c11_directives.specs.Footprints.{MomentsHave};
 ghost use Rattle.c11_directives.specs.Lines.{conditional_of, test_of};
 ghost use Rattle.c11_directives.specs.Pre.{Context};
 ghost use Rattle.sc_base.specs.declared.stop.Stop.TheVariants as stop;
 ghost use Rattle.sc_base.specs.Seen.{IsHeld, text_at};
-ghost use Rattle.sc_expand.specs.Stops.{StopsBy};
 ghost use Rattle.sc_lines.specs.Nests.{seen_line};
 ghost use Rattle.sc_model.specs.Growth.{Extends};
 ghost use Rattle.sc_model.specs.Sets.{Denotes, IsCond, Keeps};
 ghost use Rattle.sc_prep.specs.Machine.{Decided, is_taken, name_test, step};
-ghost use Rattle.sc_prep.specs.Apart.{StandApart};
-ghost use Rattle.sc_prep.specs.Expressions.{DecidesAt};
-ghost use Rattle.sc_prep.specs.Footprints.{ComesAt, StopsWalk, any_machine};
-ghost use Rattle.sc_prep.specs.Printable.{IsHeldWalk, IsPlaced, StaysHeld, any_token};
-ghost use Rattle.sc_prep.specs.Simulates.{Owns, SimulatesOneOf};
+ghost use Rattle.sc_prep.specs.Footprints.{ComesAt};
+ghost use Rattle.sc_prep.specs.Printable.{IsHeldWalk, IsPlaced, any_token};
+ghost use Rattle.sc_prep.specs.Simulates.{Owns};
+ghost use Rattle.sc_prep.specs.Stages.{AskedHas, DecidesTest, IsStored, Stage, StopsStage};
 ghost use Rattle.sc_table.specs.Table.{IsStill, IsTable, macros_at};
 
 use crate::directives::operand;
@@ -41,16 +39,10 @@ impl Walk {
     ) -> Result<(), Stop>
         requires placed { All (IsPlaced names.old (length files.now)) line.now }
         requires line { conditional_of (seen_line names.old files.now line.now) ≡ Some (conditional.Opening test) }
-        requires owns { Owns (C.sets conds.old) self.old }
-        requires table { IsTable (C.sets conds.old) names.old self.old.table }
-        requires walk { IsHeldWalk names.old (length files.now) any_token self.old }
-        ensures decides { OnOk result ((x : Context) → SimulatesOneOf files.now names.old (C.sets conds.old) self.old names.new (C.sets conds.new) self.new (λ config m n. Decided x m (seen_line names.old files.now line.now) n)) }
-        ensures walk { OnOk result (IsHeldWalk names.new (length files.now) any_token self.new) }
-        ensures list { OnOk result (self.new.prepared.list ≡ self.old.prepared.list) }
-        ensures stops { IfErr result (StopsBy (C.sets conds.old).arities limit) }
-        ensures gathered { OnOk result (self.new.gathered ≡ self.old.gathered) }
-        ensures footprints { (x : Context) → StandApart line.now
-            → IfErr result (StopsWalk (C.sets conds.old) names.old files.now self.old any_machine
+        requires stored { IsStored (C.sets conds.old) names.old (length files.now) self.old }
+        ensures decides { OnOk result ((x : Context) → Stage files.now names.old (C.sets conds.old) self.old names.new (C.sets conds.new) self.new
+            (λ config m n. Decided x m (seen_line names.old files.now line.now) n)) }
+        ensures stops { (x : Context) → IfErr result (StopsStage (C.sets conds.old) names.old files.now self.old line.now
             (λ config m. MomentsHave (ComesAt x m (seen_line names.old files.now line.now))) limit) }
 
         // at every outcome
@@ -78,16 +70,10 @@ impl Walk {
     ) -> Result<(), Stop>
         requires placed { All (IsPlaced names.old (length files.now)) line.now }
         requires line { conditional_of (seen_line names.old files.now line.now) ≡ Some (conditional.Alternative test) }
-        requires owns { Owns (C.sets conds.old) self.old }
-        requires table { IsTable (C.sets conds.old) names.old self.old.table }
-        requires walk { IsHeldWalk names.old (length files.now) any_token self.old }
-        ensures decides { OnOk result ((x : Context) → SimulatesOneOf files.now names.old (C.sets conds.old) self.old names.new (C.sets conds.new) self.new (λ config m n. Decided x m (seen_line names.old files.now line.now) n)) }
-        ensures walk { OnOk result (IsHeldWalk names.new (length files.now) any_token self.new) }
-        ensures list { OnOk result (self.new.prepared.list ≡ self.old.prepared.list) }
-        ensures stops { IfErr result (StopsBy (C.sets conds.old).arities limit) }
-        ensures gathered { OnOk result (self.new.gathered ≡ self.old.gathered) }
-        ensures footprints { (x : Context) → StandApart line.now
-            → IfErr result (StopsWalk (C.sets conds.old) names.old files.now self.old any_machine
+        requires stored { IsStored (C.sets conds.old) names.old (length files.now) self.old }
+        ensures decides { OnOk result ((x : Context) → Stage files.now names.old (C.sets conds.old) self.old names.new (C.sets conds.new) self.new
+            (λ config m n. Decided x m (seen_line names.old files.now line.now) n)) }
+        ensures stops { (x : Context) → IfErr result (StopsStage (C.sets conds.old) names.old files.now self.old line.now
             (λ config m. MomentsHave (ComesAt x m (seen_line names.old files.now line.now))) limit) }
 
         // at every outcome
@@ -117,19 +103,11 @@ impl Walk {
         requires placed { All (IsPlaced names.old (length files.now)) line.now }
         requires line { test_of (seen_line names.old files.now line.now) ≡ Some test }
         requires among_own { IsCond (C.sets conds.old) among.0 }
-        requires owns { Owns (C.sets conds.old) self.old }
-        requires table { IsTable (C.sets conds.old) names.old self.old.table }
-        requires walk { IsHeldWalk names.old (length files.now) any_token self.old }
-        ensures decides { IfOk result (λ taken. (x : Context) → SimulatesOneOf files.now names.old (C.sets conds.old) self.old names.new (C.sets conds.new) self.new
-            (λ config m n. DecidesAt x (seen_line names.old files.now line.now) ((C.sets conds.old).has among.0 config && is_none m.fault) m ((C.sets conds.new).has taken.0 config) n)) }
-        ensures own { IfOk result (λ taken. IsCond (C.sets conds.new) taken.0) }
-        ensures walk { OnOk result (IsHeldWalk names.new (length files.now) any_token self.new) }
-        ensures list { OnOk result (self.new.prepared.list ≡ self.old.prepared.list) }
-        ensures stops { IfErr result (StopsBy (C.sets conds.old).arities limit) }
-        ensures gathered { OnOk result (self.new.gathered ≡ self.old.gathered) }
-        ensures footprints { StandApart line.now
-            → IfErr result (StopsWalk (C.sets conds.old) names.old files.now self.old any_machine
-            (λ config m f. (((C.sets conds.old).has among.0 config && is_none m.fault) ≡ true) × DirectiveHas m.state.macros (seen_line names.old files.now line.now) f) limit) }
+        requires stored { IsStored (C.sets conds.old) names.old (length files.now) self.old }
+        ensures decides { IfOk result (λ taken. DecidesTest files.now names.old (C.sets conds.old) self.old names.new (C.sets conds.new) self.new
+            (seen_line names.old files.now line.now) among.0 taken.0) }
+        ensures stops { IfErr result (StopsStage (C.sets conds.old) names.old files.now self.old line.now
+            (AskedHas (C.sets conds.old) among.0 (seen_line names.old files.now line.now)) limit) }
 
         // at every outcome
         ensures keeps { Keeps (C.sets conds.old) (C.sets conds.new) }
@@ -160,14 +138,11 @@ impl Walk {
         requires among_own { IsCond (C.sets conds.old) among.0 }
         requires owns { Owns (C.sets conds.old) self.old }
         requires table { IsTable (C.sets conds.old) names.now self.old.table }
-        ensures decides { IfOk result (λ taken. (files : List (List ℕ)) (x : Context) → test_of (seen_line names.now files line.now) ≡ Some (name_test wanted) → IsHeldWalk names.now (length files) any_token self.old
-            → SimulatesOneOf files names.now (C.sets conds.old) self.old names.now (C.sets conds.new) self.new
-            (λ config m n. DecidesAt x (seen_line names.now files line.now) ((C.sets conds.old).has among.0 config && is_none m.fault) m ((C.sets conds.new).has taken.0 config) n)) }
-        ensures own { IfOk result (λ taken. IsCond (C.sets conds.new) taken.0) }
-        ensures printable { OnOk result (StaysHeld names.now line.now self.old self.new) }
-        ensures list { OnOk result (self.new.prepared.list ≡ self.old.prepared.list) }
+        ensures decides { IfOk result (λ taken. (files : List (List ℕ)) → test_of (seen_line names.now files line.now) ≡ Some (name_test wanted)
+            → All (IsPlaced names.now (length files)) line.now → IsHeldWalk names.now (length files) any_token self.old
+            → DecidesTest files names.now (C.sets conds.old) self.old names.now (C.sets conds.new) self.new
+            (seen_line names.now files line.now) among.0 taken.0) }
         ensures memory { IfErr result (λ s. s ≡ stop.OutOfMemory) }
-        ensures gathered { OnOk result (self.new.gathered ≡ self.old.gathered) }
         ensures keeps { Keeps (C.sets conds.old) (C.sets conds.new) }
     {
         let live = conds.apply_and(among, self.prepared.live)?;

@@ -12,15 +12,15 @@ ghost use Rattle.sc_model.specs.declared.cause.Cause.TheVariants.{BadDirective};
 ghost use Rattle.sc_model.specs.Sets.{IsCond, Denotes, Keeps};
 ghost use Rattle.sc_macro.specs.Reads.{seen_defined};
 ghost use Rattle.sc_macro.specs.Seen.{IsHeldDefinition};
-ghost use Rattle.sc_expand.specs.Stops.{StopsBy};
 ghost use Rattle.sc_model.specs.Growth.{Extends};
-ghost use Rattle.sc_prep.specs.Apart.{GathersFrom, StandApart, tokens_in};
-ghost use Rattle.sc_prep.specs.Footprints.{ComesAt, StopsWalk, any_machine};
+ghost use Rattle.sc_prep.specs.Apart.{GathersFrom, tokens_in};
+ghost use Rattle.sc_prep.specs.Footprints.{ComesAt};
 ghost use Rattle.sc_prep.specs.Machine as machine;
 ghost use Rattle.sc_prep.specs.Machine.{Decided, Takes, acts, changed_by, changing, defined_as, ends_run, plain_by};
-ghost use Rattle.sc_prep.specs.Simulates.{Owns, SimulatesOneOf, SimulatesStep};
+ghost use Rattle.sc_prep.specs.Simulates.{Owns, SimulatesStep};
 ghost use Rattle.sc_lines.specs.Nests.{seen_line};
-ghost use Rattle.sc_prep.specs.Printable.{AllPass, ClosesPlain, IsHeldWalk, IsPlaced, StaysHeld, any_token, is_plain};
+ghost use Rattle.sc_prep.specs.Printable.{IsPlaced, StaysHeld};
+ghost use Rattle.sc_prep.specs.Stages.{IsStored, LineStage, Stage, StopsStage};
 ghost use Rattle.sc_table.specs.Table.{IsTable, IsStill, macros_at};
 
 use crate::walk::Walk;
@@ -48,17 +48,10 @@ impl Walk {
         requires placed { All (IsPlaced names.old (length files.now)) tokens.now }
         requires directive { line.now.directive ≡ directive_at names.old tokens.now }
         requires local { line.now.directive ≡ Some kind.Include → ⊥ }
-        requires owns { Owns (C.sets conds.old) self.old }
-        requires table { IsTable (C.sets conds.old) names.old self.old.table }
-        requires walk { IsHeldWalk names.old (length files.now) any_token self.old }
-        ensures takes { OnOk result ((x : Context) → SimulatesOneOf files.now names.old (C.sets conds.old) self.old names.new (C.sets conds.new) self.new (λ config m n. Takes x m (seen_line names.old files.now tokens.now) n)) }
-        ensures walk { OnOk result (IsHeldWalk names.new (length files.now) any_token self.new) }
-        ensures plain { OnOk result (ClosesPlain (C.sets conds.old) names.old files.now self.old → AllPass (is_plain names.old) self.old.prepared.list
-            → AllPass (is_plain names.new) self.new.prepared.list) }
-        ensures stops { IfErr result (StopsBy (C.sets conds.old).arities limit) }
-        ensures gathers { OnOk result (GathersFrom tokens.now self.old self.new) }
-        ensures footprints { (x : Context) → StandApart (tokens_in self.old.gathered ++ tokens.now)
-            → IfErr result (StopsWalk (C.sets conds.old) names.old files.now self.old any_machine
+        requires stored { IsStored (C.sets conds.old) names.old (length files.now) self.old }
+        ensures takes { OnOk result ((x : Context) → LineStage files.now names.old (C.sets conds.old) self.old tokens.now
+            names.new (C.sets conds.new) self.new (λ config m n. Takes x m (seen_line names.old files.now tokens.now) n)) }
+        ensures stops { (x : Context) → IfErr result (StopsStage (C.sets conds.old) names.old files.now self.old (tokens_in self.old.gathered ++ tokens.now)
             (λ config m. MomentsHave (ComesAt x m (seen_line names.old files.now tokens.now))) limit) }
 
         // at every outcome
@@ -90,19 +83,11 @@ impl Walk {
     ) -> Result<(), Stop>
         requires placed { All (IsPlaced names.old (length files.now)) line.now }
         requires directive { directive ≡ directive_at names.old line.now }
-        requires unconditional { conditional_in directive ≡ None }
-        requires local { directive ≡ Some kind.Include → ⊥ }
-        requires owns { Owns (C.sets conds.old) self.old }
-        requires table { IsTable (C.sets conds.old) names.old self.old.table }
-        requires walk { IsHeldWalk names.old (length files.now) any_token self.old }
-        ensures takes { OnOk result ((x : Context) → SimulatesOneOf files.now names.old (C.sets conds.old) self.old names.new (C.sets conds.new) self.new (λ config m n. Takes x m (seen_line names.old files.now line.now) n)) }
-        ensures walk { OnOk result (IsHeldWalk names.new (length files.now) any_token self.new) }
-        ensures plain { OnOk result (ClosesPlain (C.sets conds.old) names.old files.now self.old → AllPass (is_plain names.old) self.old.prepared.list
-            → AllPass (is_plain names.new) self.new.prepared.list) }
-        ensures stops { IfErr result (StopsBy (C.sets conds.old).arities limit) }
-        ensures gathers { OnOk result (GathersFrom line.now self.old self.new) }
-        ensures footprints { (x : Context) → StandApart (tokens_in self.old.gathered ++ line.now)
-            → IfErr result (StopsWalk (C.sets conds.old) names.old files.now self.old any_machine
+        requires local { (conditional_in directive ≡ None) × (directive ≡ Some kind.Include → ⊥) }
+        requires stored { IsStored (C.sets conds.old) names.old (length files.now) self.old }
+        ensures takes { OnOk result ((x : Context) → LineStage files.now names.old (C.sets conds.old) self.old line.now names.new (C.sets conds.new) self.new
+            (λ config m n. Takes x m (seen_line names.old files.now line.now) n)) }
+        ensures stops { (x : Context) → IfErr result (StopsStage (C.sets conds.old) names.old files.now self.old (tokens_in self.old.gathered ++ line.now)
             (λ config m. MomentsHave (ComesAt x m (seen_line names.old files.now line.now))) limit) }
 
         // at every outcome
@@ -129,19 +114,11 @@ impl Walk {
     ) -> Result<(), Stop>
         requires placed { All (IsPlaced names.old (length files.now)) line.now }
         requires directive { Some directive ≡ directive_at names.old line.now }
-        requires local { directive ≡ kind.Include → ⊥ }
-        requires barrier { is_barrier directive ≡ true }
-        requires owns { Owns (C.sets conds.old) self.old }
-        requires table { IsTable (C.sets conds.old) names.old self.old.table }
-        requires walk { IsHeldWalk names.old (length files.now) any_token self.old }
-        ensures takes { OnOk result ((x : Context) → SimulatesOneOf files.now names.old (C.sets conds.old) self.old names.new (C.sets conds.new) self.new (λ config m n. Takes x m (seen_line names.old files.now line.now) n)) }
-        ensures walk { OnOk result (IsHeldWalk names.new (length files.now) any_token self.new) }
-        ensures plain { OnOk result (ClosesPlain (C.sets conds.old) names.old files.now self.old → AllPass (is_plain names.old) self.old.prepared.list
-            → AllPass (is_plain names.new) self.new.prepared.list) }
-        ensures stops { IfErr result (StopsBy (C.sets conds.old).arities limit) }
-        ensures gathers { OnOk result (GathersFrom line.now self.old self.new) }
-        ensures footprints { (x : Context) → StandApart (tokens_in self.old.gathered ++ line.now)
-            → IfErr result (StopsWalk (C.sets conds.old) names.old files.now self.old any_machine
+        requires barrier { (is_barrier directive ≡ true) × (directive ≡ kind.Include → ⊥) }
+        requires stored { IsStored (C.sets conds.old) names.old (length files.now) self.old }
+        ensures takes { OnOk result ((x : Context) → LineStage files.now names.old (C.sets conds.old) self.old line.now names.new (C.sets conds.new) self.new
+            (λ config m n. Takes x m (seen_line names.old files.now line.now) n)) }
+        ensures stops { (x : Context) → IfErr result (StopsStage (C.sets conds.old) names.old files.now self.old (tokens_in self.old.gathered ++ line.now)
             (λ config m. MomentsHave (ComesAt x m (seen_line names.old files.now line.now))) limit) }
 
         // at every outcome
@@ -169,16 +146,10 @@ impl Walk {
     ) -> Result<(), Stop>
         requires placed { All (IsPlaced names.old (length files.now)) line.now }
         requires directive { Some (kind.Conditional conditional) ≡ directive_at names.old line.now }
-        requires owns { Owns (C.sets conds.old) self.old }
-        requires table { IsTable (C.sets conds.old) names.old self.old.table }
-        requires walk { IsHeldWalk names.old (length files.now) any_token self.old }
-        ensures decides { OnOk result ((x : Context) → SimulatesOneOf files.now names.old (C.sets conds.old) self.old names.new (C.sets conds.new) self.new (λ config m n. Decided x m (seen_line names.old files.now line.now) n)) }
-        ensures walk { OnOk result (IsHeldWalk names.new (length files.now) any_token self.new) }
-        ensures list { OnOk result (self.new.prepared.list ≡ self.old.prepared.list) }
-        ensures stops { IfErr result (StopsBy (C.sets conds.old).arities limit) }
-        ensures gathered { OnOk result (self.new.gathered ≡ self.old.gathered) }
-        ensures footprints { (x : Context) → StandApart line.now
-            → IfErr result (StopsWalk (C.sets conds.old) names.old files.now self.old any_machine
+        requires stored { IsStored (C.sets conds.old) names.old (length files.now) self.old }
+        ensures decides { OnOk result ((x : Context) → Stage files.now names.old (C.sets conds.old) self.old names.new (C.sets conds.new) self.new
+            (λ config m n. Decided x m (seen_line names.old files.now line.now) n)) }
+        ensures stops { (x : Context) → IfErr result (StopsStage (C.sets conds.old) names.old files.now self.old line.now
             (λ config m. MomentsHave (ComesAt x m (seen_line names.old files.now line.now))) limit) }
 
         // at every outcome

@@ -4,7 +4,6 @@ ghost use Rattle.c11_directives.specs.declared.directive.Directive.{Directive};
 ghost use Rattle.c11_directives.specs.Footprints.{DirectiveHas};
 ghost use Rattle.c11_directives.specs.Pre.{Context, is_said};
 ghost use Rattle.sc_base.specs.Seen.{text_at};
-ghost use Rattle.sc_expand.specs.Stops.{StopsBy};
 ghost use Rattle.sc_lines.specs.Nests.{seen_line};
 ghost use Rattle.sc_model.specs.Growth.{Extends};
 ghost use Rattle.sc_model.specs.Sets.{IsCond, Keeps};
@@ -14,13 +13,13 @@ ghost use Rattle.sc_prep.specs.Includes.{ArePartsOf, Finds, files_at};
 ghost use Rattle.sc_prep.specs.Apart.{StandApart};
 ghost use Rattle.sc_prep.specs.Footprints.{StopsWalk, any_machine};
 ghost use Rattle.sc_prep.specs.Machine.{acts, refusing_if};
-ghost use Rattle.sc_prep.specs.Naming.{ArePlainNames, NamesAt, headers_in};
+ghost use Rattle.sc_prep.specs.Naming.{ArePlainNames};
 ghost use Rattle.sc_prep.specs.Preprocesses.{Stops};
-ghost use Rattle.sc_prep.specs.Printable.{ArePlainPaths, IsHeldWalk, IsPlaced, StaysHeld, any_token, is_plain};
-ghost use Rattle.sc_prep.specs.Simulates.{IsContext, IsIn, IsReady, Leads, Owns, PlainEach, SimulatesOneOf, SimulatesStep};
+ghost use Rattle.sc_prep.specs.Printable.{ArePlainPaths, IsPlaced, StaysHeld, is_plain};
+ghost use Rattle.sc_prep.specs.Simulates.{IsContext, IsIn, IsReady, Leads, Owns, PlainEach, SimulatesStep};
+ghost use Rattle.sc_prep.specs.Stages.{IsStored, NamesHeaders, StopsSaid};
 ghost use Rattle.sc_space.specs.Seen.{seen_space};
 ghost use Rattle.sc_space.specs.Sound.{IsSound};
-ghost use Rattle.sc_table.specs.Table.{IsTable};
 
 use crate::alternatives::alternatives;
 use crate::content::{Content, Contents};
@@ -121,21 +120,12 @@ impl Walk {
     ) -> Result<Vec<Named>, Stop>
         requires placed { All (IsPlaced names.old (length files.now)) line.now }
         requires line { 0 < length line.now }
-        requires owns { Owns (C.sets conds.old) self.old }
-        requires table { IsTable (C.sets conds.old) names.old self.old.table }
-        requires walk { IsHeldWalk names.old (length files.now) any_token self.old }
-        ensures named { IfOk result (λ named. (x : Context) → SimulatesOneOf files.now names.old (C.sets conds.old) self.old names.new (C.sets conds.new) self.new
-            (λ config m n. NamesAt x (seen_line names.old files.now line.now) m (headers_in (C.sets conds.new) named.items config) n)) }
-        ensures own { IfOk result (λ named. All (λ n. IsCond (C.sets conds.new) n.cond.0) named.items) }
+        requires stored { IsStored (C.sets conds.old) names.old (length files.now) self.old }
+        ensures named { IfOk result (λ named. NamesHeaders files.now names.old (C.sets conds.old) self.old line.now
+            names.new (C.sets conds.new) self.new named.items) }
         ensures plain { IfOk result (λ named. (entry : Entry) → All (λ token. is_plain names.old token ≡ true) line.now → ArePlainPaths files.now
             → PlainEach (C.sets conds.old) names.old files.now self.old (IsIn files.now entry) → ArePlainNames named.items) }
-        ensures walk { OnOk result (IsHeldWalk names.new (length files.now) any_token self.new) }
-        ensures list { OnOk result (self.new.prepared.list ≡ self.old.prepared.list) }
-        ensures stops { IfErr result (StopsBy (C.sets conds.old).arities limit) }
-        ensures gathered { OnOk result (self.new.gathered ≡ self.old.gathered) }
-        ensures footprints { (d : Directive) → (seen_line names.old files.now line.now).directive ≡ Some d → is_said d ≡ true → StandApart line.now
-            → IfErr result (StopsWalk (C.sets conds.old) names.old files.now self.old any_machine
-            (λ config m f. (acts m ≡ true) × DirectiveHas m.state.macros (seen_line names.old files.now line.now) f) limit) }
+        ensures stops { IfErr result (StopsSaid (C.sets conds.old) names.old files.now self.old line.now limit) }
 
         // at every outcome
         ensures keeps { Keeps (C.sets conds.old) (C.sets conds.new) }

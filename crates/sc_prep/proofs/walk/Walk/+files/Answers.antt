@@ -1,13 +1,13 @@
-use Rattle.std.proofs.Common.{rules, OnOk, Result, Ok, Err, ◌≡◌, ◌∙◌, ℕ, ◌<◌, ◌++◌, List, [], All, Some, refl, sym, ap, subst, arith, length}
-use Rattle.std.proofs.lemmas.Result.{on_ok_weaker}
-use Rattle.c11_directives.specs.Pre.{context_of}
+use Rattle.std.proofs.Common.{rules, ◌≡◌, ◌∙◌, ℕ, ◌<◌, ◌++◌, List, [], All, Some, refl, sym, ap, subst, arith, length}
+use Rattle.std.proofs.lemmas.Result.{IfErr-weaker, on_ok_weaker}
 use Rattle.sc_base.proofs.Growth.{Extends-refl, Extends-trans}
 use Rattle.sc_lines.proofs.SeenLines.{directive-files}
 use Rattle.sc_base.specs.Seen.{text_at}
 use Rattle.sc_model.proofs.SetLemmas.{Denotes-self, Keeps-trans}
 use Rattle.sc_prep.proofs.Contents.{agrees-back}
 use Rattle.sc_prep.proofs.EnterLeads.{begun-plain, held-lines, held-refusal, kept-lines, kept-refusal, leads-inside, leads-nowhere, leads-refused, left-plain, refused-list}
-use Rattle.sc_prep.proofs.LeadMoves.{content-named, contents-stay, leads-one, limit-stops, ready-moved, ready-begun, ready-kept, ready-left, ready-refused, stops-later}
+use Rattle.sc_prep.proofs.LeadMoves.{content-named, contents-stay, leads-one, limit-stops, ready-moved, ready-begun, ready-kept, ready-left, ready-refused, stops-later, stored-ready}
+use Rattle.sc_prep.proofs.ExpressionMoves.{empty_context}
 use Rattle.sc_prep.proofs.Going.{entry-within}
 use Rattle.sc_prep.proofs.IncludeLeads.{gone-closed, gone-entered, gone-found, gone-taken, parts-later}
 use Rattle.sc_prep.proofs.ApartLemmas.{gathers-same, gathers-then}
@@ -21,7 +21,6 @@ use Rattle.sc_prep.proofs.PlainRuns.{each-closes-plain, path-plain}
 use Rattle.sc_prep.proofs.WalkLeads.{gone-line, gone-nowhere, gone-over, line-directive, line-placed-now}
 use Rattle.sc_prep.specs.Machine as machine
 use Rattle.sc_prep.specs.Simulates.{IsBetweenRuns, IsIn, Leads}
-use Rattle.sc_space.specs.Seen.{seen_space}
 use Rattle.sc_prep.specs.Printable.{AllPass, is_plain}
 use Rattle.sc_base.proofs.Growth.{Extends-within}
 use Rattle.sc_lines.specs.declared.line.Line.{Line}
@@ -45,10 +44,6 @@ use Rattle.sc_prep.proofs.Stopping.{answer-stops}
 use Rattle.sc_prep.proofs.DirectiveStops.{carried-stops, closing-stops}
 use Rattle.sc_prep.proofs.WalkStops.{apart-first, apart-line, apart-next, end-stops, file-stops, line-stops, to_come}
 use Rattle.sc_prep.proofs.walk.Walk.+files.Goals as goal
-
-ok-both : {A E P Q R : Type 0} (r : Result A E) → (P → Q → R) → OnOk r P → OnOk r Q → OnOk r R
-ok-both (Ok x) f p q = f p q
-ok-both (Err e) f p q = tt
 
 pub enter-apply_and-requires-clause-b_own : goal.enter-apply_and-requires-clause-b_own
 enter-apply_and-requires-clause-b_own g t c = c.requires.ready.owns.acting
@@ -191,36 +186,35 @@ take_line-include_line-requires g t c κs given =
       (given.0, (given.1, (c.requires.placed, (sym c.requires.directive ∙ (c.in-Some-Include.is ∙ ap Some at), (c.requires.entry, (c.requires.deep, c.requires.ready)))))),
     )
 
-pub take_line-local_line-requires-clause-owns : goal.take_line-local_line-requires-clause-owns
-take_line-local_line-requires-clause-owns g t c = c.requires.ready.owns
-
-pub take_line-local_line-requires-clause-table : goal.take_line-local_line-requires-clause-table
-take_line-local_line-requires-clause-table g t c = c.requires.ready.table
-
-pub take_line-local_line-requires-clause-walk : goal.take_line-local_line-requires-clause-walk
-take_line-local_line-requires-clause-walk g t c = c.requires.ready.held
+pub take_line-local_line-requires-clause-stored : goal.take_line-local_line-requires-clause-stored
+take_line-local_line-requires-clause-stored g t c = stored-ready c.requires.ready
 
 pub take_line-returns-in_default-clause-takes : goal.take_line-returns-in_default-clause-takes
 take_line-returns-in_default-clause-takes g t c =
-    on_ok_weaker c.local_line.result (λ moved. λ x context agrees. leads-one (IsIn c.args.files.now c.args.entry) (moved x)) c.local_line.ensures.takes
+    on_ok_weaker c.local_line.result (λ takes. λ x context agrees. leads-one (IsIn c.args.files.now c.args.entry) (takes x).simulates) c.local_line.ensures.takes
 
 pub take_line-returns-in_default-clause-ready : goal.take_line-returns-in_default-clause-ready
-take_line-returns-in_default-clause-ready g t c =
-    ok-both c.local_line.result (λ moved walk. ready-moved c.local_line.ensures.names (moved (context_of (seen_space c.args.space.now) c.requires.ready.read.some.0)) walk c.requires.ready)
-    c.local_line.ensures.takes c.local_line.ensures.walk
+take_line-returns-in_default-clause-ready g t c = on_ok_weaker c.local_line.result (λ takes.
+    let stage = takes empty_context in
+    ready-moved c.local_line.ensures.names stage.simulates stage.held c.requires.ready) c.local_line.ensures.takes
 
 pub take_line-returns-in_default-clause-plain : goal.take_line-returns-in_default-clause-plain
 take_line-returns-in_default-clause-plain g t c =
-    on_ok_weaker c.local_line.result (λ plain. λ x context agrees sound all paths each list. plain (each-closes-plain each) list) c.local_line.ensures.plain
+    on_ok_weaker c.local_line.result (λ takes. λ x context agrees sound all paths each list. (takes x).plain (each-closes-plain each) list) c.local_line.ensures.takes
 
 pub take_line-returns-in_default-clause-paths : goal.take_line-returns-in_default-clause-paths
-take_line-returns-in_default-clause-paths g t c = on_ok_weaker c.local_line.result (λ moved. λ x context agrees sound all paths each. paths) c.local_line.ensures.takes
+take_line-returns-in_default-clause-paths g t c = on_ok_weaker c.local_line.result (λ takes. λ x context agrees sound all paths each. paths) c.local_line.ensures.takes
 
 pub take_line-returns-in_default-clause-read : goal.take_line-returns-in_default-clause-read
-take_line-returns-in_default-clause-read g t c = on_ok_weaker c.local_line.result (λ moved. contents-stay c.args.contents.now) c.local_line.ensures.takes
+take_line-returns-in_default-clause-read g t c = on_ok_weaker c.local_line.result (λ takes. contents-stay c.args.contents.now) c.local_line.ensures.takes
+
+pub take_line-returns-in_default-clause-gathers : goal.take_line-returns-in_default-clause-gathers
+take_line-returns-in_default-clause-gathers g t c = on_ok_weaker c.local_line.result (λ takes. (takes empty_context).gathers) c.local_line.ensures.takes
 
 pub take_line-returns-in_default-clause-stops : goal.take_line-returns-in_default-clause-stops
-take_line-returns-in_default-clause-stops g t c = limit-stops (g.C.Conditions.sets c.args.conds.now).arities c.args.space.now.limits.branches (g.S.Source.faults c.args.src.now) (g.S.Source.faults c.args.src.now) c.local_line.result c.local_line.ensures.stops
+take_line-returns-in_default-clause-stops g t c =
+    limit-stops (g.C.Conditions.sets c.args.conds.now).arities c.args.space.now.limits.branches (g.S.Source.faults c.args.src.now) (g.S.Source.faults c.args.src.now) c.local_line.result
+    (IfErr-weaker c.local_line.result _ _ (λ stop stops. stops.by) (c.local_line.ensures.stops empty_context))
 
 pub walk_lines-loop-number-init : goal.walk_lines-loop-number-init
 walk_lines-loop-number-init g t c = record {
@@ -232,37 +226,34 @@ walk_lines-loop-number-init g t c = record {
 }
 
 pub walk_lines-returns-clause-covers : goal.walk_lines-returns-clause-covers
-walk_lines-returns-clause-covers g t c =
-    ok-both c.close_runs.result (λ closes plain. (gone-over c.args.entry c.args.file.now c.requires.lines c.loop-number.number c.loop-number.invariant.gone c.loop-number.invariant.ready.read (omega (arith, c.loop-number-test.false, c.len.ensures))
-    c.close_runs.ensures.keeps c.close_runs.ensures.names closes plain).leads)
-    c.close_runs.ensures.closes c.close_runs.ensures.plain
+walk_lines-returns-clause-covers g t c = on_ok_weaker c.close_runs.result (λ closed.
+    (gone-over c.args.entry c.args.file.now c.requires.lines c.loop-number.number c.loop-number.invariant.gone c.loop-number.invariant.ready.read (omega (arith, c.loop-number-test.false, c.len.ensures))
+    c.close_runs.ensures.keeps c.close_runs.ensures.names closed.simulates closed.plain).leads) c.close_runs.ensures.closes
 
 pub walk_lines-returns-clause-plain : goal.walk_lines-returns-clause-plain
-walk_lines-returns-clause-plain g t c =
-    ok-both c.close_runs.result (λ closes plain. (gone-over c.args.entry c.args.file.now c.requires.lines c.loop-number.number c.loop-number.invariant.gone c.loop-number.invariant.ready.read (omega (arith, c.loop-number-test.false, c.len.ensures))
-    c.close_runs.ensures.keeps c.close_runs.ensures.names closes plain).plain tt)
-    c.close_runs.ensures.closes c.close_runs.ensures.plain
+walk_lines-returns-clause-plain g t c = on_ok_weaker c.close_runs.result (λ closed.
+    (gone-over c.args.entry c.args.file.now c.requires.lines c.loop-number.number c.loop-number.invariant.gone c.loop-number.invariant.ready.read (omega (arith, c.loop-number-test.false, c.len.ensures))
+    c.close_runs.ensures.keeps c.close_runs.ensures.names closed.simulates closed.plain).plain tt) c.close_runs.ensures.closes
 
 pub walk_lines-returns-clause-paths : goal.walk_lines-returns-clause-paths
-walk_lines-returns-clause-paths g t c =
-    ok-both c.close_runs.result (λ closes plain. (gone-over c.args.entry c.args.file.now c.requires.lines c.loop-number.number c.loop-number.invariant.gone c.loop-number.invariant.ready.read (omega (arith, c.loop-number-test.false, c.len.ensures))
-    c.close_runs.ensures.keeps c.close_runs.ensures.names closes plain).paths tt)
-    c.close_runs.ensures.closes c.close_runs.ensures.plain
+walk_lines-returns-clause-paths g t c = on_ok_weaker c.close_runs.result (λ closed.
+    (gone-over c.args.entry c.args.file.now c.requires.lines c.loop-number.number c.loop-number.invariant.gone c.loop-number.invariant.ready.read (omega (arith, c.loop-number-test.false, c.len.ensures))
+    c.close_runs.ensures.keeps c.close_runs.ensures.names closed.simulates closed.plain).paths tt) c.close_runs.ensures.closes
 
 pub walk_lines-returns-clause-read : goal.walk_lines-returns-clause-read
-walk_lines-returns-clause-read g t c =
-    ok-both c.close_runs.result (λ closes plain. (gone-over c.args.entry c.args.file.now c.requires.lines c.loop-number.number c.loop-number.invariant.gone c.loop-number.invariant.ready.read (omega (arith, c.loop-number-test.false, c.len.ensures))
-    c.close_runs.ensures.keeps c.close_runs.ensures.names closes plain).read)
-    c.close_runs.ensures.closes c.close_runs.ensures.plain
+walk_lines-returns-clause-read g t c = on_ok_weaker c.close_runs.result (λ closed.
+    (gone-over c.args.entry c.args.file.now c.requires.lines c.loop-number.number c.loop-number.invariant.gone c.loop-number.invariant.ready.read (omega (arith, c.loop-number-test.false, c.len.ensures))
+    c.close_runs.ensures.keeps c.close_runs.ensures.names closed.simulates closed.plain).read) c.close_runs.ensures.closes
 
 pub walk_lines-returns-clause-ready : goal.walk_lines-returns-clause-ready
 walk_lines-returns-clause-ready g t c =
-    ok-both c.close_runs.result (λ closes walk. ready-moved c.close_runs.ensures.names closes walk c.loop-number.invariant.ready) c.close_runs.ensures.closes c.close_runs.ensures.walk
+    on_ok_weaker c.close_runs.result (λ closed. ready-moved c.close_runs.ensures.names closed.simulates closed.held c.loop-number.invariant.ready) c.close_runs.ensures.closes
 
 pub walk_lines-returns-clause-stops : goal.walk_lines-returns-clause-stops
 walk_lines-returns-clause-stops g t c =
     stops-later c.args.space.now.limits.branches (g.S.Source.faults c.loop-number.src) c.close_runs.result c.loop-number.invariant.gone.keeps.arities c.loop-number.invariant.counted
-    (limit-stops (g.C.Conditions.sets c.loop-number.conds).arities c.args.space.now.limits.branches (g.S.Source.faults c.loop-number.src) (g.S.Source.faults c.loop-number.src) c.close_runs.result c.close_runs.ensures.stops)
+    (limit-stops (g.C.Conditions.sets c.loop-number.conds).arities c.args.space.now.limits.branches (g.S.Source.faults c.loop-number.src) (g.S.Source.faults c.loop-number.src) c.close_runs.result
+    (IfErr-weaker c.close_runs.result _ _ (λ stop stops. stops.by) c.close_runs.ensures.stops))
 
 pub walk_lines-returns-in_err-take_line-clause-keeps : goal.walk_lines-returns-in_err-take_line-clause-keeps
 walk_lines-returns-in_err-take_line-clause-keeps g t c = Keeps-trans c.loop-number.invariant.gone.keeps c.in_err-take_line.ensures.keeps
@@ -294,26 +285,14 @@ walk_lines-returns-clause-kept g t c = c.loop-number.invariant.kept
 pub walk_lines-returns-clause-counted : goal.walk_lines-returns-clause-counted
 walk_lines-returns-clause-counted g t c = c.loop-number.invariant.counted
 
-pub walk_lines-close_runs-requires-clause-owns : goal.walk_lines-close_runs-requires-clause-owns
-walk_lines-close_runs-requires-clause-owns g t c = c.loop-number.invariant.ready.owns
+pub walk_lines-close_runs-requires : goal.walk_lines-close_runs-requires
+walk_lines-close_runs-requires g t c = record { stored = stored-ready c.loop-number.invariant.ready }
 
-pub walk_lines-close_runs-requires-clause-table : goal.walk_lines-close_runs-requires-clause-table
-walk_lines-close_runs-requires-clause-table g t c = c.loop-number.invariant.ready.table
-
-pub walk_lines-close_runs-requires-clause-walk : goal.walk_lines-close_runs-requires-clause-walk
-walk_lines-close_runs-requires-clause-walk g t c = c.loop-number.invariant.ready.held
-
-pub include_line-close_runs-requires-clause-owns : goal.include_line-close_runs-requires-clause-owns
-include_line-close_runs-requires-clause-owns g t c = c.requires.ready.owns
-
-pub include_line-close_runs-requires-clause-table : goal.include_line-close_runs-requires-clause-table
-include_line-close_runs-requires-clause-table g t c = c.requires.ready.table
-
-pub include_line-close_runs-requires-clause-walk : goal.include_line-close_runs-requires-clause-walk
-include_line-close_runs-requires-clause-walk g t c = c.requires.ready.held
+pub include_line-close_runs-requires : goal.include_line-close_runs-requires
+include_line-close_runs-requires g t c = record { stored = stored-ready c.requires.ready }
 
 pub include_line-included-requires-clause-ready : goal.include_line-included-requires-clause-ready
-include_line-included-requires-clause-ready g t c = ready-moved c.in_ok-close_runs.ensures.names c.in_ok-close_runs.ensures.closes c.in_ok-close_runs.ensures.walk c.requires.ready
+include_line-included-requires-clause-ready g t c = ready-moved c.in_ok-close_runs.ensures.names c.in_ok-close_runs.ensures.closes.simulates c.in_ok-close_runs.ensures.closes.held c.requires.ready
 
 pub include_line-loop-part-init : goal.include_line-loop-part-init
 include_line-loop-part-init g t c =
@@ -323,11 +302,11 @@ include_line-loop-part-init g t c =
       ready = found.ready;
       parts = subst (ArePartsOf (g.C.Conditions.sets c.included.new.conds) c.included.new.contents) (sym c.deref-part-items.ensures.value) found.parts;
       gone = gone-found c.args.entry c.args.line.now c.requires.placed (directive-files c.args.names.now c.args.files.now c.args.line.now ∙ c.requires.directive) c.in_ok-parts.parts.items c.deref-part-items.result.now c.deref-part-items.ensures.value
-          (gone-closed closed.keeps closed.names closed.closes closed.plain)
-          (ready-moved closed.names closed.closes closed.walk c.requires.ready).read closed.walk.list found.keeps found.names found.files found.read found.finds found.list found.paths;
+          (gone-closed closed.keeps closed.names closed.closes.simulates closed.closes.plain)
+          (ready-moved closed.names closed.closes.simulates closed.closes.held c.requires.ready).read closed.closes.held.list found.keeps found.names found.files found.read found.finds found.list found.paths;
       kept = found.kept;
       counted = found.counted;
-      gathers = gathers-then [] c.args.line.now c.args.self.now c.close_runs.new.self c.included.new.self closed.gathers (gathers-same c.args.line.now c.close_runs.new.self c.included.new.self found.gathered);
+      gathers = gathers-then [] c.args.line.now c.args.self.now c.close_runs.new.self c.included.new.self closed.closes.gathers (gathers-same c.args.line.now c.close_runs.new.self c.included.new.self found.gathered);
     }
 
 pub walk_lines-take_line-requires : goal.walk_lines-take_line-requires
@@ -554,7 +533,8 @@ include_line-returns-in_err-parts-clause-keeps g t c = Keeps-trans c.in_ok-close
 
 pub take_line-returns-in_default-clause-footprints : goal.take_line-returns-in_default-clause-footprints
 take_line-returns-in_default-clause-footprints g t c = λ x context told apart.
-    answer-stops (λ at. at) _ c.args.space.now.limits.branches c.local_line.result refl (λ config f listed comes. λ m at from. comes m at tt) (c.local_line.ensures.footprints x apart)
+    answer-stops (λ at. at) _ c.args.space.now.limits.branches c.local_line.result refl (λ config f listed comes. λ m at from. comes m at tt)
+    (IfErr-weaker c.local_line.result _ _ (λ stop stops. stops.at_place apart) (c.local_line.ensures.stops x))
 
 pub walk_lines-returns-in_err-take_line-clause-footprints : goal.walk_lines-returns-in_err-take_line-clause-footprints
 walk_lines-returns-in_err-take_line-clause-footprints g t c = λ x context told none apart.
@@ -572,12 +552,13 @@ pub walk_lines-returns-clause-footprints : goal.walk_lines-returns-clause-footpr
 walk_lines-returns-clause-footprints g t c = λ x context told none apart.
     let inv = c.loop-number.invariant in
     end-stops c.args.space.now.limits.branches c.close_runs.result c.args.entry c.args.file.now c.requires.lines c.loop-number.number inv.gone inv.ready.read x context (inv.kept ∙ told)
-    (omega (arith, c.loop-number-test.false, c.len.ensures)) (c.close_runs.ensures.footprints (apart-left _ (to_come c.args.file.now c.loop-number.number) (inv.apart none apart)))
+    (omega (arith, c.loop-number-test.false, c.len.ensures)) (IfErr-weaker c.close_runs.result _ _
+    (λ stop stops. stops.at_place (apart-left _ (to_come c.args.file.now c.loop-number.number) (inv.apart none apart))) c.close_runs.ensures.stops)
 
 pub include_line-returns-in_err-close_runs-clause-footprints : goal.include_line-returns-in_err-close_runs-clause-footprints
 include_line-returns-in_err-close_runs-clause-footprints g t c = λ x context told apart.
     let line = c.args.line.now in
-    let stops = c.in_err-close_runs.ensures.footprints (apart-left _ line apart) in
+    let stops = c.in_err-close_runs.ensures.stops.at_place (apart-left _ line apart) in
     closing-stops c.args.space.now.limits.branches c.from_residual.result c.args.names.now c.args.files.now (g.C.Conditions.sets c.args.conds.now) c.args.self.now
     (IsIn c.args.files.now c.args.entry) x line kind.Include (sym c.requires.directive) refl
     (search (rules, stops))
@@ -588,7 +569,7 @@ include_line-returns-in_err-parts-clause-footprints g t c = λ x context told ap
     let closed = c.in_ok-close_runs.ensures in
     carried-stops c.args.space.now.limits.branches c.from_residual-in_err-parts.result c.args.names.now c.args.files.now (g.C.Conditions.sets c.args.conds.now) c.args.self.now
     (IsIn c.args.files.now c.args.entry) x line kind.Include (sym c.requires.directive) refl
-    closed.names (λ k d h. (c.requires.placed k d h).held) closed.keeps closed.closes
+    closed.names (λ k d h. (c.requires.placed k d h).held) closed.keeps closed.closes.simulates
     (λ d directed says. let stops = c.in_err-parts.ensures.footprints d directed says (apart-right (tokens_in c.args.self.now.gathered) line apart) in search (rules, stops))
 
 pub include_line-returns-in_err-enter-clause-footprints : goal.include_line-returns-in_err-enter-clause-footprints

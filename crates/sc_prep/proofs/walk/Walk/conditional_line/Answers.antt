@@ -16,17 +16,27 @@ continue_section-requires-clause-line g c =
     ap conditional_in (directive-files c.args.names.now c.args.files.now c.args.line.now ∙ sym (ap (λ k. Some (directive.Conditional k)) (sym c.in-Alternative.is) ∙ c.requires.directive))
 
 pub returns-in_ok-begin_branch-in-Else-clause-decides : goal.returns-in_ok-begin_branch-in-Else-clause-decides
-returns-in_ok-begin_branch-in-Else-clause-decides g c =
-    decides-unasked c.args.files.now c.args.line.now Else (ap (λ k. Some (directive.Conditional k)) (sym c.in-Else.is) ∙ c.requires.directive) (λ m. refl) c.requires.table
-    (c.in_ok-begin_branch-in-Else.ensures.moved c.args.names.now (λ _. true) c.always-always.ensures.meaning)
-
-pub returns-in_ok-begin_branch-in-Else-clause-walk : goal.returns-in_ok-begin_branch-in-Else-clause-walk
-returns-in_ok-begin_branch-in-Else-clause-walk g c = c.in_ok-begin_branch-in-Else.ensures.printable c.args.names.now c.args.line.now (length c.args.files.now) any_token c.requires.placed c.requires.walk
+returns-in_ok-begin_branch-in-Else-clause-decides g c = λ x.
+    let begins = c.in_ok-begin_branch-in-Else.ensures in
+    record {
+      simulates = decides-unasked c.args.files.now c.args.line.now Else (ap (λ k. Some (directive.Conditional k)) (sym c.in-Else.is) ∙ c.requires.directive) (λ m. refl) c.requires.stored.table
+          (begins.moved c.args.names.now (λ _. true) c.always-always.ensures.meaning) x;
+      text = record {
+        held = begins.printable c.args.names.now c.args.line.now (length c.args.files.now) any_token c.requires.placed c.requires.stored.held;
+        list = begins.list;
+        gathered = begins.gathered;
+      };
+    }
 
 pub returns-in_ok-end_section-in-Endif-clause-decides : goal.returns-in_ok-end_section-in-Endif-clause-decides
-returns-in_ok-end_section-in-Endif-clause-decides g c =
-    decides-unasked c.args.files.now c.args.line.now Endif (ap (λ k. Some (directive.Conditional k)) (sym c.in-Endif.is) ∙ c.requires.directive) (λ m. refl) c.requires.table
-    (c.in_ok-end_section-in-Endif.ensures.moved c.args.names.now)
-
-pub returns-in_ok-end_section-in-Endif-clause-walk : goal.returns-in_ok-end_section-in-Endif-clause-walk
-returns-in_ok-end_section-in-Endif-clause-walk g c = c.in_ok-end_section-in-Endif.ensures.printable c.args.names.now c.args.line.now (length c.args.files.now) any_token c.requires.placed c.requires.walk
+returns-in_ok-end_section-in-Endif-clause-decides g c = λ x.
+    let ends = c.in_ok-end_section-in-Endif.ensures in
+    record {
+      simulates = decides-unasked c.args.files.now c.args.line.now Endif (ap (λ k. Some (directive.Conditional k)) (sym c.in-Endif.is) ∙ c.requires.directive) (λ m. refl) c.requires.stored.table
+          (ends.moved c.args.names.now) x;
+      text = record {
+        held = ends.printable c.args.names.now c.args.line.now (length c.args.files.now) any_token c.requires.placed c.requires.stored.held;
+        list = ends.list;
+        gathered = ends.gathered;
+      };
+    }

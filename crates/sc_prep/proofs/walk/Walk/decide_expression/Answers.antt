@@ -1,10 +1,12 @@
-use Rattle.std.proofs.Common.{ℕ, ◌≡◌, List, get_or, rules, sym, subst, ap, ◌∙◌, length}
+use Rattle.std.proofs.Common.{ℕ, ◌≡◌, List, Some, get_or, refl, rules, sym, subst, ap, ◌∙◌, length}
 use Rattle.std.proofs.lemmas.List.{drop-map}
 use Rattle.std.proofs.lemmas.List.Elements.{All-drop, All-get_or}
-use Rattle.std.proofs.lemmas.Result.{IfErr-weaker, IfOk-weaker, on_ok_weaker}
-use Rattle.std.specs.Prelude.{◌&&◌, All, drop, false, is_none, map, true, ◌<◌}
+use Rattle.std.proofs.lemmas.Result.{IfErr-weaker, IfOk-weaker}
+use Rattle.std.specs.Prelude.{◌&&◌, All, drop, false, is_none, map, ◌<◌}
 use Rattle.c11_directives.specs.Behind.{behind_name}
-use Rattle.c11_directives.specs.Footprints.{DirectiveHas}
+use Rattle.c11_directives.specs.declared.directive.Test.TheVariants.{Expression}
+use Rattle.c11_directives.specs.Lines.{test_of}
+use Rattle.sc_base.proofs.Growth.{Extends-trans}
 use Rattle.sc_base.specs.declared.token.Token.{Token}
 use Rattle.sc_base.specs.Seen.{IsHeld, seen}
 use Rattle.sc_expand.specs.Stops.{StopsBy}
@@ -18,7 +20,8 @@ use Rattle.sc_model.specs.Sets.{Sets}
 use Rattle.sc_prep.specs.Apart.{StandApart}
 use Rattle.sc_prep.specs.declared.walk.Walk.{Walk}
 use Rattle.sc_prep.specs.Expressions.{ReplacesAt}
-use Rattle.sc_prep.specs.Footprints.{Comes, StopsAtPlace, any_machine}
+use Rattle.sc_prep.specs.Stages.{AskedHas, StopsStage}
+use Rattle.sc_prep.proofs.Stages.{no-memory, text-then}
 use Rattle.sc_prep.specs.Printable.{IsPlaced}
 use Rattle.sc_prep.specs.Simulates.{SimulatesOneOf}
 use Rattle.sc_prep.proofs.ApartLemmas.{apart-drop}
@@ -40,38 +43,30 @@ pub replaced-requires-clause-held : goal.replaced-requires-clause-held
 replaced-requires-clause-held g c = subst (All (IsHeld c.args.names.now)) (sym c.behind_name-behind.ensures) (All-drop (IsHeld c.args.names.now) 2 c.args.line.now (λ k d h. (c.requires.placed k d h).held))
 
 pub replaced-requires-clause-owns : goal.replaced-requires-clause-owns
-replaced-requires-clause-owns g c = owns-kept c.in_ok-live.ensures.keeps c.args.self.now c.requires.owns
+replaced-requires-clause-owns g c = owns-kept c.in_ok-live.ensures.keeps c.args.self.now c.requires.stored.owns
 
 pub replaced-requires-clause-table : goal.replaced-requires-clause-table
-replaced-requires-clause-table g c = IsTable-Keeps c.in_ok-live.ensures.keeps c.requires.table
+replaced-requires-clause-table g c = IsTable-Keeps c.in_ok-live.ensures.keeps c.requires.stored.table
 
 pub expanded-requires-clause-placed : goal.expanded-requires-clause-placed
 expanded-requires-clause-placed g c =
     let IsIn = IsPlaced c.args.names.now (length c.args.files.now) in
-    c.in_ok-replaced.ensures.placed (length c.args.files.now) (subst (All IsIn) (sym c.behind_name-behind.ensures) (All-drop IsIn 2 c.args.line.now c.requires.placed))
+    c.in_ok-replaced.ensures.replaces.placed (length c.args.files.now) (subst (All IsIn) (sym c.behind_name-behind.ensures) (All-drop IsIn 2 c.args.line.now c.requires.placed))
 
-pub expanded-requires-clause-owns : goal.expanded-requires-clause-owns
-expanded-requires-clause-owns g c = (c.in_ok-replaced.ensures.replaces c.args.files.now c.requires.walk).owns
+pub expanded-requires-clause-among_own : goal.expanded-requires-clause-among_own
+expanded-requires-clause-among_own g c = c.in_ok-replaced.ensures.keeps.own _ c.in_ok-live.ensures.own
 
-pub expanded-requires-clause-table : goal.expanded-requires-clause-table
-expanded-requires-clause-table g c = (c.in_ok-replaced.ensures.replaces c.args.files.now c.requires.walk).table
+there : (names files : List (List ℕ)) (line : List Token) → test_of (seen_line names files line) ≡ Some Expression → All (IsPlaced names (length files)) line → (get_or line 0 no_token).place.file.0 < length files
+there names files line asks placed = (All-get_or (IsPlaced names (length files)) line 0 no_token (asking-long names files line asks) placed).file
 
-there : (names : List (List ℕ)) (files : List (List ℕ)) (line : List Token) → 0 < length line → All (IsPlaced names (length files)) line → (get_or line 0 no_token).place.file.0 < length files
-there names files line h placed = (All-get_or (IsPlaced names (length files)) line 0 no_token h placed).file
-
-pub expanded-requires-clause-walk : goal.expanded-requires-clause-walk
-expanded-requires-clause-walk g c =
-    c.in_ok-replaced.ensures.walk (length c.args.files.now)
-    (there c.args.names.now c.args.files.now c.args.line.now (asking-long c.args.names.now c.args.files.now c.args.line.now c.requires.line) c.requires.placed) c.requires.walk
+pub expanded-requires-clause-stored : goal.expanded-requires-clause-stored
+expanded-requires-clause-stored g c =
+    let files = c.args.files.now in
+    let stage = c.in_ok-replaced.ensures.replaces.stage files (there c.args.names.now files c.args.line.now c.requires.line c.requires.placed) c.requires.stored.held in
+    record { owns = stage.simulates.owns; table = stage.simulates.table; held = stage.text.held }
 
 pub evaluated-requires-clause-held : goal.evaluated-requires-clause-held
-evaluated-requires-clause-held g c = λ k d h. (c.in_ok-expanded.ensures.placed k d h).held
-
-pub evaluated-requires-clause-owns : goal.evaluated-requires-clause-owns
-evaluated-requires-clause-owns g c = c.in_ok-expanded.ensures.expands.owns
-
-pub evaluated-requires-clause-table : goal.evaluated-requires-clause-table
-evaluated-requires-clause-table g c = c.in_ok-expanded.ensures.expands.table
+evaluated-requires-clause-held g c = λ k d h. (c.in_ok-expanded.ensures.expands.placed k d h).held
 
 pub evaluated-requires-clause-among_own : goal.evaluated-requires-clause-among_own
 evaluated-requires-clause-among_own g c = c.in_ok-expanded.ensures.keeps.own _ (c.in_ok-replaced.ensures.keeps.own _ c.in_ok-live.ensures.own)
@@ -89,111 +84,108 @@ replaces-behind files names line {more} s t w v behind is live list =
 
 pub returns-in_err-replaced-clause-stops : goal.returns-in_err-replaced-clause-stops
 returns-in_err-replaced-clause-stops g c =
-    let kept : StopsBy (g.C.Conditions.sets c.args.conds.now).arities c.args.limit c.in_err-replaced.field-0.0 =
-    subst (StopsBy (g.C.Conditions.sets c.args.conds.now).arities c.args.limit) (sym c.in_err-replaced.ensures.memory) tt in
-    search rules
-
-pub returns-in_err-expanded-clause-stops : goal.returns-in_err-expanded-clause-stops
-returns-in_err-expanded-clause-stops g c =
-    let kept : StopsBy (g.C.Conditions.sets c.args.conds.now).arities c.args.limit c.in_err-expanded.field-0.0 =
-    subst (λ a. StopsBy a c.args.limit c.in_err-expanded.field-0.0) (c.in_ok-replaced.ensures.keeps.arities ∙ c.in_ok-live.ensures.keeps.arities) c.in_err-expanded.ensures.stops in
+    let s = g.C.Conditions.sets c.args.conds.now in
+    let w = c.args.self.now in
+    let l = seen_line c.args.names.now c.args.files.now c.args.line.now in
+    let kept : StopsStage s c.args.names.now c.args.files.now w c.args.line.now (AskedHas s c.args.among.0 l) c.args.limit c.in_err-replaced.field-0.0 =
+    no-memory s c.args.names.now c.args.files.now w c.args.line.now (AskedHas s c.args.among.0 l) c.args.limit c.in_err-replaced.field-0.0 c.in_err-replaced.ensures.memory in
     search rules
 
 pub returns-in_err-expanded-clause-keeps : goal.returns-in_err-expanded-clause-keeps
 returns-in_err-expanded-clause-keeps g c = Keeps-trans c.in_ok-live.ensures.keeps (Keeps-trans c.in_ok-replaced.ensures.keeps c.in_err-expanded.ensures.keeps)
 
 pub returns-then-is_never-clause-decides : goal.returns-then-is_never-clause-decides
-returns-then-is_never-clause-decides g c = λ x.
+returns-then-is_never-clause-decides g c =
     let old = g.C.Conditions.sets c.args.conds.now in
     let w = c.args.self.now in
     let k1 = c.in_ok-live.ensures.keeps in
-    let live = c.in_ok-live.ensures.meaning (old.has c.args.among.0) (old.has w.prepared.live.0) (Denotes-self old c.args.among.0 c.requires.among_own) (Denotes-self old w.prepared.live.0 c.requires.owns.prepared.live) in
-    decides-none c.args.files.now c.args.names.now k1 w c.requires.owns c.requires.table c.args.among c.in_ok-live.live live x (seen_line c.args.names.now c.args.files.now c.args.line.now) c.never.result
-    (λ config listed. (c.is_never.ensures.0 c.if-is_never.true).none config (IsConfig-Keeps k1 listed)) (λ config listed. c.never.ensures.meaning.at config (IsConfig-Keeps k1 listed))
+    let live = c.in_ok-live.ensures.meaning (old.has c.args.among.0) (old.has w.prepared.live.0) (Denotes-self old c.args.among.0 c.requires.among_own)
+    (Denotes-self old w.prepared.live.0 c.requires.stored.owns.prepared.live) in
+    record {
+      own = c.never.ensures.own;
+      at = λ x. record {
+        simulates = decides-none c.args.files.now c.args.names.now k1 w c.requires.stored.owns c.requires.stored.table c.args.among c.in_ok-live.live live x
+            (seen_line c.args.names.now c.args.files.now c.args.line.now) c.never.result
+            (λ config listed. (c.is_never.ensures.0 c.if-is_never.true).none config (IsConfig-Keeps k1 listed)) (λ config listed. c.never.ensures.meaning.at config (IsConfig-Keeps k1 listed));
+        text = record { held = c.requires.stored.held; list = refl; gathered = refl };
+      };
+    }
 
-pub returns-clause-decides : goal.returns-clause-decides
-returns-clause-decides g c =
+pub returns : goal.returns
+returns g c =
     let old = g.C.Conditions.sets c.args.conds.now in
     let w = c.args.self.now in
     let names = c.args.names.now in
     let files = c.args.files.now in
     let line = c.args.line.now in
+    let stored = c.requires.stored in
+    let among = c.args.among in
     let k1 = c.in_ok-live.ensures.keeps in
     let a = c.in_ok-replaced.ensures in
     let b = c.in_ok-expanded.ensures in
+    let e = c.evaluated.ensures in
     let s = g.C.Conditions.sets c.apply_and.new.self in
     let s1 = g.C.Conditions.sets c.replaced.new.conds in
     let s2 = g.C.Conditions.sets c.expanded.new.conds in
     let s3 = g.C.Conditions.sets c.evaluated.new.conds in
     let l = seen_line names files line in
     let hash = seen names files (get_or line 0 no_token) in
-    let live = c.in_ok-live.ensures.meaning (old.has c.args.among.0) (old.has w.prepared.live.0) (Denotes-self old c.args.among.0 c.requires.among_own) (Denotes-self old w.prepared.live.0 c.requires.owns.prepared.live) in
+    let in_file = there names files line c.requires.line c.requires.placed in
+    let live = c.in_ok-live.ensures.meaning (old.has among.0) (old.has w.prepared.live.0) (Denotes-self old among.0 c.requires.among_own) (Denotes-self old w.prepared.live.0 stored.owns.prepared.live) in
+    let first = a.replaces.stage files in_file stored.held in
+    let second = b.expands.stage in
+    let replaces = replaces-behind files names line s s1 w c.replaced.new.self c.behind_name-behind.result.now c.behind_name-behind.ensures c.in_ok-live.live c.in_ok-replaced.replaced first.simulates in
     let text : List ℕ → List model.Token = λ config. map (seen c.replaced.new.names files) (items_at s1 c.in_ok-replaced.replaced config) in
     let left : List ℕ → List model.Token = λ config. map (seen c.expanded.new.names files) (items_at s2 c.in_ok-expanded.expanded config) in
-    IfOk-weaker c.evaluated.result _ _ (λ taken evaluates. λ x.
-    decides-by files names k1 w c.requires.owns c.requires.table c.args.among c.in_ok-live.live live x l a.keeps b.keeps c.evaluated.ensures.keeps c.in_ok-live.ensures.own
-    hash c.requires.line (hash-line names files line no_token (asking-long names files line c.requires.line)) text left (s3.has taken.0)
-    (replaces-behind files names line s s1 w c.replaced.new.self c.behind_name-behind.result.now c.behind_name-behind.ensures c.in_ok-live.live c.in_ok-replaced.replaced (a.replaces files c.requires.walk))
-    b.expands (evaluates files b.walk)) c.evaluated.ensures.evaluates
-
-pub returns-clause-walk : goal.returns-clause-walk
-returns-clause-walk g c = on_ok_weaker c.evaluated.result (λ stays.
-    stays (length c.args.files.now) (there c.args.names.now c.args.files.now c.args.line.now (asking-long c.args.names.now c.args.files.now c.args.line.now c.requires.line) c.requires.placed) c.in_ok-expanded.ensures.walk)
-    c.evaluated.ensures.walk
-
-pub returns-clause-list : goal.returns-clause-list
-returns-clause-list g c = on_ok_weaker c.evaluated.result (λ same. same ∙ (c.in_ok-expanded.ensures.list ∙ c.in_ok-replaced.ensures.list)) c.evaluated.ensures.list
-
-pub returns-clause-gathered : goal.returns-clause-gathered
-returns-clause-gathered g c = on_ok_weaker c.evaluated.result (λ same. same ∙ (c.in_ok-expanded.ensures.gathered ∙ c.in_ok-replaced.ensures.gathered)) c.evaluated.ensures.gathered
-
-pub returns-clause-stops : goal.returns-clause-stops
-returns-clause-stops g c =
-    IfErr-weaker c.evaluated.result _ _
-    (λ stop stops. subst (λ a. StopsBy a c.args.limit stop) (c.in_ok-expanded.ensures.keeps.arities ∙ (c.in_ok-replaced.ensures.keeps.arities ∙ c.in_ok-live.ensures.keeps.arities)) stops) c.evaluated.ensures.stops
-
-pub returns-clause-keeps : goal.returns-clause-keeps
-returns-clause-keeps g c = Keeps-trans c.in_ok-live.ensures.keeps (Keeps-trans c.in_ok-replaced.ensures.keeps (Keeps-trans c.in_ok-expanded.ensures.keeps c.evaluated.ensures.keeps))
+    record {
+      decides = IfOk-weaker c.evaluated.result _ _ (λ taken evaluates.
+          let third = evaluates.stage files in_file second.text.held in
+          record {
+            own = evaluates.own;
+            at = λ x. record {
+              simulates = decides-by files names k1 w stored.owns stored.table among c.in_ok-live.live live x l a.keeps b.keeps e.keeps c.in_ok-live.ensures.own
+                  hash c.requires.line (hash-line names files line no_token (asking-long names files line c.requires.line)) text left (s3.has taken.0) replaces second.simulates third.simulates;
+              text = text-then w c.expanded.new.self c.evaluated.new.self
+                  (text-then w c.replaced.new.self c.expanded.new.self first.text second.text.held second.text.list second.text.gathered) third.text.held third.text.list third.text.gathered;
+            };
+          }) e.evaluates;
+      stops = IfErr-weaker c.evaluated.result _ _ (λ stop stops. record {
+        by = subst (λ arities. StopsBy arities c.args.limit stop) (b.keeps.arities ∙ (a.keeps.arities ∙ k1.arities)) stops.0;
+        at_place = λ apart.
+            part-stops files names k1 w stored.owns stored.table among c.in_ok-live.live live l hash c.requires.line a.keeps c.in_ok-replaced.replaced replaces
+            c.args.limit b.keeps c.in_ok-expanded.expanded second.simulates stop stops.1;
+      }) e.stops;
+      keeps = Keeps-trans k1 (Keeps-trans a.keeps (Keeps-trans b.keeps e.keeps));
+      names = Extends-trans a.names b.names;
+    }
 
 pub returns-in_err-replaced-clause-keeps : goal.returns-in_err-replaced-clause-keeps
 returns-in_err-replaced-clause-keeps g c = Keeps-trans c.in_ok-live.ensures.keeps c.in_err-replaced.ensures.keeps
 
-pub expanded-requires-clause-among_own : goal.expanded-requires-clause-among_own
-expanded-requires-clause-among_own g c = c.in_ok-replaced.ensures.keeps.own _ c.in_ok-live.ensures.own
-
-pub returns-in_err-expanded-clause-footprints : goal.returns-in_err-expanded-clause-footprints
-returns-in_err-expanded-clause-footprints g c = λ apart.
+pub returns-in_err-expanded-clause-stops : goal.returns-in_err-expanded-clause-stops
+returns-in_err-expanded-clause-stops g c =
     let old = g.C.Conditions.sets c.args.conds.now in
     let w = c.args.self.now in
     let names = c.args.names.now in
     let files = c.args.files.now in
     let line = c.args.line.now in
+    let stored = c.requires.stored in
+    let among = c.args.among in
     let k1 = c.in_ok-live.ensures.keeps in
     let a = c.in_ok-replaced.ensures in
     let s = g.C.Conditions.sets c.apply_and.new.self in
     let l = seen_line names files line in
-    let live = c.in_ok-live.ensures.meaning (old.has c.args.among.0) (old.has w.prepared.live.0) (Denotes-self old c.args.among.0 c.requires.among_own) (Denotes-self old w.prepared.live.0 c.requires.owns.prepared.live) in
-    let kept : StopsAtPlace old.arities (Comes old names files w any_machine (λ config m f. ((old.has c.args.among.0 config && is_none m.fault) ≡ true) × DirectiveHas m.state.macros l f)) c.args.limit c.in_err-expanded.field-0.0 =
-    name-stops files names k1 w c.requires.owns c.requires.table c.args.among c.in_ok-live.live live l (seen names files (get_or line 0 no_token)) c.requires.line a.keeps c.in_ok-replaced.replaced
-    (replaces-behind files names line s (g.C.Conditions.sets c.replaced.new.conds) w c.replaced.new.self c.behind_name-behind.result.now c.behind_name-behind.ensures c.in_ok-live.live c.in_ok-replaced.replaced (a.replaces files c.requires.walk))
-    c.args.limit c.in_err-expanded.field-0.0
-    (c.in_err-expanded.ensures.footprints (a.different files (subst StandApart (sym c.behind_name-behind.ensures) (apart-drop 2 line apart)))) in
+    let stop = c.in_err-expanded.field-0.0 in
+    let stops = c.in_err-expanded.ensures.stops in
+    let live = c.in_ok-live.ensures.meaning (old.has among.0) (old.has w.prepared.live.0) (Denotes-self old among.0 c.requires.among_own) (Denotes-self old w.prepared.live.0 stored.owns.prepared.live) in
+    let first = a.replaces.stage files (there names files line c.requires.line c.requires.placed) stored.held in
+    let kept : StopsStage old names files w line (AskedHas old among.0 l) c.args.limit stop =
+    record {
+      by = subst (λ arities. StopsBy arities c.args.limit stop) (a.keeps.arities ∙ k1.arities) stops.0;
+      at_place = λ apart.
+          name-stops files names k1 w stored.owns stored.table among c.in_ok-live.live live l (seen names files (get_or line 0 no_token)) c.requires.line a.keeps c.in_ok-replaced.replaced
+          (replaces-behind files names line s (g.C.Conditions.sets c.replaced.new.conds) w c.replaced.new.self c.behind_name-behind.result.now c.behind_name-behind.ensures c.in_ok-live.live
+          c.in_ok-replaced.replaced first.simulates)
+          c.args.limit stop (stops.1 (a.replaces.different files (subst StandApart (sym c.behind_name-behind.ensures) (apart-drop 2 line apart))));
+    } in
     search rules
-
-pub returns-clause-footprints : goal.returns-clause-footprints
-returns-clause-footprints g c = λ apart.
-    let old = g.C.Conditions.sets c.args.conds.now in
-    let w = c.args.self.now in
-    let names = c.args.names.now in
-    let files = c.args.files.now in
-    let line = c.args.line.now in
-    let a = c.in_ok-replaced.ensures in
-    let b = c.in_ok-expanded.ensures in
-    let s = g.C.Conditions.sets c.apply_and.new.self in
-    let live = c.in_ok-live.ensures.meaning (old.has c.args.among.0) (old.has w.prepared.live.0) (Denotes-self old c.args.among.0 c.requires.among_own) (Denotes-self old w.prepared.live.0 c.requires.owns.prepared.live) in
-    IfErr-weaker c.evaluated.result _ _
-    (part-stops files names c.in_ok-live.ensures.keeps w c.requires.owns c.requires.table c.args.among c.in_ok-live.live live (seen_line names files line) (seen names files (get_or line 0 no_token)) c.requires.line a.keeps
-    c.in_ok-replaced.replaced
-    (replaces-behind files names line s (g.C.Conditions.sets c.replaced.new.conds) w c.replaced.new.self c.behind_name-behind.result.now c.behind_name-behind.ensures c.in_ok-live.live c.in_ok-replaced.replaced (a.replaces files c.requires.walk))
-    c.args.limit b.keeps c.in_ok-expanded.expanded b.expands)
-    c.evaluated.ensures.parts

@@ -1,5 +1,5 @@
-use Rattle.std.proofs.Common.{◌&&◌, [], ◌∷◌, false, ◌∙◌, get_or, is_none, refl, sym}
-use Rattle.std.proofs.lemmas.List.Elements.{All-cons, All-nil}
+use Rattle.std.proofs.Common.{◌&&◌, [], ◌∷◌, false, ◌<◌, ◌∙◌, get_or, is_none, length, refl, sym}
+use Rattle.std.proofs.lemmas.List.Elements.{All-cons, All-get_or, All-nil}
 use Rattle.sc_base.proofs.Growth.{Extends-refl}
 use Rattle.sc_base.specs.declared.fault.Fault.{Fault}
 use Rattle.sc_base.specs.declared.token.Token.{Token}
@@ -11,10 +11,11 @@ use Rattle.sc_model.specs.declared.kind.Kind.TheVariants.{Identifier}
 use Rattle.sc_model.specs.Sets.{IsCond}
 use Rattle.sc_prep.specs.Expressions.{DecidesAt}
 use Rattle.sc_prep.specs.Machine.{is_taken}
+use Rattle.sc_prep.specs.Printable.{IsPlaced}
 use Rattle.sc_prep.proofs.ExpressionMoves.{decides-none}
 use Rattle.sc_prep.proofs.ExpressionSteps.{hash-line}
 use Rattle.sc_prep.proofs.NameSteps.{decides-by-name, refuses-no-name}
-use Rattle.sc_prep.proofs.StageRefusals.{refused-as-told}
+use Rattle.sc_prep.proofs.StageRefusals.{refused-stage}
 use Rattle.sc_prep.proofs.WalkMoves.{same-macros, still-after}
 use Rattle.sc_table.proofs.Growth.{IsTable-Keeps, macros_at-Keeps}
 use Rattle.sc_table.specs.Table.{macros_at}
@@ -36,16 +37,22 @@ returns-in_ok-apply_and-in-Some-clause-keeps g c =
     Keeps-trans c.in_ok-live.ensures.keeps (Keeps-trans c.in_ok-found-in-Some.ensures.keeps c.in_ok-apply_and-in-Some.ensures.keeps)
 
 pub returns-then-is_never-clause-decides : goal.returns-then-is_never-clause-decides
-returns-then-is_never-clause-decides g c = λ files x asks held.
+returns-then-is_never-clause-decides g c = λ files asks placed held.
     let old = g.C.Conditions.sets c.args.conds.now in
     let w = c.args.self.now in
     let k1 = c.in_ok-live.ensures.keeps in
     let live = c.in_ok-live.ensures.meaning (old.has c.args.among.0) (old.has w.prepared.live.0) (Denotes-self old c.args.among.0 c.requires.among_own) (Denotes-self old w.prepared.live.0 c.requires.owns.prepared.live) in
-    decides-none files c.args.names.now k1 w c.requires.owns c.requires.table c.args.among c.in_ok-live.live live x (seen_line c.args.names.now files c.args.line.now) c.never.result
-    (λ config listed. (c.is_never.ensures.0 c.if-is_never.true).none config (IsConfig-Keeps k1 listed)) (λ config listed. c.never.ensures.meaning.at config (IsConfig-Keeps k1 listed))
+    record {
+      own = c.never.ensures.own;
+      at = λ x. record {
+        simulates = decides-none files c.args.names.now k1 w c.requires.owns c.requires.table c.args.among c.in_ok-live.live live x (seen_line c.args.names.now files c.args.line.now) c.never.result
+            (λ config listed. (c.is_never.ensures.0 c.if-is_never.true).none config (IsConfig-Keeps k1 listed)) (λ config listed. c.never.ensures.meaning.at config (IsConfig-Keeps k1 listed));
+        text = record { held = held; list = refl; gathered = refl };
+      };
+    }
 
 pub returns-in_ok-refuse_at-in-None-clause-decides : goal.returns-in_ok-refuse_at-in-None-clause-decides
-returns-in_ok-refuse_at-in-None-clause-decides g c = λ files x asks held.
+returns-in_ok-refuse_at-in-None-clause-decides g c = λ files asks placed held.
     let old = g.C.Conditions.sets c.args.conds.now in
     let s = g.C.Conditions.sets c.apply_and.new.self in
     let new = g.C.Conditions.sets c.refuse_at.new.conds in
@@ -60,14 +67,20 @@ returns-in_ok-refuse_at-in-None-clause-decides g c = λ files x asks held.
     let never = c.never-in-None.result in
     let fault : Fault = record { cond = c.in_ok-live.live; cause = BadDirective; place = hash.place } in
     let IsOwn : Fault → Type 0 = λ f. IsCond s f.cond.0 in
-    refused-as-told files names names k1 k2 (Extends-refl names) w c.refuse_at.new.self w.table (fault ∷ []) c.requires.owns c.requires.table held (IsTable-Keeps k1 c.requires.table)
-    (macros_at-Keeps k1 c.requires.table) (All-cons IsOwn fault [] live.own (All-nil IsOwn)) c.in_ok-refuse_at-in-None.ensures.refuses
-    (λ config m n. DecidesAt x l (old.has c.args.among.0 config && is_none m.fault) m (new.has never.0 config) n)
-    (refuses-no-name k1 w c.args.among c.in_ok-live.live live names files x l c.args.wanted asks new (seen names files hash) hash.place (sym (c.in-None.ensures.text files))
-    (hash-line names files line no_token c.requires.line) refl never (λ config listed. c.never-in-None.ensures.meaning.at config (IsConfig-Keeps k2 (IsConfig-Keeps k1 listed))))
+    let refuses = c.in_ok-refuse_at-in-None.ensures.refuses in
+    let there = (All-get_or (IsPlaced names (length files)) line 0 no_token c.requires.line placed).file in
+    let IsIn : Fault → Type 0 = λ f. f.place.file.0 < length files in
+    record {
+      own = c.never-in-None.ensures.own;
+      at = λ x. refused-stage files names names k1 k2 (Extends-refl names) w c.refuse_at.new.self w.table (fault ∷ []) c.requires.owns c.requires.table held (IsTable-Keeps k1 c.requires.table)
+          (macros_at-Keeps k1 c.requires.table) (All-cons IsOwn fault [] live.own (All-nil IsOwn)) refuses
+          (λ config m n. DecidesAt x l (old.has c.args.among.0 config && is_none m.fault) m (new.has never.0 config) n) (All-cons IsIn fault [] there (All-nil IsIn))
+          (refuses-no-name k1 w c.args.among c.in_ok-live.live live names files x l c.args.wanted asks new (seen names files hash) hash.place (sym (c.in-None.ensures.text files))
+          (hash-line names files line no_token c.requires.line) refl never (λ config listed. c.never-in-None.ensures.meaning.at config (IsConfig-Keeps k2 (IsConfig-Keeps k1 listed))));
+    }
 
 pub returns-in_ok-apply_and-in-Some-clause-decides : goal.returns-in_ok-apply_and-in-Some-clause-decides
-returns-in_ok-apply_and-in-Some-clause-decides g c = λ files x asks held.
+returns-in_ok-apply_and-in-Some-clause-decides g c = λ files asks placed held.
     let old = g.C.Conditions.sets c.args.conds.now in
     let s = g.C.Conditions.sets c.apply_and.new.self in
     let w = c.args.self.now in
@@ -81,7 +94,13 @@ returns-in_ok-apply_and-in-Some-clause-decides g c = λ files x asks held.
     let live = c.in_ok-live.ensures.meaning (old.has c.args.among.0) (old.has w.prepared.live.0) (Denotes-self old c.args.among.0 c.requires.among_own) (Denotes-self old w.prepared.live.0 c.requires.owns.prepared.live) in
     let found = c.in_ok-found-in-Some.ensures.meaning in
     let taken = c.in_ok-apply_and-in-Some.ensures.meaning (λ config. is_taken (macros_at s names w.table config) c.args.wanted text) (s.has c.in_ok-live.live.0) found (Denotes-Keeps k2 (Denotes-self s c.in_ok-live.live.0 live.own)) in
-    decides-by-name k1 w c.args.among c.in_ok-live.live live names files x (seen_line names files c.args.line.now) c.args.wanted asks text (sym (c.in-Some.ensures.text files)) (Keeps-trans k12 k3) c.requires.table
-    c.in_ok-apply_and-in-Some.field-0 taken
-    (same-macros names (Keeps-trans k12 k3) w c.requires.owns table (IsTable-Keeps k3 c.in_ok-found-in-Some.ensures.table) (still-after w.table table k12 k3 c.in_ok-found-in-Some.ensures.table
-    (λ config name listed. c.in_ok-found-in-Some.ensures.still config name (IsConfig-Keeps k1 listed) ∙ macros_at-Keeps k1 c.requires.table config name listed)))
+    record {
+      own = c.in_ok-apply_and-in-Some.ensures.own;
+      at = λ x. record {
+        simulates = decides-by-name k1 w c.args.among c.in_ok-live.live live names files x (seen_line names files c.args.line.now) c.args.wanted asks text (sym (c.in-Some.ensures.text files)) (Keeps-trans k12 k3)
+            c.requires.table c.in_ok-apply_and-in-Some.field-0 taken
+            (same-macros names (Keeps-trans k12 k3) w c.requires.owns table (IsTable-Keeps k3 c.in_ok-found-in-Some.ensures.table) (still-after w.table table k12 k3 c.in_ok-found-in-Some.ensures.table
+            (λ config name listed. c.in_ok-found-in-Some.ensures.still config name (IsConfig-Keeps k1 listed) ∙ macros_at-Keeps k1 c.requires.table config name listed)));
+        text = record { held = held; list = refl; gathered = refl };
+      };
+    }

@@ -1,21 +1,22 @@
-use Rattle.std.proofs.Common.{◌≡◌, ◌∙◌, ℕ, Bool, List, rules, sym, subst}
+use Rattle.std.proofs.Common.{◌≡◌, ◌∙◌, List, length, rules, sym, subst}
 use Rattle.std.proofs.lemmas.List.Elements.{All-weaker}
-use Rattle.std.specs.Prelude.{◌&&◌, is_none, map, ◌<◌}
+use Rattle.std.specs.Prelude.{◌&&◌, ◌<◌, is_none, map}
 use Rattle.sc_base.proofs.Growth.{Extends-refl}
 use Rattle.sc_base.specs.declared.fault.Fault.{Fault}
 use Rattle.sc_base.specs.Seen.{seen, seen_place}
 use Rattle.sc_expand.specs.Stops.{StopsBy}
 use Rattle.sc_guarded.specs.Items.{items_at}
+use Rattle.sc_if.proofs.LineAnswers.{refuses-before}
+use Rattle.sc_if.specs.Parts.{RefusesAt}
 use Rattle.sc_model.proofs.SetLemmas.{IsConfig-Keeps, Keeps-trans, Denotes-self}
 use Rattle.sc_prep.specs.Closes.{RefusesEach}
 use Rattle.sc_prep.specs.Expressions.{EvaluatesAt}
+use Rattle.sc_prep.specs.Stages.{is_asked}
 use Rattle.sc_prep.proofs.ExpressionMoves.{evaluates-at}
-use Rattle.sc_prep.proofs.StageRefusals.{refused-as-told, refused-each-held, refused-each-list, refused-each-gathered}
+use Rattle.sc_prep.proofs.PartFootprints.{parts-stop}
+use Rattle.sc_prep.proofs.StageRefusals.{refused-stage}
 use Rattle.sc_prep.proofs.WalkMoves.{owns-kept}
 use Rattle.sc_table.proofs.Growth.{IsTable-Keeps, macros_at-Keeps}
-use Rattle.sc_if.proofs.LineAnswers.{refuses-before}
-use Rattle.sc_if.specs.Parts.{RefusesAt}
-use Rattle.sc_prep.proofs.PartFootprints.{parts-stop}
 use Rattle.sc_prep.proofs.walk.Walk.evaluated.Goals as goal
 
 pub decide-requires-clause-own : goal.decide-requires-clause-own
@@ -23,15 +24,24 @@ decide-requires-clause-own g c = λ k d h. c.in_ok-live.ensures.keeps.own _ (c.r
 
 pub returns-in_err-decided-clause-stops : goal.returns-in_err-decided-clause-stops
 returns-in_err-decided-clause-stops g c =
+    let old = g.C.Conditions.sets c.args.conds.now in
     let s = g.C.Conditions.sets c.apply_and.new.self in
+    let w = c.args.self.now in
+    let names = c.args.names.now in
+    let list = c.args.list.now in
     let limit = c.args.limit in
     let stop = c.in_err-decided.field-0.0 in
-    let kept : StopsBy (g.C.Conditions.sets c.args.conds.now).arities limit stop =
-    subst (λ arities. StopsBy arities limit stop) c.in_ok-live.ensures.keeps.arities (parts-stop s c.args.names.now c.args.list.now (s.has c.in_ok-live.live.0) limit stop c.in_err-decided.ensures.refused) in
+    let keeps = c.in_ok-live.ensures.keeps in
+    let refused = c.in_err-decided.ensures.refused in
+    let live = c.in_ok-live.ensures.meaning (old.has c.args.among.0) (old.has w.prepared.live.0) (Denotes-self old c.args.among.0 c.requires.among_own) (Denotes-self old w.prepared.live.0 c.requires.owns.prepared.live) in
+    let kept : StopsBy old.arities limit stop × RefusesAt old names list (is_asked old w c.args.among.0) limit stop = (
+      subst (λ arities. StopsBy arities limit stop) keeps.arities (parts-stop s names list (s.has c.in_ok-live.live.0) limit stop refused),
+      refuses-before names list (is_asked old w c.args.among.0) (s.has c.in_ok-live.live.0) limit keeps c.requires.list_own (λ config listed has. sym (live.at config (IsConfig-Keeps keeps listed)) ∙ has) stop refused,
+    ) in
     search rules
 
 pub returns-clause-evaluates : goal.returns-clause-evaluates
-returns-clause-evaluates g c = λ files held.
+returns-clause-evaluates g c =
     let old = g.C.Conditions.sets c.args.conds.now in
     let w = c.args.self.now in
     let names = c.args.names.now in
@@ -43,27 +53,15 @@ returns-clause-evaluates g c = λ files held.
     let k2 = Keeps-trans k1 x.keeps in
     let refuses = subst (λ (fs : List Fault). RefusesEach (g.C.Conditions.sets c.decide.new.conds) w fs new c.refuse_each.new.self) c.deref.ensures.value c.in_ok-refuse_each.ensures.refuses in
     let live = c.in_ok-live.ensures.meaning (old.has c.args.among.0) (old.has w.prepared.live.0) (Denotes-self old c.args.among.0 c.requires.among_own) (Denotes-self old w.prepared.live.0 c.requires.owns.prepared.live) in
-    refused-as-told files names names k2 k3 (Extends-refl names) w c.refuse_each.new.self w.table d.faults.items c.requires.owns c.requires.table held (IsTable-Keeps k2 c.requires.table)
-    (macros_at-Keeps k2 c.requires.table) x.faults_own refuses
-    (λ config m n. EvaluatesAt (seen_place files c.args.hash) (map (seen names files) (items_at old c.args.list.now config)) (old.has c.args.among.0 config && is_none m.fault) m (new.has d.taken.0 config) n)
-    (evaluates-at k1 w c.args.among c.in_ok-live.live live x.keeps k3 c.args.list.now c.requires.list_own c.args.hash d x.own
-    (λ config listed has. x.decided files config listed has) x.others)
-
-pub returns-clause-own : goal.returns-clause-own
-returns-clause-own g c = c.in_ok-refuse_each.ensures.keeps.own _ c.in_ok-decided.ensures.own
-
-pub returns-clause-walk : goal.returns-clause-walk
-returns-clause-walk g c = λ files there held.
-    let w = c.args.self.now in
-    let refuses = subst (λ (fs : List Fault). RefusesEach (g.C.Conditions.sets c.decide.new.conds) w fs (g.C.Conditions.sets c.refuse_each.new.conds) c.refuse_each.new.self) c.deref.ensures.value c.in_ok-refuse_each.ensures.refuses in
-    refused-each-held files (Extends-refl c.args.names.now) w c.refuse_each.new.self w.table c.in_ok-decided.decided.faults.items refuses
-    (All-weaker (λ (f : Fault). f.place ≡ c.args.hash) (λ (f : Fault). f.place.file.0 < files) (λ f is. subst (λ p. p.file.0 < files) (sym is) there) _ c.in_ok-decided.ensures.places) held
-
-pub returns-clause-list : goal.returns-clause-list
-returns-clause-list g c = refused-each-list c.args.self.now c.refuse_each.new.self c.args.self.now.table _ c.in_ok-refuse_each.ensures.refuses
-
-pub returns-clause-gathered : goal.returns-clause-gathered
-returns-clause-gathered g c = refused-each-gathered c.args.self.now c.refuse_each.new.self c.args.self.now.table _ c.in_ok-refuse_each.ensures.refuses
+    record {
+      own = k3.own _ x.own;
+      stage = λ files there held.
+          refused-stage files names names k2 k3 (Extends-refl names) w c.refuse_each.new.self w.table d.faults.items c.requires.owns c.requires.table held (IsTable-Keeps k2 c.requires.table)
+          (macros_at-Keeps k2 c.requires.table) x.faults_own refuses
+          (λ config m n. EvaluatesAt (seen_place files c.args.hash) (map (seen names files) (items_at old c.args.list.now config)) (old.has c.args.among.0 config && is_none m.fault) m (new.has d.taken.0 config) n)
+          (All-weaker (λ (f : Fault). f.place ≡ c.args.hash) (λ (f : Fault). f.place.file.0 < length files) (λ f is. subst (λ p. p.file.0 < length files) (sym is) there) _ x.places)
+          (evaluates-at k1 w c.args.among c.in_ok-live.live live x.keeps k3 c.args.list.now c.requires.list_own c.args.hash d x.own (λ config listed has. x.decided files config listed has) x.others);
+    }
 
 pub refuse_each-requires-clause-live : goal.refuse_each-requires-clause-live
 refuse_each-requires-clause-live g c = (owns-kept (Keeps-trans c.in_ok-live.ensures.keeps c.in_ok-decided.ensures.keeps) c.args.self.now c.requires.owns).prepared.live
@@ -76,16 +74,3 @@ returns-in_err-refuse_each-clause-keeps g c = Keeps-trans c.in_ok-live.ensures.k
 
 pub returns-clause-keeps : goal.returns-clause-keeps
 returns-clause-keeps g c = Keeps-trans c.in_ok-live.ensures.keeps (Keeps-trans c.in_ok-decided.ensures.keeps c.in_ok-refuse_each.ensures.keeps)
-
-pub returns-in_err-decided-clause-parts : goal.returns-in_err-decided-clause-parts
-returns-in_err-decided-clause-parts g c =
-    let old = g.C.Conditions.sets c.args.conds.now in
-    let s = g.C.Conditions.sets c.apply_and.new.self in
-    let w = c.args.self.now in
-    let keeps = c.in_ok-live.ensures.keeps in
-    let live = c.in_ok-live.ensures.meaning (old.has c.args.among.0) (old.has w.prepared.live.0) (Denotes-self old c.args.among.0 c.requires.among_own) (Denotes-self old w.prepared.live.0 c.requires.owns.prepared.live) in
-    let test : List ℕ → Bool = λ config. old.has c.args.among.0 config && old.has w.prepared.live.0 config in
-    let kept : RefusesAt old c.args.names.now c.args.list.now test c.args.limit c.in_err-decided.field-0.0 =
-    refuses-before c.args.names.now c.args.list.now test (s.has c.in_ok-live.live.0) c.args.limit keeps c.requires.list_own (λ config listed has. sym (live.at config (IsConfig-Keeps keeps listed)) ∙ has)
-    c.in_err-decided.field-0.0 c.in_err-decided.ensures.refused in
-    search rules

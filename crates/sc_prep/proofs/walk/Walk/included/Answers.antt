@@ -11,7 +11,7 @@ use Rattle.sc_prep.proofs.Contents.{IsPlaced-later, contents-later}
 use Rattle.sc_prep.proofs.ExpressionMoves.{empty_context}
 use Rattle.sc_prep.proofs.FoundFiles.{keeps-same}
 use Rattle.sc_prep.proofs.IncludeLeads.{parts-later}
-use Rattle.sc_prep.proofs.LeadMoves.{limit-stops}
+use Rattle.sc_prep.proofs.LeadMoves.{limit-stops, stored-ready}
 use Rattle.sc_prep.proofs.NamedFiles.{deep-leads, found-leads, has-hash, held-later, reading-stops, sound-plain}
 use Rattle.sc_prep.proofs.WalkMoves.{owns-kept}
 use Rattle.sc_prep.specs.declared.including.Part.{Part}
@@ -29,23 +29,21 @@ use Rattle.sc_prep.proofs.walk.Walk.included.Goals as goal
 
 -- ---- the headers are named
 
-pub named-requires-clause-owns : goal.named-requires-clause-owns
-named-requires-clause-owns g c = c.requires.ready.owns
-
-pub named-requires-clause-table : goal.named-requires-clause-table
-named-requires-clause-table g c = c.requires.ready.table
-
-pub named-requires-clause-walk : goal.named-requires-clause-walk
-named-requires-clause-walk g c = c.requires.ready.held
+pub named-requires-clause-stored : goal.named-requires-clause-stored
+named-requires-clause-stored g c = stored-ready c.requires.ready
 
 pub returns-in_err-named-clause-stops : goal.returns-in_err-named-clause-stops
 returns-in_err-named-clause-stops g c =
-    limit-stops (g.C.Conditions.sets c.args.conds.now).arities c.args.space.now.limits.branches (g.S.Source.faults c.args.src.now) (g.S.Source.faults c.args.src.now) c.from_residual.result (search rules)
+    let stops = c.in_err-named.ensures.stops.by in
+    limit-stops (g.C.Conditions.sets c.args.conds.now).arities c.args.space.now.limits.branches (g.S.Source.faults c.args.src.now) (g.S.Source.faults c.args.src.now) c.from_residual.result (search (rules, stops))
+
+pub returns-in_err-named-clause-footprints : goal.returns-in_err-named-clause-footprints
+returns-in_err-named-clause-footprints g c = λ d directed says apart. let stops = c.in_err-named.ensures.stops.at_place d directed says apart in search (rules, stops)
 
 -- ---- they are nested too deep
 
 pub refuse_all-requires-clause-owns : goal.refuse_all-requires-clause-owns
-refuse_all-requires-clause-owns g c = (c.in_ok-named.ensures.named empty_context).owns
+refuse_all-requires-clause-owns g c = (c.in_ok-named.ensures.named.at empty_context).simulates.owns
 
 pub returns-in_err-refuse_all-clause-keeps : goal.returns-in_err-refuse_all-clause-keeps
 returns-in_err-refuse_all-clause-keeps g c = Keeps-trans c.in_ok-named.ensures.keeps c.in_err-refuse_all.ensures.keeps
@@ -60,7 +58,7 @@ returns-then-entry-space-clause-finds g c = λ x context agrees.
     let depth : x.include_depth ≡ c.args.space.now.limits.include_depth = context.depth in
     subst (λ (parts : List Part). Leads files before (g.C.Conditions.sets c.args.conds.now) c.args.self.now files c.named.new.names new c.refuse_all.new.self (IsIn files c.args.entry)
     (λ config m n. Finds x (seen_line before files line) files m (files_at new parts config) n)) (sym c.new.ensures.items)
-    (deep-leads x line hash.0 c.in_ok-named.named.items c.args.entry c.in_ok-named.ensures.keeps c.requires.placed hash.1 (c.in_ok-named.ensures.named x) c.in_ok-named.ensures.names
+    (deep-leads x line hash.0 c.in_ok-named.named.items c.args.entry c.in_ok-named.ensures.keeps c.requires.placed hash.1 (c.in_ok-named.ensures.named.at x).simulates c.in_ok-named.ensures.names
     (λ less. omega (arith, less, depth, c.if-entry-space.true)) (c.in_ok-refuse_all.ensures.moved c.named.new.names))
 
 pub returns-then-entry-space-clause-deep : goal.returns-then-entry-space-clause-deep
@@ -75,16 +73,16 @@ returns-then-entry-space-clause-ready g c =
     let placed = All-weaker (IsPlaced c.args.names.now (length files)) (IsPlaced texts (length files)) (IsPlaced-later named.names (Extends-refl files)) c.args.line.now c.requires.placed in
     record {
       owns = moved.owns;
-      table = moved.table (named.named empty_context).table;
-      held = c.in_ok-refuse_all.ensures.printable texts (length files) any_token placed named.walk;
+      table = moved.table (named.named.at empty_context).simulates.table;
+      held = c.in_ok-refuse_all.ensures.printable texts (length files) any_token placed (named.named.at empty_context).text.held;
       read = contents-later named.names (Extends-refl files) c.requires.ready.read;
     }
 
 pub returns-then-entry-space-clause-list : goal.returns-then-entry-space-clause-list
-returns-then-entry-space-clause-list g c = c.in_ok-refuse_all.ensures.list ∙ c.in_ok-named.ensures.list
+returns-then-entry-space-clause-list g c = c.in_ok-refuse_all.ensures.list ∙ (c.in_ok-named.ensures.named.at empty_context).text.list
 
 pub returns-then-entry-space-clause-gathered : goal.returns-then-entry-space-clause-gathered
-returns-then-entry-space-clause-gathered g c = c.in_ok-refuse_all.ensures.gathered ∙ c.in_ok-named.ensures.gathered
+returns-then-entry-space-clause-gathered g c = c.in_ok-refuse_all.ensures.gathered ∙ (c.in_ok-named.ensures.named.at empty_context).text.gathered
 
 pub returns-then-entry-space-clause-paths : goal.returns-then-entry-space-clause-paths
 returns-then-entry-space-clause-paths g c = λ sound plain paths each. paths
@@ -99,7 +97,7 @@ returns-then-entry-space-clause-keeps g c = Keeps-trans c.in_ok-named.ensures.ke
 
 pub find-requires-clause-own : goal.find-requires-clause-own
 find-requires-clause-own g c =
-    subst (λ (each : List Named). All (λ (n : Named). IsCond (g.C.Conditions.sets c.named.new.conds) n.cond.0) each) (sym c.deref-2.ensures.value) c.in_ok-named.ensures.own
+    subst (λ (each : List Named). All (λ (n : Named). IsCond (g.C.Conditions.sets c.named.new.conds) n.cond.0) each) (sym c.deref-2.ensures.value) c.in_ok-named.ensures.named.own
 
 pub find-requires-clause-contents : goal.find-requires-clause-contents
 find-requires-clause-contents g c = contents-later c.in_ok-named.ensures.names (Extends-refl c.args.files.now) c.requires.ready.read
@@ -121,7 +119,7 @@ returns-in_err-found-clause-keeps g c = Keeps-trans c.in_ok-named.ensures.keeps 
 -- ---- those that find none are refused
 
 pub refuse_acting-requires-clause-owns : goal.refuse_acting-requires-clause-owns
-refuse_acting-requires-clause-owns g c = owns-kept c.in_ok-found.ensures.keeps c.named.new.self (c.in_ok-named.ensures.named empty_context).owns
+refuse_acting-requires-clause-owns g c = owns-kept c.in_ok-found.ensures.keeps c.named.new.self (c.in_ok-named.ensures.named.at empty_context).simulates.owns
 
 pub refuse_acting-requires-clause-own : goal.refuse_acting-requires-clause-own
 refuse_acting-requires-clause-own g c = c.in_ok-found.ensures.found.missing
@@ -149,8 +147,8 @@ returns-clause-finds g c = λ x context agrees.
     let depth : x.include_depth ≡ c.args.space.now.limits.include_depth = context.depth in
     let directories : map string_bytes c.deref.result.now ≡ x.include = ap (map string_bytes) c.deref.ensures.value ∙ sym context.include in
     let of_each = subst (λ (each : List Named). AreFound old each including (map string_bytes c.deref.result.now) later more contents new found) c.deref-2.ensures.value c.in_ok-found.ensures.found in
-    found-leads x line hash.0 named.named.items c.args.entry named.ensures.keeps c.requires.placed hash.1 (named.ensures.named x) named.ensures.names
-    found c.in_ok-found.ensures.keeps c.in_ok-refuse_acting.ensures.keeps c.in_ok-found.ensures.names c.in_ok-found.ensures.files named.ensures.walk
+    found-leads x line hash.0 named.named.items c.args.entry named.ensures.keeps c.requires.placed hash.1 (named.ensures.named.at x).simulates named.ensures.names
+    found c.in_ok-found.ensures.keeps c.in_ok-refuse_acting.ensures.keeps c.in_ok-found.ensures.names c.in_ok-found.ensures.files (named.ensures.named.at empty_context).text.held
     (omega (arith, depth, c.if-entry-space.false)) agrees
     (subst (λ (each : List (List ℕ)). AreFound old named.named.items including each later more contents new found) directories of_each)
     (c.in_ok-refuse_acting.ensures.moved later)
@@ -173,16 +171,16 @@ returns-clause-ready g c =
     All-weaker (IsPlaced c.args.names.now (length files)) (IsPlaced later (length more)) (IsPlaced-later (Extends-trans named.names found.names) found.files) c.args.line.now c.requires.placed in
     record {
       owns = moved.owns;
-      table = moved.table (IsTable-Extends found.names (IsTable-Keeps found.keeps (named.named empty_context).table));
-      held = c.in_ok-refuse_acting.ensures.printable later (length more) any_token placed (held-later found.names found.files c.named.new.self named.walk);
+      table = moved.table (IsTable-Extends found.names (IsTable-Keeps found.keeps (named.named.at empty_context).simulates.table));
+      held = c.in_ok-refuse_acting.ensures.printable later (length more) any_token placed (held-later found.names found.files c.named.new.self (named.named.at empty_context).text.held);
       read = found.contents;
     }
 
 pub returns-clause-list : goal.returns-clause-list
-returns-clause-list g c = c.in_ok-refuse_acting.ensures.list ∙ c.in_ok-named.ensures.list
+returns-clause-list g c = c.in_ok-refuse_acting.ensures.list ∙ (c.in_ok-named.ensures.named.at empty_context).text.list
 
 pub returns-clause-gathered : goal.returns-clause-gathered
-returns-clause-gathered g c = c.in_ok-refuse_acting.ensures.gathered ∙ c.in_ok-named.ensures.gathered
+returns-clause-gathered g c = c.in_ok-refuse_acting.ensures.gathered ∙ (c.in_ok-named.ensures.named.at empty_context).text.gathered
 
 pub returns-clause-paths : goal.returns-clause-paths
 returns-clause-paths g c = λ sound plain paths each.

@@ -1,5 +1,5 @@
 use Rattle.std.proofs.Common.{◌∙◌, sym, subst, length}
-use Rattle.std.proofs.lemmas.Result.{on_ok_weaker}
+use Rattle.std.proofs.lemmas.Result.{IfErr-weaker, on_ok_weaker}
 use Rattle.sc_prep.specs.Printable.{AllPass, is_plain}
 use Rattle.sc_prep.proofs.CloseMoves.{plain-grown}
 use Rattle.sc_prep.proofs.TakeLine.{conditional-found, takes-decided}
@@ -10,24 +10,26 @@ use Rattle.sc_prep.proofs.walk.Walk.local_line.Goals as goal
 pub conditional_line-requires-clause-directive : goal.conditional_line-requires-clause-directive
 conditional_line-requires-clause-directive g c = conditional-found c.args.line.now.directive c.in-Some.conditional c.in-Some.ensures ∙ c.requires.directive
 
-pub unconditional_line-requires-clause-unconditional : goal.unconditional_line-requires-clause-unconditional
-unconditional_line-requires-clause-unconditional g c = sym c.in-None.ensures
+pub unconditional_line-requires-clause-local : goal.unconditional_line-requires-clause-local
+unconditional_line-requires-clause-local g c = (sym c.in-None.ensures, c.requires.local)
 
 pub returns-in-Some-clause-takes : goal.returns-in-Some-clause-takes
 returns-in-Some-clause-takes g c = on_ok_weaker c.conditional_line.result (λ decides x.
-    takes-decided c.args.files.now c.args.tokens.now c.in-Some.conditional
-    (conditional-found c.args.line.now.directive c.in-Some.conditional c.in-Some.ensures ∙ c.requires.directive) x (decides x))
-    c.conditional_line.ensures.decides
+    let w = c.args.self.now in
+    let next = c.conditional_line.new.self in
+    let stage = decides x in
+    record {
+      simulates = takes-decided c.args.files.now c.args.tokens.now c.in-Some.conditional
+          (conditional-found c.args.line.now.directive c.in-Some.conditional c.in-Some.ensures ∙ c.requires.directive) x stage.simulates;
+      held = stage.text.held;
+      plain = λ plain was. subst (AllPass (is_plain c.conditional_line.new.names)) (sym stage.text.list)
+          (plain-grown c.conditional_line.ensures.names (length c.args.files.now) w.prepared.list c.requires.stored.held.list was);
+      gathers = gathers-same c.args.tokens.now w next stage.text.gathered;
+    }) c.conditional_line.ensures.decides
 
-pub returns-in-Some-clause-gathers : goal.returns-in-Some-clause-gathers
-returns-in-Some-clause-gathers g c =
-    on_ok_weaker c.conditional_line.result (gathers-same c.args.tokens.now c.args.self.now c.conditional_line.new.self) c.conditional_line.ensures.gathered
-
-pub returns-in-Some-clause-plain : goal.returns-in-Some-clause-plain
-returns-in-Some-clause-plain g c = on_ok_weaker c.conditional_line.result (λ list plain was.
-    subst (AllPass (is_plain c.conditional_line.new.names)) (sym list)
-    (plain-grown c.conditional_line.ensures.names (length c.args.files.now) c.args.self.now.prepared.list c.requires.walk.list was))
-    c.conditional_line.ensures.list
-
-pub returns-in-Some-clause-footprints : goal.returns-in-Some-clause-footprints
-returns-in-Some-clause-footprints g c = λ x apart. c.conditional_line.ensures.footprints x (apart-right (tokens_in c.args.self.now.gathered) c.args.tokens.now apart)
+pub returns-in-Some-clause-stops : goal.returns-in-Some-clause-stops
+returns-in-Some-clause-stops g c = λ x.
+    IfErr-weaker c.conditional_line.result _ _ (λ stop stops. record {
+      by = stops.by;
+      at_place = λ apart. stops.at_place (apart-right (tokens_in c.args.self.now.gathered) c.args.tokens.now apart);
+    }) (c.conditional_line.ensures.stops x)

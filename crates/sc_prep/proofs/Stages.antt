@@ -1,0 +1,35 @@
+-- Stages of a line, one after the other.
+use Rattle.std.proofs.Common.{◌≡◌, ℕ, List, Result, Ok, Err, sym, subst, ◌∙◌}
+use Rattle.std.specs.Prelude.{IfErr, OnOk}
+use Rattle.sc_base.specs.declared.stop.Stop.{Stop}
+use Rattle.sc_base.specs.declared.stop.Stop.TheVariants.{OutOfMemory}
+use Rattle.sc_base.specs.declared.token.Token.{Token}
+use Rattle.sc_expand.specs.Stops.{StopsBy}
+use Rattle.sc_model.specs.Sets.{Sets}
+use Rattle.sc_prep.specs.Apart.{StandApart}
+use Rattle.sc_prep.specs.declared.walk.Walk.{Walk}
+use Rattle.sc_prep.specs.Footprints.{StopsWalk, any_machine}
+use Rattle.sc_prep.specs.Machine.{Machine}
+use Rattle.sc_prep.specs.Printable.{IsHeldWalk, any_token}
+use Rattle.sc_prep.specs.Stages.{KeepsText, StopsStage}
+
+-- three things that are promised of an answer
+pub ok-three : {A E P Q R S : Type 0} (r : Result A E) → (P → Q → R → S) → OnOk r P → OnOk r Q → OnOk r R → OnOk r S
+ok-three (Ok x) f p q r = f p q r
+ok-three (Err e) f p q r = tt
+
+-- there is no memory
+pub no-memory : {K V : Type 0} (s : Sets) (names files : List (List ℕ)) (w : Walk) (tokens : List Token) (comes : List ℕ → Machine → K × V → Type 0) (limit : ℕ) (stop : Stop)
+    → stop ≡ OutOfMemory → StopsStage s names files w tokens comes limit stop
+no-memory s names files w tokens comes limit stop is = subst (StopsStage s names files w tokens comes limit) (sym is) (record { by = tt; at_place = λ apart. tt })
+
+-- nothing is put out or gathered by the one stage and then by the other
+pub text-then : {more last : List (List ℕ)} {count : ℕ} (v w next : Walk) → KeepsText more count v w → IsHeldWalk last count any_token next
+    → next.prepared.list ≡ w.prepared.list → next.gathered ≡ w.gathered → KeepsText last count v next
+text-then v w next was held list gathered = record { held = held; list = list ∙ was.list; gathered = gathered ∙ was.gathered }
+
+-- a stop that is told by both
+pub stage-stops : {A K V : Type 0} (s : Sets) (names files : List (List ℕ)) (w : Walk) (tokens : List Token) (comes : List ℕ → Machine → K × V → Type 0) (limit : ℕ) (r : Result A Stop)
+    → IfErr r (StopsBy s.arities limit) → (StandApart tokens → IfErr r (StopsWalk s names files w any_machine comes limit)) → IfErr r (StopsStage s names files w tokens comes limit)
+stage-stops s names files w tokens comes limit (Ok x) by at_place = tt
+stage-stops s names files w tokens comes limit (Err stop) by at_place = record { by = by; at_place = at_place }
