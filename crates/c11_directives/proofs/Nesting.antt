@@ -7,6 +7,7 @@ use Rattle.c11_directives.specs.declared.directive.Conditional.TheVariants.{Open
 use Rattle.c11_directives.specs.declared.directive.Directive.TheVariants as directive
 use Rattle.c11_directives.specs.Lines.{Line, conditional_of, Group, Branches, empty, plain, section, closing, otherwise, alternative, group_lines, branch_lines, Opens, IsGroup, AreBranches, IsTree, GoesOn, IsOpenAtEnd, Unclosed, first, more, last, hash_place, Tree, misplaced, unclosed}
 use Rattle.sc_model.specs.Token.{Place}
+use Rattle.sc_model.specs.declared.standard.Standard.TheVariants.{C11}
 use Rattle.c11_directives.specs.Sections.{Sections, closes_section, next_branch, nest_by}
 
 abbrev pub nest : Line → Sections Line → Option (Sections Line)
@@ -158,7 +159,7 @@ nested-lines lines ss e = nested-all lines [] [] (outside empty tt) ss e
 
 -- a line that closes a section
 endif : Line
-endif = record { tokens = []; directive = Some (directive.Conditional Endif) }
+endif = record { tokens = []; directive = Some (directive.Conditional Endif); standard = C11 }
 
 endif-closes : conditional_of endif ≡ Some Endif
 unfolding endif

@@ -93,7 +93,7 @@ Named s l holds None r = r ≡ Err (refusal s l BadDirective)
 -- its expression
 data Evaluated (s : State) (l : Line) : Result Bool Fault → Type 0 where
   evaluated : (hash : Token) (answer : Result Bool (Failure Place)) → hash_of l ≡ Some hash
-      → expressions.Decides place_alone s.macros (place_in s hash) (map unhidden (behind_name l)) answer → Evaluated s l (decision_of answer)
+      → expressions.Decides l.standard place_alone s.macros (place_in s hash) (map unhidden (behind_name l)) answer → Evaluated s l (decision_of answer)
 
 abbrev as_it_is : Bool → Bool
 as_it_is b = b
@@ -112,7 +112,7 @@ evaluated-sole : {s : State} {l : Line} {r : Result Bool Fault} → Evaluated s 
 evaluated-sole {s} {l} (evaluated hash answer is d) q (evaluated hash' answer' is' d') =
     let hashes : Some hash' ≡ Some hash = sym is' ∙ is in
     let same : hash' ≡ hash = cc in
-    let moved = subst (λ h. expressions.Decides place_alone s.macros (place_in s h) (map unhidden (behind_name l)) answer') same d' in
+    let moved = subst (λ h. expressions.Decides l.standard place_alone s.macros (place_in s h) (map unhidden (behind_name l)) answer') same d' in
     ap decision_of (one_line place_alone s.macros (map unhidden (behind_name l)) answer answer' d moved)
 
 decides-as-sole : (s : State) (l : Line) (asked : Option Test) (r : Result Bool Fault) → DecidesAs s l asked r → Sole (DecidesAs s l asked) r

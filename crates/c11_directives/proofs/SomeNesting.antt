@@ -3,31 +3,32 @@ use Rattle.std.proofs.Common.{◌≡◌, List, [], ◌∷◌, ◌++◌, map, Opt
 use Rattle.std.specs.Option.{option_and_then, option_map}
 use Rattle.std.proofs.lemmas.Option.{none-some}
 use Rattle.c11_directives.specs.declared.directive.Conditional.TheVariants.{Opening}
-use Rattle.c11_directives.specs.Lines.{DirectiveNames, Group, Line, Tree, conditional_in, conditional_of, hash_of, hash_place, line_of, lines_of, nested, split_lines}
+use Rattle.c11_directives.specs.Lines.{Group, Line, Tree, conditional_in, conditional_of, hash_of, hash_place, line_of, lines_of, nested, split_lines}
 use Rattle.c11_directives.specs.Sections.{Sections, nest_by}
 use Rattle.c11_directives.proofs.Nesting.{accepted, head_named, head_within, misplaced_at, nest, nest_all, nest_all-append, open_at_end}
 use Rattle.c11_tokens.specs.Lex.{is_newline}
 use Rattle.sc_model.specs.Token.{Place, Token}
+use Rattle.sc_model.specs.declared.standard.Standard.{Standard}
 
 -- each directive has its #
 pub record HaveHashes (lines : List Line) : Type 0 where
   pub each : (before : List Line) (line : Line) (after : List Line) → lines ≡ before ++ line ∷ after → (line.directive ≡ None → ⊥) → (hash : Token) × (hash_of line ≡ Some hash)
 
-line-hash : (names : DirectiveNames) (ts : List Token) → ((line_of names ts).directive ≡ None → ⊥) → (hash : Token) × (hash_of (line_of names ts) ≡ Some hash)
-line-hash names [] some = absurd (some refl)
-line-hash names (t ∷ ts) some = (t, refl)
+line-hash : (standard : Standard) (ts : List Token) → ((line_of standard ts).directive ≡ None → ⊥) → (hash : Token) × (hash_of (line_of standard ts) ≡ Some hash)
+line-hash standard [] some = absurd (some refl)
+line-hash standard (t ∷ ts) some = (t, refl)
 
-hashes-at : (names : DirectiveNames) (all : List (List Token)) (before : List Line) (line : Line) (after : List Line) → map (line_of names) all ≡ before ++ line ∷ after → (line.directive ≡ None → ⊥)
+hashes-at : (standard : Standard) (all : List (List Token)) (before : List Line) (line : Line) (after : List Line) → map (line_of standard) all ≡ before ++ line ∷ after → (line.directive ≡ None → ⊥)
     → (hash : Token) × (hash_of line ≡ Some hash)
-hashes-at names [] [] line after e some = absurd (cc)
-hashes-at names [] (b ∷ before) line after e some = absurd (cc)
-hashes-at names (ts ∷ all) [] line after e some =
-    let same : line_of names ts ≡ line = cc in
-    subst (λ l. (l.directive ≡ None → ⊥) → (hash : Token) × (hash_of l ≡ Some hash)) same (line-hash names ts) some
-hashes-at names (ts ∷ all) (b ∷ before) line after e some = let rest : map (line_of names) all ≡ before ++ line ∷ after = cc in hashes-at names all before line after rest some
+hashes-at standard [] [] line after e some = absurd (cc)
+hashes-at standard [] (b ∷ before) line after e some = absurd (cc)
+hashes-at standard (ts ∷ all) [] line after e some =
+    let same : line_of standard ts ≡ line = cc in
+    subst (λ l. (l.directive ≡ None → ⊥) → (hash : Token) × (hash_of l ≡ Some hash)) same (line-hash standard ts) some
+hashes-at standard (ts ∷ all) (b ∷ before) line after e some = let rest : map (line_of standard) all ≡ before ++ line ∷ after = cc in hashes-at standard all before line after rest some
 
-pub lines-hashes : (names : DirectiveNames) (ts : List Token) → HaveHashes (lines_of names ts)
-lines-hashes names ts = record { each = λ before line after e some. hashes-at names (split_lines (λ t. is_newline t.kind) ts) before line after e some }
+pub lines-hashes : (standard : Standard) (ts : List Token) → HaveHashes (lines_of standard ts)
+lines-hashes standard ts = record { each = λ before line after e some. hashes-at standard (split_lines (λ t. is_newline t.kind) ts) before line after e some }
 
 place-of : (line : Line) → ((line.directive ≡ None → ⊥) → (hash : Token) × (hash_of line ≡ Some hash)) → (conditional_of line ≡ None → ⊥) → (place : Place) × (hash_place line ≡ Some place)
 place-of line hash some =

@@ -388,7 +388,7 @@ module _ (context : Context) where
           record { end = Err (fault_at BadNesting place); ends = pre.badly_nested tokens place small lexes tree; well = tt }
       nested_by small tokens lexes _ (nested group tree) =
           let hashes = subst (λ ls. All (λ (line : Line). (line.directive ≡ None → ⊥) → (hash : Token) × (hash_of line ≡ Some hash)) ls) (sym tree.whole)
-          (hashes-all (file_lines context file tokens) [] (lines-hashes context.standard.directives (map (in_file file.name) tokens))) in
+          (hashes-all (file_lines context file tokens) [] (lines-hashes context.standard (map (in_file file.name) tokens))) in
           let walk = walks-some context depth enter group (inside file s) tree.grouped hashes (record { finite = goes.finite; deep = goes.deep }) in
           ended small tokens group lexes (nested group tree) walk.end walk.ends walk.well
 
@@ -399,7 +399,7 @@ module _ (context : Context) where
         well = tt;
       }
       lexed small (Ok tokens) lexes =
-          let tree = tree-some (file_lines context file tokens) (lines-hashes context.standard.directives (map (in_file file.name) tokens)) in
+          let tree = tree-some (file_lines context file tokens) (lines-hashes context.standard (map (in_file file.name) tokens)) in
           nested_by small tokens lexes tree.0 tree.1
 
   -- the files may be nested n deeper

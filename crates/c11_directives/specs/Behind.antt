@@ -2,7 +2,7 @@
 use Rattle.std.specs.Prelude.{◌≡◌, ℕ, ◌&&◌, nat_le, Bool, true, false, List, [], ◌∷◌, drop, Result, Ok}
 use Rattle.std.specs.List.{list_all}
 use Rattle.c11_expressions.specs.Constants.{number_of}
-use Rattle.c11_expressions.specs.declared.base.Base.TheVariants.{Decimal}
+use Rattle.c11_tokens.specs.declared.base.Base.TheVariants.{Decimal}
 use Rattle.c11_directives.specs.Lines.{Line}
 use Rattle.c11_macros.specs.Macros.{Macros}
 use Rattle.c11_macros.specs.Text.{TextExpands}

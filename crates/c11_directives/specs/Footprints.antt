@@ -7,9 +7,10 @@ use Rattle.c11_directives.specs.Behind.{begins_with_header, behind_name}
 use Rattle.c11_directives.specs.Lines.{Line, hash_of, test_of}
 use Rattle.c11_directives.specs.Pre.{Closes, State, is_barrier, is_said}
 use Rattle.c11_directives.specs.Reaches.{Moment, Reaches, at_end, at_head, at_line}
-use Rattle.c11_expressions.specs.Evaluates.{Spelled}
+use Rattle.c11_expressions.specs.Grammar.{Symbol}
 use Rattle.c11_expressions.specs.Lines.{without_defined}
 use Rattle.c11_expressions.specs.Parts.{IsPart, Part}
+use Rattle.c11_expressions.specs.Symbols.{symbol_of}
 use Rattle.c11_macros.specs.Expansion.{Expands, case_of, stays}
 use Rattle.c11_macros.specs.Footprint.{Arrives, footprint}
 use Rattle.c11_macros.specs.Hidden.{Failure, Hidden}
@@ -19,6 +20,7 @@ use Rattle.c11_macros.specs.Trace.{trace}
 use Rattle.sc_model.specs.Outside.{Files}
 use Rattle.sc_model.specs.Space.{Space}
 use Rattle.sc_model.specs.Token.{Place, Token}
+use Rattle.sc_model.specs.declared.standard.Standard.{Standard}
 
 -- a name or the # of a line, or the place before a token of what an expression expands to
 pub data Spot : Type 0 where
@@ -71,18 +73,18 @@ pub record TextHas (macros : Macros) (text : List Token) (hash : Token) (f : Spo
   pub expands : Expands place_alone macros (map unhidden text) answer
   pub is : f ≡ footprint_at hash text (definitions_of macros (trace expands).looked_up)
 
--- a token as an expression knows it
-abbrev pub spelled : Token → Spelled
-spelled t = record { kind = t.kind; spelling = t.spelling }
+-- the symbol of an expression that a token is, if it is one
+abbrev pub symbol_at : Standard → Token → Option Symbol
+symbol_at standard t = symbol_of standard t.kind t.spelling
 
 -- A text expands, and before a token of what it comes to this waits (6.10.1p4).
-pub record PartHas (macros : Macros) (text : List Token) (f : Spot × Used) : Type 0 where
+pub record PartHas (standard : Standard) (macros : Macros) (text : List Token) (f : Spot × Used) : Type 0 where
   pub before : List Token
   pub next : Token
   pub rest : List Token
   pub part : Part
   pub expands : TextExpands macros text (Ok (before ++ next ∷ rest))
-  pub waits : IsPart (spelled next) (map spelled before) part
+  pub waits : IsPart (symbol_at standard next) (map (symbol_at standard) before) part
   pub is : f ≡ (before_token next, waiting part)
 
 -- the expression that a line asks about, each `defined` replaced (6.10.1p4)
@@ -106,7 +108,7 @@ pub data IsExpandedFor (macros : Macros) (line : Line) : List Token → Type 0 w
 -- name looks nothing up.
 pub data DirectiveHas (macros : Macros) (line : Line) (f : Spot × Used) : Type 0 where
   of_name : (text : List Token) → IsExpandedFor macros line text → NameHas macros text f → DirectiveHas macros line f
-  of_part : (text : List Token) → IsExpressionOf macros line text → PartHas macros text f → DirectiveHas macros line f
+  of_part : (text : List Token) → IsExpressionOf macros line text → PartHas line.standard macros text f → DirectiveHas macros line f
   of_line : (hash : Token) → IsSaid line → hash_of line ≡ Some hash → TextHas macros (behind_name line) hash f → DirectiveHas macros line f
   of_header : (d : Directive) (hash : Token) → line.directive ≡ Some d → is_said d ≡ true → begins_with_header (behind_name line) ≡ true → hash_of line ≡ Some hash
       → f ≡ footprint_at hash (behind_name line) [] → DirectiveHas macros line f

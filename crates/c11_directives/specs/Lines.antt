@@ -11,6 +11,8 @@ use Rattle.c11_directives.specs.declared.directive.Test.TheVariants.{Expression,
 use Rattle.sc_model.specs.Bytes.{same_bytes}
 use Rattle.c11_tokens.specs.Lex.{is_newline}
 use Rattle.sc_model.specs.Token.{Place, Token, name_of}
+use Rattle.sc_model.specs.declared.standard.Standard.{Standard}
+use Rattle.sc_model.specs.declared.standard.Standard.TheVariants.{C11, C23}
 
 -- names of directives, and what each is
 abbrev pub DirectiveNames : Type 0
@@ -34,6 +36,17 @@ c11_directive_names =
     ∷ (codes "warning", directive.Warning)
     ∷ []
 
+-- those of C23 with them
+abbrev pub c23_directive_names : DirectiveNames
+c23_directive_names =
+    (codes "elifdef", directive.Conditional (Alternative Defined))
+    ∷ (codes "elifndef", directive.Conditional (Alternative Undefined))
+    ∷ c11_directive_names
+
+abbrev pub directives_of : Standard → DirectiveNames
+directives_of C11 = c11_directive_names
+directives_of C23 = c23_directive_names
+
 abbrev pub directive_named : DirectiveNames → List ℕ → Directive
 directive_named [] word = directive.Unknown
 directive_named (n ∷ ns) word = if same_bytes word n.0 then n.1 else directive_named ns word
@@ -51,13 +64,15 @@ abbrev pub directive_of : DirectiveNames → List Token → Option Directive
 directive_of names [] = None
 directive_of names (t ∷ ts) = if is_hash t then Some (directive_after_hash names ts) else None
 
--- a line's tokens, without its newline, and the directive that it is
+-- a line's tokens, without its newline, the directive that it is, and the standard by which it is
+-- read
 pub record Line : Type 0 where
   pub tokens : List Token
   pub directive : Option Directive
+  pub standard : Standard
 
-abbrev pub line_of : DirectiveNames → List Token → Line
-line_of names ts = record { tokens = ts; directive = directive_of names ts }
+abbrev pub line_of : Standard → List Token → Line
+line_of standard ts = record { tokens = ts; directive = directive_of (directives_of standard) ts; standard = standard }
 
 abbrev pub onto_first : {T : Type 0} → T → List (List T) → List (List T)
 onto_first t [] = (t ∷ []) ∷ []
@@ -69,8 +84,8 @@ split_lines ends [] = []
 split_lines ends (t ∷ ts) = if ends t then [] ∷ split_lines ends ts else onto_first t (split_lines ends ts)
 
 -- the tokens up to each newline
-abbrev pub lines_of : DirectiveNames → List Token → List Line
-lines_of names ts = map (line_of names) (split_lines (λ t. is_newline t.kind) ts)
+abbrev pub lines_of : Standard → List Token → List Line
+lines_of standard ts = map (line_of standard) (split_lines (λ t. is_newline t.kind) ts)
 
 abbrev pub conditional_in : Option Directive → Option Conditional
 conditional_in (Some (directive.Conditional c)) = Some c

@@ -11,7 +11,7 @@ use Rattle.c11_directives.specs.Behind.{behind_name, Says, is_numbering}
 use Rattle.c11_expressions.specs.Lines as expressions
 use Rattle.c11_headers.specs.Headers.{Header, header_of, candidates}
 use Rattle.c11_tokens.specs.Lex.{is_identifier_kind, Lexed}
-use Rattle.c11_directives.specs.Lines.{DirectiveNames, c11_directive_names, Line, lines_of, test_of, hash_of, Group, Branches, empty, plain, section, closing, otherwise, alternative, Tree}
+use Rattle.c11_directives.specs.Lines.{Line, lines_of, test_of, hash_of, Group, Branches, empty, plain, section, closing, otherwise, alternative, Tree}
 use Rattle.sc_model.specs.Fault.{Fault, fault_at, first_place}
 use Rattle.sc_model.specs.Outside.{Files, largest_file}
 use Rattle.sc_model.specs.Space.{Space}
@@ -22,13 +22,7 @@ use Rattle.c11_macros.specs.Results.{result_map}
 use Rattle.c11_macros.specs.Text.{TextExpands, fault_of, place_alone, unhidden}
 use Rattle.sc_model.specs.Bytes.{same_bytes}
 use Rattle.sc_model.specs.Token.{Position, Place, Lexeme, Token, in_file}
-
--- what a standard says that others say otherwise
-pub record Standard : Type 0 where
-  pub directives : DirectiveNames
-
-abbrev pub c11 : Standard
-c11 = record { directives = c11_directive_names }
+use Rattle.sc_model.specs.declared.standard.Standard.{Standard}
 
 -- what doesn't change during a run
 pub record Context : Type 0 where
@@ -90,7 +84,7 @@ pub data Decides (context : Context) (s : State) (line : Line) : Result Bool Fau
   no_name : (fault : Fault) → (test_of line ≡ Some test.Defined) ⊎ (test_of line ≡ Some test.Undefined) → operand_of line ≡ None
       → RefusedAt s line BadDirective fault → Decides context s line (Err fault)
   expression : (hash : Token) (answer : Result Bool (Failure Place)) → test_of line ≡ Some test.Expression
-      → hash_of line ≡ Some hash → expressions.Decides place_alone s.macros (place_in s hash) (map unhidden (behind_name line)) answer
+      → hash_of line ≡ Some hash → expressions.Decides line.standard place_alone s.macros (place_in s hash) (map unhidden (behind_name line)) answer
       → Decides context s line (decision_of answer)
 
 -- the state that deciding a directive leaves
@@ -184,7 +178,7 @@ back s t = record t { depth = s.depth; file = s.file }
 
 -- the lines of a file with these tokens
 abbrev pub file_lines : Context → File → List Lexeme → List Line
-file_lines context file tokens = lines_of context.standard.directives (map (in_file file.name) tokens)
+file_lines context file tokens = lines_of context.standard (map (in_file file.name) tokens)
 
 mutual
   -- What a line that is no conditional directive does. Every directive but the null one is a
@@ -275,7 +269,7 @@ context_of space files = record {
   files = files;
   include = space.include;
   include_depth = space.include_depth;
-  standard = c11;
+  standard = space.standard;
 }
 
 abbrev pub initial_state : Space → (main config : List ℕ) → State

@@ -20,7 +20,7 @@ pub enum Directive {
 pub enum Conditional {
     /// The first of a section: `#if`, `#ifdef` or `#ifndef`.
     Opening(Test),
-    /// A later one with a test: `#elif`.
+    /// A later one with a test: `#elif`, and in C23 `#elifdef` and `#elifndef`.
     Alternative(Test),
     Else,
     Endif,

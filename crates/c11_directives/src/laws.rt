@@ -1,6 +1,6 @@
 //! Laws about the definitions, each the contract of a function without code.
 ghost use Rattle.std.specs.Prelude.{Bool, List, ℕ, ◌≡◌, Result, Some};
-ghost use Rattle.c11_directives.specs.Lines.{DirectiveNames, Group, Line, Tree, hash_of, lines_of, test_of};
+ghost use Rattle.c11_directives.specs.Lines.{Group, Line, Tree, hash_of, lines_of, test_of};
 ghost use Rattle.c11_directives.specs.Pre.{Context, Decides, Pre, State};
 ghost use Rattle.c11_directives.specs.declared.directive.Test.{Test};
 ghost use Rattle.c11_macros.specs.Expansion.{IsWithin};
@@ -8,6 +8,7 @@ ghost use Rattle.sc_model.specs.Fault.{Fault};
 ghost use Rattle.sc_model.specs.Outside.{Files};
 ghost use Rattle.sc_model.specs.Space.{Space};
 ghost use Rattle.sc_model.specs.Token.{Place, Token};
+ghost use Rattle.sc_model.specs.declared.standard.Standard.{Standard};
 
 /// The conditional directives of a file nest in one way, or their first fault is at one place.
 pub fn nesting_has_one_answer()
@@ -16,7 +17,7 @@ pub fn nesting_has_one_answer()
 
 /// The lines of a file's tokens are nested, or have a first fault.
 pub fn nesting_has_an_answer()
-    ensures { (names : DirectiveNames) (tokens : List Token) → (r : Result Group Place) × Tree (lines_of names tokens) r }
+    ensures { (standard : Standard) (tokens : List Token) → (r : Result Group Place) × Tree (lines_of standard tokens) r }
 {}
 
 /// Where finitely many names are defined each line that asks whether its group is taken is decided.

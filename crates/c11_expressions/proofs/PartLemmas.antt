@@ -2,13 +2,12 @@
 use Rattle.std.proofs.Common.{◌≡◌, true, ℕ, ◌≤◌, List, [], ◌∷◌, ◌++◌, Option, Some, None, IfSome, refl, sym, ap, subst, ◌∙◌, arith, append-nil}
 use Rattle.std.specs.Option.{option_and_then}
 use Rattle.c11_expressions.specs.declared.punctuator.Punctuator.TheVariants as punctuator
-use Rattle.c11_expressions.specs.Evaluates.{IsExpression, Spelled}
+use Rattle.c11_expressions.specs.Evaluates.{IsExpression, Symbols}
 use Rattle.c11_expressions.specs.Expressions.{Expression, outcome}
 use Rattle.c11_expressions.specs.Grammar.{Phrase, Symbol, level_of, mark, operand}
 use Rattle.c11_expressions.specs.Parts.{Ends, IsPart, Part, WaitsBefore, close, colon, ended, operator, question, wanted}
-use Rattle.c11_expressions.specs.Symbols.{symbol_of}
 use Rattle.c11_expressions.specs.Waiting.{AreWaiting, Operand, Waiting, condition, operand_of, parenthesis, start}
-use Rattle.c11_expressions.proofs.Evaluating.{Symbols, reads_tokens, run-symbols, symbols-run}
+use Rattle.c11_expressions.proofs.Evaluating.{SymbolsRun, reads_tokens, run-symbols, symbols-run}
 use Rattle.c11_expressions.proofs.OneWaiting.{reads-waiting, run-append, waits-needed}
 use Rattle.c11_expressions.proofs.Reader.{Held, State, at_close, at_colon, begun, finished, gone_on, having, held, run, read_token, run_tokens, settled, step, wanting, at_infix, at_question}
 use Rattle.c11_expressions.proofs.Reading.{Has, Stands, Waits, arrives, kept, level-least, level-most, looser, needed-none, runs, settled-waits, settles, weaker}
@@ -115,7 +114,7 @@ waits-there (having fs x) n ts t h reads = behind-waits fs x ts t n h reads
 
 -- ---- the same of tokens
 
-module _ (t : Spelled) (ts : List Spelled) where
+module _ (t : Option Symbol) (ts : Symbols) where
   abbrev pub read_behind : Option State
   read_behind = option_and_then (λ s. read_token s t) (run_tokens (wanting []) ts)
 
@@ -142,25 +141,25 @@ module _ (t : Spelled) (ts : List Spelled) where
   pub part-there : (read_behind ≡ None → ⊥) → (p : Part) × IsPart t ts p
   part-there reads = between (run_tokens (wanting []) ts) refl reads
     where
-      here : (s n : State) (y : Symbol) → symbol_of t.kind t.spelling ≡ Some y → step s y ≡ Some n → Symbols (wanting []) s ts → (p : Part) × IsPart t ts p
+      here : (s n : State) (y : Symbol) → t ≡ Some y → step s y ≡ Some n → SymbolsRun (wanting []) s ts → (p : Part) × IsPart t ts p
       here s n y is goes r =
           let stands = subst (λ o. IfSome o (λ m. Stands m r.symbols)) r.runs (runs (wanting []) [] r.symbols start) in
           (part_of s y, record { symbol = y; symbols = r.symbols; is = is; each = r.each; waits = waits-there s n r.symbols y stands goes })
 
-      behind : (s : State) (y : Symbol) (n : Option State) → symbol_of t.kind t.spelling ≡ Some y → step s y ≡ n → run_tokens (wanting []) ts ≡ Some s → (n ≡ None → ⊥) → (p : Part) × IsPart t ts p
+      behind : (s : State) (y : Symbol) (n : Option State) → t ≡ Some y → step s y ≡ n → run_tokens (wanting []) ts ≡ Some s → (n ≡ None → ⊥) → (p : Part) × IsPart t ts p
       behind s y None is goes left reads = absurd (reads refl)
       behind s y (Some n) is goes left reads = here s n y is goes (symbols-run (wanting []) s ts left)
 
-      by : (s : State) (o : Option Symbol) → symbol_of t.kind t.spelling ≡ o → run_tokens (wanting []) ts ≡ Some s → (option_and_then (step s) o ≡ None → ⊥) → (p : Part) × IsPart t ts p
+      by : (s : State) (o : Option Symbol) → t ≡ o → run_tokens (wanting []) ts ≡ Some s → (option_and_then (step s) o ≡ None → ⊥) → (p : Part) × IsPart t ts p
       by s None is left reads = absurd (reads refl)
       by s (Some y) is left reads = behind s y (step s y) is refl left reads
 
       between : (o : Option State) → run_tokens (wanting []) ts ≡ o → (option_and_then (λ s. read_token s t) o ≡ None → ⊥) → (p : Part) × IsPart t ts p
       between None left reads = absurd (reads refl)
-      between (Some s) left reads = by s (symbol_of t.kind t.spelling) refl left reads
+      between (Some s) left reads = by s (t) refl left reads
 
 -- two lists with one part: the token is read alike behind both
-pub same-part : (t : Spelled) (ts us : List Spelled) (p : Part) → IsPart t ts p → IsPart t us p → read_behind t ts ≡ read_behind t us
+pub same-part : (t : Option Symbol) (ts us : Symbols) (p : Part) → IsPart t ts p → IsPart t us p → read_behind t ts ≡ read_behind t us
 same-part t ts us p x y =
     let both : Some x.symbol ≡ Some y.symbol = sym x.is ∙ y.is in
     let symbol : x.symbol ≡ y.symbol = cc in
@@ -169,7 +168,7 @@ same-part t ts us p x y =
 -- ---- an expression has a part before each of its tokens
 
 -- where a whole list is read, its tokens are
-goes-through : (s : State) (ts : List Spelled) (t : Spelled) (rest : List Spelled) (o : Operand) → option_and_then finished (run_tokens s (ts ++ t ∷ rest)) ≡ Some o
+goes-through : (s : State) (ts : Symbols) (t : Option Symbol) (rest : Symbols) (o : Operand) → option_and_then finished (run_tokens s (ts ++ t ∷ rest)) ≡ Some o
     → option_and_then (λ m. read_token m t) (run_tokens s ts) ≡ None → ⊥
 goes-through s [] t rest o whole none = let stops : option_and_then finished (option_and_then (λ m. run_tokens m rest) None) ≡ Some o = sym (ap (λ n. option_and_then finished (option_and_then (λ m. run_tokens m rest) n)) none) ∙ whole in absurd (cc)
 goes-through s (u ∷ us) t rest o whole none = by (read_token s u) (λ m. goes-through m us t rest o) whole none
@@ -179,5 +178,5 @@ goes-through s (u ∷ us) t rest o whole none = by (read_token s u) (λ m. goes-
     by None more e none = absurd (cc)
     by (Some n) more e none = more n e none
 
-pub has_part : (ts : List Spelled) (next : Spelled) (rest : List Spelled) (e : Expression) → IsExpression (ts ++ next ∷ rest) e → (p : Part) × IsPart next ts p
+pub has_part : (ts : Symbols) (next : Option Symbol) (rest : Symbols) (e : Expression) → IsExpression (ts ++ next ∷ rest) e → (p : Part) × IsPart next ts p
 has_part ts next rest e is = part-there next ts (goes-through (wanting []) ts next rest (operand_of true (outcome e)) (reads_tokens (ts ++ next ∷ rest) e is))

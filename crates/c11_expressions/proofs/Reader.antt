@@ -6,10 +6,9 @@ use Rattle.c11_expressions.specs.Arithmetic.{Typed, typed, binary_unsigned, bina
 use Rattle.c11_expressions.specs.declared.binary.Binary.{Binary}
 use Rattle.c11_expressions.specs.declared.punctuator.Punctuator.TheVariants as punctuator
 use Rattle.c11_expressions.specs.declared.unary.Unary.{Unary}
-use Rattle.c11_expressions.specs.Evaluates.{Spelled}
+use Rattle.c11_expressions.specs.Evaluates.{Symbols}
 use Rattle.c11_expressions.specs.Expressions.{constant_outcome, is_decided}
 use Rattle.c11_expressions.specs.Grammar.{Symbol, operand, mark, as_unary, level_of}
-use Rattle.c11_expressions.specs.Symbols.{symbol_of}
 use Rattle.c11_expressions.specs.Waiting.{Operand, value, fault, unevaluated, evaluated, operand_of, Waiting, parenthesis, prefix, left, condition, branch, is_evaluated}
 use Rattle.sc_model.specs.declared.cause.Cause.{Cause}
 
@@ -142,12 +141,12 @@ reading ts = option_and_then finished (run (wanting []) ts)
 
 -- ---- the same for tokens
 
-abbrev pub read_token : State → Spelled → Option State
-read_token s t = option_and_then (step s) (symbol_of t.kind t.spelling)
+abbrev pub read_token : State → Option Symbol → Option State
+read_token s t = option_and_then (step s) t
 
-abbrev pub run_tokens : State → List Spelled → Option State
+abbrev pub run_tokens : State → Symbols → Option State
 run_tokens s [] = Some s
 run_tokens s (t ∷ ts) = option_and_then (λ n. run_tokens n ts) (read_token s t)
 
-abbrev pub reading_tokens : List Spelled → Option Operand
+abbrev pub reading_tokens : Symbols → Option Operand
 reading_tokens ts = option_and_then finished (run_tokens (wanting []) ts)

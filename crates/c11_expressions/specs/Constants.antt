@@ -3,29 +3,23 @@
 use Rattle.std.specs.Prelude.{ℕ, ◌+◌, ◌-◌, ◌*◌, ◌^◌, ◌==◌, nat_le, nat_lt, ◌&&◌, ◌||◌, Bool, true, false, pos, List, [], ◌∷◌, length, codes, Option, Some, None, option_map, if◌then◌else◌}
 use Rattle.std.specs.Option.{option_and_then}
 use Rattle.c11_expressions.specs.Arithmetic.{Typed, typed}
-use Rattle.c11_expressions.specs.declared.base.Base.{Base}
-use Rattle.c11_expressions.specs.declared.base.Base.TheVariants.{Octal, Decimal, Hexadecimal}
-use Rattle.sc_model.specs.Bytes.{same_bytes, is_between, is_digit, is_hex_digit}
+use Rattle.c11_tokens.specs.Constants.{IntegerForm, after_digits, has_digit, integer_form, is_digit_in, is_u}
+use Rattle.c11_tokens.specs.declared.base.Base.{Base}
+use Rattle.c11_tokens.specs.declared.base.Base.TheVariants.{Binary, Octal, Decimal, Hexadecimal}
+use Rattle.sc_model.specs.Bytes.{same_bytes}
+use Rattle.sc_model.specs.declared.standard.Standard.{Standard}
 
 -- ---- digits
 
 abbrev pub radix : Base → ℕ
+radix Binary = 2
 radix Octal = 8
 radix Decimal = 10
 radix Hexadecimal = 16
 
-abbrev pub is_digit_in : Base → ℕ → Bool
-is_digit_in Octal b = is_between 48 55 b
-is_digit_in Decimal b = is_digit b
-is_digit_in Hexadecimal b = is_hex_digit b
-
 -- 0 to 9, A to F, a to f
 abbrev pub digit_value : ℕ → ℕ
 digit_value b = if nat_le b 57 then b - 48 else (if nat_le b 70 then b - 55 else b - 87)
-
-abbrev pub has_digit : Base → List ℕ → Bool
-has_digit base [] = false
-has_digit base (b ∷ bs) = is_digit_in base b
 
 -- the number of the digits that stand first, behind those of n
 unfoldable pub number_behind : Base → ℕ → List ℕ → ℕ
@@ -35,40 +29,7 @@ number_behind base n (b ∷ bs) = if is_digit_in base b then number_behind base 
 abbrev pub number_of : Base → List ℕ → ℕ
 number_of base bs = number_behind base 0 bs
 
--- what stands after those digits
-unfoldable pub after_digits : Base → List ℕ → List ℕ
-after_digits base [] = []
-after_digits base (b ∷ bs) = if is_digit_in base b then after_digits base bs else b ∷ bs
-
 -- ---- integers
-
-abbrev pub is_u : ℕ → Bool
-is_u b = b == 117 || b == 85
-
-abbrev pub is_l : ℕ → Bool
-is_l b = b == 108 || b == 76
-
--- nothing, l, L, ll or LL
-abbrev pub is_long : List ℕ → Bool
-is_long [] = true
-is_long (a ∷ []) = is_l a
-is_long (a ∷ b ∷ []) = is_l a && a == b
-is_long _ = false
-
--- one of l, L, ll and LL, and then u or U
-abbrev pub is_long_unsigned : List ℕ → Bool
-is_long_unsigned (a ∷ u ∷ []) = is_l a && is_u u
-is_long_unsigned (a ∷ b ∷ u ∷ []) = is_l a && a == b && is_u u
-is_long_unsigned _ = false
-
--- u or U, before or behind one of the others
-abbrev pub is_unsigned_suffix : List ℕ → Bool
-is_unsigned_suffix [] = false
-is_unsigned_suffix (u ∷ bs) = (is_u u && is_long bs) || is_long_unsigned (u ∷ bs)
-
--- whether a suffix says that the type is unsigned
-abbrev pub suffix_of : List ℕ → Option Bool
-suffix_of bs = if is_long bs then Some false else (if is_unsigned_suffix bs then Some true else None)
 
 abbrev pub if_below : ℕ → ℕ → Bool → Option Typed
 if_below limit n unsigned = if nat_lt n limit then Some (typed unsigned (pos n)) else None
@@ -82,26 +43,11 @@ abbrev pub integer_of : Base → Bool → ℕ → Option Typed
 integer_of base true n = if_below (2 ^ 64) n true
 integer_of base false n = if nat_lt n (2 ^ 63) then Some (typed false (pos n)) else (if is_decimal base then None else if_below (2 ^ 64) n true)
 
--- digits and a suffix
-abbrev pub counted : Base → List ℕ → Option Typed
-counted base bs = if has_digit base bs then option_and_then (λ unsigned. integer_of base unsigned (number_of base bs)) (suffix_of (after_digits base bs)) else None
+abbrev pub value_of : IntegerForm → Option Typed
+value_of form = integer_of form.base form.is_unsigned (number_of form.base form.digits)
 
--- octal where a zero stands first
-abbrev pub unprefixed : List ℕ → Option Typed
-unprefixed [] = counted Decimal []
-unprefixed (b ∷ bs) = if b == 48 then counted Octal (b ∷ bs) else counted Decimal (b ∷ bs)
-
--- what stands after 0x or 0X
-abbrev pub after_prefix : List ℕ → Option (List ℕ)
-after_prefix (a ∷ b ∷ bs) = if a == 48 && (b == 120 || b == 88) then Some bs else None
-after_prefix _ = None
-
-abbrev pub integer_by : List ℕ → Option (List ℕ) → Option Typed
-integer_by bs None = unprefixed bs
-integer_by bs (Some digits) = counted Hexadecimal digits
-
-abbrev pub integer_value : List ℕ → Option Typed
-integer_value bs = integer_by bs (after_prefix bs)
+abbrev pub integer_value : Standard → List ℕ → Option Typed
+integer_value standard bs = option_and_then value_of (integer_form standard bs)
 
 -- ---- characters
 

@@ -1,9 +1,11 @@
 -- The line of an #if or #elif (C11 6.10.1): `defined` is replaced, macros are expanded, and what is
 -- left is evaluated.
-use Rattle.std.specs.Prelude.{◌≡◌, ◌&&◌, not, Bool, true, false, List, [], ◌∷◌, map, codes, is_some, Result, Ok, Err, if◌then◌else◌}
+use Rattle.std.specs.Prelude.{◌≡◌, ◌&&◌, not, Bool, true, false, List, [], ◌∷◌, map, codes, Option, is_some, Result, Ok, Err, if◌then◌else◌}
 use Rattle.std.specs.List.{list_any}
 use Rattle.c11_expressions.specs.Arithmetic.{Typed, is_zero}
-use Rattle.c11_expressions.specs.Evaluates.{Spelled, Evaluates}
+use Rattle.c11_expressions.specs.Evaluates.{Evaluates}
+use Rattle.c11_expressions.specs.Grammar.{Symbol}
+use Rattle.c11_expressions.specs.Symbols.{symbol_of}
 use Rattle.c11_macros.specs.Expansion.{Expands}
 use Rattle.c11_macros.specs.Hidden.{Hidden, Provenance, Failure, no_names}
 use Rattle.c11_macros.specs.Macros.{Macros}
@@ -13,6 +15,7 @@ use Rattle.sc_model.specs.declared.cause.Cause.{Cause}
 use Rattle.sc_model.specs.declared.cause.Cause.TheVariants.{BadIf, DefinedFromMacro}
 use Rattle.sc_model.specs.declared.kind.Kind.TheVariants.{Number}
 use Rattle.sc_model.specs.Bytes.{same_bytes}
+use Rattle.sc_model.specs.declared.standard.Standard.{Standard}
 
 abbrev pub is_identifier : {P : Type 0} → Hidden P → Bool
 is_identifier t = is_identifier_kind t.kind
@@ -53,8 +56,9 @@ module _ {P : Type 0} (macros : Macros) where
         else Err BadIf
     in_parentheses t _ = Err BadIf
 
-abbrev pub spelled : {P : Type 0} → Hidden P → Spelled
-spelled t = record { kind = t.kind; spelling = t.spelling }
+-- the symbol that a token is, if it is one
+abbrev pub symbol_at : {P : Type 0} → Standard → Hidden P → Option Symbol
+symbol_at standard t = symbol_of standard t.kind t.spelling
 
 abbrev pub failure : {P : Type 0} → Cause → P → Failure P
 failure cause place = record { cause = cause; place = place }
@@ -66,13 +70,13 @@ verdict hash (Err cause) = Err (failure cause hash)
 
 -- what an expansion comes to: its own refusal, or one at the # of the line where `defined` is left,
 -- or the verdict
-pub data Comes {P : Type 0} (hash : P) : Result (List (Hidden P)) (Failure P) → Result Bool (Failure P) → Type 0 where
-  unexpanded : (refusal : Failure P) → Comes hash (Err refusal) (Err refusal)
-  left_over : (ts : List (Hidden P)) → list_any is_defined ts ≡ true → Comes hash (Ok ts) (Err (failure DefinedFromMacro hash))
-  evaluated : (ts : List (Hidden P)) (r : Result Typed Cause) → list_any is_defined ts ≡ false → Evaluates (map spelled ts) r → Comes hash (Ok ts) (verdict hash r)
+pub data Comes {P : Type 0} (standard : Standard) (hash : P) : Result (List (Hidden P)) (Failure P) → Result Bool (Failure P) → Type 0 where
+  unexpanded : (refusal : Failure P) → Comes standard hash (Err refusal) (Err refusal)
+  left_over : (ts : List (Hidden P)) → list_any is_defined ts ≡ true → Comes standard hash (Ok ts) (Err (failure DefinedFromMacro hash))
+  evaluated : (ts : List (Hidden P)) (r : Result Typed Cause) → list_any is_defined ts ≡ false → Evaluates (map (symbol_at standard) ts) r → Comes standard hash (Ok ts) (verdict hash r)
 
 -- whether the line with these tokens takes its group, or why it is refused
-pub data Decides {P : Type 0} (provenance : Provenance P) (macros : Macros) (hash : P) (ts : List (Hidden P)) : Result Bool (Failure P) → Type 0 where
-  malformed : (cause : Cause) → without_defined macros ts ≡ Err cause → Decides provenance macros hash ts (Err (failure cause hash))
+pub data Decides {P : Type 0} (standard : Standard) (provenance : Provenance P) (macros : Macros) (hash : P) (ts : List (Hidden P)) : Result Bool (Failure P) → Type 0 where
+  malformed : (cause : Cause) → without_defined macros ts ≡ Err cause → Decides standard provenance macros hash ts (Err (failure cause hash))
   expanded : (us : List (Hidden P)) (x : Result (List (Hidden P)) (Failure P)) (r : Result Bool (Failure P)) → without_defined macros ts ≡ Ok us
-      → Expands provenance macros us x → Comes hash x r → Decides provenance macros hash ts r
+      → Expands provenance macros us x → Comes standard hash x r → Decides standard provenance macros hash ts r

@@ -3,10 +3,9 @@
 use Rattle.std.specs.Prelude.{◌≡◌, ℕ, ◌≤◌, List, ◌∷◌, ◌++◌, map, Option, Some, None}
 use Rattle.c11_expressions.specs.declared.binary.Binary.{Binary}
 use Rattle.c11_expressions.specs.declared.punctuator.Punctuator.TheVariants.{Close, Question, Colon, Binary as Infix}
-use Rattle.c11_expressions.specs.Evaluates.{Spelled}
+use Rattle.c11_expressions.specs.Evaluates.{Symbols}
 use Rattle.c11_expressions.specs.Expressions.{Expression, outcome}
 use Rattle.c11_expressions.specs.Grammar.{Symbol, mark, level_of, Phrase}
-use Rattle.c11_expressions.specs.Symbols.{symbol_of}
 use Rattle.c11_expressions.specs.Waiting.{AreWaiting, Operand, Waiting, condition, is_evaluated, needed, operand_of, parenthesis}
 
 -- what waits for an operand, and the operand that stands behind it, unless one is wanted
@@ -28,9 +27,9 @@ pub data WaitsBefore (next : Symbol) : Part → List Symbol → Type 0 where
       → x ≡ operand_of (is_evaluated ws) (outcome a) → WaitsBefore next (record { waiting = ws; operand = Some x }) (ts ++ xs)
 
 -- what waits behind tokens, where this one comes next
-pub record IsPart (next : Spelled) (ts : List Spelled) (p : Part) : Type 0 where
+pub record IsPart (next : Option Symbol) (ts : Symbols) (p : Part) : Type 0 where
   pub symbol : Symbol
   pub symbols : List Symbol
-  pub is : symbol_of next.kind next.spelling ≡ Some symbol
-  pub each : map (λ t. symbol_of t.kind t.spelling) ts ≡ map Some symbols
+  pub is : next ≡ Some symbol
+  pub each : ts ≡ map Some symbols
   pub waits : WaitsBefore symbol p symbols

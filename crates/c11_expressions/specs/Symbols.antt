@@ -10,6 +10,7 @@ use Rattle.c11_expressions.specs.Grammar.{Symbol, operand, mark}
 use Rattle.sc_model.specs.Bytes.{same_bytes}
 use Rattle.sc_model.specs.declared.kind.Kind.{Kind}
 use Rattle.sc_model.specs.declared.kind.Kind.TheVariants as kind
+use Rattle.sc_model.specs.declared.standard.Standard.{Standard}
 
 abbrev pub punctuators : List (List ℕ × Punctuator)
 punctuators =
@@ -44,9 +45,9 @@ named [] text = None
 named (p ∷ ps) text = if same_bytes text p.0 then Some p.1 else named ps text
 
 -- an identifier is 0, also where it is a keyword
-abbrev pub symbol_of : Kind → List ℕ → Option Symbol
-symbol_of kind.Number text = option_map operand (integer_value text)
-symbol_of kind.Character text = option_map operand (character_value text)
-symbol_of kind.Identifier text = Some (operand (typed false (pos 0)))
-symbol_of kind.Punctuator text = option_map mark (named punctuators text)
-symbol_of _ text = None
+abbrev pub symbol_of : Standard → Kind → List ℕ → Option Symbol
+symbol_of standard kind.Number text = option_map operand (integer_value standard text)
+symbol_of standard kind.Character text = option_map operand (character_value text)
+symbol_of standard kind.Identifier text = Some (operand (typed false (pos 0)))
+symbol_of standard kind.Punctuator text = option_map mark (named punctuators text)
+symbol_of standard _ text = None

@@ -1,13 +1,11 @@
 //! The expression of `#if` (C11 6.10.1, 6.5, 6.6), as definitions.
 #![tactic(auto)]
 
-mod base;
 mod binary;
 mod laws;
 mod punctuator;
 mod unary;
 
-pub use base::Base;
 pub use binary::Binary;
 pub use laws::{
     expressions_have_parts, lines_have_an_answer, lines_have_one_answer, symbols_have_one_outcome,

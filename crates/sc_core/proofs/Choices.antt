@@ -7,7 +7,7 @@ use Rattle.sc_core.proofs.TreeTelling.{result-at, shown-faults}
 use Rattle.sc_core.specs.declared.output.Output.{Output}
 use Rattle.sc_core.specs.declared.tree_texts.ParsedFile.{ParsedFile}
 use Rattle.sc_core.specs.Ordinary.{Setting}
-use Rattle.sc_core.specs.Outcome.{IsParseText, shown_result}
+use Rattle.sc_core.specs.CommandTexts.{IsParseText, shown_result}
 use Rattle.sc_core.specs.Texts.{CanShowTree, HasAnswers, seen_by}
 use Rattle.sc_fork.specs.Choices.{AreSound}
 use Rattle.sc_guarded.specs.Items.{seen_fault}

@@ -17,6 +17,7 @@ use Rattle.sc_model.specs.Sets.{IsConfig}
 use Rattle.sc_model.specs.Space.{IsListed, Space, arities_of}
 use Rattle.sc_prep.specs.Footprints.{StopsAmong}
 use Rattle.sc_prep.specs.Preprocesses.{Stops}
+use Rattle.sc_model.specs.declared.standard.Standard.TheVariants.{C11}
 
 -- ---- whether a list is a configuration
 
@@ -76,7 +77,7 @@ class-configs space input listed has =
 
 -- a parser, where none was made
 pub any-parser : Parser
-any-parser = c11_parser (record { states = []; action = λ state symbol. None; goto = λ state symbol. None; conflicts = [] })
+any-parser = c11_parser C11 (record { states = []; action = λ state symbol. None; goto = λ state symbol. None; conflicts = [] })
 
 pub stops-before : (fills : Setting → Type 0) → ((s : Setting) → HasManyFootprints s → fills s) → (arities : List ℕ) (space : Space) (main : List ℕ) (holds : Option Files) (before after : ℕ) → arities ≡ arities_of space
     → (stop : Stop) → Stops arities space.branches before after stop → ((outside : Files) → holds ≡ Some outside → StopsAmong (IsListed space) (Has space outside main) space.branches stop)

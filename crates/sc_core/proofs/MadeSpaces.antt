@@ -1,11 +1,11 @@
 -- The space of a file that is made.
-use Rattle.std.proofs.Common.{◌≡◌, ◌<◌, ◌≤◌, ◌^◌, ◌&&◌, ℕ, zero, suc, Bool, true, false, not, List, [], ◌∷◌, All, length, map, slice_get, slice_index, Option, Some, None, inl, inr, refl, ap, sym, ◌∙◌, arith, codes}
+use Rattle.std.proofs.Common.{◌≡◌, ◌<◌, ◌&&◌, ℕ, zero, suc, Bool, true, not, List, [], ◌∷◌, All, length, map, slice_get, slice_index, Some, inl, inr, refl, arith, codes}
 use Rattle.std.specs.Prelude.{AllPairs}
 use Rattle.std.proofs.lemmas.Bool.{and_parts, cases_order, not-true}
 use Rattle.std.proofs.lemmas.Cmp.{nat_list_cmp_total, tied_itself}
 use Rattle.std.proofs.lemmas.List.Elements.{All-cons, All-nil}
 use Rattle.std.proofs.lemmas.List.Kept.{AllPairs-cons}
-use Rattle.std.proofs.lemmas.Option.{get_or_from_slice_get, same_Some, slice_get_within}
+use Rattle.std.proofs.lemmas.Option.{get_or_from_slice_get, slice_get_within}
 use Rattle.std.specs.Cmp.Lexicographic.{slice_cmp}
 use Rattle.std.specs.List.{list_all, list_any}
 use Rattle.std.specs.Ordering.{is_lt, nat_cmp}
@@ -16,10 +16,10 @@ use Rattle.c11_tokens.specs.Lex.{is_identifier}
 use Rattle.sc_core.specs.Made.{made_space, made_variable}
 use Rattle.sc_model.specs.Bytes.{same_bytes}
 use Rattle.sc_model.specs.Growth.{IsOneToOne}
-use Rattle.sc_model.specs.Space.{Variable, VariableOption, arities_of, number, undefined}
+use Rattle.sc_model.specs.Space.{VariableOption, arities_of, number, undefined}
 use Rattle.sc_space.specs.Settings.{is_directory}
 use Rattle.sc_space.specs.SpaceFile.{is_ascii_identifier, is_protected}
-use Rattle.sc_space.specs.Sound.{IsBefore, IsInRange, IsSound, IsSoundVariable, names_of}
+use Rattle.sc_space.specs.Sound.{IsBefore, IsInRange, IsSound, IsSoundVariable}
 use Rattle.sc_text.specs.Text.{is_word}
 
 -- ---- the names

@@ -54,19 +54,20 @@ use Rattle.sc_prep.specs.Printable.{CanBeShown}
 use Rattle.sc_show.specs.TreeShows.{AreShowableLeaves, IsShowableLeaf}
 use Rattle.sc_tree.specs.Lines.{Line}
 use Rattle.sc_tree.specs.Reads.{Tables}
+use Rattle.sc_model.specs.declared.standard.Standard.{Standard}
 
 -- ---- the list as it is parsed
 
-pub c11-parser : {tables : code.Tables} → HasC11Tables tables → Parser
-c11-parser {tables} are = c11_parser (tables_of are.states tables)
+pub c11-parser : Standard → {tables : code.Tables} → HasC11Tables tables → Parser
+c11-parser standard {tables} are = c11_parser standard (tables_of are.states tables)
 
-pub c11-is : {tables : code.Tables} (are : HasC11Tables tables) → IsC11Parser (c11-parser are)
+pub c11-is : (standard : Standard) {tables : code.Tables} (are : HasC11Tables tables) → IsC11Parser standard (c11-parser standard are)
 unfolding c11-parser
-c11-is {tables} are = record { tables = tables_of are.states tables; are_tables = are.are; is = refl }
+c11-is standard {tables} are = record { tables = tables_of are.states tables; are_tables = are.are; is = refl }
 
-pub c11-conflicts : {tables : code.Tables} (are : HasC11Tables tables) → (c11-parser are).tables.conflicts ≡ conflicts_of tables
+pub c11-conflicts : (standard : Standard) {tables : code.Tables} (are : HasC11Tables tables) → (c11-parser standard are).tables.conflicts ≡ conflicts_of tables
 unfolding c11-parser
-c11-conflicts are = refl
+c11-conflicts standard are = refl
 
 abbrev pub item_seen : Sets → (names files : List (List ℕ)) → Cond × Token → Condition × plain.Token
 item_seen s names files item = (s.has item.0.0, seen names files item.1)
@@ -105,16 +106,16 @@ empty-is (fault ∷ faults) is = absurd (false≢true is)
 
 -- ---- after preprocessing
 
-module _ (s : Sets) (names files : List (List ℕ)) (p : Prepared) (tables : code.Tables) (are : HasC11Tables tables) (shown : CanBeShown s names files p) where
+module _ (s : Sets) (names files : List (List ℕ)) (p : Prepared) (tables : code.Tables) (standard : Standard) (are : HasC11Tables tables) (shown : CanBeShown s names files p) where
   abbrev pub input : Input
-  input = file_input s names files (c11-parser are) p (s.has p.live.0)
+  input = file_input s names files (c11-parser standard are) p (s.has p.live.0)
 
   -- live under listed configurations alone
   abbrev pub listed_input : Input
-  listed_input = file_input s names files (c11-parser are) p (λ c. is_config s.arities c && s.has p.live.0 c)
+  listed_input = file_input s names files (c11-parser standard are) p (λ c. is_config s.arities c && s.has p.live.0 c)
 
   input-under : (live : Condition) → ((c : List ℕ) → IsConfig s.arities c → live c ≡ s.has p.live.0 c) → (lines : List Line)
-      → IsInputOf (tables_with s lines names files) p.list tables p.end p.live (file_input s names files (c11-parser are) p live)
+      → IsInputOf (tables_with s lines names files) p.list tables standard p.end p.live (file_input s names files (c11-parser standard are) p live)
   unfolding c11-parser
   input-under live has lines = record {
     states = are.states;
@@ -127,7 +128,7 @@ module _ (s : Sets) (names files : List (List ℕ)) (p : Prepared) (tables : cod
     files = All-weaker (IsShowable s names files) (λ (item : Cond × Token). item.1.place.file.0 < length files) (λ item is. is.file) p.list shown.list;
   }
 
-  pub is-input : (lines : List Line) → IsInputOf (tables_with s lines names files) p.list tables p.end p.live input
+  pub is-input : (lines : List Line) → IsInputOf (tables_with s lines names files) p.list tables standard p.end p.live input
   is-input = input-under (s.has p.live.0) (λ c listed. refl)
 
   listed-live : (c : List ℕ) → IsConfig s.arities c → listed_input.live c ≡ s.has p.live.0 c
@@ -136,7 +137,7 @@ module _ (s : Sets) (names files : List (List ℕ)) (p : Prepared) (tables : cod
   live-listed : (space : Space) → s.arities ≡ arities_of space → (c : List ℕ) → listed_input.live c ≡ true → IsListed space c
   live-listed space arities c live = subst (λ ns. IsConfig ns c) arities (is-config s.arities c (and_parts (is_config s.arities c) (s.has p.live.0 c) live).0)
 
-  pub is-listed-input : (lines : List Line) → IsInputOf (tables_with s lines names files) p.list tables p.end p.live listed_input
+  pub is-listed-input : (lines : List Line) → IsInputOf (tables_with s lines names files) p.list tables standard p.end p.live listed_input
   is-listed-input = input-under listed_input.live listed-live
 
   -- what is parsed where preprocessing accepts the file, by what it gives there
@@ -144,7 +145,7 @@ module _ (s : Sets) (names files : List (List ℕ)) (p : Prepared) (tables : cod
       (ordinary : (config : List ℕ) → IsConfig s.arities config → IsOrdinary s names files p (Pre space outside main config) config)
       (ends : (bytes : List ℕ) → outside main ≡ Some bytes → (config : List ℕ) → IsConfig s.arities config → s.has p.live.0 config ≡ true → seen_place files p.end ≡ end_of_file main bytes) where
     abbrev setting : Setting
-    setting = setting_of space main (c11-parser are) outside
+    setting = setting_of space main (c11-parser standard are) outside
 
     prepared-tokens : (config : List ℕ) (o : Result (List plain.Token) Fault) (ts : List plain.Token) → o ≡ Ok ts
         → prep.Stands o (map (seen names files) (items_at s p.list config)) (map (seen_fault files) (faults_at s p.faults.items config)) → project config listed_input.items ≡ ts
@@ -176,31 +177,31 @@ module _ (s : Sets) (names files : List (List ℕ)) (p : Prepared) (tables : cod
     }
 
   -- why there is no tree of a file that was preprocessed
-  pub stops-in : (space : Space) (main : List ℕ) (holds : Option Files) (before after : ℕ) → s.arities ≡ arities_of space
-      → ((outside : Files) → holds ≡ Some outside → IsFileInput (setting_of space main (c11-parser are) outside) listed_input) → (stop : Stop) → StopsFor listed_input space.branches stop
+  pub stops-in : (space : Space) → standard ≡ space.standard → (main : List ℕ) (holds : Option Files) (before after : ℕ) → s.arities ≡ arities_of space
+      → ((outside : Files) → holds ≡ Some outside → IsFileInput (setting_of space main (c11-parser standard are) outside) listed_input) → (stop : Stop) → StopsFor listed_input space.branches stop
       → StopsIn (λ s. HasManyBranches s) holds before after space main stop
-  stops-in space main holds before after arities is (BranchesFull count) stops = (
+  stops-in space same main holds before after arities is (BranchesFull count) stops = (
     stops.0,
     record {
       configs = class-configs space listed_input (live-listed space arities) stops.1;
-      parser = c11-parser are;
-      why = λ files told. inr (record { c11 = c11-is are; input = listed_input; is_input = is files told; more = stops.1 });
+      parser = c11-parser standard are;
+      why = λ files told. inr (record { c11 = subst (λ other. IsC11Parser other (c11-parser standard are)) same (c11-is standard are); input = listed_input; is_input = is files told; more = stops.1 });
     },
   )
-  stops-in space main holds before after arities is ReadFault stops = absurd stops
-  stops-in space main holds before after arities is OutOfMemory stops = tt
+  stops-in space same main holds before after arities is ReadFault stops = absurd stops
+  stops-in space same main holds before after arities is OutOfMemory stops = tt
 
 -- ---- after parsing
 
-module _ (s new : Sets) (keeps : Keeps s new) (names files : List (List ℕ)) (p : Prepared) (tables : code.Tables) (are : HasC11Tables tables) (shown : CanBeShown s names files p) (owns : OwnsList s p)
+module _ (s new : Sets) (keeps : Keeps s new) (names files : List (List ℕ)) (p : Prepared) (tables : code.Tables) (standard : Standard) (are : HasC11Tables tables) (shown : CanBeShown s names files p) (owns : OwnsList s p)
     (lines : List Line) (result : Parsed) (events : List Event)
-    (parse : IsParse (tables_with new lines names files) (input s names files p tables are shown) result) (schedule : IsSchedule (input s names files p tables are shown) events) where
+    (parse : IsParse (tables_with new lines names files) (input s names files p tables standard are shown) result) (schedule : IsSchedule (input s names files p tables standard are shown) events) where
   abbrev all_faults : List base.Fault
   all_faults = p.faults.items ++ result.faults.items
 
   -- a live configuration has an answer
   answer-at : (c : List ℕ) → IsConfig s.arities c → s.has p.live.0 c ≡ true
-      → (answer : Result Tree Fault) × LR (c11-parser are) (seen_place files p.end) (project c (map (item_seen s names files) p.list)) answer
+      → (answer : Result Tree Fault) × LR (c11-parser standard are) (seen_place files p.end) (project c (map (item_seen s names files) p.list)) answer
   answer-at c listed live = let is = schedule.answers c listed live in (is.ended.answer c, is.answer)
 
   faults-after : (c : List ℕ) → IsConfig s.arities c → faults_at new all_faults c ≡ faults_at s p.faults.items c ++ faults_at new result.faults.items c
@@ -212,7 +213,7 @@ module _ (s new : Sets) (keeps : Keeps s new) (names files : List (List ℕ)) (p
 
   -- a live configuration has what parsing answers, each other one the faults of preprocessing
   stands-live : (c : List ℕ) → IsConfig s.arities c → s.has p.live.0 c ≡ true → faults_at s p.faults.items c ≡ [] → (answer : Result Tree Fault)
-      → LR (c11-parser are) (seen_place files p.end) (project c (map (item_seen s names files) p.list)) answer → Stands (tables_with new lines names files) result.root all_faults c answer
+      → LR (c11-parser standard are) (seen_place files p.end) (project c (map (item_seen s names files) p.list)) answer → Stands (tables_with new lines names files) result.root all_faults c answer
   stands-live c listed live none (Ok tree) lr = (
     faults-after c listed ∙ ap (λ faults. faults ++ faults_at new result.faults.items c) none ∙ no-faults files (faults_at new result.faults.items c) (parse.faults c (Ok tree) listed live lr),
     parse.trees c tree (record { is_config = listed; live = live; answer = lr }),
@@ -252,14 +253,14 @@ module _ (s new : Sets) (keeps : Keeps s new) (names files : List (List ℕ)) (p
       (ordinary : (config : List ℕ) → IsConfig s.arities config → IsOrdinary s names files p (Pre space outside main config) config)
       (ends : (bytes : List ℕ) → outside main ≡ Some bytes → (config : List ℕ) → IsConfig s.arities config → s.has p.live.0 config ≡ true → seen_place files p.end ≡ end_of_file main bytes) where
     abbrev parsed_setting : Setting
-    parsed_setting = setting_of space main (c11-parser are) outside
+    parsed_setting = setting_of space main (c11-parser standard are) outside
 
     abbrev There : List ℕ → Type 0
     There config = IsTranslated parsed_setting (tables_with new lines names files) result.root all_faults config
 
     parsed-as : (config : List ℕ) → IsConfig s.arities config → s.has p.live.0 config ≡ true → faults_at s p.faults.items config ≡ [] → (answer : Result Tree Fault)
         → Translates parsed_setting config answer
-        → LR (c11-parser are) (seen_place files p.end) (project config (map (item_seen s names files) p.list)) answer → There config
+        → LR (c11-parser standard are) (seen_place files p.end) (project config (map (item_seen s names files) p.list)) answer → There config
     parsed-as config listed live none answer translated lr = record { ordinary = answer; translated = translated; stands = stands-live config listed live none answer lr }
 
     translated-by : (config : List ℕ) → IsConfig s.arities config → (o : Result (List plain.Token) Fault) → Pre space outside main config o
@@ -268,8 +269,8 @@ module _ (s new : Sets) (keeps : Keeps s new) (names files : List (List ℕ)) (p
         let answer = answer-at config listed live in
         let held = held-main pre in
         let tokens = project-items s names files config p.list ∙ stands.0 in
-        let lr = subst (λ (place : plain.Place). LR (c11-parser are) place ts answer.0) (ends held.0 held.1 config listed live)
-        (subst (λ (us : List plain.Token). LR (c11-parser are) (seen_place files p.end) us answer.0) tokens answer.1) in
+        let lr = subst (λ (place : plain.Place). LR (c11-parser standard are) place ts answer.0) (ends held.0 held.1 config listed live)
+        (subst (λ (us : List plain.Token). LR (c11-parser standard are) (seen_place files p.end) us answer.0) tokens answer.1) in
         parsed-as config listed live (no-faults files (faults_at s p.faults.items config) stands.1) answer.0 (parsed ts held.0 answer.0 pre held.1 lr) answer.1
     translated-by config listed (Err fault) pre stands live =
         record { ordinary = Err fault; translated = not_prepared fault pre; stands = ap (map (seen_fault files)) (faults-before config listed live) ∙ stands }

@@ -12,7 +12,7 @@ use Rattle.sc_core.proofs.TreeTelling.{answer-told, result-at, root-numbered, sh
 use Rattle.sc_core.specs.declared.output.Output.{Output}
 use Rattle.sc_core.specs.declared.tree_texts.ParsedFile.{ParsedFile}
 use Rattle.sc_core.specs.Cut.{first_config}
-use Rattle.sc_core.specs.Outcome.{shown_result}
+use Rattle.sc_core.specs.CommandTexts.{shown_result}
 use Rattle.sc_core.specs.Texts.{AreTranslated, CanShowTree, HasAnswers, IsLaid, IsPlain, Stands, TellsPlain, no_tree, seen_by, tree_laid}
 use Rattle.sc_fork.specs.Outcomes.{RootReads, root_reads}
 use Rattle.sc_guarded.specs.Items.{faults_at, seen_fault}

@@ -6,7 +6,7 @@ use Rattle.sc_core.proofs.Cuts.{first-cut, first-listed, one-config, pre-cut}
 use Rattle.sc_core.proofs.Translating.{translates-unique}
 use Rattle.sc_core.specs.Cut.{cut_space, first_config}
 use Rattle.sc_core.specs.Ordinary.{Setting, Translates, not_prepared, parsed}
-use Rattle.sc_core.specs.Outcome.{AcceptsAll, IsProjected, IsTranslation, Tells, shown_result}
+use Rattle.sc_core.specs.CommandTexts.{AcceptsAll, IsProjected, IsTranslation, Tells, shown_result}
 use Rattle.sc_model.specs.Fault.{Fault}
 use Rattle.sc_model.specs.Space.{IsListed}
 use Rattle.sc_text.proofs.TextLaws.{result-unique}

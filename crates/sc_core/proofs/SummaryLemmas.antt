@@ -1,5 +1,5 @@
 -- What the summary of a file tells.
-use Rattle.std.proofs.Common.{◌≡◌, ◌∙◌, ℕ, zero, suc, Bool, true, false, not, List, [], ◌∷◌, All, length, map, slice_get, Option, Some, None, Result, Ok, Err, refl, sym, ap, subst, inl, inr, if◌then◌else◌, arith, nat_lt, slice_index, ◌<◌}
+use Rattle.std.proofs.Common.{◌≡◌, ◌∙◌, ℕ, zero, suc, Bool, true, false, not, List, [], ◌∷◌, length, map, slice_get, Option, Some, None, Result, Ok, Err, refl, sym, ap, subst, inl, inr, if◌then◌else◌, arith, nat_lt, slice_index, ◌<◌}
 use Rattle.std.specs.List.{Contains}
 use Rattle.std.specs.Prelude.{replicate}
 use Rattle.std.proofs.lemmas.Bool.{ltb-true, true≢false}
@@ -18,7 +18,7 @@ use Rattle.sc_core.specs.Cut.{first_config, last_config}
 use Rattle.sc_core.specs.declared.output.Output.{Output}
 use Rattle.sc_core.specs.Made.{made_name, made_space}
 use Rattle.sc_core.specs.Ordinary.{HasClasses, Setting, Translates}
-use Rattle.sc_core.specs.Outcome.{AcceptsAll, HasFaults, HasSizeAt, Tells, size_in}
+use Rattle.sc_core.specs.CommandTexts.{AcceptsAll, HasFaults, HasSizeAt, Tells, size_in}
 use Rattle.sc_core.specs.Texts.{AreTranslated, HasAnswers, IsTranslated, Stands, TellsSummary, lines_of, seen_by, setting_of}
 use Rattle.sc_fork.specs.Outcomes.{RootReads, root_reads}
 use Rattle.sc_guarded.specs.Items.{faults_at, seen_fault}

@@ -11,7 +11,7 @@ use Rattle.sc_base.specs.declared.fault.Fault as base
 use Rattle.sc_core.specs.declared.output.Output.{Output}
 use Rattle.c11_parsing.specs.Parser.{Parser}
 use Rattle.sc_core.specs.Ordinary.{Preprocesses, Setting}
-use Rattle.sc_core.specs.Outcome.{AcceptsAll, IsRightAt, IsTokensText, Tells, shown_answer}
+use Rattle.sc_core.specs.CommandTexts.{AcceptsAll, IsRightAt, IsTokensText, Tells, shown_answer}
 use Rattle.sc_prep.specs.Preprocesses.{Stands, IsOrdinary, OwnsList}
 use Rattle.sc_core.specs.Texts.{lines_of, setting_of}
 use Rattle.sc_guarded.proofs.ItemLemmas.{items_at-Keeps, faults_at-Keeps, faults_at-never, never-faults_at}

@@ -11,7 +11,7 @@ use Rattle.sc_core.proofs.Translating.{translates-unique}
 use Rattle.sc_core.specs.declared.output.Output.{Output}
 use Rattle.sc_core.specs.declared.tree_texts.ParsedFile.{ParsedFile}
 use Rattle.sc_core.specs.Ordinary.{Setting, Translates}
-use Rattle.sc_core.specs.Outcome.{AcceptsAll, HasNoFault, IsTranslation, shown_result}
+use Rattle.sc_core.specs.CommandTexts.{AcceptsAll, HasNoFault, IsTranslation, shown_result}
 use Rattle.sc_core.specs.Texts.{AreTranslated, CanShowTree, Stands, TellsTree, seen_by, setting_of}
 use Rattle.sc_fork.specs.Outcomes.{RootReads, root_reads}
 use Rattle.sc_guarded.proofs.ItemLemmas.{faults_at-Keeps, faults_at-never, never-faults_at}

@@ -4,6 +4,7 @@ use Rattle.std.specs.Str.{bytes_eq}
 use Rattle.sc_core.specs.declared.made.MadeFile.{MadeFile}
 use Rattle.sc_model.specs.Outside.{Files}
 use Rattle.sc_model.specs.Space.{Space, Variable, number, undefined}
+use Rattle.sc_model.specs.declared.standard.Standard.TheVariants.{C11}
 
 -- the numbers from which the items are chosen
 abbrev pub next : ℕ → ℕ
@@ -71,4 +72,5 @@ made_space = record {
   include_depth = 64;
   date = codes "Jan  1 1970";
   time = codes "00:00:00";
+  standard = C11;
 }

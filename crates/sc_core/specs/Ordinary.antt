@@ -71,14 +71,14 @@ pub record IsFileInput (s : Setting) (input : Input) : Type 0 where
 
 -- at some place of the file, as C11 is parsed, there are more classes than branches
 pub record HasManyClasses (s : Setting) : Type 0 where
-  pub c11 : IsC11Parser s.parser
+  pub c11 : IsC11Parser s.space.standard s.parser
   pub input : Input
   pub is_input : IsFileInput s input
   pub more : HasMoreClasses input s.space.branches
 
 -- a list of the file has at one place, as C11 is parsed, so many classes, and at none more
 pub record HasClasses (s : Setting) (most : ℕ) : Type 0 where
-  pub c11 : IsC11Parser s.parser
+  pub c11 : IsC11Parser s.space.standard s.parser
   pub input : Input
   pub is_input : IsFileInput s input
   pub most_are : HasMostClasses input most

@@ -36,7 +36,8 @@ use Rattle.sc_tree.specs.Walks.{is_choice}
 use Rattle.sc_core.specs.declared.run_error.RunError.{RunError}
 use Rattle.sc_core.specs.declared.run_error.RunError.TheVariants as error
 use Rattle.sc_core.specs.declared.output.Output.{Output}
-use Rattle.sc_core.specs.Outcome.{HasNoFault, HasSpace, HasText, HasTextOf, IsSummaryText, IsTokensText, IsTranslation, MayHold, RefusesSpace, Tells, WhereTold, job_of}
+use Rattle.sc_core.specs.CommandTexts.{HasNoFault, IsSummaryText, IsTokensText, IsTranslation, Tells}
+use Rattle.sc_core.specs.Outcome.{HasSpace, HasText, HasTextOf, MayHold, RefusesSpace, WhereTold, job_of}
 use Rattle.sc_model.specs.Outside.{Files, Rose}
 use Rattle.sc_model.specs.Space.{Space, IsListed}
 use Rattle.sc_show.specs.Pieces.{split_lines_after}
@@ -114,7 +115,7 @@ pub record IsTranslated (s : Setting) (w : Tables) (root : Option TreeId) (fault
 -- each configuration has it, and the file has so many classes, no more than branches
 pub record AreTranslated (holds : Option Files) (space : Space) (main : List ℕ) (w : Tables) (root : Option TreeId) (faults : List base.Fault) (most : ℕ) : Type 0 where
   pub parser : Parser
-  pub c11 : IsC11Parser parser
+  pub c11 : IsC11Parser space.standard parser
   pub files : Files
   pub held : MayHold holds files
   pub each : (config : List ℕ) → IsListed space config → IsTranslated (setting_of space main parser files) w root faults config
@@ -160,7 +161,7 @@ pub record TellsTree (holds : Option Files) (space : Space) (main : List ℕ) (t
   pub text_of : IsTextOf space (lines_of text) answer
   pub verdict : Tells (not text.is_refused) (HasNoFault space answer)
   pub parser : Parser
-  pub c11 : IsC11Parser parser
+  pub c11 : IsC11Parser space.standard parser
   pub files : Files
   pub held : MayHold holds files
   pub right : IsTranslation (setting_of space main parser files) answer (not text.is_refused)

@@ -22,6 +22,7 @@ pub fn cut(alloc: Global, space: Space, config: &[usize]) -> Result<Space, OutOf
         limits: space.limits,
         date: space.date,
         time: space.time,
+        standard: space.standard,
     })
 }
 

@@ -4,6 +4,7 @@ ghost use Rattle.sc_space.specs.Seen.{seen_space, seen_variable};
 ghost use Rattle.sc_core.specs.Made.{call_text, declaration_text, definition_text, function_text, item_text, made_bytes, made_files, made_space, made_variable, next};
 
 use sc_base::{Limits, OutOfMemory};
+use sc_model::Standard;
 use sc_source::{Source, SourceStop};
 use sc_space::{Space, Variable, VariableOption};
 use std::alloc::{AllocError, Global};
@@ -62,6 +63,7 @@ pub fn made_space(alloc: Global) -> Result<Space, OutOfMemory>
         },
         date: String::from_str(alloc, "Jan  1 1970")?,
         time: String::from_str(alloc, "00:00:00")?,
+        standard: Standard::C11,
     })
 }
 

@@ -192,6 +192,7 @@ pub fn parsed<C: Conditions, S: Source>(
         prepared.end,
         &tables,
         space.limits,
+        space.standard,
     )?;
     let mut faults = prepared.faults;
     faults.append(&mut parsed.faults)?;

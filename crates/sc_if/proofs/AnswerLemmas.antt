@@ -1,31 +1,30 @@
 -- Tokens at places, and what a line with them comes to.
-use Rattle.std.proofs.Common.{◌≡◌, ℕ, suc, ◌+◌, ◌∷◌, ◌++◌, ◌&&◌, ◌||◌, not, Bool, true, false, List, [], All, map, slice_get, Option, Some, None, Result, Ok, Err, codes, refl, sym, ap, subst, ◌∙◌, arith, if◌then◌else◌}
+use Rattle.std.proofs.Common.{◌≡◌, ℕ, suc, ◌+◌, ◌∷◌, ◌++◌, ◌&&◌, ◌||◌, not, Bool, true, false, List, [], All, map, slice_get, Option, Some, None, Result, Ok, Err, refl, sym, ap, subst, ◌∙◌, arith, if◌then◌else◌}
 use Rattle.std.proofs.lemmas.List.Elements.{All-cons, All-nil}
 use Rattle.std.proofs.lemmas.Option.{get_or_from_slice_get, slice_get_within}
 use Rattle.std.specs.List.{list_any}
 use Rattle.c11_expressions.proofs.Evaluating.{evaluates_err, evaluates_ok}
 use Rattle.c11_expressions.proofs.Reader.{reading_tokens, result_of_operand, run_tokens, wanting}
 use Rattle.c11_expressions.specs.Arithmetic.{Typed, is_zero}
-use Rattle.c11_expressions.specs.Evaluates.{Evaluates, Spelled}
+use Rattle.c11_expressions.specs.Evaluates.{Evaluates}
 use Rattle.c11_expressions.specs.Lines as lines
 use Rattle.c11_expressions.specs.Lines.{Comes, evaluated, is_defined, left_over}
 use Rattle.c11_expressions.specs.Waiting.{Operand}
 use Rattle.c11_macros.specs.Hidden.{Failure, Hidden}
 use Rattle.c11_macros.specs.Results.{result_map}
 use Rattle.c11_macros.specs.Text.{token_of, unhidden}
-use Rattle.c11_tokens.specs.Lex.{is_identifier_kind}
 use Rattle.sc_base.specs.declared.id.Cond.{Cond}
 use Rattle.sc_base.specs.declared.token.Token.{Token}
 use Rattle.sc_guarded.specs.Items.{items_at}
 use Rattle.sc_hoist.specs.Places.{places_from}
 use Rattle.sc_if.specs.Decided.{IsAnswer, is_left_over, line_of, picked, tokens_at}
 use Rattle.sc_if.specs.Readings.{answer_of, verdict_on}
-use Rattle.sc_if.specs.Symbols.{spelled}
-use Rattle.sc_model.specs.Bytes.{same_bytes}
+use Rattle.sc_if.specs.Symbols.{symbol_at}
 use Rattle.sc_model.specs.declared.cause.Cause.{Cause}
 use Rattle.sc_model.specs.declared.cause.Cause.TheVariants.{BadIf, DefinedFromMacro}
 use Rattle.sc_model.specs.Sets.{Sets}
 use Rattle.sc_model.specs.Token.{Place}
+use Rattle.sc_model.specs.declared.standard.Standard.{Standard}
 
 -- ---- tokens at places
 
@@ -72,60 +71,58 @@ tokens_at-All P list (p ∷ ps) all = by (slice_get list p) refl (tokens_at-All 
 
 -- ---- what a line comes to
 
-module _ (names files : List (List ℕ)) where
+module _ (standard : Standard) (names files : List (List ℕ)) where
   left_over-line : (ts : List Token) → list_any is_defined (line_of names files ts) ≡ list_any (is_left_over names) ts
   left_over-line [] = refl
   left_over-line (t ∷ ts) = ap (λ b. is_left_over names t || b) (left_over-line ts)
 
-  spelled-line : (ts : List Token) → map (spelled names) ts ≡ map lines.spelled (line_of names files ts)
-  spelled-line [] = refl
-  spelled-line (t ∷ ts) = ap (λ l. spelled names t ∷ l) (spelled-line ts)
+  symbols-line : (ts : List Token) → map (symbol_at standard names) ts ≡ map (lines.symbol_at standard) (line_of names files ts)
+  symbols-line [] = refl
+  symbols-line (t ∷ ts) = ap (λ l. symbol_at standard names t ∷ l) (symbols-line ts)
 
-module _ (names : List (List ℕ)) (ts : List Token) where
-  pub answer-left_over : list_any (is_left_over names) ts ≡ true → IsAnswer names ts (Err DefinedFromMacro)
-  answer-left_over is = record { comes = λ files hash. left_over (line_of names files ts) (left_over-line names files ts ∙ is) }
+module _ (standard : Standard) (names : List (List ℕ)) (ts : List Token) where
+  pub answer-left_over : list_any (is_left_over names) ts ≡ true → IsAnswer standard names ts (Err DefinedFromMacro)
+  answer-left_over is = record { comes = λ files hash. left_over (line_of names files ts) (left_over-line standard names files ts ∙ is) }
 
-  pub answer-value : (v : Typed) → list_any (is_left_over names) ts ≡ false → Evaluates (map (spelled names) ts) (Ok v) → IsAnswer names ts (Ok (not (is_zero v.number)))
+  pub answer-value : (v : Typed) → list_any (is_left_over names) ts ≡ false → Evaluates (map (symbol_at standard names) ts) (Ok v) → IsAnswer standard names ts (Ok (not (is_zero v.number)))
   answer-value v is value = record {
-    comes = λ files hash. evaluated (line_of names files ts) (Ok v) (left_over-line names files ts ∙ is) (subst (λ l. Evaluates l (Ok v)) (spelled-line names files ts) value);
+    comes = λ files hash. evaluated (line_of names files ts) (Ok v) (left_over-line standard names files ts ∙ is) (subst (λ l. Evaluates l (Ok v)) (symbols-line standard names files ts) value);
   }
 
-  pub answer-cause : (cause : Cause) → list_any (is_left_over names) ts ≡ false → Evaluates (map (spelled names) ts) (Err cause) → IsAnswer names ts (Err cause)
+  pub answer-cause : (cause : Cause) → list_any (is_left_over names) ts ≡ false → Evaluates (map (symbol_at standard names) ts) (Err cause) → IsAnswer standard names ts (Err cause)
   answer-cause cause is value = record {
-    comes = λ files hash. evaluated (line_of names files ts) (Err cause) (left_over-line names files ts ∙ is) (subst (λ l. Evaluates l (Err cause)) (spelled-line names files ts) value);
+    comes = λ files hash. evaluated (line_of names files ts) (Err cause) (left_over-line standard names files ts ∙ is) (subst (λ l. Evaluates l (Err cause)) (symbols-line standard names files ts) value);
   }
 
 -- and so what was read of it says
-answer-verdict : (names : List (List ℕ)) (ts : List Token) (o : Option Operand) → list_any (is_left_over names) ts ≡ false → reading_tokens (map (spelled names) ts) ≡ o → IsAnswer names ts (verdict_on o)
-answer-verdict names ts None is read = answer-cause names ts BadIf is (evaluates_err (map (spelled names) ts) read)
-answer-verdict names ts (Some x) is read = by (result_of_operand x) (evaluates_ok (map (spelled names) ts) x read)
+answer-verdict : (standard : Standard) (names : List (List ℕ)) (ts : List Token) (o : Option Operand) → list_any (is_left_over names) ts ≡ false → reading_tokens (map (symbol_at standard names) ts) ≡ o → IsAnswer standard names ts (verdict_on o)
+answer-verdict standard names ts None is read = answer-cause standard names ts BadIf is (evaluates_err (map (symbol_at standard names) ts) read)
+answer-verdict standard names ts (Some x) is read = by (result_of_operand x) (evaluates_ok (map (symbol_at standard names) ts) x read)
   where
-    by : (r : Result Typed Cause) → Evaluates (map (spelled names) ts) r → IsAnswer names ts (result_map (λ v. not (is_zero v.number)) r)
-    by (Ok v) value = answer-value names ts v is value
-    by (Err cause) value = answer-cause names ts cause is value
+    by : (r : Result Typed Cause) → Evaluates (map (symbol_at standard names) ts) r → IsAnswer standard names ts (result_map (λ v. not (is_zero v.number)) r)
+    by (Ok v) value = answer-value standard names ts v is value
+    by (Err cause) value = answer-cause standard names ts cause is value
 
-pub answer-read : (names : List (List ℕ)) (ts : List Token) → list_any (is_left_over names) ts ≡ false → IsAnswer names ts (answer_of (run_tokens (wanting []) (map (spelled names) ts)))
-answer-read names ts is = answer-verdict names ts (reading_tokens (map (spelled names) ts)) is refl
+pub answer-read : (standard : Standard) (names : List (List ℕ)) (ts : List Token) → list_any (is_left_over names) ts ≡ false → IsAnswer standard names ts (answer_of (run_tokens (wanting []) (map (symbol_at standard names) ts)))
+answer-read standard names ts is = answer-verdict standard names ts (reading_tokens (map (symbol_at standard names) ts)) is refl
 
 -- ---- only kinds and spellings tell
 
-is_defined_in : Spelled → Bool
-is_defined_in t = is_identifier_kind t.kind && same_bytes t.spelling (codes "defined")
+defined-tokens : (ts : List (Hidden Place)) → list_any is_defined ts ≡ list_any is_defined (map unhidden (map token_of ts))
+defined-tokens [] = refl
+defined-tokens (t ∷ ts) = ap (λ b. is_defined t || b) (defined-tokens ts)
 
-any-defined : {P : Type 0} (ts : List (Hidden P)) → list_any is_defined ts ≡ list_any is_defined_in (map lines.spelled ts)
-unfolding is_defined_in
-any-defined [] = refl
-any-defined (t ∷ ts) = ap (λ b. is_defined t || b) (any-defined ts)
+module _ (standard : Standard) where
+  -- tokens of the same symbols come to the same, if `defined` is left over in both or in neither
+  pub comes-same : {P : Type 0} (hash : P) (ts us : List (Hidden P)) (r : Result Bool (Failure P)) → list_any is_defined us ≡ list_any is_defined ts
+      → map (lines.symbol_at standard) ts ≡ map (lines.symbol_at standard) us → Comes standard hash (Ok ts) r → Comes standard hash (Ok us) r
+  comes-same hash ts us _ both same (left_over _ is) = left_over us (both ∙ is)
+  comes-same hash ts us _ both same (evaluated _ r is value) = evaluated us r (both ∙ is) (subst (λ l. Evaluates l r) same value)
 
--- tokens of the same kinds and spellings come to the same
-pub comes-same : {P : Type 0} (hash : P) (ts us : List (Hidden P)) (r : Result Bool (Failure P)) → map lines.spelled ts ≡ map lines.spelled us → Comes hash (Ok ts) r → Comes hash (Ok us) r
-comes-same hash ts us _ same (left_over _ is) = left_over us (any-defined us ∙ (ap (list_any is_defined_in) (sym same) ∙ (sym (any-defined ts) ∙ is)))
-comes-same hash ts us _ same (evaluated _ r is value) = evaluated us r (any-defined us ∙ (ap (list_any is_defined_in) (sym same) ∙ (sym (any-defined ts) ∙ is))) (subst (λ l. Evaluates l r) same value)
+  symbols-tokens : (ts : List (Hidden Place)) → map (lines.symbol_at standard) (map unhidden (map token_of ts)) ≡ map (lines.symbol_at standard) ts
+  symbols-tokens [] = refl
+  symbols-tokens (t ∷ ts) = ap (λ l. lines.symbol_at standard t ∷ l) (symbols-tokens ts)
 
-spelled-tokens : (ts : List (Hidden Place)) → map lines.spelled (map unhidden (map token_of ts)) ≡ map lines.spelled ts
-spelled-tokens [] = refl
-spelled-tokens (t ∷ ts) = ap (λ l. lines.spelled t ∷ l) (spelled-tokens ts)
-
--- so what an expansion leaves comes to what its tokens come to
-pub comes-expanded : (hash : Place) (ts : List (Hidden Place)) (r : Result Bool (Failure Place)) → Comes hash (Ok (map unhidden (map token_of ts))) r → Comes hash (Ok ts) r
-comes-expanded hash ts r = comes-same hash (map unhidden (map token_of ts)) ts r (spelled-tokens ts)
+  -- so what an expansion leaves comes to what its tokens come to
+  pub comes-expanded : (hash : Place) (ts : List (Hidden Place)) (r : Result Bool (Failure Place)) → Comes standard hash (Ok (map unhidden (map token_of ts))) r → Comes standard hash (Ok ts) r
+  comes-expanded hash ts r = comes-same hash (map unhidden (map token_of ts)) ts r (defined-tokens ts) (symbols-tokens ts)

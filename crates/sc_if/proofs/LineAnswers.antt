@@ -18,11 +18,12 @@ use Rattle.sc_if.proofs.ReadingLemmas.{items-alike}
 use Rattle.sc_if.specs.Decided.{AreAnswers, IsAnswered, is_left_over}
 use Rattle.sc_if.specs.Parts.{RefusesAt}
 use Rattle.sc_if.specs.Readings.{AreReadings, answer_of, read_at, readings_at, seen_reading}
-use Rattle.sc_if.specs.Symbols.{spelled}
+use Rattle.sc_if.specs.Symbols.{symbol_at}
 use Rattle.sc_model.proofs.SetLemmas.{IsConfig-Keeps, IsConfig-kept}
 use Rattle.sc_model.specs.declared.cause.Cause.{Cause}
 use Rattle.sc_model.specs.declared.cause.Cause.TheVariants.{DefinedFromMacro}
 use Rattle.sc_model.specs.Sets.{Sets, IsCond, IsConfig, IsNever, Keeps}
+use Rattle.sc_model.specs.declared.standard.Standard.{Standard}
 
 abbrev pub Answer : Type 0
 Answer = Cond × Result Bool Cause
@@ -48,19 +49,19 @@ one b x = if b then x ∷ [] else []
 abbrev has_left : Sets → List (List ℕ) → List (Cond × Token) → List ℕ → Bool
 has_left s names list c = list_any (is_left_over names) (items_at s list c)
 
-abbrev answer_at : Sets → List (List ℕ) → List (Cond × Token) → List ℕ → Result Bool Cause
-answer_at s names list c = answer_of (run_tokens (wanting []) (map (spelled names) (items_at s list c)))
+abbrev answer_at : Standard → Sets → List (List ℕ) → List (Cond × Token) → List ℕ → Result Bool Cause
+answer_at standard s names list c = answer_of (run_tokens (wanting []) (map (symbol_at standard names) (items_at s list c)))
 
-module _ {old mid new : Sets} {names : List (List ℕ)} {list : List (Cond × Token)} {rest : ℕ} {readings : List Entry} (live : ℕ) (found : Cond) (keeps : Keeps old mid) (later : Keeps mid new) (own : All (λ (x : Cond × Token). IsCond old x.0.0) list) (found_own : IsCond new found.0)
+module _ {standard : Standard} {old mid new : Sets} {names : List (List ℕ)} {list : List (Cond × Token)} {rest : ℕ} {readings : List Entry} (live : ℕ) (found : Cond) (keeps : Keeps old mid) (later : Keeps mid new) (own : All (λ (x : Cond × Token). IsCond old x.0.0) list) (found_own : IsCond new found.0)
     (is_found : (c : List ℕ) → IsConfig old.arities c → new.has found.0 c ≡ (old.has live c && list_any (is_left_over names) (items_at old list c)))
     (is_rest : (c : List ℕ) → IsConfig old.arities c → mid.has rest c ≡ (old.has live c && not (list_any (is_left_over names) (items_at old list c))))
-    (read : AreReadings mid new names list rest readings) where
-  at : (c : List ℕ) → IsConfig old.arities c → items_at new (answers_to readings) c ≡ one (old.has live c && not (has_left old names list c)) (answer_of (run_tokens (wanting []) (map (spelled names) (items_at old list c))))
+    (read : AreReadings standard mid new names list rest readings) where
+  at : (c : List ℕ) → IsConfig old.arities c → items_at new (answers_to readings) c ≡ one (old.has live c && not (has_left old names list c)) (answer_of (run_tokens (wanting []) (map (symbol_at standard names) (items_at old list c))))
   at c listed =
       let here = IsConfig-Keeps keeps listed in
       let same = items_at-Keeps list c keeps own listed in
-      answers-at new readings c ∙ (ap (map answer_of) (read.at c here) ∙ (by (mid.has rest c) (read_at mid names list c)
-      ∙ (ap (λ b. one b (answer_of (read_at mid names list c))) (is_rest c listed) ∙ ap (λ ts. one (old.has live c && not (has_left old names list c)) (answer_of (run_tokens (wanting []) (map (spelled names) ts)))) same)))
+      answers-at new readings c ∙ (ap (map answer_of) (read.at c here) ∙ (by (mid.has rest c) (read_at standard mid names list c)
+      ∙ (ap (λ b. one b (answer_of (read_at standard mid names list c))) (is_rest c listed) ∙ ap (λ ts. one (old.has live c && not (has_left old names list c)) (answer_of (run_tokens (wanting []) (map (symbol_at standard names) ts)))) same)))
     where
       by : (b : Bool) (o : Option State) → map answer_of (one b o) ≡ one b (answer_of o)
       by true o = refl
@@ -77,17 +78,17 @@ module _ {old mid new : Sets} {names : List (List ℕ)} {list : List (Cond × To
       (read.alike a b (IsConfig-Keeps keeps la) (IsConfig-Keeps keeps lb) (same-rest a b la lb same all) (alike-Keeps keeps list a b own la lb all))
 
   -- where a `defined` is left over in none
-  pub answers-none : IsNever new found.0 → AreAnswers old new names list live (answers_to readings)
+  pub answers-none : IsNever new found.0 → AreAnswers standard old new names list live (answers_to readings)
   answers-none never = record {
     own = All-map (λ (x : Answer). IsCond new x.0.0) (λ (x : Entry). (x.0, answer_of (seen_reading x.1))) readings read.own;
     each = λ c listed has.
         let none = no-left (old.has live c) (has_left old names list c) has (sym (is_found c listed) ∙ never.none c (IsConfig-Keeps later (IsConfig-Keeps keeps listed))) in
         record {
-          answer = answer_of (run_tokens (wanting []) (map (spelled names) (items_at old list c)));
-          answers = answer-read names (items_at old list c) none;
-          is = at c listed ∙ (λ j. one (has j && not (none j)) (answer_of (run_tokens (wanting []) (map (spelled names) (items_at old list c)))));
+          answer = answer_of (run_tokens (wanting []) (map (symbol_at standard names) (items_at old list c)));
+          answers = answer-read standard names (items_at old list c) none;
+          is = at c listed ∙ (λ j. one (has j && not (none j)) (answer_of (run_tokens (wanting []) (map (symbol_at standard names) (items_at old list c)))));
         };
-    others = λ c listed has. at c listed ∙ ap (λ b. one (b && not (has_left old names list c)) (answer_of (run_tokens (wanting []) (map (spelled names) (items_at old list c))))) has;
+    others = λ c listed has. at c listed ∙ ap (λ b. one (b && not (has_left old names list c)) (answer_of (run_tokens (wanting []) (map (symbol_at standard names) (items_at old list c))))) has;
     alike = alike-answers;
   }
     where
@@ -96,26 +97,26 @@ module _ {old mid new : Sets} {names : List (List ℕ)} {list : List (Cond × To
       no-left false a t e = absurd (cc)
 
   -- and where it is in some
-  pub answers-some : AreAnswers old new names list live (answers_to readings ++ (found, Err DefinedFromMacro) ∷ [])
+  pub answers-some : AreAnswers standard old new names list live (answers_to readings ++ (found, Err DefinedFromMacro) ∷ [])
   answers-some = record {
     own = All-push (λ (x : Answer). IsCond new x.0.0) (answers_to readings) (found, Err DefinedFromMacro)
         (All-map (λ (x : Answer). IsCond new x.0.0) (λ (x : Entry). (x.0, answer_of (seen_reading x.1))) readings read.own) found_own;
     each = λ c listed has. by c (old.has live c) (has_left old names list c) has refl (all c listed);
-    others = λ c listed has. all c listed ∙ ap (λ b. one (b && not (has_left old names list c)) (answer_at old names list c) ++ one (b && has_left old names list c) (Err DefinedFromMacro)) has;
+    others = λ c listed has. all c listed ∙ ap (λ b. one (b && not (has_left old names list c)) (answer_at standard old names list c) ++ one (b && has_left old names list c) (Err DefinedFromMacro)) has;
     alike = λ a b la lb same items.
         All-push (λ (x : Answer). IsAlike new a b x.0) (answers_to readings) (found, Err DefinedFromMacro) (alike-answers a b la lb same items)
         (is_found a la ∙ ((λ j. same j && list_any (is_left_over names) (items-alike old a b list items j)) ∙ sym (is_found b lb)));
   }
     where
-      all : (c : List ℕ) → IsConfig old.arities c → items_at new (answers_to readings ++ (found, Err DefinedFromMacro) ∷ []) c ≡ one (old.has live c && not (has_left old names list c)) (answer_at old names list c) ++ one (old.has live c && has_left old names list c) (Err DefinedFromMacro)
+      all : (c : List ℕ) → IsConfig old.arities c → items_at new (answers_to readings ++ (found, Err DefinedFromMacro) ∷ []) c ≡ one (old.has live c && not (has_left old names list c)) (answer_at standard old names list c) ++ one (old.has live c && has_left old names list c) (Err DefinedFromMacro)
       all c listed =
           items_at-append new (answers_to readings) ((found, Err DefinedFromMacro) ∷ []) c
-          ∙ (ap (λ l. l ++ items_at new ((found, Err DefinedFromMacro) ∷ []) c) (at c listed) ∙ ap (λ b. one (old.has live c && not (has_left old names list c)) (answer_at old names list c) ++ one b (Err DefinedFromMacro)) (is_found c listed))
+          ∙ (ap (λ l. l ++ items_at new ((found, Err DefinedFromMacro) ∷ []) c) (at c listed) ∙ ap (λ b. one (old.has live c && not (has_left old names list c)) (answer_at standard old names list c) ++ one b (Err DefinedFromMacro)) (is_found c listed))
 
-      by : (c : List ℕ) (t a : Bool) → t ≡ true → list_any (is_left_over names) (items_at old list c) ≡ a → items_at new (answers_to readings ++ (found, Err DefinedFromMacro) ∷ []) c ≡ one (t && not a) (answer_at old names list c) ++ one (t && a) (Err DefinedFromMacro)
-          → IsAnswered names (items_at old list c) (items_at new (answers_to readings ++ (found, Err DefinedFromMacro) ∷ []) c)
-      by c true true has is e = record { answer = Err DefinedFromMacro; answers = answer-left_over names (items_at old list c) is; is = e }
-      by c true false has is e = record { answer = answer_of (run_tokens (wanting []) (map (spelled names) (items_at old list c))); answers = answer-read names (items_at old list c) is; is = e }
+      by : (c : List ℕ) (t a : Bool) → t ≡ true → list_any (is_left_over names) (items_at old list c) ≡ a → items_at new (answers_to readings ++ (found, Err DefinedFromMacro) ∷ []) c ≡ one (t && not a) (answer_at standard old names list c) ++ one (t && a) (Err DefinedFromMacro)
+          → IsAnswered standard names (items_at old list c) (items_at new (answers_to readings ++ (found, Err DefinedFromMacro) ∷ []) c)
+      by c true true has is e = record { answer = Err DefinedFromMacro; answers = answer-left_over standard names (items_at old list c) is; is = e }
+      by c true false has is e = record { answer = answer_of (run_tokens (wanting []) (map (symbol_at standard names) (items_at old list c))); answers = answer-read standard names (items_at old list c) is; is = e }
       by c false a has is e = absurd (cc)
 
 -- ---- a `defined` that is left over
@@ -153,9 +154,9 @@ left-more names s list i x c live was within is e =
 -- ---- why there are too many
 
 -- so it was of a condition that has all of them, in an earlier state of the store
-pub refuses-before : {old mid : Sets} (names : List (List ℕ)) (list : List (Cond × Token)) (live rest : List ℕ → Bool) (limit : ℕ) → Keeps old mid → All (λ (x : Cond × Token). IsCond old x.0.0) list
-    → ((c : List ℕ) → IsConfig old.arities c → rest c ≡ true → live c ≡ true) → (stop : Stop) → RefusesAt mid names list rest limit stop → RefusesAt old names list live limit stop
-refuses-before {old} {mid} names list live rest limit keeps own within (BranchesFull count) refuses =
+pub refuses-before : (standard : Standard) {old mid : Sets} (names : List (List ℕ)) (list : List (Cond × Token)) (live rest : List ℕ → Bool) (limit : ℕ) → Keeps old mid → All (λ (x : Cond × Token). IsCond old x.0.0) list
+    → ((c : List ℕ) → IsConfig old.arities c → rest c ≡ true → live c ≡ true) → (stop : Stop) → RefusesAt standard mid names list rest limit stop → RefusesAt standard old names list live limit stop
+refuses-before standard {old} {mid} names list live rest limit keeps own within (BranchesFull count) refuses =
     let was = refuses.1 in
     let i = was.index in
     let Own : Cond × Token → Type 0 = λ x. IsCond old x.0.0 in
@@ -174,10 +175,10 @@ refuses-before {old} {mid} names list live rest limit keeps own within (Branches
             let p = get_or was.parts k d in
             record {
               has = sym (keeps.at _ _ item_own listed) ∙ (was.each k d h).has;
-              part = subst (λ ts. IsPart (spelled names was.item.1) (map (spelled names) ts) p.1) (items_at-Keeps (take i list) p.0 keeps (All-take Own i list own) listed) (was.each k d h).part;
+              part = subst (λ ts. IsPart (symbol_at standard names was.item.1) (map (symbol_at standard names) ts) p.1) (items_at-Keeps (take i list) p.0 keeps (All-take Own i list own) listed) (was.each k d h).part;
             };
         apart = was.apart;
       },
     )
-refuses-before names list live rest limit keeps own within ReadFault refuses = refuses
-refuses-before names list live rest limit keeps own within OutOfMemory refuses = tt
+refuses-before standard names list live rest limit keeps own within ReadFault refuses = refuses
+refuses-before standard names list live rest limit keeps own within OutOfMemory refuses = tt

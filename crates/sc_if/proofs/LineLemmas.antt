@@ -16,6 +16,7 @@ use Rattle.sc_model.proofs.SetLemmas.{IsConfig-Keeps}
 use Rattle.sc_model.specs.declared.cause.Cause.{Cause}
 use Rattle.sc_model.specs.Fault as model
 use Rattle.sc_model.specs.Sets.{Sets, IsConfig, Keeps}
+use Rattle.sc_model.specs.declared.standard.Standard.{Standard}
 
 -- ---- faults
 
@@ -37,9 +38,9 @@ stand files hash (Err cause) taken fs is failures = (is, seen-faults files fs �
 
 -- ---- the answers of a line
 
-module _ {old mid new : Sets} {names : List (List ℕ)} {list : List (Cond × Token)} {live : ℕ} {answers : List (Cond × Result Bool Cause)} {hash : Place} {d : Decided}
-    (keeps : Keeps old mid) (are : AreAnswers old mid names list live answers) (done : AreDecided mid new hash answers d) where
-  pub line-decided : (files : List (List ℕ)) (c : List ℕ) → IsConfig old.arities c → old.has live c ≡ true → IsDecided old new names files list hash d c
+module _ {standard : Standard} {old mid new : Sets} {names : List (List ℕ)} {list : List (Cond × Token)} {live : ℕ} {answers : List (Cond × Result Bool Cause)} {hash : Place} {d : Decided}
+    (keeps : Keeps old mid) (are : AreAnswers standard old mid names list live answers) (done : AreDecided mid new hash answers d) where
+  pub line-decided : (files : List (List ℕ)) (c : List ℕ) → IsConfig old.arities c → old.has live c ≡ true → IsDecided standard old new names files list hash d c
   line-decided files c listed has =
       let place = seen_place files hash in
       let it = are.each c listed has in

@@ -1,9 +1,10 @@
 -- The numbers that digits stand for.
 use Rattle.std.proofs.Common.{◌≡◌, ℕ, ◌+◌, ◌*◌, ◌<◌, ◌≤◌, Bool, true, false, List, [], ◌∷◌, drop, length, get_or, refl, ap, ◌∙◌, arith}
 use Rattle.std.proofs.lemmas.List.{drop_all, drop_more}
-use Rattle.c11_expressions.specs.Constants.{digit_value, is_digit_in, number_behind, radix}
-use Rattle.c11_expressions.specs.declared.base.Base.{Base}
-use Rattle.c11_expressions.specs.declared.base.Base.TheVariants.{Octal, Decimal, Hexadecimal}
+use Rattle.c11_expressions.specs.Constants.{digit_value, number_behind, radix}
+use Rattle.c11_tokens.specs.Constants.{is_digit_in}
+use Rattle.c11_tokens.specs.declared.base.Base.{Base}
+use Rattle.c11_tokens.specs.declared.base.Base.TheVariants.{Binary, Octal, Decimal, Hexadecimal}
 
 pub behind_end : (base : Base) (n : ℕ) → number_behind base n [] ≡ n
 unfolding number_behind
@@ -18,6 +19,7 @@ unfolding number_behind
 behind_other base n b bs e = rw e refl
 
 more : (base : Base) (n d : ℕ) → n ≤ n * radix base + d
+more Binary n d = omega arith
 more Octal n d = omega arith
 more Decimal n d = omega arith
 more Hexadecimal n d = omega arith

@@ -7,13 +7,11 @@ use Rattle.std.specs.Prelude.{slice_get}
 use Rattle.std.specs.Option.{option_and_then}
 use Rattle.c11_expressions.proofs.PartLemmas.{part-there, read_behind as read_behind_tokens, same-part}
 use Rattle.c11_expressions.proofs.Reader.{State, read_token, run_tokens, wanting}
-use Rattle.c11_expressions.specs.Evaluates.{Spelled}
+use Rattle.c11_expressions.specs.Evaluates.{Symbols}
 use Rattle.c11_expressions.specs.Grammar as grammar
 use Rattle.c11_expressions.specs.Parts.{IsPart, Part}
-use Rattle.c11_expressions.specs.Symbols.{symbol_of}
 use Rattle.sc_base.specs.declared.id.Cond.{Cond}
 use Rattle.sc_base.specs.declared.token.Token.{Token}
-use Rattle.sc_base.specs.Seen.{text_at}
 use Rattle.sc_guarded.proofs.ItemLemmas.{items_at-take, map-one}
 use Rattle.sc_guarded.specs.Items.{items_at}
 use Rattle.sc_hoist.proofs.PartLemmas.{met}
@@ -23,9 +21,10 @@ use Rattle.sc_if.specs.declared.reading.Reading.{Reading}
 use Rattle.sc_if.specs.declared.readings.Readings.{Readings}
 use Rattle.sc_if.specs.Parts.{HasPart, HasParts}
 use Rattle.sc_if.specs.Readings.{AreMoved, AreReadings, all_of, moved, read_at, read_behind, readings_at, seen_reading}
-use Rattle.sc_if.specs.Symbols.{spelled}
+use Rattle.sc_if.specs.Symbols.{symbol_at}
 use Rattle.sc_model.proofs.SetLemmas.{IsConfig-Keeps, IsConfig-kept, Keeps-trans}
 use Rattle.sc_model.specs.Sets.{Sets, HasOptions, IsCond, IsConfig, IsNever, Keeps}
+use Rattle.sc_model.specs.declared.standard.Standard.{Standard}
 
 -- ---- one that is moved more
 
@@ -55,42 +54,42 @@ and-some : (o : Option State) → option_and_then (λ n. Some n) o ≡ o
 and-some None = refl
 and-some (Some n) = refl
 
-run-push : (s : State) (ts : List Spelled) (t : Spelled) → run_tokens s (ts ++ t ∷ []) ≡ read_behind (symbol_of t.kind t.spelling) (run_tokens s ts)
+run-push : (s : State) (ts : Symbols) (t : Option grammar.Symbol) → run_tokens s (ts ++ t ∷ []) ≡ read_behind t (run_tokens s ts)
 run-push s [] t = and-some (read_token s t)
 run-push s (u ∷ us) t = by (read_token s u) (λ n. run-push n us t)
   where
-    by : (o : Option State) → ((n : State) → run_tokens n (us ++ t ∷ []) ≡ read_behind (symbol_of t.kind t.spelling) (run_tokens n us))
-        → option_and_then (λ n. run_tokens n (us ++ t ∷ [])) o ≡ read_behind (symbol_of t.kind t.spelling) (option_and_then (λ n. run_tokens n us) o)
+    by : (o : Option State) → ((n : State) → run_tokens n (us ++ t ∷ []) ≡ read_behind t (run_tokens n us))
+        → option_and_then (λ n. run_tokens n (us ++ t ∷ [])) o ≡ read_behind t (option_and_then (λ n. run_tokens n us) o)
     by None more = refl
     by (Some n) more = more n
 
-read_at-take : (s : Sets) (names : List (List ℕ)) (list : List (Cond × Token)) (i : ℕ) (x : Cond × Token) (c : List ℕ) → i < length list → x ≡ get_or list i x
-    → read_at s names (take (i + 1) list) c ≡ moved (s.has x.0.0 c) (symbol_of x.1.kind (text_at names x.1.spelling.0)) (read_at s names (take i list) c)
-read_at-take s names list i x c within is = ap (λ ts. run_tokens (wanting []) (map (spelled names) ts)) (items_at-take s list i x c within is) ∙ by (s.has x.0.0 c) (items_at s (take i list) c)
+read_at-take : (standard : Standard) (s : Sets) (names : List (List ℕ)) (list : List (Cond × Token)) (i : ℕ) (x : Cond × Token) (c : List ℕ) → i < length list → x ≡ get_or list i x
+    → read_at standard s names (take (i + 1) list) c ≡ moved (s.has x.0.0 c) (symbol_at standard names x.1) (read_at standard s names (take i list) c)
+read_at-take standard s names list i x c within is = ap (λ ts. run_tokens (wanting []) (map (symbol_at standard names) ts)) (items_at-take s list i x c within is) ∙ by (s.has x.0.0 c) (items_at s (take i list) c)
   where
-    by : (b : Bool) (ts : List Token) → run_tokens (wanting []) (map (spelled names) (ts ++ (if b then x.1 ∷ [] else [])))
-        ≡ moved b (symbol_of x.1.kind (text_at names x.1.spelling.0)) (run_tokens (wanting []) (map (spelled names) ts))
-    by true ts = ap (run_tokens (wanting [])) (map-append (spelled names) ts (x.1 ∷ [])) ∙ run-push (wanting []) (map (spelled names) ts) (spelled names x.1)
-    by false ts = ap (λ us. run_tokens (wanting []) (map (spelled names) us)) (append-nil ts)
+    by : (b : Bool) (ts : List Token) → run_tokens (wanting []) (map (symbol_at standard names) (ts ++ (if b then x.1 ∷ [] else [])))
+        ≡ moved b (symbol_at standard names x.1) (run_tokens (wanting []) (map (symbol_at standard names) ts))
+    by true ts = ap (run_tokens (wanting [])) (map-append (symbol_at standard names) ts (x.1 ∷ [])) ∙ run-push (wanting []) (map (symbol_at standard names) ts) (symbol_at standard names x.1)
+    by false ts = ap (λ us. run_tokens (wanting []) (map (symbol_at standard names) us)) (append-nil ts)
 
 few-one : (b : Bool) (x : Option State) → length (let l : List (Option State) = if b then x ∷ [] else [] in l) ≤ 1
 few-one true x = omega arith
 few-one false x = omega arith
 
 -- all of them were read
-pub read-all : {old new : Sets} {names : List (List ℕ)} {live : ℕ} {readings : List Entry} (list : List (Cond × Token)) (i : ℕ) → length list ≤ i → AreReadings old new names (take i list) live readings → AreReadings old new names list live readings
-read-all {old} {new} {names} {live} {readings} list i past was = subst (λ l. AreReadings old new names l live readings) (take_all i list past) was
+pub read-all : {standard : Standard} {old new : Sets} {names : List (List ℕ)} {live : ℕ} {readings : List Entry} (list : List (Cond × Token)) (i : ℕ) → length list ≤ i → AreReadings standard old new names (take i list) live readings → AreReadings standard old new names list live readings
+read-all {standard} {old} {new} {names} {live} {readings} list i past was = subst (λ l. AreReadings standard old new names l live readings) (take_all i list past) was
 
 -- before any is read
-pub unread-none : (s : Sets) (names : List (List ℕ)) (live : ℕ) → IsNever s live → AreReadings s s names [] live []
-unread-none s names live never = record {
+pub unread-none : (standard : Standard) (s : Sets) (names : List (List ℕ)) (live : ℕ) → IsNever s live → AreReadings standard s s names [] live []
+unread-none standard s names live never = record {
   own = All-nil (λ (x : Entry). IsCond s x.0.0);
   at = λ c listed. ap (λ b. let l : List (Option State) = if b then Some (wanting []) ∷ [] else [] in l) (sym (never.none c listed));
   alike = λ a b la lb same all. All-nil (λ (x : Entry). IsAlike s a b x.0);
 }
 
-pub unread-one : (s : Sets) (names : List (List ℕ)) (live : Cond) (r : Option Reading) → IsCond s live.0 → seen_reading r ≡ Some (wanting []) → AreReadings s s names [] live.0 ((live, r) ∷ [])
-unread-one s names live r own start = record {
+pub unread-one : (standard : Standard) (s : Sets) (names : List (List ℕ)) (live : Cond) (r : Option Reading) → IsCond s live.0 → seen_reading r ≡ Some (wanting []) → AreReadings standard s s names [] live.0 ((live, r) ∷ [])
+unread-one standard s names live r own start = record {
   own = All-push (λ (x : Entry). IsCond s x.0.0) [] (live, r) (All-nil (λ (x : Entry). IsCond s x.0.0)) own;
   at = λ c listed. readings_at-cons s c (live, r) [] ∙ ap (λ o. if s.has live.0 c then o ∷ [] else []) start;
   alike = λ a b la lb same all. All-push (λ (x : Entry). IsAlike s a b x.0) [] (live, r) (All-nil (λ (x : Entry). IsAlike s a b x.0)) same;
@@ -151,20 +150,20 @@ all-is false r = All-nil (Is false r)
 
 -- ---- one element more
 
-module _ {old mid new : Sets} {names : List (List ℕ)} {live : ℕ} {readings : List Entry} {next : Readings} {symbol : Option grammar.Symbol} (list : List (Cond × Token)) (i : ℕ) (x : Cond × Token) (within : i < length list) (is : x ≡ get_or list i x)
-    (keeps : Keeps old mid) (own : IsCond old x.0.0) (is_symbol : symbol ≡ symbol_of x.1.kind (text_at names x.1.spelling.0)) (was : AreReadings old mid names (take i list) live readings) (step : AreMoved mid new x.0.0 symbol readings next) where
-  pub read-more : AreReadings old new names (take (i + 1) list) live (all_of next)
+module _ {standard : Standard} {old mid new : Sets} {names : List (List ℕ)} {live : ℕ} {readings : List Entry} {next : Readings} {symbol : Option grammar.Symbol} (list : List (Cond × Token)) (i : ℕ) (x : Cond × Token) (within : i < length list) (is : x ≡ get_or list i x)
+    (keeps : Keeps old mid) (own : IsCond old x.0.0) (is_symbol : symbol ≡ symbol_at standard names x.1) (was : AreReadings standard old mid names (take i list) live readings) (step : AreMoved mid new x.0.0 symbol readings next) where
+  pub read-more : AreReadings standard old new names (take (i + 1) list) live (all_of next)
   read-more = record {
     own = step.own;
     at = λ c listed.
         let before = was.at c listed in
         let h = old.has live c in
-        let r = read_at old names (take i list) c in
+        let r = read_at standard old names (take i list) c in
         let f : Bool → Option grammar.Symbol → Option State = λ b o. moved b o r in
         step.at c (IsConfig-Keeps keeps listed) (subst (λ l. length l ≤ 1) (sym before) (few-one h r))
         ∙ (ap (map (moved (mid.has x.0.0 c) symbol)) before
         ∙ (map-one (moved (mid.has x.0.0 c) symbol) h r
-        ∙ ap (λ o. if h then o ∷ [] else []) (ap (λ b. f b symbol) (keeps.at _ c own listed) ∙ (ap (λ o. f (old.has x.0.0 c) o) is_symbol ∙ sym (read_at-take old names list i x c within is)))));
+        ∙ ap (λ o. if h then o ∷ [] else []) (ap (λ b. f b symbol) (keeps.at _ c own listed) ∙ (ap (λ o. f (old.has x.0.0 c) o) is_symbol ∙ sym (read_at-take standard old names list i x c within is)))));
     alike = λ a b la lb same all.
         let both = all-parts (λ (y : Cond × Token). IsAlike old a b y.0) (take i list) (get_or list i x ∷ []) (subst (AreAlike old a b) (take_more list i x within) all) in
         let here : IsAlike old a b x.0 = subst (λ (y : Cond × Token). IsAlike old a b y.0) (sym is) (All-head (λ (y : Cond × Token). IsAlike old a b y.0) (get_or list i x) [] both.1) in
@@ -176,15 +175,15 @@ module _ {old mid new : Sets} {names : List (List ℕ)} {live : ℕ} {readings :
     abbrev whole : Keeps old new
     whole = Keeps-trans keeps grows
 
-    abbrev front : List ℕ → List Spelled
-    front c = map (spelled names) (items_at old (take i list) c)
+    abbrev front : List ℕ → Symbols
+    front c = map (symbol_at standard names) (items_at old (take i list) c)
 
     -- a configuration that has the reading, and its part
     record IsOne (entry : Entry) (p : List ℕ × Part) : Type 0 where
       listed : IsConfig old.arities p.0
       among : old.has live p.0 ≡ true
-      has : HasPart old names (take i list) x p
-      read : seen_reading entry.1 ≡ read_behind_tokens (spelled names x.1) (front p.0)
+      has : HasPart standard old names (take i list) x p
+      read : seen_reading entry.1 ≡ read_behind_tokens (symbol_at standard names x.1) (front p.0)
 
     one : HasOptions old.arities → (k : ℕ) (d : Entry) → k < length next.moved.items → (p : List ℕ × Part) × IsOne (get_or next.moved.items k d) p
     one options k d below =
@@ -192,14 +191,14 @@ module _ {old mid new : Sets} {names : List (List ℕ)} {live : ℕ} {readings :
         let c = met_by.config in
         let listed = IsConfig-kept whole met_by.listed in
         let in_item = sym (whole.at _ c own listed) ∙ (step.read.within k d below).at c met_by.listed met_by.has in
-        let P = Is (old.has live c) (read_at old names (take (i + 1) list) c) in
-        let all = subst (All P) (sym (read-more.at c listed) ∙ readings_at-append new c next.left.items next.moved.items) (all-is (old.has live c) (read_at old names (take (i + 1) list) c)) in
+        let P = Is (old.has live c) (read_at standard old names (take (i + 1) list) c) in
+        let all = subst (All P) (sym (read-more.at c listed) ∙ readings_at-append new c next.left.items next.moved.items) (all-is (old.has live c) (read_at standard old names (take (i + 1) list) c)) in
         let found = read-each new c P next.moved.items (all-parts P (readings_at new next.left.items c) (readings_at new next.moved.items c) all).1 k d below met_by.has in
-        let read = found.1 ∙ (read_at-take old names list i x c within is ∙ ap (λ b. moved b (symbol_of x.1.kind (text_at names x.1.spelling.0)) (read_at old names (take i list) c)) in_item) in
-        let part = part-there (spelled names x.1) (front c) (λ none. step.read.going k d below (read ∙ none)) in
+        let read = found.1 ∙ (read_at-take standard old names list i x c within is ∙ ap (λ b. moved b (symbol_at standard names x.1) (read_at standard old names (take i list) c)) in_item) in
+        let part = part-there (symbol_at standard names x.1) (front c) (λ none. step.read.going k d below (read ∙ none)) in
         ((c, part.0), record { listed = listed; among = found.0; has = record { has = in_item; part = part.1 }; read = read })
 
-    pub many-parts : HasOptions old.arities → slice_get list i ≡ Some x → (count : ℕ) → count ≤ length next.moved.items → HasParts old names list (old.has live) count
+    pub many-parts : HasOptions old.arities → slice_get list i ≡ Some x → (count : ℕ) → count ≤ length next.moved.items → HasParts standard old names list (old.has live) count
     many-parts options got count most =
         let xs = next.moved.items in
         let picked = chosen IsOne xs (one options) in
@@ -217,7 +216,7 @@ module _ {old mid new : Sets} {names : List (List ℕ)} {live : ℕ} {readings :
           apart = λ j k p order h same.
               let a = at j p (omega (arith, order, h)) in
               let b = at k p h in
-              let alike = same-part (spelled names x.1) (front (get_or picked.all j p).0) (front (get_or picked.all k p).0) (get_or picked.all j p).1 a.has.part
-              (subst (IsPart (spelled names x.1) (front (get_or picked.all k p).0)) (sym same) b.has.part) in
+              let alike = same-part (symbol_at standard names x.1) (front (get_or picked.all j p).0) (front (get_or picked.all k p).0) (get_or picked.all j p).1 a.has.part
+              (subst (IsPart (symbol_at standard names x.1) (front (get_or picked.all k p).0)) (sym same) b.has.part) in
               step.read.apart j k none order (omega (arith, picked.long, h)) (a.read ∙ (alike ∙ sym b.read));
         }

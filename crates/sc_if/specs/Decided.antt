@@ -17,6 +17,7 @@ use Rattle.sc_model.specs.declared.cause.Cause.{Cause}
 use Rattle.sc_model.specs.Fault as model
 use Rattle.sc_model.specs.Sets.{Sets, IsConfig, IsCond}
 use Rattle.sc_model.specs.Token.{Place}
+use Rattle.sc_model.specs.declared.standard.Standard.{Standard}
 
 -- ---- what is promised
 
@@ -31,9 +32,9 @@ Stands (Ok is_taken) taken faults = (taken ≡ is_taken) × (faults ≡ [])
 Stands (Err failure) taken faults = (taken ≡ false) × (faults ≡ fault_of failure ∷ [])
 
 -- at the configuration the line decides as it does by itself
-pub record IsDecided (old new : Sets) (names files : List (List ℕ)) (list : List (Cond × Token)) (hash : declared_place.Place) (d : Decided) (c : List ℕ) : Type 0 where
+pub record IsDecided (standard : Standard) (old new : Sets) (names files : List (List ℕ)) (list : List (Cond × Token)) (hash : declared_place.Place) (d : Decided) (c : List ℕ) : Type 0 where
   pub answer : Result Bool (Failure Place)
-  pub comes : Comes (seen_place files hash) (Ok (line_of names files (items_at old list c))) answer
+  pub comes : Comes standard (seen_place files hash) (Ok (line_of names files (items_at old list c))) answer
   pub stands : Stands answer (new.has d.taken.0 c) (map (seen_fault files) (faults_at new d.faults.items c))
 
 -- both configurations take the group or neither does, and both have each fault or neither
@@ -64,19 +65,19 @@ at_hash hash (Ok is_taken) = Ok is_taken
 at_hash hash (Err cause) = Err (failure cause hash)
 
 -- a line with these tokens comes to this
-pub record IsAnswer (names : List (List ℕ)) (ts : List Token) (answer : Result Bool Cause) : Type 0 where
-  pub comes : (files : List (List ℕ)) (hash : Place) → Comes hash (Ok (line_of names files ts)) (at_hash hash answer)
+pub record IsAnswer (standard : Standard) (names : List (List ℕ)) (ts : List Token) (answer : Result Bool Cause) : Type 0 where
+  pub comes : (files : List (List ℕ)) (hash : Place) → Comes standard hash (Ok (line_of names files ts)) (at_hash hash answer)
 
 -- one answer is given, that to these tokens
-pub record IsAnswered (names : List (List ℕ)) (ts : List Token) (given : List (Result Bool Cause)) : Type 0 where
+pub record IsAnswered (standard : Standard) (names : List (List ℕ)) (ts : List Token) (given : List (Result Bool Cause)) : Type 0 where
   pub answer : Result Bool Cause
-  pub answers : IsAnswer names ts answer
+  pub answers : IsAnswer standard names ts answer
   pub is : given ≡ answer ∷ []
 
 -- each configuration of the condition has one answer, that to its tokens, and the others none
-pub record AreAnswers (old new : Sets) (names : List (List ℕ)) (list : List (Cond × Token)) (live : ℕ) (answers : List (Cond × Result Bool Cause)) : Type 0 where
+pub record AreAnswers (standard : Standard) (old new : Sets) (names : List (List ℕ)) (list : List (Cond × Token)) (live : ℕ) (answers : List (Cond × Result Bool Cause)) : Type 0 where
   pub own : All (λ answer. IsCond new answer.0.0) answers
-  pub each : (c : List ℕ) → IsConfig old.arities c → old.has live c ≡ true → IsAnswered names (items_at old list c) (items_at new answers c)
+  pub each : (c : List ℕ) → IsConfig old.arities c → old.has live c ≡ true → IsAnswered standard names (items_at old list c) (items_at new answers c)
   pub others : (c : List ℕ) → IsConfig old.arities c → old.has live c ≡ false → items_at new answers c ≡ []
   pub alike : (a b : List ℕ) → IsConfig old.arities a → IsConfig old.arities b → old.has live a ≡ old.has live b → AreAlike old a b list → AreAlike new a b answers
 

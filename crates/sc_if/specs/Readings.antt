@@ -13,10 +13,11 @@ use Rattle.sc_hoist.specs.Alike.{AreAlike}
 use Rattle.sc_if.specs.declared.reading.Reading.{Reading}
 use Rattle.sc_if.specs.declared.readings.Readings.{Readings}
 use Rattle.sc_if.specs.Frames.{state_of}
-use Rattle.sc_if.specs.Symbols.{spelled}
+use Rattle.sc_if.specs.Symbols.{symbol_at}
 use Rattle.sc_model.specs.declared.cause.Cause.{Cause}
 use Rattle.sc_model.specs.declared.cause.Cause.TheVariants.{BadIf}
 use Rattle.sc_model.specs.Sets.{Sets, IsCond, IsConfig, IsNever}
+use Rattle.sc_model.specs.declared.standard.Standard.{Standard}
 
 abbrev pub state_in : Reading → State
 state_in r = state_of r.frames.items r.last
@@ -32,8 +33,8 @@ abbrev pub readings_at : Sets → List (Cond × Option Reading) → List ℕ →
 readings_at s readings c = map seen_reading (items_at s readings c)
 
 -- what reading its tokens comes to
-abbrev pub read_at : Sets → List (List ℕ) → List (Cond × Token) → List ℕ → Option State
-read_at s names list c = run_tokens (wanting []) (map (spelled names) (items_at s list c))
+abbrev pub read_at : Standard → Sets → List (List ℕ) → List (Cond × Token) → List ℕ → Option State
+read_at standard s names list c = run_tokens (wanting []) (map (symbol_at standard names) (items_at s list c))
 
 -- one symbol more; there is none where the token is none
 abbrev pub read_behind : Option grammar.Symbol → Option State → Option State
@@ -99,7 +100,7 @@ pub record AreMoved (old new : Sets) (item : ℕ) (symbol : Option grammar.Symbo
   pub alike : (a b : List ℕ) → IsConfig old.arities a → IsConfig old.arities b → old.has item a ≡ old.has item b → AreAlike old a b before → AreAlike new a b (all_of after)
 
 -- each configuration of the condition has what reading its tokens comes to, and the others nothing
-pub record AreReadings (old new : Sets) (names : List (List ℕ)) (list : List (Cond × Token)) (live : ℕ) (readings : List (Cond × Option Reading)) : Type 0 where
+pub record AreReadings (standard : Standard) (old new : Sets) (names : List (List ℕ)) (list : List (Cond × Token)) (live : ℕ) (readings : List (Cond × Option Reading)) : Type 0 where
   pub own : All (λ reading. IsCond new reading.0.0) readings
-  pub at : (c : List ℕ) → IsConfig old.arities c → readings_at new readings c ≡ (if old.has live c then read_at old names list c ∷ [] else [])
+  pub at : (c : List ℕ) → IsConfig old.arities c → readings_at new readings c ≡ (if old.has live c then read_at standard old names list c ∷ [] else [])
   pub alike : (a b : List ℕ) → IsConfig old.arities a → IsConfig old.arities b → old.has live a ≡ old.has live b → AreAlike old a b list → AreAlike new a b readings

@@ -12,6 +12,7 @@ use crate::reading::{Reading, answer_to};
 use crate::readings::read_line;
 use sc_base::{Cause, Cond, Kind, Names, OutOfMemory, Stop, Token, is_same};
 use sc_guarded::Guarded;
+use sc_model::Standard;
 use sc_presence::Conditions;
 use std::alloc::Global;
 
@@ -24,19 +25,20 @@ pub(crate) fn answers<C: Conditions>(
     list: &Guarded<Token>,
     live: Cond,
     limit: usize,
+    standard: Standard,
 ) -> Result<Vec<(Cond, Result<bool, Cause>)>, Stop>
     requires own { All (λ item. IsCond (C.sets conds.old) item.0.0) list.now }
     requires held { All (λ item. IsHeld names.now item.1) list.now }
     requires live_own { IsCond (C.sets conds.old) live.0 }
-    ensures answers { IfOk result (λ answers. AreAnswers (C.sets conds.old) (C.sets conds.new) names.now list.now live.0 answers.items) }
-    ensures refused { IfErr result (RefusesAt (C.sets conds.old) names.now list.now ((C.sets conds.old).has live.0) limit) }
+    ensures answers { IfOk result (λ answers. AreAnswers standard (C.sets conds.old) (C.sets conds.new) names.now list.now live.0 answers.items) }
+    ensures refused { IfErr result (RefusesAt standard (C.sets conds.old) names.now list.now ((C.sets conds.old).has live.0) limit) }
 
     // at every outcome
     ensures keeps { Keeps (C.sets conds.old) (C.sets conds.new) }
 {
     let left_over = having_defined(conds, names, list, live)?;
     let rest = without(conds, live, left_over)?;
-    let readings = read_line(alloc, conds, names, list, rest, limit)?;
+    let readings = read_line(alloc, conds, names, list, rest, limit, standard)?;
     let mut answers = answers_to(alloc, readings)?;
     if conds.is_never(left_over) {
         return Ok(answers);

@@ -4,9 +4,10 @@ ghost use Rattle.c11_expressions.specs.Constants.{after_quote, character_value, 
 ghost use Rattle.sc_if.specs.Seen.{seen_value};
 
 use crate::Value;
-use crate::integer::{after_digits, has_digit, is_digit, number};
-use c11_expressions::Base;
+use crate::integer::number;
+use c11_tokens::Base;
 use sc_base::is_same;
+use sc_constants::{after_digits, has_digit, is_digit};
 
 /// The value of a character constant of one character.
 pub(crate) fn character(bytes: &[u8]) -> Option<Value>

@@ -11,6 +11,7 @@ ghost use Rattle.sc_model.specs.Sets.{Sets, IsConfig, IsCond, Keeps};
 use crate::answers::answers;
 use sc_base::{Cause, Cond, Fault, Names, OutOfMemory, Place, Stop, Token};
 use sc_guarded::Guarded;
+use sc_model::Standard;
 use sc_presence::Conditions;
 use std::alloc::Global;
 
@@ -32,12 +33,13 @@ pub fn decide<C: Conditions>(
     live: Cond,
     limit: usize,
     hash: Place,
+    standard: Standard,
 ) -> Result<Decided, Stop>
     requires own { All (λ item. IsCond (C.sets conds.old) item.0.0) list.now }
     requires held { All (λ item. IsHeld names.now item.1) list.now }
     requires live_own { IsCond (C.sets conds.old) live.0 }
     ensures decided { IfOk result (λ d. (files : List (List ℕ)) (c : List ℕ) → IsConfig (C.sets conds.old).arities c → (C.sets conds.old).has live.0 c ≡ true
-        → IsDecided (C.sets conds.old) (C.sets conds.new) names.now files list.now hash d c) }
+        → IsDecided standard (C.sets conds.old) (C.sets conds.new) names.now files list.now hash d c) }
     ensures others { IfOk result (λ d. (c : List ℕ) → IsConfig (C.sets conds.old).arities c → (C.sets conds.old).has live.0 c ≡ false
         → ((C.sets conds.new).has d.taken.0 c ≡ false) × (faults_at (C.sets conds.new) d.faults.items c ≡ [])) }
     ensures own { IfOk result (λ d. IsCond (C.sets conds.new) d.taken.0) }
@@ -49,12 +51,12 @@ pub fn decide<C: Conditions>(
         → (C.sets conds.old).has live.0 c ≡ true → (C.sets conds.old).has live.0 d ≡ true → AreAlike (C.sets conds.old) c d list.now → AreDecidedAlike (C.sets conds.new) c d x) }
 
     // only where before one item more configurations than the limit have different parts
-    ensures refused { IfErr result (RefusesAt (C.sets conds.old) names.now list.now ((C.sets conds.old).has live.0) limit) }
+    ensures refused { IfErr result (RefusesAt standard (C.sets conds.old) names.now list.now ((C.sets conds.old).has live.0) limit) }
 
     // at every outcome
     ensures keeps { Keeps (C.sets conds.old) (C.sets conds.new) }
 {
-    let answers = answers(alloc, conds, names, list, live, limit)?;
+    let answers = answers(alloc, conds, names, list, live, limit, standard)?;
     let decided = decide_answers(alloc, conds, &answers, hash)?;
     Ok(decided)
 }

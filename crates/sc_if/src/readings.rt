@@ -6,11 +6,13 @@ ghost use Rattle.sc_if.specs.Parts.{RefusesAt};
 ghost use Rattle.sc_if.specs.Readings.{AreMoved, ArePartedBy, AreReadings, HaveRead, IsPut, IsWithin, all_of, seen_reading, state_in};
 ghost use Rattle.sc_if.specs.Symbols.{seen_symbol};
 ghost use Rattle.sc_model.specs.Sets.{Denotes, Sets, IsCond, IsNever, Keeps};
+ghost use Rattle.sc_model.specs.declared.standard.Standard.{Standard};
 
 use crate::reading::{Reading, is_same_reading};
 use crate::symbol::{Symbol, symbol_of};
 use sc_base::{Cond, Names, OutOfMemory, Stop, Token};
 use sc_guarded::Guarded;
+use sc_model::Standard;
 use sc_presence::Conditions;
 use std::alloc::Global;
 
@@ -32,12 +34,13 @@ pub(crate) fn read_line<C: Conditions>(
     list: &Guarded<Token>,
     live: Cond,
     limit: usize,
+    standard: Standard,
 ) -> Result<Vec<(Cond, Option<Reading>)>, Stop>
     requires own { All (λ item. IsCond (C.sets conds.old) item.0.0) list.now }
     requires held { All (λ item. IsHeld names.now item.1) list.now }
     requires live_own { IsCond (C.sets conds.old) live.0 }
-    ensures read { IfOk result (λ readings. AreReadings (C.sets conds.old) (C.sets conds.new) names.now list.now live.0 readings.items) }
-    ensures refused { IfErr result (RefusesAt (C.sets conds.old) names.now list.now ((C.sets conds.old).has live.0) limit) }
+    ensures read { IfOk result (λ readings. AreReadings standard (C.sets conds.old) (C.sets conds.new) names.now list.now live.0 readings.items) }
+    ensures refused { IfErr result (RefusesAt standard (C.sets conds.old) names.now list.now ((C.sets conds.old).has live.0) limit) }
 
     // at every outcome
     ensures keeps { Keeps (C.sets conds.old) (C.sets conds.new) }
@@ -46,7 +49,7 @@ pub(crate) fn read_line<C: Conditions>(
     let mut readings = unread(alloc, conds, live)?;
     for index in 0..list.len() {
         let (item, token) = list.item(index);
-        let symbol = symbol_at(token, names);
+        let symbol = symbol_at(token, names, standard);
         let mut next = advance(alloc, conds, readings, item, symbol)?;
         if next.moved.len() > limit {
             return Err(Stop::BranchesFull { count: limit + 1 });
@@ -58,11 +61,11 @@ pub(crate) fn read_line<C: Conditions>(
 }
 
 /// What a token is in an expression.
-fn symbol_at(token: &Token, names: &Names) -> Option<Symbol>
+fn symbol_at(token: &Token, names: &Names, standard: Standard) -> Option<Symbol>
     requires { IsHeld names.now token.now }
-    ensures { option_map seen_symbol result ≡ symbol_of token.now.kind (text_at names.now token.now.spelling.0) }
+    ensures { option_map seen_symbol result ≡ symbol_of standard token.now.kind (text_at names.now token.now.spelling.0) }
 {
-    symbol_of(token.kind, names.text(token.spelling))
+    symbol_of(token.kind, names.text(token.spelling), standard)
 }
 
 /// What was read before any element.
@@ -72,7 +75,7 @@ fn unread<C: Conditions>(
     live: Cond,
 ) -> Result<Vec<(Cond, Option<Reading>)>, OutOfMemory>
     requires { IsCond (C.sets conds.now) live.0 }
-    ensures { IfOk result (λ readings. (names : List (List ℕ)) → AreReadings (C.sets conds.now) (C.sets conds.now) names [] live.0 readings.items) }
+    ensures { IfOk result (λ readings. (standard : Standard) (names : List (List ℕ)) → AreReadings standard (C.sets conds.now) (C.sets conds.now) names [] live.0 readings.items) }
 {
     let mut readings = Vec::new(alloc);
     if conds.is_never(live) {

@@ -8,6 +8,7 @@ use crate::character::character;
 use crate::integer::integer;
 use c11_expressions::{Binary, Punctuator, Unary};
 use sc_base::{Kind, is_same};
+use sc_model::Standard;
 
 /// What a token is in an expression.
 #[derive(Clone, Copy, Debug, PartialEq, Eq)]
@@ -17,11 +18,11 @@ pub(crate) enum Symbol {
 }
 
 /// What a token of this kind and spelling is. An identifier is 0.
-pub(crate) fn symbol_of(kind: Kind, spelling: &[u8]) -> Option<Symbol>
-    ensures { option_map seen_symbol result ≡ symbol_of kind spelling.now }
+pub(crate) fn symbol_of(kind: Kind, spelling: &[u8], standard: Standard) -> Option<Symbol>
+    ensures { option_map seen_symbol result ≡ symbol_of standard kind spelling.now }
 {
     match kind {
-        Kind::Number => integer(spelling).map(Symbol::Operand),
+        Kind::Number => integer(spelling, standard).map(Symbol::Operand),
         Kind::Character => character(spelling).map(Symbol::Operand),
         Kind::Identifier => Some(Symbol::Operand(Value::Signed(0))),
         Kind::Punctuator => punctuator(spelling).map(Symbol::Mark),

@@ -1,25 +1,24 @@
 //! Which terminal a token is.
 ghost use Rattle.std.specs.Prelude.{◌≡◌, ◌+◌, ◌-◌, ◌<◌, ◌||◌, Some, None, option_map, if◌then◌else◌};
 ghost use Rattle.sc_grammar.specs.declared.TheConstants.{TERMINALS};
-ghost use Rattle.sc_kinds.specs.Constants.{is_integer, is_floating};
-ghost use Rattle.sc_kinds.specs.Kinds.{terminal_of, keyword, punctuator, terminal_written};
+ghost use Rattle.sc_kinds.specs.Kinds.{is_constant, terminal_of, keyword, punctuator, terminal_written};
 ghost use Rattle.sc_model.specs.Token.{name_of};
 
-use crate::constant::{is_floating, is_integer};
 use lr_tables::Terminal;
 use sc_base::is_same;
+use sc_constants::{integer_form, is_floating};
 use sc_grammar::{TERMINALS, terminal, terminal_name};
-use sc_model::Kind;
+use sc_model::{Kind, Standard};
 
 /// The first terminal of a token: an identifier that is no keyword is a name first, and after that
 /// a type or a variable. Nothing that the grammar has no terminal for is one.
 #[tactic(auto, unfolding(crate::specs::Kinds::terminal_of))]
-pub fn terminal(kind: Kind, spelling: &[u8]) -> Option<Terminal>
-    ensures { option_map (λ terminal. terminal.0) result ≡ terminal_of kind spelling.now }
+pub fn terminal(kind: Kind, spelling: &[u8], standard: Standard) -> Option<Terminal>
+    ensures { option_map (λ terminal. terminal.0) result ≡ terminal_of standard kind spelling.now }
 {
     match kind {
         Kind::Identifier => Some(keyword(spelling).unwrap_or(terminal::NAME)),
-        Kind::Number => number(spelling),
+        Kind::Number => number(spelling, standard),
         Kind::Character => Some(terminal::CONSTANT),
         Kind::Text => Some(terminal::STRING),
         Kind::Punctuator => punctuator(standard_spelling(spelling)),
@@ -28,10 +27,10 @@ pub fn terminal(kind: Kind, spelling: &[u8]) -> Option<Terminal>
 }
 
 /// A number that is a constant.
-fn number(spelling: &[u8]) -> Option<Terminal>
-    ensures { option_map (λ terminal. terminal.0) result ≡ (if is_integer spelling.now || is_floating spelling.now then Some 3 else None) }
+fn number(spelling: &[u8], standard: Standard) -> Option<Terminal>
+    ensures { option_map (λ terminal. terminal.0) result ≡ (if is_constant standard spelling.now then Some 3 else None) }
 {
-    if is_integer(spelling) || is_floating(spelling) {
+    if integer_form(spelling, standard).is_some() || is_floating(spelling) {
         Some(terminal::CONSTANT)
     } else {
         None

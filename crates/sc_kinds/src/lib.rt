@@ -1,7 +1,6 @@
 //! The terminals of tokens.
 #![tactic(auto)]
 
-mod constant;
 mod kind;
 
 pub use kind::terminal;

@@ -15,6 +15,7 @@ use Rattle.sc_lines.specs.Unread.{branch_at, sections_at}
 use Rattle.c11_directives.specs.declared.directive.Conditional.{Conditional}
 use Rattle.c11_directives.specs.declared.directive.Conditional.TheVariants.{Opening, Alternative, Else, Endif}
 use Rattle.c11_directives.specs.Lines.{Line, conditional_in, conditional_of, Group, Branches, empty, plain, section, closing, otherwise, alternative, group_lines, branch_lines, Opens, IsGroup, AreBranches, IsTree}
+use Rattle.sc_model.specs.declared.standard.Standard.{Standard}
 
 -- the sections that are open before the lines of these directives, from line i to the last
 abbrev pub sections_from : ℕ → List (Option Conditional) → List Branch
@@ -251,8 +252,8 @@ follow-with n (l ∷ ls) f = (f.0, follow-with (l.end + 1) ls f.1)
 follow-others : (n : ℕ) (a b : List declared_line.Line) → map without_branch a ≡ map without_branch b → FollowFrom n b → FollowFrom n a
 follow-others n a b e f = follow-with n a (subst (FollowFrom n) (sym e) (follow-without n b f))
 
-pub lines-same : (names : List (List ℕ)) (tokens : List Token) (a b : List declared_line.Line) → map without_branch a ≡ map without_branch b → AreLines names tokens b → AreLines names tokens a
-lines-same names tokens a b e are = record {
+pub lines-same : (standard : Standard) (names : List (List ℕ)) (tokens : List Token) (a b : List declared_line.Line) → map without_branch a ≡ map without_branch b → AreLines standard names tokens b → AreLines standard names tokens a
+lines-same standard names tokens a b e are = record {
   tokens_are = others-same (tokens_of tokens) a b e ∙ are.tokens_are;
   directives = others-same (λ l. l.directive) a b e ∙ are.directives;
   within =

@@ -7,6 +7,7 @@ use Rattle.sc_base.specs.declared.token.Token.{Token}
 use Rattle.sc_lines.specs.declared.line.Line.{Line}
 use Rattle.sc_lines.specs.Branches.{without_branch}
 use Rattle.sc_lines.specs.Split.{AreLines, FollowFrom, tokens_of}
+use Rattle.sc_model.specs.declared.standard.Standard.{Standard}
 
 module _ (tokens : List Token) where
   abbrev IsWithin : Line → Type 0
@@ -40,6 +41,6 @@ module _ (tokens : List Token) where
       let rest = lines-from (y.end + 1) xs ys others directives (All-tail IsWithin x xs w) (All-tail IsWithin y ys v) (subst (λ e. FollowFrom (e + 1) xs) end f.1) g.1 in
       (λ i. record { first = first i; end = end i; directive = directive i; branch = None } ∷ rest i)
 
-pub lines-one : (names : List (List ℕ)) (tokens : List Token) (a b : List Line) → AreLines names tokens a → AreLines names tokens b → map without_branch a ≡ map without_branch b
-lines-one names tokens a b p q =
+pub lines-one : (standard : Standard) (names : List (List ℕ)) (tokens : List Token) (a b : List Line) → AreLines standard names tokens a → AreLines standard names tokens b → map without_branch a ≡ map without_branch b
+lines-one standard names tokens a b p q =
     lines-from tokens 0 a b (p.tokens_are ∙ sym q.tokens_are) (p.directives ∙ sym q.directives) p.within q.within p.follow q.follow

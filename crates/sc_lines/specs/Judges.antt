@@ -3,6 +3,7 @@ use Rattle.std.specs.Prelude.{◌≡◌, ℕ, ◌<◌, false, List, [], length, 
 use Rattle.c11_directives.specs.Lines.{Line, IsTree, Group, conditional_of, hash_place, Tree}
 use Rattle.sc_model.specs.declared.kind.Kind.TheVariants.{Newline}
 use Rattle.sc_model.specs.Token.{Place}
+use Rattle.sc_model.specs.declared.standard.Standard.TheVariants.{C11}
 use Rattle.sc_base.specs.declared.token.Token as declared_token
 
 -- what stands past the end of a file's tokens
@@ -10,7 +11,7 @@ abbrev pub no_token : declared_token.Token
 no_token = record { kind = Newline; name = record { 0 = 0 }; spelling = record { 0 = 0 }; space = false; place = record { file = record { 0 = 0 }; line = 0; column = 0 } }
 
 abbrev pub no_line : Line
-no_line = record { tokens = []; directive = None }
+no_line = record { tokens = []; directive = None; standard = C11 }
 
 -- the line of a number
 abbrev pub line_at : List Line → ℕ → Line

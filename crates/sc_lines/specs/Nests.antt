@@ -10,27 +10,28 @@ use Rattle.sc_lines.specs.declared.stop.NestStop.TheVariants.{Nesting, OutOfMemo
 use Rattle.sc_lines.specs.Branches.{HasBranches}
 use Rattle.sc_lines.specs.Split.{AreLines}
 use Rattle.c11_directives.specs.Lines as model
+use Rattle.sc_model.specs.declared.standard.Standard.{Standard}
 
 -- the line of these tokens, with any names of files
-abbrev pub seen_line : List (List ℕ) → List (List ℕ) → List Token → model.Line
-seen_line names files line = model.line_of model.c11_directive_names (map (seen names files) line)
+abbrev pub seen_line : Standard → List (List ℕ) → List (List ℕ) → List Token → model.Line
+seen_line standard names files line = model.line_of standard (map (seen names files) line)
 
 -- the lines of the tokens
-abbrev pub seen_lines : List (List ℕ) → List (List ℕ) → List Token → List model.Line
-seen_lines names files tokens = model.lines_of model.c11_directive_names (map (seen names files) tokens)
+abbrev pub seen_lines : Standard → List (List ℕ) → List (List ℕ) → List Token → List model.Line
+seen_lines standard names files tokens = model.lines_of standard (map (seen names files) tokens)
 
 -- the tree has the lines of the tokens, which are nested, and their branches
-pub record IsTreeOf (names : List (List ℕ)) (tokens : List Token) (tree : FileTree) : Type 0 where
-  pub lines : AreLines names tokens tree.lines.items
-  pub nested : (files : List (List ℕ)) → (group : model.Group) × model.IsTree (seen_lines names files tokens) group
-  pub branches : (files : List (List ℕ)) → HasBranches (seen_lines names files tokens) tree.lines.items
+pub record IsTreeOf (standard : Standard) (names : List (List ℕ)) (tokens : List Token) (tree : FileTree) : Type 0 where
+  pub lines : AreLines standard names tokens tree.lines.items
+  pub nested : (files : List (List ℕ)) → (group : model.Group) × model.IsTree (seen_lines standard names files tokens) group
+  pub branches : (files : List (List ℕ)) → HasBranches (seen_lines standard names files tokens) tree.lines.items
 
 -- the nesting is at fault at this place, which is in the file of the tokens
-pub record IsFaultAt (names : List (List ℕ)) (tokens : List Token) (place : Place) : Type 0 where
-  pub tree : (files : List (List ℕ)) → model.Tree (seen_lines names files tokens) (Err (seen_place files place))
+pub record IsFaultAt (standard : Standard) (names : List (List ℕ)) (tokens : List Token) (place : Place) : Type 0 where
+  pub tree : (files : List (List ℕ)) → model.Tree (seen_lines standard names files tokens) (Err (seen_place files place))
   pub placed : (file : FileId) → All (λ (t : Token). t.place.file ≡ file) tokens → place.file ≡ file
 
 -- what a refusal says
-abbrev pub Refuses : List (List ℕ) → List Token → NestStop → Type 0
-Refuses names tokens (Nesting place) = IsFaultAt names tokens place
-Refuses names tokens OutOfMemory = Unit {0}
+abbrev pub Refuses : Standard → List (List ℕ) → List Token → NestStop → Type 0
+Refuses standard names tokens (Nesting place) = IsFaultAt standard names tokens place
+Refuses standard names tokens OutOfMemory = Unit {0}

@@ -1,18 +1,24 @@
 ghost use Rattle.std.specs.Prelude.{◌≡◌, ◌+◌, ◌<◌, ◌≤◌, ◌∷◌, All, IfOk, length, take, drop};
 ghost use Rattle.sc_base.specs.Seen.{IsHeld};
 ghost use Rattle.c11_tokens.specs.Lex.{is_newline};
-ghost use Rattle.c11_directives.specs.Lines.{c11_directive_names, directive_named};
+ghost use Rattle.c11_directives.specs.Lines.{c11_directive_names, c23_directive_names, directive_named, directives_of};
 ghost use Rattle.sc_lines.specs.Split.{AreLines, directive_at, token_lines};
 
 use crate::Line;
 use c11_directives::{Conditional, Directive, Test};
 use sc_base::{Kind, Names, OutOfMemory, Token, is_same};
+use sc_model::Standard;
 use std::alloc::Global;
 
 /// The lines of a file's tokens.
-pub fn lines(alloc: Global, names: &Names, tokens: &[Token]) -> Result<Vec<Line>, OutOfMemory>
+pub fn lines(
+    alloc: Global,
+    names: &Names,
+    tokens: &[Token],
+    standard: Standard,
+) -> Result<Vec<Line>, OutOfMemory>
     requires { All (IsHeld names.now) tokens.now }
-    ensures { IfOk result (λ lines. AreLines names.now tokens.now lines.items) }
+    ensures { IfOk result (λ lines. AreLines standard names.now tokens.now lines.items) }
 {
     let mut lines = Vec::new(alloc);
     let mut first = 0;
@@ -21,7 +27,7 @@ pub fn lines(alloc: Global, names: &Names, tokens: &[Token]) -> Result<Vec<Line>
         lines.push(Line {
             first,
             end,
-            directive: directive(names, &tokens[first..end]),
+            directive: directive(names, &tokens[first..end], standard),
             branch: None,
         })?;
         first = end + 1;
@@ -50,20 +56,41 @@ fn ends_line(token: &Token) -> bool
 }
 
 /// The directive that a line is.
-fn directive(names: &Names, line: &[Token]) -> Option<Directive>
+fn directive(names: &Names, line: &[Token], standard: Standard) -> Option<Directive>
     requires { All (IsHeld names.now) line.now }
-    ensures { result ≡ directive_at names.now line.now }
+    ensures { result ≡ directive_at standard names.now line.now }
 {
     match line {
         [] => None,
         [hash, ..] if !is_same(names.text(hash.name), b"#") => None,
         [_] => Some(Directive::Null),
-        [_, word, ..] => Some(named(names.text(word.spelling))),
+        [_, word, ..] => Some(named(names.text(word.spelling), standard)),
     }
 }
 
 /// The directive of a name.
-fn named(word: &[u8]) -> Directive
+fn named(word: &[u8], standard: Standard) -> Directive
+    ensures { result ≡ directive_named (directives_of standard) word.now }
+{
+    match standard {
+        Standard::C11 => c11_named(word),
+        Standard::C23 => c23_named(word),
+    }
+}
+
+fn c23_named(word: &[u8]) -> Directive
+    ensures { result ≡ directive_named c23_directive_names word.now }
+{
+    if is_same(word, b"elifdef") {
+        Directive::Conditional(Conditional::Alternative(Test::Defined))
+    } else if is_same(word, b"elifndef") {
+        Directive::Conditional(Conditional::Alternative(Test::Undefined))
+    } else {
+        c11_named(word)
+    }
+}
+
+fn c11_named(word: &[u8]) -> Directive
     ensures { result ≡ directive_named c11_directive_names word.now }
 {
     if is_same(word, b"if") {

@@ -10,15 +10,21 @@ use crate::section::Open;
 use crate::split::lines;
 use crate::{FileTree, Line, NestStop};
 use sc_base::{Names, OutOfMemory, Place, Token};
+use sc_model::Standard;
 use std::alloc::Global;
 
 /// The lines of a file, whose conditional directives are nested.
-pub fn groups(alloc: Global, names: &Names, tokens: &[Token]) -> Result<FileTree, NestStop>
+pub fn groups(
+    alloc: Global,
+    names: &Names,
+    tokens: &[Token],
+    standard: Standard,
+) -> Result<FileTree, NestStop>
     requires { All (IsHeld names.now) tokens.now }
-    ensures ok { IfOk result (IsTreeOf names.now tokens.now) }
-    ensures err { IfErr result (Refuses names.now tokens.now) }
+    ensures ok { IfOk result (IsTreeOf standard names.now tokens.now) }
+    ensures err { IfErr result (Refuses standard names.now tokens.now) }
 {
-    let mut lines = lines(alloc, names, tokens)?;
+    let mut lines = lines(alloc, names, tokens, standard)?;
     match fault_line(alloc, &lines)? {
         None => {
             set_branches(alloc, &mut lines)?;

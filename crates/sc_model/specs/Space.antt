@@ -1,5 +1,6 @@
 -- Configurations: the variables and their options.
 use Rattle.std.specs.Prelude.{ℕ, ◌+◌, ◌++◌, List, [], ◌∷◌, length, map, codes, decimal}
+use Rattle.sc_model.specs.declared.standard.Standard.{Standard}
 use Rattle.sc_model.specs.Sets.{IsConfig}
 use Rattle.sc_model.specs.Token.{Item}
 
@@ -21,6 +22,7 @@ pub record Space : Type 0 where
   pub include_depth : ℕ
   pub date : List ℕ
   pub time : List ℕ
+  pub standard : Standard
 
 -- how many options each variable has
 abbrev pub arities_of : Space → List ℕ

@@ -11,6 +11,7 @@ use Rattle.sc_guarded.proofs.ItemLemmas.{under}
 use Rattle.sc_model.specs.Sets.{Sets}
 use Rattle.sc_model.specs.Token as model
 use Rattle.sc_model.specs.Token.{in_file}
+use Rattle.sc_model.specs.declared.standard.Standard.{Standard}
 use Rattle.sc_prep.proofs.Positions.{lexed-apart}
 use Rattle.sc_prep.specs.Apart.{AreDifferent, GathersFrom, StandApart, tokens_in}
 use Rattle.sc_prep.specs.Closes.{IsWithin}
@@ -112,7 +113,7 @@ gathers-within line a b within = λ rest apart. within.apart rest (apart-without
 
 -- ---- the tokens of a file
 
-pub lines-apart : {names files : List (List ℕ)} {name bytes : List ℕ} {found : FileLines} → AreLinesOf names files name bytes found → StandApart found.tokens.items
+pub lines-apart : {standard : Standard} {names files : List (List ℕ)} {name bytes : List ℕ} {found : FileLines} → AreLinesOf standard names files name bytes found → StandApart found.tokens.items
 lines-apart {names} {files} {name} {bytes} {found} are =
     let R : model.Token → model.Token → Type 0 = λ t u. t.place.position ≡ u.place.position → ⊥ in
     pairs-unmap R (seen names files) found.tokens.items (subst (AllPairs R) (sym are.tokens) (pairs-map R (in_file name) are.lexemes (lexed-apart bytes are.lexemes are.lexed)))

@@ -230,7 +230,7 @@ module _ (x : Context) (f : File) (s : State) (lexemes : List Lexeme) (group : G
   grouped = subst (λ ls. IsTree ls group) are tree
 
   hashes : HaveHashes (group_lines group)
-  hashes = subst HaveHashes (sym grouped.whole) (lines-hashes x.standard.directives (split_lines (λ t. is_newline t.kind) (map (in_file f.name) lexemes)))
+  hashes = subst HaveHashes (sym grouped.whole) (lines-hashes x.standard (split_lines (λ t. is_newline t.kind) (map (in_file f.name) lexemes)))
 
   ended : (n : Machine) (end : State) (fault : Option Fault) → Walks x group (inside f s) (given end fault) → n ≡ after [] end fault → acts n ≡ true → FileReaches x f s [] (at_end n.state)
   ended n end None walks is acting =

@@ -7,7 +7,7 @@ use Rattle.std.proofs.lemmas.Simd.{map-map}
 use Rattle.std.specs.Map.{update}
 use Rattle.std.specs.Option.{option_and_then}
 use Rattle.std.specs.Prelude.{◌-◌, cond, drop, slice_set, unwrap_or}
-use Rattle.c11_directives.specs.Lines.{IsTree, c11_directive_names, directive_of, lines_of}
+use Rattle.c11_directives.specs.Lines.{IsTree, directive_of, directives_of, lines_of}
 use Rattle.c11_directives.specs.Pre.{Enters, file_with}
 use Rattle.c11_tokens.specs.Lex.{is_newline}
 use Rattle.sc_base.proofs.Growth.{Extends-keeps, Extends-refl, Extends-within}
@@ -24,6 +24,7 @@ use Rattle.sc_model.specs.Fault.{fault_at}
 use Rattle.sc_model.specs.Growth.{Extends, IsOneToOne}
 use Rattle.sc_model.specs.Outside.{Files}
 use Rattle.sc_model.specs.Token.{name_of}
+use Rattle.sc_model.specs.declared.standard.Standard.{Standard}
 use Rattle.sc_prep.specs.declared.content.Content.{Content}
 use Rattle.sc_prep.specs.declared.content.Content.TheVariants as content
 use Rattle.sc_prep.specs.declared.content.Contents.{Contents}
@@ -56,14 +57,14 @@ module _ {names more : List (List ℕ)} (grows : Extends names more) where
       ap (λ s. record { kind = t.kind; spelling = s; space = t.space; place = seen_place files t.place }) (text-later t.spelling.0 (All-head (IsHeld names) t ts held).spelling) in
       ap (λ s. s ∷ map (seen more files) ts) first ∙ ap (λ ss. seen names files t ∷ ss) (spelled-later files ts (All-tail (IsHeld names) t ts held))
 
-  directives-later : (tokens : List Token) (lines : List Line) → All (IsHeld names) tokens → map (tokens_of tokens) lines ≡ token_lines tokens
-      → map (directive_at more) (token_lines tokens) ≡ map (directive_at names) (token_lines tokens)
-  directives-later tokens lines held are =
-      let one : (l : Line) → directive_at more (tokens_of tokens l) ≡ directive_at names (tokens_of tokens l) = λ l. ap (directive_of c11_directive_names)
+  directives-later : (standard : Standard) (tokens : List Token) (lines : List Line) → All (IsHeld names) tokens → map (tokens_of tokens) lines ≡ token_lines tokens
+      → map (directive_at standard more) (token_lines tokens) ≡ map (directive_at standard names) (token_lines tokens)
+  directives-later standard tokens lines held are =
+      let one : (l : Line) → directive_at standard more (tokens_of tokens l) ≡ directive_at standard names (tokens_of tokens l) = λ l. ap (directive_of (directives_of standard))
       (spelled-later [] (tokens_of tokens l) (All-take (IsHeld names) (l.end - l.first) (drop l.first tokens) (All-drop (IsHeld names) l.first tokens held))) in
-      ap (map (directive_at more)) (sym are) ∙ (map-map (directive_at more) (tokens_of tokens) lines
-      ∙ (map-each (λ l. directive_at more (tokens_of tokens l)) (λ l. directive_at names (tokens_of tokens l)) one lines
-      ∙ (sym (map-map (directive_at names) (tokens_of tokens) lines) ∙ ap (map (directive_at names)) are)))
+      ap (map (directive_at standard more)) (sym are) ∙ (map-map (directive_at standard more) (tokens_of tokens) lines
+      ∙ (map-each (λ l. directive_at standard more (tokens_of tokens l)) (λ l. directive_at standard names (tokens_of tokens l)) one lines
+      ∙ (sym (map-map (directive_at standard names) (tokens_of tokens) lines) ∙ ap (map (directive_at standard names)) are)))
 
 module _ {names more files more_files : List (List ℕ)} (grows : Extends names more) (files_grow : Extends files more_files) where
   pub IsPlaced-later : (t : Token) → IsPlaced names (length files) t → IsPlaced more (length more_files) t
@@ -98,39 +99,39 @@ looks-back names files more more_files None same = tt
 looks-back names files more more_files (Some (content.Refused cause place)) same = sym same
 looks-back names files more more_files (Some (content.Lines found)) same = (sym same.0, sym same.1)
 
-content-as : (names files more more_files : List (List ℕ)) (name : List ℕ) {bytes : Option (List ℕ)} {c : Option Content} → LooksSame names files more more_files c → IsContent names files name bytes c
-    → IsContent more more_files name bytes c
+content-as : (names files more more_files : List (List ℕ)) (name : List ℕ) {bytes : Option (List ℕ)} {c : Option Content} {standard : Standard} → LooksSame names files more more_files c → IsContent standard names files name bytes c
+    → IsContent standard more more_files name bytes c
 content-as names files more more_files name same absent = absent
 content-as names files more more_files name same (refused bytes cause place all) =
-    refused bytes cause place (λ x s standard. subst (λ p. Enters x (file_with name bytes) s (Err (fault_at cause p))) (sym same) (all x s standard))
-content-as names files more more_files name same (nested bytes found are) = nested bytes found (record {
+    refused bytes cause place (λ x s same_standard. subst (λ p. Enters x (file_with name bytes) s (Err (fault_at cause p))) (sym same) (all x s same_standard))
+content-as names files more more_files name {standard = standard} same (nested bytes found are) = nested bytes found (record {
   few = are.few;
   lexemes = are.lexemes;
   lexed = are.lexed;
   tokens = same.0 ∙ are.tokens;
   group = are.group;
-  tree = subst (λ ts. IsTree (lines_of c11_directive_names ts) are.group) (sym same.0) are.tree;
+  tree = subst (λ ts. IsTree (lines_of standard ts) are.group) (sym same.0) are.tree;
   ends = same.1 ∙ are.ends;
 })
 
-abbrev AreHeldContents : List (List ℕ) → ℕ → ℕ → Option Content → Type 0
-AreHeldContents names files file c = (x : Content) → c ≡ Some x → IsHeldContent names files (record { 0 = file }) x
+abbrev AreHeldContents : Standard → List (List ℕ) → ℕ → ℕ → Option Content → Type 0
+AreHeldContents standard names files file c = (x : Content) → c ≡ Some x → IsHeldContent standard names files (record { 0 = file }) x
 
 module _ {names more files more_files : List (List ℕ)} (grows : Extends names more) (files_grow : Extends files more_files) where
-  looks-later : (file : ℕ) (c : Option Content) → file < length files → AreHeldContents names (length files) file c → LooksSame names files more more_files c
-  looks-later file None there held = tt
-  looks-later file (Some (content.Refused cause place)) there held =
+  looks-later : (standard : Standard) (file : ℕ) (c : Option Content) → file < length files → AreHeldContents standard names (length files) file c → LooksSame names files more more_files c
+  looks-later standard file None there held = tt
+  looks-later standard file (Some (content.Refused cause place)) there held =
       place-later grows files_grow place (subst (λ (f : FileId). f.0 < length files) (sym (held (content.Refused cause place) refl)) there)
-  looks-later file (Some (content.Lines found)) there held =
+  looks-later standard file (Some (content.Lines found)) there held =
       let lines = held (content.Lines found) refl in
       (tokens-later grows files_grow found.tokens.items lines.placed, place-later grows files_grow found.end (subst (λ (f : FileId). f.0 < length files) (sym lines.end_inside) there))
 
   plain-later : (t : Token) → IsHeld names t → IsPlainOrNewline names t → IsPlainOrNewline more t
   plain-later t held plain = ap (λ text. is_newline t.kind || has_no_newline text) (text-later grows t.spelling.0 held.spelling) ∙ plain
 
-  held-later : (file : FileId) (x : Content) → IsHeldContent names (length files) file x → IsHeldContent more (length more_files) file x
-  held-later file (content.Refused cause place) held = held
-  held-later file (content.Lines found) held =
+  held-later : (standard : Standard) (file : FileId) (x : Content) → IsHeldContent standard names (length files) file x → IsHeldContent standard more (length more_files) file x
+  held-later standard file (content.Refused cause place) held = held
+  held-later standard file (content.Lines found) held =
       let tokens = found.tokens.items in
       let all : All (IsHeld names) tokens = All-weaker (IsPlaced names (length files)) (IsHeld names) (λ t p. p.held) tokens held.placed in
       record {
@@ -140,34 +141,34 @@ module _ {names more files more_files : List (List ℕ)} (grows : Extends names 
         plain = λ k d h. plain-later (get_or tokens k d) (all k d h) (held.plain k d h);
         lines_are = record {
           tokens_are = held.lines_are.tokens_are;
-          directives = held.lines_are.directives ∙ sym (directives-later grows tokens found.lines.items all held.lines_are.tokens_are);
+          directives = held.lines_are.directives ∙ sym (directives-later grows standard tokens found.lines.items all held.lines_are.tokens_are);
           within = held.lines_are.within;
           follow = held.lines_are.follow;
         };
-        branches = λ paths. subst (λ ts. HasBranches (lines_of c11_directive_names ts) found.lines.items) (sym (spelled-later grows paths tokens all)) (held.branches paths);
+        branches = λ paths. subst (λ ts. HasBranches (lines_of standard ts) found.lines.items) (sym (spelled-later grows paths tokens all)) (held.branches paths);
       }
 
-  module _ {holds : Option Files} {contents : Contents} (are : AreContents names files holds contents) where
+  module _ {standard : Standard} {holds : Option Files} {contents : Contents} (are : AreContents standard names files holds contents) where
     looks : (file : ℕ) (c : Option Content) → content_at contents file ≡ Some c → LooksSame names files more more_files c
-    looks file c at = looks-later file c (are.named file c at) (λ x is. are.held (record { 0 = file }) x (at ∙ ap Some is))
+    looks file c at = looks-later standard file c (are.named file c at) (λ x is. are.held (record { 0 = file }) x (at ∙ ap Some is))
 
     -- what is kept is what the same files hold, seen through the later tables
-    pub agrees-later : (held : Files) → Agrees names files held contents → Agrees more more_files held contents
+    pub agrees-later : (held : Files) → Agrees standard names files held contents → Agrees standard more more_files held contents
     agrees-later held agrees = record {
       each = λ file name c named at.
           content-as names files more more_files name (looks file c at) (agrees.each file name c (sym (files_grow.kept file (are.named file c at)) ∙ named) at);
     }
 
-    pub contents-later : AreContents more more_files holds contents
+    pub contents-later : AreContents standard more more_files holds contents
     contents-later = record {
       some = (are.some.0, agrees-later are.some.0 are.some.1);
       told = λ held is. agrees-later held (are.told held is);
-      held = λ file x at. held-later file x (are.held file x at);
+      held = λ file x at. held-later standard file x (are.held file x at);
       named = λ file c at. Extends-within file (are.named file c at) files_grow;
     }
 
     -- what later contents are is what the earlier ones were
-    pub agrees-back : (held : Files) {later : Contents} → KeepsContents contents later → Agrees more more_files held later → Agrees names files held contents
+    pub agrees-back : (held : Files) {later : Contents} → KeepsContents contents later → Agrees standard more more_files held later → Agrees standard names files held contents
     agrees-back held keeps agrees = record {
       each = λ file name c named at.
           content-as more more_files names files name (looks-back names files more more_files c (looks file c at))
@@ -191,9 +192,9 @@ same_or i j = elim (cases_order i j) [
   | inr (inr more) ↦ inr (λ same. omega (arith, more, same))
 ]
 
-module _ {names more files : List (List ℕ)} {holds : Option Files} {old : Contents} (new : Contents) (grows : Extends names more) (are : AreContents names files holds old)
+module _ {standard : Standard} {names more files : List (List ℕ)} {holds : Option Files} {old : Contents} (new : Contents) (grows : Extends names more) (are : AreContents standard names files holds old)
     (file : FileId) (c : Option Content) (kept : IsKept old.readings.items file.0 c new.readings.items) where
-  module _ (name : List ℕ) (named : slice_get files file.0 ≡ Some name) (has : IsReading more files holds file c) where
+  module _ (name : List ℕ) (named : slice_get files file.0 ≡ Some name) (has : IsReading standard more files holds file c) where
     -- what holds of the new reading and of each other one holds of all
     each-kept : (P : ℕ → Option Content → Type 0) → P file.0 c → ((i : ℕ) (x : Option Content) → content_at old i ≡ Some x → (i ≡ file.0 → ⊥) → P i x)
         → (i : ℕ) (x : Option Content) → content_at new i ≡ Some x → P i x
@@ -204,17 +205,17 @@ module _ {names more files : List (List ℕ)} {holds : Option Files} {old : Cont
 
     agrees-kept : (before after : Files) → after name ≡ has.bytes
         → ((i : ℕ) (other : List ℕ) → slice_get files i ≡ Some other → (i ≡ file.0 → ⊥) → after other ≡ before other)
-        → Agrees more files before old → Agrees more files after new
+        → Agrees standard more files before old → Agrees standard more files after new
     agrees-kept before after holds_name same agrees = record {
-      each = λ i other x there at. each-kept (λ j y. (n : List ℕ) → slice_get files j ≡ Some n → IsContent more files n (after n) y)
-          (λ n is. subst (λ m. IsContent more files m (after m) c) (same_Some name n (sym named ∙ is)) (subst (λ b. IsContent more files name b c) (sym holds_name) (has.content name named)))
-          (λ j y was apart n is. subst (λ b. IsContent more files n b y) (sym (same j n is apart)) (agrees.each j n y is was))
+      each = λ i other x there at. each-kept (λ j y. (n : List ℕ) → slice_get files j ≡ Some n → IsContent standard more files n (after n) y)
+          (λ n is. subst (λ m. IsContent standard more files m (after m) c) (same_Some name n (sym named ∙ is)) (subst (λ b. IsContent standard more files name b c) (sym holds_name) (has.content name named)))
+          (λ j y was apart n is. subst (λ b. IsContent standard more files n b y) (sym (same j n is apart)) (agrees.each j n y is was))
           i x at other there;
     }
 
-    pub contents-kept : IsOneToOne files → AreContents more files holds new
+    pub contents-kept : IsOneToOne files → AreContents standard more files holds new
     contents-kept one =
-        let later : AreContents more files holds old = contents-later grows (Extends-refl files) are in
+        let later : AreContents standard more files holds old = contents-later grows (Extends-refl files) are in
         record {
           some = (
             update same_bytes later.some.0 name has.bytes,
@@ -224,7 +225,7 @@ module _ {names more files : List (List ℕ)} {holds : Option Files} {old : Cont
                 later.some.1,
           );
           told = λ held is. agrees-kept held held (has.told held name is named) (λ i other there apart. refl) (later.told held is);
-          held = λ f x at. each-kept (λ j y. (z : Content) → y ≡ Some z → IsHeldContent more (length files) (record { 0 = j }) z)
+          held = λ f x at. each-kept (λ j y. (z : Content) → y ≡ Some z → IsHeldContent standard more (length files) (record { 0 = j }) z)
               (λ z is. has.held z is) (λ j y was apart z is. later.held (record { 0 = j }) z (was ∙ ap Some is)) f.0 (Some x) at x refl;
           named = each-kept (λ j y. j < length files) (slice_get_within files file.0 name named) (λ j y was apart. later.named j y was);
         }
@@ -258,25 +259,25 @@ module _ {holds : Option Files} (files : List (List ℕ)) (file : FileId) (name 
   told-as : (bytes : Option (List ℕ)) → ((held : Files) → holds ≡ Some held → bytes ≡ held name) → (held : Files) (other : List ℕ) → holds ≡ Some held → slice_get files file.0 ≡ Some other → held other ≡ bytes
   told-as bytes told held other is there = ap held (same_Some other name (sym there ∙ named)) ∙ sym (told held is)
 
-  pub reads-absent : (names : List (List ℕ)) → ((held : Files) → holds ≡ Some held → None ≡ held name) → IsReading names files holds file None
+  pub reads-absent : {standard : Standard} (names : List (List ℕ)) → ((held : Files) → holds ≡ Some held → None ≡ held name) → IsReading standard names files holds file None
   reads-absent names told = record { bytes = None; content = λ other there. absent; told = told-as None told; held = λ x is. absurd (some-none x is) }
 
-  pub reads-content : (names : List (List ℕ)) (bytes : List ℕ) (c : Content) → ((held : Files) → holds ≡ Some held → Some bytes ≡ held name)
-      → ((other : List (List ℕ)) (n : List ℕ) → slice_get other file.0 ≡ Some n → IsContent names other n (Some bytes) (Some c)) → ((count : ℕ) → file.0 < count → IsHeldContent names count file c)
-      → IsReading names files holds file (Some c)
-  reads-content names bytes c told is held = record {
+  pub reads-content : {standard : Standard} (names : List (List ℕ)) (bytes : List ℕ) (c : Content) → ((held : Files) → holds ≡ Some held → Some bytes ≡ held name)
+      → ((other : List (List ℕ)) (n : List ℕ) → slice_get other file.0 ≡ Some n → IsContent standard names other n (Some bytes) (Some c)) → ((count : ℕ) → file.0 < count → IsHeldContent standard names count file c)
+      → IsReading standard names files holds file (Some c)
+  reads-content {standard} names bytes c told is held = record {
     bytes = Some bytes;
     content = λ other there. is files other there;
     told = told-as (Some bytes) told;
-    held = λ x same. subst (IsHeldContent names (length files) file) (same_Some c x same) (held (length files) (slice_get_within files file.0 name named));
+    held = λ x same. subst (IsHeldContent standard names (length files) file) (same_Some c x same) (held (length files) (slice_get_within files file.0 name named));
   }
 
 -- what is kept is what some files hold that the source may hold
-pub record MayBeHeld (names files : List (List ℕ)) (holds : Option Files) (contents : Contents) : Type 0 where
+pub record MayBeHeld (standard : Standard) (names files : List (List ℕ)) (holds : Option Files) (contents : Contents) : Type 0 where
   pub outside : Files
   pub held : (told : Files) → holds ≡ Some told → outside ≡ told
-  pub agrees : Agrees names files outside contents
+  pub agrees : Agrees standard names files outside contents
 
-pub may-be-held : {names files : List (List ℕ)} (holds : Option Files) {contents : Contents} → AreContents names files holds contents → MayBeHeld names files holds contents
+pub may-be-held : {standard : Standard} {names files : List (List ℕ)} (holds : Option Files) {contents : Contents} → AreContents standard names files holds contents → MayBeHeld standard names files holds contents
 may-be-held None are = record { outside = are.some.0; held = λ told is. absurd (none-some told is); agrees = are.some.1 }
 may-be-held (Some told) are = record { outside = told; held = λ other is. same_Some told other is; agrees = are.told told refl }

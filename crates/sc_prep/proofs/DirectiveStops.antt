@@ -34,6 +34,7 @@ use Rattle.sc_model.specs.Fault.{Fault}
 use Rattle.sc_model.specs.Growth.{Extends}
 use Rattle.sc_model.specs.Sets.{Sets, Denotes, IsCond, IsConfig, Keeps}
 use Rattle.sc_model.specs.Token.{Place, Token}
+use Rattle.sc_model.specs.declared.standard.Standard.{Standard}
 use Rattle.sc_prep.specs.Apart.{AreDifferent, StandApart, tokens_in}
 use Rattle.sc_prep.specs.declared.walk.Walk.{Walk}
 use Rattle.sc_prep.specs.Expressions.{ExpandsAt, ReplacesAt, expanding_done, expanding_fails, expanding_idle, replacing_done, replacing_fails, replacing_idle}
@@ -136,14 +137,14 @@ module _ (files names : List (List ℕ)) {old s : Sets} (keeps : Keeps old s) (w
         let asked = and_from (s1.has live.0 c) (is_none m.fault) (sym (k2.at live.0 c (k1.own live.0 live_is.own) listed) ∙ parts.0) (ap is_none (ap (λ (n : Machine). n.fault) (sym done.0) ∙ clean)) in
         (asked, done.1 asked)
 
-    part-found : (h : HasParts s2 names2 made behind (limit + 1)) (p : List ℕ × Part) → IsConfig s2.arities p.0 → behind p.0 ≡ true → HasPart s2 names2 (take h.index made) h.item p
+    part-found : (h : HasParts l.standard s2 names2 made behind (limit + 1)) (p : List ℕ × Part) → IsConfig s2.arities p.0 → behind p.0 ≡ true → HasPart l.standard s2 names2 (take h.index made) h.item p
         → Found p.0 (before_token (seen names2 files h.item.1), waiting p.1)
     part-found h p there on has = λ m simulates _.
         let now = IsConfig-kept k2 there in
         let a = replaced-before p.0 m (IsConfig-kept keeps (IsConfig-kept k1 now)) simulates (λ n at. (expanded-before p.0 n now on at).0) in
         (a.asked, of_part (text_at p.0) (record { asks = asks; replaced = a.text }) (part-has s2 names2 files made h.index h.item h.is p has (expanded-before p.0 m now on a.simulates).1))
 
-    pub part-stops : (stop : Stop) → RefusesAt s2 names2 made behind limit stop → StopsAtPlace old.arities Found limit stop
+    pub part-stops : (stop : Stop) → RefusesAt l.standard s2 names2 made behind limit stop → StopsAtPlace old.arities Found limit stop
     part-stops (BranchesFull count) is =
         subst (λ arities. HasFootprints (IsConfig arities) Found (limit + 1)) (k2.arities ∙ (k1.arities ∙ keeps.arities)) (part-footprints is.1 files Found (part-found is.1))
     part-stops ReadFault is = tt
@@ -172,9 +173,9 @@ alternative-stops s names files w x l named among asked limit stop = stops-as he
 -- ---- what a line says
 
 -- a directive has a first token
-hash-of : (names files : List (List ℕ)) (line : List base.Token) (d : Directive) → (seen_line names files line).directive ≡ Some d → (t : Token) × (hash_of (seen_line names files line) ≡ Some t)
-hash-of names files [] d directed = absurd (cc)
-hash-of names files (t ∷ ts) d directed = (seen names files t, refl)
+hash-of : (standard : Standard) (names files : List (List ℕ)) (line : List base.Token) (d : Directive) → (seen_line standard names files line).directive ≡ Some d → (t : Token) × (hash_of (seen_line standard names files line) ≡ Some t)
+hash-of standard names files [] d directed = absurd (cc)
+hash-of standard names files (t ∷ ts) d directed = (seen names files t, refl)
 
 tokens-under : (cond : Cond) (ts : List base.Token) → tokens_in (under cond ts) ≡ ts
 tokens-under cond [] = refl
@@ -185,10 +186,10 @@ pub behind-different : (names files : List (List ℕ)) (w : Walk) (line : List b
 behind-different names files w line list same apart =
     different names files list (subst StandApart (sym (ap tokens_in same ∙ tokens-under w.acting (drop 2 line))) (apart-drop 2 line apart))
 
-module _ (names files : List (List ℕ)) (s : Sets) (w : Walk) (line : List base.Token) (list : List (Cond × base.Token)) (same : list ≡ under w.acting (drop 2 line)) (d : Directive)
-    (directed : (seen_line names files line).directive ≡ Some d) (says : is_said d ≡ true) where
+module _ (names files : List (List ℕ)) (s : Sets) (w : Walk) (line : List base.Token) (list : List (Cond × base.Token)) (same : list ≡ under w.acting (drop 2 line)) (standard : Standard) (d : Directive)
+    (directed : (seen_line standard names files line).directive ≡ Some d) (says : is_said d ≡ true) where
   abbrev this : Line
-  this = seen_line names files line
+  this = seen_line standard names files line
 
   is_said_line : begins_with_header (behind_name this) ≡ false → IsSaid this
   is_said_line other = record { directive = d; is = directed; says = says; other = other }
@@ -201,7 +202,7 @@ module _ (names files : List (List ℕ)) (s : Sets) (w : Walk) (line : List base
 
   -- where the machine acts the list has what stands behind the name
   all-behind : (c : List ℕ) → s.has w.acting.0 c ≡ true → behind_at c ≡ behind_name this
-  all-behind c has = text-at names files s w line list same c ∙ ap (λ b. if b then behind_name this else []) has
+  all-behind c has = text-at names files s w line list same standard c ∙ ap (λ b. if b then behind_name this else []) has
 
   -- a name of it
   pub name-said-stops : begins_with_header (behind_name this) ≡ false → (limit : ℕ) (stop : Stop)
@@ -214,10 +215,10 @@ module _ (names files : List (List ℕ)) (s : Sets) (w : Walk) (line : List base
 
   module _ (apart : StandApart line) where
     abbrev hash : Token
-    hash = (hash-of names files line d directed).0
+    hash = (hash-of standard names files line d directed).0
 
     hashed : hash_of this ≡ Some hash
-    hashed = (hash-of names files line d directed).1
+    hashed = (hash-of standard names files line d directed).1
 
     -- the header name that stands there
     pub header-stops : begins_with_header (behind_name this) ≡ true → (count : ℕ) → HaveLists s.arities (s.has w.acting.0) (λ c. places_at s list c) count → HasFootprints (IsConfig s.arities) Said count
@@ -266,13 +267,13 @@ module _ (names files : List (List ℕ)) (s : Sets) (w : Walk) (line : List base
 
 -- ---- a directive that ends the runs first
 
-module _ {A : Type 0} (limit : ℕ) (r : Result A Stop) (names files : List (List ℕ)) (old : Sets) (w : Walk) (from : Machine → Type 0) (x : Context) (line : List base.Token)
-    (d : Directive) (at : Some d ≡ directive_at names line) where
+module _ {A : Type 0} (limit : ℕ) (r : Result A Stop) (standard : Standard) (names files : List (List ℕ)) (old : Sets) (w : Walk) (from : Machine → Type 0) (x : Context) (line : List base.Token)
+    (d : Directive) (at : Some d ≡ directive_at standard names line) where
   abbrev spoken : Line
-  spoken = seen_line names files line
+  spoken = seen_line standard names files line
 
   directed-at : spoken.directive ≡ Some d
-  directed-at = directive-files names files line ∙ sym at
+  directed-at = directive-files standard names files line ∙ sym at
 
   -- a name in the run that it closes
   pub closing-stops : is_barrier d ≡ true → IfErr r (StopsWalk old names files w any_machine (λ c m f. (acts m ≡ true) × NameHas m.state.macros m.state.run f) limit)
@@ -283,11 +284,11 @@ module _ {A : Type 0} (limit : ℕ) (r : Result A Stop) (names files : List (Lis
   -- what it says behind its name
   pub carried-stops : {more : List (List ℕ)} {mid : Sets} {v : Walk} → is_said d ≡ true → Extends names more → All (IsHeld names) line → Keeps old mid
       → SimulatesOneOf files names old w more mid v (λ c m n. Closed m n)
-      → ((d : Directive) → (seen_line more files line).directive ≡ Some d → is_said d ≡ true
-      → IfErr r (StopsWalk mid more files v any_machine (λ c m f. (acts m ≡ true) × DirectiveHas m.state.macros (seen_line more files line) f) limit))
+      → ((d : Directive) → (seen_line standard more files line).directive ≡ Some d → is_said d ≡ true
+      → IfErr r (StopsWalk mid more files v any_machine (λ c m f. (acts m ≡ true) × DirectiveHas m.state.macros (seen_line standard more files line) f) limit))
       → IfErr r (StopsWalk old names files w from (λ c m. MomentsHave (ComesAt x m spoken)) limit)
   carried-stops says grows held keeps closing stops =
-      let grown = line-grown files grows line held in
+      let grown = line-grown files grows standard line held in
       answer-stops here_at _ limit r keeps.arities
       (λ c f listed has. λ m simulates _.
       let a = closing.at c m listed simulates in

@@ -2,8 +2,8 @@
 use Rattle.std.proofs.Common.{◌≡◌, ℕ, ◌<◌, ◌&&◌, Bool, true, false, List, [], ◌∷◌, All, map, reverse, length, Option, None, Some, Result, Ok, Err, refl, sym, ap, ◌∙◌, subst}
 use Rattle.std.proofs.lemmas.Bool.{and_parts}
 use Rattle.std.specs.Prelude.{slice_get}
-use Rattle.c11_directives.specs.Lines.{c11_directive_names, lines_of}
-use Rattle.c11_directives.specs.Pre.{Context, State, File, Enters, back, c11, file_lines, file_with}
+use Rattle.c11_directives.specs.Lines.{lines_of}
+use Rattle.c11_directives.specs.Pre.{Context, State, File, Enters, back, file_lines, file_with}
 use Rattle.c11_macros.specs.Results.{result_map}
 use Rattle.sc_base.specs.declared.fault.Fault as base
 use Rattle.sc_base.specs.declared.id.Cond.{Cond}
@@ -20,6 +20,7 @@ use Rattle.sc_model.specs.Outside.{Files}
 use Rattle.sc_model.specs.Sets.{Sets, IsConfig, IsCond, IsNever, Denotes, Keeps}
 use Rattle.sc_model.specs.Growth.{Extends}
 use Rattle.sc_model.specs.Token.{Token, in_file}
+use Rattle.sc_model.specs.declared.standard.Standard.{Standard}
 use Rattle.sc_prep.proofs.BetweenRuns.{enters-run}
 use Rattle.sc_prep.proofs.EnterMoves.{acts-unfaulty, arrived-at, begins-idle, begins-start, entering, idle, not-entered, refused-at, refused-here, refused-not, refuses-inside, resumed, resumes}
 use Rattle.sc_prep.proofs.FileWalk.{LeftBy, covers-entered, covers-idle}
@@ -46,23 +47,23 @@ use Rattle.sc_table.specs.Table.{IsTable}
 -- ---- what was kept of a file
 
 -- the bytes of a file whose lines were kept
-pub record HasLines (names files : List (List ℕ)) (name : List ℕ) (held : Option (List ℕ)) (found : FileLines) : Type 0 where
+pub record HasLines (standard : Standard) (names files : List (List ℕ)) (name : List ℕ) (held : Option (List ℕ)) (found : FileLines) : Type 0 where
   pub bytes : List ℕ
   pub is : held ≡ Some bytes
-  pub are : AreLinesOf names files name bytes found
+  pub are : AreLinesOf standard names files name bytes found
 
-pub has-lines : {names files : List (List ℕ)} {name : List ℕ} {held : Option (List ℕ)} {found : FileLines} → IsContent names files name held (Some (content.Lines found))
-    → HasLines names files name held found
+pub has-lines : {names files : List (List ℕ)} {name : List ℕ} {held : Option (List ℕ)} {found : FileLines} {standard : Standard} → IsContent standard names files name held (Some (content.Lines found))
+    → HasLines standard names files name held found
 has-lines (nested bytes found are) = record { bytes = bytes; is = refl; are = are }
 
 -- those of a file that refuses whoever enters it
-pub record HasRefusal (files : List (List ℕ)) (name : List ℕ) (held : Option (List ℕ)) (cause : Cause) (place : Place) : Type 0 where
+pub record HasRefusal (standard : Standard) (files : List (List ℕ)) (name : List ℕ) (held : Option (List ℕ)) (cause : Cause) (place : Place) : Type 0 where
   pub bytes : List ℕ
   pub is : held ≡ Some bytes
-  pub refuses : RefusesAll files name bytes cause place
+  pub refuses : RefusesAll standard files name bytes cause place
 
-pub has-refusal : {names files : List (List ℕ)} {name : List ℕ} {held : Option (List ℕ)} {cause : Cause} {place : Place} → IsContent names files name held (Some (content.Refused cause place))
-    → HasRefusal files name held cause place
+pub has-refusal : {names files : List (List ℕ)} {name : List ℕ} {held : Option (List ℕ)} {cause : Cause} {place : Place} {standard : Standard} → IsContent standard names files name held (Some (content.Refused cause place))
+    → HasRefusal standard files name held cause place
 has-refusal (refused bytes cause place all) = record { bytes = bytes; is = refl; refuses = all }
 
 -- ---- the configurations that enter the file
@@ -100,9 +101,9 @@ module _ {old mid : Sets} {names : List (List ℕ)} {w : Walk} {within : Cond} (
   }
 
   -- whoever enters it is refused
-  module _ {new : Sets} {next : Walk} (cause : Cause) (place : Place) (later : Keeps mid new)
-      (refuses : RefusesEach mid w (record { cond = within; cause = cause; place = place } ∷ []) new next) (x : Context) (standard : x.standard ≡ c11)
-      (has : HasRefusal files (text_at files entry.file.0) (x.files (text_at files entry.file.0)) cause place) where
+  module _ {standard : Standard} {new : Sets} {next : Walk} (cause : Cause) (place : Place) (later : Keeps mid new)
+      (refuses : RefusesEach mid w (record { cond = within; cause = cause; place = place } ∷ []) new next) (x : Context) (by_standard : x.standard ≡ standard)
+      (has : HasRefusal standard files (text_at files entry.file.0) (x.files (text_at files entry.file.0)) cause place) where
     abbrev fault : base.Fault
     fault = record { cond = within; cause = cause; place = place }
 
@@ -112,7 +113,7 @@ module _ {old mid : Sets} {names : List (List ℕ)} {w : Walk} {within : Cond} (
         let both = both-enter config m listed at here in
         record {
           machine = arriving m (Err (seen_fault files fault));
-          done = enters-file config m listed at x (text_at files entry.file.0) has.bytes refl has.is (Err (seen_fault files fault)) (has.refuses x _ standard) here;
+          done = enters-file config m listed at x (text_at files entry.file.0) has.bytes refl has.is (Err (seen_fault files fault)) (has.refuses x _ by_standard) here;
           simulates = subst (Simulates new names files next config) (refused-at x (text_at files entry.file.0) entry.depth m (seen_fault files fault) both.1)
               (refused-here later names files w next fault refuses (owns-kept keeps w owns) (IsTable-Keeps keeps is) config (IsConfig-Keeps keeps listed) m (stays config m listed at)
               inside_is.own here (acts-unfaulty m both.1));
@@ -142,16 +143,16 @@ module _ {old mid : Sets} {names : List (List ℕ)} {w : Walk} {within : Cond} (
     around-sections = subst (λ (a : Around). All (OwnsSection last) a.sections.items) (sym begins.around_is) kept.sections
 
     -- ---- at one configuration
-    module _ (grows : Extends names more) (files_grow : Extends files more_files) (held : IsHeldWalk names (length files) any_token w) (walked_owns : Owns last walked) (walked_is : IsTable last more walked.table) (x : Context) (standard : x.standard ≡ c11) (lines : FileLines)
-        (named : slice_get files entry.file.0 ≡ Some (text_at files entry.file.0)) (has : HasLines names files (text_at files entry.file.0) (x.files (text_at files entry.file.0)) lines)
-        (walks : Leads files names mid begun more_files more last walked (IsAtTop files entry) (λ config m n. Covers x (seen_lines names files lines.tokens.items) m n)) where
+    module _ {standard : Standard} (grows : Extends names more) (files_grow : Extends files more_files) (held : IsHeldWalk names (length files) any_token w) (walked_owns : Owns last walked) (walked_is : IsTable last more walked.table) (x : Context) (by_standard : x.standard ≡ standard) (lines : FileLines)
+        (named : slice_get files entry.file.0 ≡ Some (text_at files entry.file.0)) (has : HasLines standard names files (text_at files entry.file.0) (x.files (text_at files entry.file.0)) lines)
+        (walks : Leads files names mid begun more_files more last walked (IsAtTop files entry) (λ config m n. Covers x (seen_lines standard names files lines.tokens.items) m n)) where
       abbrev file : File
       file = file_with (text_at files entry.file.0) has.bytes
 
-      lines-are : seen_lines names files lines.tokens.items ≡ file_lines x file has.are.lexemes
+      lines-are : seen_lines standard names files lines.tokens.items ≡ file_lines x file has.are.lexemes
       lines-are =
-          ap (lines_of c11_directive_names) has.are.tokens
-          ∙ ap (λ st. lines_of st.directives (map (in_file (text_at files entry.file.0)) has.are.lexemes)) (sym standard)
+          ap (lines_of standard) has.are.tokens
+          ∙ ap (λ st. lines_of st (map (in_file (text_at files entry.file.0)) has.are.lexemes)) (sym by_standard)
 
       module _ (config : List ℕ) (m : Machine) (listed : IsConfig old.arities config) (at : Simulates old names files w config m) where
         group-then : last.has around.group.0 config ≡ m.active
@@ -265,26 +266,26 @@ refused-list refuses = ap (λ (v : Walk). v.prepared.list) refuses.same
 -- ---- what was kept, seen from later
 
 -- the lines that were kept are those of the file
-pub kept-lines : {names files : List (List ℕ)} {held : Files} {contents : Contents} {c : Content} (file : ℕ) (found : FileLines) → Agrees names files held contents
-    → slice_get files file ≡ Some (text_at files file) → content_at contents file ≡ Some (Some c) → c ≡ content.Lines found → HasLines names files (text_at files file) (held (text_at files file)) found
-kept-lines {names} {files} {held} {c = c} file found agrees named at is =
+pub kept-lines : {names files : List (List ℕ)} {held : Files} {contents : Contents} {c : Content} {standard : Standard} (file : ℕ) (found : FileLines) → Agrees standard names files held contents
+    → slice_get files file ≡ Some (text_at files file) → content_at contents file ≡ Some (Some c) → c ≡ content.Lines found → HasLines standard names files (text_at files file) (held (text_at files file)) found
+kept-lines {names} {files} {held} {c = c} {standard} file found agrees named at is =
     let name = text_at files file in
-    has-lines (subst (λ k. IsContent names files name (held name) (Some k)) is (agrees.each file name (Some c) named at))
+    has-lines (subst (λ k. IsContent standard names files name (held name) (Some k)) is (agrees.each file name (Some c) named at))
 
-pub kept-refusal : {names files : List (List ℕ)} {held : Files} {contents : Contents} {c : Content} (file : ℕ) (cause : Cause) (place : Place) → Agrees names files held contents
+pub kept-refusal : {names files : List (List ℕ)} {held : Files} {contents : Contents} {c : Content} {standard : Standard} (file : ℕ) (cause : Cause) (place : Place) → Agrees standard names files held contents
     → slice_get files file ≡ Some (text_at files file) → content_at contents file ≡ Some (Some c) → c ≡ content.Refused cause place
-    → HasRefusal files (text_at files file) (held (text_at files file)) cause place
-kept-refusal {names} {files} {held} {c = c} file cause place agrees named at is =
+    → HasRefusal standard files (text_at files file) (held (text_at files file)) cause place
+kept-refusal {names} {files} {held} {c = c} {standard} file cause place agrees named at is =
     let name = text_at files file in
-    has-refusal {names = names} (subst (λ k. IsContent names files name (held name) (Some k)) is (agrees.each file name (Some c) named at))
+    has-refusal {names = names} (subst (λ k. IsContent standard names files name (held name) (Some k)) is (agrees.each file name (Some c) named at))
 
 -- the tables hold what was kept of a file
-pub held-lines : {names files : List (List ℕ)} {holds : Option Files} {contents : Contents} {c : Content} (file : FileId) (found : FileLines) → AreContents names files holds contents
-    → content_at contents file.0 ≡ Some (Some c) → c ≡ content.Lines found → AreHeldLines names (length files) file found
-held-lines {names} {files} {c = c} file found are at is = subst (IsHeldContent names (length files) file) is (are.held file c at)
+pub held-lines : {names files : List (List ℕ)} {holds : Option Files} {contents : Contents} {c : Content} {standard : Standard} (file : FileId) (found : FileLines) → AreContents standard names files holds contents
+    → content_at contents file.0 ≡ Some (Some c) → c ≡ content.Lines found → AreHeldLines standard names (length files) file found
+held-lines {names} {files} {c = c} {standard} file found are at is = subst (IsHeldContent standard names (length files) file) is (are.held file c at)
 
-pub held-refusal : {names files : List (List ℕ)} {holds : Option Files} {contents : Contents} {c : Content} (file : FileId) (cause : Cause) (place : Place) → AreContents names files holds contents
+pub held-refusal : {names files : List (List ℕ)} {holds : Option Files} {contents : Contents} {c : Content} {standard : Standard} (file : FileId) (cause : Cause) (place : Place) → AreContents standard names files holds contents
     → content_at contents file.0 ≡ Some (Some c) → c ≡ content.Refused cause place → place.file.0 < length files
-held-refusal {names} {files} {c = c} file cause place are at is =
-    let same : place.file ≡ file = subst (IsHeldContent names (length files) file) is (are.held file c at) in
+held-refusal {names} {files} {c = c} {standard} file cause place are at is =
+    let same : place.file ≡ file = subst (IsHeldContent standard names (length files) file) is (are.held file c at) in
     subst (λ (f : FileId). f.0 < length files) (sym same) (are.named file.0 (Some c) at)

@@ -7,8 +7,9 @@ use Rattle.c11_directives.specs.declared.directive.Conditional.TheVariants.{Open
 use Rattle.c11_directives.specs.declared.directive.Test.{Test}
 use Rattle.c11_directives.specs.declared.directive.Test.TheVariants.{Expression}
 use Rattle.c11_directives.specs.Lines.{Line, conditional_of, hash_of, test_of}
-use Rattle.c11_directives.specs.Pre.{Context, c11}
+use Rattle.c11_directives.specs.Pre.{Context}
 use Rattle.c11_expressions.specs.Lines.{Comes, failure, without_defined}
+use Rattle.sc_model.specs.declared.standard.Standard.TheVariants.{C11}
 use Rattle.c11_macros.specs.Hidden.{Failure, Hidden}
 use Rattle.c11_macros.specs.Results.{result_map}
 use Rattle.c11_macros.specs.Text.{TextExpands, fault_of, unhidden}
@@ -28,6 +29,7 @@ use Rattle.sc_model.specs.declared.cause.Cause.{Cause}
 use Rattle.sc_model.specs.Fault.{Fault}
 use Rattle.sc_model.specs.Sets.{Sets, Denotes, IsConfig, IsCond, Keeps}
 use Rattle.sc_model.specs.Token.{Token}
+use Rattle.sc_model.specs.declared.standard.Standard.{Standard}
 use Rattle.sc_prep.specs.Expressions.{DecidesAt, EvaluatesAt, ExpandsAt, ReplacesAt, deciding_idle, evaluating_done, evaluating_fails, evaluating_idle, expanding_done, expanding_fails, expanding_idle, replacing_done, replacing_fails, replacing_idle}
 use Rattle.sc_prep.specs.Machine as machine
 use Rattle.sc_prep.specs.Machine.{Machine, acts, next_branch, opened}
@@ -169,12 +171,12 @@ module _ {old s : Sets} (keeps : Keeps old s) (w : Walk) (among live : Cond) (li
 
   -- ---- what is left is evaluated
 
-  module _ {names files : List (List ℕ)} {mid new : Sets} (k2 : Keeps s mid) (k3 : Keeps mid new) (list : List (Cond × base_token.Token)) (own_list : All (λ (item : Cond × base_token.Token). IsCond old item.0.0) list)
+  module _ {standard : Standard} {names files : List (List ℕ)} {mid new : Sets} (k2 : Keeps s mid) (k3 : Keeps mid new) (list : List (Cond × base_token.Token)) (own_list : All (λ (item : Cond × base_token.Token). IsCond old item.0.0) list)
       (hash : base_place.Place) (d : Decided) (own_taken : IsCond mid d.taken.0)
-      (decides : (c : List ℕ) → IsConfig s.arities c → s.has live.0 c ≡ true → decided.IsDecided s mid names files list hash d c)
+      (decides : (c : List ℕ) → IsConfig s.arities c → s.has live.0 c ≡ true → decided.IsDecided standard s mid names files list hash d c)
       (others : (c : List ℕ) → IsConfig s.arities c → s.has live.0 c ≡ false → (mid.has d.taken.0 c ≡ false) × (faults_at mid d.faults.items c ≡ [])) where
     pub evaluates-at : (c : List ℕ) (m : Machine) → IsConfig old.arities c → Simulates old names files w c m
-        → FaultsAt mid files d.faults.items c m (EvaluatesAt (seen_place files hash) (map (seen names files) (items_at old list c)) (old.has among.0 c && is_none m.fault) m (new.has d.taken.0 c))
+        → FaultsAt mid files d.faults.items c m (EvaluatesAt standard (seen_place files hash) (map (seen names files) (items_at old list c)) (old.has among.0 c && is_none m.fault) m (new.has d.taken.0 c))
     evaluates-at c m listed simulates = by (old.has among.0 c && is_none m.fault) refl
       where
         now : IsConfig s.arities c
@@ -183,27 +185,27 @@ module _ {old s : Sets} (keeps : Keeps old s) (w : Walk) (among live : Cond) (li
         kept_taken : new.has d.taken.0 c ≡ mid.has d.taken.0 c
         kept_taken = k3.at d.taken.0 c own_taken (IsConfig-Keeps k2 now)
 
-        told : (old.has among.0 c && is_none m.fault) ≡ true → (r : Result Bool (Failure _)) → Comes (seen_place files hash) (Ok (decided.line_of names files (items_at s list c))) r
+        told : (old.has among.0 c && is_none m.fault) ≡ true → (r : Result Bool (Failure _)) → Comes standard (seen_place files hash) (Ok (decided.line_of names files (items_at s list c))) r
             → decided.Stands r (mid.has d.taken.0 c) (map (seen_fault files) (faults_at mid d.faults.items c))
-            → FaultsAt mid files d.faults.items c m (EvaluatesAt (seen_place files hash) (map (seen names files) (items_at old list c)) (old.has among.0 c && is_none m.fault) m (new.has d.taken.0 c))
+            → FaultsAt mid files d.faults.items c m (EvaluatesAt standard (seen_place files hash) (map (seen names files) (items_at old list c)) (old.has among.0 c && is_none m.fault) m (new.has d.taken.0 c))
         told asked (Ok is_taken) comes stands = record {
           fault = None;
           told = stands.1;
           fresh = λ some. absurd (true≢false (sym some));
           done = evaluating_done asked
-              (subst (λ b. Comes (seen_place files hash) (Ok (map unhidden (map (seen names files) (items_at old list c)))) (Ok b)) (sym (kept_taken ∙ stands.0))
-              (subst (λ items. Comes (seen_place files hash) (Ok (map unhidden (map (seen names files) items))) (Ok is_taken)) (items_at-Keeps list c keeps own_list listed) comes));
+              (subst (λ b. Comes standard (seen_place files hash) (Ok (map unhidden (map (seen names files) (items_at old list c)))) (Ok b)) (sym (kept_taken ∙ stands.0))
+              (subst (λ items. Comes standard (seen_place files hash) (Ok (map unhidden (map (seen names files) items))) (Ok is_taken)) (items_at-Keeps list c keeps own_list listed) comes));
         }
         told asked (Err why) comes stands = record {
           fault = Some (fault_of why);
           told = stands.1;
           fresh = λ _. right-none (old.has among.0 c) m.fault asked;
           done = evaluating_fails why asked (kept_taken ∙ stands.0)
-              (subst (λ items. Comes (seen_place files hash) (Ok (map unhidden (map (seen names files) items))) (Err why)) (items_at-Keeps list c keeps own_list listed) comes);
+              (subst (λ items. Comes standard (seen_place files hash) (Ok (map unhidden (map (seen names files) items))) (Err why)) (items_at-Keeps list c keeps own_list listed) comes);
         }
 
         by : (b : Bool) → (old.has among.0 c && is_none m.fault) ≡ b
-            → FaultsAt mid files d.faults.items c m (EvaluatesAt (seen_place files hash) (map (seen names files) (items_at old list c)) (old.has among.0 c && is_none m.fault) m (new.has d.taken.0 c))
+            → FaultsAt mid files d.faults.items c m (EvaluatesAt standard (seen_place files hash) (map (seen names files) (items_at old list c)) (old.has among.0 c && is_none m.fault) m (new.has d.taken.0 c))
         by true same =
             let x = decides c now (asked-at c m listed simulates ∙ same) in
             told same x.answer x.comes x.stands
@@ -238,7 +240,7 @@ module _ (files names : List (List ℕ)) {old s : Sets} (keeps : Keeps old s) (w
       (ts us : List ℕ → List Token) (is_taken : List ℕ → Bool)
       (replaces : SimulatesOneOf files names s w names1 s1 w1 (λ c m n. ReplacesAt (behind_name l) hash.place (s.has live.0 c && is_none m.fault) m (ts c) n))
       (expands : SimulatesOneOf files names1 s1 w1 names2 s2 w2 (λ c m n. ExpandsAt (ts c) (s1.has live.0 c && is_none m.fault) m (us c) n))
-      (evaluates : SimulatesOneOf files names2 s2 w2 names2 s3 w3 (λ c m n. EvaluatesAt hash.place (us c) (s2.has live.0 c && is_none m.fault) m (is_taken c) n)) where
+      (evaluates : SimulatesOneOf files names2 s2 w2 names2 s3 w3 (λ c m n. EvaluatesAt l.standard hash.place (us c) (s2.has live.0 c && is_none m.fault) m (is_taken c) n)) where
     pub decides-by : SimulatesOneOf files names old w names2 s3 w3 (λ c m n. DecidesAt x l (old.has among.0 c && is_none m.fault) m (is_taken c) n)
     decides-by = record {
       owns = evaluates.owns;
@@ -258,7 +260,7 @@ module _ (files names : List (List ℕ)) {old s : Sets} (keeps : Keeps old s) (w
             done = subst (λ L. DecidesAt x l L m (is_taken c) d.machine) asked
                 (decided-by x l hash asks hashed (s.has live.0 c) (ts c) (us c) (λ e. right-none (old.has among.0 c) m.fault (sym asked ∙ e)) a.done
                 (subst (λ L. ExpandsAt (ts c) (L && is_none a.machine.fault) a.machine (us c) b.machine) same1 b.done)
-                (subst (λ L. EvaluatesAt hash.place (us c) (L && is_none b.machine.fault) b.machine (is_taken c) d.machine) same2 d.done));
+                (subst (λ L. EvaluatesAt l.standard hash.place (us c) (L && is_none b.machine.fault) b.machine (is_taken c) d.machine) same2 d.done));
             simulates = d.simulates;
           };
     }
@@ -267,7 +269,7 @@ module _ (files names : List (List ℕ)) {old s : Sets} (keeps : Keeps old s) (w
 
 -- a context, where what is to be shown names none
 abbrev pub empty_context : Context
-empty_context = record { files = λ _. None; include = []; include_depth = 0; standard = c11 }
+empty_context = record { files = λ _. None; include = []; include_depth = 0; standard = C11 }
 
 pub section-opened : {names more : List (List ℕ)} {old mid new : Sets} {w v next : Walk} (files : List (List ℕ)) (x : Context) (l : Line) {test : Test} → conditional_of l ≡ Some (Opening test) → Keeps old mid → (taken : Cond)
     → SimulatesOneOf files names old w more mid v (λ c m n. DecidesAt x l (old.has w.acting.0 c && is_none m.fault) m (mid.has taken.0 c) n)

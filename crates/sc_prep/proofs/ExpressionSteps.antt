@@ -1,6 +1,6 @@
 -- The stages of an expression at one configuration.
 use Rattle.std.proofs.Common.{◌≡◌, ℕ, ◌<◌, ◌&&◌, not, Bool, true, false, List, [], ◌∷◌, map, length, Some, None, Result, Ok, Err, get_or, refl, sym, ap, subst, ◌∙◌, arith, if◌then◌else◌}
-use Rattle.std.specs.Prelude.{is_none}
+use Rattle.std.specs.Prelude.{is_none, codes}
 use Rattle.c11_directives.specs.Behind.{behind_name}
 use Rattle.c11_directives.specs.Lines.{Line, conditional_of, hash_of, test_of}
 use Rattle.c11_directives.specs.Pre.{Context, Decides, decision_of, expression}
@@ -23,11 +23,11 @@ use Rattle.sc_guarded.specs.Items.{seen_fault}
 use Rattle.sc_if.proofs.AnswerLemmas.{comes-expanded}
 use Rattle.sc_if.specs.Replaced as replaced
 use Rattle.sc_model.specs.Bytes.{same_bytes}
-use Rattle.std.specs.Prelude.{codes}
 use Rattle.sc_model.specs.declared.cause.Cause.{Cause}
 use Rattle.sc_model.specs.declared.cause.Cause.TheVariants.{BadIf}
 use Rattle.sc_model.specs.Fault.{Fault}
 use Rattle.sc_model.specs.Token.{Place, Token}
+use Rattle.sc_model.specs.declared.standard.Standard.{Standard}
 use Rattle.sc_prep.specs.Expressions.{DecidesAt, EvaluatesAt, ExpandsAt, ReplacesAt, deciding_done, deciding_fails, deciding_idle, evaluating_done, evaluating_fails, evaluating_idle, expanding_done, expanding_fails, expanding_idle, failed, replacing_done, replacing_fails, replacing_idle}
 use Rattle.sc_prep.specs.Machine.{Machine, Decided, acts, asks_by, next_branch, opened, step_by}
 
@@ -99,7 +99,7 @@ idle-expands idle (expanding_idle quiet none) = refl
 idle-expands idle (expanding_done asked is) = let both = sym idle ∙ asked in absurd (cc)
 idle-expands idle (expanding_fails fault asked is) = let both = sym idle ∙ asked in absurd (cc)
 
-pub idle-evaluates : {hash : Place} {ts : List Token} {b : Bool} {m n : Machine} {is_taken : Bool} → b ≡ false → EvaluatesAt hash ts b m is_taken n → (n ≡ m) × (is_taken ≡ false)
+pub idle-evaluates : {standard : Standard} {hash : Place} {ts : List Token} {b : Bool} {m n : Machine} {is_taken : Bool} → b ≡ false → EvaluatesAt standard hash ts b m is_taken n → (n ≡ m) × (is_taken ≡ false)
 idle-evaluates idle (evaluating_idle quiet none) = (refl, none)
 idle-evaluates idle (evaluating_done asked is) = let both = sym idle ∙ asked in absurd (cc)
 idle-evaluates idle (evaluating_fails why asked none is) = let both = sym idle ∙ asked in absurd (cc)
@@ -109,21 +109,21 @@ idle-evaluates idle (evaluating_fails why asked none is) = let both = sym idle �
 module _ (x : Context) (l : Line) (hash : Token) (asks : test_of l ≡ Some Expression) (hashed : hash_of l ≡ Some hash) where
   -- nothing more happens to a line that was refused
   refused-then : {m o p : Machine} {b : Bool} {us : List Token} {is_taken : Bool} (fault : Fault) → Decides x m.state l (Err fault)
-      → o ≡ failed m fault → b ≡ false → EvaluatesAt hash.place us b o is_taken p → DecidesAt x l true m is_taken p
+      → o ≡ failed m fault → b ≡ false → EvaluatesAt l.standard hash.place us b o is_taken p → DecidesAt x l true m is_taken p
   refused-then {m} {o} {p} {is_taken = is_taken} fault decides failing idle evaluates =
       let last = idle-evaluates idle evaluates in
       subst (DecidesAt x l true m is_taken) (sym (last.0 ∙ failing)) (deciding_fails fault refl last.1 decides)
 
   -- what an expansion comes to decides
   comes-decides : (m : Machine) (ts us : List Token) (answer : Result Bool (Failure Place)) → without_defined m.state.macros (map unhidden (behind_name l)) ≡ Ok (map unhidden ts)
-      → TextExpands m.state.macros ts (Ok us) → Comes hash.place (Ok (map unhidden us)) answer → Decides x m.state l (decision_of answer)
+      → TextExpands m.state.macros ts (Ok us) → Comes l.standard hash.place (Ok (map unhidden us)) answer → Decides x m.state l (decision_of answer)
   comes-decides m ts us answer is expands comes = by expands.answer expands.expands expands.is
     where
       by : (a : Result (List (Hidden Place)) (Failure Place)) → Expands place_alone m.state.macros (map unhidden ts) a → Ok us ≡ text_of_answer a → Decides x m.state l (decision_of answer)
       by (Ok xs) becomes e =
           let same : us ≡ map token_of xs = cc in
           expression hash answer asks hashed
-          (lines.expanded (map unhidden ts) (Ok xs) answer is becomes (comes-expanded hash.place xs answer (subst (λ vs. Comes hash.place (Ok (map unhidden vs)) answer) same comes)))
+          (lines.expanded (map unhidden ts) (Ok xs) answer is becomes (comes-expanded l.standard hash.place xs answer (subst (λ vs. Comes l.standard hash.place (Ok (map unhidden vs)) answer) same comes)))
       by (Err why) becomes e = absurd (cc)
 
   -- so does the fault of one
@@ -139,19 +139,19 @@ module _ (x : Context) (l : Line) (hash : Token) (asks : test_of l ≡ Some Expr
 
   module _ (m : Machine) (none : m.fault ≡ None) where
     evaluated-then : (ts us : List Token) {p : Machine} {is_taken : Bool} → without_defined m.state.macros (map unhidden (behind_name l)) ≡ Ok (map unhidden ts)
-        → TextExpands m.state.macros ts (Ok us) → EvaluatesAt hash.place us (true && is_none m.fault) m is_taken p → DecidesAt x l true m is_taken p
+        → TextExpands m.state.macros ts (Ok us) → EvaluatesAt l.standard hash.place us (true && is_none m.fault) m is_taken p → DecidesAt x l true m is_taken p
     evaluated-then ts us is expands (evaluating_idle quiet untaken) = let both = sym (ap is_none none) ∙ quiet in absurd (cc)
     evaluated-then ts us {is_taken = is_taken} is expands (evaluating_done asked comes) = deciding_done refl (comes-decides m ts us (Ok is_taken) is expands comes)
     evaluated-then ts us is expands (evaluating_fails why asked untaken comes) = deciding_fails (fault_of why) refl untaken (comes-decides m ts us (Err why) is expands comes)
 
     expanded-then : (ts us : List Token) {o p : Machine} {is_taken : Bool} → without_defined m.state.macros (map unhidden (behind_name l)) ≡ Ok (map unhidden ts)
-        → ExpandsAt ts (true && is_none m.fault) m us o → EvaluatesAt hash.place us (true && is_none o.fault) o is_taken p → DecidesAt x l true m is_taken p
+        → ExpandsAt ts (true && is_none m.fault) m us o → EvaluatesAt l.standard hash.place us (true && is_none o.fault) o is_taken p → DecidesAt x l true m is_taken p
     expanded-then ts us is (expanding_idle quiet nothing) evaluates = let both = sym (ap is_none none) ∙ quiet in absurd (cc)
     expanded-then ts us is (expanding_done asked expands) evaluates = evaluated-then ts us is expands evaluates
     expanded-then ts us is (expanding_fails fault asked expands) evaluates = refused-then fault (fails-decides m ts fault is expands) refl refl evaluates
 
     replaced-then : (ts us : List Token) {n o p : Machine} {is_taken : Bool} → ReplacesAt (behind_name l) hash.place (true && is_none m.fault) m ts n
-        → ExpandsAt ts (true && is_none n.fault) n us o → EvaluatesAt hash.place us (true && is_none o.fault) o is_taken p → DecidesAt x l true m is_taken p
+        → ExpandsAt ts (true && is_none n.fault) n us o → EvaluatesAt l.standard hash.place us (true && is_none o.fault) o is_taken p → DecidesAt x l true m is_taken p
     replaced-then ts us (replacing_idle quiet nothing) expands evaluates = let both = sym (ap is_none none) ∙ quiet in absurd (cc)
     replaced-then ts us (replacing_done asked is) expands evaluates = expanded-then ts us is expands evaluates
     replaced-then ts us {o = o} {p = p} (replacing_fails cause asked is) expands evaluates =
@@ -161,7 +161,7 @@ module _ (x : Context) (l : Line) (hash : Token) (asks : test_of l ≡ Some Expr
 
   -- the three stages, where L has the configuration
   pub decided-by : (L : Bool) {m n o p : Machine} (ts us : List Token) {is_taken : Bool} → (L ≡ true → m.fault ≡ None) → ReplacesAt (behind_name l) hash.place (L && is_none m.fault) m ts n
-      → ExpandsAt ts (L && is_none n.fault) n us o → EvaluatesAt hash.place us (L && is_none o.fault) o is_taken p → DecidesAt x l L m is_taken p
+      → ExpandsAt ts (L && is_none n.fault) n us o → EvaluatesAt l.standard hash.place us (L && is_none o.fault) o is_taken p → DecidesAt x l L m is_taken p
   decided-by true {m} ts us fresh replaces expands evaluates = replaced-then m (fresh refl) ts us replaces expands evaluates
   decided-by false {m} ts us {is_taken} fresh replaces expands evaluates =
       let last = idle-evaluates refl evaluates in
@@ -208,10 +208,10 @@ decided-alternative x l {m = m} named same (deciding_fails fault asked untaken d
 
 -- ---- the # of a line that has one
 
-pub asking-long : (names files : List (List ℕ)) (line : List base_token.Token) {test : Test} → test_of (seen_line names files line) ≡ Some test → 0 < length line
-asking-long names files [] named = absurd (cc)
-asking-long names files (t ∷ ts) named = omega arith
+pub asking-long : (standard : Standard) (names files : List (List ℕ)) (line : List base_token.Token) {test : Test} → test_of (seen_line standard names files line) ≡ Some test → 0 < length line
+asking-long standard names files [] named = absurd (cc)
+asking-long standard names files (t ∷ ts) named = omega arith
 
-pub hash-line : (names files : List (List ℕ)) (line : List base_token.Token) (d : base_token.Token) → 0 < length line → hash_of (seen_line names files line) ≡ Some (seen names files (get_or line 0 d))
-hash-line names files [] d long = absurd (omega (arith, long))
-hash-line names files (t ∷ ts) d long = refl
+pub hash-line : (standard : Standard) (names files : List (List ℕ)) (line : List base_token.Token) (d : base_token.Token) → 0 < length line → hash_of (seen_line standard names files line) ≡ Some (seen names files (get_or line 0 d))
+hash-line standard names files [] d long = absurd (omega (arith, long))
+hash-line standard names files (t ∷ ts) d long = refl

@@ -8,8 +8,8 @@ use Rattle.c11_directives.specs.Behind.{Says}
 use Rattle.c11_directives.specs.declared.directive.Directive.{Directive}
 use Rattle.c11_directives.specs.declared.directive.Directive.TheVariants as directive
 use Rattle.c11_directives.specs.Footprints.{DirectiveHas, MomentsHave, NameHas, SourceFootprint, Spot, Used, of_directive, of_run}
-use Rattle.c11_directives.specs.Lines.{Line, c11_directive_names, hash_of, lines_of}
-use Rattle.c11_directives.specs.Pre.{Closes, Context, File, State, c11, closed, deeper, file_lines, file_with, is_barrier, is_said, put_out, search}
+use Rattle.c11_directives.specs.Lines.{Line, hash_of, lines_of}
+use Rattle.c11_directives.specs.Pre.{Closes, Context, File, State, closed, deeper, file_lines, file_with, is_barrier, is_said, put_out, search}
 use Rattle.c11_directives.specs.Reaches.{FileReaches, Moment, at_line, in_file, itself}
 use Rattle.c11_headers.specs.Headers.{candidates}
 use Rattle.sc_base.specs.declared.id.Cond.{Cond}
@@ -21,6 +21,7 @@ use Rattle.sc_model.specs.Fault.{Fault}
 use Rattle.sc_model.specs.Sets.{Sets, IsConfig, Denotes, Keeps}
 use Rattle.sc_model.specs.Token as plain
 use Rattle.sc_model.specs.Token.{Place, Token}
+use Rattle.sc_model.specs.declared.standard.Standard.{Standard}
 use Rattle.sc_prep.proofs.BetweenRuns.{refused-acts}
 use Rattle.sc_prep.proofs.ComesFrom.{comes-entered, comes-inert}
 use Rattle.sc_prep.proofs.EnterLeads.{HasLines, both-enter, stays}
@@ -117,22 +118,22 @@ comes-included {m = m} file hash is hashed staged left_is inside =
 
 -- ---- a file that is entered
 
-module _ {old mid : Sets} {names : List (List ℕ)} {w begun : Walk} {inside : Cond} {around : Around} (files : List (List ℕ)) (cond : Cond) (entry : Entry) (keeps : Keeps old mid)
+module _ {standard : Standard} {old mid : Sets} {names : List (List ℕ)} {w begun : Walk} {inside : Cond} {around : Around} (files : List (List ℕ)) (cond : Cond) (entry : Entry) (keeps : Keeps old mid)
     (inside_is : Denotes mid inside.0 (λ c. old.has cond.0 c && old.has w.acting.0 c)) (owns : Owns old w) (is : IsTable old names w.table) (begins : Begins w inside begun around)
-    (x : Context) (standard : x.standard ≡ c11) (lines : FileLines) (named : slice_get files entry.file.0 ≡ Some (text_at files entry.file.0))
-    (has : HasLines names files (text_at files entry.file.0) (x.files (text_at files entry.file.0)) lines) where
+    (x : Context) (by_standard : x.standard ≡ standard) (lines : FileLines) (named : slice_get files entry.file.0 ≡ Some (text_at files entry.file.0))
+    (has : HasLines standard names files (text_at files entry.file.0) (x.files (text_at files entry.file.0)) lines) where
   abbrev file : File
   file = file_with (text_at files entry.file.0) has.bytes
 
   -- what every machine at its first line comes to, who enters it does
   pub comes-inside : (config : List ℕ) (f : SourceFootprint) → IsConfig old.arities config
-      → Comes mid names files begun (IsAtTop files entry) (λ config m. MomentsHave (ComesOver x (seen_lines names files lines.tokens.items) m)) config f
+      → Comes mid names files begun (IsAtTop files entry) (λ config m. MomentsHave (ComesOver x (seen_lines standard names files lines.tokens.items) m)) config f
       → Comes old names files w IsBetweenRuns (λ config m f. (old.has cond.0 config ≡ true) × MomentsHave (ComesInside x (text_at files entry.file.0) entry.depth m) f) config f
   comes-inside config f listed comes = λ m at between. by m at between (mid.has inside.0 config) refl
     where
-      lines-are : seen_lines names files lines.tokens.items ≡ file_lines x file has.are.lexemes
+      lines-are : seen_lines standard names files lines.tokens.items ≡ file_lines x file has.are.lexemes
       lines-are =
-          ap (lines_of c11_directive_names) has.are.tokens ∙ ap (λ st. lines_of st.directives (map (plain.in_file (text_at files entry.file.0)) has.are.lexemes)) (sym standard)
+          ap (lines_of standard) has.are.tokens ∙ ap (λ st. lines_of st (map (plain.in_file (text_at files entry.file.0)) has.are.lexemes)) (sym by_standard)
 
       by : (m : Machine) → Simulates old names files w config m → IsBetweenRuns m → (b : Bool) → mid.has inside.0 config ≡ b
           → (old.has cond.0 config ≡ true) × MomentsHave (ComesInside x (text_at files entry.file.0) entry.depth m) f

@@ -52,7 +52,7 @@ module _ (x : Context) (f : File) (s : State) (lexemes : List Lexeme) (group : G
   covers-entered {lines} {n} are tree covers =
       let grouped : IsTree (file_lines x f lexemes) group = subst (λ ls. IsTree ls group) are tree in
       let whole = sym (grouped.whole ∙ sym are) in
-      let hashes = lines-hashes x.standard.directives (split_lines (λ t. is_newline t.kind) (map (in_file f.name) lexemes)) in
+      let hashes = lines-hashes x.standard (split_lines (λ t. is_newline t.kind) (map (in_file f.name) lexemes)) in
       let e =
       follows x group grouped.grouped (subst HaveHashes (sym grouped.whole) hashes) (inside f s) [] covers.end (subst (λ ls. Runs x (start (inside f s)) ls covers.end) whole covers.runs) in
       subst (Entered x f s) (sym (covers.closed.is ∙ ap (λ m. closing_run m covers.closed.answer) e.is))

@@ -15,6 +15,7 @@ use Rattle.sc_base.specs.declared.id.Cond.{Cond}
 use Rattle.sc_base.specs.declared.id.FileId.{FileId}
 use Rattle.sc_model.proofs.SetLemmas.{IsConfig-Keeps}
 use Rattle.sc_model.specs.Sets.{Sets, Denotes, IsCond, IsConfig, Keeps}
+use Rattle.sc_model.specs.declared.standard.Standard.{Standard}
 use Rattle.sc_prep.specs.declared.including.Part.{Part}
 use Rattle.sc_prep.specs.declared.content.Content.{Content}
 use Rattle.sc_prep.specs.declared.content.Contents.{Contents}
@@ -126,14 +127,14 @@ module _ (s : Sets) (parts next : List Part) (part : Part) (pushed : next ≡ pa
 
 -- ---- names in order
 
-none-content : {names files : List (List ℕ)} {name : List ℕ} {b : Option (List ℕ)} → IsContent names files name b None → b ≡ None
+none-content : {standard : Standard} {names files : List (List ℕ)} {name : List ℕ} {b : Option (List ℕ)} → IsContent standard names files name b None → b ≡ None
 none-content absent = refl
 
-some-content : {names files : List (List ℕ)} {name : List ℕ} {b : Option (List ℕ)} {x : Content} → IsContent names files name b (Some x) → (bytes : List ℕ) × (b ≡ Some bytes)
+some-content : {standard : Standard} {names files : List (List ℕ)} {name : List ℕ} {b : Option (List ℕ)} {x : Content} → IsContent standard names files name b (Some x) → (bytes : List ℕ) × (b ≡ Some bytes)
 some-content (refused bytes cause place all) = (bytes, refl)
 some-content (nested bytes found are) = (bytes, refl)
 
-module _ {names files : List (List ℕ)} (contents : Contents) (held : Files) (agrees : Agrees names files held contents) (file : FileId) (name : List ℕ) (named : slice_get files file.0 ≡ Some name) (o : Option (Rc Content Global))
+module _ {standard : Standard} {names files : List (List ℕ)} (contents : Contents) (held : Files) (agrees : Agrees standard names files held contents) (file : FileId) (name : List ℕ) (named : slice_get files file.0 ≡ Some name) (o : Option (Rc Content Global))
     (at : content_at contents file.0 ≡ Some (option_map (λ shared. shared.value) o)) where
   pub name-absent : o ≡ None → held name ≡ None
   name-absent none = none-content (agrees.each file.0 name None named (at ∙ ap (λ (q : Option (Rc Content Global)). Some (option_map (λ shared. shared.value) q)) none))
@@ -153,12 +154,12 @@ module _ {A : Type 0} (f : A → List ℕ) (held : Files) (xs : List A) (i : ℕ
       ∙ ap (λ l. map f (take i xs) ++ map f l) (drop_more xs i x within ∙ ap (λ y. y ∷ drop (i + 1) xs) (sym is))) in
       ap (search held) split ∙ (search-past held (map f (take i xs)) (f x ∷ rest) none ∙ ap (found_or (search held rest) (f x)) there)
 
-pub looks-more : {names files mid mid_files more more_files : List (List ℕ)} {contents middle later : Contents} {h k : Option Files} {A : Type 0} (f : A → List ℕ) (xs : List A) (i : ℕ) (x : A) → i < length xs → x ≡ get_or xs i x
-    → LooksUp names files contents h mid mid_files middle (map f xs) → k ≡ h → LooksUp mid mid_files middle k more more_files later (f x ∷ []) → LooksUp names files contents h more more_files later (map f xs)
-looks-more {more = more} {more_files = more_files} {later = later} f xs i x within is one same two =
+pub looks-more : {standard : Standard} {names files mid mid_files more more_files : List (List ℕ)} {contents middle later : Contents} {h k : Option Files} {A : Type 0} (f : A → List ℕ) (xs : List A) (i : ℕ) (x : A) → i < length xs → x ≡ get_or xs i x
+    → LooksUp standard names files contents h mid mid_files middle (map f xs) → k ≡ h → LooksUp standard mid mid_files middle k more more_files later (f x ∷ []) → LooksUp standard names files contents h more more_files later (map f xs)
+looks-more {standard} {more = more} {more_files = more_files} {later = later} f xs i x within is one same two =
     let P : List ℕ → Type 0 = λ path. has_no_newline path ≡ true in
     record {
-      contents_are = subst (λ h. AreContents more more_files h later) same two.contents_are;
+      contents_are = subst (λ h. AreContents standard more more_files h later) same two.contents_are;
       reads = record { each = λ n c at. two.reads.each n c (one.reads.each n c at) };
       paths = λ all old. two.paths (All-cons P (f x) [] (subst (λ y. P (f y)) (sym is) (all-unmap P f xs all i x within)) (All-nil P)) (one.paths all old);
     }

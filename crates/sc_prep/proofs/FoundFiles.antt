@@ -13,6 +13,7 @@ use Rattle.sc_model.specs.Bytes.{has_no_newline}
 use Rattle.sc_model.specs.Growth.{Extends}
 use Rattle.sc_model.specs.Outside.{Files}
 use Rattle.sc_model.specs.Sets.{Sets, Denotes, IsCond, IsConfig, Keeps}
+use Rattle.sc_model.specs.declared.standard.Standard.{Standard}
 use Rattle.sc_prep.proofs.Contents.{agrees-back}
 use Rattle.sc_prep.proofs.ListsAt.{items-next}
 use Rattle.sc_prep.proofs.PlainWalks.{candidates-plain}
@@ -25,12 +26,6 @@ use Rattle.sc_prep.specs.Finding.{AddsFile, AreFound, FindsAll, IsSearched, abse
 use Rattle.sc_prep.specs.Includes.{ArePartsOf, files_at}
 use Rattle.sc_prep.specs.Naming.{headers_in}
 use Rattle.sc_prep.specs.Printable.{ArePlainPaths}
-
-pub keeps-more : {a b c : Contents} → KeepsContents a b → KeepsContents b c → KeepsContents a c
-keeps-more one two = record { each = λ file x at. two.each file x (one.each file x at) }
-
-pub keeps-same : (a : Contents) → KeepsContents a a
-keeps-same a = record { each = λ file x at. at }
 
 -- what is kept of the files of the parts stays
 pub parts-kept : {s : Sets} {was now : Contents} {parts : List Part} → KeepsContents was now → ArePartsOf s was parts → ArePartsOf s now parts
@@ -46,8 +41,8 @@ asked-plain header including directories name file all =
 
 -- ---- no header
 
-pub nothing-found : (s : Sets) (including : List ℕ) (directories names files : List (List ℕ)) (contents : Contents) (empty : Found) → empty.parts.items ≡ []
-    → Denotes s empty.missing.0 (λ c. false) → AreFound s [] including directories names files contents s empty
+pub nothing-found : {standard : Standard} (s : Sets) (including : List ℕ) (directories names files : List (List ℕ)) (contents : Contents) (empty : Found) → empty.parts.items ≡ []
+    → Denotes s empty.missing.0 (λ c. false) → AreFound standard s [] including directories names files contents s empty
 nothing-found s including directories names files contents empty no_parts never = record {
   parts = subst (ArePartsOf s contents) (sym no_parts)
       (record { own = All-nil (λ (part : Part). IsCond s part.cond.0); kept = All-nil (λ (part : Part). content_at contents part.file.0 ≡ Some (Some part.content.value)) });
@@ -85,12 +80,12 @@ short-before [] x short = refl
 short-before (y ∷ []) x short = absurd (omega (arith, short))
 short-before (y ∷ z ∷ ys) x short = absurd (omega (arith, short))
 
-module _ {old mid new : Sets} (named : List Named) (i : ℕ) (n : Named) {including : List ℕ} {directories names files more more_files : List (List ℕ)} {holds : Option Files} {contents later : Contents} {was next : Found} (file : Option FileId)
-    (grows : Extends names more) (files_grow : Extends files more_files) (read : AreContents names files holds contents) (reads : KeepsContents contents later) (keeps : Keeps old mid)
-    (within : i < length named) (is : n ≡ get_or named i n) (own : IsCond old n.cond.0) (are : AreFound old (take i named) including directories names files contents mid was)
+module _ {standard : Standard} {old mid new : Sets} (named : List Named) (i : ℕ) (n : Named) {including : List ℕ} {directories names files more more_files : List (List ℕ)} {holds : Option Files} {contents later : Contents} {was next : Found} (file : Option FileId)
+    (grows : Extends names more) (files_grow : Extends files more_files) (read : AreContents standard names files holds contents) (reads : KeepsContents contents later) (keeps : Keeps old mid)
+    (within : i < length named) (is : n ≡ get_or named i n) (own : IsCond old n.cond.0) (are : AreFound standard old (take i named) including directories names files contents mid was)
     (adds : AddsFile mid n.cond.0 file was new next)
-    (searched : (held : Files) → Agrees more more_files held later → IsSearched held more_files (candidates (seen_header n.header) including directories) file) where
-  module _ (held : Files) (c : List ℕ) (agrees : Agrees more more_files held later) (listed : IsConfig old.arities c) where
+    (searched : (held : Files) → Agrees standard more more_files held later → IsSearched held more_files (candidates (seen_header n.header) including directories) file) where
+  module _ (held : Files) (c : List ℕ) (agrees : Agrees standard more more_files held later) (listed : IsConfig old.arities c) where
     abbrev Finds : List Header → List FileId → Bool → Type 0
     Finds = FindsAll held more_files including directories
 
@@ -129,5 +124,5 @@ module _ {old mid new : Sets} (named : List Named) (i : ℕ) (n : Named) {includ
     by-cases true has = here has
     by-cases false has = elsewhere has
 
-  pub one-found : ArePartsOf new later next.parts.items → AreFound old (take (i + 1) named) including directories more more_files later new next
+  pub one-found : ArePartsOf new later next.parts.items → AreFound standard old (take (i + 1) named) including directories more more_files later new next
   one-found parts = record { parts = parts; missing = adds.missing_own; at = λ held c agrees listed short. by-cases held c agrees listed (old.has n.cond.0 c) refl short }

@@ -1,13 +1,12 @@
 -- How far a walk has gone: what it leads to from its start, while the tables grow.
-use Rattle.std.proofs.Common.{◌≡◌, ℕ, ◌+◌, ◌<◌, ◌==◌, not, Bool, true, false, List, [], ◌∷◌, All, map, length, Option, Some, None, Result, Ok, Err, if◌then◌else◌, refl, sym, ap, ◌∙◌, subst, arith}
-use Rattle.std.proofs.lemmas.Bool.{and_parts, ne_eqb, not-true, not_from_false, or_from}
-use Rattle.std.proofs.lemmas.List.Elements.{All-head, All-tail, All-weaker}
+use Rattle.std.proofs.Common.{◌≡◌, ℕ, ◌+◌, ◌<◌, Bool, true, false, List, [], ◌∷◌, All, map, length, Option, Some, None, Result, Ok, Err, if◌then◌else◌, refl, sym, ap, ◌∙◌, subst, arith}
+use Rattle.std.proofs.lemmas.List.Elements.{All-head}
 use Rattle.std.proofs.lemmas.Option.{same_Some}
-use Rattle.std.specs.List.{AllByRecursion as Every, list_all}
-use Rattle.std.specs.Prelude.{nat_le, slice_get, unwrap_or}
+use Rattle.std.specs.List.{AllByRecursion as Every}
+use Rattle.std.specs.Prelude.{slice_get, unwrap_or}
 use Rattle.c11_directives.specs.Behind.{Says}
 use Rattle.c11_directives.specs.declared.directive.Directive.TheVariants as directive
-use Rattle.c11_directives.specs.Lines.{Line, c11_directive_names, hash_of, line_of}
+use Rattle.c11_directives.specs.Lines.{Line, hash_of, line_of}
 use Rattle.c11_directives.specs.Pre.{Context, State, File, Enters, back, deeper, entered, file_with, found_or, included, put_out, search}
 use Rattle.c11_headers.specs.Headers.{Header, candidates, header_of}
 use Rattle.c11_macros.specs.Results.{result_map}
@@ -19,19 +18,20 @@ use Rattle.sc_lines.specs.declared.line.Line as declared
 use Rattle.sc_lines.specs.Nests.{seen_line}
 use Rattle.sc_lines.specs.Split.{token_lines, tokens_of}
 use Rattle.sc_model.proofs.SetLemmas.{Keeps-trans}
-use Rattle.sc_model.specs.Bytes.{has_no_newline}
 use Rattle.sc_model.specs.Fault.{Fault}
 use Rattle.sc_model.specs.Growth.{Extends}
 use Rattle.sc_model.specs.Outside.{Files}
 use Rattle.sc_model.specs.Sets.{Sets, IsConfig, Keeps}
 use Rattle.sc_model.specs.Space.{Space}
 use Rattle.sc_model.specs.Token.{Token}
+use Rattle.sc_model.specs.declared.standard.Standard.{Standard}
 use Rattle.sc_prep.proofs.BetweenRuns.{arriving-between, carries-run, closing-between, refused-acts}
 use Rattle.sc_prep.proofs.Contents.{agrees-back, tokens-later}
 use Rattle.sc_prep.proofs.InFile.{inside-as, whereabouts}
 use Rattle.sc_prep.proofs.LeadMoves.{contents-then, leads-then}
 use Rattle.sc_prep.proofs.Machine.{inert_arriving}
-use Rattle.sc_prep.proofs.PlainRuns.{covers-plain, each-leads, path-plain, takes-plain}
+use Rattle.sc_prep.proofs.NamedFiles.{sound-plain}
+use Rattle.sc_prep.proofs.PlainRuns.{covers-plain, each-leads, takes-plain}
 use Rattle.sc_prep.specs.Contents.{Agrees, AreContents, AreHeldLines, KeepsContents}
 use Rattle.sc_prep.specs.Includes as includes
 use Rattle.sc_prep.specs.Includes.{EntersAt, Finds}
@@ -43,7 +43,6 @@ use Rattle.sc_prep.specs.declared.content.Contents.{Contents}
 use Rattle.sc_prep.specs.declared.content.FileLines.{FileLines}
 use Rattle.sc_prep.specs.declared.entry.Entry.{Entry}
 use Rattle.sc_prep.specs.declared.walk.Walk.{Walk}
-use Rattle.sc_space.specs.Settings.{is_directory}
 use Rattle.sc_space.specs.Sound.{IsSound}
 
 -- what a walk did from one point to a later one
@@ -53,19 +52,19 @@ pub record Gone (space : Space) (old : Sets) (names files : List (List ℕ)) (wa
   pub names_grow : Extends names more
   pub files_grow : Extends files more_files
   pub read : KeepsContents contents now
-  pub leads : (x : Context) → IsContext space x → Agrees more more_files x.files now → Leads files names old walk more_files more new next from (does x)
-  pub plain : given → (x : Context) → IsContext space x → Agrees more more_files x.files now → IsSound space → ArePlainPaths files → PlainEach old names files walk from
+  pub leads : (x : Context) → IsContext space x → Agrees space.standard more more_files x.files now → Leads files names old walk more_files more new next from (does x)
+  pub plain : given → (x : Context) → IsContext space x → Agrees space.standard more more_files x.files now → IsSound space → ArePlainPaths files → PlainEach old names files walk from
       → AllPass (is_plain names) walk.prepared.list → AllPass (is_plain more) next.prepared.list
-  pub paths : given → (x : Context) → IsContext space x → Agrees more more_files x.files now → IsSound space → ArePlainPaths files → PlainEach old names files walk from → ArePlainPaths more_files
+  pub paths : given → (x : Context) → IsContext space x → Agrees space.standard more more_files x.files now → IsSound space → ArePlainPaths files → PlainEach old names files walk from → ArePlainPaths more_files
 
 module _ {space : Space} {a b c : Sets} {names files mid mid_files more more_files : List (List ℕ)} {u v w : Walk} {one two three : Contents} {given : Type 0} {from between : Machine → Type 0}
     {does later whole : Context → List ℕ → Machine → Machine → Type 0} {holds : Option Files} (gone : Gone space a names files u one b mid mid_files v two given from does)
-    (held : AreContents mid mid_files holds two) (keeps : Keeps b c) (names_grow : Extends mid more) (files_grow : Extends mid_files more_files) (read : KeepsContents two three) where
+    (held : AreContents space.standard mid mid_files holds two) (keeps : Keeps b c) (names_grow : Extends mid more) (files_grow : Extends mid_files more_files) (read : KeepsContents two three) where
   -- and what the next call did
-  pub gone-then : ((x : Context) → IsContext space x → Agrees more more_files x.files three → Leads mid_files mid b v more_files more c w between (later x))
-      → (given → (x : Context) → IsContext space x → Agrees more more_files x.files three → IsSound space → ArePlainPaths mid_files → PlainEach b mid mid_files v between
+  pub gone-then : ((x : Context) → IsContext space x → Agrees space.standard more more_files x.files three → Leads mid_files mid b v more_files more c w between (later x))
+      → (given → (x : Context) → IsContext space x → Agrees space.standard more more_files x.files three → IsSound space → ArePlainPaths mid_files → PlainEach b mid mid_files v between
       → AllPass (is_plain mid) v.prepared.list → AllPass (is_plain more) w.prepared.list)
-      → (given → (x : Context) → IsContext space x → Agrees more more_files x.files three → IsSound space → ArePlainPaths mid_files → PlainEach b mid mid_files v between → ArePlainPaths more_files)
+      → (given → (x : Context) → IsContext space x → Agrees space.standard more more_files x.files three → IsSound space → ArePlainPaths mid_files → PlainEach b mid mid_files v between → ArePlainPaths more_files)
       → ((x : Context) (config : List ℕ) (m n : Machine) → from m → does x config m n → between n)
       → (given → (x : Context) → IsContext space x → IsSound space → ArePlainPaths files → (config : List ℕ) (m n : Machine) → does x config m n → from m → IsPlainState m.state → IsPlainState n.state)
       → ((x : Context) (config : List ℕ) (m n o : Machine) → IsContext space x → IsConfig a.arities config → from m → does x config m n → later x config n o
@@ -89,28 +88,9 @@ module _ {space : Space} {a b c : Sets} {names files mid mid_files more more_fil
 
 -- ---- texts that are spelled on one line
 
-from-blank : (bs : List ℕ) → list_all (nat_le 32) bs ≡ true → has_no_newline bs ≡ true
-from-blank [] all = refl
-from-blank (b ∷ bs) all =
-    let parts = and_parts (nat_le 32 b) (list_all (nat_le 32) bs) all in
-    let differs = ne_eqb b 10 (λ e. let passes = sym (ap (nat_le 32) e) ∙ parts.0 in cc) in
-    not_from_false _ (or_from _ _ differs (not-true _ (from-blank bs parts.1)))
-
 -- the directories of a space are named on one line
 pub directories-plain : {space : Space} {x : Context} → IsContext space x → IsSound space → ArePlainPaths x.include
-directories-plain {space} {x} context sound =
-    subst ArePlainPaths (sym context.include)
-    (All-weaker (λ name. is_directory name ≡ true) (λ path. has_no_newline path ≡ true) (λ path is. from-blank path (and_parts (not (length path == 0)) (list_all (nat_le 32) path) is).1) space.include sound.directories)
-
-pub line-plain : (names files : List (List ℕ)) (ts : List base.Token) → All (IsPlaced names (length files)) ts → ArePlainPaths files → All (λ (t : base.Token). is_plain names t ≡ true) ts
-    → Every IsPlainToken (map (seen names files) ts)
-line-plain names files [] placed paths all = tt
-line-plain names files (t ∷ ts) placed paths all =
-    let P : base.Token → Type 0 = λ t. is_plain names t ≡ true in
-    let Q = IsPlaced names (length files) in (
-      record { spelling = All-head P t ts all; file = path-plain files t.place.file.0 (All-head Q t ts placed).file paths },
-      line-plain names files ts (All-tail Q t ts placed) paths (All-tail P t ts all),
-    )
+directories-plain context sound = subst ArePlainPaths (sym context.include) (sound-plain sound)
 
 pub plain-line : (names files : List (List ℕ)) (ts : List base.Token) → Every IsPlainToken (map (seen names files) ts) → Every (λ (t : base.Token). is_plain names t ≡ true) ts
 plain-line names files [] all = tt
@@ -118,7 +98,7 @@ plain-line names files (t ∷ ts) all = (all.0.spelling, plain-line names files 
 
 -- ---- the file of a line
 
-pub entry-within : {names : List (List ℕ)} {files : ℕ} {file : FileId} (lines : FileLines) → AreHeldLines names files file lines → (i : ℕ) → i < length lines.lines.items → file.0 < files
+pub entry-within : {names : List (List ℕ)} {files : ℕ} {file : FileId} {standard : Standard} (lines : FileLines) → AreHeldLines standard names files file lines → (i : ℕ) → i < length lines.lines.items → file.0 < files
 entry-within {names} {files} {file} lines held i within = by lines.tokens.items held.placed held.inside lines.lines.items held.lines_are.tokens_are within
   where
     by : (ts : List base.Token) → All (IsPlaced names files) ts → All (λ (t : base.Token). t.place.file ≡ file) ts → (ls : List declared.Line) → map (tokens_of ts) ls ≡ token_lines ts
@@ -129,9 +109,9 @@ entry-within {names} {files} {file} lines held i within = by lines.tokens.items 
         subst (λ (f : FileId). f.0 < files) (All-head (λ (t : base.Token). t.place.file ≡ file) t ts inside) (All-head (IsPlaced names files) t ts placed).file
 
 -- a line looks the same while the tables grow
-pub line-later : {names more files more_files : List (List ℕ)} → Extends names more → Extends files more_files → (ts : List base.Token) → All (IsPlaced names (length files)) ts
-    → seen_line more more_files ts ≡ seen_line names files ts
-line-later grows files_grow ts placed = ap (line_of c11_directive_names) (tokens-later grows files_grow ts placed)
+pub line-later : (standard : Standard) {names more files more_files : List (List ℕ)} → Extends names more → Extends files more_files → (ts : List base.Token) → All (IsPlaced names (length files)) ts
+    → seen_line standard more more_files ts ≡ seen_line standard names files ts
+line-later standard grows files_grow ts placed = ap (line_of standard) (tokens-later grows files_grow ts placed)
 
 -- ---- a run that was closed stays in its file
 

@@ -16,9 +16,11 @@ use Rattle.sc_model.specs.Growth.{Extends}
 use Rattle.sc_model.specs.Outside.{Files}
 use Rattle.sc_model.specs.Sets.{Sets, IsCond, IsConfig, Keeps}
 use Rattle.sc_model.specs.Space.{Space}
+use Rattle.sc_model.specs.declared.standard.Standard.{Standard}
 use Rattle.sc_prep.proofs.CloseMoves.{plain-grown}
-use Rattle.sc_prep.proofs.Going.{Gone, Staged, closed-in, directories-plain, finds-staged, gone-then, line-later, line-plain, staged-between, staged-plain, staged-takes, staged-then}
+use Rattle.sc_prep.proofs.Going.{Gone, Staged, closed-in, directories-plain, finds-staged, gone-then, line-later, staged-between, staged-plain, staged-takes, staged-then}
 use Rattle.sc_prep.proofs.LeadMoves.{contents-stay, leads-as, leads-one}
+use Rattle.sc_prep.proofs.NamedFiles.{line-plain}
 use Rattle.sc_prep.proofs.PlainRuns.{covers-plain, each-closes-plain}
 use Rattle.sc_prep.proofs.WalkLeads.{plain-later}
 use Rattle.sc_prep.specs.Contents.{Agrees, AreContents, KeepsContents, content_at}
@@ -80,42 +82,42 @@ gone-closed {files = files} {contents = contents} {from = from} keeps names_grow
 abbrev pub Spelled : List (List ℕ) → List base.Token → Type 0
 Spelled names line = All (λ (t : base.Token). is_plain names t ≡ true) line
 
-module _ {names files : List (List ℕ)} (entry : Entry) (line : List base.Token) (placed : All (IsPlaced names (length files)) line)
-    (directive_is : (seen_line names files line).directive ≡ Some directive.Include) where
+module _ (standard : Standard) {names files : List (List ℕ)} (entry : Entry) (line : List base.Token) (placed : All (IsPlaced names (length files)) line)
+    (directive_is : (seen_line standard names files line).directive ≡ Some directive.Include) where
   -- ---- the files are found
-  pub gone-found : {space : Space} {a b c : Sets} {mid more more_files : List (List ℕ)} {u v w : Walk} {one three : Contents} {holds : Option Files} (parts items : List Part) → items ≡ parts → Gone space a names files u one b mid files v one (Spelled names line) (IsIn files entry) (λ x config m n. Closed m n) → AreContents mid files holds one
+  pub gone-found : {space : Space} {a b c : Sets} {mid more more_files : List (List ℕ)} {u v w : Walk} {one three : Contents} {holds : Option Files} (parts items : List Part) → items ≡ parts → Gone space a names files u one b mid files v one (Spelled names line) (IsIn files entry) (λ x config m n. Closed m n) → AreContents space.standard mid files holds one
       → ArePlaced mid (length files) v.prepared.list → Keeps b c → Extends mid more → Extends files more_files → KeepsContents one three
-      → ((x : Context) → IsContext space x → Agrees more more_files x.files three
-      → Leads files mid b v more_files more c w (IsIn files entry) (λ config m n. Finds x (seen_line mid files line) more_files m (files_at c parts config) n))
+      → ((x : Context) → IsContext space x → Agrees space.standard more more_files x.files three
+      → Leads files mid b v more_files more c w (IsIn files entry) (λ config m n. Finds x (seen_line standard mid files line) more_files m (files_at c parts config) n))
       → w.prepared.list ≡ v.prepared.list
       → (IsSound space → All (λ (t : base.Token). is_plain mid t ≡ true) line → ArePlainPaths files → PlainEach b mid files v (IsIn files entry) → ArePlainPaths more_files)
       → Gone space a names files u one c more more_files w three (Spelled names line) (IsIn files entry)
-      (λ x config m n. Staged x (seen_line names files line) more_files entry.depth m (files_at c items config) n)
+      (λ x config m n. Staged x (seen_line standard names files line) more_files entry.depth m (files_at c items config) n)
   gone-found {space} {a} {b} {c} {mid} {more} {more_files} {u} {v} {w} {one} {three} parts items are gone held list_placed keeps names_grow files_grow read finds same paths =
       subst (λ ps. Gone space a names files u one c more more_files w three (Spelled names line) (IsIn files entry)
-      (λ x config m n. Staged x (seen_line names files line) more_files entry.depth m (files_at c ps config) n)) (sym are)
-      (gone-then {between = IsIn files entry} {later = λ x config m n. Finds x (seen_line mid files line) more_files m (files_at c parts config) n} gone held keeps names_grow files_grow read finds
+      (λ x config m n. Staged x (seen_line standard names files line) more_files entry.depth m (files_at c ps config) n)) (sym are)
+      (gone-then {between = IsIn files entry} {later = λ x config m n. Finds x (seen_line standard mid files line) more_files m (files_at c parts config) n} gone held keeps names_grow files_grow read finds
       (λ g x context agreed sound mid_paths each list. subst (AllPass (is_plain more)) (sym same) (plain-grown names_grow (length files) v.prepared.list list_placed list))
       (λ g x context agreed sound mid_paths each. paths sound (plain-later gone.names_grow line placed g) mid_paths each)
       (λ x config m n from closed. closed-in m n from closed)
       (λ g x context sound paths config m n closed from state. covers-plain {x = x} (directories-plain context sound) {ls = []} (record { end = m; runs = machine.no_line; closed = closed }) state tt)
       (λ x config m n o context listed from closed found at.
       finds-staged entry.depth m n (λ here. (closed-in m n from closed here).deep) closed
-      (subst (λ l. Finds x l more_files n (files_at c parts config) o) (line-later gone.names_grow gone.files_grow line placed) found)))
+      (subst (λ l. Finds x l more_files n (files_at c parts config) o) (line-later standard gone.names_grow gone.files_grow line placed) found)))
 
   -- ---- one of them is entered
   pub gone-entered : {space : Space} {a b c : Sets} {mid mid_files more more_files : List (List ℕ)} {u v w : Walk} {one two three : Contents} {holds : Option Files} (parts : List Part) (i : ℕ) (part : Part)
       → part ≡ get_or parts i part → i < length parts → All (λ (part : Part). IsCond b part.cond.0) parts
       → Gone space a names files u one b mid mid_files v two (Spelled names line) (IsIn files entry)
-      (λ x config m n. Staged x (seen_line names files line) mid_files entry.depth m (files_at b (drop i parts) config) n)
-      → AreContents mid mid_files holds two → Keeps b c → Extends mid more → Extends mid_files more_files → KeepsContents two three
-      → ((x : Context) → IsContext space x → Agrees more more_files x.files three → Leads mid_files mid b v more_files more c w IsBetweenRuns
+      (λ x config m n. Staged x (seen_line standard names files line) mid_files entry.depth m (files_at b (drop i parts) config) n)
+      → AreContents space.standard mid mid_files holds two → Keeps b c → Extends mid more → Extends mid_files more_files → KeepsContents two three
+      → ((x : Context) → IsContext space x → Agrees space.standard more more_files x.files three → Leads mid_files mid b v more_files more c w IsBetweenRuns
       (λ config m n. EntersAt x (text_at mid_files part.file.0) (entry.depth + 1) m (b.has part.cond.0 config) n))
-      → ((x : Context) → IsContext space x → Agrees more more_files x.files three → IsSound space → ArePlainPaths mid_files → PlainEach b mid mid_files v IsBetweenRuns
+      → ((x : Context) → IsContext space x → Agrees space.standard more more_files x.files three → IsSound space → ArePlainPaths mid_files → PlainEach b mid mid_files v IsBetweenRuns
       → AllPass (is_plain mid) v.prepared.list → AllPass (is_plain more) w.prepared.list)
-      → ((x : Context) → IsContext space x → Agrees more more_files x.files three → IsSound space → ArePlainPaths mid_files → PlainEach b mid mid_files v IsBetweenRuns → ArePlainPaths more_files)
+      → ((x : Context) → IsContext space x → Agrees space.standard more more_files x.files three → IsSound space → ArePlainPaths mid_files → PlainEach b mid mid_files v IsBetweenRuns → ArePlainPaths more_files)
       → Gone space a names files u one c more more_files w three (Spelled names line) (IsIn files entry)
-      (λ x config m n. Staged x (seen_line names files line) more_files entry.depth m (files_at c (drop (i + 1) parts) config) n)
+      (λ x config m n. Staged x (seen_line standard names files line) more_files entry.depth m (files_at c (drop (i + 1) parts) config) n)
   gone-entered {b = b} {c} {mid_files = mid_files} {more_files = more_files} parts i part one_is within own gone held keeps names_grow files_grow read enters plain paths =
       gone-then {between = IsBetweenRuns}
       {later = λ x config m n. EntersAt x (text_at mid_files part.file.0) (entry.depth + 1) m (b.has part.cond.0 config) n} gone held keeps names_grow files_grow read enters
@@ -129,14 +131,14 @@ module _ {names files : List (List ℕ)} (entry : Entry) (line : List base.Token
       let after : suc i ≡ i + 1 = omega arith in
       let next : drop (suc i) parts ≡ drop (i + 1) parts = ap (λ k. drop k parts) after in
       let left = files-later keeps (drop (i + 1) parts) (All-drop (λ (part : Part). IsCond b part.cond.0) (i + 1) parts own) config now in
-      subst (λ fs. Staged x (seen_line names files line) more_files entry.depth m fs o) (ap (λ ps. files_at b ps config) next ∙ sym left)
+      subst (λ fs. Staged x (seen_line standard names files line) more_files entry.depth m fs o) (ap (λ ps. files_at b ps config) next ∙ sym left)
       (staged-then part.file files_grow staged (subst (λ (p : Part). files_at b (drop i parts) config ≡ (if b.has p.cond.0 config then p.file ∷ files_at b (drop (suc i) parts) config else files_at b (drop (suc i) parts) config)) (sym one_is) (files-next b config parts i part within)) entered))
 
   -- ---- all were entered
   pub gone-taken : {space : Space} {a b : Sets} {mid mid_files : List (List ℕ)} {u v : Walk} {one two : Contents} (parts : List Part) (i : ℕ) → length parts ≤ i
       → Gone space a names files u one b mid mid_files v two (Spelled names line) (IsIn files entry)
-      (λ x config m n. Staged x (seen_line names files line) mid_files entry.depth m (files_at b (drop i parts) config) n)
-      → Gone space a names files u one b mid mid_files v two (Spelled names line) (IsIn files entry) (λ x config m n. Takes x m (seen_line names files line) n)
+      (λ x config m n. Staged x (seen_line standard names files line) mid_files entry.depth m (files_at b (drop i parts) config) n)
+      → Gone space a names files u one b mid mid_files v two (Spelled names line) (IsIn files entry) (λ x config m n. Takes x m (seen_line standard names files line) n)
   gone-taken {b = b} parts i past gone = record {
     keeps = gone.keeps;
     names_grow = gone.names_grow;

@@ -15,6 +15,7 @@ use Rattle.sc_model.proofs.SetLemmas.{IsConfig-Keeps}
 use Rattle.sc_model.specs.Growth.{Extends}
 use Rattle.sc_model.specs.Outside.{Files}
 use Rattle.sc_model.specs.Sets.{Sets, IsConfig, IsCond, Keeps}
+use Rattle.sc_model.specs.declared.standard.Standard.{Standard}
 use Rattle.sc_prep.proofs.Contents.{contents-later}
 use Rattle.sc_prep.proofs.Held.{refused-held}
 use Rattle.sc_prep.proofs.WalkMoves.{owns-kept}
@@ -42,25 +43,25 @@ pub contents-then : {a b c : Contents} → KeepsContents a b → KeepsContents b
 contents-then one two = record { each = λ file x at. two.each file x (one.each file x at) }
 
 -- a name is in the table whose file was read
-pub content-named : {names files : List (List ℕ)} {holds : Option Files} {contents : Contents} {c : Option Content} → AreContents names files holds contents → (file : ℕ)
+pub content-named : {standard : Standard} {names files : List (List ℕ)} {holds : Option Files} {contents : Contents} {c : Option Content} → AreContents standard names files holds contents → (file : ℕ)
     → content_at contents file ≡ Some c → slice_get files file ≡ Some (text_at files file)
 content-named {files = files} are file at =
     slice_get-get_or files file [] (are.named file _ at) ∙ ap Some (sym (unwrap_or-slice_get files file []))
 
 -- ---- a walk that is ready
 
-module _ {old new : Sets} {names files : List (List ℕ)} {holds : Option Files} {w : Walk} {contents : Contents} (keeps : Keeps old new) (ready : IsReady old names files holds w contents) where
-  pub ready-kept : IsReady new names files holds w contents
+module _ {standard : Standard} {old new : Sets} {names files : List (List ℕ)} {holds : Option Files} {w : Walk} {contents : Contents} (keeps : Keeps old new) (ready : IsReady standard old names files holds w contents) where
+  pub ready-kept : IsReady standard new names files holds w contents
   ready-kept = record { owns = owns-kept keeps w ready.owns; table = IsTable-Keeps keeps ready.table; held = ready.held; read = ready.read }
 
   -- behind a file that was entered from a walk which the store and the tables still hold
   pub ready-left : {next from begun : Walk} {within : Cond} {around : Around} → Leaves old w around new next → Begins from within begun around → Owns old from
-      → IsHeldWalk names (length files) any_token from → IsReady new names files holds next contents
+      → IsHeldWalk names (length files) any_token from → IsReady standard new names files holds next contents
   ready-left {next} {from} leaves begins owns held =
       let back = owns-kept keeps from owns in
       let kept = owns-kept keeps w ready.owns in
-      subst (λ (v : Walk). IsReady new names files holds v contents) (sym leaves.is)
-      (subst (λ (a : Around). IsReady new names files holds (record w { group = a.group; acting = next.acting; sections = a.sections; gathered = a.gathered }) contents) (sym begins.around_is) (record {
+      subst (λ (v : Walk). IsReady standard new names files holds v contents) (sym leaves.is)
+      (subst (λ (a : Around). IsReady standard new names files holds (record w { group = a.group; acting = next.acting; sections = a.sections; gathered = a.gathered }) contents) (sym begins.around_is) (record {
         owns = record { group = back.group; acting = leaves.acting.own; sections = back.sections; gathered = back.gathered; prepared = kept.prepared };
         table = IsTable-Keeps keeps ready.table;
         held = record { gathered = held.gathered; list = ready.held.list; passed = ready.held.passed; faults = ready.held.faults };
@@ -68,7 +69,7 @@ module _ {old new : Sets} {names files : List (List ℕ)} {holds : Option Files}
       }))
 
   pub ready-refused : {next : Walk} {fault : base.Fault} → RefusesEach old w (fault ∷ []) new next → IsCond old fault.cond.0 → fault.place.file.0 < length files
-      → IsReady new names files holds next contents
+      → IsReady standard new names files holds next contents
   ready-refused {next} {fault} refuses own there =
       let kept = owns-kept keeps w ready.owns in
       let F : base.Fault → Type 0 = λ f. IsCond new f.cond.0 in
@@ -89,9 +90,9 @@ module _ {old new : Sets} {names files : List (List ℕ)} {holds : Option Files}
         read = ready.read;
       }
 
-pub ready-begun : {s : Sets} {names files : List (List ℕ)} {holds : Option Files} {w next : Walk} {contents : Contents} {within : Cond} {around : Around} → Begins w within next around
-    → IsCond s within.0 → IsReady s names files holds w contents → IsReady s names files holds next contents
-ready-begun {s} {names} {files} {holds} {w} {next} {contents} begins own ready = subst (λ (v : Walk). IsReady s names files holds v contents) (sym begins.is) (record {
+pub ready-begun : {standard : Standard} {s : Sets} {names files : List (List ℕ)} {holds : Option Files} {w next : Walk} {contents : Contents} {within : Cond} {around : Around} → Begins w within next around
+    → IsCond s within.0 → IsReady standard s names files holds w contents → IsReady standard s names files holds next contents
+ready-begun {standard} {s} {names} {files} {holds} {w} {next} {contents} begins own ready = subst (λ (v : Walk). IsReady standard s names files holds v contents) (sym begins.is) (record {
   owns = record {
     group = own;
     acting = own;
@@ -105,14 +106,14 @@ ready-begun {s} {names} {files} {holds} {w} {next} {contents} begins own ready =
 })
 
 -- the walk after a line that enters no file
-pub ready-moved : {old new : Sets} {names more files : List (List ℕ)} {holds : Option Files} {w next : Walk} {contents : Contents} {does : List ℕ → Machine → Machine → Type 0} → Extends names more
-    → SimulatesOneOf files names old w more new next does → IsHeldWalk more (length files) any_token next → IsReady old names files holds w contents
-    → IsReady new more files holds next contents
+pub ready-moved : {standard : Standard} {old new : Sets} {names more files : List (List ℕ)} {holds : Option Files} {w next : Walk} {contents : Contents} {does : List ℕ → Machine → Machine → Type 0} → Extends names more
+    → SimulatesOneOf files names old w more new next does → IsHeldWalk more (length files) any_token next → IsReady standard old names files holds w contents
+    → IsReady standard new more files holds next contents
 ready-moved {files = files} grows moved held ready =
     record { owns = moved.owns; table = moved.table; held = held; read = contents-later grows (Extends-refl files) ready.read }
 
 -- what a stage needs of it
-pub stored-ready : {s : Sets} {names files : List (List ℕ)} {holds : Option Files} {w : Walk} {contents : Contents} → IsReady s names files holds w contents → IsStored s names (length files) w
+pub stored-ready : {standard : Standard} {s : Sets} {names files : List (List ℕ)} {holds : Option Files} {w : Walk} {contents : Contents} → IsReady standard s names files holds w contents → IsStored s names (length files) w
 stored-ready ready = record { owns = ready.owns; table = ready.table; held = ready.held }
 
 -- ---- what one call leads to, and the next

@@ -6,7 +6,7 @@ use Rattle.std.specs.List.{list_all}
 use Rattle.std.specs.Prelude.{nat_le}
 use Rattle.c11_directives.specs.Behind.{greatest_line, is_line_number}
 use Rattle.c11_expressions.specs.Constants.{digit_value, number_behind, number_of}
-use Rattle.c11_expressions.specs.declared.base.Base.TheVariants.{Decimal}
+use Rattle.c11_tokens.specs.declared.base.Base.TheVariants.{Decimal}
 use Rattle.sc_model.specs.Bytes.{is_digit}
 
 behind_end : (n : ℕ) → number_behind Decimal n [] ≡ n

@@ -11,10 +11,11 @@ use Rattle.c11_directives.specs.declared.directive.Directive.{Directive}
 use Rattle.c11_directives.specs.declared.directive.Test.{Test}
 use Rattle.c11_directives.specs.declared.directive.Directive.TheVariants as directive
 use Rattle.c11_directives.specs.Behind.{behind_name}
-use Rattle.c11_directives.specs.Lines.{Line, DirectiveNames, line_of, hash_of, conditional_in, conditional_of, Group, Branches, empty, plain, section, closing, otherwise, alternative, group_lines, branch_lines, IsGroup, AreBranches, Opens}
+use Rattle.c11_directives.specs.Lines.{Line, line_of, hash_of, conditional_in, conditional_of, Group, Branches, empty, plain, section, closing, otherwise, alternative, group_lines, branch_lines, IsGroup, AreBranches, Opens}
 use Rattle.sc_model.specs.Fault.{Fault, first_place}
 use Rattle.c11_directives.specs.Pre.{Context, State, place_in, with_text, put_out, closed, refused, RefusedAt, Decides, with_macro, Defines, fresh, again, redefined, is_barrier, is_said, Changes, ignored, unknown, error, defines, defines_nothing, undefines, with_macros, Steps, text, null, stopped, carried_out, Carries, changed, not_changed, Walks, done, line, line_stops, taken, taken_stops, passed, passed_stops, head_stops, WalksBranches, none_taken, last_taken, later_taken, later_passed, later_stops}
 use Rattle.sc_model.specs.Token.{Token}
+use Rattle.sc_model.specs.declared.standard.Standard.{Standard}
 use Rattle.c11_macros.specs.Defines.{Defined, reads}
 use Rattle.c11_macros.specs.Macros.{Definition, Macros}
 use Rattle.c11_macros.specs.Same.{same_definition}
@@ -135,13 +136,13 @@ abbrev pub HaveHashes : List Line → Type 0
 HaveHashes [] = Unit {0}
 HaveHashes (l ∷ ls) = HasHash l × HaveHashes ls
 
-line-hash : (names : DirectiveNames) (ts : List Token) → HasHash (line_of names ts)
-line-hash names [] = λ some. absurd (some refl)
-line-hash names (t ∷ ts) = λ some. (t, refl)
+line-hash : (standard : Standard) (ts : List Token) → HasHash (line_of standard ts)
+line-hash standard [] = λ some. absurd (some refl)
+line-hash standard (t ∷ ts) = λ some. (t, refl)
 
-pub lines-hashes : (names : DirectiveNames) (ls : List (List Token)) → HaveHashes (map (line_of names) ls)
-lines-hashes names [] = tt
-lines-hashes names (ts ∷ ls) = (line-hash names ts, lines-hashes names ls)
+pub lines-hashes : (standard : Standard) (ls : List (List Token)) → HaveHashes (map (line_of standard) ls)
+lines-hashes standard [] = tt
+lines-hashes standard (ts ∷ ls) = (line-hash standard ts, lines-hashes standard ls)
 
 pub hashes-parts : (xs ys : List Line) → HaveHashes (xs ++ ys) → HaveHashes xs × HaveHashes ys
 hashes-parts [] ys have = (tt, have)

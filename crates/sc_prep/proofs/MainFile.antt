@@ -28,6 +28,7 @@ use Rattle.sc_model.specs.Space.{IsListed, Space, arities_of}
 use Rattle.sc_model.specs.declared.cause.Cause.{Cause}
 use Rattle.sc_model.specs.Fault.{Fault, fault_at, first_place}
 use Rattle.sc_model.specs.Token as plain
+use Rattle.sc_model.specs.declared.standard.Standard.{Standard}
 use Rattle.sc_prep.proofs.EnterLeads.{HasRefusal, has-lines, has-refusal}
 use Rattle.sc_prep.proofs.EnterMoves.{refused-here}
 use Rattle.sc_prep.proofs.FileTokens.{all-shown, faults-few}
@@ -54,8 +55,8 @@ use Rattle.sc_table.specs.Table.{IsTable, macros_at}
 
 -- ---- nothing was read yet
 
-pub contents-new : (names files : List (List ℕ)) (holds : Option Files) (contents : Contents) → ((file : ℕ) → content_at contents file ≡ None) → AreContents names files holds contents
-contents-new names files holds contents none = record {
+pub contents-new : (standard : Standard) (names files : List (List ℕ)) (holds : Option Files) (contents : Contents) → ((file : ℕ) → content_at contents file ≡ None) → AreContents standard names files holds contents
+contents-new standard names files holds contents none = record {
   some = (λ name. None, record { each = λ file name c named at. let no = sym (none file) ∙ at in cc });
   told = λ held is. record { each = λ file name c named at. let no = sym (none file) ∙ at in cc };
   held = λ file c at. let no = sym (none file.0) ∙ at in cc;
@@ -95,7 +96,7 @@ live-outcome {s} {names} {files} {p} {config} {m} is = is.live ∙ no_fault-empt
 
 module _ (space : Space) (outside : Files) (main config : List ℕ) where
   -- a file that refuses whoever enters it is accepted at no configuration
-  refuses-main : {files : List (List ℕ)} {cause : Cause} {place : declared.Place} {answer : Result (List plain.Token) Fault} → HasRefusal files main (outside main) cause place
+  refuses-main : {files : List (List ℕ)} {cause : Cause} {place : declared.Place} {answer : Result (List plain.Token) Fault} → HasRefusal space.standard files main (outside main) cause place
       → Pre space outside main config answer → is_accepted answer ≡ false
   refuses-main {files} {cause} {place} {answer} refusal is =
       let fault = fault_at cause (seen_place files place) in
@@ -105,7 +106,7 @@ module _ (space : Space) (outside : Files) (main config : List ℕ) where
 
   -- the end that was kept is the main file's, where it is accepted
   pub main-end : {s : Sets} {names files new_names new_files : List (List ℕ)} {p : Prepared} {bytes : List ℕ} {c : Content} → outside main ≡ Some bytes
-      → IsContent names files main (outside main) (Some c) → IsOrdinary s new_names new_files p (Pre space outside main config) config → s.has p.live.0 config ≡ true
+      → IsContent space.standard names files main (outside main) (Some c) → IsOrdinary s new_names new_files p (Pre space outside main config) config → s.has p.live.0 config ≡ true
       → seen_place files (end_place c) ≡ end_of_file main bytes
   main-end {files = files} {c = content.Lines found} held is ordinary live =
       let lines = has-lines is in
@@ -114,9 +115,9 @@ module _ (space : Space) (outside : Files) (main config : List ℕ) where
       absurd (both_ways true (sym live ∙ (ordinary.live ∙ refuses-main (has-refusal is) ordinary.preprocessed)) refl)
 
 -- it is in the file
-pub end-inside : (names : List (List ℕ)) (files : ℕ) {file : FileId} (c : Content) → IsHeldContent names files file c → (end_place c).file ≡ file
-end-inside names files (content.Lines found) held = held.end_inside
-end-inside names files (content.Refused cause place) held = held
+pub end-inside : (standard : Standard) (names : List (List ℕ)) (files : ℕ) {file : FileId} (c : Content) → IsHeldContent standard names files file c → (end_place c).file ≡ file
+end-inside standard names files (content.Lines found) held = held.end_inside
+end-inside standard names files (content.Refused cause place) held = held
 
 -- ---- the walk before the first line
 
@@ -148,7 +149,7 @@ begins-new {s} {before} {names} {walk} {table} space files arities owns empty sa
 }
 
 module _ {s : Sets} {space : Space} {names files : List (List ℕ)} {walk : Walk} (fresh : IsNew s space names files walk) where
-  pub ready-new : {holds : Option Files} {contents : Contents} → AreContents names files holds contents → IsReady s names files holds walk contents
+  pub ready-new : {standard : Standard} {holds : Option Files} {contents : Contents} → AreContents standard names files holds contents → IsReady standard s names files holds walk contents
   ready-new read = record {
     owns = fresh.owns;
     table = fresh.table;
@@ -239,7 +240,7 @@ module _ {s : Sets} {space : Space} {names files : List (List ℕ)} {walk : Walk
       few = λ config listed. faults-few next_sets more_files next.prepared.faults.items config _ (ends-entered config (IsConfig-kept keeps listed)).2.fault;
     }
 
-    pub entered-shown : {holds : Option Files} {contents : Contents} → IsReady next_sets more more_files holds next contents → AllPass (is_plain more) next.prepared.list
+    pub entered-shown : {standard : Standard} {holds : Option Files} {contents : Contents} → IsReady standard next_sets more more_files holds next contents → AllPass (is_plain more) next.prepared.list
         → ArePlainPaths more_files → CanBeShown next_sets more more_files next.prepared
     entered-shown ready plain paths =
         all-shown next_sets more more_files next.prepared ready.owns.prepared

@@ -1,13 +1,13 @@
 -- The headers that an #include names, and their files, at each configuration.
 use Rattle.std.proofs.Common.{◌≡◌, ℕ, zero, suc, ◌<◌, ◌≤◌, ◌&&◌, ◌||◌, is_none, Bool, true, false, List, [], ◌∷◌, All, map, length, get_or, Option, Some, None, Result, Ok, Err, refl, sym, ap, subst, ◌∙◌, arith, if◌then◌else◌}
 use Rattle.std.proofs.lemmas.Bool.{and_parts, ne_eqb, not-true, not_from_false, or_from, true≢false}
-use Rattle.std.proofs.lemmas.List.Elements.{All-from_recursion, All-weaker, recursion_from_All}
+use Rattle.std.proofs.lemmas.List.Elements.{All-from_recursion, All-head, All-tail, All-weaker, recursion_from_All}
 use Rattle.std.specs.List.{AllByRecursion as Every, list_all}
 use Rattle.std.specs.Option.{option_map}
 use Rattle.std.specs.Prelude.{◌==◌, nat_le, not, unwrap_or}
 use Rattle.c11_directives.specs.Behind.{Says}
 use Rattle.c11_directives.specs.declared.directive.Directive.TheVariants as directive
-use Rattle.c11_directives.specs.Lines.{Line, c11_directive_names, hash_of, line_of}
+use Rattle.c11_directives.specs.Lines.{Line, hash_of, line_of}
 use Rattle.c11_directives.specs.Pre.{Carries, Context, RefusedAt, State, included, missing, no_header, not_expanded, place_in, search, too_deep}
 use Rattle.c11_headers.specs.Headers as headers
 use Rattle.sc_base.proofs.Growth.{Extends-refl, Extends-trans, Extends-within}
@@ -33,6 +33,7 @@ use Rattle.sc_model.specs.Growth.{Extends}
 use Rattle.sc_model.specs.Sets.{Sets, IsCond, IsConfig, IsNever, Keeps}
 use Rattle.sc_model.specs.Space.{Space}
 use Rattle.sc_model.specs.Token.{Token}
+use Rattle.sc_model.specs.declared.standard.Standard.{Standard}
 use Rattle.sc_prep.proofs.CloseMoves.{items_at-All}
 use Rattle.sc_prep.proofs.Contents.{IsPlaced-later, place-later, tokens-later}
 use Rattle.sc_prep.proofs.FoundFiles.{finds-nothing}
@@ -186,13 +187,13 @@ module _ (x : Context) (l : Line) (hash : Token) (has : hash_of l ≡ Some hash)
 
 -- ---- the walk
 
-module _ (x : Context) {s0 s1 s2 s3 s4 : Sets} {files before now : List (List ℕ)} {w0 w1 w2 : Walk} (line : List base.Token) (hash : Token) (named : List Named) (unnamed : Cond)
+module _ (standard : Standard) (x : Context) {s0 s1 s2 s3 s4 : Sets} {files before now : List (List ℕ)} {w0 w1 w2 : Walk} (line : List base.Token) (hash : Token) (named : List Named) (unnamed : Cond)
     (list : List (Cond × base.Token)) (alternatives : List Alternative) (k01 : Keeps s0 s1) (k12 : Keeps s1 s2) (k23 : Keeps s2 s3) (k34 : Keeps s3 s4) (grows : Extends before now)
-    (held : All (IsHeld before) line) (has : hash_of (seen_line before files line) ≡ Some hash) (own : All (λ (n : Named). IsCond s3 n.cond.0) named)
-    (says : SimulatesOneOf files before s0 w0 now s1 w1 (λ c m n. SaysAt (seen_line before files line) m (map (seen now files) (items_at s1 list c)) n))
+    (held : All (IsHeld before) line) (has : hash_of (seen_line standard before files line) ≡ Some hash) (own : All (λ (n : Named). IsCond s3 n.cond.0) named)
+    (says : SimulatesOneOf files before s0 w0 now s1 w1 (λ c m n. SaysAt (seen_line standard before files line) m (map (seen now files) (items_at s1 list c)) n))
     (lists : (c : List ℕ) → IsConfig s1.arities c → tokens_in s2 alternatives c ≡ (if s1.has w1.acting.0 c then items_at s1 list c ∷ [] else []))
     (all : (c : List ℕ) → IsConfig s2.arities c → NamesAll (map (λ ts. map (seen now files) ts) (tokens_in s2 alternatives c)) (headers_in s3 named c) (s3.has unnamed.0 c))
-    (refused : SimulatesStep now s3 w1 s4 w2 (λ files c m. refusing_if (s3.has unnamed.0 c) m (seen_line now files line) BadInclude)) where
+    (refused : SimulatesStep now s3 w1 s4 w2 (λ files c m. refusing_if (s3.has unnamed.0 c) m (seen_line standard now files line) BadInclude)) where
   k13 : Keeps s1 s3
   k13 = Keeps-trans k12 k23
 
@@ -203,17 +204,17 @@ module _ (x : Context) {s0 s1 s2 s3 s4 : Sets} {files before now : List (List �
       ap (map (λ ts. map (seen now files) ts)) (lists c listed)
       ∙ (map-one (λ ts. map (seen now files) ts) (s1.has w1.acting.0 c) (items_at s1 list c) ∙ ap (λ b. if b then map (seen now files) (items_at s1 list c) ∷ [] else []) at.acting)
 
-  named-now : (c : List ℕ) (m n : Machine) → IsConfig s1.arities c → SaysAt (seen_line before files line) m (map (seen now files) (items_at s1 list c)) n → Simulates s1 now files w1 c n
-      → NamesAt x (seen_line before files line) m (headers_in s4 named c) (refusing_if (s3.has unnamed.0 c) n (seen_line now files line) BadInclude)
+  named-now : (c : List ℕ) (m n : Machine) → IsConfig s1.arities c → SaysAt (seen_line standard before files line) m (map (seen now files) (items_at s1 list c)) n → Simulates s1 now files w1 c n
+      → NamesAt x (seen_line standard before files line) m (headers_in s4 named c) (refusing_if (s3.has unnamed.0 c) n (seen_line standard now files line) BadInclude)
   named-now c m n listed done at =
       let later : headers_in s4 named c ≡ headers_in s3 named c = items-keeps (λ (n : Named). (n.cond, n.header)) named c k34 own (IsConfig-Keeps k13 listed) in
       let each : NamesAll (if acts n then map (seen now files) (items_at s1 list c) ∷ [] else []) (headers_in s3 named c) (s3.has unnamed.0 c) =
       subst (λ ls. NamesAll ls (headers_in s3 named c) (s3.has unnamed.0 c)) (said-lists c n listed at) (all c (IsConfig-Keeps k12 listed)) in
-      subst (λ hs. NamesAt x (seen_line before files line) m hs (refusing_if (s3.has unnamed.0 c) n (seen_line now files line) BadInclude)) (sym later)
-      (subst (λ l. NamesAt x (seen_line before files line) m (headers_in s3 named c) (refusing_if (s3.has unnamed.0 c) n l BadInclude)) (sym (line-grown files grows line held))
-      (names-at x (seen_line before files line) hash has (headers_in s3 named c) (s3.has unnamed.0 c) done each))
+      subst (λ hs. NamesAt x (seen_line standard before files line) m hs (refusing_if (s3.has unnamed.0 c) n (seen_line standard now files line) BadInclude)) (sym later)
+      (subst (λ l. NamesAt x (seen_line standard before files line) m (headers_in s3 named c) (refusing_if (s3.has unnamed.0 c) n l BadInclude)) (sym (line-grown files grows standard line held))
+      (names-at x (seen_line standard before files line) hash has (headers_in s3 named c) (s3.has unnamed.0 c) done each))
 
-  pub names-leads : SimulatesOneOf files before s0 w0 now s4 w2 (λ c m n. NamesAt x (seen_line before files line) m (headers_in s4 named c) n)
+  pub names-leads : SimulatesOneOf files before s0 w0 now s4 w2 (λ c m n. NamesAt x (seen_line standard before files line) m (headers_in s4 named c) n)
   names-leads = record {
     owns = refused.owns;
     table = refused.table (IsTable-Keeps k13 says.table);
@@ -221,7 +222,7 @@ module _ (x : Context) {s0 s1 s2 s3 s4 : Sets} {files before now : List (List �
         let a = says.at c m listed at in
         let first = IsConfig-Keeps k01 listed in
         record {
-          machine = refusing_if (s3.has unnamed.0 c) a.machine (seen_line now files line) BadInclude;
+          machine = refusing_if (s3.has unnamed.0 c) a.machine (seen_line standard now files line) BadInclude;
           done = named-now c m a.machine first a.done a.simulates;
           simulates = refused.at files c a.machine (IsConfig-Keeps k13 first) (IsTable-Keeps k13 says.table)
               (simulates-kept k13 w1 says.owns now files c a.machine first says.table a.simulates);
@@ -270,46 +271,46 @@ module _ {before now files more : List (List ℕ)} (grows : Extends before now) 
 
 -- ---- the files that configurations enter
 
-module _ (x : Context) {s0 s4 : Sets} {files before now : List (List ℕ)} {w0 w2 : Walk} (line : List base.Token) (hash : Token) (named : List Named) (entry : Entry) (k04 : Keeps s0 s4)
-    (held_line : All (IsPlaced before (length files)) line) (has : hash_of (seen_line before files line) ≡ Some hash)
-    (at_names : SimulatesOneOf files before s0 w0 now s4 w2 (λ c m n. NamesAt x (seen_line before files line) m (headers_in s4 named c) n)) (grows : Extends before now) where
-  pub deep-leads : {s5 : Sets} {w3 : Walk} → (entry.depth < x.include_depth → ⊥) → SimulatesStep now s4 w2 s5 w3 (λ files c m. refusing m (seen_line now files line) IncludeDepth)
-      → Leads files before s0 w0 files now s5 w3 (IsIn files entry) (λ c m n. Finds x (seen_line before files line) files m [] n)
+module _ (standard : Standard) (x : Context) {s0 s4 : Sets} {files before now : List (List ℕ)} {w0 w2 : Walk} (line : List base.Token) (hash : Token) (named : List Named) (entry : Entry) (k04 : Keeps s0 s4)
+    (held_line : All (IsPlaced before (length files)) line) (has : hash_of (seen_line standard before files line) ≡ Some hash)
+    (at_names : SimulatesOneOf files before s0 w0 now s4 w2 (λ c m n. NamesAt x (seen_line standard before files line) m (headers_in s4 named c) n)) (grows : Extends before now) where
+  pub deep-leads : {s5 : Sets} {w3 : Walk} → (entry.depth < x.include_depth → ⊥) → SimulatesStep now s4 w2 s5 w3 (λ files c m. refusing m (seen_line standard now files line) IncludeDepth)
+      → Leads files before s0 w0 files now s5 w3 (IsIn files entry) (λ c m n. Finds x (seen_line standard before files line) files m [] n)
   deep-leads deep refused = record {
     at = λ c m listed at here.
         let a = at_names.at c m listed at in
-        let same : seen_line now files line ≡ seen_line before files line = ap (line_of c11_directive_names) (tokens-later grows (Extends-refl files) line held_line) in
+        let same : seen_line standard now files line ≡ seen_line standard before files line = ap (line_of standard) (tokens-later grows (Extends-refl files) line held_line) in
         record {
-          machine = refusing a.machine (seen_line now files line) IncludeDepth;
-          done = subst (λ l. Finds x (seen_line before files line) files m [] (refusing a.machine l IncludeDepth)) (sym same)
-              (named-deep x (seen_line before files line) hash has files a.done (λ acting shallow. deep (subst (λ d. d < x.include_depth) (here acting).deep shallow)));
+          machine = refusing a.machine (seen_line standard now files line) IncludeDepth;
+          done = subst (λ l. Finds x (seen_line standard before files line) files m [] (refusing a.machine l IncludeDepth)) (sym same)
+              (named-deep x (seen_line standard before files line) hash has files a.done (λ acting shallow. deep (subst (λ d. d < x.include_depth) (here acting).deep shallow)));
           simulates = refused.at files c a.machine (IsConfig-Keeps k04 listed) at_names.table a.simulates;
         };
   }
 
   module _ {s5 s6 : Sets} {more later : List (List ℕ)} {w3 : Walk} {contents : Contents} (found : Found) (k45 : Keeps s4 s5) (k56 : Keeps s5 s6) (grows_on : Extends now later) (files_grow : Extends files more)
-      (held : IsHeldWalk now (length files) any_token w2) (shallow : entry.depth < x.include_depth) (agrees : Agrees later more x.files contents)
-      (are : AreFound s4 named (text_at files entry.file.0) x.include later more contents s5 found)
-      (refused : SimulatesStep later s5 w2 s6 w3 (λ files c m. refusing_if (s5.has found.missing.0 c) m (seen_line later files line) NotFound)) where
-    found-now : (c : List ℕ) (m n : Machine) → IsConfig s4.arities c → IsIn files entry m → NamesAt x (seen_line before files line) m (headers_in s4 named c) n
-        → Finds x (seen_line before files line) more m (files_at s6 found.parts.items c) (refusing_if (s5.has found.missing.0 c) n (seen_line later more line) NotFound)
+      (held : IsHeldWalk now (length files) any_token w2) (shallow : entry.depth < x.include_depth) (agrees : Agrees standard later more x.files contents)
+      (are : AreFound standard s4 named (text_at files entry.file.0) x.include later more contents s5 found)
+      (refused : SimulatesStep later s5 w2 s6 w3 (λ files c m. refusing_if (s5.has found.missing.0 c) m (seen_line standard later files line) NotFound)) where
+    found-now : (c : List ℕ) (m n : Machine) → IsConfig s4.arities c → IsIn files entry m → NamesAt x (seen_line standard before files line) m (headers_in s4 named c) n
+        → Finds x (seen_line standard before files line) more m (files_at s6 found.parts.items c) (refusing_if (s5.has found.missing.0 c) n (seen_line standard later more line) NotFound)
     found-now c m n listed here done =
-        let l = seen_line before files line in
-        let same : seen_line later more line ≡ l = ap (line_of c11_directive_names) (tokens-later (Extends-trans grows grows_on) files_grow line held_line) in
+        let l = seen_line standard before files line in
+        let same : seen_line standard later more line ≡ l = ap (line_of standard) (tokens-later (Extends-trans grows grows_on) files_grow line held_line) in
         let kept : files_at s6 found.parts.items c ≡ files_at s5 found.parts.items c = items-keeps (λ (part : Part). (part.cond, part.file)) found.parts.items c k56 are.parts.own (IsConfig-Keeps k45 listed) in
-        subst (λ fs. Finds x l more m fs (refusing_if (s5.has found.missing.0 c) n (seen_line later more line) NotFound)) (sym kept)
+        subst (λ fs. Finds x l more m fs (refusing_if (s5.has found.missing.0 c) n (seen_line standard later more line) NotFound)) (sym kept)
         (subst (λ k. Finds x l more m (files_at s5 found.parts.items c) (refusing_if (s5.has found.missing.0 c) n k NotFound)) (sym same)
         (named-finds x l hash has more done (λ acting. ap (λ o. unwrap_or o []) (here acting).name) (λ acting. subst (λ d. d < x.include_depth) (sym (here acting).deep) shallow)
         (are.at x.files c agrees listed (names-short x l hash has done))))
 
-    pub found-leads : Leads files before s0 w0 more later s6 w3 (IsIn files entry) (λ c m n. Finds x (seen_line before files line) more m (files_at s6 found.parts.items c) n)
+    pub found-leads : Leads files before s0 w0 more later s6 w3 (IsIn files entry) (λ c m n. Finds x (seen_line standard before files line) more m (files_at s6 found.parts.items c) n)
     found-leads = record {
       at = λ c m listed at here.
           let a = at_names.at c m listed at in
           let first = IsConfig-Keeps k04 listed in
           let table5 = IsTable-Keeps k45 at_names.table in
           record {
-            machine = refusing_if (s5.has found.missing.0 c) a.machine (seen_line later more line) NotFound;
+            machine = refusing_if (s5.has found.missing.0 c) a.machine (seen_line standard later more line) NotFound;
             done = found-now c m a.machine first here a.done;
             simulates = refused.at more c a.machine (IsConfig-Keeps k45 first) (IsTable-Extends grows_on table5)
                 (simulates-later grows_on files_grow s5 w2 c a.machine table5 held (simulates-kept k45 w2 at_names.owns now files c a.machine first at_names.table a.simulates));
@@ -371,22 +372,25 @@ unseen-plain : (texts files : List (List ℕ)) (ts : List base.Token) → Every 
 unseen-plain texts files [] all = tt
 unseen-plain texts files (t ∷ ts) all = (all.0, unseen-plain texts files ts all.1)
 
-line-plain : (texts files : List (List ℕ)) (ts : List base.Token) → ArePlainPaths files → Every (λ (t : base.Token). is_plain texts t ≡ true) ts → Every (IsPlaced texts (length files)) ts
+pub line-plain : (texts files : List (List ℕ)) (ts : List base.Token) → All (IsPlaced texts (length files)) ts → ArePlainPaths files → All (λ (t : base.Token). is_plain texts t ≡ true) ts
     → Every IsPlainToken (map (seen texts files) ts)
-line-plain texts files [] paths all placed = tt
-line-plain texts files (t ∷ ts) paths all placed =
-    (record { spelling = all.0; file = path-plain files t.place.file.0 placed.0.file paths }, line-plain texts files ts paths all.1 placed.1)
+line-plain texts files [] placed paths all = tt
+line-plain texts files (t ∷ ts) placed paths all =
+    let P : base.Token → Type 0 = λ t. is_plain texts t ≡ true in
+    let Q = IsPlaced texts (length files) in (
+      record { spelling = All-head P t ts all; file = path-plain files t.place.file.0 (All-head Q t ts placed).file paths },
+      line-plain texts files ts (All-tail Q t ts placed) paths (All-tail P t ts all),
+    )
 
-pub said-each : {s0 s1 : Sets} {files before now : List (List ℕ)} {w0 w1 : Walk} {from : Machine → Type 0} (line : List base.Token) (list : List (Cond × base.Token)) → Keeps s0 s1
-    → SimulatesOneOf files before s0 w0 now s1 w1 (λ c m n. SaysAt (seen_line before files line) m (map (seen now files) (items_at s1 list c)) n)
+pub said-each : (standard : Standard) {s0 s1 : Sets} {files before now : List (List ℕ)} {w0 w1 : Walk} {from : Machine → Type 0} (line : List base.Token) (list : List (Cond × base.Token)) → Keeps s0 s1
+    → SimulatesOneOf files before s0 w0 now s1 w1 (λ c m n. SaysAt (seen_line standard before files line) m (map (seen now files) (items_at s1 list c)) n)
     → All (IsPlaced before (length files)) line → All (λ (t : base.Token). is_plain before t ≡ true) line → ArePlainPaths files → PlainEach s0 before files w0 from
     → (c : List ℕ) → IsConfig s1.arities c → s1.has w1.acting.0 c ≡ true → All (λ (t : base.Token). is_plain now t ≡ true) (items_at s1 list c)
-said-each {s1 = s1} {files} {before} {now} line list keeps says placed plain paths each c listed acting =
+said-each standard {s1 = s1} {files} {before} {now} line list keeps says placed plain paths each c listed acting =
     let was = IsConfig-kept keeps listed in
     let m = each.each c was in
     let a = says.at c m.0 was m.1 in
-    let P : base.Token → Type 0 = λ t. is_plain before t ≡ true in
-    let spelled = line-plain before files line paths (recursion_from_All P line plain) (recursion_from_All (IsPlaced before (length files)) line placed) in
+    let spelled = line-plain before files line placed paths plain in
     All-from_recursion (λ (t : base.Token). is_plain now t ≡ true) (items_at s1 list c)
     (unseen-plain now files (items_at s1 list c) (said-plain a.done (sym a.simulates.acting ∙ acting) m.3 spelled))
 
@@ -405,9 +409,9 @@ sound-plain {space} sound =
     (λ path is. from-blank path (and_parts (not (length path == 0)) (list_all (nat_le 32) path) is).1) space.include sound.directories
 
 -- a line has a first token
-pub has-hash : (texts files : List (List ℕ)) (line : List base.Token) → 0 < length line → (t : Token) × (hash_of (seen_line texts files line) ≡ Some t)
-has-hash texts files [] long = absurd (omega (arith, long))
-has-hash texts files (t ∷ ts) long = (seen texts files t, refl)
+pub has-hash : (standard : Standard) (texts files : List (List ℕ)) (line : List base.Token) → 0 < length line → (t : Token) × (hash_of (seen_line standard texts files line) ≡ Some t)
+has-hash standard texts files [] long = absurd (omega (arith, long))
+has-hash standard texts files (t ∷ ts) long = (seen texts files t, refl)
 
 -- ---- why there is no answer
 

@@ -19,6 +19,7 @@ use Rattle.sc_model.specs.declared.cause.Cause.TheVariants.{BadDirective}
 use Rattle.sc_model.specs.Fault.{Fault, first_place}
 use Rattle.sc_model.specs.Sets.{Sets, Denotes, IsConfig, Keeps}
 use Rattle.sc_model.specs.Token as model
+use Rattle.sc_model.specs.declared.standard.Standard.{Standard}
 use Rattle.sc_prep.specs.Alternatives.{alternative_tokens, tokens_in}
 use Rattle.sc_prep.specs.declared.alternatives.Alternative.{Alternative}
 use Rattle.sc_prep.specs.declared.walk.Walk.{Walk}
@@ -122,8 +123,8 @@ module _ (x : Context) (l : Line) (hash : model.Token) (hashed : hash_of l ≡ S
 
 -- ---- at each configuration
 
-module _ (files names more : List (List ℕ)) {old s1 s2 s3 : Sets} (k1 : Keeps old s1) (k2 : Keeps s1 s2) (k3 : Keeps s2 s3) (w said_to : Walk) (line : List Token) (list : List (Cond × Token))
-    (says : SimulatesOneOf files names old w more s1 said_to (λ c m n. SaysAt (seen_line names files line) m (map (seen more files) (items_at s1 list c)) n))
+module _ (standard : Standard) (files names more : List (List ℕ)) {old s1 s2 s3 : Sets} (k1 : Keeps old s1) (k2 : Keeps s1 s2) (k3 : Keeps s2 s3) (w said_to : Walk) (line : List Token) (list : List (Cond × Token))
+    (says : SimulatesOneOf files names old w more s1 said_to (λ c m n. SaysAt (seen_line standard names files line) m (map (seen more files) (items_at s1 list c)) n))
     (alternatives : List Alternative)
     (tokens : (c : List ℕ) → IsConfig s1.arities c → tokens_in s2 alternatives c ≡ (if s1.has said_to.acting.0 c then items_at s1 list c ∷ [] else [])) where
   -- whether the line is not numbered
@@ -149,11 +150,11 @@ module _ (files names more : List (List ℕ)) {old s1 s2 s3 : Sets} (k1 : Keeps 
       by false b = refl
 
   pub line-numbered : {new : Sets} (next : Walk) (others : ℕ) → Denotes s3 others is_wrong
-      → ((t : List ℕ → Bool) → Denotes s3 others (λ c. t c && s3.has said_to.acting.0 c) → SimulatesStep more s3 said_to new next (λ files config m. refusing_if (t config) m (seen_line more files line) BadDirective))
-      → seen_line more files line ≡ seen_line names files line → (hash : model.Token) → hash_of (seen_line names files line) ≡ Some hash
-      → (x : Context) → SimulatesOneOf files names old w more new next (λ c m n. Carried x (seen_line names files line) directive.Line m n)
+      → ((t : List ℕ → Bool) → Denotes s3 others (λ c. t c && s3.has said_to.acting.0 c) → SimulatesStep more s3 said_to new next (λ files config m. refusing_if (t config) m (seen_line standard more files line) BadDirective))
+      → seen_line standard more files line ≡ seen_line standard names files line → (hash : model.Token) → hash_of (seen_line standard names files line) ≡ Some hash
+      → (x : Context) → SimulatesOneOf files names old w more new next (λ c m n. Carried x (seen_line standard names files line) directive.Line m n)
   line-numbered next others meaning refuses same hash hashed x =
-      let l = seen_line names files line in
+      let l = seen_line standard names files line in
       let keeps = Keeps-trans k2 k3 in
       let move = refuses is_wrong (denotes-as is_wrong (λ c. is_wrong c && s3.has said_to.acting.0 c) within-acting meaning) in
       record {
@@ -163,7 +164,7 @@ module _ (files names more : List (List ℕ)) {old s1 s2 s3 : Sets} (k1 : Keeps 
             let a = says.at c m listed simulates in
             let now : IsConfig s1.arities c = IsConfig-Keeps k1 listed in
             record {
-              machine = refusing_if (is_wrong c) a.machine (seen_line more files line) BadDirective;
+              machine = refusing_if (is_wrong c) a.machine (seen_line standard more files line) BadDirective;
               done = subst (λ k. Carried x l directive.Line m (refusing_if (is_wrong c) a.machine k BadDirective)) (sym same)
                   (numbered-as x l hash hashed (map (seen more files) (items_at s1 list c)) (is_wrong c)
                   (λ does. wrong-at c now ∙ ap (λ b. b && not (is_numbering (map (seen more files) (items_at s1 list c)))) (a.simulates.acting ∙ does)) a.done);

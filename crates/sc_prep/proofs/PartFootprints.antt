@@ -18,14 +18,15 @@ use Rattle.sc_expand.specs.Stops.{StopsBy}
 use Rattle.sc_guarded.proofs.ItemLemmas.{items_at-append}
 use Rattle.sc_guarded.specs.Items.{items_at}
 use Rattle.sc_if.specs.Parts.{HasPart, HasParts, RefusesAt}
-use Rattle.sc_if.specs.Symbols.{spelled}
+use Rattle.sc_if.specs.Symbols.{symbol_at}
 use Rattle.sc_model.specs.Sets.{Sets, IsConfig}
 use Rattle.sc_model.specs.Token.{Token}
+use Rattle.sc_model.specs.declared.standard.Standard.{Standard}
 use Rattle.sc_prep.proofs.NameFootprints.{made-all, made-length, made-pairs, made_of}
 
 -- at the configuration this waits before the item
-module _ (s : Sets) (names files : List (List ℕ)) (list : List (Cond × base.Token)) (index : ℕ) (item : Cond × base.Token) (is : slice_get list index ≡ Some item) (p : List ℕ × Part)
-    (has : HasPart s names (take index list) item p) where
+module _ {standard : Standard} (s : Sets) (names files : List (List ℕ)) (list : List (Cond × base.Token)) (index : ℕ) (item : Cond × base.Token) (is : slice_get list index ≡ Some item) (p : List ℕ × Part)
+    (has : HasPart standard s names (take index list) item p) where
   abbrev see : base.Token → Token
   see t = seen names files t
 
@@ -37,7 +38,7 @@ module _ (s : Sets) (names files : List (List ℕ)) (list : List (Cond × base.T
       ap (λ xs. items_at s xs c) (sym (take-append-drop index list) ∙ ap (λ xs. take index list ++ xs) behind)
       ∙ (items_at-append s (take index list) (item ∷ rest) c ∙ ap (λ b. items_at s (take index list) c ++ (if b then item.1 ∷ items_at s rest c else items_at s rest c)) has.has)
 
-  pub part-has : {macros : Macros} {text : List Token} → TextExpands macros text (Ok (map see (items_at s list p.0))) → PartHas macros text (before_token (see item.1), waiting p.1)
+  pub part-has : {macros : Macros} {text : List Token} → TextExpands macros text (Ok (map see (items_at s list p.0))) → PartHas standard macros text (before_token (see item.1), waiting p.1)
   part-has {macros} {text} expands =
       let front = items_at s (take index list) p.0 in
       let rest = items_at s (drop (suc index) list) p.0 in
@@ -47,23 +48,23 @@ module _ (s : Sets) (names files : List (List ℕ)) (list : List (Cond × base.T
         rest = map see rest;
         part = p.1;
         expands = subst (λ ts. TextExpands macros text (Ok ts)) (ap (map see) items-parted ∙ map-append see front (item.1 ∷ rest)) expands;
-        waits = subst (λ ts. IsPart (spelled names item.1) ts p.1) (sym (map-map plain.spelled see front)) has.part;
+        waits = subst (λ ts. IsPart (symbol_at standard names item.1) ts p.1) (sym (map-map (plain.symbol_at standard) see front)) has.part;
         is = refl;
       }
 
 -- one configuration has one part
-parts-differ : {s : Sets} {names : List (List ℕ)} {front : List (Cond × base.Token)} {item : Cond × base.Token} (p q : List ℕ × Part) → HasPart s names front item p → HasPart s names front item q
+parts-differ : {standard : Standard} {s : Sets} {names : List (List ℕ)} {front : List (Cond × base.Token)} {item : Cond × base.Token} (p q : List ℕ × Part) → HasPart standard s names front item p → HasPart standard s names front item q
     → (p.1 ≡ q.1 → ⊥) → p.0 ≡ q.0 → ⊥
-parts-differ {s} {names} {front} {item} p q one other differ same =
-    let tokens = λ (c : List ℕ). map (spelled names) (items_at s front c) in
-    differ (one_part (spelled names item.1) (tokens q.0) p.1 q.1 (subst (λ c. IsPart (spelled names item.1) (tokens c) p.1) same one.part) other.part)
+parts-differ {standard} {s} {names} {front} {item} p q one other differ same =
+    let tokens = λ (c : List ℕ). map (symbol_at standard names) (items_at s front c) in
+    differ (one_part (symbol_at standard names item.1) (tokens q.0) p.1 q.1 (subst (λ c. IsPart (symbol_at standard names item.1) (tokens c) p.1) same one.part) other.part)
 
 waiting-one : (p q : Part) → waiting p ≡ waiting q → p ≡ q
 waiting-one p q same = cc
 
-module _ {s : Sets} {names : List (List ℕ)} {list : List (Cond × base.Token)} {test : List ℕ → Bool} {count : ℕ} (h : HasParts s names list test count) where
+module _ {standard : Standard} {s : Sets} {names : List (List ℕ)} {list : List (Cond × base.Token)} {test : List ℕ → Bool} {count : ℕ} (h : HasParts standard s names list test count) where
   abbrev Has : List ℕ × Part → Type 0
-  Has = HasPart s names (take h.index list) h.item
+  Has = HasPart standard s names (take h.index list) h.item
 
   abbrev config : (p : List ℕ × Part) → Has p → List ℕ
   config p has = p.0
@@ -86,8 +87,8 @@ module _ {s : Sets} {names : List (List ℕ)} {list : List (Cond × base.Token)}
             (λ p q one other differ. (parts-differ p q one other differ, λ same. differ (waiting-one p.1 q.1 same))) h.parts h.each h.apart;
       }
 
-pub parts-stop : (s : Sets) (names : List (List ℕ)) (list : List (Cond × base.Token)) (test : List ℕ → Bool) (limit : ℕ) (stop : Stop) → RefusesAt s names list test limit stop → StopsBy s.arities limit stop
-parts-stop s names list test limit (BranchesFull count) is =
+pub parts-stop : (standard : Standard) (s : Sets) (names : List (List ℕ)) (list : List (Cond × base.Token)) (test : List ℕ → Bool) (limit : ℕ) (stop : Stop) → RefusesAt standard s names list test limit stop → StopsBy s.arities limit stop
+parts-stop standard s names list test limit (BranchesFull count) is =
     let h = is.1 in (
       is.0,
       record {
@@ -97,5 +98,5 @@ parts-stop s names list test limit (BranchesFull count) is =
         apart = made-pairs (Has h) (config h) (λ p q. p.1 ≡ q.1 → ⊥) (λ c d. c ≡ d → ⊥) (λ p q one other differ. parts-differ p q one other differ) h.parts h.each h.apart;
       },
     )
-parts-stop s names list test limit ReadFault is = is
-parts-stop s names list test limit OutOfMemory is = tt
+parts-stop standard s names list test limit ReadFault is = is
+parts-stop standard s names list test limit OutOfMemory is = tt

@@ -9,15 +9,14 @@ use Rattle.c11_directives.specs.declared.directive.Conditional.TheVariants.{Open
 use Rattle.c11_directives.specs.declared.directive.Directive.{Directive}
 use Rattle.c11_directives.specs.declared.directive.Directive.TheVariants as directive
 use Rattle.c11_directives.specs.Behind.{behind_name}
-use Rattle.c11_directives.specs.Lines.{Line, c11_directive_names, conditional_of}
+use Rattle.c11_directives.specs.Lines.{Line, conditional_of}
 use Rattle.c11_directives.specs.Pre.{Context, State, with_text, put_out, with_macro, with_macros, operand_of, is_barrier}
 use Rattle.c11_macros.specs.Defines.{Defined, reads}
-use Rattle.c11_macros.specs.Macros.{Definition, Macros}
+use Rattle.c11_macros.specs.Macros.{Definition, Macros, IsOneLineList}
 use Rattle.c11_macros.specs.Same.{same_definition}
 use Rattle.c11_macros.specs.Text.{TextExpands}
 use Rattle.c11_macros.proofs.OneLineLists.{both}
 use Rattle.sc_expand.proofs.TextLines.{update-one_line}
-use Rattle.c11_macros.specs.Macros.{IsOneLineList}
 use Rattle.sc_expand.specs.OneLine.{AreOneLine}
 use Rattle.sc_guarded.specs.Items.{items_at}
 use Rattle.sc_base.specs.Seen.{seen, text_at}
@@ -31,6 +30,7 @@ use Rattle.sc_model.specs.Growth.{Extends}
 use Rattle.sc_model.specs.Sets.{Sets, Keeps}
 use Rattle.sc_model.proofs.SetLemmas.{IsConfig-kept}
 use Rattle.sc_model.specs.Token.{Token}
+use Rattle.sc_model.specs.declared.standard.Standard.{Standard}
 use Rattle.sc_prep.specs.declared.walk.Walk.{Walk}
 use Rattle.sc_prep.specs.Machine.{Machine, acts, closing_run, opened_as, next_branch, branched_as, ended, defined_over, defined_as, changed_by, changing, plain_by, is_taken, step_by, arriving, Takes, takes, closes, carries, Runs}
 use Rattle.sc_prep.specs.Machine as machine
@@ -143,17 +143,17 @@ pub path-plain : (files : List (List ℕ)) (file : ℕ) → file < length files 
 path-plain files file within paths =
     subst (λ path. has_no_newline path ≡ true) (sym (unwrap_or-slice_get files file [])) (All-get_or (λ path. has_no_newline path ≡ true) files file [] within paths)
 
-pub seen-plain : (names files : List (List ℕ)) (ts : List base.Token) → All (IsPlainOrNewline names) ts → All (λ (t : base.Token). has_no_newline (text_at files t.place.file.0) ≡ true) ts
-    → Every (λ (l : Line). Every IsPlainToken l.tokens) (seen_lines names files ts)
-seen-plain names files ts all placed =
-    lines-plain c11_directive_names (map (seen names files) ts)
+pub seen-plain : (standard : Standard) (names files : List (List ℕ)) (ts : List base.Token) → All (IsPlainOrNewline names) ts → All (λ (t : base.Token). has_no_newline (text_at files t.place.file.0) ≡ true) ts
+    → Every (λ (l : Line). Every IsPlainToken l.tokens) (seen_lines standard names files ts)
+seen-plain standard names files ts all placed =
+    lines-plain standard (map (seen names files) ts)
     (tokens-plain names files ts (recursion_from_All (IsPlainOrNewline names) ts all) (recursion_from_All (λ (t : base.Token). has_no_newline (text_at files t.place.file.0) ≡ true) ts placed))
 
 -- the same where the names of files are on one line, and the tokens stand in these
-pub placed-plain : (names files : List (List ℕ)) (ts : List base.Token) → All (IsPlaced names (length files)) ts → ArePlainPaths files → All (IsPlainOrNewline names) ts
-    → Every (λ (l : Line). Every IsPlainToken l.tokens) (seen_lines names files ts)
-placed-plain names files ts placed paths all =
-    seen-plain names files ts all (All-weaker (IsPlaced names (length files)) (λ (t : base.Token). has_no_newline (text_at files t.place.file.0) ≡ true)
+pub placed-plain : (standard : Standard) (names files : List (List ℕ)) (ts : List base.Token) → All (IsPlaced names (length files)) ts → ArePlainPaths files → All (IsPlainOrNewline names) ts
+    → Every (λ (l : Line). Every IsPlainToken l.tokens) (seen_lines standard names files ts)
+placed-plain standard names files ts placed paths all =
+    seen-plain standard names files ts all (All-weaker (IsPlaced names (length files)) (λ (t : base.Token). has_no_newline (text_at files t.place.file.0) ≡ true)
     (λ t p. path-plain files t.place.file.0 p.file paths) ts placed)
 
 -- ---- what a barrier puts out

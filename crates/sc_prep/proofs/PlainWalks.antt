@@ -7,19 +7,18 @@ use Rattle.std.specs.Option.{IfSome, option_map}
 use Rattle.std.specs.Prelude.{IfOk, ◌-◌, if◌then◌else◌}
 use Rattle.c11_directives.specs.declared.directive.Directive.{Directive}
 use Rattle.c11_directives.specs.Behind.{behind_name, Says, as_it_stands, expanded}
-use Rattle.c11_directives.specs.Lines.{DirectiveNames, Line, line_of, lines_of, split_lines, onto_first, Group, Branches, group_lines, branch_lines, Tree, nested}
+use Rattle.c11_directives.specs.Lines.{Line, line_of, lines_of, split_lines, onto_first, Group, Branches, group_lines, branch_lines, Tree, nested}
 use Rattle.c11_directives.specs.Pre.{Context, State, Closes, closed, refused, Defines, fresh, again, redefined, undefined, without_macro, operand_of, Changes, ignored, unknown, error, defines, defines_nothing, undefines, Steps, text, null, stopped, carried_out, Carries, changed, not_changed, not_expanded, numbered, not_numbered, no_header, too_deep, included, back, Walks, done, line, line_stops, taken, taken_stops, passed, passed_stops, head_stops, WalksBranches, none_taken, last_taken, later_taken, later_passed, later_stops, File, found_or, search, inside, file_lines, Enters, too_large, unended, badly_nested, stopped_inside, walked, Includes, missing, entered}
 use Rattle.c11_headers.specs.declared.kind.HeaderKind.{HeaderKind}
 use Rattle.c11_headers.specs.declared.kind.HeaderKind.TheVariants.{Quoted, Angle}
 use Rattle.c11_headers.specs.Headers.{Header, header_with, delimited, spaced, up_to_angle, form_by, form_of, is_file_name, with_file_name, header_of, is_slash, directory_of, is_absolute, in_directory, beside, candidates}
 use Rattle.c11_macros.specs.Defines.{Defined, is_protected, reads}
-use Rattle.c11_macros.specs.Macros.{Macros}
+use Rattle.c11_macros.specs.Macros.{Macros, IsOneLineList}
 use Rattle.c11_macros.specs.Results.{result_map}
 use Rattle.c11_macros.specs.Text.{TextExpands}
 use Rattle.c11_tokens.proofs.PlainLaws.{lexed-plain}
 use Rattle.c11_tokens.specs.Lex.{is_newline, Lexed}
 use Rattle.c11_macros.proofs.OneLineLists.{PlainToken, both, every-map, reads-one_line}
-use Rattle.c11_macros.specs.Macros.{IsOneLineList}
 use Rattle.sc_expand.proofs.TextLines.{update-one_line}
 use Rattle.sc_expand.specs.OneLine.{AreOneLine}
 use Rattle.sc_model.specs.declared.cause.Cause.{Cause}
@@ -30,6 +29,7 @@ use Rattle.sc_model.specs.Bytes.{begins_with, has_no_newline, same_bytes}
 use Rattle.sc_model.specs.Fault.{Fault}
 use Rattle.sc_model.specs.Outside.{Files}
 use Rattle.sc_model.specs.Token.{Lexeme, Place, Token, in_file}
+use Rattle.sc_model.specs.declared.standard.Standard.{Standard}
 use Rattle.sc_prep.proofs.Plain.{expands-plain, spelled-plain}
 use Rattle.sc_prep.specs.Printable.{IsPlainState, IsPlainToken}
 
@@ -209,8 +209,8 @@ split-plain (t ∷ ts) all = by (split-plain ts all.1) (is_newline t.kind) all.0
     by rest true e = (tt, rest)
     by rest false e = onto-plain t (split_lines (λ (t : Token). is_newline t.kind) ts) (record { spelling = e; file = all.0.file }) rest
 
-pub lines-plain : (directives : DirectiveNames) (ts : List Token) → Every IsPlainAt ts → Every (λ (l : Line). Every IsPlainToken l.tokens) (lines_of directives ts)
-lines-plain directives ts all = every-map (Every IsPlainToken) (λ (l : Line). Every IsPlainToken l.tokens) (line_of directives) (λ ts p. p) (split_lines (λ t. is_newline t.kind) ts) (split-plain ts all)
+pub lines-plain : (standard : Standard) (ts : List Token) → Every IsPlainAt ts → Every (λ (l : Line). Every IsPlainToken l.tokens) (lines_of standard ts)
+lines-plain standard ts all = every-map (Every IsPlainToken) (λ (l : Line). Every IsPlainToken l.tokens) (line_of standard) (λ ts p. p) (split_lines (λ t. is_newline t.kind) ts) (split-plain ts all)
 
 pub in_file-plain : (name : List ℕ) (ts : List Lexeme) → IsPlain name → list_all (λ (t : Lexeme). is_newline t.kind || has_no_newline t.spelling) ts ≡ true → Every IsPlainAt (map (in_file name) ts)
 in_file-plain name [] p all = tt
@@ -245,7 +245,7 @@ section-plain g bs rest all =
 module _ (x : Context) (directories : All IsPlain x.include) where
   file-plain : (file : File) (tokens : List Lexeme) {g : Group} → Lexed file.bytes (Ok tokens) → Tree (file_lines x file tokens) (Ok g) → IsPlain file.name → Every PlainLine (group_lines g)
   file-plain file tokens l t p =
-      tree-plain t (lines-plain x.standard.directives (map (in_file file.name) tokens) (in_file-plain file.name tokens p (lexed-plain file.bytes tokens l)))
+      tree-plain t (lines-plain x.standard (map (in_file file.name) tokens) (in_file-plain file.name tokens p (lexed-plain file.bytes tokens l)))
 
   pub names-plain : {s : State} {l : Line} (ts : List Token) (header : Header) → Says s.macros l (Ok ts) → header_of ts ≡ Ok header → IsPlainState s → PlainLine l
       → Every IsPlain (candidates header s.file x.include)

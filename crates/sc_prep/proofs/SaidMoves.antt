@@ -15,6 +15,7 @@ use Rattle.sc_lines.specs.Nests.{seen_line}
 use Rattle.sc_model.specs.Fault.{Fault}
 use Rattle.sc_model.specs.Sets.{Sets, IsCond}
 use Rattle.sc_model.specs.Token as model
+use Rattle.sc_model.specs.declared.standard.Standard.{Standard}
 use Rattle.sc_prep.specs.declared.walk.Walk.{Walk}
 use Rattle.sc_prep.specs.Expressions.{ExpandsAt, expanding_done, expanding_fails, expanding_idle, failed}
 use Rattle.sc_prep.specs.Machine.{Machine, SaysAt, acts, arriving, inert, refused, said}
@@ -63,21 +64,21 @@ and-twice true true = refl
 and-twice true false = refl
 and-twice false b = refl
 
-module _ (names files : List (List ℕ)) (s : Sets) (w : Walk) (line : List Token) (list : List (Cond × Token)) (same : list ≡ under w.acting (drop 2 line)) where
-  pub text-at : (c : List ℕ) → map (seen names files) (items_at s list c) ≡ (if s.has w.acting.0 c then behind_name (seen_line names files line) else [])
+module _ (names files : List (List ℕ)) (s : Sets) (w : Walk) (line : List Token) (list : List (Cond × Token)) (same : list ≡ under w.acting (drop 2 line)) (standard : Standard) where
+  pub text-at : (c : List ℕ) → map (seen names files) (items_at s list c) ≡ (if s.has w.acting.0 c then behind_name (seen_line standard names files line) else [])
   text-at c = ap (λ xs. map (seen names files) (items_at s xs c)) same ∙ (ap (map (seen names files)) (items_at-under s w.acting (drop 2 line) c) ∙ by (s.has w.acting.0 c))
     where
-      by : (b : Bool) → map (seen names files) (if b then drop 2 line else []) ≡ (if b then behind_name (seen_line names files line) else [])
+      by : (b : Bool) → map (seen names files) (if b then drop 2 line else []) ≡ (if b then behind_name (seen_line standard names files line) else [])
       by true = sym (drop-map (seen names files) 2 line)
       by false = refl
 
-  pub stands : Owns s w → IsTable s names w.table → begins_with_header (behind_name (seen_line names files line)) ≡ true
-      → SimulatesOneOf files names s w names s w (λ c m n. SaysAt (seen_line names files line) m (map (seen names files) (items_at s list c)) n)
+  pub stands : Owns s w → IsTable s names w.table → begins_with_header (behind_name (seen_line standard names files line)) ≡ true
+      → SimulatesOneOf files names s w names s w (λ c m n. SaysAt (seen_line standard names files line) m (map (seen names files) (items_at s list c)) n)
   stands owns is header = record {
     owns = owns;
     table = is;
     at = λ c m listed simulates.
-        let l = seen_line names files line in
+        let l = seen_line standard names files line in
         record {
           machine = m;
           done = subst (λ ts. SaysAt l m ts m) (sym (text-at c ∙ ap (λ b. if b then behind_name l else []) simulates.acting)) (stands-at l m header (acts m) refl);
@@ -85,14 +86,14 @@ module _ (names files : List (List ℕ)) (s : Sets) (w : Walk) (line : List Toke
         };
   }
 
-  pub expands-to : {more : List (List ℕ)} {new : Sets} {next : Walk} (ts : List ℕ → List model.Token) → begins_with_header (behind_name (seen_line names files line)) ≡ false
+  pub expands-to : {more : List (List ℕ)} {new : Sets} {next : Walk} (ts : List ℕ → List model.Token) → begins_with_header (behind_name (seen_line standard names files line)) ≡ false
       → SimulatesOneOf files names s w more new next (λ c m n. ExpandsAt (map (seen names files) (items_at s list c)) (s.has w.acting.0 c && is_none m.fault) m (ts c) n)
-      → SimulatesOneOf files names s w more new next (λ c m n. SaysAt (seen_line names files line) m (ts c) n)
+      → SimulatesOneOf files names s w more new next (λ c m n. SaysAt (seen_line standard names files line) m (ts c) n)
   expands-to ts other expands = record {
     owns = expands.owns;
     table = expands.table;
     at = λ c m listed simulates.
-        let l = seen_line names files line in
+        let l = seen_line standard names files line in
         let a = expands.at c m listed simulates in
         record {
           machine = a.machine;

@@ -19,6 +19,7 @@ use Rattle.sc_lines.specs.Split.{directive_at}
 use Rattle.sc_model.proofs.SetLemmas.{IsConfig-Keeps}
 use Rattle.sc_model.specs.Growth.{Extends}
 use Rattle.sc_model.specs.Sets.{Sets, Keeps}
+use Rattle.sc_model.specs.declared.standard.Standard.{Standard}
 use Rattle.sc_prep.specs.Machine.{Carried, Decided, Machine, Takes, asks_by, carries, closes, ends_run, plain_by, step, step_by, takes}
 use Rattle.sc_prep.specs.Printable.{AllPass, IsHeldWalk, IsPlaced, StaysHeld, any_token, is_plain}
 use Rattle.sc_prep.specs.Simulates.{Closed, Simulates, SimulatesOneOf, SimulatesStep}
@@ -39,108 +40,108 @@ pub stays-plain : (names : List (List ℕ)) (files : ℕ) (line : List Token) (w
     → AllPass (is_plain names) w.prepared.list → AllPass (is_plain names) next.prepared.list
 stays-plain names files line w next stays placed held passed = (stays files (is_plain names) placed (with-test names files any_token (is_plain names) w held passed)).passed
 
-directive-is : (names files : List (List ℕ)) (line : List Token) (d : Option Directive) → d ≡ directive_at names line → (seen_line names files line).directive ≡ d
-directive-is names files line d at = directive-files names files line ∙ sym at
+directive-is : (standard : Standard) (names files : List (List ℕ)) (line : List Token) (d : Option Directive) → d ≡ directive_at standard names line → (seen_line standard names files line).directive ≡ d
+directive-is standard names files line d at = directive-files standard names files line ∙ sym at
 
 -- a conditional directive that decides nothing here
-pub decides-unasked : {names : List (List ℕ)} (files : List (List ℕ)) {old new : Sets} {w next : Walk} (line : List Token) (c : Conditional) → Some (directive.Conditional c) ≡ directive_at names line
-    → ((m : Machine) → asks_by m (Some c) ≡ false) → IsTable old names w.table → SimulatesStep names old w new next (λ paths config m. step_by m (seen_line names paths line) (Ok false) (Some c))
-    → (x : Context) → SimulatesOneOf files names old w names new next (λ config m n. Decided x m (seen_line names files line) n)
-decides-unasked {names} files line c at quiet is moved x =
-    let named : conditional_in (seen_line names files line).directive ≡ Some c = ap conditional_in (directive-is names files line (Some (directive.Conditional c)) at) in
+pub decides-unasked : (standard : Standard) {names : List (List ℕ)} (files : List (List ℕ)) {old new : Sets} {w next : Walk} (line : List Token) (c : Conditional) → Some (directive.Conditional c) ≡ directive_at standard names line
+    → ((m : Machine) → asks_by m (Some c) ≡ false) → IsTable old names w.table → SimulatesStep names old w new next (λ paths config m. step_by m (seen_line standard names paths line) (Ok false) (Some c))
+    → (x : Context) → SimulatesOneOf files names old w names new next (λ config m n. Decided x m (seen_line standard names files line) n)
+decides-unasked standard {names} files line c at quiet is moved x =
+    let named : conditional_in (seen_line standard names files line).directive ≡ Some c = ap conditional_in (directive-is standard names files line (Some (directive.Conditional c)) at) in
     record {
       owns = moved.owns;
       table = moved.table is;
       at = λ config m listed simulates. record {
-        machine = step_by m (seen_line names files line) (Ok false) (Some c);
+        machine = step_by m (seen_line standard names files line) (Ok false) (Some c);
         done = record {
           decision = Ok false;
           answers = record { asked = λ asks. let both = sym (quiet m) ∙ (sym (ap (asks_by m) named) ∙ asks) in absurd (cc); not_asked = λ _. refl };
-          is = ap (step_by m (seen_line names files line) (Ok false)) (sym named);
+          is = ap (step_by m (seen_line standard names files line) (Ok false)) (sym named);
         };
         simulates = moved.at files config m listed is simulates;
       };
     }
 
 -- a conditional directive ends no run
-pub takes-decided : {names more : List (List ℕ)} {old new : Sets} {w next : Walk} (files : List (List ℕ)) (line : List Token) (c : Conditional) → Some (directive.Conditional c) ≡ directive_at names line
-    → (x : Context) → SimulatesOneOf files names old w more new next (λ config m n. Decided x m (seen_line names files line) n)
-    → SimulatesOneOf files names old w more new next (λ config m n. Takes x m (seen_line names files line) n)
-takes-decided {names} files line c at x decides = record {
+pub takes-decided : (standard : Standard) {names more : List (List ℕ)} {old new : Sets} {w next : Walk} (files : List (List ℕ)) (line : List Token) (c : Conditional) → Some (directive.Conditional c) ≡ directive_at standard names line
+    → (x : Context) → SimulatesOneOf files names old w more new next (λ config m n. Decided x m (seen_line standard names files line) n)
+    → SimulatesOneOf files names old w more new next (λ config m n. Takes x m (seen_line standard names files line) n)
+takes-decided standard {names} files line c at x decides = record {
   owns = decides.owns;
   table = decides.table;
   at = λ config m listed simulates.
       let a = decides.at config m listed simulates in
-      let l = seen_line names files line in
+      let l = seen_line standard names files line in
       record {
         machine = a.machine;
-        done = subst (Takes x m l) (sym a.done.is) (takes a.done.decision (ap ends_run (directive-is names files line (Some (directive.Conditional c)) at)) a.done.answers);
+        done = subst (Takes x m l) (sym a.done.is) (takes a.done.decision (ap ends_run (directive-is standard names files line (Some (directive.Conditional c)) at)) a.done.answers);
         simulates = a.simulates;
       };
 }
 
 -- a line that is no conditional directive and ends no run
-pub takes-plain : {names : List (List ℕ)} (files : List (List ℕ)) {old new : Sets} {w next : Walk} (line : List Token) (d : Option Directive) → d ≡ directive_at names line → ends_run d ≡ false → conditional_in d ≡ None
-    → IsTable old names w.table → SimulatesStep names old w new next (λ paths config m. plain_by m (seen_line names paths line) d)
-    → (x : Context) → SimulatesOneOf files names old w names new next (λ config m n. Takes x m (seen_line names files line) n)
-takes-plain {names} files line d at mild none is moved x =
-    let l = seen_line names files line in
-    let named : conditional_in l.directive ≡ None = ap conditional_in (directive-is names files line d at) ∙ none in
+pub takes-plain : (standard : Standard) {names : List (List ℕ)} (files : List (List ℕ)) {old new : Sets} {w next : Walk} (line : List Token) (d : Option Directive) → d ≡ directive_at standard names line → ends_run d ≡ false → conditional_in d ≡ None
+    → IsTable old names w.table → SimulatesStep names old w new next (λ paths config m. plain_by m (seen_line standard names paths line) d)
+    → (x : Context) → SimulatesOneOf files names old w names new next (λ config m n. Takes x m (seen_line standard names files line) n)
+takes-plain standard {names} files line d at mild none is moved x =
+    let l = seen_line standard names files line in
+    let named : conditional_in l.directive ≡ None = ap conditional_in (directive-is standard names files line d at) ∙ none in
     record {
       owns = moved.owns;
       table = moved.table is;
       at = λ config m listed simulates. record {
         machine = plain_by m l d;
-        done = subst (Takes x m l) (sym (plain-is names files line m (Ok false) d at none))
-            (takes (Ok false) (ap ends_run (directive-is names files line d at) ∙ mild)
+        done = subst (Takes x m l) (sym (plain-is standard names files line m (Ok false) d at none))
+            (takes (Ok false) (ap ends_run (directive-is standard names files line d at) ∙ mild)
             (record { asked = λ asks. let both = sym (ap (asks_by m) named) ∙ asks in absurd (cc); not_asked = λ _. refl }));
         simulates = moved.at files config m listed is simulates;
       };
     }
 
 -- a directive that ends the runs, which were closed
-pub takes-closed : {names more : List (List ℕ)} (files : List (List ℕ)) {old mid new : Sets} {w v next : Walk} (line : List Token) (d : Directive) → Some d ≡ directive_at names line
+pub takes-closed : (standard : Standard) {names more : List (List ℕ)} (files : List (List ℕ)) {old mid new : Sets} {w v next : Walk} (line : List Token) (d : Directive) → Some d ≡ directive_at standard names line
     → is_barrier d ≡ true → is_said d ≡ false → conditional_in (Some d) ≡ None → Extends names more → All (IsHeld names) line → Keeps old mid
-    → SimulatesOneOf files names old w more mid v (λ config m n. Closed m n) → SimulatesStep more mid v new next (λ paths config m. plain_by m (seen_line more paths line) (Some d))
-    → (x : Context) → SimulatesOneOf files names old w more new next (λ config m n. Takes x m (seen_line names files line) n)
-takes-closed {names} {more} files {new = new} {next = next} line d at barrier unsaid none grows held keeps closing moved x = record {
+    → SimulatesOneOf files names old w more mid v (λ config m n. Closed m n) → SimulatesStep more mid v new next (λ paths config m. plain_by m (seen_line standard more paths line) (Some d))
+    → (x : Context) → SimulatesOneOf files names old w more new next (λ config m n. Takes x m (seen_line standard names files line) n)
+takes-closed standard {names} {more} files {new = new} {next = next} line d at barrier unsaid none grows held keeps closing moved x = record {
   owns = moved.owns;
   table = moved.table closing.table;
   at = λ config m listed simulates.
       let a = closing.at config m listed simulates in
-      let l = seen_line names files line in
+      let l = seen_line standard names files line in
       record {
         machine = step a.machine l (Ok false);
-        done = subst (λ k. Takes x m l (step k l (Ok false))) (sym a.done.is) (closes d a.done.answer (directive-is names files line (Some d) at) barrier unsaid a.done.expands);
-        simulates = subst (Simulates new more files next config) (ap (λ k. plain_by a.machine k (Some d)) (line-grown files grows line held) ∙ plain-is names files line a.machine (Ok false) (Some d) at none)
+        done = subst (λ k. Takes x m l (step k l (Ok false))) (sym a.done.is) (closes d a.done.answer (directive-is standard names files line (Some d) at) barrier unsaid a.done.expands);
+        simulates = subst (Simulates new more files next config) (ap (λ k. plain_by a.machine k (Some d)) (line-grown files grows standard line held) ∙ plain-is standard names files line a.machine (Ok false) (Some d) at none)
             (moved.at files config a.machine (IsConfig-Keeps keeps listed) closing.table a.simulates);
       };
 }
 
 -- a directive that is carried out by what it says, after the runs were closed
-pub takes-carried : {names more much : List (List ℕ)} (files : List (List ℕ)) {old mid new : Sets} {w v next : Walk} (line : List Token) (d : Directive) → Some d ≡ directive_at names line
+pub takes-carried : (standard : Standard) {names more much : List (List ℕ)} (files : List (List ℕ)) {old mid new : Sets} {w v next : Walk} (line : List Token) (d : Directive) → Some d ≡ directive_at standard names line
     → is_said d ≡ true → Extends names more → All (IsHeld names) line → Keeps old mid → SimulatesOneOf files names old w more mid v (λ config m n. Closed m n) → (x : Context)
-    → SimulatesOneOf files more mid v much new next (λ config m n. Carried x (seen_line more files line) d m n)
-    → SimulatesOneOf files names old w much new next (λ config m n. Takes x m (seen_line names files line) n)
-takes-carried {names} {more} files line d at said grows held keeps closing x carried = record {
+    → SimulatesOneOf files more mid v much new next (λ config m n. Carried x (seen_line standard more files line) d m n)
+    → SimulatesOneOf files names old w much new next (λ config m n. Takes x m (seen_line standard names files line) n)
+takes-carried standard {names} {more} files line d at said grows held keeps closing x carried = record {
   owns = carried.owns;
   table = carried.table;
   at = λ config m listed simulates.
       let a = closing.at config m listed simulates in
       let b = carried.at config a.machine (IsConfig-Keeps keeps listed) a.simulates in
-      let l = seen_line names files line in
+      let l = seen_line standard names files line in
       record {
         machine = b.machine;
-        done = by m a.machine b.machine a.done (subst (λ k. Carried x k d a.machine b.machine) (line-grown files grows line held) b.done);
+        done = by m a.machine b.machine a.done (subst (λ k. Carried x k d a.machine b.machine) (line-grown files grows standard line held) b.done);
         simulates = b.simulates;
       };
 }
   where
-    by : (m n o : Machine) → Closed m n → Carried x (seen_line names files line) d n o → Takes x m (seen_line names files line) o
+    by : (m n o : Machine) → Closed m n → Carried x (seen_line standard names files line) d n o → Takes x m (seen_line standard names files line) o
     by m n o was does =
-        let l = seen_line names files line in
+        let l = seen_line standard names files line in
         let end = subst (λ k. Carried x l d k o) was.is does in
-        subst (Takes x m l) (sym end.is) (carries d was.answer end.end (directive-is names files line (Some d) at) said was.expands end.carries)
+        subst (Takes x m l) (sym end.is) (carries d was.answer end.end (directive-is standard names files line (Some d) at) said was.expands end.carries)
 
 -- ---- which directives end runs, and which of them are carried out by what they say
 

@@ -61,18 +61,18 @@ gone-nowhere {s = s} {names} {files} {contents = contents} stays = record {
 }
 
 module _ {space : Space} {a b : Sets} {names files mid mid_files : List (List ℕ)} {u v : Walk} {one two : Contents} {holds : Option Files} (entry : Entry) (lines : FileLines)
-    (own : AreHeldLines names (length files) entry.file lines) (number : ℕ)
-    (gone : Gone space a names files u one b mid mid_files v two (Unit {0}) (IsAtTop files entry) (λ x config m n. Runs x m (take number (seen_lines names files lines.tokens.items)) n))
-    (held : AreContents mid mid_files holds two) where
+    (own : AreHeldLines space.standard names (length files) entry.file lines) (number : ℕ)
+    (gone : Gone space a names files u one b mid mid_files v two (Unit {0}) (IsAtTop files entry) (λ x config m n. Runs x m (take number (seen_lines space.standard names files lines.tokens.items)) n))
+    (held : AreContents space.standard mid mid_files holds two) where
   abbrev file_seen : List Line
-  file_seen = seen_lines names files lines.tokens.items
+  file_seen = seen_lines space.standard names files lines.tokens.items
 
   -- the machine is still in the file
   in-file : (x : Context) (m n : Machine) → IsAtTop files entry m → Runs x m (take number file_seen) n → IsIn mid_files entry n
   in-file x m n from ran = in-more n gone.files_grow (top-is-in from ran)
 
   all-plain : ArePlainPaths files → Every (λ (l : Line). Every IsPlainToken l.tokens) file_seen
-  all-plain paths = placed-plain names files lines.tokens.items own.placed paths own.plain
+  all-plain paths = placed-plain space.standard names files lines.tokens.items own.placed paths own.plain
 
   -- ---- one line more
   module _ (d : declared.Line) (within : number < length lines.lines.items) where
@@ -86,9 +86,9 @@ module _ {space : Space} {a b : Sets} {names files mid mid_files : List (List �
     line-placed-now =
         All-weaker (IsPlaced names (length files)) (IsPlaced mid (length mid_files)) (IsPlaced-later gone.names_grow gone.files_grow) this_line line-placed
 
-    pub line-directive : (get_or lines.lines.items number d).directive ≡ directive_at mid this_line
+    pub line-directive : (get_or lines.lines.items number d).directive ≡ directive_at space.standard mid this_line
     line-directive =
-        directive-now names lines.tokens.items lines.lines.items own.lines_are number d within
+        directive-now space.standard names lines.tokens.items lines.lines.items own.lines_are number d within
         (All-weaker (IsPlaced names (length files)) (IsHeld names) (λ t p. p.held) lines.tokens.items own.placed) gone.names_grow
 
     line-spelled : All (λ (t : base.Token). is_plain mid t ≡ true) this_line
@@ -96,32 +96,32 @@ module _ {space : Space} {a b : Sets} {names files mid mid_files : List (List �
         let P : Line → Type 0 = λ l. Every IsPlainToken l.tokens in
         let nowhere : All (λ (t : base.Token). has_no_newline (text_at [] t.place.file.0) ≡ true) lines.tokens.items =
         All-weaker (IsPlaced names (length files)) (λ (t : base.Token). has_no_newline (text_at [] t.place.file.0) ≡ true) (λ t p. refl) lines.tokens.items own.placed in
-        let all = All-from_recursion P (seen_lines names [] lines.tokens.items) (seen-plain names [] lines.tokens.items own.plain nowhere) in
-        let one = all number no_line (omega (arith, within, lines-long names lines.tokens.items lines.lines.items own.lines_are [])) in
-        let seen_here = subst P (line-seen names [] lines.tokens.items lines.lines.items own.lines_are number d within) one in
+        let all = All-from_recursion P (seen_lines space.standard names [] lines.tokens.items) (seen-plain space.standard names [] lines.tokens.items own.plain nowhere) in
+        let one = all number no_line (omega (arith, within, lines-long space.standard names lines.tokens.items lines.lines.items own.lines_are [])) in
+        let seen_here = subst P (line-seen space.standard names [] lines.tokens.items lines.lines.items own.lines_are number d within) one in
         plain-later gone.names_grow this_line line-placed (All-from_recursion (λ (t : base.Token). is_plain names t ≡ true) this_line (plain-line names [] this_line seen_here))
 
     -- the tokens are those that are taken
     pub gone-line : {c : Sets} {more more_files : List (List ℕ)} {w : Walk} {three : Contents} (spoken : List base.Token) → spoken ≡ this_line → Keeps b c → Extends mid more → Extends mid_files more_files → KeepsContents two three
-        → ((x : Context) → IsContext space x → Agrees more more_files x.files three
-        → Leads mid_files mid b v more_files more c w (IsIn mid_files entry) (λ config m n. Takes x m (seen_line mid mid_files spoken) n))
-        → ((x : Context) → IsContext space x → Agrees more more_files x.files three → IsSound space → All (λ (t : base.Token). is_plain mid t ≡ true) spoken → ArePlainPaths mid_files
+        → ((x : Context) → IsContext space x → Agrees space.standard more more_files x.files three
+        → Leads mid_files mid b v more_files more c w (IsIn mid_files entry) (λ config m n. Takes x m (seen_line space.standard mid mid_files spoken) n))
+        → ((x : Context) → IsContext space x → Agrees space.standard more more_files x.files three → IsSound space → All (λ (t : base.Token). is_plain mid t ≡ true) spoken → ArePlainPaths mid_files
         → PlainEach b mid mid_files v (IsIn mid_files entry) → AllPass (is_plain mid) v.prepared.list → AllPass (is_plain more) w.prepared.list)
-        → ((x : Context) → IsContext space x → Agrees more more_files x.files three → IsSound space → All (λ (t : base.Token). is_plain mid t ≡ true) spoken → ArePlainPaths mid_files
+        → ((x : Context) → IsContext space x → Agrees space.standard more more_files x.files three → IsSound space → All (λ (t : base.Token). is_plain mid t ≡ true) spoken → ArePlainPaths mid_files
         → PlainEach b mid mid_files v (IsIn mid_files entry) → ArePlainPaths more_files)
         → (next : ℕ) (passed : Bool) → MatchBool passed (EndsAt file_seen (number + 1) next) (next ≡ number + 1) → (passed ≡ true → IsNever c w.acting.0)
         → Gone space a names files u one c more more_files w three (Unit {0}) (IsAtTop files entry) (λ x config m n. Runs x m (take next file_seen) n)
     gone-line {c} {more} {more_files} {w} {three} spoken same keeps names_grow files_grow read takes plain paths next passed ends never =
         let spelled = subst (All (λ (t : base.Token). is_plain mid t ≡ true)) (sym same) line-spelled in
-        gone-then {between = IsIn mid_files entry} {later = λ x config m n. Takes x m (seen_line mid mid_files spoken) n} gone held keeps names_grow files_grow read takes
+        gone-then {between = IsIn mid_files entry} {later = λ x config m n. Takes x m (seen_line space.standard mid mid_files spoken) n} gone held keeps names_grow files_grow read takes
         (λ g x context agreed sound mid_paths each list. plain x context agreed sound spelled mid_paths each list)
         (λ g x context agreed sound mid_paths each. paths x context agreed sound spelled mid_paths each)
         (λ x config m n from ran. in-file x m n from ran)
         (λ g x context sound paths config m n ran from state. runs-plain (directories-plain context sound) ran state (every-take (λ (l : Line). Every IsPlainToken l.tokens) number file_seen (all-plain paths)))
         (λ x config m n o context listed from ran taking at.
         next-passed file_seen x m number next passed o ends (λ is. sym at.acting ∙ (never is).none config (IsConfig-Keeps (Keeps-trans gone.keeps keeps) listed))
-        (one-more file_seen x m number (omega (arith, within, lines-long names lines.tokens.items lines.lines.items own.lines_are files)) ran
-        (subst (λ l. Takes x n l o) (ap (seen_line mid mid_files) same ∙ (line-later gone.names_grow gone.files_grow this_line line-placed ∙ sym (line-seen names files lines.tokens.items lines.lines.items own.lines_are number d within))) taking)))
+        (one-more file_seen x m number (omega (arith, within, lines-long space.standard names lines.tokens.items lines.lines.items own.lines_are files)) ran
+        (subst (λ l. Takes x n l o) (ap (seen_line space.standard mid mid_files) same ∙ (line-later space.standard gone.names_grow gone.files_grow this_line line-placed ∙ sym (line-seen space.standard names files lines.tokens.items lines.lines.items own.lines_are number d within))) taking)))
 
   -- ---- the end of the file
   pub gone-over : {c : Sets} {more : List (List ℕ)} {w : Walk} → length lines.lines.items ≤ number → Keeps b c → Extends mid more → SimulatesOneOf mid_files mid b v more c w (λ config m n. Closed m n)
@@ -135,4 +135,4 @@ module _ {space : Space} {a b : Sets} {names files mid mid_files : List (List �
       (λ x config m n from ran. tt)
       (λ g x context sound paths config m n ran from state. runs-plain (directories-plain context sound) ran state (every-take (λ (l : Line). Every IsPlainToken l.tokens) number file_seen (all-plain paths)))
       (λ x config m n o context listed from ran closed at.
-      record { end = n; runs = subst (λ ls. Runs x m ls n) (lines-all names files lines.tokens.items lines.lines.items own.lines_are number past) ran; closed = closed })
+      record { end = n; runs = subst (λ ls. Runs x m ls n) (lines-all space.standard names files lines.tokens.items lines.lines.items own.lines_are number past) ran; closed = closed })

@@ -3,7 +3,7 @@ use Rattle.std.proofs.Common.{◌≡◌, ℕ, ◌&&◌, not, Bool, true, false, 
 use Rattle.std.proofs.lemmas.List.{reverse-append, map-append}
 use Rattle.std.proofs.lemmas.List.Elements.{All-head, All-tail, All-push, All-pop, All-append, All-map, All-weaker}
 use Rattle.std.specs.Option.{option_to_list}
-use Rattle.std.specs.Prelude.{All, is_none, if◌then◌else◌}
+use Rattle.std.specs.Prelude.{All, is_none, if◌then◌else◌, ◌↔◌, cond, Ok, Err}
 use Rattle.sc_model.specs.declared.cause.Cause.{Cause}
 use Rattle.sc_table.specs.declared.table.MacroTable.{MacroTable}
 use Rattle.sc_table.specs.Change.{IsOther}
@@ -18,7 +18,6 @@ use Rattle.sc_prep.specs.Closes.{RefusesEach, has_none}
 use Rattle.sc_prep.specs.Simulates.{section_at, Simulates, OwnsSection, Owns, SimulatesStep}
 use Rattle.sc_lines.specs.Nests.{seen_line}
 use Rattle.std.specs.Map.{update}
-use Rattle.std.specs.Prelude.{◌↔◌, cond, Ok, Err}
 use Rattle.sc_model.specs.declared.cause.Cause.TheVariants.{BadDirective, ErrorDirective, Redefined, ProtectedName}
 use Rattle.sc_model.specs.Bytes.{same_bytes}
 use Rattle.c11_directives.specs.declared.directive.Directive.{Directive}
@@ -35,6 +34,7 @@ use Rattle.sc_base.specs.declared.token.Token.{Token}
 use Rattle.sc_base.specs.Seen.{seen}
 use Rattle.sc_model.proofs.SetLemmas.{Denotes-Keeps, Denotes-self, IsConfig-Keeps, IsConfig-kept}
 use Rattle.sc_model.specs.Sets.{Sets, IsConfig, IsCond, IsNever, Denotes, Keeps}
+use Rattle.sc_model.specs.declared.standard.Standard.{Standard}
 use Rattle.sc_prep.proofs.Machine.{inert_acting, inert_changing}
 use Rattle.sc_prep.proofs.RunLemmas.{denotes-as, is_empty-one}
 
@@ -243,11 +243,11 @@ none_before true f x none = absurd (cc)
 none_before false f x none = none
 
 -- a part of the configurations that take the line is refused at its #
-pub refuses : (names : List (List ℕ)) {old new : Sets} (keeps : Keeps old new) (w : Walk) (owns : Owns old w) (part : Cond) (t : List ℕ → Bool) (cause : Cause) (token : Token) (tokens : List Token)
+pub refuses : (standard : Standard) (names : List (List ℕ)) {old new : Sets} (keeps : Keeps old new) (w : Walk) (owns : Owns old w) (part : Cond) (t : List ℕ → Bool) (cause : Cause) (token : Token) (tokens : List Token)
     (next : Walk) → Denotes old part.0 (λ c. t c && old.has w.acting.0 c)
     → RefusesEach old w (record { cond = part; cause = cause; place = token.place } ∷ []) new next
-    → SimulatesStep names old w new next (λ files config m. refusing_if (t config) m (seen_line names files (token ∷ tokens)) cause)
-refuses names {old} {new} keeps w owns part t cause token tokens next dp refused =
+    → SimulatesStep names old w new next (λ files config m. refusing_if (t config) m (seen_line standard names files (token ∷ tokens)) cause)
+refuses standard names {old} {new} keeps w owns part t cause token tokens next dp refused =
     let IsOwn : base.Fault → Type 0 = λ f. IsCond new f.cond.0 in
     let own : base.Fault = record { cond = part; cause = cause; place = token.place } in
     let none : (c : List ℕ) → IsConfig new.arities c → has_none old (own ∷ []) c ≡ not (t c && old.has w.acting.0 c) =
@@ -257,7 +257,7 @@ refuses names {old} {new} keeps w owns part t cause token tokens next dp refused
     let da = denotes-as (λ c. old.has w.acting.0 c && has_none old (own ∷ []) c) (λ c. old.has w.acting.0 c && not (t c && old.has w.acting.0 c))
     (λ c listed. ap (λ b. old.has w.acting.0 c && b) (none c listed)) refused.acting in
     let kept = owns-kept keeps w owns in
-    subst (λ (v : Walk). SimulatesStep names old w new v (λ files config m. refusing_if (t config) m (seen_line names files (token ∷ tokens)) cause)) (sym refused.same)
+    subst (λ (v : Walk). SimulatesStep names old w new v (λ files config m. refusing_if (t config) m (seen_line standard names files (token ∷ tokens)) cause)) (sym refused.same)
     (record {
       owns = record {
         group = kept.group;
@@ -274,7 +274,7 @@ refuses names {old} {new} keeps w owns part t cause token tokens next dp refused
       at = λ files config m listed is simulates.
           let now : IsConfig new.arities config = IsConfig-Keeps keeps listed in
           let same = simulates-kept keeps w owns names files config m listed is simulates in
-          let x = refusal m.state (seen_line names files (token ∷ tokens)) cause in
+          let x = refusal m.state (seen_line standard names files (token ∷ tokens)) cause in
           let at_part : new.has part.0 config ≡ (t config && acts m) = keeps.at part.0 config dp.own listed ∙ (dp.at config listed ∙ ap (λ b. t config && b) simulates.acting) in
           record {
             active = same.active;
@@ -301,14 +301,14 @@ refusing_none : (b : Bool) (m : Machine) (l : Line) (cause : Cause) → (b && ac
 refusing_none b m l cause e = ap (λ c. record m { fault = if c then Some (refusal m.state l cause) else m.fault }) e
 
 -- where the part has no configuration, none is refused
-pub refuses-none : (names : List (List ℕ)) (s : Sets) (w : Walk) → Owns s w → (part : Cond) (t : List ℕ → Bool) (cause : Cause) → Denotes s part.0 (λ c. t c && s.has w.acting.0 c) → IsNever s part.0
-    → (line : List Token) → SimulatesStep names s w s w (λ files config m. refusing_if (t config) m (seen_line names files line) cause)
-refuses-none names s w owns part t cause dp never line = record {
+pub refuses-none : (standard : Standard) (names : List (List ℕ)) (s : Sets) (w : Walk) → Owns s w → (part : Cond) (t : List ℕ → Bool) (cause : Cause) → Denotes s part.0 (λ c. t c && s.has w.acting.0 c) → IsNever s part.0
+    → (line : List Token) → SimulatesStep names s w s w (λ files config m. refusing_if (t config) m (seen_line standard names files line) cause)
+refuses-none standard names s w owns part t cause dp never line = record {
   owns = owns;
   table = λ is. is;
   at = λ files config m listed is simulates.
       let inactive : (t config && acts m) ≡ false = ap (λ b. t config && b) (sym simulates.acting) ∙ (sym (dp.at config listed) ∙ never.none config listed) in
-      subst (Simulates s names files w config) (sym (refusing_none (t config) m (seen_line names files line) cause inactive)) simulates;
+      subst (Simulates s names files w config) (sym (refusing_none (t config) m (seen_line standard names files line) cause inactive)) simulates;
 }
 
 -- ---- tokens are gathered
@@ -329,9 +329,9 @@ text_macros : (b : Bool) (s : State) (l : Line) → (if b then with_text s l els
 text_macros true s l = refl
 text_macros false s l = refl
 
-pub puts : (names : List (List ℕ)) (s : Sets) (w : Walk) (owns : Owns s w) (tokens : List Token) (list : List (Cond × Token)) → list ≡ w.gathered ++ under w.acting tokens
-    → SimulatesStep names s w s (record w { gathered = list }) (λ files config m. acting m (λ state. with_text state (seen_line names files tokens)))
-puts names s w owns tokens list items =
+pub puts : (standard : Standard) (names : List (List ℕ)) (s : Sets) (w : Walk) (owns : Owns s w) (tokens : List Token) (list : List (Cond × Token)) → list ≡ w.gathered ++ under w.acting tokens
+    → SimulatesStep names s w s (record w { gathered = list }) (λ files config m. acting m (λ state. with_text state (seen_line standard names files tokens)))
+puts standard names s w owns tokens list items =
     let IsOwn : Cond × Token → Type 0 = λ item. IsCond s item.0.0 in
     record {
       owns = record {
@@ -348,7 +348,7 @@ puts names s w owns tokens list items =
         sections = simulates.sections;
         prepared = record {
           live = simulates.prepared.live;
-          output = λ none. simulates.prepared.output none ∙ text_output (acts m) m.state (seen_line names files tokens);
+          output = λ none. simulates.prepared.output none ∙ text_output (acts m) m.state (seen_line standard names files tokens);
           fault = simulates.prepared.fault;
         };
         run = λ none.
@@ -356,20 +356,20 @@ puts names s w owns tokens list items =
             ∙ (ap (map (seen names files)) (items_at-append s w.gathered (under w.acting tokens) config ∙ ap (λ xs. items_at s w.gathered config ++ xs) (items_at-under s w.acting tokens config ∙ ap (λ b. if b then tokens else []) simulates.acting))
             ∙ (chosen_end (seen names files) (acts m) (items_at s w.gathered config) tokens
             ∙ (ap (λ xs. if acts m then xs ++ map (seen names files) tokens else xs) (simulates.run none)
-            ∙ text_after (acts m) m.state (seen_line names files tokens))));
-        macros = λ none name. simulates.macros none name ∙ sym (ap (λ f. f name) (text_macros (acts m) m.state (seen_line names files tokens)));
+            ∙ text_after (acts m) m.state (seen_line standard names files tokens))));
+        macros = λ none name. simulates.macros none name ∙ sym (ap (λ f. f name) (text_macros (acts m) m.state (seen_line standard names files tokens)));
       };
     }
 
 -- where no configuration takes the line, nothing is gathered
-pub puts-none : (names : List (List ℕ)) (s : Sets) (w : Walk) → Owns s w → IsNever s w.acting.0 → (line : List Token)
-    → SimulatesStep names s w s w (λ files config m. acting m (λ state. with_text state (seen_line names files line)))
-puts-none names s w owns never line = record {
+pub puts-none : (standard : Standard) (names : List (List ℕ)) (s : Sets) (w : Walk) → Owns s w → IsNever s w.acting.0 → (line : List Token)
+    → SimulatesStep names s w s w (λ files config m. acting m (λ state. with_text state (seen_line standard names files line)))
+puts-none standard names s w owns never line = record {
   owns = owns;
   table = λ is. is;
   at = λ files config m listed is simulates.
       subst (Simulates s names files w config)
-      (sym (inert_acting m (λ state. with_text state (seen_line names files line)) (sym simulates.acting ∙ never.none config listed))) simulates;
+      (sym (inert_acting m (λ state. with_text state (seen_line standard names files line)) (sym simulates.acting ∙ never.none config listed))) simulates;
 }
 
 -- ---- a directive that has no effect
@@ -535,18 +535,18 @@ refused-as m l directive.Warning cause e = cc
 refused-as m l directive.Null cause e = cc
 refused-as m l directive.Unknown cause e = let same : BadDirective ≡ cause = cc in ap (refusing m l) (sym same)
 
-pub unchanged-by : (names : List (List ℕ)) (s : Sets) (w : Walk) → Owns s w → (line : List Token) (d : Directive) → refusal_of d ≡ None → (d ≡ directive.Define → ⊥) → (d ≡ directive.Undef → ⊥)
-    → SimulatesStep names s w s w (λ files config m. plain_by m (seen_line names files line) (Some d))
-unchanged-by names s w owns line (directive.Conditional c) e n u = stays names s w owns
-unchanged-by names s w owns line directive.Include e n u = cc
-unchanged-by names s w owns line directive.Define e n u = absurd (n refl)
-unchanged-by names s w owns line directive.Undef e n u = absurd (u refl)
-unchanged-by names s w owns line directive.Line e n u = cc
-unchanged-by names s w owns line directive.Error e n u = cc
-unchanged-by names s w owns line directive.Pragma e n u = ignores names s w owns
-unchanged-by names s w owns line directive.Warning e n u = ignores names s w owns
-unchanged-by names s w owns line directive.Null e n u = stays names s w owns
-unchanged-by names s w owns line directive.Unknown e n u = cc
+pub unchanged-by : (standard : Standard) (names : List (List ℕ)) (s : Sets) (w : Walk) → Owns s w → (line : List Token) (d : Directive) → refusal_of d ≡ None → (d ≡ directive.Define → ⊥) → (d ≡ directive.Undef → ⊥)
+    → SimulatesStep names s w s w (λ files config m. plain_by m (seen_line standard names files line) (Some d))
+unchanged-by standard names s w owns line (directive.Conditional c) e n u = stays names s w owns
+unchanged-by standard names s w owns line directive.Include e n u = cc
+unchanged-by standard names s w owns line directive.Define e n u = absurd (n refl)
+unchanged-by standard names s w owns line directive.Undef e n u = absurd (u refl)
+unchanged-by standard names s w owns line directive.Line e n u = cc
+unchanged-by standard names s w owns line directive.Error e n u = cc
+unchanged-by standard names s w owns line directive.Pragma e n u = ignores names s w owns
+unchanged-by standard names s w owns line directive.Warning e n u = ignores names s w owns
+unchanged-by standard names s w owns line directive.Null e n u = stays names s w owns
+unchanged-by standard names s w owns line directive.Unknown e n u = cc
 
 -- ---- moves joined
 
@@ -586,26 +586,26 @@ config-back : {old new : Sets} {config : List ℕ} → Keeps old new → IsConfi
 config-back {config = config} keeps listed = subst (λ (arities : List ℕ). IsConfig arities config) keeps.arities listed
 
 -- a part of the configurations is refused after the table has changed
-abbrev pub Refuses : Sets → Sets → Walk → MacroTable → Cond → Walk → List Token → Cause → Type 0
-Refuses mid new w table refused next line cause = (names : List (List ℕ)) (t : List ℕ → Bool) → Denotes mid refused.0 (λ c. t c && mid.has w.acting.0 c)
-    → SimulatesStep names mid (record w { table = table }) new next (λ files config m. refusing_if (t config) m (seen_line names files line) cause)
+abbrev pub Refuses : Standard → Sets → Sets → Walk → MacroTable → Cond → Walk → List Token → Cause → Type 0
+Refuses standard mid new w table refused next line cause = (names : List (List ℕ)) (t : List ℕ → Bool) → Denotes mid refused.0 (λ c. t c && mid.has w.acting.0 c)
+    → SimulatesStep names mid (record w { table = table }) new next (λ files config m. refusing_if (t config) m (seen_line standard names files line) cause)
 
-module _ (names : List (List ℕ)) {old mid new : Sets} (keeps : Keeps old mid) (w : Walk) (owns : Owns old w) (table : MacroTable) (is_table : IsTable mid names table) (refused : Cond) (next : Walk) (line : List Token) where
+module _ (standard : Standard) (names : List (List ℕ)) {old mid new : Sets} (keeps : Keeps old mid) (w : Walk) (owns : Owns old w) (table : MacroTable) (is_table : IsTable mid names table) (refused : Cond) (next : Walk) (line : List Token) where
   pub defines : (d : Defined) → IsCond mid refused.0
       → ((c : List ℕ) → IsConfig old.arities c → ((mid.has refused.0 c ≡ true) ↔ ((old.has w.acting.0 c ≡ true) × IsOther d.definition (macros_at old names w.table c d.name))))
       → ((c text : List ℕ) → IsConfig old.arities c → macros_at mid names table c text
       ≡ (if old.has w.acting.0 c && not (mid.has refused.0 c) then update same_bytes (macros_at old names w.table c) d.name (Some d.definition) text else macros_at old names w.table c text))
-      → Refuses mid new w table refused next line Redefined
-      → SimulatesStep names old w new next (λ files config m. changing m (seen_line names files line) (defined_as m.state.macros (Ok d)))
+      → Refuses standard mid new w table refused next line Redefined
+      → SimulatesStep names old w new next (λ files config m. changing m (seen_line standard names files line) (defined_as m.state.macros (Ok d)))
   defines d own is changed refuse =
       let t : List ℕ → Bool = mid.has refused.0 in
       let step : State → State = λ s. with_macros s (with_macro s.macros d) in
-      step-as (λ files config m. refusing_if (t config) (acting_unless (t config) m step) (seen_line names files line) Redefined)
-      (λ files config m. changing m (seen_line names files line) (defined_as m.state.macros (Ok d)))
+      step-as (λ files config m. refusing_if (t config) (acting_unless (t config) m step) (seen_line standard names files line) Redefined)
+      (λ files config m. changing m (seen_line standard names files line) (defined_as m.state.macros (Ok d)))
       (λ files config m listed simulates.
-      defines-as m (seen_line names files line) (macros_at old names w.table config) d (t config) (λ clean. simulates.macros clean d.name)
+      defines-as m (seen_line standard names files line) (macros_at old names w.table config) d (t config) (λ clean. simulates.macros clean d.name)
       (subst (λ b. (t config ≡ true) ↔ ((b ≡ true) × IsOther d.definition (macros_at old names w.table config d.name))) simulates.acting (is config listed)))
-      (step-then (λ files config m. acting_unless (t config) m step) (λ files config m. refusing_if (t config) m (seen_line names files line) Redefined) keeps
+      (step-then (λ files config m. acting_unless (t config) m step) (λ files config m. refusing_if (t config) m (seen_line standard names files line) Redefined) keeps
       (changes-macros names keeps w owns table t (λ macros. with_macro macros d) is_table
       (λ config listed macros same name. changed config name listed
       ∙ chosen-as (old.has w.acting.0 config) (t config) (updated-as (macros_at old names w.table config) macros d.name (Some d.definition) name (same name)) (same name)))
@@ -619,15 +619,15 @@ module _ (names : List (List ℕ)) {old mid new : Sets} (keeps : Keeps old mid) 
   pub undefines : (name : List ℕ) → Denotes mid refused.0 (λ c. old.has w.acting.0 c && is_protected name)
       → ((c text : List ℕ) → IsConfig old.arities c → macros_at mid names table c text
       ≡ (if old.has w.acting.0 c && not (is_protected name) then update same_bytes (macros_at old names w.table c) name None text else macros_at old names w.table c text))
-      → Refuses mid new w table refused next line ProtectedName
-      → SimulatesStep names old w new next (λ files config m. changing m (seen_line names files line) (undefined m.state.macros (Some name)))
+      → Refuses standard mid new w table refused next line ProtectedName
+      → SimulatesStep names old w new next (λ files config m. changing m (seen_line standard names files line) (undefined m.state.macros (Some name)))
   undefines name denotes changed refuse =
       let t : Bool = is_protected name in
       let step : State → State = λ s. with_macros s (without_macro s.macros name) in
-      step-as (λ files config m. refusing_if t (acting_unless t m step) (seen_line names files line) ProtectedName)
-      (λ files config m. changing m (seen_line names files line) (undefined m.state.macros (Some name)))
-      (λ files config m listed simulates. undefines-as m (seen_line names files line) name t)
-      (step-then (λ files config m. acting_unless t m step) (λ files config m. refusing_if t m (seen_line names files line) ProtectedName) keeps
+      step-as (λ files config m. refusing_if t (acting_unless t m step) (seen_line standard names files line) ProtectedName)
+      (λ files config m. changing m (seen_line standard names files line) (undefined m.state.macros (Some name)))
+      (λ files config m listed simulates. undefines-as m (seen_line standard names files line) name t)
+      (step-then (λ files config m. acting_unless t m step) (λ files config m. refusing_if t m (seen_line standard names files line) ProtectedName) keeps
       (changes-macros names keeps w owns table (λ _. t) (λ macros. without_macro macros name) is_table
       (λ config listed macros same text. changed config text listed
       ∙ chosen-as (old.has w.acting.0 config) t (updated-as (macros_at old names w.table config) macros name None text (same text)) (same text)))

@@ -20,6 +20,7 @@ use Rattle.sc_model.specs.Outside.{Files}
 use Rattle.sc_model.specs.Sets.{Sets}
 use Rattle.sc_model.specs.Space.{Space}
 use Rattle.sc_model.specs.Token.{Token}
+use Rattle.sc_model.specs.declared.standard.Standard.{Standard}
 use Rattle.sc_prep.proofs.ApartLemmas.{apart-left, apart-without}
 use Rattle.sc_prep.proofs.FileStops.{comes-at, comes-included, comes-then}
 use Rattle.sc_prep.proofs.Going.{Gone, Staged, line-later, staged-between}
@@ -82,7 +83,7 @@ module _ {A : Type 0} (f : A → List base.Token) (gs : List base.Token) where
       let after : suc i ≡ i + 1 = omega arith in
       subst (λ k. StandApart (gs ++ (f (get_or xs i d) ++ flat_map f (drop k xs)))) after (subst (λ ys. StandApart (gs ++ flat_map f ys)) (drop-cons xs i d below) apart)
 
-module _ {names : List (List ℕ)} {files : ℕ} (entry : Entry) (lines : FileLines) (own : AreHeldLines names files entry.file lines) where
+module _ {standard : Standard} {names : List (List ℕ)} {files : ℕ} (entry : Entry) (lines : FileLines) (own : AreHeldLines standard names files entry.file lines) where
   -- nothing was gathered yet
   pub apart-first : (walk : Walk) → walk.gathered ≡ [] → StandApart lines.tokens.items → StandApart (tokens_in walk.gathered ++ to_come lines 0)
   apart-first walk none apart =
@@ -107,28 +108,28 @@ module _ {names : List (List ℕ)} {files : ℕ} (entry : Entry) (lines : FileLi
 -- ---- the lines of a file
 
 module _ {A : Type 0} {space : Space} {a b : Sets} {names files mid mid_files : List (List ℕ)} {u v : Walk} {one two : Contents} {holds : Option Files} (limit : ℕ) (r : Result A Stop) (entry : Entry) (lines : FileLines)
-    (own : AreHeldLines names (length files) entry.file lines) (number : ℕ)
-    (gone : Gone space a names files u one b mid mid_files v two (Unit {0}) (IsAtTop files entry) (λ x config m n. Runs x m (take number (seen_lines names files lines.tokens.items)) n))
-    (held : AreContents mid mid_files holds two) (x : Context) (context : IsContext space x) (told : holds ≡ Some x.files) where
+    (own : AreHeldLines space.standard names (length files) entry.file lines) (number : ℕ)
+    (gone : Gone space a names files u one b mid mid_files v two (Unit {0}) (IsAtTop files entry) (λ x config m n. Runs x m (take number (seen_lines space.standard names files lines.tokens.items)) n))
+    (held : AreContents space.standard mid mid_files holds two) (x : Context) (context : IsContext space x) (told : holds ≡ Some x.files) where
   abbrev file_seen : List Line
-  file_seen = seen_lines names files lines.tokens.items
+  file_seen = seen_lines space.standard names files lines.tokens.items
 
   abbrev Over : List ℕ → SourceFootprint → Type 0
   Over = Comes a names files u (IsAtTop files entry) (λ config m. MomentsHave (ComesOver x file_seen m))
 
   -- one of them stops
   pub line-stops : (d : declared.Line) → number < length lines.lines.items → (spoken : List base.Token) → spoken ≡ tokens_of lines.tokens.items (get_or lines.lines.items number d)
-      → IfErr r (StopsAtPlace b.arities (Comes b mid mid_files v (IsIn mid_files entry) (λ config m. MomentsHave (ComesAt x m (seen_line mid mid_files spoken)))) limit)
+      → IfErr r (StopsAtPlace b.arities (Comes b mid mid_files v (IsIn mid_files entry) (λ config m. MomentsHave (ComesAt x m (seen_line space.standard mid mid_files spoken)))) limit)
       → IfErr r (StopsAtPlace a.arities Over limit)
   line-stops d below spoken same =
       let this = tokens_of lines.tokens.items (get_or lines.lines.items number d) in
-      let seen_same = ap (seen_line mid mid_files) same
-      ∙ (line-later gone.names_grow gone.files_grow this (line-of_file (IsPlaced names (length files)) lines.tokens.items (get_or lines.lines.items number d) own.placed)
-      ∙ sym (line-seen names files lines.tokens.items lines.lines.items own.lines_are number d below)) in
+      let seen_same = ap (seen_line space.standard mid mid_files) same
+      ∙ (line-later space.standard gone.names_grow gone.files_grow this (line-of_file (IsPlaced names (length files)) lines.tokens.items (get_or lines.lines.items number d) own.placed)
+      ∙ sym (line-seen space.standard names files lines.tokens.items lines.lines.items own.lines_are number d below)) in
       answer-stops (λ at. at) _ limit r gone.keeps.arities
       (λ config f listed comes. comes-then config (gone.leads x context (held.told x.files told)) (λ m n from ran. in-more n gone.files_grow (top-is-in from ran))
       (λ m n from ran. moments-as (λ k at.
-      comes-at file_seen number (omega (arith, below, lines-long names lines.tokens.items lines.lines.items own.lines_are files)) ran (subst (λ l. ComesAt x n l f.0.chain k) seen_same at)))
+      comes-at file_seen number (omega (arith, below, lines-long space.standard names lines.tokens.items lines.lines.items own.lines_are files)) ran (subst (λ l. ComesAt x n l f.0.chain k) seen_same at)))
       listed comes)
 
   -- the run at the end stops
@@ -138,28 +139,28 @@ module _ {A : Type 0} {space : Space} {a b : Sets} {names files mid mid_files : 
       answer-stops here_at _ limit r gone.keeps.arities
       (λ config f listed comes. comes-then config (gone.leads x context (held.told x.files told)) (λ m n from ran. tt)
       (λ m n from ran at.
-      let over = past_all n (subst (λ ls. Runs x m ls n) (lines-all names files lines.tokens.items lines.lines.items own.lines_are number past) ran) at.0 in
+      let over = past_all n (subst (λ ls. Runs x m ls n) (lines-all space.standard names files lines.tokens.items lines.lines.items own.lines_are number past) ran) at.0 in
       record { moment = at_end n.state; comes = over; has = of_last_run at.1 })
       listed comes)
 
 -- ---- a line that includes files
 
 -- the # of a directive
-hash-at : (names files : List (List ℕ)) (line : List base.Token) → (seen_line names files line).directive ≡ Some directive.Include → (hash : Token) × (hash_of (seen_line names files line) ≡ Some hash)
-hash-at names files [] is = absurd (cc)
-hash-at names files (t ∷ ts) is = (_, refl)
+hash-at : (standard : Standard) (names files : List (List ℕ)) (line : List base.Token) → (seen_line standard names files line).directive ≡ Some directive.Include → (hash : Token) × (hash_of (seen_line standard names files line) ≡ Some hash)
+hash-at standard names files [] is = absurd (cc)
+hash-at standard names files (t ∷ ts) is = (_, refl)
 
 -- a file of it stops
-pub file-stops : {A : Type 0} (limit : ℕ) (r : Result A Stop) (names files : List (List ℕ)) (entry : Entry) (line : List base.Token) → (seen_line names files line).directive ≡ Some directive.Include
+pub file-stops : {A : Type 0} (limit : ℕ) (r : Result A Stop) (standard : Standard) (names files : List (List ℕ)) (entry : Entry) (line : List base.Token) → (seen_line standard names files line).directive ≡ Some directive.Include
     → (a : Sets) (u : Walk) (x : Context) {space : Space} {b : Sets} {mid mid_files : List (List ℕ)} {v : Walk} {one two : Contents} {holds : Option Files} (parts : List Part) (i : ℕ) (part : Part) (depth : ℕ)
     → part ≡ get_or parts i part → i < length parts → depth ≡ entry.depth + 1
     → Gone space a names files u one b mid mid_files v two (Spelled names line) (IsIn files entry)
-    (λ x config m n. Staged x (seen_line names files line) mid_files entry.depth m (files_at b (drop i parts) config) n)
-    → AreContents mid mid_files holds two → IsContext space x → holds ≡ Some x.files
+    (λ x config m n. Staged x (seen_line standard names files line) mid_files entry.depth m (files_at b (drop i parts) config) n)
+    → AreContents space.standard mid mid_files holds two → IsContext space x → holds ≡ Some x.files
     → IfErr r (StopsWalk b mid mid_files v IsBetweenRuns (λ config m f. (b.has part.cond.0 config ≡ true) × MomentsHave (ComesInside x (text_at mid_files part.file.0) depth m) f) limit)
-    → IfErr r (StopsWalk a names files u (IsIn files entry) (λ config m. MomentsHave (ComesAt x m (seen_line names files line))) limit)
-file-stops limit r names files entry line directive_is a u x {b = b} {mid_files = mid_files} parts i part depth one_is below deep gone held context told =
-    let hash = hash-at names files line directive_is in
+    → IfErr r (StopsWalk a names files u (IsIn files entry) (λ config m. MomentsHave (ComesAt x m (seen_line standard names files line))) limit)
+file-stops limit r standard names files entry line directive_is a u x {b = b} {mid_files = mid_files} parts i part depth one_is below deep gone held context told =
+    let hash = hash-at standard names files line directive_is in
     let left_at : List ℕ → Bool → List FileId = λ config has. if has then part.file ∷ files_at b (drop (suc i) parts) config else files_at b (drop (suc i) parts) config in
     answer-stops (included_at hash.0.place) _ limit r gone.keeps.arities
     (λ config g listed comes. comes-then config (gone.leads x context (held.told x.files told)) (λ m n from staged. staged-between staged)

@@ -6,6 +6,7 @@ use Rattle.c11_expressions.specs.Lines.{Comes, failure, without_defined}
 use Rattle.c11_macros.specs.Hidden.{Failure}
 use Rattle.c11_macros.specs.Text.{TextExpands, fault_of, unhidden}
 use Rattle.sc_model.specs.declared.cause.Cause.{Cause}
+use Rattle.sc_model.specs.declared.standard.Standard.{Standard}
 use Rattle.sc_model.specs.Fault.{Fault}
 use Rattle.sc_model.specs.Token.{Place, Token}
 use Rattle.sc_prep.specs.Machine.{Machine}
@@ -29,11 +30,11 @@ pub data ExpandsAt (text : List Token) (asked : Bool) (m : Machine) (ts : List T
   expanding_fails : (fault : Fault) → asked ≡ true → TextExpands m.state.macros text (Err fault) → ExpandsAt text asked m ts (failed m fault)
 
 -- The tokens that an expansion leaves come to this, or are refused at the # of the line.
-pub data EvaluatesAt (hash : Place) (ts : List Token) (asked : Bool) (m : Machine) (is_taken : Bool) : Machine → Type 0 where
-  evaluating_idle : asked ≡ false → is_taken ≡ false → EvaluatesAt hash ts asked m is_taken m
-  evaluating_done : asked ≡ true → Comes hash (Ok (map unhidden ts)) (Ok is_taken) → EvaluatesAt hash ts asked m is_taken m
-  evaluating_fails : (why : Failure Place) → asked ≡ true → is_taken ≡ false → Comes hash (Ok (map unhidden ts)) (Err why)
-      → EvaluatesAt hash ts asked m is_taken (failed m (fault_of why))
+pub data EvaluatesAt (standard : Standard) (hash : Place) (ts : List Token) (asked : Bool) (m : Machine) (is_taken : Bool) : Machine → Type 0 where
+  evaluating_idle : asked ≡ false → is_taken ≡ false → EvaluatesAt standard hash ts asked m is_taken m
+  evaluating_done : asked ≡ true → Comes standard hash (Ok (map unhidden ts)) (Ok is_taken) → EvaluatesAt standard hash ts asked m is_taken m
+  evaluating_fails : (why : Failure Place) → asked ≡ true → is_taken ≡ false → Comes standard hash (Ok (map unhidden ts)) (Err why)
+      → EvaluatesAt standard hash ts asked m is_taken (failed m (fault_of why))
 
 -- The line takes its group or not, or is refused. Where it isn't asked it takes nothing.
 pub data DecidesAt (x : Context) (l : Line) (asked : Bool) (m : Machine) (is_taken : Bool) : Machine → Type 0 where

@@ -7,6 +7,7 @@ use Rattle.c11_headers.specs.Headers.{candidates}
 use Rattle.sc_base.specs.declared.id.FileId.{FileId}
 use Rattle.sc_include.specs.declared.header.Header.{Header}
 use Rattle.sc_include.specs.Seen.{seen_header}
+use Rattle.sc_model.specs.declared.standard.Standard.{Standard}
 use Rattle.sc_model.specs.Outside.{Files}
 use Rattle.sc_model.specs.Sets.{Sets, IsCond, IsConfig}
 use Rattle.sc_prep.specs.Contents.{Agrees, AreContents, KeepsContents}
@@ -33,15 +34,17 @@ pub data FindsAll (held : Files) (files : List (List ℕ)) (including : List ℕ
 
 -- the parts are of the store's conditions and the kept contents, and at each configuration those of
 -- its header
-pub record AreFound (old : Sets) (named : List Named) (including : List ℕ) (directories names files : List (List ℕ)) (contents : Contents) (new : Sets) (found : Found) : Type 0 where
+pub record AreFound (standard : Standard) (old : Sets) (named : List Named) (including : List ℕ) (directories names files : List (List ℕ)) (contents : Contents)
+    (new : Sets) (found : Found) : Type 0 where
   pub parts : ArePartsOf new contents found.parts.items
   pub missing : IsCond new found.missing.0
-  pub at : (held : Files) (c : List ℕ) → Agrees names files held contents → IsConfig old.arities c → length (headers_in old named c) ≤ 1
+  pub at : (held : Files) (c : List ℕ) → Agrees standard names files held contents → IsConfig old.arities c → length (headers_in old named c) ≤ 1
       → FindsAll held files including directories (headers_in old named c) (files_at new found.parts.items c) (new.has found.missing.0 c)
 
 -- Names were looked up: what was read stays, and no other name came to the table.
-pub record LooksUp (names files : List (List ℕ)) (contents : Contents) (holds : Option Files) (more more_files : List (List ℕ)) (later : Contents) (asked : List (List ℕ)) : Type 0 where
-  pub contents_are : AreContents more more_files holds later
+pub record LooksUp (standard : Standard) (names files : List (List ℕ)) (contents : Contents) (holds : Option Files) (more more_files : List (List ℕ))
+    (later : Contents) (asked : List (List ℕ)) : Type 0 where
+  pub contents_are : AreContents standard more more_files holds later
   pub reads : KeepsContents contents later
   pub paths : ArePlainPaths asked → ArePlainPaths files → ArePlainPaths more_files
 

@@ -10,7 +10,8 @@ use Rattle.sc_guarded.specs.Items.{items_at, faults_at, seen_fault}
 use Rattle.sc_base.specs.Seen.{seen}
 use Rattle.sc_table.specs.declared.table.MacroTable.{MacroTable}
 use Rattle.c11_directives.specs.Lines.{Line}
-use Rattle.c11_directives.specs.Pre.{Context, State, c11}
+use Rattle.c11_directives.specs.Pre.{Context, State}
+use Rattle.sc_model.specs.declared.standard.Standard.{Standard}
 use Rattle.sc_model.specs.Outside.{Files}
 use Rattle.sc_model.specs.Space.{Space}
 use Rattle.sc_prep.specs.Contents.{AreContents}
@@ -99,7 +100,7 @@ pub record Covers (x : Context) (lines : List Line) (m n : Machine) : Type 0 whe
 pub record IsContext (space : Space) (x : Context) : Type 0 where
   pub include : x.include ≡ space.include
   pub depth : x.include_depth ≡ space.include_depth
-  pub standard : x.standard ≡ c11
+  pub standard : x.standard ≡ space.standard
 
 -- the state is in the file of an entry
 pub record IsInside (files : List (List ℕ)) (entry : Entry) (s : State) : Type 0 where
@@ -128,11 +129,11 @@ pub record Leads (files names : List (List ℕ)) (old : Sets) (walk : Walk) (mor
 
 -- What holds between the lines of a walk: its conditions are those of the store, and the tables
 -- hold the rest.
-pub record IsReady (s : Sets) (names files : List (List ℕ)) (holds : Option Files) (walk : Walk) (contents : Contents) : Type 0 where
+pub record IsReady (standard : Standard) (s : Sets) (names files : List (List ℕ)) (holds : Option Files) (walk : Walk) (contents : Contents) : Type 0 where
   pub owns : Owns s walk
   pub table : IsTable s names walk.table
   pub held : IsHeldWalk names (length files) any_token walk
-  pub read : AreContents names files holds contents
+  pub read : AreContents standard names files holds contents
 
 -- each configuration has a machine as this says, whose macros and text are spelled on one line
 pub record PlainEach (s : Sets) (names files : List (List ℕ)) (walk : Walk) (from : Machine → Type 0) : Type 0 where

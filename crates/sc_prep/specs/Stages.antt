@@ -16,6 +16,7 @@ use Rattle.sc_guarded.specs.Items.{items_at}
 use Rattle.sc_hoist.specs.Alike.{AreAlike}
 use Rattle.sc_hoist.specs.Places.{places_at}
 use Rattle.sc_lines.specs.Nests.{seen_line}
+use Rattle.sc_model.specs.declared.standard.Standard.{Standard}
 use Rattle.sc_model.specs.Fault.{Fault}
 use Rattle.sc_model.specs.Sets.{Sets, IsCond, IsConfig}
 use Rattle.sc_model.specs.Token as model
@@ -106,11 +107,12 @@ pub record ExpandsText (files names : List (List ℕ)) (old : Sets) (walk : Walk
       → AreAlike new c d expanded
 
 -- what a list comes to in the configurations of a condition, or that is refused at a place
-pub record EvaluatesList (names : List (List ℕ)) (old : Sets) (walk : Walk) (list : List (Cond × Token)) (hash : base.Place) (among : ℕ)
+pub record EvaluatesList (standard : Standard) (names : List (List ℕ)) (old : Sets) (walk : Walk) (list : List (Cond × Token)) (hash : base.Place) (among : ℕ)
     (new : Sets) (next : Walk) (taken : ℕ) : Type 0 where
   pub own : IsCond new taken
   pub stage : (files : List (List ℕ)) → hash.file.0 < length files → IsHeldWalk names (length files) any_token walk
-      → Stage files names old walk names new next (λ config m n. EvaluatesAt (seen_place files hash) (map (seen names files) (items_at old list config))
+      → Stage files names old walk names new next
+      (λ config m n. EvaluatesAt standard (seen_place files hash) (map (seen names files) (items_at old list config))
       (old.has among config && is_none m.fault) m (new.has taken config) n)
 
 -- ---- the stages of a line that says something behind its name
@@ -125,21 +127,21 @@ pub record SaysLine (files names : List (List ℕ)) (old : Sets) (walk : Walk) (
     (list : List (Cond × Token)) : Type 0 where
   pub own : All (λ item. IsCond new item.0.0) list
   pub placed : ArePlaced more (length files) list
-  pub stage : Stage files names old walk more new next
-      (λ config m n. SaysAt (seen_line names files line) m (map (seen more files) (items_at new list config)) n)
-  pub lists : (d : Directive) (count : ℕ) → (seen_line names files line).directive ≡ Some d → is_said d ≡ true → StandApart line
+  pub stage : (standard : Standard) → Stage files names old walk more new next
+      (λ config m n. SaysAt (seen_line standard names files line) m (map (seen more files) (items_at new list config)) n)
+  pub lists : (standard : Standard) (d : Directive) (count : ℕ) → (seen_line standard names files line).directive ≡ Some d → is_said d ≡ true → StandApart line
       → HaveLists old.arities (λ c. new.has next.acting.0 c) (λ c. places_at new list c) count
-      → HasFootprints (IsConfig old.arities) (Comes old names files walk any_machine (SaidHas (seen_line names files line))) count
+      → HasFootprints (IsConfig old.arities) (Comes old names files walk any_machine (SaidHas (seen_line standard names files line))) count
 
 -- why it gives nothing
 pub record StopsSaid (s : Sets) (names files : List (List ℕ)) (walk : Walk) (line : List Token) (limit : ℕ) (stop : Stop) : Type 0 where
   pub by : StopsBy s.arities limit stop
-  pub at_place : (d : Directive) → (seen_line names files line).directive ≡ Some d → is_said d ≡ true → StandApart line
-      → StopsWalk s names files walk any_machine (SaidHas (seen_line names files line)) limit stop
+  pub at_place : (standard : Standard) (d : Directive) → (seen_line standard names files line).directive ≡ Some d → is_said d ≡ true → StandApart line
+      → StopsWalk s names files walk any_machine (SaidHas (seen_line standard names files line)) limit stop
 
 -- the headers that it names, in the configurations that act
 pub record NamesHeaders (files names : List (List ℕ)) (old : Sets) (walk : Walk) (line : List Token) (more : List (List ℕ)) (new : Sets) (next : Walk)
     (named : List Named) : Type 0 where
   pub own : All (λ n. IsCond new n.cond.0) named
-  pub at : (x : Context) → Stage files names old walk more new next
-      (λ config m n. NamesAt x (seen_line names files line) m (headers_in new named config) n)
+  pub at : (standard : Standard) (x : Context) → Stage files names old walk more new next
+      (λ config m n. NamesAt x (seen_line standard names files line) m (headers_in new named config) n)

@@ -5,6 +5,7 @@ ghost use Rattle.c11_directives.specs.declared.directive.Directive.TheVariants a
 ghost use Rattle.c11_directives.specs.Pre.{Context};
 ghost use Rattle.sc_base.specs.Seen.{IsHeld, seen};
 ghost use Rattle.sc_lines.specs.Nests.{seen_line};
+ghost use Rattle.sc_model.specs.declared.standard.Standard.{Standard};
 ghost use Rattle.sc_model.specs.Growth.{Extends};
 ghost use Rattle.sc_model.specs.Sets.{Keeps};
 ghost use Rattle.sc_prep.specs.Machine.{Carried};
@@ -64,8 +65,9 @@ impl Walk {
         requires placed { All (IsPlaced names.old (length files.now)) line.now }
         requires line { 0 < length line.now }
         requires stored { IsStored (C.sets conds.old) names.old (length files.now) self.old }
-        ensures carries { OnOk result ((x : Context) → Stage files.now names.old (C.sets conds.old) self.old names.new (C.sets conds.new) self.new
-            (λ config m n. Carried x (seen_line names.old files.now line.now) directive.Line m n)) }
+        ensures carries { OnOk result ((standard : Standard) (x : Context)
+            → Stage files.now names.old (C.sets conds.old) self.old names.new (C.sets conds.new) self.new
+            (λ config m n. Carried x (seen_line standard names.old files.now line.now) directive.Line m n)) }
         ensures stops { IfErr result (StopsSaid (C.sets conds.old) names.old files.now self.old line.now limit) }
 
         // at every outcome

@@ -7,6 +7,7 @@ ghost use Rattle.c11_directives.specs.Pre.{Context};
 ghost use Rattle.sc_base.specs.declared.stop.Stop.TheVariants as stop;
 ghost use Rattle.sc_base.specs.Seen.{IsHeld, text_at};
 ghost use Rattle.sc_lines.specs.Nests.{seen_line};
+ghost use Rattle.sc_model.specs.declared.standard.Standard.{Standard};
 ghost use Rattle.sc_model.specs.Growth.{Extends};
 ghost use Rattle.sc_model.specs.Sets.{Denotes, IsCond, Keeps};
 ghost use Rattle.sc_prep.specs.Machine.{Decided, is_taken, name_test, step};
@@ -20,6 +21,7 @@ use crate::directives::operand;
 use crate::walk::Walk;
 use c11_directives::Test;
 use sc_base::{Cause, Cond, Fault, Files, Name, Names, Stop, Token};
+use sc_model::Standard;
 use sc_presence::Conditions;
 use sc_table::MacroTable;
 use std::alloc::Global;
@@ -34,23 +36,26 @@ impl Walk {
         names: &mut Names,
         files: &Files,
         limit: usize,
+        standard: Standard,
         line: &[Token],
         test: Test,
     ) -> Result<(), Stop>
         requires placed { All (IsPlaced names.old (length files.now)) line.now }
-        requires line { conditional_of (seen_line names.old files.now line.now) ≡ Some (conditional.Opening test) }
+        requires line { conditional_of (seen_line standard names.old files.now line.now) ≡ Some (conditional.Opening test) }
         requires stored { IsStored (C.sets conds.old) names.old (length files.now) self.old }
         ensures decides { OnOk result ((x : Context) → Stage files.now names.old (C.sets conds.old) self.old names.new (C.sets conds.new) self.new
-            (λ config m n. Decided x m (seen_line names.old files.now line.now) n)) }
+            (λ config m n. Decided x m (seen_line standard names.old files.now line.now) n)) }
         ensures stops { (x : Context) → IfErr result (StopsStage (C.sets conds.old) names.old files.now self.old line.now
-            (λ config m. MomentsHave (ComesAt x m (seen_line names.old files.now line.now))) limit) }
+            (λ config m. MomentsHave (ComesAt x m (seen_line standard names.old files.now line.now))) limit) }
 
         // at every outcome
         ensures keeps { Keeps (C.sets conds.old) (C.sets conds.new) }
         ensures names { Extends names.old names.new }
     {
         let acting = self.acting;
-        let taken = self.decide_test(alloc, conds, names, files, limit, line, test, acting)?;
+        let taken = self.decide_test(
+            alloc, conds, names, files, limit, standard, line, test, acting,
+        )?;
         self.begin_section(conds, taken)?;
         Ok(())
     }
@@ -65,23 +70,26 @@ impl Walk {
         names: &mut Names,
         files: &Files,
         limit: usize,
+        standard: Standard,
         line: &[Token],
         test: Test,
     ) -> Result<(), Stop>
         requires placed { All (IsPlaced names.old (length files.now)) line.now }
-        requires line { conditional_of (seen_line names.old files.now line.now) ≡ Some (conditional.Alternative test) }
+        requires line { conditional_of (seen_line standard names.old files.now line.now) ≡ Some (conditional.Alternative test) }
         requires stored { IsStored (C.sets conds.old) names.old (length files.now) self.old }
         ensures decides { OnOk result ((x : Context) → Stage files.now names.old (C.sets conds.old) self.old names.new (C.sets conds.new) self.new
-            (λ config m n. Decided x m (seen_line names.old files.now line.now) n)) }
+            (λ config m n. Decided x m (seen_line standard names.old files.now line.now) n)) }
         ensures stops { (x : Context) → IfErr result (StopsStage (C.sets conds.old) names.old files.now self.old line.now
-            (λ config m. MomentsHave (ComesAt x m (seen_line names.old files.now line.now))) limit) }
+            (λ config m. MomentsHave (ComesAt x m (seen_line standard names.old files.now line.now))) limit) }
 
         // at every outcome
         ensures keeps { Keeps (C.sets conds.old) (C.sets conds.new) }
         ensures names { Extends names.old names.new }
     {
         let untaken = self.untaken();
-        let taken = self.decide_test(alloc, conds, names, files, limit, line, test, untaken)?;
+        let taken = self.decide_test(
+            alloc, conds, names, files, limit, standard, line, test, untaken,
+        )?;
         self.begin_branch(conds, taken)?;
         Ok(())
     }
@@ -96,18 +104,19 @@ impl Walk {
         names: &mut Names,
         files: &Files,
         limit: usize,
+        standard: Standard,
         line: &[Token],
         test: Test,
         among: Cond,
     ) -> Result<Cond, Stop>
         requires placed { All (IsPlaced names.old (length files.now)) line.now }
-        requires line { test_of (seen_line names.old files.now line.now) ≡ Some test }
+        requires line { test_of (seen_line standard names.old files.now line.now) ≡ Some test }
         requires among_own { IsCond (C.sets conds.old) among.0 }
         requires stored { IsStored (C.sets conds.old) names.old (length files.now) self.old }
         ensures decides { IfOk result (λ taken. DecidesTest files.now names.old (C.sets conds.old) self.old names.new (C.sets conds.new) self.new
-            (seen_line names.old files.now line.now) among.0 taken.0) }
+            (seen_line standard names.old files.now line.now) among.0 taken.0) }
         ensures stops { IfErr result (StopsStage (C.sets conds.old) names.old files.now self.old line.now
-            (AskedHas (C.sets conds.old) among.0 (seen_line names.old files.now line.now)) limit) }
+            (AskedHas (C.sets conds.old) among.0 (seen_line standard names.old files.now line.now)) limit) }
 
         // at every outcome
         ensures keeps { Keeps (C.sets conds.old) (C.sets conds.new) }
@@ -115,7 +124,7 @@ impl Walk {
     {
         match test {
             Test::Expression => {
-                self.decide_expression(alloc, conds, names, files, limit, line, among)
+                self.decide_expression(alloc, conds, names, files, limit, standard, line, among)
             }
             Test::Defined => self.decide_name(conds, names, line, true, among),
             Test::Undefined => self.decide_name(conds, names, line, false, among),
@@ -138,10 +147,11 @@ impl Walk {
         requires among_own { IsCond (C.sets conds.old) among.0 }
         requires owns { Owns (C.sets conds.old) self.old }
         requires table { IsTable (C.sets conds.old) names.now self.old.table }
-        ensures decides { IfOk result (λ taken. (files : List (List ℕ)) → test_of (seen_line names.now files line.now) ≡ Some (name_test wanted)
+        ensures decides { IfOk result (λ taken. (standard : Standard) (files : List (List ℕ))
+            → test_of (seen_line standard names.now files line.now) ≡ Some (name_test wanted)
             → All (IsPlaced names.now (length files)) line.now → IsHeldWalk names.now (length files) any_token self.old
             → DecidesTest files names.now (C.sets conds.old) self.old names.now (C.sets conds.new) self.new
-            (seen_line names.now files line.now) among.0 taken.0) }
+            (seen_line standard names.now files line.now) among.0 taken.0) }
         ensures memory { IfErr result (λ s. s ≡ stop.OutOfMemory) }
         ensures keeps { Keeps (C.sets conds.old) (C.sets conds.new) }
     {

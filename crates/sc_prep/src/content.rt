@@ -10,6 +10,7 @@ ghost use Rattle.sc_prep.specs.Preprocesses.{ReadsNothing};
 use sc_base::{Cause, FileId, Files, LARGEST_FILE, Names, OutOfMemory, Place, Stop, Token};
 use sc_lex::{LexStop, end, tokens};
 use sc_lines::{Line, NestStop, groups};
+use sc_model::Standard;
 use sc_source::Source;
 use std::alloc::Global;
 use std::rc::Rc;
@@ -64,11 +65,12 @@ impl Contents {
         names: &mut Names,
         files: &Files,
         file: FileId,
+        standard: Standard,
     ) -> Result<Option<Rc<Content>>, Stop>
         requires file { file.0 < length files.now }
-        requires contents { AreContents names.old files.now (S.holds src.old) self.old }
+        requires contents { AreContents standard names.old files.now (S.holds src.old) self.old }
         ensures content { IfOk result (λ shared. content_at self.new file.0 ≡ Some (option_map (λ held. held.value) shared)) }
-        ensures contents { OnOk result (AreContents names.new files.now (S.holds src.new) self.new) }
+        ensures contents { OnOk result (AreContents standard names.new files.now (S.holds src.new) self.new) }
         ensures keeps { OnOk result (KeepsContents self.old self.new) }
         ensures stops { IfErr result (ReadsNothing (S.faults src.old) (S.faults src.new)) }
 
@@ -81,7 +83,7 @@ impl Contents {
             return Ok(known);
         }
         files.one_to_one();
-        let content = read_file(alloc, src, names, files, file)?;
+        let content = read_file(alloc, src, names, files, file, standard)?;
         keep(&mut self.readings, file, &content)?;
         Ok(content)
     }
@@ -94,9 +96,10 @@ fn read_file<S: Source>(
     names: &mut Names,
     files: &Files,
     file: FileId,
+    standard: Standard,
 ) -> Result<Option<Rc<Content>>, Stop>
     requires { file.0 < length files.now }
-    ensures reading { IfOk result (λ shared. IsReading names.new files.now (S.holds src.old) file (option_map (λ held. held.value) shared)) }
+    ensures reading { IfOk result (λ shared. IsReading standard names.new files.now (S.holds src.old) file (option_map (λ held. held.value) shared)) }
     ensures stops { IfErr result (ReadsNothing (S.faults src.old) (S.faults src.new)) }
 
     // at every outcome
@@ -107,7 +110,7 @@ fn read_file<S: Source>(
     let Some(bytes) = read_bytes(alloc, src, files.text(file))? else {
         return Ok(None);
     };
-    let content = read_content(alloc, names, file, &bytes)?;
+    let content = read_content(alloc, names, file, &bytes, standard)?;
     Ok(Some(Rc::new(alloc, content)?))
 }
 
@@ -165,9 +168,11 @@ fn read_content(
     names: &mut Names,
     file: FileId,
     bytes: &[u8],
+    standard: Standard,
 ) -> Result<Content, OutOfMemory>
-    ensures content { IfOk result (λ c. (files : List (List ℕ)) (name : List ℕ) → slice_get files file.0 ≡ Some name → IsContent names.new files name (Some bytes.now) (Some c)) }
-    ensures held { IfOk result (λ c. (files : ℕ) → file.0 < files → IsHeldContent names.new files file c) }
+    ensures content { IfOk result (λ c. (files : List (List ℕ)) (name : List ℕ) → slice_get files file.0 ≡ Some name
+        → IsContent standard names.new files name (Some bytes.now) (Some c)) }
+    ensures held { IfOk result (λ c. (files : ℕ) → file.0 < files → IsHeldContent standard names.new files file c) }
 
     // at every outcome
     ensures names { Extends names.old names.new }
@@ -188,7 +193,7 @@ fn read_content(
         }
         Err(LexStop::OutOfMemory) => return Err(OutOfMemory),
     };
-    match groups(alloc, names, &tokens) {
+    match groups(alloc, names, &tokens, standard) {
         Ok(tree) => Ok(Content::Lines(FileLines {
             tokens,
             lines: tree.lines,

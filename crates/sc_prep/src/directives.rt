@@ -12,6 +12,7 @@ ghost use Rattle.sc_model.specs.declared.cause.Cause.TheVariants.{BadDirective};
 ghost use Rattle.sc_model.specs.Sets.{IsCond, Denotes, Keeps};
 ghost use Rattle.sc_macro.specs.Reads.{seen_defined};
 ghost use Rattle.sc_macro.specs.Seen.{IsHeldDefinition};
+ghost use Rattle.sc_model.specs.declared.standard.Standard.{Standard};
 ghost use Rattle.sc_model.specs.Growth.{Extends};
 ghost use Rattle.sc_prep.specs.Apart.{GathersFrom, tokens_in};
 ghost use Rattle.sc_prep.specs.Footprints.{ComesAt};
@@ -28,6 +29,7 @@ use c11_directives::{Conditional, Directive};
 use sc_base::{Cause, Cond, Files, Kind, Name, Names, Stop, Token};
 use sc_lines::Line;
 use sc_macro::{DefineStop, Definition, read_define};
+use sc_model::Standard;
 use sc_presence::Conditions;
 use sc_table::MacroTable;
 use std::alloc::Global;
@@ -42,17 +44,18 @@ impl Walk {
         names: &mut Names,
         files: &Files,
         limit: usize,
+        standard: Standard,
         line: &Line,
         tokens: &[Token],
     ) -> Result<(), Stop>
         requires placed { All (IsPlaced names.old (length files.now)) tokens.now }
-        requires directive { line.now.directive ≡ directive_at names.old tokens.now }
+        requires directive { line.now.directive ≡ directive_at standard names.old tokens.now }
         requires local { line.now.directive ≡ Some kind.Include → ⊥ }
         requires stored { IsStored (C.sets conds.old) names.old (length files.now) self.old }
         ensures takes { OnOk result ((x : Context) → LineStage files.now names.old (C.sets conds.old) self.old tokens.now
-            names.new (C.sets conds.new) self.new (λ config m n. Takes x m (seen_line names.old files.now tokens.now) n)) }
+            names.new (C.sets conds.new) self.new (λ config m n. Takes x m (seen_line standard names.old files.now tokens.now) n)) }
         ensures stops { (x : Context) → IfErr result (StopsStage (C.sets conds.old) names.old files.now self.old (tokens_in self.old.gathered ++ tokens.now)
-            (λ config m. MomentsHave (ComesAt x m (seen_line names.old files.now tokens.now))) limit) }
+            (λ config m. MomentsHave (ComesAt x m (seen_line standard names.old files.now tokens.now))) limit) }
 
         // at every outcome
         ensures keeps { Keeps (C.sets conds.old) (C.sets conds.new) }
@@ -60,11 +63,22 @@ impl Walk {
     {
         match line.conditional() {
             Some(conditional) => {
-                self.conditional_line(alloc, conds, names, files, limit, tokens, conditional)
+                self.conditional_line(
+                    alloc,
+                    conds,
+                    names,
+                    files,
+                    limit,
+                    standard,
+                    tokens,
+                    conditional,
+                )
             }
             None => {
                 let directive = line.directive;
-                self.unconditional_line(alloc, conds, names, files, limit, tokens, directive)
+                self.unconditional_line(
+                    alloc, conds, names, files, limit, standard, tokens, directive,
+                )
             }
         }
     }
@@ -78,24 +92,27 @@ impl Walk {
         names: &mut Names,
         files: &Files,
         limit: usize,
+        standard: Standard,
         line: &[Token],
         directive: Option<Directive>,
     ) -> Result<(), Stop>
         requires placed { All (IsPlaced names.old (length files.now)) line.now }
-        requires directive { directive ≡ directive_at names.old line.now }
+        requires directive { directive ≡ directive_at standard names.old line.now }
         requires local { (conditional_in directive ≡ None) × (directive ≡ Some kind.Include → ⊥) }
         requires stored { IsStored (C.sets conds.old) names.old (length files.now) self.old }
         ensures takes { OnOk result ((x : Context) → LineStage files.now names.old (C.sets conds.old) self.old line.now names.new (C.sets conds.new) self.new
-            (λ config m n. Takes x m (seen_line names.old files.now line.now) n)) }
+            (λ config m n. Takes x m (seen_line standard names.old files.now line.now) n)) }
         ensures stops { (x : Context) → IfErr result (StopsStage (C.sets conds.old) names.old files.now self.old (tokens_in self.old.gathered ++ line.now)
-            (λ config m. MomentsHave (ComesAt x m (seen_line names.old files.now line.now))) limit) }
+            (λ config m. MomentsHave (ComesAt x m (seen_line standard names.old files.now line.now))) limit) }
 
         // at every outcome
         ensures keeps { Keeps (C.sets conds.old) (C.sets conds.new) }
         ensures names { Extends names.old names.new }
     {
         match barrier_in(directive) {
-            Some(barrier) => { self.barrier_line(alloc, conds, names, files, limit, line, barrier) }
+            Some(barrier) => {
+                self.barrier_line(alloc, conds, names, files, limit, standard, line, barrier)
+            }
             None => self.plain_line(alloc, conds, names, line, directive),
         }
     }
@@ -109,17 +126,18 @@ impl Walk {
         names: &mut Names,
         files: &Files,
         limit: usize,
+        standard: Standard,
         line: &[Token],
         directive: Directive,
     ) -> Result<(), Stop>
         requires placed { All (IsPlaced names.old (length files.now)) line.now }
-        requires directive { Some directive ≡ directive_at names.old line.now }
+        requires directive { Some directive ≡ directive_at standard names.old line.now }
         requires barrier { (is_barrier directive ≡ true) × (directive ≡ kind.Include → ⊥) }
         requires stored { IsStored (C.sets conds.old) names.old (length files.now) self.old }
         ensures takes { OnOk result ((x : Context) → LineStage files.now names.old (C.sets conds.old) self.old line.now names.new (C.sets conds.new) self.new
-            (λ config m n. Takes x m (seen_line names.old files.now line.now) n)) }
+            (λ config m n. Takes x m (seen_line standard names.old files.now line.now) n)) }
         ensures stops { (x : Context) → IfErr result (StopsStage (C.sets conds.old) names.old files.now self.old (tokens_in self.old.gathered ++ line.now)
-            (λ config m. MomentsHave (ComesAt x m (seen_line names.old files.now line.now))) limit) }
+            (λ config m. MomentsHave (ComesAt x m (seen_line standard names.old files.now line.now))) limit) }
 
         // at every outcome
         ensures keeps { Keeps (C.sets conds.old) (C.sets conds.new) }
@@ -141,16 +159,17 @@ impl Walk {
         names: &mut Names,
         files: &Files,
         limit: usize,
+        standard: Standard,
         line: &[Token],
         conditional: Conditional,
     ) -> Result<(), Stop>
         requires placed { All (IsPlaced names.old (length files.now)) line.now }
-        requires directive { Some (kind.Conditional conditional) ≡ directive_at names.old line.now }
+        requires directive { Some (kind.Conditional conditional) ≡ directive_at standard names.old line.now }
         requires stored { IsStored (C.sets conds.old) names.old (length files.now) self.old }
         ensures decides { OnOk result ((x : Context) → Stage files.now names.old (C.sets conds.old) self.old names.new (C.sets conds.new) self.new
-            (λ config m n. Decided x m (seen_line names.old files.now line.now) n)) }
+            (λ config m n. Decided x m (seen_line standard names.old files.now line.now) n)) }
         ensures stops { (x : Context) → IfErr result (StopsStage (C.sets conds.old) names.old files.now self.old line.now
-            (λ config m. MomentsHave (ComesAt x m (seen_line names.old files.now line.now))) limit) }
+            (λ config m. MomentsHave (ComesAt x m (seen_line standard names.old files.now line.now))) limit) }
 
         // at every outcome
         ensures keeps { Keeps (C.sets conds.old) (C.sets conds.new) }
@@ -158,10 +177,10 @@ impl Walk {
     {
         match conditional {
             Conditional::Opening(test) => {
-                self.open_section(alloc, conds, names, files, limit, line, test)
+                self.open_section(alloc, conds, names, files, limit, standard, line, test)
             }
             Conditional::Alternative(test) => {
-                self.continue_section(alloc, conds, names, files, limit, line, test)
+                self.continue_section(alloc, conds, names, files, limit, standard, line, test)
             }
             Conditional::Else => {
                 let always = conds.always();
@@ -186,7 +205,8 @@ impl Walk {
         requires table { IsTable (C.sets conds.old) names.now self.old.table }
         requires line { (directive ≡ None → ⊥) → 0 < length line.now }
         ensures printable { OnOk result (StaysHeld names.now line.now self.old self.new) }
-        ensures moved { OnOk result (SimulatesStep names.now (C.sets conds.old) self.old (C.sets conds.new) self.new (λ files config m. plain_by m (seen_line names.now files line.now) directive)) }
+        ensures moved { OnOk result ((standard : Standard) → SimulatesStep names.now (C.sets conds.old) self.old (C.sets conds.new) self.new
+            (λ files config m. plain_by m (seen_line standard names.now files line.now) directive)) }
         ensures memory { IfErr result (λ s. s ≡ stop.OutOfMemory) }
         ensures gathers { OnOk result (GathersFrom line.now self.old self.new) }
         ensures keeps { Keeps (C.sets conds.old) (C.sets conds.new) }
@@ -212,7 +232,8 @@ impl Walk {
         requires define { directive ≡ kind.Define → ⊥ }
         requires undef { directive ≡ kind.Undef → ⊥ }
         ensures printable { OnOk result ((names : List (List ℕ)) → StaysHeld names line.now self.old self.new) }
-        ensures moved { OnOk result ((names : List (List ℕ)) → SimulatesStep names (C.sets conds.old) self.old (C.sets conds.new) self.new (λ files config m. plain_by m (seen_line names files line.now) (Some directive))) }
+        ensures moved { OnOk result ((standard : Standard) (names : List (List ℕ)) → SimulatesStep names (C.sets conds.old) self.old (C.sets conds.new) self.new
+            (λ files config m. plain_by m (seen_line standard names files line.now) (Some directive))) }
         ensures memory { IfErr result (λ s. s ≡ stop.OutOfMemory) }
         ensures gathered { OnOk result (self.new.gathered ≡ self.old.gathered) }
         ensures keeps { Keeps (C.sets conds.old) (C.sets conds.new) }
@@ -237,8 +258,9 @@ impl Walk {
         requires table { IsTable (C.sets conds.old) names.now self.old.table }
         requires line { 0 < length line.now }
         ensures printable { OnOk result (StaysHeld names.now line.now self.old self.new) }
-        ensures moved { OnOk result (SimulatesStep names.now (C.sets conds.old) self.old (C.sets conds.new) self.new
-            (λ files config m. changing m (seen_line names.now files line.now) (changed_by m.state.macros (seen_line names.now files line.now) kind.Define))) }
+        ensures moved { OnOk result ((standard : Standard) → SimulatesStep names.now (C.sets conds.old) self.old (C.sets conds.new) self.new
+            (λ files config m. changing m (seen_line standard names.now files line.now)
+            (changed_by m.state.macros (seen_line standard names.now files line.now) kind.Define))) }
         ensures memory { IfErr result (λ s. s ≡ stop.OutOfMemory) }
         ensures gathered { OnOk result (self.new.gathered ≡ self.old.gathered) }
         ensures keeps { Keeps (C.sets conds.old) (C.sets conds.new) }
@@ -264,8 +286,8 @@ impl Walk {
         requires table { IsTable (C.sets conds.old) names.now self.old.table }
         requires line { 0 < length line.now }
         ensures printable { OnOk result ((names : List (List ℕ)) → StaysHeld names line.now self.old self.new) }
-        ensures moved { OnOk result (SimulatesStep names.now (C.sets conds.old) self.old (C.sets conds.new) self.new
-            (λ files config m. changing m (seen_line names.now files line.now) (defined_as m.state.macros (Ok (seen_defined names.now definition))))) }
+        ensures moved { OnOk result ((standard : Standard) → SimulatesStep names.now (C.sets conds.old) self.old (C.sets conds.new) self.new
+            (λ files config m. changing m (seen_line standard names.now files line.now) (defined_as m.state.macros (Ok (seen_defined names.now definition))))) }
         ensures memory { IfErr result (λ s. s ≡ stop.OutOfMemory) }
         ensures gathered { OnOk result (self.new.gathered ≡ self.old.gathered) }
         ensures keeps { Keeps (C.sets conds.old) (C.sets conds.new) }
@@ -288,8 +310,9 @@ impl Walk {
         requires table { IsTable (C.sets conds.old) names.now self.old.table }
         requires line { 0 < length line.now }
         ensures printable { OnOk result ((names : List (List ℕ)) → StaysHeld names line.now self.old self.new) }
-        ensures moved { OnOk result (SimulatesStep names.now (C.sets conds.old) self.old (C.sets conds.new) self.new
-            (λ files config m. changing m (seen_line names.now files line.now) (changed_by m.state.macros (seen_line names.now files line.now) kind.Undef))) }
+        ensures moved { OnOk result ((standard : Standard) → SimulatesStep names.now (C.sets conds.old) self.old (C.sets conds.new) self.new
+            (λ files config m. changing m (seen_line standard names.now files line.now)
+            (changed_by m.state.macros (seen_line standard names.now files line.now) kind.Undef))) }
         ensures memory { IfErr result (λ s. s ≡ stop.OutOfMemory) }
         ensures gathered { OnOk result (self.new.gathered ≡ self.old.gathered) }
         ensures keeps { Keeps (C.sets conds.old) (C.sets conds.new) }
@@ -314,8 +337,8 @@ impl Walk {
         requires table { IsTable (C.sets conds.old) names.now self.old.table }
         requires line { 0 < length line.now }
         ensures printable { OnOk result ((names : List (List ℕ)) → StaysHeld names line.now self.old self.new) }
-        ensures moved { OnOk result (SimulatesStep names.now (C.sets conds.old) self.old (C.sets conds.new) self.new
-            (λ files config m. changing m (seen_line names.now files line.now) (undefined m.state.macros (Some (text_at names.now name.0))))) }
+        ensures moved { OnOk result ((standard : Standard) → SimulatesStep names.now (C.sets conds.old) self.old (C.sets conds.new) self.new
+            (λ files config m. changing m (seen_line standard names.now files line.now) (undefined m.state.macros (Some (text_at names.now name.0))))) }
         ensures memory { IfErr result (λ s. s ≡ stop.OutOfMemory) }
         ensures gathered { OnOk result (self.new.gathered ≡ self.old.gathered) }
         ensures keeps { Keeps (C.sets conds.old) (C.sets conds.new) }
@@ -339,7 +362,8 @@ fn barrier_in(directive: Option<Directive>) -> Option<Directive>
 /// The identifier after the directive's name.
 pub fn operand(names: &Names, line: &[Token]) -> Option<Name>
     requires { All (IsHeld names.now) line.now }
-    ensures text { (files : List (List ℕ)) → option_map (λ n. text_at names.now n.0) result ≡ operand_of (seen_line names.now files line.now) }
+    ensures text { (standard : Standard) (files : List (List ℕ)) → option_map (λ n. text_at names.now n.0) result
+        ≡ operand_of (seen_line standard names.now files line.now) }
     ensures own { IfSome result (λ n. n.0 < length names.now) }
 {
     let _ = names;

@@ -24,6 +24,7 @@ use sc_base::{Cond, Files, Names, Place, Stop, Token};
 use sc_expand::expand;
 use sc_guarded::Guarded;
 use sc_if::{decide, replace_defined};
+use sc_model::Standard;
 use sc_presence::Conditions;
 use std::alloc::Global;
 
@@ -38,17 +39,18 @@ impl Walk {
         names: &mut Names,
         files: &Files,
         limit: usize,
+        standard: Standard,
         line: &[Token],
         among: Cond,
     ) -> Result<Cond, Stop>
         requires placed { All (IsPlaced names.old (length files.now)) line.now }
-        requires line { test_of (seen_line names.old files.now line.now) ≡ Some Expression }
+        requires line { test_of (seen_line standard names.old files.now line.now) ≡ Some Expression }
         requires among_own { IsCond (C.sets conds.old) among.0 }
         requires stored { IsStored (C.sets conds.old) names.old (length files.now) self.old }
         ensures decides { IfOk result (λ taken. DecidesTest files.now names.old (C.sets conds.old) self.old names.new (C.sets conds.new) self.new
-            (seen_line names.old files.now line.now) among.0 taken.0) }
+            (seen_line standard names.old files.now line.now) among.0 taken.0) }
         ensures stops { IfErr result (StopsStage (C.sets conds.old) names.old files.now self.old line.now
-            (AskedHas (C.sets conds.old) among.0 (seen_line names.old files.now line.now)) limit) }
+            (AskedHas (C.sets conds.old) among.0 (seen_line standard names.old files.now line.now)) limit) }
 
         // at every outcome
         ensures keeps { Keeps (C.sets conds.old) (C.sets conds.new) }
@@ -62,7 +64,7 @@ impl Walk {
         let behind = behind_name(line);
         let replaced = self.replaced(alloc, conds, names, behind, live, hash)?;
         let expanded = self.expanded(alloc, conds, names, files, limit, &replaced, live)?;
-        self.evaluated(alloc, conds, names, limit, &expanded, live, hash)
+        self.evaluated(alloc, conds, names, limit, standard, &expanded, live, hash)
     }
 
     /// These tokens with each `defined` replaced, in the configurations of `among`. Those in which
@@ -136,6 +138,7 @@ impl Walk {
         conds: &mut C,
         names: &Names,
         limit: usize,
+        standard: Standard,
         list: &Guarded<Token>,
         among: Cond,
         hash: Place,
@@ -145,16 +148,16 @@ impl Walk {
         requires among_own { IsCond (C.sets conds.old) among.0 }
         requires owns { Owns (C.sets conds.old) self.old }
         requires table { IsTable (C.sets conds.old) names.now self.old.table }
-        ensures evaluates { IfOk result (λ taken. EvaluatesList names.now (C.sets conds.old) self.old list.now hash among.0
+        ensures evaluates { IfOk result (λ taken. EvaluatesList standard names.now (C.sets conds.old) self.old list.now hash among.0
             (C.sets conds.new) self.new taken.0) }
         ensures stops { IfErr result (λ stop. StopsBy (C.sets conds.old).arities limit stop
-            × RefusesAt (C.sets conds.old) names.now list.now (is_asked (C.sets conds.old) self.old among.0) limit stop) }
+            × RefusesAt standard (C.sets conds.old) names.now list.now (is_asked (C.sets conds.old) self.old among.0) limit stop) }
 
         // at every outcome
         ensures keeps { Keeps (C.sets conds.old) (C.sets conds.new) }
     {
         let live = conds.apply_and(among, self.prepared.live)?;
-        let decided = decide(alloc, conds, names, list, live, limit, hash)?;
+        let decided = decide(alloc, conds, names, list, live, limit, hash, standard)?;
         self.refuse_each(conds, &decided.faults)?;
         Ok(decided.taken)
     }

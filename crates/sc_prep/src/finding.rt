@@ -17,6 +17,7 @@ use crate::including::Part;
 use crate::naming::Named;
 use sc_base::{Cond, FileId, Files, Names, OutOfMemory, Stop};
 use sc_include::candidates;
+use sc_model::Standard;
 use sc_presence::Conditions;
 use sc_source::Source;
 use std::alloc::Global;
@@ -39,15 +40,17 @@ impl Found {
         names: &mut Names,
         files: &mut Files,
         contents: &mut Contents,
+        standard: Standard,
         including: FileId,
         directories: &[String],
         named: &[Named],
     ) -> Result<Found, Stop>
         requires including { including.0 < length files.old }
         requires own { All (λ n. IsCond (C.sets conds.old) n.cond.0) named.now }
-        requires contents { AreContents names.old files.old (S.holds src.old) contents.old }
-        ensures found { IfOk result (AreFound (C.sets conds.old) named.now (text_at files.old including.0) (map string_bytes directories.now) names.new files.new contents.new (C.sets conds.new)) }
-        ensures contents { OnOk result (AreContents names.new files.new (S.holds src.new) contents.new) }
+        requires contents { AreContents standard names.old files.old (S.holds src.old) contents.old }
+        ensures found { IfOk result (AreFound standard (C.sets conds.old) named.now (text_at files.old including.0)
+            (map string_bytes directories.now) names.new files.new contents.new (C.sets conds.new)) }
+        ensures contents { OnOk result (AreContents standard names.new files.new (S.holds src.new) contents.new) }
         ensures paths { OnOk result (ArePlainPaths (map string_bytes directories.now) → All (λ n. has_no_newline (string_bytes n.header.name) ≡ true) named.now → ArePlainPaths files.old → ArePlainPaths files.new) }
         ensures read { OnOk result (KeepsContents contents.old contents.new) }
         ensures stops { IfErr result (ReadsNothing (S.faults src.old) (S.faults src.new)) }
@@ -65,7 +68,7 @@ impl Found {
         };
         for name in named {
             let paths = candidates(alloc, &name.header, files.text(including), directories)?;
-            let file = search(alloc, src, names, files, contents, &paths)?;
+            let file = search(alloc, src, names, files, contents, standard, &paths)?;
             found.add(conds, name.cond, file)?;
         }
         Ok(found)
@@ -106,13 +109,15 @@ fn search<S: Source>(
     names: &mut Names,
     files: &mut Files,
     contents: &mut Contents,
+    standard: Standard,
     candidates: &[String],
 ) -> Result<Option<(FileId, Rc<Content>)>, Stop>
-    requires contents { AreContents names.old files.old (S.holds src.old) contents.old }
-    ensures searched { IfOk result (λ found. (held : Outside) → Agrees names.new files.new held contents.new
+    requires contents { AreContents standard names.old files.old (S.holds src.old) contents.old }
+    ensures searched { IfOk result (λ found. (held : Outside) → Agrees standard names.new files.new held contents.new
         → IsSearched held files.new (map string_bytes candidates.now) (option_map (λ pair. pair.0) found)) }
     ensures content { IfOk result (λ found. option_map (λ pair. content_at contents.new pair.0.0) found ≡ option_map (λ pair. Some (Some pair.1.value)) found) }
-    ensures looks { OnOk result (LooksUp names.old files.old contents.old (S.holds src.old) names.new files.new contents.new (map string_bytes candidates.now)) }
+    ensures looks { OnOk result (LooksUp standard names.old files.old contents.old (S.holds src.old) names.new files.new contents.new
+        (map string_bytes candidates.now)) }
     ensures stops { IfErr result (ReadsNothing (S.faults src.old) (S.faults src.new)) }
 
     // at every outcome
@@ -122,7 +127,7 @@ fn search<S: Source>(
     ensures files { Extends files.old files.new }
 {
     for name in candidates {
-        let (file, content) = look_up(alloc, src, names, files, contents, name.as_str())?;
+        let (file, content) = look_up(alloc, src, names, files, contents, standard, name.as_str())?;
         if let Some(content) = content {
             return Ok(Some((file, content)));
         }
@@ -137,12 +142,13 @@ fn look_up<S: Source>(
     names: &mut Names,
     files: &mut Files,
     contents: &mut Contents,
+    standard: Standard,
     name: &str,
 ) -> Result<(FileId, Option<Rc<Content>>), Stop>
-    requires contents { AreContents names.old files.old (S.holds src.old) contents.old }
+    requires contents { AreContents standard names.old files.old (S.holds src.old) contents.old }
     ensures named { IfOk result (λ r. slice_get files.new r.0.0 ≡ Some name.now) }
     ensures content { IfOk result (λ r. content_at contents.new r.0.0 ≡ Some (option_map (λ shared. shared.value) r.1)) }
-    ensures looks { OnOk result (LooksUp names.old files.old contents.old (S.holds src.old) names.new files.new contents.new (name.now ∷ [])) }
+    ensures looks { OnOk result (LooksUp standard names.old files.old contents.old (S.holds src.old) names.new files.new contents.new (name.now ∷ [])) }
     ensures stops { IfErr result (ReadsNothing (S.faults src.old) (S.faults src.new)) }
 
     // at every outcome
@@ -152,7 +158,7 @@ fn look_up<S: Source>(
     ensures files { Extends files.old files.new }
 {
     let file = files.intern(name)?;
-    let content = contents.read(alloc, src, names, files, file)?;
+    let content = contents.read(alloc, src, names, files, file, standard)?;
     Ok((file, content))
 }
 

@@ -5,6 +5,7 @@ ghost use Rattle.c11_directives.specs.Footprints.{DirectiveHas};
 ghost use Rattle.c11_directives.specs.Pre.{Context, is_said};
 ghost use Rattle.sc_base.specs.Seen.{text_at};
 ghost use Rattle.sc_lines.specs.Nests.{seen_line};
+ghost use Rattle.sc_model.specs.declared.standard.Standard.{Standard};
 ghost use Rattle.sc_model.specs.Growth.{Extends};
 ghost use Rattle.sc_model.specs.Sets.{IsCond, Keeps};
 ghost use Rattle.sc_model.specs.Space.{arities_of};
@@ -61,22 +62,26 @@ impl Walk {
         requires placed { All (IsPlaced names.old (length files.old)) line.now }
         requires line { 0 < length line.now }
         requires entry { entry.file.0 < length files.old }
-        requires ready { IsReady (C.sets conds.old) names.old files.old (S.holds src.old) self.old contents.old }
-        ensures finds { IfOk result (λ parts. (x : Context) → IsContext (seen_space space.now) x → Agrees names.new files.new x.files contents.new
+        requires ready { IsReady space.now.standard (C.sets conds.old) names.old files.old (S.holds src.old) self.old contents.old }
+        ensures finds { IfOk result (λ parts. (x : Context) → IsContext (seen_space space.now) x
+            → Agrees space.now.standard names.new files.new x.files contents.new
             → Leads files.old names.old (C.sets conds.old) self.old files.new names.new (C.sets conds.new) self.new (IsIn files.old entry)
-            (λ config m n. Finds x (seen_line names.old files.old line.now) files.new m (files_at (C.sets conds.new) parts.items config) n)) }
+            (λ config m n. Finds x (seen_line space.now.standard names.old files.old line.now) files.new m
+            (files_at (C.sets conds.new) parts.items config) n)) }
         ensures parts { IfOk result (λ parts. ArePartsOf (C.sets conds.new) contents.new parts.items) }
         ensures deep { IfOk result (λ parts. 0 < length parts.items → entry.depth < space.now.limits.include_depth) }
-        ensures ready { OnOk result (IsReady (C.sets conds.new) names.new files.new (S.holds src.new) self.new contents.new) }
+        ensures ready { OnOk result (IsReady space.now.standard (C.sets conds.new) names.new files.new (S.holds src.new) self.new contents.new) }
         ensures list { OnOk result (self.new.prepared.list ≡ self.old.prepared.list) }
         ensures paths { OnOk result (IsSound (seen_space space.now) → All (λ token. is_plain names.old token ≡ true) line.now → ArePlainPaths files.old
             → PlainEach (C.sets conds.old) names.old files.old self.old (IsIn files.old entry) → ArePlainPaths files.new) }
         ensures read { OnOk result (KeepsContents contents.old contents.new) }
         ensures stops { IfErr result (Stops (C.sets conds.old).arities (seen_space space.now).branches (S.faults src.old) (S.faults src.new)) }
         ensures gathered { OnOk result (self.new.gathered ≡ self.old.gathered) }
-        ensures footprints { (d : Directive) → (seen_line names.old files.old line.now).directive ≡ Some d → is_said d ≡ true → StandApart line.now
+        ensures footprints { (d : Directive) → (seen_line space.now.standard names.old files.old line.now).directive ≡ Some d → is_said d ≡ true
+            → StandApart line.now
             → IfErr result (StopsWalk (C.sets conds.old) names.old files.old self.old any_machine
-            (λ config m f. (acts m ≡ true) × DirectiveHas m.state.macros (seen_line names.old files.old line.now) f) (seen_space space.now).branches) }
+            (λ config m f. (acts m ≡ true) × DirectiveHas m.state.macros (seen_line space.now.standard names.old files.old line.now) f)
+            (seen_space space.now).branches) }
 
         // at every outcome
         ensures kept { S.holds src.new ≡ S.holds src.old }
@@ -98,6 +103,7 @@ impl Walk {
             names,
             files,
             contents,
+            space.standard,
             entry.file,
             &space.include,
             &named,
@@ -151,8 +157,8 @@ impl Walk {
         requires own { IsCond (C.sets conds.old) part.0 }
         requires line { 0 < length line.now }
         ensures printable { OnOk result ((names : List (List ℕ)) → StaysHeld names line.now self.old self.new) }
-        ensures moved { OnOk result ((names : List (List ℕ)) → SimulatesStep names (C.sets conds.old) self.old (C.sets conds.new) self.new
-            (λ files config m. refusing_if ((C.sets conds.old).has part.0 config) m (seen_line names files line.now) cause)) }
+        ensures moved { OnOk result ((standard : Standard) (names : List (List ℕ)) → SimulatesStep names (C.sets conds.old) self.old (C.sets conds.new) self.new
+            (λ files config m. refusing_if ((C.sets conds.old).has part.0 config) m (seen_line standard names files line.now) cause)) }
         ensures list { OnOk result (self.new.prepared.list ≡ self.old.prepared.list) }
         ensures gathered { OnOk result (self.new.gathered ≡ self.old.gathered) }
         ensures keeps { Keeps (C.sets conds.old) (C.sets conds.new) }

@@ -48,24 +48,26 @@ impl Walk {
         entry: Entry,
         file: &FileLines,
     ) -> Result<(), Stop>
-        requires lines { AreHeldLines names.old (length files.old) entry.file file.now }
+        requires lines { AreHeldLines space.now.standard names.old (length files.old) entry.file file.now }
         requires deep { entry.depth ≤ space.now.limits.include_depth }
         requires top { self.old.sections.items ≡ [] }
-        requires ready { IsReady (C.sets conds.old) names.old files.old (S.holds src.old) self.old contents.old }
-        ensures covers { OnOk result ((x : Context) → IsContext (seen_space space.now) x → Agrees names.new files.new x.files contents.new
+        requires ready { IsReady space.now.standard (C.sets conds.old) names.old files.old (S.holds src.old) self.old contents.old }
+        ensures covers { OnOk result ((x : Context) → IsContext (seen_space space.now) x → Agrees space.now.standard names.new files.new x.files contents.new
             → Leads files.old names.old (C.sets conds.old) self.old files.new names.new (C.sets conds.new) self.new (IsAtTop files.old entry)
-            (λ config m n. Covers x (seen_lines names.old files.old file.now.tokens.items) m n)) }
-        ensures ready { OnOk result (IsReady (C.sets conds.new) names.new files.new (S.holds src.new) self.new contents.new) }
-        ensures plain { OnOk result ((x : Context) → IsContext (seen_space space.now) x → Agrees names.new files.new x.files contents.new → IsSound (seen_space space.now)
-            → ArePlainPaths files.old → PlainEach (C.sets conds.old) names.old files.old self.old (IsAtTop files.old entry)
+            (λ config m n. Covers x (seen_lines space.now.standard names.old files.old file.now.tokens.items) m n)) }
+        ensures ready { OnOk result (IsReady space.now.standard (C.sets conds.new) names.new files.new (S.holds src.new) self.new contents.new) }
+        ensures plain { OnOk result ((x : Context) → IsContext (seen_space space.now) x → Agrees space.now.standard names.new files.new x.files contents.new
+            → IsSound (seen_space space.now) → ArePlainPaths files.old → PlainEach (C.sets conds.old) names.old files.old self.old (IsAtTop files.old entry)
             → AllPass (is_plain names.old) self.old.prepared.list → AllPass (is_plain names.new) self.new.prepared.list) }
-        ensures paths { OnOk result ((x : Context) → IsContext (seen_space space.now) x → Agrees names.new files.new x.files contents.new → IsSound (seen_space space.now)
+        ensures paths { OnOk result ((x : Context) → IsContext (seen_space space.now) x → Agrees space.now.standard names.new files.new x.files contents.new
+            → IsSound (seen_space space.now)
             → ArePlainPaths files.old → PlainEach (C.sets conds.old) names.old files.old self.old (IsAtTop files.old entry) → ArePlainPaths files.new) }
         ensures read { OnOk result (KeepsContents contents.old contents.new) }
         ensures stops { IfErr result (Stops (C.sets conds.old).arities (seen_space space.now).branches (S.faults src.old) (S.faults src.new)) }
         ensures footprints { (x : Context) → IsContext (seen_space space.now) x → S.holds src.old ≡ Some x.files → self.old.gathered ≡ [] → StandApart file.now.tokens.items
             → IfErr result (StopsWalk (C.sets conds.old) names.old files.old self.old (IsAtTop files.old entry)
-            (λ config m. MomentsHave (ComesOver x (seen_lines names.old files.old file.now.tokens.items) m)) (seen_space space.now).branches) }
+            (λ config m. MomentsHave (ComesOver x (seen_lines space.now.standard names.old files.old file.now.tokens.items) m))
+            (seen_space space.now).branches) }
 
         // at every outcome
         ensures kept { S.holds src.new ≡ S.holds src.old }
@@ -103,27 +105,27 @@ impl Walk {
         tokens: &[Token],
     ) -> Result<(), Stop>
         requires placed { All (IsPlaced names.old (length files.old)) tokens.now }
-        requires directive { line.now.directive ≡ directive_at names.old tokens.now }
+        requires directive { line.now.directive ≡ directive_at space.now.standard names.old tokens.now }
         requires entry { entry.file.0 < length files.old }
         requires deep { entry.depth ≤ space.now.limits.include_depth }
-        requires ready { IsReady (C.sets conds.old) names.old files.old (S.holds src.old) self.old contents.old }
-        ensures takes { OnOk result ((x : Context) → IsContext (seen_space space.now) x → Agrees names.new files.new x.files contents.new
+        requires ready { IsReady space.now.standard (C.sets conds.old) names.old files.old (S.holds src.old) self.old contents.old }
+        ensures takes { OnOk result ((x : Context) → IsContext (seen_space space.now) x → Agrees space.now.standard names.new files.new x.files contents.new
             → Leads files.old names.old (C.sets conds.old) self.old files.new names.new (C.sets conds.new) self.new (IsIn files.old entry)
-            (λ config m n. Takes x m (seen_line names.old files.old tokens.now) n)) }
-        ensures ready { OnOk result (IsReady (C.sets conds.new) names.new files.new (S.holds src.new) self.new contents.new) }
-        ensures plain { OnOk result ((x : Context) → IsContext (seen_space space.now) x → Agrees names.new files.new x.files contents.new → IsSound (seen_space space.now)
-            → All (λ token. is_plain names.old token ≡ true) tokens.now
+            (λ config m n. Takes x m (seen_line space.now.standard names.old files.old tokens.now) n)) }
+        ensures ready { OnOk result (IsReady space.now.standard (C.sets conds.new) names.new files.new (S.holds src.new) self.new contents.new) }
+        ensures plain { OnOk result ((x : Context) → IsContext (seen_space space.now) x → Agrees space.now.standard names.new files.new x.files contents.new
+            → IsSound (seen_space space.now) → All (λ token. is_plain names.old token ≡ true) tokens.now
             → ArePlainPaths files.old → PlainEach (C.sets conds.old) names.old files.old self.old (IsIn files.old entry)
             → AllPass (is_plain names.old) self.old.prepared.list → AllPass (is_plain names.new) self.new.prepared.list) }
-        ensures paths { OnOk result ((x : Context) → IsContext (seen_space space.now) x → Agrees names.new files.new x.files contents.new → IsSound (seen_space space.now)
-            → All (λ token. is_plain names.old token ≡ true) tokens.now
+        ensures paths { OnOk result ((x : Context) → IsContext (seen_space space.now) x → Agrees space.now.standard names.new files.new x.files contents.new
+            → IsSound (seen_space space.now) → All (λ token. is_plain names.old token ≡ true) tokens.now
             → ArePlainPaths files.old → PlainEach (C.sets conds.old) names.old files.old self.old (IsIn files.old entry) → ArePlainPaths files.new) }
         ensures read { OnOk result (KeepsContents contents.old contents.new) }
         ensures stops { IfErr result (Stops (C.sets conds.old).arities (seen_space space.now).branches (S.faults src.old) (S.faults src.new)) }
         ensures gathers { OnOk result (GathersFrom tokens.now self.old self.new) }
         ensures footprints { (x : Context) → IsContext (seen_space space.now) x → S.holds src.old ≡ Some x.files → StandApart (tokens_in self.old.gathered ++ tokens.now)
             → IfErr result (StopsWalk (C.sets conds.old) names.old files.old self.old (IsIn files.old entry)
-            (λ config m. MomentsHave (ComesAt x m (seen_line names.old files.old tokens.now))) (seen_space space.now).branches) }
+            (λ config m. MomentsHave (ComesAt x m (seen_line space.now.standard names.old files.old tokens.now))) (seen_space space.now).branches) }
 
         // at every outcome
         ensures kept { S.holds src.new ≡ S.holds src.old }
@@ -138,7 +140,16 @@ impl Walk {
             ),
             _ => {
                 let limit = space.limits.branches;
-                self.local_line(alloc, conds, names, files, limit, line, tokens)
+                self.local_line(
+                    alloc,
+                    conds,
+                    names,
+                    files,
+                    limit,
+                    space.standard,
+                    line,
+                    tokens,
+                )
             }
         }
     }
@@ -160,27 +171,27 @@ impl Walk {
         line: &[Token],
     ) -> Result<(), Stop>
         requires placed { All (IsPlaced names.old (length files.old)) line.now }
-        requires directive { directive_at names.old line.now ≡ Some kind.Include }
+        requires directive { directive_at space.now.standard names.old line.now ≡ Some kind.Include }
         requires entry { entry.file.0 < length files.old }
         requires deep { entry.depth ≤ space.now.limits.include_depth }
-        requires ready { IsReady (C.sets conds.old) names.old files.old (S.holds src.old) self.old contents.old }
-        ensures takes { OnOk result ((x : Context) → IsContext (seen_space space.now) x → Agrees names.new files.new x.files contents.new
+        requires ready { IsReady space.now.standard (C.sets conds.old) names.old files.old (S.holds src.old) self.old contents.old }
+        ensures takes { OnOk result ((x : Context) → IsContext (seen_space space.now) x → Agrees space.now.standard names.new files.new x.files contents.new
             → Leads files.old names.old (C.sets conds.old) self.old files.new names.new (C.sets conds.new) self.new (IsIn files.old entry)
-            (λ config m n. Takes x m (seen_line names.old files.old line.now) n)) }
-        ensures ready { OnOk result (IsReady (C.sets conds.new) names.new files.new (S.holds src.new) self.new contents.new) }
-        ensures plain { OnOk result ((x : Context) → IsContext (seen_space space.now) x → Agrees names.new files.new x.files contents.new → IsSound (seen_space space.now)
-            → All (λ token. is_plain names.old token ≡ true) line.now
+            (λ config m n. Takes x m (seen_line space.now.standard names.old files.old line.now) n)) }
+        ensures ready { OnOk result (IsReady space.now.standard (C.sets conds.new) names.new files.new (S.holds src.new) self.new contents.new) }
+        ensures plain { OnOk result ((x : Context) → IsContext (seen_space space.now) x → Agrees space.now.standard names.new files.new x.files contents.new
+            → IsSound (seen_space space.now) → All (λ token. is_plain names.old token ≡ true) line.now
             → ArePlainPaths files.old → PlainEach (C.sets conds.old) names.old files.old self.old (IsIn files.old entry)
             → AllPass (is_plain names.old) self.old.prepared.list → AllPass (is_plain names.new) self.new.prepared.list) }
-        ensures paths { OnOk result ((x : Context) → IsContext (seen_space space.now) x → Agrees names.new files.new x.files contents.new → IsSound (seen_space space.now)
-            → All (λ token. is_plain names.old token ≡ true) line.now
+        ensures paths { OnOk result ((x : Context) → IsContext (seen_space space.now) x → Agrees space.now.standard names.new files.new x.files contents.new
+            → IsSound (seen_space space.now) → All (λ token. is_plain names.old token ≡ true) line.now
             → ArePlainPaths files.old → PlainEach (C.sets conds.old) names.old files.old self.old (IsIn files.old entry) → ArePlainPaths files.new) }
         ensures read { OnOk result (KeepsContents contents.old contents.new) }
         ensures stops { IfErr result (Stops (C.sets conds.old).arities (seen_space space.now).branches (S.faults src.old) (S.faults src.new)) }
         ensures gathers { OnOk result (GathersFrom line.now self.old self.new) }
         ensures footprints { (x : Context) → IsContext (seen_space space.now) x → S.holds src.old ≡ Some x.files → StandApart (tokens_in self.old.gathered ++ line.now)
             → IfErr result (StopsWalk (C.sets conds.old) names.old files.old self.old (IsIn files.old entry)
-            (λ config m. MomentsHave (ComesAt x m (seen_line names.old files.old line.now))) (seen_space space.now).branches) }
+            (λ config m. MomentsHave (ComesAt x m (seen_line space.now.standard names.old files.old line.now))) (seen_space space.now).branches) }
 
         // at every outcome
         ensures kept { S.holds src.new ≡ S.holds src.old }
@@ -233,15 +244,16 @@ impl Walk {
         requires own { IsCond (C.sets conds.old) cond.0 }
         requires content { content_at contents.old entry.file.0 ≡ Some (Some content.now) }
         requires deep { entry.depth ≤ space.now.limits.include_depth }
-        requires ready { IsReady (C.sets conds.old) names.old files.old (S.holds src.old) self.old contents.old }
-        ensures enters { OnOk result ((x : Context) → IsContext (seen_space space.now) x → Agrees names.new files.new x.files contents.new
+        requires ready { IsReady space.now.standard (C.sets conds.old) names.old files.old (S.holds src.old) self.old contents.old }
+        ensures enters { OnOk result ((x : Context) → IsContext (seen_space space.now) x → Agrees space.now.standard names.new files.new x.files contents.new
             → Leads files.old names.old (C.sets conds.old) self.old files.new names.new (C.sets conds.new) self.new IsBetweenRuns
             (λ config m n. EntersAt x (text_at files.old entry.file.0) entry.depth m ((C.sets conds.old).has cond.0 config) n)) }
-        ensures ready { OnOk result (IsReady (C.sets conds.new) names.new files.new (S.holds src.new) self.new contents.new) }
-        ensures plain { OnOk result ((x : Context) → IsContext (seen_space space.now) x → Agrees names.new files.new x.files contents.new → IsSound (seen_space space.now)
-            → ArePlainPaths files.old → PlainEach (C.sets conds.old) names.old files.old self.old IsBetweenRuns
+        ensures ready { OnOk result (IsReady space.now.standard (C.sets conds.new) names.new files.new (S.holds src.new) self.new contents.new) }
+        ensures plain { OnOk result ((x : Context) → IsContext (seen_space space.now) x → Agrees space.now.standard names.new files.new x.files contents.new
+            → IsSound (seen_space space.now) → ArePlainPaths files.old → PlainEach (C.sets conds.old) names.old files.old self.old IsBetweenRuns
             → AllPass (is_plain names.old) self.old.prepared.list → AllPass (is_plain names.new) self.new.prepared.list) }
-        ensures paths { OnOk result ((x : Context) → IsContext (seen_space space.now) x → Agrees names.new files.new x.files contents.new → IsSound (seen_space space.now)
+        ensures paths { OnOk result ((x : Context) → IsContext (seen_space space.now) x → Agrees space.now.standard names.new files.new x.files contents.new
+            → IsSound (seen_space space.now)
             → ArePlainPaths files.old → PlainEach (C.sets conds.old) names.old files.old self.old IsBetweenRuns → ArePlainPaths files.new) }
         ensures read { OnOk result (KeepsContents contents.old contents.new) }
         ensures stops { IfErr result (Stops (C.sets conds.old).arities (seen_space space.now).branches (S.faults src.old) (S.faults src.new)) }

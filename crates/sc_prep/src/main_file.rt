@@ -58,7 +58,7 @@ pub fn preprocess<C: Conditions, S: Source>(
     let mut walk = Walk::new(alloc, conds, table, first_place(file))?;
     let mut contents = Contents::new(alloc);
     let always = conds.always();
-    let Some(content) = contents.read(alloc, src, names, files, file)? else {
+    let Some(content) = contents.read(alloc, src, names, files, file, space.standard)? else {
         let fault = Fault {
             cond: always,
             cause: Cause::NotFound,

@@ -1,5 +1,6 @@
 ghost use Rattle.std.specs.Prelude.{◌≡◌, ℕ, ◌<◌, ◌&&◌, Bool, List, length, OnOk, [], IfOk, is_none, true};
 ghost use Rattle.sc_base.specs.declared.token.Token as base;
+ghost use Rattle.sc_model.specs.declared.standard.Standard.{Standard};
 ghost use Rattle.sc_model.specs.Sets.{Sets, IsCond, IsNever, Denotes, Keeps, IsConfig};
 ghost use Rattle.c11_directives.specs.Pre.{State, with_text};
 ghost use Rattle.sc_prep.specs.Machine.{Machine, acting, acts, opened, next_branch, ended, refusing, refusing_if, start};
@@ -180,8 +181,10 @@ impl Walk {
         requires own { IsCond (C.sets conds.old) part.0 }
         requires line { 0 < length line.now }
         ensures printable { OnOk result ((names : List (List ℕ)) → StaysHeld names line.now self.old self.new) }
-        ensures moved { OnOk result ((names : List (List ℕ)) (t : List ℕ → Bool) → Denotes (C.sets conds.old) part.0 (λ c. t c && (C.sets conds.old).has self.old.acting.0 c)
-            → SimulatesStep names (C.sets conds.old) self.old (C.sets conds.new) self.new (λ files config m. refusing_if (t config) m (seen_line names files line.now) cause)) }
+        ensures moved { OnOk result ((standard : Standard) (names : List (List ℕ)) (t : List ℕ → Bool)
+            → Denotes (C.sets conds.old) part.0 (λ c. t c && (C.sets conds.old).has self.old.acting.0 c)
+            → SimulatesStep names (C.sets conds.old) self.old (C.sets conds.new) self.new
+            (λ files config m. refusing_if (t config) m (seen_line standard names files line.now) cause)) }
         ensures list { OnOk result (self.new.prepared.list ≡ self.old.prepared.list) }
         ensures gathered { OnOk result (self.new.gathered ≡ self.old.gathered) }
         ensures keeps { Keeps (C.sets conds.old) (C.sets conds.new) }
@@ -208,7 +211,8 @@ impl Walk {
         requires owns { Owns (C.sets conds.old) self.old }
         requires line { 0 < length line.now }
         ensures printable { OnOk result ((names : List (List ℕ)) → StaysHeld names line.now self.old self.new) }
-        ensures moved { OnOk result ((names : List (List ℕ)) → SimulatesStep names (C.sets conds.old) self.old (C.sets conds.new) self.new (λ files config m. refusing m (seen_line names files line.now) cause)) }
+        ensures moved { OnOk result ((standard : Standard) (names : List (List ℕ)) → SimulatesStep names (C.sets conds.old) self.old (C.sets conds.new) self.new
+            (λ files config m. refusing m (seen_line standard names files line.now) cause)) }
         ensures list { OnOk result (self.new.prepared.list ≡ self.old.prepared.list) }
         ensures gathered { OnOk result (self.new.gathered ≡ self.old.gathered) }
         ensures keeps { Keeps (C.sets conds.old) (C.sets conds.new) }
@@ -220,7 +224,8 @@ impl Walk {
     pub fn put<C: Conditions>(&mut self, conds: &C, line: &[Token]) -> Result<(), OutOfMemory>
         requires { Owns (C.sets conds.now) self.old }
         ensures printable { OnOk result ((names : List (List ℕ)) → StaysHeld names line.now self.old self.new) }
-        ensures moved { OnOk result ((names : List (List ℕ)) → SimulatesStep names (C.sets conds.now) self.old (C.sets conds.now) self.new (λ files config m. acting m (λ state. with_text state (seen_line names files line.now)))) }
+        ensures moved { OnOk result ((standard : Standard) (names : List (List ℕ)) → SimulatesStep names (C.sets conds.now) self.old (C.sets conds.now) self.new
+            (λ files config m. acting m (λ state. with_text state (seen_line standard names files line.now)))) }
         ensures none { IsNever (C.sets conds.now) self.old.acting.0 → self.new ≡ self.old }
         ensures gathers { OnOk result (GathersFrom line.now self.old self.new) }
     {

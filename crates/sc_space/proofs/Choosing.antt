@@ -13,7 +13,7 @@ use Rattle.std.specs.Prelude.{◌==◌, slice_index, slice_set}
 use Rattle.sc_model.specs.Bytes.{same_bytes}
 use Rattle.sc_model.specs.Sets.{HasOptions}
 use Rattle.sc_model.proofs.SpaceLemmas.{length-option_words}
-use Rattle.sc_model.specs.Space.{VariableOption, Variable, Space, arities_of, option_word, option_words, words_from, IsListed}
+use Rattle.sc_model.specs.Space.{Variable, Space, arities_of, option_word, option_words, words_from, IsListed}
 use Rattle.sc_space.specs.declared.config.Choice.{Choice}
 use Rattle.sc_space.specs.declared.space.Variable.{Variable as ReadVariable}
 use Rattle.sc_space.specs.Config.{split_word, variable_named, options_at, option_written, option_for, check_fresh, Fills, read_parts, read_choice, read_choices, config_of, read_config}

@@ -1,15 +1,16 @@
 -- The definition, computed on examples.
-use Rattle.std.proofs.Common.{◌≡◌, ℕ, List, [], ◌∷◌, codes, decimal, None, Some, Ok, Err, refl}
+use Rattle.std.proofs.Common.{◌≡◌, List, [], ◌∷◌, codes, decimal, None, Some, Ok, Err, refl}
 use Rattle.std.specs.Prelude.{⊤}
 use Rattle.std.specs.Str.{chars, is_utf8}
 use Rattle.sc_model.specs.Space.{undefined, number, text, Variable, Space}
 use Rattle.sc_space.specs.Texts.{Texts}
-use Rattle.sc_space.specs.Settings.{limit_of, directory_of, date_of}
-use Rattle.sc_space.specs.SpaceFile.{unknown_key, no_variables, bad_name, bad_option, repeated_option, not_toml, bad_limit, bad_include, bad_date, read_document, check_keys, variables_table, is_ascii_identifier, is_protected, read_option, read_each, read_options, are_different, read_variable, read_variables, read_limit, read_directories, read_include, read_date, with_settings, read_space}
+use Rattle.sc_space.specs.Settings.{limit_of, directory_of, date_of, standard_of}
+use Rattle.sc_space.specs.SpaceFile.{unknown_key, no_variables, bad_name, bad_option, repeated_option, not_toml, bad_limit, bad_include, bad_date, bad_standard, read_document, check_keys, variables_table, is_ascii_identifier, is_protected, read_option, read_each, read_options, are_different, read_variable, read_variables, read_limit, read_directories, read_include, read_date, read_standard, with_settings, read_space}
 use Rattle.toml.proofs.OnLiterals.{toml_on_literals}
+use Rattle.sc_model.specs.declared.standard.Standard.TheVariants.{C11, C23}
 
 unfoldable on_examples : ⊤
-unfolding toml_on_literals chars is_utf8 read_document check_keys variables_table is_ascii_identifier is_protected read_option read_each read_options are_different read_variable read_variables read_limit limit_of read_directories directory_of read_include read_date date_of with_settings read_space
+unfolding toml_on_literals chars is_utf8 read_document check_keys variables_table is_ascii_identifier is_protected read_option read_each read_options are_different read_variable read_variables read_limit limit_of read_directories directory_of read_include read_date date_of read_standard standard_of with_settings read_space
 on_examples = tt
 
 -- no text is an option
@@ -42,7 +43,7 @@ protected_name = refl
 
 -- the settings of a file that names none
 abbrev with_defaults : List Variable → Space
-with_defaults variables = record { variables = variables; include = []; branches = 4096; include_depth = 64; date = codes "Jan  1 1970"; time = codes "00:00:00" }
+with_defaults variables = record { variables = variables; include = []; branches = 4096; include_depth = 64; date = codes "Jan  1 1970"; time = codes "00:00:00"; standard = C11 }
 
 two_variables : read_space no_texts (codes "[variables]\nHZ = [\"undef\", 100]\nA = [0]\n")
     ≡ Ok (with_defaults (record { name = codes "A"; options = number 0 ∷ [] } ∷ record { name = codes "HZ"; options = undefined ∷ number 100 ∷ [] } ∷ []))
@@ -60,6 +61,18 @@ place_of_directory = refl
 date_with_quote : read_space no_texts (codes "time = 1\ndate = \"Jan \\\" 1970\"\n[variables]\n") ≡ Err (bad_date (codes "date"))
 unfolding on_examples
 date_with_quote = refl
+
+standard_last : read_space no_texts (codes "standard = 23\ntime = 1\n[variables]\n") ≡ Err (bad_date (codes "time"))
+unfolding on_examples
+standard_last = refl
+
+standard_of_gnu : read_space no_texts (codes "standard = \"gnu\"\n[variables]\n") ≡ Err bad_standard
+unfolding on_examples
+standard_of_gnu = refl
+
+standard_c23 : read_space no_texts (codes "standard = \"c23\"\n[variables]\n") ≡ Ok (record (with_defaults []) { standard = C23 })
+unfolding on_examples
+standard_c23 = refl
 
 -- every text is an option, with an empty list
 abbrev all_texts : Texts

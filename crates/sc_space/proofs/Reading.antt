@@ -1,5 +1,5 @@
 -- One step of each reading, over lists and members.
-use Rattle.std.proofs.Common.{◌≡◌, ℕ, suc, ◌&&◌, ◌||◌, not, add-one, drop, get_or, ◌+◌, ◌<◌, ◌≤◌, Bool, true, false, cond, List, [], ◌∷◌, ◌++◌, length, codes, decimal, map, Some, None, Result, Ok, Err, refl, sym, ap, ◌∙◌, append_assoc, rules, Decides}
+use Rattle.std.proofs.Common.{◌≡◌, ℕ, suc, ◌&&◌, ◌||◌, not, add-one, drop, get_or, ◌+◌, ◌<◌, ◌≤◌, Bool, false, List, [], ◌∷◌, ◌++◌, length, decimal, map, Some, None, Result, Ok, Err, refl, sym, ap, ◌∙◌, append_assoc, rules, Decides}
 use Rattle.std.proofs.lemmas.Bool.{false_from_ne_true, le-ltb, lt-ltb}
 use Rattle.std.proofs.lemmas.Bool.Decides.{same_from_decides}
 use Rattle.std.proofs.lemmas.List.{length-map}
@@ -20,7 +20,7 @@ use Rattle.sc_space.specs.Seen.{seen_option, seen_variable, Refuses}
 use Rattle.sc_space.specs.Texts.{Texts}
 use Rattle.sc_space.specs.Settings.{directory_of}
 use Rattle.sc_space.specs.SpaceFile.{Fault, not_toml, unknown_key, bad_include, too_many, ◌>>=◌, read_document, known_keys, check_keys, are_different, same_option, read_variable, read_variables, read_directories, check_number}
-use Rattle.toml.specs.Data.{Data, string, Items, item, Members, member}
+use Rattle.toml.specs.Data.{Data, Items, item, Members, member}
 use Rattle.toml.specs.Parse.{parse_document}
 
 same_bytes-Decides : (xs ys : List ℕ) → Decides (same_bytes xs ys) (xs ≡ ys)

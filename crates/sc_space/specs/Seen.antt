@@ -11,7 +11,7 @@ use Rattle.sc_space.specs.declared.option.VariableOption.{VariableOption}
 use Rattle.sc_space.specs.declared.option.VariableOption.TheVariants.{Undefined, Number, Text}
 use Rattle.sc_space.specs.declared.space.Space.{Space}
 use Rattle.sc_space.specs.declared.space.Variable.{Variable}
-use Rattle.sc_space.specs.SpaceFile.{Fault, too_large, not_toml, unknown_key, no_variables, bad_name, bad_option, repeated_option, too_many, bad_limit, bad_include, bad_date, unknown_variable, repeated_variable, unknown_option}
+use Rattle.sc_space.specs.SpaceFile.{Fault, too_large, not_toml, unknown_key, no_variables, bad_name, bad_option, repeated_option, too_many, bad_limit, bad_include, bad_date, bad_standard, unknown_variable, repeated_variable, unknown_option}
 
 abbrev pub seen_item : SpelledItem → Item
 seen_item i = record { kind = i.kind; spelling = i.spelling.items; space = i.space }
@@ -32,6 +32,7 @@ seen_space space = record {
   include_depth = space.limits.include_depth;
   date = string_bytes space.date;
   time = string_bytes space.time;
+  standard = space.standard;
 }
 
 abbrev pub seen_fault : SpaceFault → Fault
@@ -46,6 +47,7 @@ seen_fault fault.TooMany = too_many
 seen_fault (fault.BadLimit key) = bad_limit (string_bytes key)
 seen_fault (fault.BadInclude place) = bad_include (string_bytes place)
 seen_fault (fault.BadDate key) = bad_date (string_bytes key)
+seen_fault fault.BadStandard = bad_standard
 seen_fault (fault.UnknownVariable name) = unknown_variable (string_bytes name)
 seen_fault (fault.RepeatedVariable name) = repeated_variable (string_bytes name)
 seen_fault (fault.UnknownOption name) = unknown_option (string_bytes name)

@@ -1,7 +1,9 @@
 -- The settings of a run, as values of a space file give them.
-use Rattle.std.specs.Prelude.{ℕ, ◌==◌, ◌&&◌, not, nat_le, Bool, List, length, pos, Option, Some, None, if◌then◌else◌}
+use Rattle.std.specs.Prelude.{ℕ, ◌==◌, ◌&&◌, not, nat_le, Bool, List, length, codes, pos, Option, Some, None, if◌then◌else◌}
 use Rattle.std.specs.List.{list_all}
-use Rattle.sc_model.specs.Bytes.{is_between}
+use Rattle.sc_model.specs.Bytes.{is_between, same_bytes}
+use Rattle.sc_model.specs.declared.standard.Standard.{Standard}
+use Rattle.sc_model.specs.declared.standard.Standard.TheVariants.{C11, C23}
 use Rattle.toml.specs.Data.{Data, string, integer}
 
 -- what the value says, or the default where there is none
@@ -31,3 +33,11 @@ is_date_byte b = is_between 32 126 b && not (b == 34) && not (b == 92)
 unfoldable pub date_of : ℕ → Data → Option (List ℕ)
 date_of size (string text) = if (length text == size) && list_all is_date_byte text then Some text else None
 date_of size _ = None
+
+abbrev pub standard_named : List ℕ → Option Standard
+standard_named name = if same_bytes name (codes "c11") then Some C11 else (if same_bytes name (codes "c23") then Some C23 else None)
+
+-- the text that names a standard
+unfoldable pub standard_of : Data → Option Standard
+standard_of (string name) = standard_named name
+standard_of _ = None

@@ -6,8 +6,10 @@ use Rattle.std.specs.Str.{is_utf8}
 use Rattle.sc_model.specs.Bytes.{same_bytes, is_between, is_digit}
 use Rattle.sc_model.specs.Outside.{largest_file}
 use Rattle.sc_model.specs.Space.{VariableOption, undefined, number, text, Variable, Space}
+use Rattle.sc_model.specs.declared.standard.Standard.{Standard}
+use Rattle.sc_model.specs.declared.standard.Standard.TheVariants.{C11}
 use Rattle.c11_macros.specs.Macros.{predefined_names}
-use Rattle.sc_space.specs.Settings.{setting, limit_of, directory_of, date_of}
+use Rattle.sc_space.specs.Settings.{setting, limit_of, directory_of, date_of, standard_of}
 use Rattle.sc_space.specs.Texts.{Texts}
 use Rattle.toml.specs.Data.{Data, string, integer, array, Items, no_items, item, Members, no_members, member, as_table, get_member}
 use Rattle.toml.specs.Parse.{parse_document}
@@ -25,6 +27,7 @@ pub data Fault : Type 0 where
   bad_limit : (key : List ℕ) → Fault
   bad_include : (place : List ℕ) → Fault
   bad_date : (key : List ℕ) → Fault
+  bad_standard : Fault
   unknown_variable : (name : List ℕ) → Fault
   repeated_variable : (name : List ℕ) → Fault
   unknown_option : (name : List ℕ) → Fault
@@ -44,7 +47,7 @@ read_document bytes =
 
 -- the keys that a space file may have
 abbrev pub known_keys : List (List ℕ)
-known_keys = codes "variables" ∷ codes "include" ∷ codes "branches" ∷ codes "include_depth" ∷ codes "date" ∷ codes "time" ∷ []
+known_keys = codes "variables" ∷ codes "include" ∷ codes "branches" ∷ codes "include_depth" ∷ codes "date" ∷ codes "time" ∷ codes "standard" ∷ []
 
 -- the first key that is not known is at fault
 unfoldable pub check_keys : Members → Result (Unit {0}) Fault
@@ -145,6 +148,9 @@ read_include document = directories_of (get_member (codes "include") document)
 unfoldable pub read_date : List ℕ → ℕ → List ℕ → Members → Result (List ℕ) Fault
 read_date key size default document = ok_or (setting default (date_of size) (get_member key document)) (bad_date key)
 
+unfoldable pub read_standard : Members → Result Standard Fault
+read_standard document = ok_or (setting C11 standard_of (get_member (codes "standard") document)) bad_standard
+
 -- the variables with the settings that the file gives, or their defaults
 unfoldable pub with_settings : List Variable → Members → Result Space Fault
 with_settings variables document = do
@@ -153,7 +159,8 @@ with_settings variables document = do
   include ← read_include document
   date ← read_date (codes "date") 11 (codes "Jan  1 1970") document
   time ← read_date (codes "time") 8 (codes "00:00:00") document
-  Ok (record { variables = variables; include = include; branches = branches; include_depth = include_depth; date = date; time = time })
+  standard ← read_standard document
+  Ok (record { variables = variables; include = include; branches = branches; include_depth = include_depth; date = date; time = time; standard = standard })
 
 -- at most 1,024 variables
 abbrev pub check_number : List Variable → Result (Unit {0}) Fault
@@ -182,6 +189,7 @@ name_of too_many = codes "TooMany"
 name_of (bad_limit key) = codes "BadLimit"
 name_of (bad_include place) = codes "BadInclude"
 name_of (bad_date key) = codes "BadDate"
+name_of bad_standard = codes "BadStandard"
 name_of (unknown_variable name) = codes "UnknownVariable"
 name_of (repeated_variable name) = codes "RepeatedVariable"
 name_of (unknown_option name) = codes "UnknownOption"
@@ -198,6 +206,7 @@ item_of too_many = None
 item_of (bad_limit key) = Some key
 item_of (bad_include place) = Some place
 item_of (bad_date key) = Some key
+item_of bad_standard = None
 item_of (unknown_variable name) = Some name
 item_of (repeated_variable name) = Some name
 item_of (unknown_option name) = Some name

@@ -42,6 +42,9 @@ pub enum SpaceFault {
     /// The value of the key is no date or time of its length.
     #[error("bad {0}")]
     BadDate(String),
+    /// The value of `standard` names no standard that there is.
+    #[error("bad standard")]
+    BadStandard,
     /// The word names no variable. It is told whole where it has no `=`.
     #[error("unknown variable {0}")]
     UnknownVariable(String),
@@ -74,6 +77,7 @@ impl SpaceFault {
             SpaceFault::BadLimit(_) => "BadLimit",
             SpaceFault::BadInclude(_) => "BadInclude",
             SpaceFault::BadDate(_) => "BadDate",
+            SpaceFault::BadStandard => "BadStandard",
             SpaceFault::UnknownVariable(_) => "UnknownVariable",
             SpaceFault::RepeatedVariable(_) => "RepeatedVariable",
             SpaceFault::UnknownOption(_) => "UnknownOption",
@@ -98,7 +102,8 @@ impl SpaceFault {
             SpaceFault::TooLarge
             | SpaceFault::NotToml
             | SpaceFault::NoVariables
-            | SpaceFault::TooMany => None,
+            | SpaceFault::TooMany
+            | SpaceFault::BadStandard => None,
         }
     }
 }

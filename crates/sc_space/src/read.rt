@@ -50,7 +50,7 @@ fn is_known_key(key: &str) -> bool
 {
     matches!(
         key,
-        "variables" | "include" | "branches" | "include_depth" | "date" | "time"
+        "variables" | "include" | "branches" | "include_depth" | "date" | "time" | "standard"
     )
 }
 

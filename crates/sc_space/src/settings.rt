@@ -2,14 +2,15 @@
 ghost use Rattle.std.specs.Prelude.{◌≡◌, map, string_bytes, option_copied, decimal, nat_le, IfOk};
 ghost use Rattle.std.specs.List.{list_all};
 ghost use Rattle.sc_space.specs.Seen.{seen_space, seen_variable, seen_fault, Answers};
-ghost use Rattle.sc_space.specs.Settings.{limit_of, is_directory, directory_of, is_date_byte, date_of};
-ghost use Rattle.sc_space.specs.SpaceFile.{bad_include, read_limit, read_directories, read_include, read_date, with_settings};
+ghost use Rattle.sc_space.specs.Settings.{limit_of, is_directory, directory_of, is_date_byte, date_of, standard_named, standard_of};
+ghost use Rattle.sc_space.specs.SpaceFile.{bad_include, read_limit, read_directories, read_include, read_date, read_standard, with_settings};
 ghost use Rattle.toml.specs.View.{view, items_view, table_view};
 
 use crate::read::value_at;
 use crate::{Space, SpaceFault, SpaceStop, Variable};
 use itoa::Buffer;
-use sc_base::{Limits, OutOfMemory};
+use sc_base::{Limits, OutOfMemory, is_same};
+use sc_model::Standard;
 use std::alloc::Global;
 use toml::{Table, Value};
 
@@ -27,6 +28,7 @@ pub(crate) fn with_settings(
     let include = read_include(alloc, document)?;
     let date = read_date(alloc, document, "date", 11, "Jan  1 1970")?;
     let time = read_date(alloc, document, "time", 8, "00:00:00")?;
+    let standard = read_standard(document)?;
     Ok(Space {
         variables,
         include,
@@ -36,6 +38,7 @@ pub(crate) fn with_settings(
         },
         date,
         time,
+        standard,
     })
 }
 
@@ -176,4 +179,38 @@ fn is_date_byte(byte: u8) -> bool
     ensures { result ≡ is_date_byte byte }
 {
     matches!(byte, b' '..=b'~') && byte != b'"' && byte != b'\\'
+}
+
+/// The standard that the file names.
+#[tactic(auto, unfolding(crate::specs::SpaceFile::read_standard))]
+fn read_standard(document: &Table) -> Result<Standard, SpaceStop>
+    ensures { Answers (λ standard. standard) result (read_standard (table_view document.now)) }
+{
+    let Some(value) = value_at(document, "standard") else {
+        return Ok(Standard::C11);
+    };
+    match standard_of(value) {
+        Some(standard) => Ok(standard),
+        None => Err(SpaceStop::Fault(SpaceFault::BadStandard)),
+    }
+}
+
+#[tactic(auto, unfolding(crate::specs::Settings::standard_of))]
+fn standard_of(value: &Value) -> Option<Standard>
+    ensures { result ≡ standard_of (view value.now) }
+{
+    let name = value.as_str()?;
+    standard_named(name.as_bytes())
+}
+
+fn standard_named(name: &[u8]) -> Option<Standard>
+    ensures { result ≡ standard_named name.now }
+{
+    if is_same(name, b"c11") {
+        Some(Standard::C11)
+    } else if is_same(name, b"c23") {
+        Some(Standard::C23)
+    } else {
+        None
+    }
 }

@@ -1,6 +1,7 @@
 use crate::variables::{MOST_VARIABLES, read_variables};
 use crate::{SpaceFault, SpaceStop, VariableOption, read, settings};
 use sc_base::Limits;
+use sc_model::Standard;
 use std::alloc::Global;
 
 /// A configuration variable: the name of a macro, and what it may start as.
@@ -22,6 +23,8 @@ pub struct Space {
     pub date: String,
     /// What `__TIME__` stands for, 8 bytes.
     pub time: String,
+    /// The standard by which files are read.
+    pub standard: Standard,
 }
 
 impl Space {
@@ -34,7 +37,7 @@ impl Space {
     /// Reads a space file, which is TOML 1.1: the table `variables` gives each variable the list of
     /// its options, each the text `undef`, a whole number from 0, or another text, which is the
     /// replacement list of a macro without arguments. The keys `include`, `branches`,
-    /// `include_depth`, `date` and `time` are settings.
+    /// `include_depth`, `date`, `time` and `standard` are settings.
     pub fn read(alloc: Global, bytes: &[u8]) -> Result<Space, SpaceStop>
         ensures answer { (texts : Texts) → AreTexts texts → Answers seen_space result (read_space texts bytes.now) }
         ensures sound { IfOk result (λ s. IsSound (seen_space s)) }

@@ -9,9 +9,10 @@ use Rattle.sc_model.specs.Space as model
 use Rattle.sc_model.specs.Space.{Space}
 use Rattle.sc_model.specs.Token.{Shown}
 use Rattle.sc_text.specs.Text.{TextLine, condition_line, file_line, token_line, end_line, line_text, Printed, condition_numbered, file_numbered, answer_said, Reading, nothing_read, read_lines, numeral}
+use Rattle.sc_model.specs.declared.standard.Standard.TheVariants.{C11}
 
 abbrev space : Space
-space = record { variables = record { name = codes "A"; options = model.undefined ∷ model.number 1 ∷ [] } ∷ []; include = []; branches = 4096; include_depth = 64; date = []; time = [] }
+space = record { variables = record { name = codes "A"; options = model.undefined ∷ model.number 1 ∷ [] } ∷ []; include = []; branches = 4096; include_depth = 64; date = []; time = []; standard = C11 }
 
 abbrev place : ℕ → Printed
 place line = record { file = 0; position = record { line = line; column = 1 } }

@@ -1,6 +1,7 @@
 use sc_base::{FileId, Names};
 use sc_if::{Value, evaluate};
 use sc_lex::tokens;
+use sc_model::Standard;
 use std::alloc::Global;
 use std::test::Fail;
 
@@ -9,7 +10,7 @@ fn value_of(alloc: Global, line: &[u8]) -> Result<Value, Fail> {
     let mut names = Names::new(alloc)?;
     let mut tokens = tokens(alloc, FileId(0), line, &mut names)?;
     let _newline = tokens.pop();
-    Ok(evaluate(alloc, &tokens, &names)?)
+    Ok(evaluate(alloc, &tokens, &names, Standard::C11)?)
 }
 
 /// Operators by their precedence, and a comparison of unsigned numbers.

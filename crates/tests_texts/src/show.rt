@@ -9,6 +9,7 @@ use sc_grammar::terminal::{ELSE, END, IF, SEMICOLON};
 use sc_guarded::Guarded;
 use sc_items::states;
 use sc_lalr::build;
+use sc_model::Standard;
 use sc_presence::{Conditions, PlainSets};
 use sc_show::{show_conflicts, show_tokens};
 use sc_space::{Space, Variable, VariableOption};
@@ -78,6 +79,7 @@ fn space(alloc: Global) -> Result<Space, OutOfMemory>
         },
         date: String::new(alloc),
         time: String::new(alloc),
+        standard: Standard::C11,
     })
 }
 

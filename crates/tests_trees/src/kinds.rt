@@ -1,7 +1,7 @@
 use lr_tables::Terminal;
 use sc_grammar::terminal;
 use sc_kinds::terminal as terminal_of;
-use sc_model::Kind;
+use sc_model::{Kind, Standard};
 
 /// Tokens with the terminal that each is first (C11 6.4).
 const TERMINALS: [(Kind, &[u8], Option<Terminal>); 16] = [
@@ -135,7 +135,11 @@ const OF_DIRECTIVES: [&[u8]; 4] = [b"#", b"##", b"%:", b"%:%:"];
 #[test]
 fn terminals_of_tokens(rt: HostRuntime) {
     for (kind, spelling, expected) in TERMINALS {
-        assert_eq!(rt; terminal_of(kind, spelling), expected, "{spelling:?}");
+        assert_eq!(rt;
+            terminal_of(kind, spelling, Standard::C11),
+            expected,
+            "{spelling:?}"
+        );
     }
 }
 
@@ -143,7 +147,7 @@ fn terminals_of_tokens(rt: HostRuntime) {
 fn terminals_of_keywords(rt: HostRuntime) {
     for (spelling, expected) in KEYWORDS {
         assert_eq!(rt;
-            terminal_of(Kind::Identifier, spelling),
+            terminal_of(Kind::Identifier, spelling, Standard::C11),
             Some(expected),
             "{spelling:?}"
         );
@@ -154,14 +158,14 @@ fn terminals_of_keywords(rt: HostRuntime) {
 fn terminals_of_punctuators(rt: HostRuntime) {
     for (spelling, expected) in PUNCTUATORS {
         assert_eq!(rt;
-            terminal_of(Kind::Punctuator, spelling),
+            terminal_of(Kind::Punctuator, spelling, Standard::C11),
             Some(expected),
             "{spelling:?}"
         );
     }
     for spelling in OF_DIRECTIVES {
         assert_eq!(rt;
-            terminal_of(Kind::Punctuator, spelling),
+            terminal_of(Kind::Punctuator, spelling, Standard::C11),
             None,
             "{spelling:?}"
         );

@@ -1,4 +1,4 @@
-use Rattle.std.proofs.Common.{◌≡◌, ◌∙◌, ◌++◌, [], true, false, add-one, ap, arith, get_or, slice_get, Some, subst, sym, take, take_all}
+use Rattle.std.proofs.Common.{◌∙◌, ◌++◌, add-one, ap, arith, get_or, sym, take, take_all}
 use Rattle.std.proofs.lemmas.Option.{slice_get-get_or}
 use Rattle.sc_base.specs.declared.fault.Fault.{Fault}
 use Rattle.sc_core.proofs.SummaryLemmas.{none-had}

@@ -1,11 +1,11 @@
-use Rattle.std.proofs.Common.{◌≡◌, ◌∙◌, Some, ap, refl, subst, sym}
+use Rattle.std.proofs.Common.{◌∙◌, Some, ap, refl, subst, sym}
 use Rattle.std.specs.Prelude.{not}
 use Rattle.sc_core.proofs.Failing.{held_or, may-hold}
 use Rattle.sc_core.proofs.MadeSpaces.{made-sound}
 use Rattle.sc_core.proofs.summaries.make_text.Goals as goal
 use Rattle.sc_core.specs.Made.{holds_of, made_files, made_name, made_space}
 use Rattle.sc_core.specs.Ordinary.{HasManyBranches}
-use Rattle.sc_core.specs.Outcome.{IsSummaryText}
+use Rattle.sc_core.specs.CommandTexts.{IsSummaryText}
 use Rattle.sc_core.specs.RunError.{branches_line}
 use Rattle.sc_core.specs.Texts.{StopsIn, lines_of, setting_of}
 use Rattle.sc_model.specs.Outside.{Files}

@@ -1,4 +1,4 @@
-use Rattle.std.proofs.Common.{◌≡◌, ◌∙◌, ℕ, true, List, All, Some, inl, sym, subst}
+use Rattle.std.proofs.Common.{◌≡◌, ◌∙◌, ℕ, true, List, All, Some, inl, refl, sym, subst}
 use Rattle.std.proofs.lemmas.List.Elements.{All-weaker}
 use Rattle.std.proofs.lemmas.Result.{err_from_is_err_and}
 use Rattle.sc_base.specs.declared.id.Cond.{Cond}
@@ -46,11 +46,11 @@ returns-in_err-parsed-clause-stops g c =
     let main = c.args.file.now in
     let arities = made.keeps.arities ∙ c.requires.arities in
     let p = err_from_is_err_and c.from_residual-in_err-parsed.result c.from_residual-in_err-parsed.ensures.1 in
-    rw (p.1, p.2) (stops-in s names files prepared tables are shown space main (g.S.Source.holds c.args.src.now) _ _ arities
-    (λ outside holds. file-input s names files prepared tables are shown space main outside arities
+    rw (p.1, p.2) (stops-in s names files prepared tables c.args.space.now.standard are shown space refl main (g.S.Source.holds c.args.src.now) _ _ arities
+    (λ outside holds. file-input s names files prepared tables c.args.space.now.standard are shown space main outside arities
     (λ config listed. ordinary-told made.ordinary outside holds config (subst (λ ns. IsConfig ns config) made.keeps.arities listed))
     (λ bytes held config listed live. ends-told made.ordinary outside holds bytes config held (subst (λ ns. IsConfig ns config) made.keeps.arities listed) live))
-    c.in_err-parsed.field-0.0 (c.in_err-parsed.ensures.stops files (listed_input s names files prepared tables are shown) (is-listed-input s names files prepared tables are shown c.new-trees.result)))
+    c.in_err-parsed.field-0.0 (c.in_err-parsed.ensures.stops files (listed_input s names files prepared tables c.args.space.now.standard are shown) (is-listed-input s names files prepared tables c.args.space.now.standard are shown c.new-trees.result)))
 
 pub returns-in_err-parsed-clause-keeps : goal.returns-in_err-parsed-clause-keeps
 returns-in_err-parsed-clause-keeps g c = Keeps-trans c.preprocess.ensures.keeps c.parse.ensures.keeps
@@ -70,16 +70,16 @@ returns-clause-shown g c =
     let made = c.in_ok-prepared.ensures in
     let shown = made.shown c.requires.paths c.requires.plain in
     let parsed = c.in_ok-parsed.parsed in
-    let is = is-input s names files prepared tables are shown c.new-trees.result in
-    let parse = c.in_ok-parsed.ensures.parse files (input s names files prepared tables are shown) is in
-    let schedule = c.in_ok-parsed.ensures.schedule files (input s names files prepared tables are shown) is in
+    let is = is-input s names files prepared tables c.args.space.now.standard are shown c.new-trees.result in
+    let parse = c.in_ok-parsed.ensures.parse files (input s names files prepared tables c.args.space.now.standard are shown) is in
+    let schedule = c.in_ok-parsed.ensures.schedule files (input s names files prepared tables c.args.space.now.standard are shown) is in
     let items = c.in_ok-append.ensures.items in
     record {
       leaves = parsed-leaves shown (subst (λ (old : List Line). AddsLeaves prepared.list old c.parse.new.trees) c.new-trees.ensures c.in_ok-parsed.ensures.leaves);
       branches = c.parse.ensures.owns;
       root = c.in_ok-parsed.ensures.own.root;
       faults = subst (All (IsShowableFault new files)) (sym items) (parsed-faults shown c.parse.ensures.keeps c.in_ok-parsed.ensures.own made.end_held);
-      apart = subst (AreApart new) (sym items) (parsed-apart s new c.parse.ensures.keeps names files prepared tables are shown made.owns c.parse.new.trees parsed parsed.events.items parse schedule
+      apart = subst (AreApart new) (sym items) (parsed-apart s new c.parse.ensures.keeps names files prepared tables c.args.space.now.standard are shown made.owns c.parse.new.trees parsed parsed.events.items parse schedule
           (λ config listed. made.live config (subst (λ ns. IsConfig ns config) made.keeps.arities listed)));
       paths = shown.paths;
     }
@@ -96,9 +96,9 @@ returns-clause-translated g c =
     let made = c.in_ok-prepared.ensures in
     let shown = made.shown c.requires.paths c.requires.plain in
     let parsed = c.in_ok-parsed.parsed in
-    let is = is-input s names files prepared tables are shown c.new-trees.result in
-    let parse = c.in_ok-parsed.ensures.parse files (input s names files prepared tables are shown) is in
-    let schedule = c.in_ok-parsed.ensures.schedule files (input s names files prepared tables are shown) is in
+    let is = is-input s names files prepared tables c.args.space.now.standard are shown c.new-trees.result in
+    let parse = c.in_ok-parsed.ensures.parse files (input s names files prepared tables c.args.space.now.standard are shown) is in
+    let schedule = c.in_ok-parsed.ensures.schedule files (input s names files prepared tables c.args.space.now.standard are shown) is in
     let space = seen_space c.args.space.now in
     let main = c.args.file.now in
     let arities = made.keeps.arities ∙ c.requires.arities in
@@ -107,17 +107,17 @@ returns-clause-translated g c =
     made.ordinary.ends bytes config held (subst (λ ns. IsConfig ns config) made.keeps.arities listed) live in
     subst (λ faults. AreTranslated (g.S.Source.holds c.args.src.now) space main (tables_with new c.parse.new.trees names files) parsed.root faults parsed.classes) (sym c.in_ok-append.ensures.items)
     (record {
-      parser = c11-parser are;
-      c11 = c11-is are;
+      parser = c11-parser c.args.space.now.standard are;
+      c11 = c11-is c.args.space.now.standard are;
       files = made.ordinary.outside;
       held = made.ordinary.held;
-      each = translated-at s new c.parse.ensures.keeps names files prepared tables are shown made.owns c.parse.new.trees parsed parsed.events.items parse schedule space main made.ordinary.outside
+      each = translated-at s new c.parse.ensures.keeps names files prepared tables c.args.space.now.standard are shown made.owns c.parse.new.trees parsed parsed.events.items parse schedule space main made.ordinary.outside
           arities ordinary ends;
       classes = record {
-        c11 = c11-is are;
-        input = listed_input s names files prepared tables are shown;
-        is_input = file-input s names files prepared tables are shown space main made.ordinary.outside arities ordinary ends;
-        most_are = (c.in_ok-parsed.ensures.parse files (listed_input s names files prepared tables are shown) (is-listed-input s names files prepared tables are shown c.new-trees.result)).classes;
+        c11 = c11-is c.args.space.now.standard are;
+        input = listed_input s names files prepared tables c.args.space.now.standard are shown;
+        is_input = file-input s names files prepared tables c.args.space.now.standard are shown space main made.ordinary.outside arities ordinary ends;
+        most_are = (c.in_ok-parsed.ensures.parse files (listed_input s names files prepared tables c.args.space.now.standard are shown) (is-listed-input s names files prepared tables c.args.space.now.standard are shown c.new-trees.result)).classes;
       };
       few = c.in_ok-parsed.ensures.few;
     })
@@ -134,12 +134,12 @@ returns-clause-answered g c =
     let made = c.in_ok-prepared.ensures in
     let shown = made.shown c.requires.paths c.requires.plain in
     let parsed = c.in_ok-parsed.parsed in
-    let is = is-input s names files prepared tables are shown c.new-trees.result in
-    let parse = c.in_ok-parsed.ensures.parse files (input s names files prepared tables are shown) is in
-    let schedule = c.in_ok-parsed.ensures.schedule files (input s names files prepared tables are shown) is in
+    let is = is-input s names files prepared tables c.args.space.now.standard are shown c.new-trees.result in
+    let parse = c.in_ok-parsed.ensures.parse files (input s names files prepared tables c.args.space.now.standard are shown) is in
+    let schedule = c.in_ok-parsed.ensures.schedule files (input s names files prepared tables c.args.space.now.standard are shown) is in
     let lines = c.parse.new.trees in
     subst (HasAnswers (tables_with new lines names files) parsed.root) (sym c.in_ok-append.ensures.items)
-    (parsed-answers s new c.parse.ensures.keeps names files prepared tables are shown made.owns lines parsed parsed.events.items parse schedule
+    (parsed-answers s new c.parse.ensures.keeps names files prepared tables c.args.space.now.standard are shown made.owns lines parsed parsed.events.items parse schedule
     (λ config listed. made.live config (subst (λ ns. IsConfig ns config) made.keeps.arities listed)))
 
 pub returns-clause-keeps : goal.returns-clause-keeps
@@ -154,4 +154,4 @@ returns-clause-choices g c =
     let tables = c.in_ok-tables.tables in
     let are = c.in_ok-tables.ensures in
     let shown = c.in_ok-prepared.ensures.shown c.requires.paths c.requires.plain in
-    c.in_ok-parsed.ensures.choices files (input s names files prepared tables are shown) (is-input s names files prepared tables are shown c.new-trees.result) (no-choices s c.new-trees.result c.new-trees.ensures)
+    c.in_ok-parsed.ensures.choices files (input s names files prepared tables c.args.space.now.standard are shown) (is-input s names files prepared tables c.args.space.now.standard are shown c.new-trees.result) (no-choices s c.new-trees.result c.new-trees.ensures)

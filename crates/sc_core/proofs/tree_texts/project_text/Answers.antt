@@ -9,8 +9,10 @@ use Rattle.sc_core.proofs.Telling.{name-plain}
 use Rattle.sc_core.proofs.tree_texts.project_text.Goals as goal
 use Rattle.sc_core.specs.Cut.{first_config}
 use Rattle.sc_core.specs.Ordinary.{HasManyBranches}
-use Rattle.sc_core.specs.Outcome.{HasNoFault, IsTranslation, Tells, job_of}
+use Rattle.sc_core.specs.CommandTexts.{HasNoFault, IsTranslation, Tells}
+use Rattle.sc_core.specs.Outcome.{job_of}
 use Rattle.sc_core.specs.Texts.{StopsIn, lines_of, setting_of}
+use Rattle.sc_fork.specs.Parsers.{IsC11Parser}
 use Rattle.sc_model.specs.Outside.{Rose}
 use Rattle.sc_model.specs.Sets.{IsConfig}
 use Rattle.sc_model.specs.Space.{IsListed, Space, arities_of}
@@ -84,7 +86,7 @@ returns-in-Ok-clause-text g c =
         answer = answer;
         text = subst (λ (only : Space). IsTextOf only (lines_of text) answer) is tells.text_of;
         verdict = subst (λ (only : Space). Tells (not text.is_refused) (HasNoFault only answer)) is tells.verdict;
-        c11 = tells.c11;
+        c11 = subst (λ (only : Space). IsC11Parser only.standard tells.parser) is tells.c11;
         right = projected setting config listed answer (not text.is_refused) told.result same plain
             (subst (λ (only : Space). IsTranslation (record setting { space = only }) answer (not text.is_refused)) is tells.right);
       };

@@ -22,7 +22,7 @@ returns-in_err-readings-clause-refused g c =
     let found = c.having_defined.ensures.keeps in
     let keeps = Keeps-trans found c.without.ensures.keeps in
     let p = err_from_is_err_and c.from_residual-in_err-readings.result c.from_residual-in_err-readings.ensures.1 in
-    rw (p.1, p.2) (refuses-before c.args.names.now c.args.list.now ((g.C.Conditions.sets c.args.conds.now).has c.args.live.0) ((g.C.Conditions.sets c.without.new.conds).has c.in_ok-rest.rest.0) c.args.limit keeps c.requires.own
+    rw (p.1, p.2) (refuses-before c.args.standard c.args.names.now c.args.list.now ((g.C.Conditions.sets c.args.conds.now).has c.args.live.0) ((g.C.Conditions.sets c.without.new.conds).has c.in_ok-rest.rest.0) c.args.limit keeps c.requires.own
     (λ x listed has. sym (found.at _ x c.requires.live_own listed) ∙ left-true _ _ (sym (c.in_ok-rest.ensures.meaning x (IsConfig-Keeps found listed)) ∙ has)) _ c.in_err-readings.ensures.refused)
   where
     left-true : (a b : Bool) → (a && b) ≡ true → a ≡ true
@@ -57,7 +57,7 @@ returns-then-is_never-clause-answers g c =
     let own = c.in_ok-left_over.ensures.own in
     let same = λ (x : List ℕ) (listed : IsConfig old.arities x). found.at c.args.live.0 x c.requires.live_own listed in
     let told = c.in_ok-left_over.ensures.meaning in
-    subst (λ (l : List Answer). AreAnswers old new c.args.names.now c.args.list.now c.args.live.0 l) (sym c.in_ok-answers.ensures)
+    subst (λ (l : List Answer). AreAnswers c.args.standard old new c.args.names.now c.args.list.now c.args.live.0 l) (sym c.in_ok-answers.ensures)
     (answers-none c.args.live.0 left (Keeps-trans found c.without.ensures.keeps) c.read_line.ensures.keeps c.requires.own (later.own _ own)
     (λ x listed. later.at _ x own (IsConfig-Keeps found listed) ∙ told x listed)
     (λ x listed. c.in_ok-rest.ensures.meaning x (IsConfig-Keeps found listed) ∙ ((λ j. same x listed j && not (told x listed j)) ∙ and-not (old.has c.args.live.0 x) _))
@@ -73,7 +73,7 @@ returns-clause-answers g c =
     let own = c.in_ok-left_over.ensures.own in
     let same = λ (x : List ℕ) (listed : IsConfig old.arities x). found.at c.args.live.0 x c.requires.live_own listed in
     let told = c.in_ok-left_over.ensures.meaning in
-    subst (λ (l : List Answer). AreAnswers old new c.args.names.now c.args.list.now c.args.live.0 l) (sym {A = List Answer} (c.in_ok-push.ensures.items ∙ ap (λ (l : List Answer). l ++ (left, Err DefinedFromMacro) ∷ []) c.in_ok-answers.ensures))
+    subst (λ (l : List Answer). AreAnswers c.args.standard old new c.args.names.now c.args.list.now c.args.live.0 l) (sym {A = List Answer} (c.in_ok-push.ensures.items ∙ ap (λ (l : List Answer). l ++ (left, Err DefinedFromMacro) ∷ []) c.in_ok-answers.ensures))
     (answers-some c.args.live.0 left (Keeps-trans found c.without.ensures.keeps) c.read_line.ensures.keeps c.requires.own (later.own _ own)
     (λ x listed. later.at _ x own (IsConfig-Keeps found listed) ∙ told x listed)
     (λ x listed. c.in_ok-rest.ensures.meaning x (IsConfig-Keeps found listed) ∙ ((λ j. same x listed j && not (told x listed j)) ∙ and-not (old.has c.args.live.0 x) _))

@@ -1,5 +1,6 @@
 use Rattle.std.proofs.Common.{◌≡◌, ◌<◌, ◌≤◌, ◌*◌, ◌+◌, true, false, length, get_or, drop, sym, ap, ◌∙◌, arith, rules}
-use Rattle.c11_expressions.specs.Constants.{digit_value, is_digit_in, number_behind, radix}
+use Rattle.c11_expressions.specs.Constants.{digit_value, number_behind, radix}
+use Rattle.c11_tokens.specs.Constants.{is_digit_in}
 use Rattle.sc_if.proofs.Numbers.{at_digit, at_end, at_other, behind_more}
 use Rattle.sc_if.proofs.integer.number.Goals as goal
 

@@ -13,7 +13,7 @@ use Rattle.sc_if.proofs.readings.read_line.Goals as goal
 pub loop-index-init : goal.loop-index-init
 loop-index-init g c = record {
   keeps = Keeps-refl (g.C.Conditions.sets c.args.conds.now);
-  read = c.in_ok-readings.ensures c.args.names.now;
+  read = c.in_ok-readings.ensures c.args.standard c.args.names.now;
 }
 
 pub symbol_at-symbol-requires : goal.symbol_at-symbol-requires
@@ -56,7 +56,7 @@ loop-index-preserved g c =
     let more = read-more list i x (omega (arith, c.loop-index-test.true, c.len-index-end.ensures)) (sym is) was.keeps own c.symbol_at-symbol.ensures was.read c.in_ok-next.ensures.moved in
     record {
       keeps = Keeps-trans was.keeps c.advance.ensures.keeps;
-      read = subst (λ (l : List Entry). AreReadings s new c.args.names.now (take (i + 1) list) c.args.live.0 l) (sym c.in_ok-append.ensures.items) more;
+      read = subst (λ (l : List Entry). AreReadings c.args.standard s new c.args.names.now (take (i + 1) list) c.args.live.0 l) (sym c.in_ok-append.ensures.items) more;
     }
 
 pub returns-then-len-limit-clause-refused : goal.returns-then-len-limit-clause-refused

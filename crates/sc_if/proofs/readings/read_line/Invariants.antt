@@ -9,5 +9,5 @@ invariant-loop-index g l =
     let now = g.C.Conditions.sets l.conds in
     record {
       keeps : Keeps old now;
-      read : AreReadings old now l.names (take l.index l.list) l.fn.live.0 l.readings.items;
+      read : AreReadings l.standard old now l.names (take l.index l.list) l.fn.live.0 l.readings.items;
     }

@@ -15,7 +15,7 @@ returns c =
     sym (append-nil (map (tokens_of tokens) lines)) ∙ (ap (λ ts. map (tokens_of tokens) lines ++ token_lines ts) (sym past) ∙ c.loop-first.invariant.tokens_are) in
     record {
       tokens_are = all;
-      directives = c.loop-first.invariant.directives ∙ (sym (map-map (directive_at c.args.names.now) (tokens_of tokens) lines) ∙ ap (map (directive_at c.args.names.now)) all);
+      directives = c.loop-first.invariant.directives ∙ (sym (map-map (directive_at c.args.standard c.args.names.now) (tokens_of tokens) lines) ∙ ap (map (directive_at c.args.standard c.args.names.now)) all);
       within = c.loop-first.invariant.within;
       follow = c.loop-first.invariant.follow;
     }

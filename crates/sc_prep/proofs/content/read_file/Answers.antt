@@ -12,9 +12,9 @@ returns-in_default-clause-reading g c =
 pub returns-clause-reading : goal.returns-clause-reading
 returns-clause-reading g c =
     let names = c.read_content.new.names in
-    subst (λ x. IsReading names c.args.files.now (g.S.Source.holds c.args.src.now) c.args.file (Some x)) (sym c.in_ok-new.ensures.ok)
+    subst (λ x. IsReading c.args.standard names c.args.files.now (g.S.Source.holds c.args.src.now) c.args.file (Some x)) (sym c.in_ok-new.ensures.ok)
     (reads-content c.args.files.now c.args.file c.text.result.now c.text.ensures names c.in-Some.bytes.items c.in_ok-content.content
     (λ held is. sym (ap (option_map (λ b. b.items)) c.in-Some.is) ∙ c.in_ok-bytes.ensures.answer held is)
-    (subst (λ b. (files : List (List ℕ)) (name : List ℕ) → slice_get files c.args.file.0 ≡ Some name → IsContent names files name (Some b) (Some c.in_ok-content.content))
+    (subst (λ b. (files : List (List ℕ)) (name : List ℕ) → slice_get files c.args.file.0 ≡ Some name → IsContent c.args.standard names files name (Some b) (Some c.in_ok-content.content))
     c.deref.ensures.value c.in_ok-content.ensures.content)
     c.in_ok-content.ensures.held)

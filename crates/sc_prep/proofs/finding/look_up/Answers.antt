@@ -10,7 +10,7 @@ read-requires-clause-contents g c = contents-later (Extends-refl c.args.names.no
 
 pub returns-clause-looks : goal.returns-clause-looks
 returns-clause-looks g c = record {
-  contents_are = subst (λ h. AreContents c.read.new.names c.intern.new.self h c.read.new.self) c.read.ensures.kept c.in_ok-content.ensures.contents;
+  contents_are = subst (λ h. AreContents c.args.standard c.read.new.names c.intern.new.self h c.read.new.self) c.read.ensures.kept c.in_ok-content.ensures.contents;
   reads = c.in_ok-content.ensures.keeps;
   paths = λ one all. interned-plain c.in_ok-file.ensures.adds one all;
 }

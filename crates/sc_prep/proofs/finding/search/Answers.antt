@@ -22,7 +22,7 @@ pub returns-in-Some-clause-looks : goal.returns-in-Some-clause-looks
 returns-in-Some-clause-looks g c =
     let was = c.loop-name.invariant in
     looks-more string_bytes c.args.candidates.now c.loop-name.name-index c.name-item.result c.loop-name-test.true c.name-item.is was.looks was.kept
-    (subst (λ t. LooksUp c.loop-name.names c.loop-name.files c.loop-name.contents (g.S.Source.holds c.loop-name.src) c.look_up.new.names c.look_up.new.files c.look_up.new.contents (t ∷ []))
+    (subst (λ t. LooksUp c.args.standard c.loop-name.names c.loop-name.files c.loop-name.contents (g.S.Source.holds c.loop-name.src) c.look_up.new.names c.look_up.new.files c.look_up.new.contents (t ∷ []))
     c.as_str.ensures.value c.in_ok-file.ensures.looks)
 
 pub loop-name-preserved : goal.loop-name-preserved
@@ -36,7 +36,7 @@ loop-name-preserved g c =
       kept = c.look_up.ensures.kept ∙ was.kept;
       counted = omega (arith, was.counted, c.look_up.ensures.counted);
       looks = looks-more string_bytes c.args.candidates.now c.loop-name.name-index x c.loop-name-test.true c.name-item.is was.looks was.kept
-          (subst (λ t. LooksUp c.loop-name.names c.loop-name.files c.loop-name.contents (g.S.Source.holds c.loop-name.src) c.look_up.new.names c.look_up.new.files c.look_up.new.contents (t ∷ []))
+          (subst (λ t. LooksUp c.args.standard c.loop-name.names c.loop-name.files c.loop-name.contents (g.S.Source.holds c.loop-name.src) c.look_up.new.names c.look_up.new.files c.look_up.new.contents (t ∷ []))
           c.as_str.ensures.value c.in_ok-file.ensures.looks);
       absent = λ held agrees.
           let before = agrees-back c.look_up.ensures.names c.look_up.ensures.files was.looks.contents_are held c.in_ok-file.ensures.looks.reads agrees in

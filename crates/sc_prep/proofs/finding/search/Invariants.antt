@@ -13,6 +13,6 @@ invariant-loop-name g l = record {
   files : Extends l.fn.files l.files;
   kept : g.S.Source.holds l.src ≡ g.S.Source.holds l.fn.src;
   counted : g.S.Source.faults l.fn.src ≤ g.S.Source.faults l.src;
-  looks : LooksUp l.fn.names l.fn.files l.fn.contents (g.S.Source.holds l.fn.src) l.names l.files l.contents (map string_bytes l.candidates);
-  absent : (held : Files) → Agrees l.names l.files held l.contents → model.search held (map string_bytes (take l.name-index l.candidates)) ≡ None;
+  looks : LooksUp l.standard l.fn.names l.fn.files l.fn.contents (g.S.Source.holds l.fn.src) l.names l.files l.contents (map string_bytes l.candidates);
+  absent : (held : Files) → Agrees l.standard l.names l.files held l.contents → model.search held (map string_bytes (take l.name-index l.candidates)) ≡ None;
 }

@@ -24,7 +24,7 @@ use Rattle.sc_prep.specs.Printable.{is_plain}
 use Rattle.sc_space.specs.Seen.{seen_space}
 
 pub read-requires-clause-contents : goal.read-requires-clause-contents
-read-requires-clause-contents g c = contents-new c.start.new.names c.intern.new.self (g.S.Source.holds c.args.src.now) c.new-contents.result c.new-contents.ensures
+read-requires-clause-contents g c = contents-new c.args.space.now.standard c.start.new.names c.intern.new.self (g.S.Source.holds c.args.src.now) c.new-contents.result c.new-contents.ensures
 
 pub returns-in_default-clause-ordinary : goal.returns-in_default-clause-ordinary
 returns-in_default-clause-ordinary g c =
@@ -135,7 +135,7 @@ returns-clause-end_held g c =
     let file = c.in_ok-file.file in
     let content = c.in-Some.content.value in
     let at = c.in_ok-content.ensures.content ∙ ap (λ (o : Option (Rc Content Global)). Some (option_map (λ held. held.value) o)) c.in-Some.is in
-    let same = ap (λ (p : Place). p.file) (c.end_place-walk.ensures ∙ ap end_place c.deref-2.ensures) ∙ end-inside c.read.new.names (length files) content (c.in_ok-content.ensures.contents.held file content at) in
+    let same = ap (λ (p : Place). p.file) (c.end_place-walk.ensures ∙ ap end_place c.deref-2.ensures) ∙ end-inside c.args.space.now.standard c.read.new.names (length files) content (c.in_ok-content.ensures.contents.held file content at) in
     Extends-within c.end_place-walk.result.file.0 (subst (λ (f : FileId). f.0 < length files) (sym same) c.in_ok-file.ensures.own) c.enter.ensures.files
 
 pub returns-clause-live : goal.returns-clause-live

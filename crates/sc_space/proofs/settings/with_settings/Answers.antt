@@ -15,7 +15,13 @@ returns-in_err-time c =
     let p = err_from_is_err_and c.from_residual-in_err-time.result c.from_residual-in_err-time.ensures.1 in
     rw (p.1, p.2, c.in_ok-branches.ensures, c.in_ok-include_depth.ensures, c.in_ok-include.ensures, c.in_ok-date.ensures) (refused_first _ _ _ c.in_err-time.ensures)
 
+pub returns-in_err-standard : goal.returns-in_err-standard
+unfolding with_settings
+returns-in_err-standard c =
+    let p = err_from_is_err_and c.from_residual-in_err-standard.result c.from_residual-in_err-standard.ensures.1 in
+    rw (p.1, p.2, c.in_ok-branches.ensures, c.in_ok-include_depth.ensures, c.in_ok-include.ensures, c.in_ok-date.ensures, c.in_ok-time.ensures) (refused_first _ _ _ c.in_err-standard.ensures)
+
 pub returns : goal.returns
 unfolding with_settings
 returns c =
-    rw (c.in_ok-branches.ensures, c.in_ok-include_depth.ensures, c.in_ok-include.ensures, c.in_ok-date.ensures, c.in_ok-time.ensures)
+    rw (c.in_ok-branches.ensures, c.in_ok-include_depth.ensures, c.in_ok-include.ensures, c.in_ok-date.ensures, c.in_ok-time.ensures, c.in_ok-standard.ensures)

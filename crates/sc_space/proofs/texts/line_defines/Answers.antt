@@ -1,4 +1,4 @@
-use Rattle.std.proofs.Common.{◌≡◌, ◌∙◌, ◌-◌, length, map, take, sym, Some}
+use Rattle.std.proofs.Common.{◌∙◌, ◌-◌, length, take, sym}
 use Rattle.std.proofs.lemmas.Result.{IfOk-weaker}
 use Rattle.sc_space.proofs.TextLists.{defines-line, defines-more, front-each}
 use Rattle.sc_space.proofs.texts.line_defines.Goals as goal

@@ -1,4 +1,4 @@
-use Rattle.std.proofs.Common.{◌∙◌, sym, true, false}
+use Rattle.std.proofs.Common.{◌∙◌, sym}
 use Rattle.sc_space.proofs.Reading.{are_different-step}
 use Rattle.sc_space.proofs.variables.are_different.Goals as goal
 

@@ -2,7 +2,7 @@ use Rattle.std.proofs.Common.{append-nil}
 use Rattle.std.proofs.lemmas.List.{map_push}
 use Rattle.sc_space.specs.Seen.{seen_variable}
 use Rattle.sc_space.specs.SpaceFile.{read_variables}
-use Rattle.sc_space.proofs.Reading.{refused_first, read_variables-more}
+use Rattle.sc_space.proofs.Reading.{read_variables-more}
 use Rattle.sc_space.proofs.Soundness.{ascending_names}
 use Rattle.sc_space.proofs.TextLists.{are_texts, the_texts}
 use Rattle.sc_space.proofs.variables.read_variables.Goals as goal

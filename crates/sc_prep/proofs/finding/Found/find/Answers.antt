@@ -12,7 +12,8 @@ use Rattle.sc_prep.specs.Contents.{AreContents}
 use Rattle.sc_prep.specs.Finding.{IsSearched}
 use Rattle.sc_prep.specs.Printable.{ArePlainPaths}
 use Rattle.sc_prep.specs.declared.naming.Named.{Named}
-use Rattle.sc_prep.proofs.FoundFiles.{asked-plain, keeps-more, keeps-same, nothing-found, one-found, parts-kept}
+use Rattle.sc_prep.proofs.LeadMoves.{contents-stay, contents-then}
+use Rattle.sc_prep.proofs.FoundFiles.{asked-plain, nothing-found, one-found, parts-kept}
 use Rattle.sc_prep.proofs.PlainRuns.{path-plain}
 use Rattle.sc_prep.proofs.finding.Found.find.Goals as goal
 
@@ -24,7 +25,7 @@ loop-name-init g c = record {
   kept = refl;
   counted = omega arith;
   read = c.requires.contents;
-  reads = keeps-same c.args.contents.now;
+  reads = contents-stay c.args.contents.now;
   paths = λ directories names files. files;
   found = nothing-found (g.C.Conditions.sets c.args.conds.now) (text_at c.args.files.now c.args.including.0) (map string_bytes c.args.directories.now) c.args.names.now c.args.files.now c.args.contents.now
       (record { parts = c.new.result; missing = c.never.result }) c.new.ensures.items c.never.ensures.meaning;
@@ -58,8 +59,8 @@ loop-name-preserved g c =
       keeps = Keeps-trans was.keeps c.add.ensures.keeps;
       kept = c.search.ensures.kept ∙ was.kept;
       counted = omega (arith, was.counted, c.search.ensures.counted);
-      read = subst (λ h. AreContents c.search.new.names c.search.new.files h c.search.new.contents) was.kept looks.contents_are;
-      reads = keeps-more was.reads looks.reads;
+      read = subst (λ h. AreContents c.args.standard c.search.new.names c.search.new.files h c.search.new.contents) was.kept looks.contents_are;
+      reads = contents-then was.reads looks.reads;
       paths = λ all plain files.
           let name = subst (λ (x : Named). has_no_newline (string_bytes x.header.name) ≡ true) (sym c.name-item.is) (plain i n within) in
           looks.paths (subst ArePlainPaths (sym asked) (asked-plain n.header including directories name (path-plain c.args.files.now c.args.including.0 c.requires.including files) all)) (was.paths all plain files);

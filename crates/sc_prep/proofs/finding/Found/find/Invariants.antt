@@ -17,8 +17,8 @@ invariant-loop-name g l = record {
   keeps : Keeps (g.C.Conditions.sets l.fn.conds) (g.C.Conditions.sets l.conds);
   kept : g.S.Source.holds l.src ≡ g.S.Source.holds l.fn.src;
   counted : g.S.Source.faults l.fn.src ≤ g.S.Source.faults l.src;
-  read : AreContents l.names l.files (g.S.Source.holds l.fn.src) l.contents;
+  read : AreContents l.standard l.names l.files (g.S.Source.holds l.fn.src) l.contents;
   reads : KeepsContents l.fn.contents l.contents;
   paths : ArePlainPaths (map string_bytes l.directories) → All (λ (n : Named). has_no_newline (string_bytes n.header.name) ≡ true) l.named → ArePlainPaths l.fn.files → ArePlainPaths l.files;
-  found : AreFound (g.C.Conditions.sets l.fn.conds) (take l.name-index l.named) (text_at l.fn.files l.including.0) (map string_bytes l.directories) l.names l.files l.contents (g.C.Conditions.sets l.conds) l.found;
+  found : AreFound l.standard (g.C.Conditions.sets l.fn.conds) (take l.name-index l.named) (text_at l.fn.files l.including.0) (map string_bytes l.directories) l.names l.files l.contents (g.C.Conditions.sets l.conds) l.found;
 }

@@ -1,16 +1,16 @@
 use Rattle.std.proofs.Common.{rules, ◌≡◌, ◌∙◌, ℕ, ◌<◌, ◌++◌, List, [], All, Some, refl, sym, ap, subst, arith, length}
 use Rattle.std.proofs.lemmas.Result.{IfErr-weaker, on_ok_weaker}
-use Rattle.sc_base.proofs.Growth.{Extends-refl, Extends-trans}
+use Rattle.sc_base.proofs.Growth.{Extends-refl, Extends-trans, Extends-within}
 use Rattle.sc_lines.proofs.SeenLines.{directive-files}
 use Rattle.sc_base.specs.Seen.{text_at}
 use Rattle.sc_model.proofs.SetLemmas.{Denotes-self, Keeps-trans}
-use Rattle.sc_prep.proofs.Contents.{agrees-back}
+use Rattle.sc_prep.proofs.Contents.{agrees-back, IsPlaced-later}
 use Rattle.sc_prep.proofs.EnterLeads.{begun-plain, held-lines, held-refusal, kept-lines, kept-refusal, leads-inside, leads-nowhere, leads-refused, left-plain, refused-list}
 use Rattle.sc_prep.proofs.LeadMoves.{content-named, contents-stay, leads-one, limit-stops, ready-moved, ready-begun, ready-kept, ready-left, ready-refused, stops-later, stored-ready}
 use Rattle.sc_prep.proofs.ExpressionMoves.{empty_context}
 use Rattle.sc_prep.proofs.Going.{entry-within}
 use Rattle.sc_prep.proofs.IncludeLeads.{gone-closed, gone-entered, gone-found, gone-taken, parts-later}
-use Rattle.sc_prep.proofs.ApartLemmas.{gathers-same, gathers-then}
+use Rattle.sc_prep.proofs.ApartLemmas.{gathers-same, gathers-then, apart-left, apart-right, lines-apart}
 use Rattle.sc_prep.proofs.NamedFiles.{held-later}
 use Rattle.sc_prep.proofs.WalkMoves.{owns-kept}
 use Rattle.sc_prep.specs.Apart.{StandApart, tokens_in}
@@ -21,24 +21,18 @@ use Rattle.sc_prep.proofs.PlainRuns.{each-closes-plain, path-plain}
 use Rattle.sc_prep.proofs.WalkLeads.{gone-line, gone-nowhere, gone-over, line-directive, line-placed-now}
 use Rattle.sc_prep.specs.Machine as machine
 use Rattle.sc_prep.specs.Simulates.{IsBetweenRuns, IsIn, Leads}
-use Rattle.sc_prep.specs.Printable.{AllPass, is_plain}
-use Rattle.sc_base.proofs.Growth.{Extends-within}
+use Rattle.sc_prep.specs.Printable.{AllPass, is_plain, IsPlaced}
 use Rattle.sc_lines.specs.declared.line.Line.{Line}
 use Rattle.sc_lines.specs.Nests.{seen_lines}
 use Rattle.sc_lines.specs.Split.{directive_at, tokens_of}
 use Rattle.sc_model.specs.Sets.{IsCond}
-use Rattle.sc_prep.proofs.Contents.{IsPlaced-later}
 use Rattle.sc_prep.specs.Contents.{content_at}
 use Rattle.sc_prep.specs.Passes.{StandFor}
-use Rattle.sc_prep.specs.Printable.{IsPlaced}
 use Rattle.sc_prep.specs.Includes.{ArePartsOf, EntersAt}
 use Rattle.sc_prep.specs.declared.entering.Around.{Around}
 use Rattle.sc_prep.specs.declared.including.Part.{Part}
 use Rattle.c11_directives.specs.declared.directive.Directive.TheVariants as kind
 use Rattle.std.proofs.lemmas.List.Elements.{All-get_or, All-weaker}
-use Rattle.sc_prep.specs.Apart.{tokens_in}
-use Rattle.sc_prep.specs.declared.walk.Walk.{Walk}
-use Rattle.sc_prep.proofs.ApartLemmas.{apart-left, apart-right, lines-apart}
 use Rattle.sc_prep.proofs.FileStops.{comes-inside}
 use Rattle.sc_prep.proofs.Stopping.{answer-stops}
 use Rattle.sc_prep.proofs.DirectiveStops.{carried-stops, closing-stops}
@@ -301,7 +295,7 @@ include_line-loop-part-init g t c =
     record {
       ready = found.ready;
       parts = subst (ArePartsOf (g.C.Conditions.sets c.included.new.conds) c.included.new.contents) (sym c.deref-part-items.ensures.value) found.parts;
-      gone = gone-found c.args.entry c.args.line.now c.requires.placed (directive-files c.args.names.now c.args.files.now c.args.line.now ∙ c.requires.directive) c.in_ok-parts.parts.items c.deref-part-items.result.now c.deref-part-items.ensures.value
+      gone = gone-found c.args.space.now.standard c.args.entry c.args.line.now c.requires.placed (directive-files c.args.space.now.standard c.args.names.now c.args.files.now c.args.line.now ∙ c.requires.directive) c.in_ok-parts.parts.items c.deref-part-items.result.now c.deref-part-items.ensures.value
           (gone-closed closed.keeps closed.names closed.closes.simulates closed.closes.plain)
           (ready-moved closed.names closed.closes.simulates closed.closes.held c.requires.ready).read closed.closes.held.list found.keeps found.names found.files found.read found.finds found.list found.paths;
       kept = found.kept;
@@ -326,7 +320,7 @@ walk_lines-take_line-requires g t c κs given =
             subst (All (IsPlaced c.loop-number.names (length c.loop-number.files))) (sym same) (line-placed-now c.args.entry lines c.requires.lines i inv.gone inv.ready.read line within),
             (
               ap (λ (l : Line). l.directive) c.index-line.ensures
-                  ∙ (line-directive c.args.entry lines c.requires.lines i inv.gone inv.ready.read line within ∙ ap (directive_at c.loop-number.names) (sym same)),
+                  ∙ (line-directive c.args.entry lines c.requires.lines i inv.gone inv.ready.read line within ∙ ap (directive_at c.args.space.now.standard c.loop-number.names) (sym same)),
               (
                 Extends-within c.args.entry.file.0 (entry-within lines c.requires.lines i within) inv.gone.files_grow,
                 (
@@ -344,21 +338,21 @@ pub walk_lines-next_line-number-requires-clause-branches : goal.walk_lines-next_
 walk_lines-next_line-number-requires-clause-branches g t c =
     let lines = c.args.file.now in
     let names = c.args.names.now in (
-      seen_lines names [] lines.tokens.items,
-      subst (StandFor (seen_lines names [] lines.tokens.items)) (sym c.deref-in-loop-number.ensures.value)
-          (lines-stand names lines.tokens.items lines.lines.items c.requires.lines.lines_are c.requires.lines.branches []),
+      seen_lines c.args.space.now.standard names [] lines.tokens.items,
+      subst (StandFor (seen_lines c.args.space.now.standard names [] lines.tokens.items)) (sym c.deref-in-loop-number.ensures.value)
+          (lines-stand c.args.space.now.standard names lines.tokens.items lines.lines.items c.requires.lines.lines_are c.requires.lines.branches []),
     )
 
 pub walk_lines-loop-number-smaller : goal.walk_lines-loop-number-smaller
 walk_lines-loop-number-smaller g t c =
     let lines = c.args.file.now in
     let names = c.args.names.now in
-    let stand : (files : List (List ℕ)) → StandFor (seen_lines names files lines.tokens.items) c.deref-in-loop-number.result.now = λ files.
-    subst (StandFor (seen_lines names files lines.tokens.items)) (sym c.deref-in-loop-number.ensures.value)
-    (lines-stand names lines.tokens.items lines.lines.items c.requires.lines.lines_are c.requires.lines.branches files) in
+    let stand : (files : List (List ℕ)) → StandFor (seen_lines c.args.space.now.standard names files lines.tokens.items) c.deref-in-loop-number.result.now = λ files.
+    subst (StandFor (seen_lines c.args.space.now.standard names files lines.tokens.items)) (sym c.deref-in-loop-number.ensures.value)
+    (lines-stand c.args.space.now.standard names lines.tokens.items lines.lines.items c.requires.lines.lines_are c.requires.lines.branches files) in
     let after =
-    next-after (seen_lines names [] lines.tokens.items) c.loop-number.number c.next_line-number.result c.is_never.result
-    (c.next_line-number.ensures (seen_lines names [] lines.tokens.items) (stand [])) in
+    next-after (seen_lines c.args.space.now.standard names [] lines.tokens.items) c.loop-number.number c.next_line-number.result c.is_never.result
+    (c.next_line-number.ensures (seen_lines c.args.space.now.standard names [] lines.tokens.items) (stand [])) in
     let test = c.loop-number-test.true in
     omega (arith, after, test, c.len.ensures)
 
@@ -366,9 +360,9 @@ pub walk_lines-loop-number-preserved : goal.walk_lines-loop-number-preserved
 walk_lines-loop-number-preserved g t c =
     let lines = c.args.file.now in
     let names = c.args.names.now in
-    let stand : (files : List (List ℕ)) → StandFor (seen_lines names files lines.tokens.items) c.deref-in-loop-number.result.now = λ files.
-    subst (StandFor (seen_lines names files lines.tokens.items)) (sym c.deref-in-loop-number.ensures.value)
-    (lines-stand names lines.tokens.items lines.lines.items c.requires.lines.lines_are c.requires.lines.branches files) in
+    let stand : (files : List (List ℕ)) → StandFor (seen_lines c.args.space.now.standard names files lines.tokens.items) c.deref-in-loop-number.result.now = λ files.
+    subst (StandFor (seen_lines c.args.space.now.standard names files lines.tokens.items)) (sym c.deref-in-loop-number.ensures.value)
+    (lines-stand c.args.space.now.standard names lines.tokens.items lines.lines.items c.requires.lines.lines_are c.requires.lines.branches files) in
     let files = c.args.files.now in
     let line = c.index-line.result.now in
     let inv = c.loop-number.invariant in
@@ -378,12 +372,12 @@ walk_lines-loop-number-preserved g t c =
       gone = gone-line c.args.entry lines c.requires.lines c.loop-number.number inv.gone inv.ready.read line (omega (arith, c.loop-number-test.true, c.len.ensures)) (tokens_of c.deref.result.now line)
           (ap (λ ts. tokens_of ts line) c.deref.ensures.value ∙ ap (tokens_of lines.tokens.items) c.index-line.ensures)
           taken.keeps taken.names taken.files taken.read taken.takes taken.plain taken.paths c.next_line-number.result c.is_never.result
-          (c.next_line-number.ensures (seen_lines names files lines.tokens.items) (stand files)) c.is_never.ensures.0;
+          (c.next_line-number.ensures (seen_lines c.args.space.now.standard names files lines.tokens.items) (stand files)) c.is_never.ensures.0;
       apart = λ none apart.
           apart-next c.args.entry lines c.requires.lines c.loop-number.number line (omega (arith, c.loop-number-test.true, c.len.ensures)) (tokens_of c.deref.result.now line)
           (ap (λ ts. tokens_of ts line) c.deref.ensures.value ∙ ap (tokens_of lines.tokens.items) c.index-line.ensures)
           c.loop-number.self (inv.apart none apart) c.take_line.new.self c.next_line-number.result
-          (next-after (seen_lines names files lines.tokens.items) c.loop-number.number c.next_line-number.result c.is_never.result (c.next_line-number.ensures (seen_lines names files lines.tokens.items) (stand files)))
+          (next-after (seen_lines c.args.space.now.standard names files lines.tokens.items) c.loop-number.number c.next_line-number.result c.is_never.result (c.next_line-number.ensures (seen_lines c.args.space.now.standard names files lines.tokens.items) (stand files)))
           taken.gathers;
       kept = taken.kept ∙ inv.kept;
       counted = omega (arith, inv.counted, taken.counted);
@@ -395,7 +389,7 @@ include_line-included-requires-clause-placed g t c =
     (IsPlaced-later c.in_ok-close_runs.ensures.names (Extends-refl c.args.files.now)) c.args.line.now c.requires.placed
 
 pub include_line-included-requires-clause-line : goal.include_line-included-requires-clause-line
-include_line-included-requires-clause-line g t c = directive-long c.args.names.now c.args.line.now (Some kind.Include) (sym c.requires.directive) (λ e. cc)
+include_line-included-requires-clause-line g t c = directive-long c.args.space.now.standard c.args.names.now c.args.line.now (Some kind.Include) (sym c.requires.directive) (λ e. cc)
 
 pub include_line-enter-requires : goal.include_line-enter-requires
 include_line-enter-requires g t c κs given =
@@ -434,7 +428,7 @@ include_line-loop-part-preserved g t c =
     record {
       ready = entered.ready;
       parts = parts-later entered.keeps entered.read inv.parts;
-      gone = gone-entered c.args.entry c.args.line.now c.requires.placed (directive-files c.args.names.now c.args.files.now c.args.line.now ∙ c.requires.directive) parts i c.part-item.result c.part-item.is within inv.parts.own
+      gone = gone-entered c.args.space.now.standard c.args.entry c.args.line.now c.requires.placed (directive-files c.args.space.now.standard c.args.names.now c.args.files.now c.args.line.now ∙ c.requires.directive) parts i c.part-item.result c.part-item.is within inv.parts.own
           inv.gone inv.ready.read entered.keeps entered.names entered.files entered.read
           (λ x context agreed. subst (λ depth. Leads c.loop-part.files c.loop-part.names (g.C.Conditions.sets c.loop-part.conds) c.loop-part.self c.enter.new.files c.enter.new.names (g.C.Conditions.sets c.enter.new.conds) c.enter.new.self IsBetweenRuns
           (λ config m n. EntersAt x (text_at c.loop-part.files c.part-item.result.file.0) depth m ((g.C.Conditions.sets c.loop-part.conds).has c.part-item.result.cond.0 config) n)) c.deeper.ensures (entered.enters x context agreed))
@@ -445,16 +439,16 @@ include_line-loop-part-preserved g t c =
     }
 
 pub include_line-returns-clause-takes : goal.include_line-returns-clause-takes
-include_line-returns-clause-takes g t c = (gone-taken c.args.entry c.args.line.now c.requires.placed (directive-files c.args.names.now c.args.files.now c.args.line.now ∙ c.requires.directive) c.deref-part-items.result.now
+include_line-returns-clause-takes g t c = (gone-taken c.args.space.now.standard c.args.entry c.args.line.now c.requires.placed (directive-files c.args.space.now.standard c.args.names.now c.args.files.now c.args.line.now ∙ c.requires.directive) c.deref-part-items.result.now
     c.loop-part.part-index (omega (arith, c.loop-part-test.false, c.loop-part.auto.part-index-end)) c.loop-part.invariant.gone).leads
 
 pub include_line-returns-clause-plain : goal.include_line-returns-clause-plain
 include_line-returns-clause-plain g t c = λ x context agrees sound all paths each list.
-    (gone-taken c.args.entry c.args.line.now c.requires.placed (directive-files c.args.names.now c.args.files.now c.args.line.now ∙ c.requires.directive) c.deref-part-items.result.now
+    (gone-taken c.args.space.now.standard c.args.entry c.args.line.now c.requires.placed (directive-files c.args.space.now.standard c.args.names.now c.args.files.now c.args.line.now ∙ c.requires.directive) c.deref-part-items.result.now
     c.loop-part.part-index (omega (arith, c.loop-part-test.false, c.loop-part.auto.part-index-end)) c.loop-part.invariant.gone).plain all x context agrees sound paths each list
 
 pub include_line-returns-clause-paths : goal.include_line-returns-clause-paths
-include_line-returns-clause-paths g t c = λ x context agrees sound all paths each. (gone-taken c.args.entry c.args.line.now c.requires.placed (directive-files c.args.names.now c.args.files.now c.args.line.now ∙ c.requires.directive) c.deref-part-items.result.now
+include_line-returns-clause-paths g t c = λ x context agrees sound all paths each. (gone-taken c.args.space.now.standard c.args.entry c.args.line.now c.requires.placed (directive-files c.args.space.now.standard c.args.names.now c.args.files.now c.args.line.now ∙ c.requires.directive) c.deref-part-items.result.now
     c.loop-part.part-index (omega (arith, c.loop-part-test.false, c.loop-part.auto.part-index-end)) c.loop-part.invariant.gone).paths all x context agrees sound paths each
 
 pub include_line-returns-clause-ready : goal.include_line-returns-clause-ready
@@ -559,7 +553,7 @@ pub include_line-returns-in_err-close_runs-clause-footprints : goal.include_line
 include_line-returns-in_err-close_runs-clause-footprints g t c = λ x context told apart.
     let line = c.args.line.now in
     let stops = c.in_err-close_runs.ensures.stops.at_place (apart-left _ line apart) in
-    closing-stops c.args.space.now.limits.branches c.from_residual.result c.args.names.now c.args.files.now (g.C.Conditions.sets c.args.conds.now) c.args.self.now
+    closing-stops c.args.space.now.limits.branches c.from_residual.result c.args.space.now.standard c.args.names.now c.args.files.now (g.C.Conditions.sets c.args.conds.now) c.args.self.now
     (IsIn c.args.files.now c.args.entry) x line kind.Include (sym c.requires.directive) refl
     (search (rules, stops))
 
@@ -567,7 +561,7 @@ pub include_line-returns-in_err-parts-clause-footprints : goal.include_line-retu
 include_line-returns-in_err-parts-clause-footprints g t c = λ x context told apart.
     let line = c.args.line.now in
     let closed = c.in_ok-close_runs.ensures in
-    carried-stops c.args.space.now.limits.branches c.from_residual-in_err-parts.result c.args.names.now c.args.files.now (g.C.Conditions.sets c.args.conds.now) c.args.self.now
+    carried-stops c.args.space.now.limits.branches c.from_residual-in_err-parts.result c.args.space.now.standard c.args.names.now c.args.files.now (g.C.Conditions.sets c.args.conds.now) c.args.self.now
     (IsIn c.args.files.now c.args.entry) x line kind.Include (sym c.requires.directive) refl
     closed.names (λ k d h. (c.requires.placed k d h).held) closed.keeps closed.closes.simulates
     (λ d directed says. let stops = c.in_err-parts.ensures.footprints d directed says (apart-right (tokens_in c.args.self.now.gathered) line apart) in search (rules, stops))
@@ -579,7 +573,7 @@ include_line-returns-in_err-enter-clause-footprints g t c = λ x context told ap
     let line = c.args.line.now in
     let inv = c.loop-part.invariant in
     let stops = c.in_err-enter.ensures.footprints x context (inv.kept ∙ told) in
-    file-stops c.args.space.now.limits.branches c.from_residual-in_err-enter.result names files c.args.entry line (directive-files names files line ∙ c.requires.directive)
+    file-stops c.args.space.now.limits.branches c.from_residual-in_err-enter.result c.args.space.now.standard names files c.args.entry line (directive-files c.args.space.now.standard names files line ∙ c.requires.directive)
     (g.C.Conditions.sets c.args.conds.now) c.args.self.now x c.deref-part-items.result.now c.loop-part.part-index c.part-item.result c.deeper.result c.part-item.is c.loop-part-test.true c.deeper.ensures
     inv.gone inv.ready.read context (inv.kept ∙ told) (search (rules, stops))
 

@@ -27,9 +27,9 @@ decreases-include_line g l = 4 * (l.space.now.limits.include_depth - l.entry.dep
 -- tokens that are still to come
 abbrev pub invariant-walk_lines-loop-number : goal.invariant-walk_lines-loop-number
 invariant-walk_lines-loop-number g l = record {
-  ready : IsReady (g.C.Conditions.sets l.conds) l.names l.files (g.S.Source.holds l.src) l.self l.contents;
+  ready : IsReady l.space.standard (g.C.Conditions.sets l.conds) l.names l.files (g.S.Source.holds l.src) l.self l.contents;
   gone : Gone (seen_space l.space) (g.C.Conditions.sets l.fn.conds) l.fn.names l.fn.files l.fn.self l.fn.contents (g.C.Conditions.sets l.conds) l.names l.files l.self l.contents (Unit {0})
-      (IsAtTop l.fn.files l.entry) (λ x config m n. Runs x m (take l.number (seen_lines l.fn.names l.fn.files l.file.tokens.items)) n);
+      (IsAtTop l.fn.files l.entry) (λ x config m n. Runs x m (take l.number (seen_lines l.space.standard l.fn.names l.fn.files l.file.tokens.items)) n);
   apart : l.fn.self.gathered ≡ [] → StandApart l.file.tokens.items → StandApart (tokens_in l.self.gathered ++ to_come l.file l.number);
   kept : g.S.Source.holds l.src ≡ g.S.Source.holds l.fn.src;
   counted : g.S.Source.faults l.fn.src ≤ g.S.Source.faults l.src;
@@ -41,11 +41,11 @@ decreases-walk_lines-loop-number g l = length l.file.lines.items - l.number
 -- each machine entered its file, or the file is still among these
 abbrev pub invariant-include_line-loop-part : goal.invariant-include_line-loop-part
 invariant-include_line-loop-part g l = record {
-  ready : IsReady (g.C.Conditions.sets l.conds) l.names l.files (g.S.Source.holds l.src) l.self l.contents;
+  ready : IsReady l.space.standard (g.C.Conditions.sets l.conds) l.names l.files (g.S.Source.holds l.src) l.self l.contents;
   parts : ArePartsOf (g.C.Conditions.sets l.conds) l.contents l.part-items;
   gone : Gone (seen_space l.space) (g.C.Conditions.sets l.fn.conds) l.fn.names l.fn.files l.fn.self l.fn.contents (g.C.Conditions.sets l.conds) l.names l.files l.self l.contents (All (λ token. is_plain l.fn.names token ≡ true) l.line)
       (IsIn l.fn.files l.entry)
-      (λ x config m n. Staged x (seen_line l.fn.names l.fn.files l.line) l.files l.entry.depth m (files_at (g.C.Conditions.sets l.conds) (drop l.part-index l.part-items) config) n);
+      (λ x config m n. Staged x (seen_line l.space.standard l.fn.names l.fn.files l.line) l.files l.entry.depth m (files_at (g.C.Conditions.sets l.conds) (drop l.part-index l.part-items) config) n);
   kept : g.S.Source.holds l.src ≡ g.S.Source.holds l.fn.src;
   counted : g.S.Source.faults l.fn.src ≤ g.S.Source.faults l.src;
   gathers : GathersFrom l.line l.fn.self l.self;

@@ -21,7 +21,7 @@ pub number_line-requires-clause-placed : goal.number_line-requires-clause-placed
 number_line-requires-clause-placed g c = λ k d h. placed-grown c.in_ok-close_runs.ensures.names (length c.args.files.now) _ (c.requires.placed k d h)
 
 pub number_line-requires-clause-line : goal.number_line-requires-clause-line
-number_line-requires-clause-line g c = directive-long c.args.names.now c.args.line.now (Some c.args.directive) c.requires.directive (λ e. absurd (cc))
+number_line-requires-clause-line g c = directive-long c.args.standard c.args.names.now c.args.line.now (Some c.args.directive) c.requires.directive (λ e. absurd (cc))
 
 pub number_line-requires-clause-stored : goal.number_line-requires-clause-stored
 number_line-requires-clause-stored g c =
@@ -32,16 +32,16 @@ pub plain_line-requires-clause-held : goal.plain_line-requires-clause-held
 plain_line-requires-clause-held g c = λ k d h. (placed-grown c.in_ok-close_runs.ensures.names (length c.args.files.now) _ (c.requires.placed k d h)).held
 
 pub plain_line-requires-clause-line : goal.plain_line-requires-clause-line
-plain_line-requires-clause-line g c = λ _. directive-long c.args.names.now c.args.line.now (Some c.args.directive) c.requires.directive (λ e. absurd (cc))
+plain_line-requires-clause-line g c = λ _. directive-long c.args.standard c.args.names.now c.args.line.now (Some c.args.directive) c.requires.directive (λ e. absurd (cc))
 
 pub returns-in-Line-clause-takes : goal.returns-in-Line-clause-takes
 returns-in-Line-clause-takes g c = on_ok_weaker c.number_line.result (λ carries x.
     let first = c.in_ok-close_runs.ensures in
     let closed = first.closes in
-    let stage = carries x in
+    let stage = carries c.args.standard x in
     let line = c.args.line.now in
     record {
-      simulates = takes-carried c.args.files.now line kind.Line (ap Some (sym c.in-Line.is) ∙ c.requires.directive) refl first.names (λ k d h. (c.requires.placed k d h).held) first.keeps closed.simulates x stage.simulates;
+      simulates = takes-carried c.args.standard c.args.files.now line kind.Line (ap Some (sym c.in-Line.is) ∙ c.requires.directive) refl first.names (λ k d h. (c.requires.placed k d h).held) first.keeps closed.simulates x stage.simulates;
       held = stage.text.held;
       plain = λ plain was. subst (AllPass (is_plain c.number_line.new.names)) (sym stage.text.list)
           (plain-grown c.number_line.ensures.names (length c.args.files.now) c.close_runs.new.self.prepared.list closed.held.list (closed.plain plain was));
@@ -54,12 +54,12 @@ returns-in-Line-clause-stops g c = λ x.
     let first = c.in_ok-close_runs.ensures in
     let line = c.args.line.now in
     stage-stops (g.C.Conditions.sets c.args.conds.now) c.args.names.now c.args.files.now c.args.self.now (tokens_in c.args.self.now.gathered ++ line)
-    (λ config m. MomentsHave (ComesAt x m (seen_line c.args.names.now c.args.files.now line))) c.args.limit c.number_line.result
+    (λ config m. MomentsHave (ComesAt x m (seen_line c.args.standard c.args.names.now c.args.files.now line))) c.args.limit c.number_line.result
     (IfErr-weaker c.number_line.result _ _ (λ stop stops. subst (λ arities. StopsBy arities c.args.limit stop) first.keeps.arities stops.by) c.number_line.ensures.stops)
     (λ apart.
-    carried-stops c.args.limit c.number_line.result c.args.names.now c.args.files.now (g.C.Conditions.sets c.args.conds.now) c.args.self.now any_machine x line kind.Line (ap Some (sym c.in-Line.is) ∙ c.requires.directive) refl first.names
+    carried-stops c.args.limit c.number_line.result c.args.standard c.args.names.now c.args.files.now (g.C.Conditions.sets c.args.conds.now) c.args.self.now any_machine x line kind.Line (ap Some (sym c.in-Line.is) ∙ c.requires.directive) refl first.names
     (λ k d h. (c.requires.placed k d h).held) first.keeps first.closes.simulates
-    (λ d directed says. IfErr-weaker c.number_line.result _ _ (λ stop stops. stops.at_place d directed says (apart-right (tokens_in c.args.self.now.gathered) line apart)) c.number_line.ensures.stops))
+    (λ d directed says. IfErr-weaker c.number_line.result _ _ (λ stop stops. stops.at_place c.args.standard d directed says (apart-right (tokens_in c.args.self.now.gathered) line apart)) c.number_line.ensures.stops))
 
 pub returns-in-Line-clause-keeps : goal.returns-in-Line-clause-keeps
 returns-in-Line-clause-keeps g c = Keeps-trans c.in_ok-close_runs.ensures.keeps c.number_line.ensures.keeps
@@ -78,8 +78,8 @@ returns-in_default-clause-takes g c =
     let count = length c.args.files.now in
     let placed : All (IsPlaced c.close_runs.new.names count) line = λ k e h. placed-grown first.names count _ (c.requires.placed k e h) in
     record {
-      simulates = takes-closed c.args.files.now line d c.requires.directive c.requires.barrier.0 (unsaid d c.requires.barrier.1 c.in_default.not-Line) (barrier-unconditional d c.requires.barrier.0)
-          first.names (λ k e h. (c.requires.placed k e h).held) first.keeps closed.simulates moved x;
+      simulates = takes-closed c.args.standard c.args.files.now line d c.requires.directive c.requires.barrier.0 (unsaid d c.requires.barrier.1 c.in_default.not-Line) (barrier-unconditional d c.requires.barrier.0)
+          first.names (λ k e h. (c.requires.placed k e h).held) first.keeps closed.simulates (moved c.args.standard) x;
       held = stays count any_token placed closed.held;
       plain = λ plain was. stays-plain c.close_runs.new.names count line c.close_runs.new.self c.plain_line.new.self stays placed closed.held (closed.plain plain was);
       gathers = gathers-then [] line c.args.self.now c.close_runs.new.self c.plain_line.new.self closed.gathers gathers;
@@ -96,8 +96,8 @@ returns-in_err-close_runs-clause-stops g c = λ x.
     let line = c.args.line.now in
     let stops = c.in_err-close_runs.ensures.stops in
     stage-stops (g.C.Conditions.sets c.args.conds.now) c.args.names.now c.args.files.now c.args.self.now (tokens_in c.args.self.now.gathered ++ line)
-    (λ config m. MomentsHave (ComesAt x m (seen_line c.args.names.now c.args.files.now line))) c.args.limit c.from_residual.result (let by = stops.by in search (rules, by))
+    (λ config m. MomentsHave (ComesAt x m (seen_line c.args.standard c.args.names.now c.args.files.now line))) c.args.limit c.from_residual.result (let by = stops.by in search (rules, by))
     (λ apart.
     let at_place = stops.at_place (apart-left (tokens_in c.args.self.now.gathered) line apart) in
-    closing-stops c.args.limit c.from_residual.result c.args.names.now c.args.files.now (g.C.Conditions.sets c.args.conds.now) c.args.self.now any_machine x line c.args.directive c.requires.directive c.requires.barrier.0
+    closing-stops c.args.limit c.from_residual.result c.args.standard c.args.names.now c.args.files.now (g.C.Conditions.sets c.args.conds.now) c.args.self.now any_machine x line c.args.directive c.requires.directive c.requires.barrier.0
     (search (rules, at_place)))

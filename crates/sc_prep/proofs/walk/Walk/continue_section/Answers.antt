@@ -4,10 +4,9 @@ use Rattle.sc_model.proofs.SetLemmas.{Keeps-trans, Denotes-self}
 use Rattle.sc_lines.specs.Nests.{seen_line}
 use Rattle.c11_directives.specs.Footprints.{MomentsHave}
 use Rattle.c11_directives.specs.Lines.{test_in}
-use Rattle.sc_prep.specs.Printable.{IsPlaced}
+use Rattle.sc_prep.specs.Printable.{IsPlaced, any_token}
 use Rattle.sc_prep.proofs.ExpressionMoves.{empty_context, section-goes_on}
 use Rattle.std.specs.Prelude.{[]}
-use Rattle.sc_prep.specs.Printable.{any_token}
 use Rattle.sc_prep.specs.Footprints.{ComesAt}
 use Rattle.sc_prep.specs.Stages.{StopsStage}
 use Rattle.sc_prep.proofs.Stages.{text-then}
@@ -31,7 +30,7 @@ returns-clause-decides g c = λ x.
     let begins = c.in_ok-begin_branch.ensures in
     let was = decides.at x in
     record {
-      simulates = section-goes_on c.args.files.now x (seen_line c.args.names.now c.args.files.now c.args.line.now) c.requires.line c.in_ok-taken.ensures.keeps c.untaken-untaken.result c.in_ok-taken.taken
+      simulates = section-goes_on c.args.files.now x (seen_line c.args.standard c.args.names.now c.args.files.now c.args.line.now) c.requires.line c.in_ok-taken.ensures.keeps c.untaken-untaken.result c.in_ok-taken.taken
           (λ config m simulates. c.untaken-untaken.ensures.at (g.C.Conditions.sets c.args.conds.now) c.args.names.now c.args.files.now config m simulates) was.simulates
           (begins.moved names _ (Denotes-self (g.C.Conditions.sets c.decide_test.new.conds) c.in_ok-taken.taken.0 decides.own));
       text = text-then c.args.self.now c.decide_test.new.self c.begin_branch.new.self was.text
@@ -49,7 +48,7 @@ returns-in_err-taken-clause-stops g c = λ x.
     let s = g.C.Conditions.sets c.args.conds.now in
     let names = c.args.names.now in
     let files = c.args.files.now in
-    let l = seen_line names files c.args.line.now in
+    let l = seen_line c.args.standard names files c.args.line.now in
     let stops = c.in_err-taken.ensures.stops in
     let kept : StopsStage s names files c.args.self.now c.args.line.now (λ config m. MomentsHave (ComesAt x m l)) c.args.limit c.in_err-taken.field-0.0 =
     record {

@@ -37,7 +37,7 @@ returns-in_ok-apply_and-in-Some-clause-keeps g c =
     Keeps-trans c.in_ok-live.ensures.keeps (Keeps-trans c.in_ok-found-in-Some.ensures.keeps c.in_ok-apply_and-in-Some.ensures.keeps)
 
 pub returns-then-is_never-clause-decides : goal.returns-then-is_never-clause-decides
-returns-then-is_never-clause-decides g c = λ files asks placed held.
+returns-then-is_never-clause-decides g c = λ standard files asks placed held.
     let old = g.C.Conditions.sets c.args.conds.now in
     let w = c.args.self.now in
     let k1 = c.in_ok-live.ensures.keeps in
@@ -45,21 +45,21 @@ returns-then-is_never-clause-decides g c = λ files asks placed held.
     record {
       own = c.never.ensures.own;
       at = λ x. record {
-        simulates = decides-none files c.args.names.now k1 w c.requires.owns c.requires.table c.args.among c.in_ok-live.live live x (seen_line c.args.names.now files c.args.line.now) c.never.result
+        simulates = decides-none files c.args.names.now k1 w c.requires.owns c.requires.table c.args.among c.in_ok-live.live live x (seen_line standard c.args.names.now files c.args.line.now) c.never.result
             (λ config listed. (c.is_never.ensures.0 c.if-is_never.true).none config (IsConfig-Keeps k1 listed)) (λ config listed. c.never.ensures.meaning.at config (IsConfig-Keeps k1 listed));
         text = record { held = held; list = refl; gathered = refl };
       };
     }
 
 pub returns-in_ok-refuse_at-in-None-clause-decides : goal.returns-in_ok-refuse_at-in-None-clause-decides
-returns-in_ok-refuse_at-in-None-clause-decides g c = λ files asks placed held.
+returns-in_ok-refuse_at-in-None-clause-decides g c = λ standard files asks placed held.
     let old = g.C.Conditions.sets c.args.conds.now in
     let s = g.C.Conditions.sets c.apply_and.new.self in
     let new = g.C.Conditions.sets c.refuse_at.new.conds in
     let w = c.args.self.now in
     let names = c.args.names.now in
     let line = c.args.line.now in
-    let l = seen_line names files line in
+    let l = seen_line standard names files line in
     let k1 = c.in_ok-live.ensures.keeps in
     let k2 = c.in_ok-refuse_at-in-None.ensures.keeps in
     let live = c.in_ok-live.ensures.meaning (old.has c.args.among.0) (old.has w.prepared.live.0) (Denotes-self old c.args.among.0 c.requires.among_own) (Denotes-self old w.prepared.live.0 c.requires.owns.prepared.live) in
@@ -75,12 +75,12 @@ returns-in_ok-refuse_at-in-None-clause-decides g c = λ files asks placed held.
       at = λ x. refused-stage files names names k1 k2 (Extends-refl names) w c.refuse_at.new.self w.table (fault ∷ []) c.requires.owns c.requires.table held (IsTable-Keeps k1 c.requires.table)
           (macros_at-Keeps k1 c.requires.table) (All-cons IsOwn fault [] live.own (All-nil IsOwn)) refuses
           (λ config m n. DecidesAt x l (old.has c.args.among.0 config && is_none m.fault) m (new.has never.0 config) n) (All-cons IsIn fault [] there (All-nil IsIn))
-          (refuses-no-name k1 w c.args.among c.in_ok-live.live live names files x l c.args.wanted asks new (seen names files hash) hash.place (sym (c.in-None.ensures.text files))
-          (hash-line names files line no_token c.requires.line) refl never (λ config listed. c.never-in-None.ensures.meaning.at config (IsConfig-Keeps k2 (IsConfig-Keeps k1 listed))));
+          (refuses-no-name k1 w c.args.among c.in_ok-live.live live names files x l c.args.wanted asks new (seen names files hash) hash.place (sym (c.in-None.ensures.text standard files))
+          (hash-line standard names files line no_token c.requires.line) refl never (λ config listed. c.never-in-None.ensures.meaning.at config (IsConfig-Keeps k2 (IsConfig-Keeps k1 listed))));
     }
 
 pub returns-in_ok-apply_and-in-Some-clause-decides : goal.returns-in_ok-apply_and-in-Some-clause-decides
-returns-in_ok-apply_and-in-Some-clause-decides g c = λ files asks placed held.
+returns-in_ok-apply_and-in-Some-clause-decides g c = λ standard files asks placed held.
     let old = g.C.Conditions.sets c.args.conds.now in
     let s = g.C.Conditions.sets c.apply_and.new.self in
     let w = c.args.self.now in
@@ -97,7 +97,7 @@ returns-in_ok-apply_and-in-Some-clause-decides g c = λ files asks placed held.
     record {
       own = c.in_ok-apply_and-in-Some.ensures.own;
       at = λ x. record {
-        simulates = decides-by-name k1 w c.args.among c.in_ok-live.live live names files x (seen_line names files c.args.line.now) c.args.wanted asks text (sym (c.in-Some.ensures.text files)) (Keeps-trans k12 k3)
+        simulates = decides-by-name k1 w c.args.among c.in_ok-live.live live names files x (seen_line standard names files c.args.line.now) c.args.wanted asks text (sym (c.in-Some.ensures.text standard files)) (Keeps-trans k12 k3)
             c.requires.table c.in_ok-apply_and-in-Some.field-0 taken
             (same-macros names (Keeps-trans k12 k3) w c.requires.owns table (IsTable-Keeps k3 c.in_ok-found-in-Some.ensures.table) (still-after w.table table k12 k3 c.in_ok-found-in-Some.ensures.table
             (λ config name listed. c.in_ok-found-in-Some.ensures.still config name (IsConfig-Keeps k1 listed) ∙ macros_at-Keeps k1 c.requires.table config name listed)));

@@ -7,9 +7,9 @@ pub refuse-requires-clause-owns : goal.refuse-requires-clause-owns
 refuse-requires-clause-owns g c = same-owns c.in_ok-refused.ensures.keeps c.args.self.now c.requires.owns c.define.new.self
 
 pub returns-clause-moved : goal.returns-clause-moved
-returns-clause-moved g c =
-    defines c.args.names.now c.in_ok-refused.ensures.keeps c.args.self.now c.requires.owns c.define.new.self c.in_ok-refused.ensures.table c.in_ok-refused.refused c.refuse.new.self c.args.line.now
-    (seen_defined c.args.names.now c.args.definition) c.in_ok-refused.ensures.own c.in_ok-refused.ensures.refused c.in_ok-refused.ensures.defined c.in_ok-refuse.ensures.moved
+returns-clause-moved g c = λ standard.
+    defines standard c.args.names.now c.in_ok-refused.ensures.keeps c.args.self.now c.requires.owns c.define.new.self c.in_ok-refused.ensures.table c.in_ok-refused.refused c.refuse.new.self c.args.line.now
+    (seen_defined c.args.names.now c.args.definition) c.in_ok-refused.ensures.own c.in_ok-refused.ensures.refused c.in_ok-refused.ensures.defined (c.in_ok-refuse.ensures.moved standard)
 
 pub returns-clause-keeps : goal.returns-clause-keeps
 returns-clause-keeps g c = Keeps-trans c.in_ok-refused.ensures.keeps c.in_ok-refuse.ensures.keeps

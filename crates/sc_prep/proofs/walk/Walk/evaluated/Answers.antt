@@ -34,9 +34,9 @@ returns-in_err-decided-clause-stops g c =
     let keeps = c.in_ok-live.ensures.keeps in
     let refused = c.in_err-decided.ensures.refused in
     let live = c.in_ok-live.ensures.meaning (old.has c.args.among.0) (old.has w.prepared.live.0) (Denotes-self old c.args.among.0 c.requires.among_own) (Denotes-self old w.prepared.live.0 c.requires.owns.prepared.live) in
-    let kept : StopsBy old.arities limit stop × RefusesAt old names list (is_asked old w c.args.among.0) limit stop = (
-      subst (λ arities. StopsBy arities limit stop) keeps.arities (parts-stop s names list (s.has c.in_ok-live.live.0) limit stop refused),
-      refuses-before names list (is_asked old w c.args.among.0) (s.has c.in_ok-live.live.0) limit keeps c.requires.list_own (λ config listed has. sym (live.at config (IsConfig-Keeps keeps listed)) ∙ has) stop refused,
+    let kept : StopsBy old.arities limit stop × RefusesAt c.args.standard old names list (is_asked old w c.args.among.0) limit stop = (
+      subst (λ arities. StopsBy arities limit stop) keeps.arities (parts-stop c.args.standard s names list (s.has c.in_ok-live.live.0) limit stop refused),
+      refuses-before c.args.standard names list (is_asked old w c.args.among.0) (s.has c.in_ok-live.live.0) limit keeps c.requires.list_own (λ config listed has. sym (live.at config (IsConfig-Keeps keeps listed)) ∙ has) stop refused,
     ) in
     search rules
 
@@ -58,7 +58,7 @@ returns-clause-evaluates g c =
       stage = λ files there held.
           refused-stage files names names k2 k3 (Extends-refl names) w c.refuse_each.new.self w.table d.faults.items c.requires.owns c.requires.table held (IsTable-Keeps k2 c.requires.table)
           (macros_at-Keeps k2 c.requires.table) x.faults_own refuses
-          (λ config m n. EvaluatesAt (seen_place files c.args.hash) (map (seen names files) (items_at old c.args.list.now config)) (old.has c.args.among.0 config && is_none m.fault) m (new.has d.taken.0 config) n)
+          (λ config m n. EvaluatesAt c.args.standard (seen_place files c.args.hash) (map (seen names files) (items_at old c.args.list.now config)) (old.has c.args.among.0 config && is_none m.fault) m (new.has d.taken.0 config) n)
           (All-weaker (λ (f : Fault). f.place ≡ c.args.hash) (λ (f : Fault). f.place.file.0 < length files) (λ f is. subst (λ p. p.file.0 < length files) (sym is) there) _ x.places)
           (evaluates-at k1 w c.args.among c.in_ok-live.live live x.keeps k3 c.args.list.now c.requires.list_own c.args.hash d x.own (λ config listed has. x.decided files config listed has) x.others);
     }

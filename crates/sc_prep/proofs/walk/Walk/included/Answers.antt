@@ -9,9 +9,8 @@ use Rattle.sc_model.proofs.SetLemmas.{Keeps-trans}
 use Rattle.sc_model.specs.Sets.{IsCond}
 use Rattle.sc_prep.proofs.Contents.{IsPlaced-later, contents-later}
 use Rattle.sc_prep.proofs.ExpressionMoves.{empty_context}
-use Rattle.sc_prep.proofs.FoundFiles.{keeps-same}
 use Rattle.sc_prep.proofs.IncludeLeads.{parts-later}
-use Rattle.sc_prep.proofs.LeadMoves.{limit-stops, stored-ready}
+use Rattle.sc_prep.proofs.LeadMoves.{contents-stay, limit-stops, stored-ready}
 use Rattle.sc_prep.proofs.NamedFiles.{deep-leads, found-leads, has-hash, held-later, reading-stops, sound-plain}
 use Rattle.sc_prep.proofs.WalkMoves.{owns-kept}
 use Rattle.sc_prep.specs.declared.including.Part.{Part}
@@ -25,6 +24,7 @@ use Rattle.sc_prep.specs.Simulates.{IsIn, Leads}
 use Rattle.sc_table.proofs.Growth.{IsTable-Extends, IsTable-Keeps}
 use Rattle.sc_prep.specs.Footprints.{StopsAtPlace}
 use Rattle.sc_prep.proofs.Stopping.{reading-stops-nowhere}
+use Rattle.sc_model.specs.declared.standard.Standard.TheVariants.{C11}
 use Rattle.sc_prep.proofs.walk.Walk.included.Goals as goal
 
 -- ---- the headers are named
@@ -38,12 +38,12 @@ returns-in_err-named-clause-stops g c =
     limit-stops (g.C.Conditions.sets c.args.conds.now).arities c.args.space.now.limits.branches (g.S.Source.faults c.args.src.now) (g.S.Source.faults c.args.src.now) c.from_residual.result (search (rules, stops))
 
 pub returns-in_err-named-clause-footprints : goal.returns-in_err-named-clause-footprints
-returns-in_err-named-clause-footprints g c = λ d directed says apart. let stops = c.in_err-named.ensures.stops.at_place d directed says apart in search (rules, stops)
+returns-in_err-named-clause-footprints g c = λ d directed says apart. let stops = c.in_err-named.ensures.stops.at_place c.args.space.now.standard d directed says apart in search (rules, stops)
 
 -- ---- they are nested too deep
 
 pub refuse_all-requires-clause-owns : goal.refuse_all-requires-clause-owns
-refuse_all-requires-clause-owns g c = (c.in_ok-named.ensures.named.at empty_context).simulates.owns
+refuse_all-requires-clause-owns g c = (c.in_ok-named.ensures.named.at C11 empty_context).simulates.owns
 
 pub returns-in_err-refuse_all-clause-keeps : goal.returns-in_err-refuse_all-clause-keeps
 returns-in_err-refuse_all-clause-keeps g c = Keeps-trans c.in_ok-named.ensures.keeps c.in_err-refuse_all.ensures.keeps
@@ -54,12 +54,12 @@ returns-then-entry-space-clause-finds g c = λ x context agrees.
     let files = c.args.files.now in
     let before = c.args.names.now in
     let line = c.args.line.now in
-    let hash = has-hash before files line c.requires.line in
+    let hash = has-hash c.args.space.now.standard before files line c.requires.line in
     let depth : x.include_depth ≡ c.args.space.now.limits.include_depth = context.depth in
     subst (λ (parts : List Part). Leads files before (g.C.Conditions.sets c.args.conds.now) c.args.self.now files c.named.new.names new c.refuse_all.new.self (IsIn files c.args.entry)
-    (λ config m n. Finds x (seen_line before files line) files m (files_at new parts config) n)) (sym c.new.ensures.items)
-    (deep-leads x line hash.0 c.in_ok-named.named.items c.args.entry c.in_ok-named.ensures.keeps c.requires.placed hash.1 (c.in_ok-named.ensures.named.at x).simulates c.in_ok-named.ensures.names
-    (λ less. omega (arith, less, depth, c.if-entry-space.true)) (c.in_ok-refuse_all.ensures.moved c.named.new.names))
+    (λ config m n. Finds x (seen_line c.args.space.now.standard before files line) files m (files_at new parts config) n)) (sym c.new.ensures.items)
+    (deep-leads c.args.space.now.standard x line hash.0 c.in_ok-named.named.items c.args.entry c.in_ok-named.ensures.keeps c.requires.placed hash.1 (c.in_ok-named.ensures.named.at c.args.space.now.standard x).simulates c.in_ok-named.ensures.names
+    (λ less. omega (arith, less, depth, c.if-entry-space.true)) (c.in_ok-refuse_all.ensures.moved c.args.space.now.standard c.named.new.names))
 
 pub returns-then-entry-space-clause-deep : goal.returns-then-entry-space-clause-deep
 returns-then-entry-space-clause-deep g c = λ some. absurd (omega (arith, subst (λ (parts : List Part). 0 < length parts) c.new.ensures.items some))
@@ -69,26 +69,26 @@ returns-then-entry-space-clause-ready g c =
     let files = c.args.files.now in
     let texts = c.named.new.names in
     let named = c.in_ok-named.ensures in
-    let moved = c.in_ok-refuse_all.ensures.moved texts in
+    let moved = c.in_ok-refuse_all.ensures.moved C11 texts in
     let placed = All-weaker (IsPlaced c.args.names.now (length files)) (IsPlaced texts (length files)) (IsPlaced-later named.names (Extends-refl files)) c.args.line.now c.requires.placed in
     record {
       owns = moved.owns;
-      table = moved.table (named.named.at empty_context).simulates.table;
-      held = c.in_ok-refuse_all.ensures.printable texts (length files) any_token placed (named.named.at empty_context).text.held;
+      table = moved.table (named.named.at C11 empty_context).simulates.table;
+      held = c.in_ok-refuse_all.ensures.printable texts (length files) any_token placed (named.named.at C11 empty_context).text.held;
       read = contents-later named.names (Extends-refl files) c.requires.ready.read;
     }
 
 pub returns-then-entry-space-clause-list : goal.returns-then-entry-space-clause-list
-returns-then-entry-space-clause-list g c = c.in_ok-refuse_all.ensures.list ∙ (c.in_ok-named.ensures.named.at empty_context).text.list
+returns-then-entry-space-clause-list g c = c.in_ok-refuse_all.ensures.list ∙ (c.in_ok-named.ensures.named.at C11 empty_context).text.list
 
 pub returns-then-entry-space-clause-gathered : goal.returns-then-entry-space-clause-gathered
-returns-then-entry-space-clause-gathered g c = c.in_ok-refuse_all.ensures.gathered ∙ (c.in_ok-named.ensures.named.at empty_context).text.gathered
+returns-then-entry-space-clause-gathered g c = c.in_ok-refuse_all.ensures.gathered ∙ (c.in_ok-named.ensures.named.at C11 empty_context).text.gathered
 
 pub returns-then-entry-space-clause-paths : goal.returns-then-entry-space-clause-paths
 returns-then-entry-space-clause-paths g c = λ sound plain paths each. paths
 
 pub returns-then-entry-space-clause-read : goal.returns-then-entry-space-clause-read
-returns-then-entry-space-clause-read g c = keeps-same c.args.contents.now
+returns-then-entry-space-clause-read g c = contents-stay c.args.contents.now
 
 pub returns-then-entry-space-clause-keeps : goal.returns-then-entry-space-clause-keeps
 returns-then-entry-space-clause-keeps g c = Keeps-trans c.in_ok-named.ensures.keeps c.in_ok-refuse_all.ensures.keeps
@@ -119,7 +119,7 @@ returns-in_err-found-clause-keeps g c = Keeps-trans c.in_ok-named.ensures.keeps 
 -- ---- those that find none are refused
 
 pub refuse_acting-requires-clause-owns : goal.refuse_acting-requires-clause-owns
-refuse_acting-requires-clause-owns g c = owns-kept c.in_ok-found.ensures.keeps c.named.new.self (c.in_ok-named.ensures.named.at empty_context).simulates.owns
+refuse_acting-requires-clause-owns g c = owns-kept c.in_ok-found.ensures.keeps c.named.new.self (c.in_ok-named.ensures.named.at C11 empty_context).simulates.owns
 
 pub refuse_acting-requires-clause-own : goal.refuse_acting-requires-clause-own
 refuse_acting-requires-clause-own g c = c.in_ok-found.ensures.found.missing
@@ -143,18 +143,18 @@ returns-clause-finds g c = λ x context agrees.
     let contents = c.find.new.contents in
     let found = c.in_ok-found.found in
     let including = text_at files c.args.entry.file.0 in
-    let hash = has-hash before files line c.requires.line in
+    let hash = has-hash c.args.space.now.standard before files line c.requires.line in
     let depth : x.include_depth ≡ c.args.space.now.limits.include_depth = context.depth in
     let directories : map string_bytes c.deref.result.now ≡ x.include = ap (map string_bytes) c.deref.ensures.value ∙ sym context.include in
-    let of_each = subst (λ (each : List Named). AreFound old each including (map string_bytes c.deref.result.now) later more contents new found) c.deref-2.ensures.value c.in_ok-found.ensures.found in
-    found-leads x line hash.0 named.named.items c.args.entry named.ensures.keeps c.requires.placed hash.1 (named.ensures.named.at x).simulates named.ensures.names
-    found c.in_ok-found.ensures.keeps c.in_ok-refuse_acting.ensures.keeps c.in_ok-found.ensures.names c.in_ok-found.ensures.files (named.ensures.named.at empty_context).text.held
+    let of_each = subst (λ (each : List Named). AreFound c.args.space.now.standard old each including (map string_bytes c.deref.result.now) later more contents new found) c.deref-2.ensures.value c.in_ok-found.ensures.found in
+    found-leads c.args.space.now.standard x line hash.0 named.named.items c.args.entry named.ensures.keeps c.requires.placed hash.1 (named.ensures.named.at c.args.space.now.standard x).simulates named.ensures.names
+    found c.in_ok-found.ensures.keeps c.in_ok-refuse_acting.ensures.keeps c.in_ok-found.ensures.names c.in_ok-found.ensures.files (named.ensures.named.at C11 empty_context).text.held
     (omega (arith, depth, c.if-entry-space.false)) agrees
-    (subst (λ (each : List (List ℕ)). AreFound old named.named.items including each later more contents new found) directories of_each)
-    (c.in_ok-refuse_acting.ensures.moved later)
+    (subst (λ (each : List (List ℕ)). AreFound c.args.space.now.standard old named.named.items including each later more contents new found) directories of_each)
+    (c.in_ok-refuse_acting.ensures.moved c.args.space.now.standard later)
 
 pub returns-clause-parts : goal.returns-clause-parts
-returns-clause-parts g c = parts-later c.in_ok-refuse_acting.ensures.keeps (keeps-same c.find.new.contents) c.in_ok-found.ensures.found.parts
+returns-clause-parts g c = parts-later c.in_ok-refuse_acting.ensures.keeps (contents-stay c.find.new.contents) c.in_ok-found.ensures.found.parts
 
 pub returns-clause-deep : goal.returns-clause-deep
 returns-clause-deep g c = λ some. omega (arith, c.if-entry-space.false)
@@ -166,21 +166,21 @@ returns-clause-ready g c =
     let later = c.find.new.names in
     let named = c.in_ok-named.ensures in
     let found = c.in_ok-found.ensures in
-    let moved = c.in_ok-refuse_acting.ensures.moved later in
+    let moved = c.in_ok-refuse_acting.ensures.moved C11 later in
     let placed =
     All-weaker (IsPlaced c.args.names.now (length files)) (IsPlaced later (length more)) (IsPlaced-later (Extends-trans named.names found.names) found.files) c.args.line.now c.requires.placed in
     record {
       owns = moved.owns;
-      table = moved.table (IsTable-Extends found.names (IsTable-Keeps found.keeps (named.named.at empty_context).simulates.table));
-      held = c.in_ok-refuse_acting.ensures.printable later (length more) any_token placed (held-later found.names found.files c.named.new.self (named.named.at empty_context).text.held);
+      table = moved.table (IsTable-Extends found.names (IsTable-Keeps found.keeps (named.named.at C11 empty_context).simulates.table));
+      held = c.in_ok-refuse_acting.ensures.printable later (length more) any_token placed (held-later found.names found.files c.named.new.self (named.named.at C11 empty_context).text.held);
       read = found.contents;
     }
 
 pub returns-clause-list : goal.returns-clause-list
-returns-clause-list g c = c.in_ok-refuse_acting.ensures.list ∙ (c.in_ok-named.ensures.named.at empty_context).text.list
+returns-clause-list g c = c.in_ok-refuse_acting.ensures.list ∙ (c.in_ok-named.ensures.named.at C11 empty_context).text.list
 
 pub returns-clause-gathered : goal.returns-clause-gathered
-returns-clause-gathered g c = c.in_ok-refuse_acting.ensures.gathered ∙ (c.in_ok-named.ensures.named.at empty_context).text.gathered
+returns-clause-gathered g c = c.in_ok-refuse_acting.ensures.gathered ∙ (c.in_ok-named.ensures.named.at C11 empty_context).text.gathered
 
 pub returns-clause-paths : goal.returns-clause-paths
 returns-clause-paths g c = λ sound plain paths each.

@@ -19,7 +19,7 @@ returns-in-Some-clause-takes g c = on_ok_weaker c.conditional_line.result (λ de
     let next = c.conditional_line.new.self in
     let stage = decides x in
     record {
-      simulates = takes-decided c.args.files.now c.args.tokens.now c.in-Some.conditional
+      simulates = takes-decided c.args.standard c.args.files.now c.args.tokens.now c.in-Some.conditional
           (conditional-found c.args.line.now.directive c.in-Some.conditional c.in-Some.ensures ∙ c.requires.directive) x stage.simulates;
       held = stage.text.held;
       plain = λ plain was. subst (AllPass (is_plain c.conditional_line.new.names)) (sym stage.text.list)

@@ -17,6 +17,7 @@ use Rattle.sc_prep.proofs.Stages.{text-then}
 use Rattle.sc_prep.proofs.WalkMoves.{owns-kept}
 use Rattle.sc_prep.specs.Stages.{StopsSaid}
 use Rattle.sc_prep.proofs.DirectiveStops.{lists-stop}
+use Rattle.sc_model.specs.declared.standard.Standard.TheVariants.{C11}
 use Rattle.sc_prep.proofs.walk.Walk.number_line.Goals as goal
 
 -- what stands past the last token
@@ -30,8 +31,11 @@ pub not_numbered-requires-clause-held : goal.not_numbered-requires-clause-held
 not_numbered-requires-clause-held g c =
     subst (EachToken (IsHeld c.said.new.names)) (sym c.deref.ensures.value) (c.in_ok-parts.ensures.held c.said.new.names (λ k d h. (c.in_ok-list.ensures.says.placed k d h).held))
 
+pub alternatives-requires-clause-cond_own : goal.alternatives-requires-clause-cond_own
+alternatives-requires-clause-cond_own g c = (c.in_ok-list.ensures.says.stage C11).simulates.owns.acting
+
 pub refuse-requires-clause-owns : goal.refuse-requires-clause-owns
-refuse-requires-clause-owns g c = owns-kept (Keeps-trans c.in_ok-parts.ensures.keeps c.in_ok-others.ensures.keeps) c.said.new.self c.in_ok-list.ensures.says.stage.simulates.owns
+refuse-requires-clause-owns g c = owns-kept (Keeps-trans c.in_ok-parts.ensures.keeps c.in_ok-others.ensures.keeps) c.said.new.self (c.in_ok-list.ensures.says.stage C11).simulates.owns
 
 pub refuse-requires-clause-own : goal.refuse-requires-clause-own
 refuse-requires-clause-own g c = (c.in_ok-others.ensures.meaning []).own
@@ -44,7 +48,7 @@ returns-in_err-parts-clause-stops g c =
     let kept : StopsSaid s c.args.names.now c.args.files.now c.args.self.now c.args.line.now c.args.limit stop =
     record {
       by = subst (λ a. StopsBy a c.args.limit stop) list.keeps.arities c.in_err-parts.ensures.stops;
-      at_place = λ d directed says apart. lists-stop c.args.limit stop list.keeps.arities (list.says.lists d (c.args.limit + 1) directed says apart) c.in_err-parts.ensures.lists;
+      at_place = λ standard d directed says apart. lists-stop c.args.limit stop list.keeps.arities (list.says.lists standard d (c.args.limit + 1) directed says apart) c.in_err-parts.ensures.lists;
     } in
     search rules
 
@@ -63,22 +67,22 @@ returns-clause-keeps g c =
     Keeps-trans c.in_ok-list.ensures.keeps (Keeps-trans c.in_ok-parts.ensures.keeps (Keeps-trans c.in_ok-others.ensures.keeps c.in_ok-refuse.ensures.keeps))
 
 pub returns-clause-carries : goal.returns-clause-carries
-returns-clause-carries g c = λ x.
+returns-clause-carries g c = λ standard x.
     let names = c.args.names.now in
     let more = c.said.new.names in
     let files = c.args.files.now in
     let line = c.args.line.now in
     let list = c.in_ok-list.ensures in
-    let said = list.says.stage in
+    let said = list.says.stage standard in
     let refuse = c.in_ok-refuse.ensures in
     let s2 = g.C.Conditions.sets c.alternatives.new.conds in
     let s3 = g.C.Conditions.sets c.not_numbered.new.conds in
     let test : List Token → Bool = λ ts. not (is_numbering (map (seen more files) ts)) in
     let wrong = subst (λ xs. Denotes s3 c.in_ok-others.others.0 (λ config. list_any test (tokens_in s2 xs config))) c.deref.ensures.value (c.in_ok-others.ensures.meaning files) in
     record {
-      simulates = line-numbered files names more list.keeps c.in_ok-parts.ensures.keeps c.in_ok-others.ensures.keeps c.args.self.now c.said.new.self line c.in_ok-list.list
-          said.simulates c.in_ok-parts.parts.items c.in_ok-parts.ensures.at c.refuse.new.self c.in_ok-others.others.0 wrong (refuse.moved more)
-          (line-grown files list.names line (λ k d h. (c.requires.placed k d h).held)) (seen names files (get_or line 0 no_token)) (hash-line names files line no_token c.requires.line) x;
+      simulates = line-numbered standard files names more list.keeps c.in_ok-parts.ensures.keeps c.in_ok-others.ensures.keeps c.args.self.now c.said.new.self line c.in_ok-list.list
+          said.simulates c.in_ok-parts.parts.items c.in_ok-parts.ensures.at c.refuse.new.self c.in_ok-others.others.0 wrong (refuse.moved standard more)
+          (line-grown files list.names standard line (λ k d h. (c.requires.placed k d h).held)) (seen names files (get_or line 0 no_token)) (hash-line standard names files line no_token c.requires.line) x;
       text = text-then c.args.self.now c.said.new.self c.refuse.new.self said.text
           (refuse.printable more (length files) any_token (λ k d h. placed-grown list.names (length files) _ (c.requires.placed k d h)) said.text.held) refuse.list refuse.gathered;
     }

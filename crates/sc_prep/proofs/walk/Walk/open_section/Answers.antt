@@ -4,10 +4,9 @@ use Rattle.sc_model.proofs.SetLemmas.{Keeps-trans, Denotes-self}
 use Rattle.sc_lines.specs.Nests.{seen_line}
 use Rattle.c11_directives.specs.Footprints.{MomentsHave}
 use Rattle.c11_directives.specs.Lines.{test_in}
-use Rattle.sc_prep.specs.Printable.{IsPlaced}
+use Rattle.sc_prep.specs.Printable.{IsPlaced, any_token}
 use Rattle.sc_prep.proofs.ExpressionMoves.{empty_context, section-opened}
 use Rattle.std.specs.Prelude.{[]}
-use Rattle.sc_prep.specs.Printable.{any_token}
 use Rattle.sc_prep.specs.Footprints.{Comes, ComesAt, StopsAtPlace, any_machine}
 use Rattle.sc_prep.proofs.Stages.{stage-stops, text-then}
 use Rattle.sc_prep.proofs.DirectiveStops.{opening-stops}
@@ -27,7 +26,7 @@ returns-clause-decides g c = λ x.
     let begins = c.in_ok-begin_section.ensures in
     let was = decides.at x in
     record {
-      simulates = section-opened c.args.files.now x (seen_line c.args.names.now c.args.files.now c.args.line.now) c.requires.line c.in_ok-taken.ensures.keeps c.in_ok-taken.taken was.simulates
+      simulates = section-opened c.args.files.now x (seen_line c.args.standard c.args.names.now c.args.files.now c.args.line.now) c.requires.line c.in_ok-taken.ensures.keeps c.in_ok-taken.taken was.simulates
           (begins.opened names _ (Denotes-self (g.C.Conditions.sets c.decide_test.new.conds) c.in_ok-taken.taken.0 decides.own));
       text = text-then c.args.self.now c.decide_test.new.self c.begin_section.new.self was.text
           (begins.printable names [] count any_token (All-nil (IsPlaced names count)) was.text.held) begins.list begins.gathered;
@@ -44,7 +43,7 @@ returns-in_err-taken-clause-stops g c = λ x.
     let s = g.C.Conditions.sets c.args.conds.now in
     let names = c.args.names.now in
     let files = c.args.files.now in
-    let l = seen_line names files c.args.line.now in
+    let l = seen_line c.args.standard names files c.args.line.now in
     let w = c.args.self.now in
     let stops = c.in_err-taken.ensures.stops in
     stage-stops s names files w c.args.line.now (λ config m. MomentsHave (ComesAt x m l)) c.args.limit c.from_residual.result (let by = stops.by in search (rules, by))

@@ -10,11 +10,11 @@ use Rattle.sc_prep.proofs.ApartLemmas.{gathers-same}
 use Rattle.sc_prep.proofs.walk.Walk.plain_line.Goals as goal
 
 pub returns-in_ok-put-in-None-clause-moved : goal.returns-in_ok-put-in-None-clause-moved
-returns-in_ok-put-in-None-clause-moved g c =
+returns-in_ok-put-in-None-clause-moved g c = λ standard.
     let names = c.args.names.now in
     let line = c.args.line.now in
-    step-as (λ files config m. acting m (λ s. with_text s (seen_line names files line))) (λ files config m. plain_by m (seen_line names files line) c.args.directive)
-    (λ files config m _ _. ap (plain_by m (seen_line names files line)) (sym c.in-None.is)) (c.in_ok-put-in-None.ensures.moved names)
+    step-as (λ files config m. acting m (λ s. with_text s (seen_line standard names files line))) (λ files config m. plain_by m (seen_line standard names files line) c.args.directive)
+    (λ files config m _ _. ap (plain_by m (seen_line standard names files line)) (sym c.in-None.is)) (c.in_ok-put-in-None.ensures.moved standard names)
 
 pub returns-in-Some-Define-clause-moved : goal.returns-in-Some-Define-clause-moved
 returns-in-Some-Define-clause-moved g c =
@@ -22,9 +22,9 @@ returns-in-Some-Define-clause-moved g c =
     let line = c.args.line.now in
     let at = rw c.in-Some-Define.is at c.in-Some-Define.field-0-is in
     let is : c.args.directive ≡ Some kind.Define = c.in-Some-Define.is ∙ ap Some at in
-    on_ok_weaker c.define.result (step-as (λ files config m. changing m (seen_line names files line) (changed_by m.state.macros (seen_line names files line) kind.Define))
-    (λ files config m. plain_by m (seen_line names files line) c.args.directive)
-    (λ files config m _ _. ap (plain_by m (seen_line names files line)) (sym is)))
+    on_ok_weaker c.define.result (λ moved standard. step-as (λ files config m. changing m (seen_line standard names files line) (changed_by m.state.macros (seen_line standard names files line) kind.Define))
+    (λ files config m. plain_by m (seen_line standard names files line) c.args.directive)
+    (λ files config m _ _. ap (plain_by m (seen_line standard names files line)) (sym is)) (moved standard))
     c.define.ensures.moved
 
 pub returns-in-Some-Define-clause-gathers : goal.returns-in-Some-Define-clause-gathers
@@ -36,20 +36,20 @@ returns-in-Some-Undef-clause-moved g c =
     let line = c.args.line.now in
     let at = rw c.in-Some-Undef.is at c.in-Some-Undef.field-0-is in
     let is : c.args.directive ≡ Some kind.Undef = c.in-Some-Undef.is ∙ ap Some at in
-    on_ok_weaker c.undef.result (step-as (λ files config m. changing m (seen_line names files line) (changed_by m.state.macros (seen_line names files line) kind.Undef))
-    (λ files config m. plain_by m (seen_line names files line) c.args.directive)
-    (λ files config m _ _. ap (plain_by m (seen_line names files line)) (sym is)))
+    on_ok_weaker c.undef.result (λ moved standard. step-as (λ files config m. changing m (seen_line standard names files line) (changed_by m.state.macros (seen_line standard names files line) kind.Undef))
+    (λ files config m. plain_by m (seen_line standard names files line) c.args.directive)
+    (λ files config m _ _. ap (plain_by m (seen_line standard names files line)) (sym is)) (moved standard))
     c.undef.ensures.moved
 
 pub returns-in-Some-Undef-clause-gathers : goal.returns-in-Some-Undef-clause-gathers
 returns-in-Some-Undef-clause-gathers g c = on_ok_weaker c.undef.result (gathers-same c.args.line.now c.args.self.now c.undef.new.self) c.undef.ensures.gathered
 
 pub returns-in-Some-clause-moved : goal.returns-in-Some-clause-moved
-returns-in-Some-clause-moved g c = on_ok_weaker c.other_line.result (λ moved.
+returns-in-Some-clause-moved g c = on_ok_weaker c.other_line.result (λ moved standard.
     let names = c.args.names.now in
     let line = c.args.line.now in
-    step-as (λ files config m. plain_by m (seen_line names files line) (Some c.in-Some.directive)) (λ files config m. plain_by m (seen_line names files line) c.args.directive)
-    (λ files config m _ _. ap (plain_by m (seen_line names files line)) (sym c.in-Some.is)) (moved names))
+    step-as (λ files config m. plain_by m (seen_line standard names files line) (Some c.in-Some.directive)) (λ files config m. plain_by m (seen_line standard names files line) c.args.directive)
+    (λ files config m _ _. ap (plain_by m (seen_line standard names files line)) (sym c.in-Some.is)) (moved standard names))
     c.other_line.ensures.moved
 
 pub returns-in-Some-clause-gathers : goal.returns-in-Some-clause-gathers

@@ -18,13 +18,13 @@ abbrev no_token : Token
 no_token = record { kind = Identifier; name = record { 0 = 0 }; spelling = record { 0 = 0 }; space = false; place = record { file = record { 0 = 0 }; line = 0; column = 0 } }
 
 pub returns-clause-moved : goal.returns-clause-moved
-returns-clause-moved g c = on_ok_weaker c.refuse_at.result (λ refused. λ names t part.
+returns-clause-moved g c = on_ok_weaker c.refuse_at.result (λ refused. λ standard names t part.
     let old = g.C.Conditions.sets c.args.conds.now in
     let w = c.args.self.now in
     let line = c.args.line.now in
-    subst (λ l. SimulatesStep names old w (g.C.Conditions.sets c.refuse_at.new.conds) c.refuse_at.new.self (λ files config m. refusing_if (t config) m (seen_line names files l) c.args.cause))
+    subst (λ l. SimulatesStep names old w (g.C.Conditions.sets c.refuse_at.new.conds) c.refuse_at.new.self (λ files config m. refusing_if (t config) m (seen_line standard names files l) c.args.cause))
     (sym (drop-cons line 0 no_token c.requires.line))
-    (refuses names c.refuse_at.ensures.keeps w c.requires.owns c.args.part t c.args.cause (get_or line 0 no_token) (drop 1 line) c.refuse_at.new.self part refused))
+    (refuses standard names c.refuse_at.ensures.keeps w c.requires.owns c.args.part t c.args.cause (get_or line 0 no_token) (drop 1 line) c.refuse_at.new.self part refused))
     c.refuse_at.ensures.refuses
 
 pub returns-clause-printable : goal.returns-clause-printable
@@ -33,8 +33,8 @@ returns-clause-printable g c = on_ok_weaker c.refuse_at.result (λ refused. λ n
     c.refuse_at.ensures.refuses
 
 pub returns-then-is_never-clause-moved : goal.returns-then-is_never-clause-moved
-returns-then-is_never-clause-moved g c = λ names t part.
-    refuses-none names (g.C.Conditions.sets c.args.conds.now) c.args.self.now c.requires.owns c.args.part t c.args.cause part (c.is_never.ensures.0 c.if-is_never.true) c.args.line.now
+returns-then-is_never-clause-moved g c = λ standard names t part.
+    refuses-none standard names (g.C.Conditions.sets c.args.conds.now) c.args.self.now c.requires.owns c.args.part t c.args.cause part (c.is_never.ensures.0 c.if-is_never.true) c.args.line.now
 
 pub returns-clause-list : goal.returns-clause-list
 returns-clause-list g c = on_ok_weaker c.refuse_at.result (λ refused. ap (λ (v : Walk). v.prepared.list) refused.same) c.refuse_at.ensures.refuses

@@ -14,6 +14,6 @@ returns-clause-moved g c =
     let part = c.args.part.0 in
     let keeps = c.in_ok-refused.ensures.keeps in
     let both = c.in_ok-refused.ensures.meaning (old.has part) (old.has acting) (Denotes-self old part c.requires.own) (Denotes-self old acting c.requires.owns.acting) in
-    on_ok_weaker c.refuse.result (λ moved names. step-kept keeps c.requires.owns (moved names (old.has part)
+    on_ok_weaker c.refuse.result (λ moved standard names. step-kept keeps c.requires.owns (moved standard names (old.has part)
     (denotes-as (λ config. old.has part config && old.has acting config) (λ config. old.has part config && mid.has acting config)
     (λ config listed. ap (λ b. old.has part config && b) (sym (keeps.at acting config c.requires.owns.acting (IsConfig-kept keeps listed)))) both))) c.refuse.ensures.moved

@@ -8,14 +8,15 @@ use Rattle.sc_base.specs.Seen.{seen}
 use Rattle.sc_guarded.specs.Items.{items_at}
 use Rattle.sc_lines.specs.Nests.{seen_line}
 use Rattle.sc_model.specs.Token as model
+use Rattle.sc_model.specs.declared.standard.Standard.{Standard}
 use Rattle.sc_prep.proofs.SaidMoves.{expands-to, list-is, list-own, list-placed, stands}
 use Rattle.sc_prep.proofs.DirectiveStops.{behind-different, header-stops, name-said-stops, said-stops}
 use Rattle.sc_prep.proofs.walk.Walk.said.Goals as goal
 
 -- what stands behind the name was tested
-tested-line : (names files : List (List ℕ)) (line behind : List Token) (b : Bool) → behind ≡ drop 2 line → begins_with_header (map (seen names files) behind) ≡ b
-    → begins_with_header (behind_name (seen_line names files line)) ≡ b
-tested-line names files line behind b is tested = ap begins_with_header (drop-map (seen names files) 2 line ∙ ap (map (seen names files)) (sym is)) ∙ tested
+tested-line : (standard : Standard) (names files : List (List ℕ)) (line behind : List Token) (b : Bool) → behind ≡ drop 2 line → begins_with_header (map (seen names files) behind) ≡ b
+    → begins_with_header (behind_name (seen_line standard names files line)) ≡ b
+tested-line standard names files line behind b is tested = ap begins_with_header (drop-map (seen names files) 2 line ∙ ap (map (seen names files)) (sym is)) ∙ tested
 
 pub returns-then-begins_with_header-clause-says : goal.returns-then-begins_with_header-clause-says
 returns-then-begins_with_header-clause-says g c =
@@ -28,15 +29,15 @@ returns-then-begins_with_header-clause-says g c =
     let stored = c.requires.stored in
     let same = list-is w line c.behind_name-behind.result.now list c.behind_name-behind.ensures c.in_ok-list.ensures in
     let tested : begins_with_header (map (seen names files) c.behind_name-behind.result.now) ≡ true = sym (c.begins_with_header.ensures names files) ∙ c.if-begins_with_header.true in
-    let header = tested-line names files line c.behind_name-behind.result.now true c.behind_name-behind.ensures tested in
+    let header = λ (standard : Standard). tested-line standard names files line c.behind_name-behind.result.now true c.behind_name-behind.ensures tested in
     record {
       own = list-own s w line list same stored.owns;
       placed = list-placed names (length files) w line list same c.requires.placed;
-      stage = record {
-        simulates = stands names files s w line list same stored.owns stored.table header;
+      stage = λ standard. record {
+        simulates = stands names files s w line list same standard stored.owns stored.table (header standard);
         text = record { held = stored.held; list = refl; gathered = refl };
       };
-      lists = λ d count directed says apart lists. header-stops names files s w line list same d directed says apart header count lists;
+      lists = λ standard d count directed says apart lists. header-stops names files s w line list same standard d directed says apart (header standard) count lists;
     }
 
 pub expanded-requires-clause-list_own : goal.expanded-requires-clause-list_own
@@ -60,16 +61,16 @@ returns-clause-says g c =
     let text = c.in_ok-list.list in
     let same = list-is w line c.behind_name-behind.result.now text c.behind_name-behind.ensures c.in_ok-list.ensures in
     let tested : begins_with_header (map (seen names files) c.behind_name-behind.result.now) ≡ false = sym (c.begins_with_header.ensures names files) ∙ c.if-begins_with_header.false in
-    let other = tested-line names files line c.behind_name-behind.result.now false c.behind_name-behind.ensures tested in
+    let other = λ (standard : Standard). tested-line standard names files line c.behind_name-behind.result.now false c.behind_name-behind.ensures tested in
     IfOk-weaker c.expanded.result _ _ (λ list expands.
     let ts : List ℕ → List model.Token = λ config. map (seen c.expanded.new.names files) (items_at new list config) in
     let stage = expands.stage in
     record {
       own = expands.own;
       placed = expands.placed;
-      stage = record { simulates = expands-to names files s w line text same ts other stage.simulates; text = stage.text };
-      lists = λ d count directed says apart lists.
-          said-stops names files s w line text same d directed says apart other c.expanded.ensures.keeps list ts
+      stage = λ standard. record { simulates = expands-to names files s w line text same standard ts (other standard) stage.simulates; text = stage.text };
+      lists = λ standard d count directed says apart lists.
+          said-stops names files s w line text same standard d directed says apart (other standard) c.expanded.ensures.keeps list ts
           (list-own s w line text same c.requires.stored.owns) expands.own stage.simulates expands.answers expands.alike count lists;
     }) c.expanded.ensures.expands
 
@@ -83,8 +84,8 @@ returns-clause-stops g c =
     let tested : begins_with_header (map (seen names files) c.behind_name-behind.result.now) ≡ false = sym (c.begins_with_header.ensures names files) ∙ c.if-begins_with_header.false in
     IfErr-weaker c.expanded.result _ _ (λ stop stops. record {
       by = stops.0;
-      at_place = λ d directed says apart.
-          name-said-stops names files (g.C.Conditions.sets c.args.conds.now) w line c.in_ok-list.list same d directed says
-          (tested-line names files line c.behind_name-behind.result.now false c.behind_name-behind.ensures tested) c.args.limit stop
+      at_place = λ standard d directed says apart.
+          name-said-stops names files (g.C.Conditions.sets c.args.conds.now) w line c.in_ok-list.list same standard d directed says
+          (tested-line standard names files line c.behind_name-behind.result.now false c.behind_name-behind.ensures tested) c.args.limit stop
           (stops.1 (behind-different names files w line c.in_ok-list.list same apart));
     }) c.expanded.ensures.stops

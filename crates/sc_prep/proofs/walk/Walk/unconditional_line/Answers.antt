@@ -18,7 +18,7 @@ pub plain_line-requires-clause-held : goal.plain_line-requires-clause-held
 plain_line-requires-clause-held g c = λ k d h. (c.requires.placed k d h).held
 
 pub plain_line-requires-clause-line : goal.plain_line-requires-clause-line
-plain_line-requires-clause-line g c = directive-long c.args.names.now c.args.line.now c.args.directive c.requires.directive
+plain_line-requires-clause-line g c = directive-long c.args.standard c.args.names.now c.args.line.now c.args.directive c.requires.directive
 
 pub returns-in-None-clause-takes : goal.returns-in-None-clause-takes
 returns-in-None-clause-takes g c =
@@ -30,7 +30,7 @@ returns-in-None-clause-takes g c =
     let stored = c.requires.stored in
     let p = c.plain_line.ensures in
     ok-three c.plain_line.result (λ moved stays gathers x. record {
-      simulates = takes-plain c.args.files.now line c.args.directive c.requires.directive (barrier-missing c.args.directive c.in-None.ensures) c.requires.local.0 stored.table moved x;
+      simulates = takes-plain c.args.standard c.args.files.now line c.args.directive c.requires.directive (barrier-missing c.args.directive c.in-None.ensures) c.requires.local.0 stored.table (moved c.args.standard) x;
       held = stays count any_token c.requires.placed stored.held;
       plain = λ plain was. stays-plain names count line w next stays c.requires.placed stored.held was;
       gathers = gathers;
