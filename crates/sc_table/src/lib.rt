@@ -3,8 +3,10 @@
 
 mod change;
 mod entry;
+mod laws;
 mod parts;
 mod start;
 mod table;
 
+pub use laws::tables_keep_their_meaning;
 pub use table::MacroTable;
