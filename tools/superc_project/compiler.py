@@ -38,6 +38,7 @@ ASKING = (
 ASKING_OTHERWISE = ("__has_include", "__has_include_next", "__has_warning")
 DEFINITION = re.compile(r"^#define (\w+(?:\([^)]*\))?)(?: (.*))?$", re.M)
 STRICT = re.compile(r"c\d|iso9899")
+LATER = re.compile(r"(c|gnu)2[3xy]|iso9899:2024")
 
 
 class CompilerError(Exception):
@@ -47,6 +48,11 @@ class CompilerError(Exception):
 def standard_of(standard: str) -> str:
     """C11, as strict as the standard that the words name."""
     return "c11" if STRICT.match(standard) else "gnu11"
+
+
+def is_later(standard: str) -> bool:
+    """Whether the words name C23 or what comes after it."""
+    return LATER.match(standard) is not None
 
 
 @dataclass(frozen=True)

@@ -8,7 +8,7 @@ import os
 from collections.abc import Iterable
 from dataclasses import dataclass, field
 
-from .compiler import ASKING, ASKING_OTHERWISE, OWN, PROTECTED, Compiler
+from .compiler import ASKING, ASKING_OTHERWISE, OWN, PROTECTED, Compiler, is_later
 from .compiles import Compile, macro_name
 from .forms import Forms
 from .overlay import Edits, Overlay, write_if_new
@@ -158,6 +158,7 @@ class Folder:
             *[f"  {json.dumps(one)}," for one in listed],
             "]",
             f"include_depth = {DEEPEST}",
+            *(['standard = "c23"'] if is_later(self.unit.compile.standard) else []),
             "",
             "[variables]",
         ]
@@ -249,7 +250,8 @@ class Folder:
                     notes.append(f"{name} is {value}, as superc has it")
         standard = self.unit.compile.standard
         if standard not in ("c11", "gnu11", "iso9899:2011"):
-            notes.append(f"the standard {standard or 'of the compiler'} is read as C11")
+            more = " with #elifdef and binary constants" if is_later(standard) else ""
+            notes.append(f"the standard {standard or 'of the compiler'} is read as C11{more}")
         notes += [
             f"-D{head}: no directive may define it"
             for head, _ in self.unit.compile.macros

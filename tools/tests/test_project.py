@@ -13,7 +13,7 @@ import unittest
 from pathlib import Path
 
 from superc_project import kconfig, runs
-from superc_project.compiler import standard_of
+from superc_project.compiler import is_later, standard_of
 from superc_project.compiles import CompileError, compile_of, read_database
 from superc_project.forms import Forms
 from superc_project.makefiles import Job, makefile, ninja
@@ -78,6 +78,8 @@ class Words(unittest.TestCase):
             "gnu17": "gnu11",
         }
         self.assertEqual({name: standard_of(name) for name in rows}, rows)
+        later = ["c23", "gnu23", "c2x", "gnu2x", "c2y", "iso9899:2024"]
+        self.assertEqual([name for name in [*rows, *later] if is_later(name)], later)
 
 
 class Variadics(unittest.TestCase):
@@ -434,6 +436,15 @@ class Whole(unittest.TestCase):
         self.assertRegex(
             included, f'#include "{self.folder}/superc-out/overlay/[0-9a-f]+{self.folder}/m.c"'
         )
+
+    def test_a_unit_of_c23(self) -> None:
+        for standard, wanted in ("gnu2x", "c23"), ("gnu17", None):
+            done = self.run_tool(
+                "unit", "--variable", "A", "--", "gcc", f"-std={standard}", "-c", "m.c"
+            )
+            self.assertEqual((done.returncode, done.stdout), (0, "superc-out/units/m.c\n"))
+            space = Path(self.folder, "superc-out/units/m.c/space.toml")
+            self.assertEqual(tomllib.loads(space.read_text()).get("standard"), wanted)
 
     def test_all_units(self) -> None:
         done = self.run_tool("all", "--superc", "./superc", "--variable", "A", "-j", "1")
