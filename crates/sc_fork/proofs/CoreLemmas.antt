@@ -13,7 +13,7 @@ use Rattle.sc_fork.proofs.ReplaceLemmas.{length-without}
 use Rattle.sc_fork.specs.declared.enabled.Enabled.{Enabled}
 use Rattle.sc_fork.specs.declared.event.Event.{Event}
 use Rattle.sc_fork.specs.declared.event.Event.TheVariants as event
-use Rattle.sc_fork.specs.declared.fork.Core.{Core}
+use Rattle.sc_fork.specs.View.{View}
 use Rattle.sc_fork.specs.declared.piece.Ended.{Ended}
 use Rattle.sc_fork.specs.declared.piece.Piece as kept
 use Rattle.sc_fork.specs.declared.piece.Piece.TheVariants.{Going}
@@ -89,17 +89,17 @@ module _ (w : Tables) (input : Input) where
 
 module _ (old new : Sets) (lines added : List Line) (names files : List (List ℕ)) (input : Input) where
   -- a core is seen as before in stores that have grown
-  pub IsCore-Grows : (c : Core) (seen : core.Core) → Keeps old new → Extends lines added → IsCore (tables_with old lines names files) input c seen → IsCore (tables_with new added names files) input c seen
+  pub IsCore-Grows : (c : View) (seen : core.Core) → Keeps old new → Extends lines added → IsCore (tables_with old lines names files) input c seen → IsCore (tables_with new added names files) input c seen
   IsCore-Grows c seen keeps longer is = record {
     source = IsInput-Grows names files c.source input keeps is.source;
-    rows = rows-Grow keeps longer names files input is.source.arities c.rows.items seen.rows is.rows;
-    ended = over-Grow keeps longer names files input is.source.arities c.ended.items seen.ended is.ended;
+    rows = rows-Grow keeps longer names files input is.source.arities c.subparsers seen.rows is.rows;
+    ended = over-Grow keeps longer names files input is.source.arities c.ended seen.ended is.ended;
   }
 
   -- the core after an event that leaves these numbers and has these pieces
-  pub seen-after : (before after : Core) (e : Event) (seen : core.Core) (gone : List (Option core.Subparser)) (pieces : List kept.Piece) (qs : List core.Piece) (made : List ℕ)
+  pub seen-after : (before after : View) (e : Event) (seen : core.Core) (gone : List (Option core.Subparser)) (pieces : List kept.Piece) (qs : List core.Piece) (made : List ℕ)
       → Keeps old new → Extends lines added → IsCore (tables_with old lines names files) input before seen → after.source ≡ before.source → Becomes before e pieces after made
-      → AreRows (tables_with new added names files) input (without (numbers_of e) before.rows.items) gone → AreSeen (tables_with new added names files) input pieces qs
+      → AreRows (tables_with new added names files) input (without (numbers_of e) before.subparsers) gone → AreSeen (tables_with new added names files) input pieces qs
       → IsCore (tables_with new added names files) input after (record { rows = gone ++ going_in qs; ended = seen.ended ++ over_in qs })
   seen-after before after e seen gone pieces qs made keeps longer is source becomes rows pieces_seen =
       let v = tables_with new added names files in
@@ -107,33 +107,33 @@ module _ (old new : Sets) (lines added : List Line) (names files : List (List �
       record {
         source = subst (λ s. IsInput v s input) (sym source) grown.source;
         rows = subst (λ rs. AreRows v input rs (gone ++ going_in qs)) (sym becomes.rows)
-            (rows-append v input (without (numbers_of e) before.rows.items) (going_of pieces) gone (going_in qs) rows (rows-going v input pieces qs pieces_seen));
+            (rows-append v input (without (numbers_of e) before.subparsers) (going_of pieces) gone (going_in qs) rows (rows-going v input pieces qs pieces_seen));
         ended = subst (λ es. AreOver v input es (seen.ended ++ over_in qs)) (sym becomes.ended)
-            (over-append v input before.ended.items (over_of pieces) seen.ended (over_in qs) grown.ended (over-over v input pieces qs pieces_seen));
+            (over-append v input before.ended (over_of pieces) seen.ended (over_in qs) grown.ended (over-over v input pieces qs pieces_seen));
       }
 
-  numbers-are : (before after : Core) (e : Event) (pieces : List kept.Piece) (made : List ℕ) → Becomes before e pieces after made
-      → made ≡ range_with_len (length before.rows.items) (length after.rows.items - length before.rows.items)
+  numbers-are : (before after : View) (e : Event) (pieces : List kept.Piece) (made : List ℕ) → Becomes before e pieces after made
+      → made ≡ range_with_len (length before.subparsers) (length after.subparsers - length before.subparsers)
   numbers-are before after e pieces made becomes =
-      let all = ap length becomes.rows ∙ length-append (without (numbers_of e) before.rows.items) (going_of pieces) in
-      let kept_rows = length-without (numbers_of e) before.rows.items in
-      let more : length (going_of pieces) ≡ length after.rows.items - length before.rows.items = omega (arith, all, kept_rows) in
-      becomes.numbers ∙ ap (range_with_len (length before.rows.items)) more
+      let all = ap length becomes.rows ∙ length-append (without (numbers_of e) before.subparsers) (going_of pieces) in
+      let kept_rows = length-without (numbers_of e) before.subparsers in
+      let more : length (going_of pieces) ≡ length after.subparsers - length before.subparsers = omega (arith, all, kept_rows) in
+      becomes.numbers ∙ ap (range_with_len (length before.subparsers)) more
 
   -- an event of one subparser
-  alone-applied : (before after : Core) (e : Event) (event : ℕ → core.Event) (n : ℕ) (s : Subparser) (seen : core.Core) (pieces : List kept.Piece) (made : List ℕ)
+  alone-applied : (before after : View) (e : Event) (event : ℕ → core.Event) (n : ℕ) (s : Subparser) (seen : core.Core) (pieces : List kept.Piece) (made : List ℕ)
       → event_of e ≡ event n → numbers_of e ≡ n ∷ [] → Keeps old new → Extends lines added → IsCore (tables_with old lines names files) input before seen
-      → slice_get before.rows.items n ≡ Some (Some s) → Events old new lines added before.source s event pieces → after.source ≡ before.source → Becomes before e pieces after made
+      → slice_get before.subparsers n ≡ Some (Some s) → Events old new lines added before.source s event pieces → after.source ≡ before.source → Becomes before e pieces after made
       → IsApplied (tables_with old lines names files) (tables_with new added names files) input before e after made seen
   alone-applied before after e event n s seen pieces made is_event one keeps longer is at events source becomes =
       let w = tables_with old lines names files in
       let v = tables_with new added names files in
-      let row = row-seen w input before.rows.items seen.rows n s is.rows at in
+      let row = row-seen w input before.subparsers seen.rows n s is.rows at in
       let made_of = events names files input row.other is.source row.seen in
       let qs = made_of.0 in
-      let gone : AreRows v input (without (numbers_of e) before.rows.items) (slice_set seen.rows n None) =
-      subst (λ ns. AreRows v input (without ns before.rows.items) (slice_set seen.rows n None)) (sym one)
-      (rows-without v input before.rows.items seen.rows n (rows-Grow keeps longer names files input is.source.arities before.rows.items seen.rows is.rows))
+      let gone : AreRows v input (without (numbers_of e) before.subparsers) (slice_set seen.rows n None) =
+      subst (λ ns. AreRows v input (without ns before.subparsers) (slice_set seen.rows n None)) (sym one)
+      (rows-without v input before.subparsers seen.rows n (rows-Grow keeps longer names files input is.source.arities before.subparsers seen.rows is.rows))
       in
       record {
         next = record { rows = slice_set seen.rows n None ++ going_in qs; ended = seen.ended ++ over_in qs };
@@ -290,21 +290,21 @@ module _ (old new : Sets) (lines added : List Line) (names files : List (List �
       next c config false outside has = subst (IsNext input c) (seen_b.phase ∙ ap phase_of alike.phase ∙ sym seen_a.phase) (seen_b.each c config has).next
 
 module _ (old new : Sets) (lines added : List Line) (names files : List (List ℕ)) (input : Input) where
-  merged-applied : (before after : Core) (n o : ℕ) (a b m : Subparser) (seen : core.Core) (made : List ℕ) → Keeps old new → Extends lines added
-      → IsCore (tables_with old lines names files) input before seen → Stands input seen → slice_get before.rows.items n ≡ Some (Some a) → slice_get before.rows.items o ≡ Some (Some b)
+  merged-applied : (before after : View) (n o : ℕ) (a b m : Subparser) (seen : core.Core) (made : List ℕ) → Keeps old new → Extends lines added
+      → IsCore (tables_with old lines names files) input before seen → Stands input seen → slice_get before.subparsers n ≡ Some (Some a) → slice_get before.subparsers o ≡ Some (Some b)
       → (n ≡ o → ⊥) → AreAlike a b → IsMerged old new lines added a b m → OwnsSubparser new (length added) m → after.source ≡ before.source
       → Becomes before (event.Merge n o) (Going m ∷ []) after made → IsApplied (tables_with old lines names files) (tables_with new added names files) input before (event.Merge n o) after made seen
   merged-applied before after n o a b m seen made keeps longer is stands at_n at_o apart alike merges owns source becomes =
       let w = tables_with old lines names files in
       let v = tables_with new added names files in
-      let first = row-seen w input before.rows.items seen.rows n a is.rows at_n in
-      let second = row-seen w input before.rows.items seen.rows o b is.rows at_o in
+      let first = row-seen w input before.subparsers seen.rows n a is.rows at_n in
+      let second = row-seen w input before.subparsers seen.rows o b is.rows at_o in
       let s = first.other in
       let t = second.other in
       let away = rows-apart input seen n o s t stands apart first.at second.at in
       let u_seen = merged-seen old new lines added names files input a b m s t keeps is.source.arities first.seen second.seen alike merges owns away in
-      let rows = rows-Grow keeps longer names files input is.source.arities before.rows.items seen.rows is.rows in
-      let gone = rows-without v input (slice_set before.rows.items n None) (slice_set seen.rows n None) o (rows-without v input before.rows.items seen.rows n rows) in
+      let rows = rows-Grow keeps longer names files input is.source.arities before.subparsers seen.rows is.rows in
+      let gone = rows-without v input (slice_set before.subparsers n None) (slice_set seen.rows n None) o (rows-without v input before.subparsers seen.rows n rows) in
       let depth : SameDepth input s t = λ c d config other has_s has_t.
       sym (shown-levels old names c (levels_in a.scopes) (s.levels c) (first.seen.each c config has_s).shows.scopes) ∙ sym alike.levels
       ∙ shown-levels old names d (levels_in b.scopes) (t.levels d) (second.seen.each d other has_t).shows.scopes
@@ -319,8 +319,8 @@ module _ (old new : Sets) (lines added : List Line) (names files : List (List �
         numbers = numbers-are old new lines added names files input before after (event.Merge n o) (Going m ∷ []) made becomes;
       }
 
-  pub applied : (before after : Core) (e : Event) (can : Enabled) (seen : core.Core) (pieces : List kept.Piece) (made : List ℕ) → Keeps old new → Extends lines added
-      → IsCore (tables_with old lines names files) input before seen → Stands input seen → IsEnabled before.source before.rows.items e can
+  pub applied : (before after : View) (e : Event) (can : Enabled) (seen : core.Core) (pieces : List kept.Piece) (made : List ℕ) → Keeps old new → Extends lines added
+      → IsCore (tables_with old lines names files) input before seen → Stands input seen → IsEnabled before.source before.subparsers e can
       → AreMade old new lines added before.source can pieces → All (OwnsPiece new (length added) before.source) pieces → after.source ≡ before.source → Becomes before e pieces after made
       → IsApplied (tables_with old lines names files) (tables_with new added names files) input before e after made seen
   applied before after _ _ seen pieces made keeps longer is stands (can_split n i s has phase) events own source becomes =

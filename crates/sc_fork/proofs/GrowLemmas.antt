@@ -95,6 +95,7 @@ kept-has {old} {new} (item ∷ list) c keeps config own =
 pub IsInput-Grows : {old new : Sets} {lines added : List Line} (names files : List (List ℕ)) (source : Source) (input : Input) → Keeps old new
     → IsInput (tables_with old lines names files) source input → IsInput (tables_with new added names files) source input
 IsInput-Grows {old} {new} names files source input keeps is = record {
+  standard = is.standard;
   states = is.states;
   parser = is.parser;
   arities = is.arities ∙ sym keeps.arities;

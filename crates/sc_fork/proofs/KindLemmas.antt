@@ -57,6 +57,7 @@ use Rattle.sc_scope.specs.Shows.{is_type, Shows}
 use Rattle.sc_stack.specs.Entries.{Entry, state_of, states_of, values_of}
 use Rattle.sc_tree.specs.Lines.{Line}
 use Rattle.sc_tree.specs.Reads.{Tables}
+use Rattle.sc_model.specs.declared.standard.Standard.{Standard}
 
 -- ---- tests
 
@@ -103,19 +104,19 @@ adds-shifted sets source parent j cond kind before after state next is some shif
 
 -- ---- kinds
 
-kind-is : (tables : lr_tables.Tables) (state : ℕ) (found : Option plain.NameKind)
-    → kind_in (c11_parser tables) state found ≡ (if is_some (tables.action state 1) && is_type found then 1 else 2)
-kind-is tables state None = by (is_some (tables.action state 1))
+kind-is : (standard : Standard) (tables : lr_tables.Tables) (state : ℕ) (found : Option plain.NameKind)
+    → kind_in (c11_parser standard tables) state found ≡ (if is_some (tables.action state 1) && is_type found then 1 else 2)
+kind-is standard tables state None = by (is_some (tables.action state 1))
   where
     by : (b : Bool) → ◌≡◌ {A = ℕ} 2 (if b && false then 1 else 2)
     by true = refl
     by false = refl
-kind-is tables state (Some variable) = by (is_some (tables.action state 1))
+kind-is standard tables state (Some variable) = by (is_some (tables.action state 1))
   where
     by : (b : Bool) → ◌≡◌ {A = ℕ} 2 (if b && false then 1 else 2)
     by true = refl
     by false = refl
-kind-is tables state (Some typedef) = by (is_some (tables.action state 1))
+kind-is standard tables state (Some typedef) = by (is_some (tables.action state 1))
   where
     by : (b : Bool) → ◌≡◌ {A = ℕ} (if b then 1 else 2) (if b && true then 1 else 2)
     by true = refl
@@ -174,7 +175,7 @@ module _ (old new : Sets) (names files : List (List ℕ)) (lines : List Line) (s
       → kind_of input.parser (top_of t.states) (t.levels c) item.1 ≡ (if is_type_at old source parent j c then 1 else 2)
   kind-at c config has =
       ap (λ (m : Parser). kind_of m (top_of t.states) (t.levels c) item.1) is.parser
-      ∙ kind-is (tables_of is.states source.tables.now) (top_of t.states) (innermost item.1.spelling (t.levels c))
+      ∙ kind-is is.standard (tables_of is.states source.tables.now) (top_of t.states) (innermost item.1.spelling (t.levels c))
       ∙ ap (λ n. if is_some (action_of source.tables.now n 1) && is_type (innermost item.1.spelling (t.levels c)) then 1 else 2) state-is
       ∙ ap (λ text. if is_some (action_of source.tables.now (state_of parent.stack) 1) && is_type (innermost text (t.levels c)) then 1 else 2)
       (ap (λ (k : Token). k.spelling) (token-seen before source input is j item own here there))

@@ -3,14 +3,12 @@ use Rattle.std.proofs.Common.{◌≡◌, ℕ, List, [], ◌++◌, All, ap, sym, 
 use Rattle.std.specs.Prelude.{IfSome}
 use Rattle.std.proofs.lemmas.List.Elements.{All-nil, All-cons, All-append, All-weaker}
 use Rattle.sc_base.specs.declared.id.Cond.{Cond}
-use Rattle.sc_fork.specs.declared.event.Event.{Event}
-use Rattle.sc_fork.specs.declared.fork.Core.{Core}
 use Rattle.sc_fork.specs.declared.piece.Piece.{Piece}
 use Rattle.sc_fork.specs.declared.piece.Piece.TheVariants.{Going}
 use Rattle.sc_fork.specs.declared.source.Source.{Source}
 use Rattle.sc_fork.specs.Kinds.{AddsKind, IsKind, no_part, refused_part, shifted_part}
 use Rattle.sc_fork.specs.Owns.{AllNumbered, IsNumbered}
-use Rattle.sc_fork.specs.Pieces.{Becomes, going_of, without}
+use Rattle.sc_fork.specs.Pieces.{going_of, without}
 use Rattle.sc_fork.specs.Seen.{ArePartsOf, no_parts, more_parts}
 use Rattle.sc_fork.proofs.OwnLemmas.{going-all, row-weaker, without-own}
 use Rattle.sc_merge.specs.declared.subparser.Subparser.{Subparser}
@@ -38,11 +36,6 @@ module _ (numbers : Numbers) (parent : Subparser) (has : HasNumbers numbers pare
       let both : second ≡ adds.added ++ then_adds.added = then_adds.is ∙ ap (λ ps. ps ++ then_adds.added) (adds.is ∙ ap (λ ps. ps ++ adds.added) fresh) in
       subst (All (IsNumbered numbers)) (sym both)
       (All-append (IsNumbered numbers) adds.added then_adds.added (kind-numbered sets source at types 1 adds.added adds.part) (kind-numbered sets source at variables 2 then_adds.added then_adds.part))
-
--- other numbers change nothing of what becomes of the rows
-pub becomes-same : {core after : Core} {numbers : Numbers} {event : Event} {pieces : List Piece} {made : List ℕ}
-    → Becomes (record core { scope_numbers = numbers }) event pieces after made → Becomes core event pieces after made
-becomes-same becomes = record { rows = becomes.rows; ended = becomes.ended; numbers = becomes.numbers }
 
 pub rows-numbered : (old new : Numbers) (rows after : List (Option Subparser)) (numbers : List ℕ) (pieces : List Piece) → Extends (levels_made old) (levels_made new)
     → after ≡ without numbers rows ++ going_of pieces → AllNumbered old rows → All (IsNumbered new) pieces → AllNumbered new after

@@ -15,7 +15,7 @@ use Rattle.sc_base.specs.declared.id.Cond.{Cond}
 use Rattle.sc_base.specs.declared.id.TreeId.{TreeId}
 use Rattle.sc_base.specs.declared.place.Place.{Place}
 use Rattle.sc_base.proofs.Growth.{Extends-refl, push_cases}
-use Rattle.sc_fork.specs.declared.fork.Core.{Core}
+use Rattle.sc_fork.specs.View.{View}
 use Rattle.sc_fork.specs.declared.outcome.Outcome.{Outcome}
 use Rattle.sc_fork.specs.declared.piece.Answer.{Answer}
 use Rattle.sc_fork.specs.declared.piece.Answer.TheVariants.{Root, Refused}
@@ -145,11 +145,11 @@ none-filled w input _ _ (full_row s t rows others is rest) none =
     let gone : Some s ≡ None = All-head (λ (row : Option Subparser). row ≡ None) (Some s) rows none in
     absurd (cc)
 
-one-answer : (w : Tables) (input : Input) (finished : Core) (seen : core.Core) (c : List ℕ) → IsConfig input.arities c → All (λ (row : Option Subparser). row ≡ None) finished.rows.items
+one-answer : (w : Tables) (input : Input) (finished : View) (seen : core.Core) (c : List ℕ) → IsConfig input.arities c → All (λ (row : Option Subparser). row ≡ None) finished.subparsers
     → IsCore w input finished seen → Stands input seen → length (answers_at seen.ended c) ≤ 1
 one-answer w input finished seen c listed none is stands =
     let counted : count c (map over seen.ended) ≡ (if input.live c then 1 else 0) =
-    ap (λ ps. count c (ps ++ map over seen.ended)) (sym (none-filled w input finished.rows.items seen.rows is.rows none)) ∙ stands.counted c listed in
+    ap (λ ps. count c (ps ++ map over seen.ended)) (sym (none-filled w input finished.subparsers seen.rows is.rows none)) ∙ stands.counted c listed in
     by (input.live c) counted
   where
     by : (b : Bool) → count c (map over seen.ended) ≡ (if b then 1 else 0) → length (answers_at seen.ended c) ≤ 1
@@ -241,8 +241,8 @@ root-has s lines _ _ id (chosen_root roots chosen several within named) is some 
     by [] several some = absurd (omega (arith, several))
     by (x ∷ xs) several some = let found = possible s x.0.0 (All-head (IsSatisfiable s) x xs some) in (found.0, (found.1, first-of s x xs found.0 found.2))
 
-module _ (old new : Sets) (lines later : List Line) (names files : List (List ℕ)) (input : Input) (finished : Core) (seen : core.Core) (keeps : Keeps old new)
-    (none : All (λ (row : Option Subparser). row ≡ None) finished.rows.items) (roots : List (Cond × TreeId)) (are : AreRoots old new (trees_of finished.ended.items) roots)
+module _ (old new : Sets) (lines later : List Line) (names files : List (List ℕ)) (input : Input) (finished : View) (seen : core.Core) (keeps : Keeps old new)
+    (none : All (λ (row : Option Subparser). row ≡ None) finished.subparsers) (roots : List (Cond × TreeId)) (are : AreRoots old new (trees_of finished.ended) roots)
     (is : IsCore (tables_with old lines names files) input finished seen) (stands : Stands input seen) where
   abbrev before : Tables
   before = tables_with old lines names files
@@ -251,7 +251,7 @@ module _ (old new : Sets) (lines later : List Line) (names files : List (List �
   after = tables_with new later names files
 
   abbrev es : List Ended
-  es = finished.ended.items
+  es = finished.ended
 
   listed-input : (c : List ℕ) → IsConfig old.arities c → IsConfig input.arities c
   listed-input c listed = subst (λ ns. IsConfig ns c) (sym is.source.arities) listed

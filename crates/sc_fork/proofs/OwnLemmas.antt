@@ -9,12 +9,12 @@ use Rattle.sc_fork.proofs.GrowLemmas.{OwnsEnded-Grows, OwnsRow-Grows}
 use Rattle.sc_fork.proofs.PieceLemmas.{at-all}
 use Rattle.sc_fork.specs.declared.enabled.Enabled.{Enabled}
 use Rattle.sc_fork.specs.declared.event.Event.{Event}
-use Rattle.sc_fork.specs.declared.fork.Core.{Core}
+use Rattle.sc_fork.specs.View.{View}
 use Rattle.sc_fork.specs.declared.piece.Piece.{Piece}
 use Rattle.sc_fork.specs.declared.piece.Piece.TheVariants.{Going, Over}
 use Rattle.sc_fork.specs.declared.source.Source.{Source}
 use Rattle.sc_fork.specs.Enabled.{IsEnabled, can_split, can_reduce, can_shift, can_classify, can_merge}
-use Rattle.sc_fork.specs.Owns.{AllNumbered, EachIs, IsSource, OwnsCore, OwnsEnded, OwnsPiece, OwnsRow}
+use Rattle.sc_fork.specs.Owns.{EachIs, IsSource, OwnsCore, OwnsEnded, OwnsPiece, OwnsRow}
 use Rattle.sc_fork.specs.Pieces.{Becomes, going_of, over_of, numbers_of, without}
 use Rattle.sc_merge.specs.declared.subparser.Subparser.{Subparser}
 use Rattle.sc_model.specs.Growth.{Extends}
@@ -78,34 +78,31 @@ items-own : {old new : Sets} (list : List (Cond × Token)) → Keeps old new →
 items-own list keeps own = λ k d below. keeps.own _ (own k d below)
 
 -- a core owns what it did in stores that have grown
-pub OwnsCore-Grows : {old new : Sets} {lines added : List Line} (core : Core) → Keeps old new → Extends lines added → OwnsCore old (length lines) core → OwnsCore new (length added) core
+pub OwnsCore-Grows : {old new : Sets} {lines added : List Line} (core : View) → Keeps old new → Extends lines added → OwnsCore old (length lines) core → OwnsCore new (length added) core
 OwnsCore-Grows {old} {new} {lines} {added} core keeps longer own = record {
   source = own.source;
   items = items-own core.source.list.now keeps own.items;
   rows = λ usable. All-weaker (λ (row : Option Subparser). IfSome row (OwnsRow old (length lines) core.source)) (λ (row : Option Subparser). IfSome row (OwnsRow new (length added) core.source))
-      (row-weaker (OwnsRow old (length lines) core.source) (OwnsRow new (length added) core.source) (OwnsRow-Grows keeps longer core.source)) core.rows.items (own.rows usable);
-  ended = λ usable. All-weaker (OwnsEnded old (length lines) core.source) (OwnsEnded new (length added) core.source) (OwnsEnded-Grows keeps longer core.source) core.ended.items (own.ended usable);
-  numbered = own.numbered;
+      (row-weaker (OwnsRow old (length lines) core.source) (OwnsRow new (length added) core.source) (OwnsRow-Grows keeps longer core.source)) core.subparsers (own.rows usable);
+  ended = λ usable. All-weaker (OwnsEnded old (length lines) core.source) (OwnsEnded new (length added) core.source) (OwnsEnded-Grows keeps longer core.source) core.ended (own.ended usable);
 }
 
-module _ {old new : Sets} {lines added : List Line} (before after : Core) (keeps : Keeps old new) (own : OwnsCore old (length lines) before) (source : after.source ≡ before.source) where
+module _ {old new : Sets} {lines added : List Line} (before after : View) (keeps : Keeps old new) (own : OwnsCore old (length lines) before) (source : after.source ≡ before.source) where
   pub owns-after : (e : Event) (pieces : List Piece) (made : List ℕ) → Extends lines added → before.is_given_up ≡ false → Becomes before e pieces after made
-      → All (OwnsPiece new (length added) before.source) pieces → AllNumbered after.scope_numbers after.rows.items
-      → OwnsCore new (length added) after
-  owns-after e pieces made longer usable becomes owned numbered =
+      → All (OwnsPiece new (length added) before.source) pieces → OwnsCore new (length added) after
+  owns-after e pieces made longer usable becomes owned =
       let grown = OwnsCore-Grows before keeps longer own in
       record {
         source = subst IsSource (sym source) own.source;
         items = subst (λ (s : Source). All (λ (item : Cond × Token). IsCond new item.0.0) s.list.now) (sym source) grown.items;
-        rows = λ now. subst (λ (s : Source). All (λ (row : Option Subparser). IfSome row (OwnsRow new (length added) s)) after.rows.items) (sym source)
+        rows = λ now. subst (λ (s : Source). All (λ (row : Option Subparser). IfSome row (OwnsRow new (length added) s)) after.subparsers) (sym source)
             (subst (All Row) (sym becomes.rows)
-            (All-append Row (without (numbers_of e) before.rows.items) (going_of pieces)
-            (without-own (OwnsRow new (length added) before.source) (numbers_of e) before.rows.items (grown.rows usable))
+            (All-append Row (without (numbers_of e) before.subparsers) (going_of pieces)
+            (without-own (OwnsRow new (length added) before.source) (numbers_of e) before.subparsers (grown.rows usable))
             (going-all (OwnsRow new (length added) before.source) (OwnsPiece new (length added) before.source) (λ s owns. owns) pieces owned)));
-        ended = λ now. subst (λ (s : Source). All (OwnsEnded new (length added) s) after.ended.items) (sym source) (subst (All (OwnsEnded new (length added) before.source)) (sym becomes.ended)
-            (All-append (OwnsEnded new (length added) before.source) before.ended.items (over_of pieces) (grown.ended usable)
+        ended = λ now. subst (λ (s : Source). All (OwnsEnded new (length added) s) after.ended) (sym source) (subst (All (OwnsEnded new (length added) before.source)) (sym becomes.ended)
+            (All-append (OwnsEnded new (length added) before.source) before.ended (over_of pieces) (grown.ended usable)
             (over-own new (length added) before.source pieces owned)));
-        numbered = λ now. numbered;
       }
     where
       Row : Option Subparser → Type 0

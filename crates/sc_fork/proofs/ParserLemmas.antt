@@ -16,6 +16,7 @@ use Rattle.lr_tables.proofs.Productions.{counted, lefts, right_at}
 use Rattle.sc_fork.specs.Parsers.{c11_parser}
 use Rattle.sc_fork.proofs.ProductionLemmas.{is-grammar, starts-apart, terminal-below}
 use Rattle.sc_grammar.specs.C11.{productions}
+use Rattle.sc_model.specs.declared.standard.Standard.{Standard}
 
 -- ---- the end of a text
 
@@ -84,8 +85,8 @@ module _ (g : Grammar) (entries : g.entries.now ≡ entries_of productions) (ter
         omega (arith, last.low, counted (take (i + 1 + 1) (entries_of productions)), ap (λ es. count_by is_left (take (i + 1 + 1) es)) entries),
       )
 
-  pub is-parser : (tables seen : Tables) → AreTables g tables → seen.action ≡ tables.action → seen.goto ≡ tables.goto → IsParserOf g (c11_parser seen)
-  is-parser tables seen are action goto = record {
+  pub is-parser : (standard : Standard) (tables seen : Tables) → AreTables g tables → seen.action ≡ tables.action → seen.goto ≡ tables.goto → IsParserOf g (c11_parser standard seen)
+  is-parser standard tables seen are action goto = record {
     grammar = is-grammar g entries terminals nonterminals;
     entries = entries;
     terminals = terminals;
@@ -108,7 +109,7 @@ module _ (g : Grammar) (entries : g.entries.now ≡ entries_of productions) (ter
       last = ends-last;
     };
     end = omega arith;
-    tokens = λ t x is. let below = terminal-below t.kind t.spelling x is in record { within = omega (arith, below); not_end = λ e. omega (arith, below, e) };
+    tokens = λ t x is. let below = terminal-below standard t.kind t.spelling x is in record { within = omega (arith, below); not_end = λ e. omega (arith, below, e) };
     typedef_kind = record { within = omega arith; not_end = λ e. omega (arith, e) };
     variable_kind = record { within = omega arith; not_end = λ e. omega (arith, e) };
   }

@@ -1,5 +1,5 @@
 -- What the tables of C11 say of a reduction.
-use Rattle.std.proofs.Common.{◌≡◌, ℕ, zero, suc, ◌<◌, ◌≤◌, ◌+◌, ◌-◌, ◌^◌, ◌==◌, ◌&&◌, ◌||◌, not, nat_lt, Bool, true, false, IsTrue, List, [], ◌∷◌, length, take, drop, slice_get, option_map, option_and_then, Option, Some, None, refl, sym, ap, ◌∙◌, subst, arith, if◌then◌else◌}
+use Rattle.std.proofs.Common.{◌≡◌, ℕ, zero, suc, ◌<◌, ◌≤◌, ◌+◌, ◌-◌, ◌^◌, ◌==◌, ◌&&◌, not, nat_lt, Bool, true, false, IsTrue, List, [], ◌∷◌, length, take, drop, slice_get, option_map, option_and_then, Option, Some, None, refl, sym, ap, ◌∙◌, subst, arith, if◌then◌else◌}
 use Rattle.std.specs.Prelude.{count_by, unwrap_or}
 use Rattle.std.specs.List.{list_all, position_from}
 use Rattle.std.proofs.lemmas.Bool.{true≢false, eqb-true}
@@ -26,14 +26,14 @@ use Rattle.sc_fork.specs.Owns.{AreTerminals, HasC11Tables, IsSource, IsOnPath}
 use Rattle.sc_fork.specs.Seen.{terminal_in, action_by, action_in}
 use Rattle.sc_grammar.specs.C11.{productions}
 use Rattle.sc_grammar.specs.Terminals.{terminal_names}
-use Rattle.sc_kinds.specs.Constants.{is_integer, is_floating}
-use Rattle.sc_kinds.specs.Kinds.{terminal_written, keyword, terminal_of}
+use Rattle.sc_kinds.specs.Kinds.{is_constant, terminal_written, keyword, terminal_of}
 use Rattle.sc_lalr.specs.Tables.{action_of}
 use Rattle.sc_merge.specs.declared.subparser.Subparser.{Subparser}
 use Rattle.sc_model.specs.Token.{name_of}
 use Rattle.sc_model.specs.declared.kind.Kind.{Kind}
 use Rattle.sc_model.specs.declared.kind.Kind.TheVariants.{Identifier, Number, Character, Text, Punctuator}
 use Rattle.sc_stack.specs.Entries.{Entry as StackEntry, state_of, states_of}
+use Rattle.sc_model.specs.declared.standard.Standard.{Standard}
 
 -- ---- terminals
 
@@ -53,39 +53,39 @@ written-below first count spelling n e =
     omega (arith, h, length-take count (drop first terminal_names))
 
 -- each terminal of a token is before the end's
-pub terminal-below : (kind : Kind) (spelling : List ℕ) (x : ℕ) → terminal_of kind spelling ≡ Some x → x < 95
+pub terminal-below : (standard : Standard) (kind : Kind) (spelling : List ℕ) (x : ℕ) → terminal_of standard kind spelling ≡ Some x → x < 95
 unfolding terminal_of
-terminal-below Identifier spelling x e = by (keyword spelling) refl e
+terminal-below standard Identifier spelling x e = by (keyword spelling) refl e
   where
     by : (k : Option ℕ) → keyword spelling ≡ k → Some (unwrap_or k 0) ≡ Some x → x < 95
     by None is e = let same : 0 ≡ x = same_Some 0 x e in omega (arith, same)
     by (Some n) is e = let same : n ≡ x = same_Some n x e in let h = written-below 5 44 spelling n is in omega (arith, same, h)
-terminal-below Number spelling x e = by (is_integer spelling || is_floating spelling) e
+terminal-below standard Number spelling x e = by (is_constant standard spelling) e
   where
     by : (b : Bool) → (if b then Some 3 else None) ≡ Some x → x < 95
     by true e = let same : 3 ≡ x = same_Some 3 x e in omega (arith, same)
     by false e = absurd (none-some x e)
-terminal-below Character spelling x e = let same : 3 ≡ x = same_Some 3 x e in omega (arith, same)
-terminal-below Text spelling x e = let same : 4 ≡ x = same_Some 4 x e in omega (arith, same)
-terminal-below Punctuator spelling x e = let h = written-below 49 46 (name_of spelling) x e in omega (arith, h)
-terminal-below _ spelling x e = absurd (none-some x e)
+terminal-below standard Character spelling x e = let same : 3 ≡ x = same_Some 3 x e in omega (arith, same)
+terminal-below standard Text spelling x e = let same : 4 ≡ x = same_Some 4 x e in omega (arith, same)
+terminal-below standard Punctuator spelling x e = let h = written-below 49 46 (name_of spelling) x e in omega (arith, h)
+terminal-below standard _ spelling x e = absurd (none-some x e)
 
-terminals-below : (names : List (List ℕ)) (list : List (Cond × Token)) (ts : List (Option Terminal)) (j x : ℕ) → AreTerminals names list ts
+terminals-below : (standard : Standard) (names : List (List ℕ)) (list : List (Cond × Token)) (ts : List (Option Terminal)) (j x : ℕ) → AreTerminals standard names list ts
     → option_map (λ (y : Terminal). y.0) (option_and_then (λ (y : Option Terminal). y) (slice_get ts j)) ≡ Some x → x < 96
-terminals-below names list [] j x are e = absurd (cc)
-terminals-below names [] (t ∷ ts) j x are e = absurd (cc)
-terminals-below names (item ∷ list) (None ∷ ts) zero x are e = absurd (cc)
-terminals-below names (item ∷ list) (Some t ∷ ts) zero x are e =
-    let first : Some t.0 ≡ terminal_of item.1.kind (text_at names item.1.spelling.0) = cc in
-    let h = terminal-below item.1.kind (text_at names item.1.spelling.0) x (sym first ∙ e) in omega (arith, h)
-terminals-below names (item ∷ list) (t ∷ ts) (suc j) x are e =
-    let rest : AreTerminals names list ts = cc in terminals-below names list ts j x rest e
+terminals-below standard names list [] j x are e = absurd (cc)
+terminals-below standard names [] (t ∷ ts) j x are e = absurd (cc)
+terminals-below standard names (item ∷ list) (None ∷ ts) zero x are e = absurd (cc)
+terminals-below standard names (item ∷ list) (Some t ∷ ts) zero x are e =
+    let first : Some t.0 ≡ terminal_of standard item.1.kind (text_at names item.1.spelling.0) = cc in
+    let h = terminal-below standard item.1.kind (text_at names item.1.spelling.0) x (sym first ∙ e) in omega (arith, h)
+terminals-below standard names (item ∷ list) (t ∷ ts) (suc j) x are e =
+    let rest : AreTerminals standard names list ts = cc in terminals-below standard names list ts j x rest e
 
-pub source-terminal : (source : Source) (names : List (List ℕ)) (j x : ℕ) → AreTerminals names source.list.now source.terminals.items → terminal_in source j ≡ Some x → x < 96
-source-terminal source names j x are e = by (nat_lt j (length source.terminals.items)) e
+pub source-terminal : (source : Source) (standard : Standard) (names : List (List ℕ)) (j x : ℕ) → AreTerminals standard names source.list.now source.terminals.items → terminal_in source j ≡ Some x → x < 96
+source-terminal source standard names j x are e = by (nat_lt j (length source.terminals.items)) e
   where
     by : (b : Bool) → (if b then option_map (λ (y : Terminal). y.0) (option_and_then (λ (y : Option Terminal). y) (slice_get source.terminals.items j)) else Some 95) ≡ Some x → x < 96
-    by true e = terminals-below names source.list.now source.terminals.items j x are e
+    by true e = terminals-below standard names source.list.now source.terminals.items j x are e
     by false e = let same : 95 ≡ x = same_Some 95 x e in omega (arith, same)
 
 -- ---- the entries of C11
@@ -219,7 +219,7 @@ reduction-of source parent at number is c11 on acts = by (terminal_in source at)
         → Reduction c11.are.grammar c11.states (states_of parent.stack) on.symbols number
     by None is_none acts = absurd (none-some (Reduce number) acts)
     by (Some x) is_some acts =
-        let below : x < c11.are.grammar.terminals = omega (arith, source-terminal source is.names at x is.terminals is_some, c11.are.terminals) in
+        let below : x < c11.are.grammar.terminals = omega (arith, source-terminal source is.standard is.names at x is.terminals is_some, c11.are.terminals) in
         let can = can-reduce c11.are.grammar c11.states (state_of parent.stack) x number (action_of source.tables.now (state_of parent.stack) x)
         (c11.are.exact.action (state_of parent.stack) x below) acts in
         reduction c11.are.grammar c11.are.entries c11.are.terminals c11.are.nonterminals c11.states (states_of parent.stack) on.symbols x number c11.are.exact.are_states on.path

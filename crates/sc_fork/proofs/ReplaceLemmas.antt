@@ -5,18 +5,12 @@ use Rattle.std.specs.Prelude.{slice_set}
 use Rattle.std.proofs.lemmas.List.{length-set}
 use Rattle.std.proofs.lemmas.List.FromFn.{map-range_with_len_more}
 use Rattle.sc_fork.specs.declared.event.Event.{Event}
-use Rattle.sc_fork.specs.declared.fork.Core.{Core}
+use Rattle.sc_fork.specs.View.{View}
 use Rattle.sc_fork.specs.declared.piece.Ended.{Ended}
 use Rattle.sc_fork.specs.declared.piece.Piece.{Piece}
 use Rattle.sc_fork.specs.declared.piece.Piece.TheVariants.{Going, Over}
-use Rattle.sc_fork.specs.Pieces.{Becomes, going_of, over_of, numbers_of, without}
+use Rattle.sc_fork.specs.Pieces.{Becomes, IsPlaced, going_of, over_of, numbers_of, without}
 use Rattle.sc_merge.specs.declared.subparser.Subparser.{Subparser}
-
--- so many pieces were put behind the rows and what had ended
-pub record IsPlaced (rows : List (Option Subparser)) (ended : List Ended) (taken : List Piece) (next : List (Option Subparser)) (over : List Ended) (made : List ℕ) : Type 0 where
-  pub rows_are : next ≡ rows ++ going_of taken
-  pub ended_are : over ≡ ended ++ over_of taken
-  pub numbers : made ≡ range_with_len (length rows) (length (going_of taken))
 
 pub length-without : (numbers : List ℕ) (rows : List (Option Subparser)) → length (without numbers rows) ≡ length rows
 length-without [] rows = refl
@@ -62,15 +56,12 @@ placed-over rows ended taken piece e next before after made was over more =
     })
 
 -- all pieces are placed
-pub becomes : (before : Core) (event : Event) (rows : List (Option Subparser)) (ended : List Ended) (pieces taken : List Piece) (after : Core) (made : List ℕ)
-    → rows ≡ without (numbers_of event) before.rows.items → ended ≡ before.ended.items → taken ≡ pieces → IsPlaced rows ended taken after.rows.items after.ended.items made
-    → Becomes before event pieces after made
-becomes before event rows ended pieces taken after made gone same all is = record {
-  rows = is.rows_are ∙ ap (λ rs. rs ++ going_of taken) gone ∙ ap (λ ps. without (numbers_of event) before.rows.items ++ going_of ps) all;
-  ended = is.ended_are ∙ ap (λ es. es ++ over_of taken) same ∙ ap (λ ps. before.ended.items ++ over_of ps) all;
-  numbers =
-      is.numbers ∙ ap (λ n. range_with_len n (length (going_of taken))) (ap length gone ∙ length-without (numbers_of event) before.rows.items)
-      ∙ ap (λ ps. range_with_len (length before.rows.items) (length (going_of ps))) all;
+pub becomes : (before after : View) (event : Event) (pieces : List Piece) (made : List ℕ)
+    → IsPlaced (without (numbers_of event) before.subparsers) before.ended pieces after.subparsers after.ended made → Becomes before event pieces after made
+becomes before after event pieces made is = record {
+  rows = is.rows_are;
+  ended = is.ended_are;
+  numbers = is.numbers ∙ ap (λ n. range_with_len n (length (going_of pieces))) (length-without (numbers_of event) before.subparsers);
 }
 
 -- the next item is taken of a list that is passed

@@ -70,7 +70,7 @@ element-tokens : (source : Source) (j x : ℕ) → IsSource source → j < lengt
 element-tokens source j x is within some = by (slice_get source.list.now j) refl
   where
     f : Cond × base.Token → Option ℕ
-    f item = terminal_of item.1.kind (text_at is.names item.1.spelling.0)
+    f item = terminal_of is.standard item.1.kind (text_at is.names item.1.spelling.0)
 
     same-length : length source.terminals.items ≡ length source.list.now
     same-length =
@@ -82,7 +82,7 @@ element-tokens source j x is within some = by (slice_get source.list.now j) refl
     by : (found : Option (Cond × base.Token)) → slice_get source.list.now j ≡ found → IsTokens x
     by None none = absurd (omega (arith, within, slice_get-past-end source.list.now j none))
     by (Some item) found =
-        terminal-tokens item.1.kind (text_at is.names item.1.spelling.0) x
+        terminal-tokens is.standard item.1.kind (text_at is.names item.1.spelling.0) x
         (sym (ap (next_of None f) (drop-at source.list.now j item found))
         ∙ listed-inside None f source.terminals.items source.list.now j is.terminals (omega (arith, within, same-length)) ∙ first)
 

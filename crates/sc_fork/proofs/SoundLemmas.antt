@@ -12,7 +12,7 @@ use Rattle.sc_base.specs.declared.id.TreeId.{TreeId}
 use Rattle.sc_fork.proofs.CoreLemmas.{IsApart, rows-apart, row-seen}
 use Rattle.sc_fork.specs.declared.enabled.Enabled.{Enabled}
 use Rattle.sc_fork.specs.declared.event.Event.{Event}
-use Rattle.sc_fork.specs.declared.fork.Core.{Core}
+use Rattle.sc_fork.specs.View.{View}
 use Rattle.sc_fork.specs.Choices.{AddsNoChoices, AreDisjoint, AreSound, IsSoundChoice}
 use Rattle.sc_fork.specs.Cores.{IsCore}
 use Rattle.sc_fork.specs.Enabled.{IsEnabled, can_split, can_reduce, can_shift, can_classify, can_merge}
@@ -103,8 +103,8 @@ conditions-apart old new lines names files input a b s t keeps arities seen_a se
     let also = seen_b.has c here ∙ sym (keeps.at b.cond.0 c seen_b.owns.cond was) ∙ other in
     true≢false (sym also ∙ apart.outside c here inside)
 
-pub choices-sound : (old new : Sets) (lines added : List Line) (names files : List (List ℕ)) (input : Input) (before : Core) (seen : core.Core) (e : Event) (can : Enabled) → Keeps old new
-    → OwnsBranches old lines → IsCore (tables_with old lines names files) input before seen → Stands input seen → IsEnabled before.source before.rows.items e can
+pub choices-sound : (old new : Sets) (lines added : List Line) (names files : List (List ℕ)) (input : Input) (before : View) (seen : core.Core) (e : Event) (can : Enabled) → Keeps old new
+    → OwnsBranches old lines → IsCore (tables_with old lines names files) input before seen → Stands input seen → IsEnabled before.source before.subparsers e can
     → AddsOwnChoices lines added can → AreSound old lines → AreSound new added
 choices-sound old new lines added names files input before seen _ _ keeps own is stands (can_split n i s has phase) adds sound = sound-none old new lines added adds keeps own sound
 choices-sound old new lines added names files input before seen _ _ keeps own is stands (can_reduce n j p s has phase action) adds sound =
@@ -114,8 +114,8 @@ choices-sound old new lines added names files input before seen _ _ keeps own is
 choices-sound old new lines added names files input before seen _ _ keeps own is stands (can_classify n j s has phase) adds sound = sound-none old new lines added adds keeps own sound
 choices-sound old new lines added names files input before seen _ _ keeps own is stands (can_merge n o s t has_n has_o apart alike) adds sound =
     let w = tables_with old lines names files in
-    let first = row-seen w input before.rows.items seen.rows n s.now is.rows has_n in
-    let second = row-seen w input before.rows.items seen.rows o t.now is.rows has_o in
+    let first = row-seen w input before.subparsers seen.rows n s.now is.rows has_n in
+    let second = row-seen w input before.subparsers seen.rows o t.now is.rows has_o in
     let away = rows-apart input seen n o first.other second.other stands apart first.at second.at in
     let arities = is.source.arities in
     sound-merge old new lines added s.now.cond t.now.cond adds

@@ -8,7 +8,7 @@ use Rattle.c11_parsing.specs.Core as core
 use Rattle.c11_parsing.specs.Core.{Has, IsPossible, IsStart, no_live, some_live, first_of}
 use Rattle.lr_tables.specs.Paths.{lowest}
 use Rattle.sc_base.specs.declared.id.Cond.{Cond}
-use Rattle.sc_fork.specs.declared.fork.Core.{Core}
+use Rattle.sc_fork.specs.View.{View}
 use Rattle.sc_fork.specs.declared.piece.Ended.{Ended}
 use Rattle.sc_fork.specs.declared.source.Source.{Source}
 use Rattle.sc_fork.specs.Cores.{AreRows, no_rows, full_row, AreOver, none_over, IsCore, Starts}
@@ -28,6 +28,7 @@ use Rattle.sc_scope.specs.Shows.{Shows, more_shown, none_shown}
 use Rattle.sc_stack.specs.Entries.{Entry, states_of, values_of}
 use Rattle.sc_base.specs.declared.id.TreeId.{TreeId}
 use Rattle.sc_base.specs.declared.token.Token.{Token}
+use Rattle.sc_scope.specs.declared.numbers.Numbers.{Numbers}
 use Rattle.sc_scope.specs.Numbered.{HasNumbers}
 use Rattle.sc_tree.specs.Reads.{Tables}
 
@@ -64,10 +65,10 @@ first-seen w input live s arities own some has is = record {
       next = next_unknown 0;
     }
 
-pub starts : (w : Tables) (begun : Core) (live : Cond) → IsCond w.sets live.0 → AreFirst w.sets live begun.rows.items → begun.ended.items ≡ [] → Starts w begun live
-starts w begun live own first ended = record { seen = by begun.rows.items refl first }
+pub starts : (w : Tables) (begun : View) (live : Cond) → IsCond w.sets live.0 → AreFirst w.sets live begun.subparsers → begun.ended ≡ [] → Starts w begun live
+starts w begun live own first ended = record { seen = by begun.subparsers refl first }
   where
-    by : (rows : List (Option Subparser)) → begun.rows.items ≡ rows → AreFirst w.sets live rows → (input : Input) → IsInput w begun.source input → Has input input.live (w.sets.has live.0)
+    by : (rows : List (Option Subparser)) → begun.subparsers ≡ rows → AreFirst w.sets live rows → (input : Input) → IsInput w begun.source input → Has input input.live (w.sets.has live.0)
         → (d : core.Core) × (IsStart input d × IsCore w input begun d)
     by _ same (no_first never) input is has = (
       record { rows = []; ended = [] },
@@ -100,27 +101,24 @@ first-row sets count source live s own is = record {
   path = λ c11. subst (λ (es : List Entry). IsOnPath c11.are.grammar c11.states es) (sym is.stack) (record { symbols = []; path = lowest; trees = refl });
 }
 
-pub start-owns : (sets : Sets) (count : ℕ) (begun : Core) (live : Cond) → IsSource begun.source → All (λ (item : Cond × Token). IsCond sets item.0.0) begun.source.list.now → IsCond sets live.0
-    → AreFirst sets live begun.rows.items → begun.ended.items ≡ [] → OwnsCore sets count begun
+pub start-owns : (sets : Sets) (count : ℕ) (begun : View) (live : Cond) → IsSource begun.source → All (λ (item : Cond × Token). IsCond sets item.0.0) begun.source.list.now → IsCond sets live.0
+    → AreFirst sets live begun.subparsers → begun.ended ≡ [] → OwnsCore sets count begun
 start-owns sets count begun live source items own first ended = record {
   source = source;
   items = items;
-  rows = λ usable. by begun.rows.items first;
+  rows = λ usable. by begun.subparsers first;
   ended = λ usable. subst (All (OwnsEnded sets count begun.source)) (sym ended) (All-nil (OwnsEnded sets count begun.source));
-  numbered = λ usable. numbers begun.rows.items first;
 }
   where
-    numbers : (rows : List (Option Subparser)) → AreFirst sets live rows → AllNumbered begun.scope_numbers rows
-    numbers _ (no_first never) = All-nil (λ (row : Option Subparser). IfSome row (λ s. HasNumbers begun.scope_numbers s.scopes))
-    numbers _ (one_first s some is) =
-        All-cons (λ (row : Option Subparser). IfSome row (λ s. HasNumbers begun.scope_numbers s.scopes)) (Some s) [] (is.numbered begun.scope_numbers)
-        (All-nil (λ (row : Option Subparser). IfSome row (λ s. HasNumbers begun.scope_numbers s.scopes)))
-
-    Owned : Option Subparser → Type 0
-    Owned row = IfSome row (OwnsRow sets count begun.source)
-
     by : (rows : List (Option Subparser)) → AreFirst sets live rows → All (λ (row : Option Subparser). IfSome row (OwnsRow sets count begun.source)) rows
     by _ (no_first never) = All-nil (λ (row : Option Subparser). IfSome row (OwnsRow sets count begun.source))
     by _ (one_first s some is) =
         All-cons (λ (row : Option Subparser). IfSome row (OwnsRow sets count begun.source)) (Some s) [] (first-row sets count begun.source live s own is)
         (All-nil (λ (row : Option Subparser). IfSome row (OwnsRow sets count begun.source)))
+
+-- the first rows have numbers from any
+pub first-numbered : (sets : Sets) (live : Cond) (numbers : Numbers) (rows : List (Option Subparser)) → AreFirst sets live rows → AllNumbered numbers rows
+first-numbered sets live numbers _ (no_first never) = All-nil (λ (row : Option Subparser). IfSome row (λ s. HasNumbers numbers s.scopes))
+first-numbered sets live numbers _ (one_first s some is) =
+    All-cons (λ (row : Option Subparser). IfSome row (λ s. HasNumbers numbers s.scopes)) (Some s) [] (is.numbered numbers)
+    (All-nil (λ (row : Option Subparser). IfSome row (λ s. HasNumbers numbers s.scopes)))

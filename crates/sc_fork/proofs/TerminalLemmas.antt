@@ -1,15 +1,15 @@
 -- The terminals of tokens are no kinds of names.
-use Rattle.std.proofs.Common.{◌≡◌, ℕ, ◌<◌, ◌≤◌, ◌+◌, ◌||◌, Bool, true, false, cond, List, [], ◌∷◌, length, take, drop, Option, Some, None, unwrap_or, refl, subst, arith, length-take, if◌then◌else◌}
+use Rattle.std.proofs.Common.{◌≡◌, ℕ, ◌<◌, ◌≤◌, ◌+◌, Bool, true, false, cond, List, [], ◌∷◌, length, take, drop, Option, Some, None, unwrap_or, refl, subst, arith, length-take, if◌then◌else◌}
 use Rattle.std.specs.List.{position_from}
 use Rattle.std.proofs.lemmas.Bool.Decides.{nat_tests}
 use Rattle.sc_fork.specs.Owns.{has_tree}
 use Rattle.sc_grammar.specs.Terminals.{terminal_names}
-use Rattle.sc_kinds.specs.Constants.{is_integer, is_floating}
-use Rattle.sc_kinds.specs.Kinds.{terminal_of, terminal_written, keyword}
+use Rattle.sc_kinds.specs.Kinds.{is_constant, terminal_of, terminal_written, keyword}
 use Rattle.sc_model.specs.declared.kind.Kind.{Kind}
 use Rattle.sc_model.specs.declared.kind.Kind.TheVariants.{Identifier, Number, Character, Text, Header, Punctuator, Other, Newline}
 use Rattle.sc_model.specs.Bytes.{same_bytes}
 use Rattle.sc_model.specs.Token.{name_of}
+use Rattle.sc_model.specs.declared.standard.Standard.{Standard}
 
 -- a terminal that has a tree, of those of the grammar
 pub record IsTokens (x : ℕ) : Type 0 where
@@ -41,21 +41,21 @@ written-tokens first count spelling n low high is =
 same-tokens : (k x : ℕ) → IsTokens k → Some k ≡ Some x → IsTokens x
 same-tokens k x is same = let e : k ≡ x = cc in subst IsTokens e is
 
-pub terminal-tokens : (kind : Kind) (spelling : List ℕ) (x : ℕ) → terminal_of kind spelling ≡ Some x → IsTokens x
+pub terminal-tokens : (standard : Standard) (kind : Kind) (spelling : List ℕ) (x : ℕ) → terminal_of standard kind spelling ≡ Some x → IsTokens x
 unfolding terminal_of
-terminal-tokens Identifier spelling x is = by (keyword spelling) refl is
+terminal-tokens standard Identifier spelling x is = by (keyword spelling) refl is
   where
     by : (found : Option ℕ) → keyword spelling ≡ found → Some (unwrap_or found 0) ≡ Some x → IsTokens x
     by None none e = same-tokens 0 x (record { tree = refl; within = omega arith }) e
     by (Some k) some e = same-tokens k x (written-tokens 5 44 spelling k (omega arith) (omega arith) some) e
-terminal-tokens Number spelling x is = by (is_integer spelling || is_floating spelling) is
+terminal-tokens standard Number spelling x is = by (is_constant standard spelling) is
   where
     by : (b : Bool) → (if b then Some 3 else None) ≡ Some x → IsTokens x
     by true e = same-tokens 3 x (record { tree = refl; within = omega arith }) e
     by false e = absurd (cc)
-terminal-tokens Character spelling x is = same-tokens 3 x (record { tree = refl; within = omega arith }) is
-terminal-tokens Text spelling x is = same-tokens 4 x (record { tree = refl; within = omega arith }) is
-terminal-tokens Punctuator spelling x is = written-tokens 49 46 (name_of spelling) x (omega arith) (omega arith) is
-terminal-tokens Header spelling x is = absurd (cc)
-terminal-tokens Other spelling x is = absurd (cc)
-terminal-tokens Newline spelling x is = absurd (cc)
+terminal-tokens standard Character spelling x is = same-tokens 3 x (record { tree = refl; within = omega arith }) is
+terminal-tokens standard Text spelling x is = same-tokens 4 x (record { tree = refl; within = omega arith }) is
+terminal-tokens standard Punctuator spelling x is = written-tokens 49 46 (name_of spelling) x (omega arith) (omega arith) is
+terminal-tokens standard Header spelling x is = absurd (cc)
+terminal-tokens standard Other spelling x is = absurd (cc)
+terminal-tokens standard Newline spelling x is = absurd (cc)

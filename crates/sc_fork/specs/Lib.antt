@@ -11,3 +11,4 @@ pub mod Roots
 pub mod Seen
 pub mod Shifts
 pub mod Starts
+pub mod View

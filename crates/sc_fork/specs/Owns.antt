@@ -9,7 +9,7 @@ use Rattle.sc_base.specs.declared.token.Token.{Token}
 use Rattle.sc_base.specs.Seen.{text_at}
 use Rattle.sc_fork.specs.declared.enabled.Enabled.{Enabled}
 use Rattle.sc_fork.specs.declared.enabled.Enabled.TheVariants as enabled
-use Rattle.sc_fork.specs.declared.fork.Core.{Core}
+use Rattle.sc_fork.specs.View.{View}
 use Rattle.sc_fork.specs.declared.piece.Answer.{Answer}
 use Rattle.sc_fork.specs.declared.piece.Answer.TheVariants.{Root, Refused}
 use Rattle.sc_fork.specs.declared.piece.Ended.{Ended}
@@ -31,6 +31,7 @@ use Rattle.sc_scope.specs.Levels.{no_bindings}
 use Rattle.sc_scope.specs.Numbered.{HasNumbers}
 use Rattle.sc_scope.specs.Seen.{levels_in}
 use Rattle.sc_stack.specs.Entries.{Entry, states_of, values_of}
+use Rattle.sc_model.specs.declared.standard.Standard.{Standard}
 
 -- the entries are those of the tables of C11
 pub record HasC11Tables (tables : Tables) : Type 0 where
@@ -38,14 +39,15 @@ pub record HasC11Tables (tables : Tables) : Type 0 where
   pub are : AreC11Tables (tables_of states tables)
 
 -- each terminal is the first one of its token
-abbrev pub AreTerminals : List (List ℕ) → List (Cond × Token) → List (Option Terminal) → Type 0
-AreTerminals names list terminals =
-    map (option_map (λ (x : Terminal). x.0)) terminals ≡ map (λ (item : Cond × Token). terminal_of item.1.kind (text_at names item.1.spelling.0)) list
+abbrev pub AreTerminals : Standard → List (List ℕ) → List (Cond × Token) → List (Option Terminal) → Type 0
+AreTerminals standard names list terminals =
+    map (option_map (λ (x : Terminal). x.0)) terminals ≡ map (λ (item : Cond × Token). terminal_of standard item.1.kind (text_at names item.1.spelling.0)) list
 
 pub record IsSource (source : Source) : Type 0 where
   pub tables : HasC11Tables source.tables.now
+  pub standard : Standard
   pub names : List (List ℕ)
-  pub terminals : AreTerminals names source.list.now source.terminals.items
+  pub terminals : AreTerminals standard names source.list.now source.terminals.items
 
 -- a symbol has a tree, but for the kind of a name
 abbrev pub has_tree : ℕ → Bool
@@ -112,12 +114,11 @@ AllNumbered numbers rows = All (λ (row : Option Subparser). IfSome row (λ s. H
 
 -- The core is one of the stores with these conditions and with so many trees. Nothing is kept by a
 -- core that was given up.
-pub record OwnsCore (sets : Sets) (count : ℕ) (core : Core) : Type 0 where
+pub record OwnsCore (sets : Sets) (count : ℕ) (core : View) : Type 0 where
   pub source : IsSource core.source
   pub items : All (λ (item : Cond × Token). IsCond sets item.0.0) core.source.list.now
-  pub rows : core.is_given_up ≡ false → All (λ (row : Option Subparser). IfSome row (OwnsRow sets count core.source)) core.rows.items
-  pub ended : core.is_given_up ≡ false → All (OwnsEnded sets count core.source) core.ended.items
-  pub numbered : core.is_given_up ≡ false → AllNumbered core.scope_numbers core.rows.items
+  pub rows : core.is_given_up ≡ false → All (λ (row : Option Subparser). IfSome row (OwnsRow sets count core.source)) core.subparsers
+  pub ended : core.is_given_up ≡ false → All (OwnsEnded sets count core.source) core.ended
 
 -- no frames, one level without bindings, before the first element
 pub record IsFirst (live : Cond) (s : Subparser) : Type 0 where

@@ -10,7 +10,7 @@ use Rattle.sc_fork.specs.declared.enabled.Enabled.{Enabled}
 use Rattle.sc_fork.specs.declared.enabled.Enabled.TheVariants as enabled
 use Rattle.sc_fork.specs.declared.event.Event.{Event}
 use Rattle.sc_fork.specs.declared.event.Event.TheVariants.{Split, Reduce, Shift, Classify, Merge}
-use Rattle.sc_fork.specs.declared.fork.Core.{Core}
+use Rattle.sc_fork.specs.View.{View}
 use Rattle.sc_fork.specs.declared.piece.Ended.{Ended}
 use Rattle.sc_fork.specs.declared.piece.Piece.{Piece}
 use Rattle.sc_fork.specs.declared.piece.Piece.TheVariants.{Going, Over}
@@ -138,11 +138,17 @@ over_of [] = []
 over_of (Going s ∷ pieces) = over_of pieces
 over_of (Over e ∷ pieces) = e ∷ over_of pieces
 
+-- so many pieces were put behind the subparsers and what had ended
+pub record IsPlaced (subparsers : List (Option Subparser)) (ended : List Ended) (taken : List Piece) (next : List (Option Subparser)) (over : List Ended) (made : List ℕ) : Type 0 where
+  pub rows_are : next ≡ subparsers ++ going_of taken
+  pub ended_are : over ≡ ended ++ over_of taken
+  pub numbers : made ≡ range_with_len (length subparsers) (length (going_of taken))
+
 -- the pieces take the place of the event's subparsers, under the next numbers
-pub record Becomes (before : Core) (event : Event) (pieces : List Piece) (after : Core) (made : List ℕ) : Type 0 where
-  pub rows : after.rows.items ≡ without (numbers_of event) before.rows.items ++ going_of pieces
-  pub ended : after.ended.items ≡ before.ended.items ++ over_of pieces
-  pub numbers : made ≡ range_with_len (length before.rows.items) (length (going_of pieces))
+pub record Becomes (before : View) (event : Event) (pieces : List Piece) (after : View) (made : List ℕ) : Type 0 where
+  pub rows : after.subparsers ≡ without (numbers_of event) before.subparsers ++ going_of pieces
+  pub ended : after.ended ≡ before.ended ++ over_of pieces
+  pub numbers : made ≡ range_with_len (length before.subparsers) (length (going_of pieces))
 
 -- Which pieces an event makes that the core can do. The parts of a split look at one element after
 -- the other. Of a reduction and of a shift there is one piece, of a merge one that goes on.
@@ -157,7 +163,7 @@ pub data Makes (source : Source) (rows : List (Option Subparser)) : Event → Li
   merges : (n m : ℕ) (s t u : Subparser) → Has rows n s → Has rows m t → (n ≡ m → ⊥) → AreAlike s t → AreAlike s u → Makes source rows (Merge n m) (Going u ∷ [])
 
 -- The core can do the event, and this is what it does.
-pub record HasMade (before : Core) (event : Event) (after : Core) (made : List ℕ) : Type 0 where
+pub record HasMade (before : View) (event : Event) (after : View) (made : List ℕ) : Type 0 where
   pub pieces : List Piece
-  pub makes : Makes before.source before.rows.items event pieces
+  pub makes : Makes before.source before.subparsers event pieces
   pub becomes : Becomes before event pieces after made

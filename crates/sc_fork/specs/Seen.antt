@@ -37,12 +37,14 @@ use Rattle.sc_scope.specs.Seen.{levels_in}
 use Rattle.sc_stack.specs.Entries.{state_of, states_of}
 use Rattle.sc_tree.specs.Lines.{Line}
 use Rattle.sc_tree.specs.Reads.{Tables, Reads}
+use Rattle.sc_model.specs.declared.standard.Standard.{Standard}
 
 -- The source is what is parsed. Its conditions, names and files are held, and no text has two
 -- names.
 pub record IsInput (w : Tables) (source : Source) (input : Input) : Type 0 where
+  pub standard : Standard
   pub states : List (List ℕ)
-  pub parser : input.parser ≡ c11_parser (tables_of states source.tables.now)
+  pub parser : input.parser ≡ c11_parser standard (tables_of states source.tables.now)
   pub arities : input.arities ≡ w.sets.arities
   pub end : input.end ≡ seen_place w.files source.end
   pub tokens : map (λ (item : Condition × plain.Token). item.1) input.items ≡ map (λ (item : Cond × Token). seen w.names w.files item.1) source.list.now

@@ -11,7 +11,7 @@ ghost use Rattle.sc_fork.specs.Cores.{IsApplied, IsCore, IsFinished, Starts};
 ghost use Rattle.sc_fork.specs.Enabled.{Has, HasNone, IsEnabled, IsRefused, LooksAt};
 ghost use Rattle.sc_fork.specs.Outcomes.{IsOutcome, OwnsOutcome};
 ghost use Rattle.sc_fork.specs.Owns.{HasC11Tables, AreNumbered, AreTerminals, IsFirst, IsNumbered, OwnsCore, OwnsEnabled, OwnsPiece, IsSource};
-ghost use Rattle.sc_fork.specs.Pieces.{AddsOwnChoices, AreInOrder, AreMade, Becomes, HasMade, InNextPhase, numbers_of, without};
+ghost use Rattle.sc_fork.specs.Pieces.{AddsOwnChoices, AreInOrder, AreMade, HasMade, InNextPhase, IsPlaced, numbers_of, without};
 ghost use Rattle.sc_fork.specs.Seen.{action_in};
 ghost use Rattle.sc_fork.specs.Starts.{AreFirst};
 ghost use Rattle.sc_merge.specs.declared.subparser.Subparser.{Subparser};
@@ -37,21 +37,39 @@ use sc_base::{Cond, Names, OutOfMemory, Place, Token};
 use sc_guarded::Guarded;
 use sc_lalr::Tables;
 use sc_merge::{Key, Phase, Subparser, key, merge};
+use sc_model::Standard;
 use sc_presence::Conditions;
 use sc_scope::{Numbers, Scopes};
 use sc_stack::Stack;
 use sc_tree::Trees;
 use std::alloc::Global;
+use std::marker::Model;
 
 /// The subparsers by their numbers, and what has ended. A number stays with its subparser; the
 /// next one that is unused goes to the next subparser.
 #[derive(Drop)]
 pub struct Core<'a> {
-    pub(crate) source: Source<'a>,
-    pub(crate) rows: Vec<Row>,
-    pub(crate) ended: Vec<Ended>,
-    pub(crate) scope_numbers: Numbers,
-    pub(crate) is_given_up: bool,
+    source: Source<'a>,
+    rows: Vec<Row>,
+    ended: Vec<Ended>,
+    scope_numbers: Numbers,
+    is_given_up: bool,
+}
+
+impl<'a> Model for Core<'a> {
+    ghost use Rattle.std.specs.Prelude.{◌≡◌, false};
+    ghost use Rattle.std.specs.Coded.{codes};
+    ghost use Rattle.sc_fork.specs.Owns.{AllNumbered};
+    ghost use Rattle.sc_fork.specs.View.{View};
+    ghost use Rattle.sc_merge.specs.contracts.subparser.Subparser as held;
+
+    ghost Value = { View };
+
+    ghost coded = { Prim.hlevel (codes, held.the_row.coded) };
+
+    ghost view = { λ c. record { source = c.source; subparsers = c.rows.items; ended = c.ended.items; is_given_up = c.is_given_up } };
+
+    ghost invariant = { λ c. c.is_given_up ≡ false → AllNumbered c.scope_numbers c.rows.items };
 }
 
 impl<'a> Core<'a> {
@@ -64,6 +82,7 @@ impl<'a> Core<'a> {
         live: Cond,
         end: Place,
         tables: &'a Tables,
+        standard: Standard,
     ) -> Result<Core<'a>, OutOfMemory>
         requires tables { HasC11Tables tables.now }
         requires live { IsCond (C.sets conds.now) live.0 }
@@ -72,14 +91,14 @@ impl<'a> Core<'a> {
         ensures list { IfOk result (λ core. core.source.list.now ≡ list.now) }
         ensures tables { IfOk result (λ core. core.source.tables.now ≡ tables.now) }
         ensures end { IfOk result (λ core. core.source.end ≡ end) }
-        ensures terminals { IfOk result (λ core. AreTerminals names.now list.now core.source.terminals.items) }
+        ensures terminals { IfOk result (λ core. AreTerminals standard names.now list.now core.source.terminals.items) }
         ensures start { IfOk result (λ core. (lines : List Line) (files : List (List ℕ)) → Starts (tables_with (C.sets conds.now) lines names.now files) core live) }
         ensures own { IfOk result (λ core. (count : ℕ) → OwnsCore (C.sets conds.now) count core) }
         ensures usable { IfOk result (λ core. core.is_given_up ≡ false) }
-        ensures first { IfOk result (λ core. AreFirst (C.sets conds.now) live core.rows.items) }
-        ensures ended { IfOk result (λ core. core.ended.items ≡ []) }
+        ensures first { IfOk result (λ core. AreFirst (C.sets conds.now) live core.subparsers) }
+        ensures ended { IfOk result (λ core. core.ended ≡ []) }
     {
-        let source = Source::new(alloc, names, list, end, tables)?;
+        let source = Source::new(alloc, names, list, end, tables, standard)?;
         let rows = first_rows(alloc, conds, live)?;
         Ok(Core {
             source,
@@ -104,7 +123,7 @@ impl<'a> Core<'a> {
             → IsCore (tables_with (C.sets conds.old) trees.old names files) input self.old seen → Stands input seen
             → IsApplied (tables_with (C.sets conds.old) trees.old names files) (tables_with (C.sets conds.new) trees.new names files) input self.old event self.new applied.made.items seen) }
         ensures rows { IfOk result (λ applied. HasMade self.old event self.new applied.made.items) }
-        ensures not_enabled { (fact : Fact) → result ≡ Err (CoreStop.NotEnabled fact) → IsRefused self.old.source self.old.rows.items event fact }
+        ensures not_enabled { (fact : Fact) → result ≡ Err (CoreStop.NotEnabled fact) → IsRefused self.old.source self.old.subparsers event fact }
         ensures given_up { (result ≡ Err CoreStop.GivenUp) ↔ (self.old.is_given_up ≡ true) }
         ensures memory { (self.new.is_given_up ≡ true) ↔ ((result ≡ Err CoreStop.OutOfMemory) ⊎ (self.old.is_given_up ≡ true)) }
         ensures unchanged { IfErr result (λ stop. (stop ≡ CoreStop.OutOfMemory → ⊥) → self.new ≡ self.old) }
@@ -130,78 +149,20 @@ impl<'a> Core<'a> {
             Err(fact) => return Err(CoreStop::NotEnabled { fact }),
         };
         let Ok(pieces) = pieces else {
-            return Err(self.give_up());
+            self.is_given_up = true;
+            return Err(CoreStop::OutOfMemory);
         };
-        let Ok(made) = self.replace(alloc, event, pieces) else {
-            return Err(self.give_up());
+        let Ok(made) = replace(alloc, &mut self.rows, &mut self.ended, event, pieces) else {
+            self.is_given_up = true;
+            return Err(CoreStop::OutOfMemory);
         };
         Ok(Applied { made })
     }
 
-    fn give_up(&mut self) -> CoreStop
-        ensures stop { result ≡ CoreStop.OutOfMemory }
-        ensures source { self.new.source ≡ self.old.source }
-        ensures given_up { self.new.is_given_up ≡ true }
-    {
-        self.is_given_up = true;
-        CoreStop::OutOfMemory
-    }
-
-    /// Puts the pieces in the place of the event's subparsers. The answer is the new numbers.
-    fn replace(
-        &mut self,
-        alloc: Global,
-        event: Event,
-        pieces: Vec<Piece>,
-    ) -> Result<Vec<usize>, OutOfMemory>
-        requires { All (λ number. number < length self.old.rows.items) (numbers_of event) }
-        ensures becomes { IfOk result (λ made. Becomes self.old event pieces.items self.new made.items) }
-
-        // at every outcome
-        ensures source { self.new.source ≡ self.old.source }
-        ensures numbers { self.new.scope_numbers ≡ self.old.scope_numbers }
-        ensures given_up { self.new.is_given_up ≡ self.old.is_given_up }
-    {
-        self.remove(event);
-        let mut made = Vec::new(alloc);
-        for piece in pieces {
-            match piece {
-                Piece::Going(subparser) => {
-                    made.push(self.rows.len())?;
-                    let row = Row::new(alloc, subparser)?;
-                    self.rows.push(row)?;
-                }
-                Piece::Over(ended) => self.ended.push(ended)?,
-            }
-        }
-        Ok(made)
-    }
-
-    /// The event's subparsers are gone.
-    fn remove(&mut self, event: Event)
-        requires { All (λ number. number < length self.old.rows.items) (numbers_of event) }
-        ensures rows { self.new.rows.items ≡ without (numbers_of event) self.old.rows.items }
-        ensures source { self.new.source ≡ self.old.source }
-        ensures ended { self.new.ended ≡ self.old.ended }
-        ensures numbers { self.new.scope_numbers ≡ self.old.scope_numbers }
-        ensures given_up { self.new.is_given_up ≡ self.old.is_given_up }
-    {
-        match event {
-            Event::Merge(number, other) => {
-                self.rows[number] = Row::gone();
-                self.rows[other] = Row::gone();
-            }
-            Event::Split(number)
-            | Event::Reduce(number)
-            | Event::Shift(number)
-            | Event::Classify(number) => self.rows[number] = Row::gone(),
-        }
-    }
-
     /// The condition and the key of the subparser that has the number now.
     pub fn look(&self, number: usize) -> Option<(Cond, Key<'_>)>
-        ensures some { IfSome result (λ found. (s : Subparser) × (Has self.now.rows.items number s × (found.0 ≡ s.cond) × IsKeyOf found.1 s)) }
-        ensures none { result ≡ None → self.now.is_given_up ≡ false → HasNone self.now.rows.items number }
+        ensures some { IfSome result (λ found. (s : Subparser) × (Has self.now.subparsers number s × (found.0 ≡ s.cond) × IsKeyOf found.1 s)) }
+        ensures none { result ≡ None → self.now.is_given_up ≡ false → HasNone self.now.subparsers number }
         ensures usable { IfSome result (λ found. self.now.is_given_up ≡ false) }
     {
         if self.is_given_up {
@@ -213,8 +174,8 @@ impl<'a> Core<'a> {
 
     /// What the subparser of the number does at the element that comes next for it, where one does.
     pub fn action(&self, number: usize) -> Option<Action>
-        ensures looks { (s : Subparser) (at : ℕ) → LooksAt self.now.rows.items number s at → result ≡ action_in self.now.source s at }
-        ensures other { ((s : Subparser) (at : ℕ) → LooksAt self.now.rows.items number s at → ⊥) → result ≡ None }
+        ensures looks { (s : Subparser) (at : ℕ) → LooksAt self.now.subparsers number s at → result ≡ action_in self.now.source s at }
+        ensures other { ((s : Subparser) (at : ℕ) → LooksAt self.now.subparsers number s at → ⊥) → result ≡ None }
     {
         let Ok((subparser, at)) = looking(&self.rows, number) else {
             return None;
@@ -284,6 +245,49 @@ fn first(alloc: Global, live: Cond) -> Result<Subparser, OutOfMemory>
         scopes,
         phase: Phase::Between(0),
     })
+}
+
+/// Puts the pieces in the place of the event's subparsers. The answer is the new numbers.
+fn replace(
+    alloc: Global,
+    rows: &mut Vec<Row>,
+    ended: &mut Vec<Ended>,
+    event: Event,
+    pieces: Vec<Piece>,
+) -> Result<Vec<usize>, OutOfMemory>
+    requires { All (λ number. number < length rows.old.items) (numbers_of event) }
+    ensures { IfOk result (λ made. IsPlaced (without (numbers_of event) rows.old.items) ended.old.items pieces.items rows.new.items ended.new.items made.items) }
+{
+    remove(rows, event);
+    let mut made = Vec::new(alloc);
+    for piece in pieces {
+        match piece {
+            Piece::Going(subparser) => {
+                made.push(rows.len())?;
+                let row = Row::new(alloc, subparser)?;
+                rows.push(row)?;
+            }
+            Piece::Over(part) => ended.push(part)?,
+        }
+    }
+    Ok(made)
+}
+
+/// The event's subparsers are gone.
+fn remove(rows: &mut Vec<Row>, event: Event)
+    requires { All (λ number. number < length rows.old.items) (numbers_of event) }
+    ensures { rows.new.items ≡ without (numbers_of event) rows.old.items }
+{
+    match event {
+        Event::Merge(number, other) => {
+            rows[number] = Row::gone();
+            rows[other] = Row::gone();
+        }
+        Event::Split(number)
+        | Event::Reduce(number)
+        | Event::Shift(number)
+        | Event::Classify(number) => rows[number] = Row::gone(),
+    }
 }
 
 /// What the event makes of its subparsers.

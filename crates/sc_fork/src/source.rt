@@ -10,6 +10,7 @@ use sc_guarded::Guarded;
 use sc_kinds::terminal;
 use sc_lalr::Tables;
 use sc_merge::Subparser;
+use sc_model::Standard;
 use std::alloc::Global;
 
 /// What is parsed: a list with the first terminal of each element and the place of its end, by
@@ -30,17 +31,18 @@ impl<'a> Source<'a> {
         list: &'a Guarded<Token>,
         end: Place,
         tables: &'a Tables,
+        standard: Standard,
     ) -> Result<Source<'a>, OutOfMemory>
         requires { All (λ item. IsHeld names.now item.1) list.now }
         ensures list { IfOk result (λ source. source.list.now ≡ list.now) }
         ensures tables { IfOk result (λ source. source.tables.now ≡ tables.now) }
         ensures end { IfOk result (λ source. source.end ≡ end) }
-        ensures terminals { IfOk result (λ source. AreTerminals names.now list.now source.terminals.items) }
+        ensures terminals { IfOk result (λ source. AreTerminals standard names.now list.now source.terminals.items) }
     {
         let mut first = Vec::new(alloc);
         for index in 0..list.len() {
             let token = list.item(index).1;
-            first.push(terminal(token.kind, names.text(token.spelling)))?;
+            first.push(terminal(token.kind, names.text(token.spelling), standard))?;
         }
         Ok(Source {
             list,

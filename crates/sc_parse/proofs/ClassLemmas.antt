@@ -8,6 +8,7 @@ use Rattle.c11_parsing.specs.Classes.{AreDistinct, Class, HasMoreClasses, Input,
 use Rattle.c11_parsing.specs.Core as core
 use Rattle.sc_fork.proofs.CoreLemmas.{row-seen}
 use Rattle.sc_fork.specs.Enabled.{Has}
+use Rattle.sc_fork.specs.View.{states_in, depth_of}
 use Rattle.sc_merge.specs.declared.subparser.Phase.TheVariants.{At}
 use Rattle.sc_merge.specs.declared.subparser.Subparser.{Subparser}
 use Rattle.sc_merge.specs.Keys.{AreAlike}
@@ -15,13 +16,11 @@ use Rattle.sc_parse.proofs.RowLemmas.{pairs-head, pairs-tail}
 use Rattle.sc_parse.specs.declared.steps.Steps.{Steps}
 use Rattle.sc_parse.specs.Numbers.{AreApart}
 use Rattle.sc_parse.specs.Runs.{AreWaiting, IsRun, IsWaiting}
-use Rattle.sc_scope.specs.Seen.{levels_in}
-use Rattle.sc_stack.specs.Entries.{states_of}
 use Rattle.sc_tree.specs.Reads.{Tables}
 
 -- the class of a subparser for which the element comes next
 abbrev pub class_with : Subparser → ℕ → Class
-class_with s next = record { states = states_of s.stack; next = next; depth = length (levels_in s.scopes) }
+class_with s next = record { states = states_in s; next = next; depth = depth_of s }
 
 -- the configuration is in the class of the subparser that has the number
 pub record IsOfNumber (input : Input) (i : ℕ) (rows : List (Option Subparser)) (c : List ℕ) (n : ℕ) : Type 0 where
@@ -39,16 +38,16 @@ pub record HaveClasses (input : Input) (i : ℕ) (rows : List (Option Subparser)
   pub distinct : AreDistinct input i configs
 
 module _ (w : Tables) (input : Input) (first : core.Core) (i : ℕ) (s : Steps) (run : IsRun w input first s) where
-  config-of : (n : ℕ) → (t : Subparser) × (Has s.core.rows.items n t × IsWaiting w.sets input i t) → (c : List ℕ) × IsOfNumber input i s.core.rows.items c n
+  config-of : (n : ℕ) → (t : Subparser) × (Has s.core.subparsers n t × IsWaiting w.sets input i t) → (c : List ℕ) × IsOfNumber input i s.core.subparsers c n
   config-of n (t, (has, waits)) =
-      let row = row-seen w input s.core.rows.items run.last.rows n t run.is.rows has in
+      let row = row-seen w input s.core.subparsers run.last.rows n t run.is.rows has in
       let c = row.seen.possible.config in
       let of = waits.each c row.seen.possible.is_config (sym (row.seen.has c row.seen.possible.is_config) ∙ row.seen.possible.has) in
       (c, record { subparser = t; has = has; next = waits.next; phase = waits.phase; class = record { run = of.run; live = of.live; is = sym of.class } })
 
   -- subparsers that are not alike have other classes
-  other-class : (n m : ℕ) (c d : List ℕ) → ((t u : Subparser) → Has s.core.rows.items n t → Has s.core.rows.items m u → AreAlike t u → ⊥)
-      → IsOfNumber input i s.core.rows.items c n → IsOfNumber input i s.core.rows.items d m → (class : Class) → IsClass input i c class → IsClass input i d class → ⊥
+  other-class : (n m : ℕ) (c d : List ℕ) → ((t u : Subparser) → Has s.core.subparsers n t → Has s.core.subparsers m u → AreAlike t u → ⊥)
+      → IsOfNumber input i s.core.subparsers c n → IsOfNumber input i s.core.subparsers d m → (class : Class) → IsClass input i c class → IsClass input i d class → ⊥
   other-class n m c d apart one two class of_c of_d =
       let same : class_with one.subparser one.next ≡ class_with two.subparser two.next =
       one-class input i c (class_with one.subparser one.next) class one.class of_c ∙ one-class input i d class (class_with two.subparser two.next) of_d two.class
@@ -60,19 +59,19 @@ module _ (w : Tables) (input : Input) (first : core.Core) (i : ℕ) (s : Steps) 
         levels = sym (ap (λ (k : Class). k.depth) same);
       })
 
-  pub distinct : (ns : List ℕ) → AreWaiting w.sets input i s.core.rows.items ns → AreApart s.core.rows.items ns → HaveClasses input i s.core.rows.items ns
+  pub distinct : (ns : List ℕ) → AreWaiting w.sets input i s.core.subparsers ns → AreApart s.core.subparsers ns → HaveClasses input i s.core.subparsers ns
   distinct [] waits apart = record {
     configs = [];
     many = refl;
-    each = All-nil (λ (c : List ℕ). (n : ℕ) × (Contains {X = ℕ} [] n × IsOfNumber input i s.core.rows.items c n));
+    each = All-nil (λ (c : List ℕ). (n : ℕ) × (Contains {X = ℕ} [] n × IsOfNumber input i s.core.subparsers c n));
     distinct = record { classes = λ k d below. absurd (omega (arith, below)); different = λ k l d low below. absurd (omega (arith, below)) };
   }
   distinct (n ∷ ns) waits apart =
-      let P = λ (m : ℕ). (t : Subparser) × (Has s.core.rows.items m t × IsWaiting w.sets input i t) in
-      let Unlike = λ (m o : ℕ). (t u : Subparser) → Has s.core.rows.items m t → Has s.core.rows.items o u → AreAlike t u → ⊥ in
+      let P = λ (m : ℕ). (t : Subparser) × (Has s.core.subparsers m t × IsWaiting w.sets input i t) in
+      let Unlike = λ (m o : ℕ). (t u : Subparser) → Has s.core.subparsers m t → Has s.core.subparsers o u → AreAlike t u → ⊥ in
       let R = λ (c d : List ℕ). (class : Class) → IsClass input i c class → IsClass input i d class → ⊥ in
       let K = λ (c : List ℕ). (class : Class) × IsClass input i c class in
-      let Within = λ (ms : List ℕ) (c : List ℕ). (m : ℕ) × (Contains ms m × IsOfNumber input i s.core.rows.items c m) in
+      let Within = λ (ms : List ℕ) (c : List ℕ). (m : ℕ) × (Contains ms m × IsOfNumber input i s.core.subparsers c m) in
       let mine = config-of n (All-head P n ns waits) in
       let rest = distinct ns (All-tail P n ns waits) (pairs-tail Unlike n ns apart) in
       record {
@@ -95,7 +94,7 @@ module _ (w : Tables) (input : Input) (first : core.Core) (i : ℕ) (s : Steps) 
       }
 
   -- at the place there are more classes than there may be
-  pub more-classes : (branches : ℕ) (ns : List ℕ) → AreWaiting w.sets input i s.core.rows.items ns → AreApart s.core.rows.items ns → i < length input.items + 1 → branches < length ns
+  pub more-classes : (branches : ℕ) (ns : List ℕ) → AreWaiting w.sets input i s.core.subparsers ns → AreApart s.core.subparsers ns → i < length input.items + 1 → branches < length ns
       → HasMoreClasses input branches
   more-classes branches ns waits apart within more =
       let classes = distinct ns waits apart in

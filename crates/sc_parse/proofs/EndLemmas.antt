@@ -77,8 +77,8 @@ goes-end old new lines added place elements s t goes long =
 -- ---- the start
 
 -- the first subparser, where there is one
-pub first-there : (c : Steps) (r : Option (Cond × Key)) → IfSome r (λ found. (s : Subparser) × (Has c.core.rows.items 0 s × (found.0 ≡ s.cond) × IsKeyOf found.1 s)) → true ≡ is_some r
-    → (s : Subparser) × Has c.core.rows.items 0 s
+pub first-there : (c : Steps) (r : Option (Cond × Key)) → IfSome r (λ found. (s : Subparser) × (Has c.core.subparsers 0 s × (found.0 ≡ s.cond) × IsKeyOf found.1 s)) → true ≡ is_some r
+    → (s : Subparser) × Has c.core.subparsers 0 s
 first-there c None found there = absurd (cc)
 first-there c (Some x) found there = (found.0, found.1.0)
 
@@ -86,8 +86,8 @@ pub first-none : (r : Option (Cond × Key)) → false ≡ is_some r → r ≡ No
 first-none None there = refl
 first-none (Some x) there = absurd (cc)
 
-pub first-between : (c : Steps) → HasBegun c.core → (s : Subparser) → Has c.core.rows.items 0 s → Each (IsBetween 0) c.core.rows.items (0 ∷ [])
-first-between c begun s has = All-cons (λ n. (t : Subparser) × (Has c.core.rows.items n t × IsBetween 0 t)) 0 [] (s, (has, (begun.rows 0 s has).1)) (All-nil (λ n. (t : Subparser) × (Has c.core.rows.items n t × IsBetween 0 t)))
+pub first-between : (c : Steps) → HasBegun c.core → (s : Subparser) → Has c.core.subparsers 0 s → Each (IsBetween 0) c.core.subparsers (0 ∷ [])
+first-between c begun s has = All-cons (λ n. (t : Subparser) × (Has c.core.subparsers n t × IsBetween 0 t)) 0 [] (s, (has, (begun.rows 0 s has).1)) (All-nil (λ n. (t : Subparser) × (Has c.core.subparsers n t × IsBetween 0 t)))
 
 none-of : (a : ℕ) → (0 < a → ⊥) → a ≡ 0
 none-of zero not = refl
@@ -96,13 +96,13 @@ none-of (suc a) not = absurd (not (omega arith))
 filled-none : (rows : List (Option Subparser)) (n : ℕ) → HasNone rows n → filled_at rows n ≡ 0
 filled-none rows n none = none-of (filled_at rows n) (λ full. let found = has-filled rows n full in none found.0 found.1)
 
-first-filled : (c : Steps) → HasBegun c.core → (s : Subparser) → Has c.core.rows.items 0 s → (n : ℕ) → filled_at c.core.rows.items n ≡ times n (0 ∷ [])
+first-filled : (c : Steps) → HasBegun c.core → (s : Subparser) → Has c.core.subparsers 0 s → (n : ℕ) → filled_at c.core.subparsers n ≡ times n (0 ∷ [])
 first-filled c begun s has n = elim (eqb_tells n 0) [
   | inl same ↦
-      let full : filled_at c.core.rows.items n ≡ 1 = ap (filled_at c.core.rows.items) same.1 ∙ filled c.core.rows.items 0 s has in
+      let full : filled_at c.core.subparsers n ≡ 1 = ap (filled_at c.core.subparsers) same.1 ∙ filled c.core.subparsers 0 s has in
       omega (arith, full, ap one_if same.0)
   | inr other ↦
-      let none : filled_at c.core.rows.items n ≡ 0 = filled-none c.core.rows.items n (λ t there. other.1 (begun.rows n t there).0) in
+      let none : filled_at c.core.subparsers n ≡ 0 = filled-none c.core.subparsers n (λ t there. other.1 (begun.rows n t there).0) in
       omega (arith, none, ap one_if other.0)
 ]
 
@@ -110,7 +110,7 @@ pub no-waiting : (sets : Sets) (input : Input) (i : ℕ) (rows : List (Option Su
 no-waiting sets input i rows numbers none =
     subst (AreWaiting sets input i rows) (sym none) (All-nil (λ n. (t : Subparser) × (Has rows n t × IsWaiting sets input i t)))
 
-no-ended : (sets : Sets) (input : Input) (i : ℕ) (c : Steps) → HasBegun c.core → HaveEndedBefore sets input i c.core.ended.items
+no-ended : (sets : Sets) (input : Input) (i : ℕ) (c : Steps) → HasBegun c.core → HaveEndedBefore sets input i c.core.ended
 no-ended sets input i c begun =
     subst (HaveEndedBefore sets input i) (sym begun.none) (All-nil (λ (e : Ended). (d : List ℕ) → IsConfig input.arities d → sets.has e.cond.0 d ≡ true → EndsBefore input i d))
 
@@ -119,7 +119,7 @@ none-before r = record { empty = λ k row low at. absurd (omega (arith, low)) }
 
 -- at the first place the events so far suffice
 at-start : (w : Tables) (input : Input) (first : core.Core) (s : Steps) (r : Rows) → IsRun w input first s → AreAllFiled s.core r 0
-    → AreWaiting w.sets input 0 s.core.rows.items (numbers_in r) → HaveEndedBefore w.sets input 0 s.core.ended.items → IsAtPlace w input first s r 0
+    → AreWaiting w.sets input 0 s.core.subparsers (numbers_in r) → HaveEndedBefore w.sets input 0 s.core.ended → IsAtPlace w input first s r 0
 at-start w input first s r run filed waits ended = record {
   run = run;
   waiting = λ within. waits;
@@ -131,14 +131,14 @@ at-start w input first s r run filed waits ended = record {
 
 -- there is no first subparser
 pub come-empty : (sets : Sets) (lines : List Line) (elements branches : ℕ) (s : Steps) (r : Rows) → OwnsSteps sets (length lines) s → OwnsBranches sets lines
-    → elements ≡ length s.core.source.list.now → HasBegun s.core → HasNone s.core.rows.items 0 → numbers_in r ≡ [] → AreFiled s.core.rows.items r → length r.rows.items ≡ elements + 1
+    → elements ≡ length s.core.source.list.now → HasBegun s.core → HasNone s.core.subparsers 0 → numbers_in r ≡ [] → AreFiled s.core.subparsers r → length r.rows.items ≡ elements + 1
     → r.branches ≡ branches → HasComeTo sets sets lines lines elements branches 0 0 s s r
 come-empty sets lines elements branches s r own owns long begun none empty filed rows limit =
     let all : AreAllFiled s.core r 0 = record {
       filed = filed;
       all = λ n.
           let zero_times : times n (numbers_in r) ≡ 0 = ap (times n) empty in
-          zero_times ∙ sym (filled-none s.core.rows.items n (λ t there. none t (subst (λ m. Has s.core.rows.items m t) (begun.rows n t there).0 there)));
+          zero_times ∙ sym (filled-none s.core.subparsers n (λ t there. none t (subst (λ m. Has s.core.subparsers m t) (begun.rows n t there).0 there)));
       done = none-before r;
       long = rows ∙ ap (λ n. n + 1) long;
     } in
@@ -148,17 +148,17 @@ come-empty sets lines elements branches s r own owns long begun none empty filed
       limit = limit;
       place = λ names files input first run.
           let w = tables_with sets lines names files in
-          at-start w input first s r run all (no-waiting sets input 0 s.core.rows.items (numbers_in r) empty) (no-ended sets input 0 s begun);
+          at-start w input first s r run all (no-waiting sets input 0 s.core.subparsers (numbers_in r) empty) (no-ended sets input 0 s begun);
       most = λ names files input first run. counted-none input;
       few = omega arith;
     }
 
 -- the first subparser was parted
 pub come-parted : (old new : Sets) (lines added : List Line) (elements branches : ℕ) (s t : Steps) (r q : Rows) (sub : Subparser) → elements ≡ length s.core.source.list.now → HasBegun s.core
-    → Has s.core.rows.items 0 sub → numbers_in r ≡ [] → length r.rows.items ≡ elements + 1 → r.branches ≡ branches → ((place : ℕ) → GoesOn old new lines added place s t)
-    → Replaces s.core.rows.items t.core.rows.items (0 ∷ numbers_in r) (numbers_in q) → AreFiled t.core.rows.items q → length q.rows.items ≡ length r.rows.items → q.branches ≡ r.branches
+    → Has s.core.subparsers 0 sub → numbers_in r ≡ [] → length r.rows.items ≡ elements + 1 → r.branches ≡ branches → ((place : ℕ) → GoesOn old new lines added place s t)
+    → Replaces s.core.subparsers t.core.subparsers (0 ∷ numbers_in r) (numbers_in q) → AreFiled t.core.subparsers q → length q.rows.items ≡ length r.rows.items → q.branches ≡ r.branches
     → ((names files : List (List ℕ)) (input : Input) (first : core.Core) (place : ℕ) → IsRun (tables_with old lines names files) input first s
-    → Each (IsBetween place) s.core.rows.items (0 ∷ []) → AreWaiting old input place s.core.rows.items (numbers_in r) → AreWaiting new input place t.core.rows.items (numbers_in q))
+    → Each (IsBetween place) s.core.subparsers (0 ∷ []) → AreWaiting old input place s.core.subparsers (numbers_in r) → AreWaiting new input place t.core.subparsers (numbers_in q))
     → HasComeTo old new lines added elements branches 0 0 s t q
 come-parted old new lines added elements branches s t r q sub long begun has empty rows limit goes replaces filed same_long same_limit waits =
     let all : AreAllFiled t.core q 0 = record {
@@ -175,7 +175,7 @@ come-parted old new lines added elements branches s t r q sub long begun has emp
       limit = same_limit ∙ limit;
       place = λ names files input first run.
           at-start (tables_with new added names files) input first t q ((goes 0).run names files input first run) all
-          (waits names files input first 0 run (first-between s begun sub has) (no-waiting old input 0 s.core.rows.items (numbers_in r) empty))
+          (waits names files input first 0 run (first-between s begun sub has) (no-waiting old input 0 s.core.subparsers (numbers_in r) empty))
           ((goes 0).ended names files input first run (omega arith) (no-ended old input 0 s begun));
       most = λ names files input first run. counted-none input;
       few = omega arith;
@@ -222,7 +222,7 @@ finished sets count s r elements own filed long =
     no-numbers r.rows.items
     (all-empty r.rows.items (λ k row at. filed.done.empty k row (omega (arith, slice_get_within r.rows.items k row at, filed.long, long)) at))
     in
-    record { rows = none-all s.core.rows.items (λ n. sym (filed.all n) ∙ ap (times n) empty); usable = own.usable }
+    record { rows = none-all s.core.subparsers (λ n. sym (filed.all n) ∙ ap (times n) empty); usable = own.usable }
 
 module _ (old new : Sets) (lines added : List Line) (elements branches i classes : ℕ) (s t : Steps) (r : Rows) (long : elements ≡ length s.core.source.list.now) (over : elements < i)
     (come : HasComeTo old new lines added elements branches i classes s t r) (names files : List (List ℕ)) (input : Input) (first : core.Core)

@@ -210,9 +210,9 @@ module _ (w v : Tables) (input : Input) (first : core.Core) (s : Steps) (event :
     is = applied.seen_after;
   }
 
-  pub event-ended : (place : ℕ) → IsBefore s.core.rows.items place event → place < length input.items + 1 → HaveEndedBefore w.sets input place s.core.ended.items
-      → HaveEndedBefore v.sets input place after.core.ended.items
+  pub event-ended : (place : ℕ) → IsBefore s.core.subparsers place event → place < length input.items + 1 → HaveEndedBefore w.sets input place s.core.ended
+      → HaveEndedBefore v.sets input place after.core.ended
   event-ended place before within ended =
-      seen-ended v input place after.core.ended.items applied.next.ended applied.seen_after.ended
-      (step-ends input place within run.last applied.next (event_of event) applied.step (run-stands-seen w input first s run) (rows-next w input s.core.rows.items run.last.rows run.is.rows)
-      (seen-before w input s.core.rows.items run.last.rows place event run.is.rows before) (ended-seen w input place s.core.ended.items run.last.ended run.is.ended ended))
+      seen-ended v input place after.core.ended applied.next.ended applied.seen_after.ended
+      (step-ends input place within run.last applied.next (event_of event) applied.step (run-stands-seen w input first s run) (rows-next w input s.core.subparsers run.last.rows run.is.rows)
+      (seen-before w input s.core.subparsers run.last.rows place event run.is.rows before) (ended-seen w input place s.core.ended run.last.ended run.is.ended ended))

@@ -15,7 +15,7 @@ use Rattle.sc_fork.proofs.CoreLemmas.{row-seen}
 use Rattle.sc_fork.proofs.ReplaceLemmas.{length-without}
 use Rattle.sc_fork.specs.declared.event.Event.TheVariants as event
 use Rattle.sc_fork.specs.declared.event.Fact.{Fact}
-use Rattle.sc_fork.specs.declared.fork.Core.{Core}
+use Rattle.sc_fork.specs.View.{View, states_in, depth_of}
 use Rattle.sc_fork.specs.declared.piece.Piece.{Piece}
 use Rattle.sc_fork.specs.declared.source.Source.{Source}
 use Rattle.sc_fork.specs.Cores.{AreRows, no_rows, empty_row, full_row}
@@ -35,8 +35,6 @@ use Rattle.sc_parse.proofs.RunLemmas.{waiting-kept}
 use Rattle.sc_parse.specs.declared.steps.Steps.{Steps}
 use Rattle.sc_parse.specs.Numbers.{AreApart, AreLike, AreNumbers, Each, IsLikeOne, Replaces, times}
 use Rattle.sc_parse.specs.Runs.{AreWaiting, GoesOn, IsRun, OwnsSteps, IsOfClass, IsStepTo, IsWaiting}
-use Rattle.sc_scope.specs.Seen.{levels_in}
-use Rattle.sc_stack.specs.Entries.{states_of}
 use Rattle.sc_tree.specs.Lines.{Line}
 use Rattle.sc_tree.specs.Reads.{Tables}
 
@@ -143,23 +141,23 @@ merge-enabled source rows n m _ are alike (other_states _ _ s t has_s has_t apar
 merge-enabled source rows n m _ are alike (other_levels _ _ s t has_s has_t apart phase states other) = other (alike s t has_s has_t).levels
 
 -- the two subparsers and the one that comes of them
-pub record IsMergedTo (before after : Core) (n m : ℕ) (made : List ℕ) : Type 0 where
+pub record IsMergedTo (before after : View) (n m : ℕ) (made : List ℕ) : Type 0 where
   pub first : Subparser
   pub second : Subparser
   pub next : Subparser
-  pub has_first : Has before.rows.items n first
-  pub has_second : Has before.rows.items m second
+  pub has_first : Has before.subparsers n first
+  pub has_second : Has before.subparsers m second
   pub alike : AreAlike first second
   pub alike_next : AreAlike first next
-  pub is : made ≡ length before.rows.items ∷ []
-  pub has : Has after.rows.items (length before.rows.items) next
+  pub is : made ≡ length before.subparsers ∷ []
+  pub has : Has after.subparsers (length before.subparsers) next
 
-pub merged-to : (before after : Core) (n m : ℕ) (made : List ℕ) → HasMade before (event.Merge n m) after made → IsMergedTo before after n m made
+pub merged-to : (before after : View) (n m : ℕ) (made : List ℕ) → HasMade before (event.Merge n m) after made → IsMergedTo before after n m made
 merged-to before after n m made h = by h.pieces h.makes h.becomes
   where
-    by : (ps : List Piece) → pieces.Makes before.source before.rows.items (event.Merge n m) ps → Becomes before (event.Merge n m) ps after made → IsMergedTo before after n m made
+    by : (ps : List Piece) → pieces.Makes before.source before.subparsers (event.Merge n m) ps → Becomes before (event.Merge n m) ps after made → IsMergedTo before after n m made
     by _ (merges _ _ s t u has_s has_t apart alike next) becomes =
-        let gone = without (n ∷ (m ∷ [])) before.rows.items in
+        let gone = without (n ∷ (m ∷ [])) before.subparsers in
         record {
           first = s;
           second = t;
@@ -169,23 +167,23 @@ merged-to before after n m made h = by h.pieces h.makes h.becomes
           alike = alike;
           alike_next = next;
           is = becomes.numbers;
-          has = ap (λ rows. slice_get rows (length before.rows.items)) becomes.rows
-              ∙ subst (λ k. slice_get (gone ++ Some u ∷ []) k ≡ Some (Some u)) (length-without (n ∷ (m ∷ [])) before.rows.items) (slice_get-seam gone (Some u) []);
+          has = ap (λ rows. slice_get rows (length before.subparsers)) becomes.rows
+              ∙ subst (λ k. slice_get (gone ++ Some u ∷ []) k ≡ Some (Some u)) (length-without (n ∷ (m ∷ [])) before.subparsers) (slice_get-seam gone (Some u) []);
         }
 
 -- its number is the only one
-pub merged-made : (before after : Core) (n m : ℕ) (made : List ℕ) (number : ℕ) → HasMade before (event.Merge n m) after made → slice_get made 0 ≡ Some number → made ≡ number ∷ []
+pub merged-made : (before after : View) (n m : ℕ) (made : List ℕ) (number : ℕ) → HasMade before (event.Merge n m) after made → slice_get made 0 ≡ Some number → made ≡ number ∷ []
 merged-made before after n m made number h is = let to = merged-to before after n m made h in cc (to.is, is)
 
-pub merged-number : (before after : Core) (n m : ℕ) (made : List ℕ) (number : ℕ) → HasMade before (event.Merge n m) after made → slice_get made 0 ≡ Some number
-    → (s : Subparser) → Has before.rows.items n s → (u : Subparser) × (Has after.rows.items number u × AreAlike s u)
+pub merged-number : (before after : View) (n m : ℕ) (made : List ℕ) (number : ℕ) → HasMade before (event.Merge n m) after made → slice_get made 0 ≡ Some number
+    → (s : Subparser) → Has before.subparsers n s → (u : Subparser) × (Has after.subparsers number u × AreAlike s u)
 merged-number before after n m made number h is s has =
     let to = merged-to before after n m made h in
-    let same_number : length before.rows.items ≡ number = cc (to.is, is) in (
+    let same_number : length before.subparsers ≡ number = cc (to.is, is) in (
       to.next,
       (
-        subst (λ k. Has after.rows.items k to.next) same_number to.has,
-        subst (λ x. AreAlike x to.next) (same-subparser before.rows.items n to.first s to.has_first has) to.alike_next,
+        subst (λ k. Has after.subparsers k to.next) same_number to.has,
+        subst (λ x. AreAlike x to.next) (same-subparser before.subparsers n to.first s to.has_first has) to.alike_next,
       ),
     )
 
@@ -239,16 +237,16 @@ one-or-other false b has = inr has
 pub record IsOneOf (old new : Sets) (input : Input) (s t u : Subparser) : Type 0 where
   pub from : (c : List ℕ) → IsConfig input.arities c → new.has u.cond.0 c ≡ true → (old.has s.cond.0 c ≡ true) ⊎ (old.has t.cond.0 c ≡ true)
 
-pub merged-conditions : (w v : Tables) (input : Input) (before after : Core) (n m : ℕ) (made : List ℕ) (to : IsMergedTo before after n m made)
+pub merged-conditions : (w v : Tables) (input : Input) (before after : View) (n m : ℕ) (made : List ℕ) (to : IsMergedTo before after n m made)
     → IsStepTo w v input before (event.Merge n m) after → IsOneOf w.sets v.sets input to.first to.second to.next
 merged-conditions w v input before after n m made to step =
-    let end = length before.rows.items in
+    let end = length before.subparsers in
     let seen = merge-step input step.before step.after n m step.step in
-    let first = row-seen w input before.rows.items step.before.rows n to.first step.was.rows to.has_first in
-    let second = row-seen w input before.rows.items step.before.rows m to.second step.was.rows to.has_second in
-    let next = row-seen v input after.rows.items step.after.rows end to.next step.is.rows to.has in
+    let first = row-seen w input before.subparsers step.before.rows n to.first step.was.rows to.has_first in
+    let second = row-seen w input before.subparsers step.before.rows m to.second step.was.rows to.has_second in
+    let next = row-seen v input after.subparsers step.after.rows end to.next step.is.rows to.has in
     let at_end : slice_get step.after.rows end ≡ Some (Some seen.u) =
-    subst (λ k. slice_get step.after.rows k ≡ Some (Some seen.u)) (rows-length w input before.rows.items step.before.rows step.was.rows) seen.at_u in
+    subst (λ k. slice_get step.after.rows k ≡ Some (Some seen.u)) (rows-length w input before.subparsers step.before.rows step.was.rows) seen.at_u in
     let is_s : seen.s ≡ first.other = cc (seen.at_s, first.at) in
     let is_t : seen.t ≡ second.other = cc (seen.at_t, second.at) in
     let is_u : next.other ≡ seen.u = cc (next.at, at_end) in
@@ -267,8 +265,8 @@ class-alike : (input : Input) (i : ℕ) (c : List ℕ) (s u : Subparser) (next :
 class-alike input i c s u next alike h = record {
   run = h.run;
   live = h.live;
-  class = h.class ∙ ap (λ states. the-class states next (length (levels_in s.scopes))) (sym alike.states)
-      ∙ ap (λ depth. the-class (states_of u.stack) next depth) (sym alike.levels);
+  class = h.class ∙ ap (λ states. the-class states next (depth_of s)) (sym alike.states)
+      ∙ ap (λ depth. the-class (states_in u) next depth) (sym alike.levels);
 }
   where
     the-class : List ℕ → ℕ → ℕ → Class
@@ -289,19 +287,19 @@ waits-alike old new input i s t u alike_t alike_u one wait_s wait_t = record {
     same_next : wait_t.next ≡ wait_s.next
     same_next = let e : At wait_t.next ≡ At wait_s.next = sym wait_t.phase ∙ alike_t.phase ∙ wait_s.phase in cc (e)
 
-pub merged-waiting : (w v : Tables) (input : Input) (i : ℕ) (before after : Core) (n m : ℕ) (made : List ℕ) (number : ℕ) → HasMade before (event.Merge n m) after made
-    → slice_get made 0 ≡ Some number → IsStepTo w v input before (event.Merge n m) after → AreWaiting w.sets input i before.rows.items (n ∷ (m ∷ []))
-    → AreWaiting v.sets input i after.rows.items (number ∷ [])
+pub merged-waiting : (w v : Tables) (input : Input) (i : ℕ) (before after : View) (n m : ℕ) (made : List ℕ) (number : ℕ) → HasMade before (event.Merge n m) after made
+    → slice_get made 0 ≡ Some number → IsStepTo w v input before (event.Merge n m) after → AreWaiting w.sets input i before.subparsers (n ∷ (m ∷ []))
+    → AreWaiting v.sets input i after.subparsers (number ∷ [])
 merged-waiting w v input i before after n m made number has_made is step waits =
     let to = merged-to before after n m made has_made in
-    let Q : ℕ → Type 0 = λ k. (s : Subparser) × (Has before.rows.items k s × IsWaiting w.sets input i s) in
+    let Q : ℕ → Type 0 = λ k. (s : Subparser) × (Has before.subparsers k s × IsWaiting w.sets input i s) in
     let here = All-head Q n (m ∷ []) waits in
     let there = All-head Q m [] (All-tail Q n (m ∷ []) waits) in
-    let wait_s : IsWaiting w.sets input i to.first = subst (IsWaiting w.sets input i) (same-subparser before.rows.items n here.0 to.first here.1.0 to.has_first) here.1.1 in
-    let wait_t : IsWaiting w.sets input i to.second = subst (IsWaiting w.sets input i) (same-subparser before.rows.items m there.0 to.second there.1.0 to.has_second) there.1.1 in
+    let wait_s : IsWaiting w.sets input i to.first = subst (IsWaiting w.sets input i) (same-subparser before.subparsers n here.0 to.first here.1.0 to.has_first) here.1.1 in
+    let wait_t : IsWaiting w.sets input i to.second = subst (IsWaiting w.sets input i) (same-subparser before.subparsers m there.0 to.second there.1.0 to.has_second) there.1.1 in
     let wait_u = waits-alike w.sets v.sets input i to.first to.second to.next to.alike to.alike_next (merged-conditions w v input before after n m made to step) wait_s wait_t in
-    let same_number : length before.rows.items ≡ number = cc (to.is, is) in
-    let R : ℕ → Type 0 = λ k. (s : Subparser) × (Has after.rows.items k s × IsWaiting v.sets input i s) in
+    let same_number : length before.subparsers ≡ number = cc (to.is, is) in
+    let R : ℕ → Type 0 = λ k. (s : Subparser) × (Has after.subparsers k s × IsWaiting v.sets input i s) in
     All-cons R number [] (subst R same_number (to.next, (to.has, wait_u))) (All-nil R)
 
 -- ---- one more of a list
@@ -432,14 +430,14 @@ module _ (old new : List (Option Subparser)) (number : ℕ) (others : List ℕ) 
       ]
 
 pub set-waiting : (old new : Sets) (lines added : List Line) (i : ℕ) (s t : Steps) (names files : List (List ℕ)) (input : Input) (first : core.Core) (number : ℕ) (others : List ℕ)
-    (place other joint : ℕ) → AreNumbers s.core.rows.items (number ∷ others) → place < length others → other ≡ get_or others place other
-    → Replaces s.core.rows.items t.core.rows.items (other ∷ (number ∷ [])) (joint ∷ []) → GoesOn old new lines added i s t → OwnsSteps old (length lines) s
-    → IsRun (tables_with old lines names files) input first s → AreWaiting old input i s.core.rows.items (number ∷ others) → AreWaiting new input i t.core.rows.items (joint ∷ [])
-    → AreWaiting new input i t.core.rows.items (slice_set others place joint)
+    (place other joint : ℕ) → AreNumbers s.core.subparsers (number ∷ others) → place < length others → other ≡ get_or others place other
+    → Replaces s.core.subparsers t.core.subparsers (other ∷ (number ∷ [])) (joint ∷ []) → GoesOn old new lines added i s t → OwnsSteps old (length lines) s
+    → IsRun (tables_with old lines names files) input first s → AreWaiting old input i s.core.subparsers (number ∷ others) → AreWaiting new input i t.core.subparsers (joint ∷ [])
+    → AreWaiting new input i t.core.subparsers (slice_set others place joint)
 set-waiting old new lines added i s t names files input first number others place other joint are within at replaces goes own run waits next =
-    let P : ℕ → Type 0 = λ k. (x : Subparser) × (Has s.core.rows.items k x × IsWaiting old input i x) in
-    let Q : ℕ → Type 0 = λ k. (x : Subparser) × (Has t.core.rows.items k x × IsWaiting new input i x) in
-    set-all s.core.rows.items t.core.rows.items number others place other joint are within at replaces Q (All-head Q joint [] next)
+    let P : ℕ → Type 0 = λ k. (x : Subparser) × (Has s.core.subparsers k x × IsWaiting old input i x) in
+    let Q : ℕ → Type 0 = λ k. (x : Subparser) × (Has t.core.subparsers k x × IsWaiting new input i x) in
+    set-all s.core.subparsers t.core.subparsers number others place other joint are within at replaces Q (All-head Q joint [] next)
     (λ n some none.
     let here : P n = all-times P (number ∷ others) n waits (omega (arith, some)) in
     All-head Q n []

@@ -8,7 +8,7 @@ use Rattle.std.proofs.lemmas.List.Elements.{All-append, All-cons, All-head, All-
 use Rattle.std.proofs.lemmas.Option.{slice_get_within}
 use Rattle.sc_fork.proofs.ReplaceLemmas.{length-without}
 use Rattle.sc_fork.specs.declared.event.Event.{Event}
-use Rattle.sc_fork.specs.declared.fork.Core.{Core}
+use Rattle.sc_fork.specs.View.{View}
 use Rattle.sc_fork.specs.declared.piece.Piece.{Piece}
 use Rattle.sc_fork.specs.declared.piece.Piece.TheVariants.{Going, Over}
 use Rattle.sc_fork.specs.Enabled.{Has}
@@ -197,15 +197,15 @@ filled-behind (x ∷ xs) pieces a (suc n) k e =
     filled-behind xs pieces (a + 1) n k (omega (arith, e))
     ∙ ap (λ b. filled_at xs n + times k (range_with_len b (length (going_of pieces)))) (let same : (a + 1) + length xs ≡ a + length (x ∷ xs) = omega arith in same)
 
-pub event-replaces : (before after : Core) (event : Event) (made : List ℕ) → HasMade before event after made → AreNumbers before.rows.items (numbers_of event)
-    → Replaces before.rows.items after.rows.items (numbers_of event) made
+pub event-replaces : (before after : View) (event : Event) (made : List ℕ) → HasMade before event after made → AreNumbers before.subparsers (numbers_of event)
+    → Replaces before.subparsers after.subparsers (numbers_of event) made
 event-replaces before after event made has are =
-    let rows = before.rows.items in
+    let rows = before.subparsers in
     let left = without (numbers_of event) rows in
     let long : length left ≡ length rows = length-without (numbers_of event) rows in
     record {
       counts = λ n.
-          let behind : filled_at after.rows.items n ≡ filled_at left n + times n made =
+          let behind : filled_at after.subparsers n ≡ filled_at left n + times n made =
           ap (λ rs. filled_at rs n) has.becomes.rows ∙ filled-behind left has.pieces 0 n n (omega arith)
           ∙ ap (λ b. filled_at left n + times n (range_with_len b (length (going_of has.pieces)))) (let same : 0 + length left ≡ length rows = omega arith in same)
           ∙ ap (λ ns. filled_at left n + times n ns) (sym has.becomes.numbers)
@@ -229,10 +229,10 @@ each-behind P rows (Going s ∷ pieces) a all e =
     (s, (has, All-head (IfGoing P) (Going s) pieces all))
     (subst (λ rs. Each P rs (range_with_len (a + 1) (length (going_of pieces)))) (append_assoc rows (Some s ∷ []) (going_of pieces)) rest)
 
-pub made-each : (P : Subparser → Type 0) (before after : Core) (event : Event) (made : List ℕ) (h : HasMade before event after made) → All (IfGoing P) h.pieces
-    → Each P after.rows.items made
+pub made-each : (P : Subparser → Type 0) (before after : View) (event : Event) (made : List ℕ) (h : HasMade before event after made) → All (IfGoing P) h.pieces
+    → Each P after.subparsers made
 made-each P before after event made h pieces =
-    let left = without (numbers_of event) before.rows.items in
-    subst (λ ns. Each P after.rows.items ns) (sym h.becomes.numbers)
-    (subst (λ rs. Each P rs (range_with_len (length before.rows.items) (length (going_of h.pieces)))) (sym h.becomes.rows)
-    (each-behind P left h.pieces (length before.rows.items) pieces (sym (length-without (numbers_of event) before.rows.items))))
+    let left = without (numbers_of event) before.subparsers in
+    subst (λ ns. Each P after.subparsers ns) (sym h.becomes.numbers)
+    (subst (λ rs. Each P rs (range_with_len (length before.subparsers) (length (going_of h.pieces)))) (sym h.becomes.rows)
+    (each-behind P left h.pieces (length before.subparsers) pieces (sym (length-without (numbers_of event) before.subparsers))))

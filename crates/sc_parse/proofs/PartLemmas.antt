@@ -16,7 +16,7 @@ use Rattle.c11_parsing.specs.Core.{CoreStep, alone, merged, AreParts, condition_
 use Rattle.c11_parsing.specs.Trees.{Condition, Tree}
 use Rattle.sc_fork.proofs.CoreLemmas.{count-row, row-seen, shown-levels}
 use Rattle.sc_fork.proofs.StepLemmas.{same-length}
-use Rattle.sc_fork.specs.declared.fork.Core.{Core}
+use Rattle.sc_fork.specs.View.{View, states_in, depth_of}
 use Rattle.sc_fork.specs.declared.piece.Piece.{Piece}
 use Rattle.sc_fork.specs.declared.source.Source.{Source}
 use Rattle.sc_fork.specs.declared.event.Event.TheVariants.{Split}
@@ -39,8 +39,6 @@ use Rattle.sc_parse.specs.declared.steps.Steps.{Steps}
 use Rattle.sc_parse.specs.Filed.{AreFiled, HasNoneBefore, numbers_in}
 use Rattle.sc_parse.specs.Numbers.{AreNumbers, Each, IsAt, IsBetween, Replaces, times}
 use Rattle.sc_parse.specs.Runs.{AreWaiting, GoesOn, IsRun, IsStepTo, IsWaiting, OwnsSteps}
-use Rattle.sc_scope.specs.Seen.{levels_in}
-use Rattle.sc_stack.specs.Entries.{states_of}
 use Rattle.sc_tree.specs.Lines.{Line}
 use Rattle.sc_tree.specs.Reads.{Tables}
 
@@ -151,8 +149,8 @@ module _ (v : Tables) (input : Input) (seen : core.Core) (n place : ℕ) (stands
           };
           class =
               let states = states-in-frames s.states (s.trees c) ∙ sym (ap (λ (x : core.Subparser). x.states) is.is) ∙ is_seen.states in
-              let depth = sym (ap (λ (x : core.Subparser). length (x.levels c)) is.is) ∙ sym (shown-levels v.sets v.names c (levels_in t.scopes) (u.levels c) (is_seen.each c config inside).shows.scopes) in
-              same-class (classes.states_of (frames s.states (s.trees c))) (states_of t.stack) (next_from input place c) p.0 (length (s.levels c)) (length (levels_in t.scopes)) states
+              let depth = sym (ap (λ (x : core.Subparser). length (x.levels c)) is.is) ∙ sym (shown-levels v.sets v.names c _ (u.levels c) (is_seen.each c config inside).shows.scopes) in
+              same-class (classes.states_of (frames s.states (s.trees c))) (states_in t) (next_from input place c) p.0 (length (s.levels c)) (depth_of t) states
               (eqb-true (next_from input place c) p.0 test.1) depth;
         };
   }
@@ -161,19 +159,19 @@ module _ (v : Tables) (input : Input) (seen : core.Core) (n place : ℕ) (stands
       p = is.of
 
 -- the parts of a subparser between the elements wait at its place
-pub parts-wait : (w v : Tables) (input : Input) (before after : Core) (n place : ℕ) (numbers : List ℕ) → IsStepTo w v input before (Split n) after → HasMade before (Split n) after numbers
-    → Each (IsBetween place) before.rows.items (n ∷ []) → Each (λ s. Unit {0}) after.rows.items numbers → AreWaiting v.sets input place after.rows.items numbers
+pub parts-wait : (w v : Tables) (input : Input) (before after : View) (n place : ℕ) (numbers : List ℕ) → IsStepTo w v input before (Split n) after → HasMade before (Split n) after numbers
+    → Each (IsBetween place) before.subparsers (n ∷ []) → Each (λ s. Unit {0}) after.subparsers numbers → AreWaiting v.sets input place after.subparsers numbers
 parts-wait w v input before after n place numbers step has between there = λ k d below.
     let one = there k d below in
     let m = get_or numbers k d in
-    let row = row-seen v input after.rows.items step.after.rows m one.0 step.is.rows one.1.0 in
+    let row = row-seen v input after.subparsers step.after.rows m one.0 step.is.rows one.1.0 in
     let before_rows = step.before.rows in
     let count = length (going_of has.pieces) in
-    let number : m ≡ length before.rows.items + k =
+    let number : m ≡ length before.subparsers + k =
     ap (λ ns. get_or ns k d) has.becomes.numbers
-    ∙ get_or-range_with_len (length before.rows.items) count k d (omega (arith, below, ap length has.becomes.numbers, length-range_with_len (length before.rows.items) count))
+    ∙ get_or-range_with_len (length before.subparsers) count k d (omega (arith, below, ap length has.becomes.numbers, length-range_with_len (length before.subparsers) count))
     in
-    let long = rows-length w input before.rows.items before_rows step.was.rows in
+    let long = rows-length w input before.subparsers before_rows step.was.rows in
     let rest = going_in (map (part split.subparser) split.parts) in
     let behind = behind-at (slice_set before_rows n None) rest k m (omega (arith, number, long, length-set before_rows n None)) in
     let found = part-at split.subparser split.parts k row.other (sym behind ∙ sym (ap (λ (x : core.Core). slice_get x.rows m) split.is) ∙ row.at) in
@@ -184,8 +182,8 @@ parts-wait w v input before after n place numbers step has between there = λ k 
 
     phase : split.subparser.phase ≡ core.between place
     phase =
-        let old = All-head (λ (m : ℕ). (t : Subparser) × (Has before.rows.items m t × IsBetween place t)) n [] between in
-        let row = row-seen w input before.rows.items step.before.rows n old.0 step.was.rows old.1.0 in
+        let old = All-head (λ (m : ℕ). (t : Subparser) × (Has before.subparsers m t × IsBetween place t)) n [] between in
+        let row = row-seen w input before.subparsers step.before.rows n old.0 step.was.rows old.1.0 in
         let same : row.other ≡ split.subparser = cc (row.at, split.at) in
         sym (ap (λ (x : core.Subparser). x.phase) same) ∙ row.seen.phase ∙ ap phase_of old.1.1
 
@@ -194,9 +192,9 @@ parts-wait w v input before after n place numbers step has between there = λ k 
 
 -- the place of a subparser between the elements is one of the list or its end
 pub place-within : (sets : Sets) (lines : List Line) (number place : ℕ) (s : Steps) (names files : List (List ℕ)) (input : Input) (first : core.Core) → OwnsSteps sets (length lines) s
-    → IsRun (tables_with sets lines names files) input first s → Each (IsBetween place) s.core.rows.items (number ∷ []) → place < length input.items + 1
+    → IsRun (tables_with sets lines names files) input first s → Each (IsBetween place) s.core.subparsers (number ∷ []) → place < length input.items + 1
 place-within sets lines number place s names files input first own run between =
-    let one = All-head (λ (m : ℕ). (t : Subparser) × (Has s.core.rows.items m t × IsBetween place t)) number [] between in
+    let one = All-head (λ (m : ℕ). (t : Subparser) × (Has s.core.subparsers m t × IsBetween place t)) number [] between in
     let within : place ≤ length s.core.source.list.now =
     subst (IsWithin (length s.core.source.list.now)) one.1.1 (row-owned sets (length lines) s number one.0 own one.1.0).within
     in
@@ -208,15 +206,15 @@ place-within sets lines number place s names files input first own run between =
 -- in the rows at first wait for the place of the subparser, and so do all then.
 pub record ArePartlyFiled (old new : Sets) (lines added : List Line) (number : ℕ) (before : Rows) (s : Steps) (left : List ℕ) (after : Rows) (t : Steps) : Type 0 where
   pub goes_on : (place : ℕ) → GoesOn old new lines added place s t
-  pub replaces : Replaces s.core.rows.items t.core.rows.items (number ∷ numbers_in before) (left ++ numbers_in after)
-  pub filed : AreFiled t.core.rows.items after
-  pub look : (i : ℕ) → Each (IsBetween i) s.core.rows.items (number ∷ []) → Each (LooksFrom i (length s.core.source.list.now)) t.core.rows.items left
-  pub done : (i : ℕ) → Each (IsBetween i) s.core.rows.items (number ∷ []) → HasNoneBefore before i → HasNoneBefore after i
+  pub replaces : Replaces s.core.subparsers t.core.subparsers (number ∷ numbers_in before) (left ++ numbers_in after)
+  pub filed : AreFiled t.core.subparsers after
+  pub look : (i : ℕ) → Each (IsBetween i) s.core.subparsers (number ∷ []) → Each (LooksFrom i (length s.core.source.list.now)) t.core.subparsers left
+  pub done : (i : ℕ) → Each (IsBetween i) s.core.subparsers (number ∷ []) → HasNoneBefore before i → HasNoneBefore after i
   pub long : length after.rows.items ≡ length before.rows.items
   pub limit : after.branches ≡ before.branches
   pub waiting : (names files : List (List ℕ)) (input : Input) (first : core.Core) (place : ℕ) → IsRun (tables_with old lines names files) input first s
-      → Each (IsBetween place) s.core.rows.items (number ∷ []) → AreWaiting old input place s.core.rows.items (numbers_in before)
-      → AreWaiting new input place t.core.rows.items (left ++ numbers_in after)
+      → Each (IsBetween place) s.core.subparsers (number ∷ []) → AreWaiting old input place s.core.subparsers (numbers_in before)
+      → AreWaiting new input place t.core.subparsers (left ++ numbers_in after)
 
 split-looks : (source : Source) (rows : List (Option Subparser)) (n i : ℕ) (pieces : List Piece) → Makes source rows (Split n) pieces → Each (IsBetween i) rows (n ∷ [])
     → All (IfGoing (LooksFrom i (length source.list.now))) pieces
@@ -240,93 +238,93 @@ filed-kept old new gone made r replaces stay filed = record {
     within k row at n some = stay n (omega (arith, some, row-times r.rows.items k n row at))
 
 module _ (old new : Sets) (lines added : List Line) (number : ℕ) (r : Rows) (s t : Steps) (numbers : List ℕ) (own : OwnsSteps old (length lines) s)
-    (are : AreNumbers s.core.rows.items (number ∷ numbers_in r)) (has : HasMade s.core (Split number) t.core numbers) (goes : (place : ℕ) → GoesOn old new lines added place s t)
+    (are : AreNumbers s.core.subparsers (number ∷ numbers_in r)) (has : HasMade s.core (Split number) t.core numbers) (goes : (place : ℕ) → GoesOn old new lines added place s t)
     (step : (names files : List (List ℕ)) (input : Input) (first : core.Core) → IsRun (tables_with old lines names files) input first s
     → IsStepTo (tables_with old lines names files) (tables_with new added names files) input s.core (Split number) t.core) where
-  one-replaced : Replaces s.core.rows.items t.core.rows.items (number ∷ []) numbers
-  one-replaced = event-replaces s.core t.core (Split number) numbers has (fewer-numbers s.core.rows.items (number ∷ numbers_in r) (number ∷ []) are (λ n. omega arith))
+  one-replaced : Replaces s.core.subparsers t.core.subparsers (number ∷ []) numbers
+  one-replaced = event-replaces s.core t.core (Split number) numbers has (fewer-numbers s.core.subparsers (number ∷ numbers_in r) (number ∷ []) are (λ n. omega arith))
 
   others-stay : (n : ℕ) → 0 < times n (numbers_in r) → times n (number ∷ []) ≡ 0
-  others-stay n some = omega (arith, some, are.once n, filled-most s.core.rows.items n)
+  others-stay n some = omega (arith, some, are.once n, filled-most s.core.subparsers n)
 
-  looking : (i : ℕ) → Each (IsBetween i) s.core.rows.items (number ∷ []) → Each (LooksFrom i (length s.core.source.list.now)) t.core.rows.items numbers
-  looking i between = made-each (LooksFrom i (length s.core.source.list.now)) s.core t.core (Split number) numbers has (split-looks s.core.source s.core.rows.items number i has.pieces has.makes between)
+  looking : (i : ℕ) → Each (IsBetween i) s.core.subparsers (number ∷ []) → Each (LooksFrom i (length s.core.source.list.now)) t.core.subparsers numbers
+  looking i between = made-each (LooksFrom i (length s.core.source.list.now)) s.core t.core (Split number) numbers has (split-looks s.core.source s.core.subparsers number i has.pieces has.makes between)
 
-  pub parts-start : AreFiled s.core.rows.items r → ArePartlyFiled old new lines added number r s numbers r t
+  pub parts-start : AreFiled s.core.subparsers r → ArePartlyFiled old new lines added number r s numbers r t
   parts-start filed = record {
     goes_on = goes;
     replaces = record {
       counts = λ n. omega (arith, one-replaced.counts n, times-append n numbers (numbers_in r));
       kept = λ n x has_x none. one-replaced.kept n x has_x (omega (arith, none));
     };
-    filed = filed-kept s.core.rows.items t.core.rows.items (number ∷ []) numbers r one-replaced others-stay filed;
+    filed = filed-kept s.core.subparsers t.core.subparsers (number ∷ []) numbers r one-replaced others-stay filed;
     look = looking;
     done = λ i between none. none;
     long = refl;
     limit = refl;
     waiting = λ names files input first place run between waits.
-        each-append (IsWaiting new input place) t.core.rows.items numbers (numbers_in r)
+        each-append (IsWaiting new input place) t.core.subparsers numbers (numbers_in r)
         (parts-wait (tables_with old lines names files) (tables_with new added names files) input s.core t.core number place numbers (step names files input first run) has between
-        (each-then (LooksFrom place (length s.core.source.list.now)) (λ x. Unit {0}) t.core.rows.items numbers (λ x looks. tt) (looking place between)))
+        (each-then (LooksFrom place (length s.core.source.list.now)) (λ x. Unit {0}) t.core.subparsers numbers (λ x looks. tt) (looking place between)))
         (waiting-kept old new lines added place s t names files input first (number ∷ []) numbers (numbers_in r) (goes place) own run one-replaced waits others-stay);
   }
 
 module _ (old mid : Sets) (lines more : List Line) (number : ℕ) (before now : Rows) (s t : Steps) (next : ℕ) (left : List ℕ)
-    (was : ArePartlyFiled old mid lines more number before s (next ∷ left) now t) (are : AreNumbers s.core.rows.items (number ∷ numbers_in before)) where
-  pub left-numbers : AreNumbers t.core.rows.items ((next ∷ left) ++ numbers_in now)
-  left-numbers = numbers-after s.core.rows.items t.core.rows.items (number ∷ numbers_in before) ((next ∷ left) ++ numbers_in now) was.replaces are
+    (was : ArePartlyFiled old mid lines more number before s (next ∷ left) now t) (are : AreNumbers s.core.subparsers (number ∷ numbers_in before)) where
+  pub left-numbers : AreNumbers t.core.subparsers ((next ∷ left) ++ numbers_in now)
+  left-numbers = numbers-after s.core.subparsers t.core.subparsers (number ∷ numbers_in before) ((next ∷ left) ++ numbers_in now) was.replaces are
 
-  pub next-numbers : AreNumbers t.core.rows.items (next ∷ numbers_in now)
-  next-numbers = fewer-numbers t.core.rows.items ((next ∷ left) ++ numbers_in now) (next ∷ numbers_in now) left-numbers (λ n. omega (arith, times-append n left (numbers_in now)))
+  pub next-numbers : AreNumbers t.core.subparsers (next ∷ numbers_in now)
+  next-numbers = fewer-numbers t.core.subparsers ((next ∷ left) ++ numbers_in now) (next ∷ numbers_in now) left-numbers (λ n. omega (arith, times-append n left (numbers_in now)))
 
   left-stay : (n : ℕ) → 0 < times n left → times n (next ∷ numbers_in now) ≡ 0
-  left-stay n some = omega (arith, some, left-numbers.once n, filled-most t.core.rows.items n, times-append n left (numbers_in now))
+  left-stay n some = omega (arith, some, left-numbers.once n, filled-most t.core.subparsers n, times-append n left (numbers_in now))
 
-  pub next-looks : (i : ℕ) → Each (IsBetween i) s.core.rows.items (number ∷ [])
-      → (x : Subparser) × (Has t.core.rows.items next x × LooksFrom i (length s.core.source.list.now) x)
+  pub next-looks : (i : ℕ) → Each (IsBetween i) s.core.subparsers (number ∷ [])
+      → (x : Subparser) × (Has t.core.subparsers next x × LooksFrom i (length s.core.source.list.now) x)
   next-looks i between =
-      All-head (λ (m : ℕ). (x : Subparser) × (Has t.core.rows.items m x × LooksFrom i (length s.core.source.list.now) x)) next left (was.look i between)
+      All-head (λ (m : ℕ). (x : Subparser) × (Has t.core.subparsers m x × LooksFrom i (length s.core.source.list.now) x)) next left (was.look i between)
 
   pub next-waits : (names files : List (List ℕ)) (input : Input) (first : core.Core) (place : ℕ) → IsRun (tables_with old lines names files) input first s
-      → Each (IsBetween place) s.core.rows.items (number ∷ []) → AreWaiting old input place s.core.rows.items (numbers_in before)
-      → AreWaiting mid input place t.core.rows.items (next ∷ numbers_in now)
+      → Each (IsBetween place) s.core.subparsers (number ∷ []) → AreWaiting old input place s.core.subparsers (numbers_in before)
+      → AreWaiting mid input place t.core.subparsers (next ∷ numbers_in now)
   next-waits names files input first place run between waits =
-      each-of (IsWaiting mid input place) t.core.rows.items ((next ∷ left) ++ numbers_in now) (next ∷ numbers_in now) (was.waiting names files input first place run between waits)
+      each-of (IsWaiting mid input place) t.core.subparsers ((next ∷ left) ++ numbers_in now) (next ∷ numbers_in now) (was.waiting names files input first place run between waits)
       (λ n none. omega (arith, none, times-append n left (numbers_in now)))
 
   module _ (new : Sets) (added : List Line) (after : Rows) (u : Steps) (goes : (place : ℕ) → GoesOn mid new more added place t u)
-      (replaces : Replaces t.core.rows.items u.core.rows.items (next ∷ numbers_in now) (numbers_in after)) where
-    replaced : Replaces s.core.rows.items u.core.rows.items (number ∷ numbers_in before) (left ++ numbers_in after)
+      (replaces : Replaces t.core.subparsers u.core.subparsers (next ∷ numbers_in now) (numbers_in after)) where
+    replaced : Replaces s.core.subparsers u.core.subparsers (number ∷ numbers_in before) (left ++ numbers_in after)
     replaced =
-        replaces-then s.core.rows.items t.core.rows.items u.core.rows.items (number ∷ numbers_in before) ((next ∷ left) ++ numbers_in now) (next ∷ numbers_in now) (numbers_in after)
+        replaces-then s.core.subparsers t.core.subparsers u.core.subparsers (number ∷ numbers_in before) ((next ∷ left) ++ numbers_in now) (next ∷ numbers_in now) (numbers_in after)
         (number ∷ numbers_in before) (left ++ numbers_in after) was.replaces replaces
         (λ n. omega (arith, times-append n left (numbers_in now), times-append n left (numbers_in after))) (λ n none. none)
         (λ n none zero. omega (arith, zero, times-append n left (numbers_in now)))
 
-    pub parts-next : AreFiled u.core.rows.items after
-        → ((i k : ℕ) → Each (IsAt k) t.core.rows.items (next ∷ []) → i ≤ k → HasNoneBefore now i → HasNoneBefore after i)
+    pub parts-next : AreFiled u.core.subparsers after
+        → ((i k : ℕ) → Each (IsAt k) t.core.subparsers (next ∷ []) → i ≤ k → HasNoneBefore now i → HasNoneBefore after i)
         → length after.rows.items ≡ length now.rows.items → after.branches ≡ now.branches
         → ((names files : List (List ℕ)) (input : Input) (first : core.Core) (place : ℕ) → IsRun (tables_with mid more names files) input first t
-        → AreWaiting mid input place t.core.rows.items (next ∷ numbers_in now) → AreWaiting new input place u.core.rows.items (numbers_in after))
+        → AreWaiting mid input place t.core.subparsers (next ∷ numbers_in now) → AreWaiting new input place u.core.subparsers (numbers_in after))
         → ArePartlyFiled old new lines added number before s left after u
     parts-next filed done long limit waiting = record {
       goes_on = λ place. goes-then old mid new lines more added place s t u (was.goes_on place) (goes place);
       replaces = replaced;
       filed = filed;
       look = λ i between.
-          each-kept (LooksFrom i (length s.core.source.list.now)) t.core.rows.items u.core.rows.items (next ∷ numbers_in now) (numbers_in after) left replaces
-          (All-tail (λ (m : ℕ). (x : Subparser) × (Has t.core.rows.items m x × LooksFrom i (length s.core.source.list.now) x)) next left (was.look i between)) left-stay;
+          each-kept (LooksFrom i (length s.core.source.list.now)) t.core.subparsers u.core.subparsers (next ∷ numbers_in now) (numbers_in after) left replaces
+          (All-tail (λ (m : ℕ). (x : Subparser) × (Has t.core.subparsers m x × LooksFrom i (length s.core.source.list.now) x)) next left (was.look i between)) left-stay;
       done = λ i between none.
           let one = next-looks i between in
-          let P = λ (m : ℕ). (x : Subparser) × (Has t.core.rows.items m x × IsAt one.1.1.at x) in
+          let P = λ (m : ℕ). (x : Subparser) × (Has t.core.subparsers m x × IsAt one.1.1.at x) in
           done i one.1.1.at (All-cons P next [] (one.0, (one.1.0, one.1.1.phase)) (All-nil P)) one.1.1.low (was.done i between none);
       long = long ∙ was.long;
       limit = limit ∙ was.limit;
       waiting = λ names files input first place run between waits.
           let run_then = (was.goes_on place).run names files input first run in
           let all = was.waiting names files input first place run between waits in
-          each-append (IsWaiting new input place) u.core.rows.items left (numbers_in after)
+          each-append (IsWaiting new input place) u.core.subparsers left (numbers_in after)
           (waiting-kept mid new more added place t u names files input first (next ∷ numbers_in now) (numbers_in after) left (goes place) (was.goes_on place).own run_then replaces
-          (each-of (IsWaiting mid input place) t.core.rows.items ((next ∷ left) ++ numbers_in now) left all (λ n none. omega (arith, none, times-append n left (numbers_in now)))) left-stay)
+          (each-of (IsWaiting mid input place) t.core.subparsers ((next ∷ left) ++ numbers_in now) left all (λ n none. omega (arith, none, times-append n left (numbers_in now)))) left-stay)
           (waiting names files input first place run_then (next-waits names files input first place run between waits));
     }

@@ -159,7 +159,7 @@ found-row (Some t ∷ rows) p has = elim (cons_cases (going t) p (filled rows) h
 pub record IsHeld (w : Tables) (input : Input) (c : List ℕ) (s : Steps) (seen : core.Core) : Type 0 where
   pub number : ℕ
   pub subparser : Subparser
-  pub has : Has s.core.rows.items number subparser
+  pub has : Has s.core.subparsers number subparser
   pub other : core.Subparser
   pub at : slice_get seen.rows number ≡ Some (Some other)
   pub is : IsSeen w input subparser other
@@ -167,7 +167,7 @@ pub record IsHeld (w : Tables) (input : Input) (c : List ℕ) (s : Steps) (seen 
 
 module _ (w : Tables) (input : Input) (first : core.Core) (s : Steps) (i : ℕ) (run : IsRun w input first s) where
   -- what is live at the place is held, where all that has ended has ended before it
-  pub live-held : HaveEndedBefore w.sets input i s.core.ended.items → (c : List ℕ) (r : Run) → IsLive input i c r → IsHeld w input c s run.last
+  pub live-held : HaveEndedBefore w.sets input i s.core.ended → (c : List ℕ) (r : Run) → IsLive input i c r → IsHeld w input c s run.last
   live-held ended c r live =
       let stands = run-stands-seen w input first s run in
       let one : count c (pieces_of run.last) ≡ 1 = stands.counted c live.is_config ∙ ap one_if live.unrefused in
@@ -175,7 +175,7 @@ module _ (w : Tables) (input : Input) (first : core.Core) (s : Steps) (i : ℕ) 
       elim (Contains-append_cases (filled run.last.rows) (map over run.last.ended) piece.0 piece.1.0) [
         | inl going_on ↦
             let row = found-row run.last.rows piece.0 going_on in
-            let kept = row-kept w input s.core.rows.items run.last.rows row.number row.subparser run.is.rows row.at in
+            let kept = row-kept w input s.core.subparsers run.last.rows row.number row.subparser run.is.rows row.at in
             record {
               number = row.number;
               subparser = kept.0;
@@ -187,15 +187,15 @@ module _ (w : Tables) (input : Input) (first : core.Core) (s : Steps) (i : ℕ) 
             }
         | inr past ↦
             let e = map_member over piece.0 run.last.ended past in
-            let all = ended-seen w input i s.core.ended.items run.last.ended run.is.ended ended in
+            let all = ended-seen w input i s.core.ended run.last.ended run.is.ended ended in
             let has : e.0.condition c ≡ true = ap (λ p. condition_of p c) e.2 ∙ piece.1.1 in
             absurd (ends-not-live input i c r (All-contains (EndsAll input i) run.last.ended e.0 all e.1 c live.is_config has) live)
       ]
 
-  module _ (numbers : List ℕ) (all : (n : ℕ) → times n numbers ≡ filled_at s.core.rows.items n) (waits : AreWaiting w.sets input i s.core.rows.items numbers) where
-    waiting-of : (n : ℕ) (t : Subparser) → Has s.core.rows.items n t → IsWaiting w.sets input i t
+  module _ (numbers : List ℕ) (all : (n : ℕ) → times n numbers ≡ filled_at s.core.subparsers n) (waits : AreWaiting w.sets input i s.core.subparsers numbers) where
+    waiting-of : (n : ℕ) (t : Subparser) → Has s.core.subparsers n t → IsWaiting w.sets input i t
     waiting-of n t has =
-        let found = all-times (λ m. (u : Subparser) × (Has s.core.rows.items m u × IsWaiting w.sets input i u)) numbers n waits (omega (arith, all n, is-filled s.core.rows.items n t has)) in
+        let found = all-times (λ m. (u : Subparser) × (Has s.core.subparsers m u × IsWaiting w.sets input i u)) numbers n waits (omega (arith, all n, is-filled s.core.subparsers n t has)) in
         let same : found.0 ≡ t = cc in
         subst (IsWaiting w.sets input i) same found.1.1
 
@@ -216,35 +216,35 @@ module _ (w : Tables) (input : Input) (first : core.Core) (s : Steps) (i : ℕ) 
         }
 
     -- it is of the class of a number
-    held-number : (c : List ℕ) → IsConfig input.arities c → IsHeld w input c s run.last → (n : ℕ) × (0 < times n numbers × IsOfNumber input i s.core.rows.items c n)
+    held-number : (c : List ℕ) → IsConfig input.arities c → IsHeld w input c s run.last → (n : ℕ) × (0 < times n numbers × IsOfNumber input i s.core.subparsers c n)
     held-number c config held =
         let waiting = waiting-of held.number held.subparser held.has in
         let has : w.sets.has held.subparser.cond.0 c ≡ true = sym (held.is.has c config) ∙ held.holds in
         let class = waiting.each c config has in (
           held.number,
           (
-            omega (arith, all held.number, is-filled s.core.rows.items held.number held.subparser held.has),
+            omega (arith, all held.number, is-filled s.core.subparsers held.number held.subparser held.has),
             record { subparser = held.subparser; has = held.has; next = waiting.next; phase = waiting.phase; class = record { run = class.run; live = class.live; is = sym class.class } },
           ),
         )
 
-    module _ (ended : HaveEndedBefore w.sets input i s.core.ended.items) where
+    module _ (ended : HaveEndedBefore w.sets input i s.core.ended) where
       -- there are no more classes than numbers
       pub classes-few : (configs : List (List ℕ)) → AreDistinct input i configs → length configs ≤ length numbers
       classes-few configs are =
-          pigeon (λ c n. IsOfNumber input i s.core.rows.items c n) configs numbers
-          (All-weaker (λ c. (class : Class) × IsClass input i c class) (λ c. (n : ℕ) × (0 < times n numbers × IsOfNumber input i s.core.rows.items c n))
+          pigeon (λ c n. IsOfNumber input i s.core.subparsers c n) configs numbers
+          (All-weaker (λ c. (class : Class) × IsClass input i c class) (λ c. (n : ℕ) × (0 < times n numbers × IsOfNumber input i s.core.subparsers c n))
           (λ c of. held-number c of.1.live.is_config (live-held ended c of.1.run of.1.live)) configs are.classes)
           (pairs-weaker (λ c d. (class : Class) → IsClass input i c class → IsClass input i d class → ⊥)
-          (λ c d. (n : ℕ) → IsOfNumber input i s.core.rows.items c n → IsOfNumber input i s.core.rows.items d n → ⊥)
+          (λ c d. (n : ℕ) → IsOfNumber input i s.core.subparsers c n → IsOfNumber input i s.core.subparsers d n → ⊥)
           (λ c d differ n one two.
-          let same : one.subparser ≡ two.subparser = same_row s.core.rows.items n one.subparser two.subparser one.has two.has in
+          let same : one.subparser ≡ two.subparser = same_row s.core.subparsers n one.subparser two.subparser one.has two.has in
           let next : one.next ≡ two.next = at-same one.next two.next (sym one.phase ∙ ap (λ (t : Subparser). t.phase) same ∙ two.phase) in
           let class : class_with one.subparser one.next ≡ class_with two.subparser two.next = ap (λ t. class_with t one.next) same ∙ ap (class_with two.subparser) next in
           differ (class_with two.subparser two.next) (subst (IsClass input i c) class one.class) two.class)
           configs are.different)
 
-      pub place-reached : AreApart s.core.rows.items numbers → HasPlace input first (map event_of s.events.items) i
+      pub place-reached : AreApart s.core.subparsers numbers → HasPlace input first (map event_of s.events.items) i
       place-reached apart =
           let events = map event_of s.events.items in
           let classes = distinct w input first i s run numbers waits apart in
@@ -260,8 +260,8 @@ module _ (w : Tables) (input : Input) (first : core.Core) (s : Steps) (i : ℕ) 
               arith,
               classes.many,
               rows-few run.last.rows 0 numbers (λ n t at.
-                  let kept = row-kept w input s.core.rows.items run.last.rows n t run.is.rows at in
-                  let full : 0 < times n numbers = omega (arith, all n, is-filled s.core.rows.items n kept.0 kept.1.0) in
+                  let kept = row-kept w input s.core.subparsers run.last.rows n t run.is.rows at in
+                  let full : 0 < times n numbers = omega (arith, all n, is-filled s.core.subparsers n kept.0 kept.1.0) in
                   subst (λ m. 0 < times m numbers) (let same : n ≡ 0 + n = omega arith in same) full),
             );
           }
@@ -274,15 +274,15 @@ pub record AreClassesAt (input : Input) (i count : ℕ) : Type 0 where
   pub none_more : (others : List (List ℕ)) → AreDistinct input i others → length others ≤ count
 
 module _ (w : Tables) (input : Input) (first : core.Core) (s : Steps) (r : Rows) (i j : ℕ) (run : IsRun w input first s) (filed : AreAllFiled s.core r j)
-    (waits : AreWaiting w.sets input i s.core.rows.items (numbers_in r)) (ended : HaveEndedBefore w.sets input i s.core.ended.items) where
+    (waits : AreWaiting w.sets input i s.core.subparsers (numbers_in r)) (ended : HaveEndedBefore w.sets input i s.core.ended) where
   -- where all subparsers are in rows, the events lead by the place
   pub place-at : HasPlace input first (map event_of s.events.items) i
-  place-at = place-reached w input first s i run (numbers_in r) filed.all waits ended (all-apart s.core.rows.items r filed.filed)
+  place-at = place-reached w input first s i run (numbers_in r) filed.all waits ended (all-apart s.core.subparsers r filed.filed)
 
   -- and there are as many classes at it as subparsers
   pub classes-at : AreClassesAt input i r.count
   classes-at =
-      let classes = distinct w input first i s run (numbers_in r) waits (all-apart s.core.rows.items r filed.filed) in
+      let classes = distinct w input first i s run (numbers_in r) waits (all-apart s.core.subparsers r filed.filed) in
       record {
         configs = classes.configs;
         distinct = classes.distinct;

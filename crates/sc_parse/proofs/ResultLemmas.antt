@@ -53,6 +53,7 @@ use Rattle.sc_parse.specs.Runs.{IsRun}
 use Rattle.sc_parse.specs.Turns.{HasBegun}
 use Rattle.sc_tree.specs.Lines.{Line}
 use Rattle.sc_tree.specs.Reads.{Tables}
+use Rattle.sc_model.specs.declared.standard.Standard.{Standard}
 
 -- ---- the start
 
@@ -62,30 +63,30 @@ begun-rows sets live _ (one_first t some first) zero s has = let same : t ≡ s 
 begun-rows sets live _ (one_first t some first) (suc n) s has = absurd (none-some (Some s) has)
 
 -- the core is started for the list, and nothing was done
-pub record IsStarted (sets : Sets) (names : List (List ℕ)) (list : List (Cond × Token)) (tables : code.Tables) (end : Place) (live : Cond) (s : Steps) : Type 0 where
+pub record IsStarted (sets : Sets) (names : List (List ℕ)) (list : List (Cond × Token)) (tables : code.Tables) (standard : Standard) (end : Place) (live : Cond) (s : Steps) : Type 0 where
   pub list_is : s.core.source.list.now ≡ list
   pub tables_is : s.core.source.tables.now ≡ tables
   pub end_is : s.core.source.end ≡ end
-  pub terminals : AreTerminals names list s.core.source.terminals.items
+  pub terminals : AreTerminals standard names list s.core.source.terminals.items
   pub start : (lines : List Line) (files : List (List ℕ)) → Starts (tables_with sets lines names files) s.core live
-  pub first : AreFirst sets live s.core.rows.items
-  pub ended : s.core.ended.items ≡ []
+  pub first : AreFirst sets live s.core.subparsers
+  pub ended : s.core.ended ≡ []
   pub events : s.events.items ≡ []
   pub own : All (λ (item : Cond × Token). IsCond sets item.0.0) list
   pub held : All (λ (item : Cond × Token). IsHeld names item.1) list
   pub apart : IsOneToOne names
 
-module _ (sets : Sets) (names : List (List ℕ)) (list : List (Cond × Token)) (tables : code.Tables) (end : Place) (live : Cond) (s : Steps) (is : IsStarted sets names list tables end live s) where
+module _ (sets : Sets) (names : List (List ℕ)) (list : List (Cond × Token)) (tables : code.Tables) (standard : Standard) (end : Place) (live : Cond) (s : Steps) (is : IsStarted sets names list tables standard end live s) where
   pub has-begun : HasBegun s.core
-  has-begun = record { rows = begun-rows sets live s.core.rows.items is.first; none = is.ended }
+  has-begun = record { rows = begun-rows sets live s.core.subparsers is.first; none = is.ended }
 
-  module _ (lines : List Line) (files : List (List ℕ)) (input : Input) (of : IsInputOf (tables_with sets lines names files) list tables end live input) where
+  module _ (lines : List Line) (files : List (List ℕ)) (input : Input) (of : IsInputOf (tables_with sets lines names files) list tables standard end live input) where
     abbrev of_list : (List (Cond × Token) → Type 0) → Type 0
     of_list P = P list → P s.core.source.list.now
 
     terminals-are : map (option_map (λ (x : Terminal). x.0)) s.core.source.terminals.items ≡ map (λ (item : Condition × plain.Token). input.parser.terminal_of item.1) input.items
     terminals-are =
-        let test : plain.Token → Option ℕ = (c11_parser (tables_of of.states tables)).terminal_of in
+        let test : plain.Token → Option ℕ = (c11_parser standard (tables_of of.states tables)).terminal_of in
         is.terminals
         ∙ sym (map-map test (λ (item : Cond × Token). seen names files item.1) list)
         ∙ ap (map test) (sym of.tokens)
@@ -94,6 +95,7 @@ module _ (sets : Sets) (names : List (List ℕ)) (list : List (Cond × Token)) (
 
     is-input : IsInput (tables_with sets lines names files) s.core.source input
     is-input = record {
+      standard = standard;
       states = of.states;
       parser = rw is.tables_is of.parser;
       arities = of.arities;
@@ -130,7 +132,7 @@ rows-gone w input _ _ (full_row s t rows others is are) gone = absurd (none-some
 
 -- the core as it is seen is finished where the core is
 pub run-over : (w : Tables) (input : Input) (first : core.Core) (s : Steps) (run : IsRun w input first s) → IsFinished s.core → core.IsFinished run.last
-run-over w input first s run done = rows-gone w input s.core.rows.items run.last.rows run.is.rows done.rows
+run-over w input first s run done = rows-gone w input s.core.subparsers run.last.rows run.is.rows done.rows
 
 -- ---- the answers of a configuration
 
@@ -177,10 +179,10 @@ pub record IsC11 (parser : Parser) : Type 0 where
   pub grammar : Grammar
   pub is : IsParserOf grammar parser
 
-pub is-c11 : (w : Tables) (list : List (Cond × Token)) (tables : code.Tables) (end : Place) (live : Cond) (input : Input) → HasC11Tables tables → IsInputOf w list tables end live input → IsC11 input.parser
-is-c11 w list tables end live input c11 of = record {
+pub is-c11 : (w : Tables) (list : List (Cond × Token)) (tables : code.Tables) (standard : Standard) (end : Place) (live : Cond) (input : Input) → HasC11Tables tables → IsInputOf w list tables standard end live input → IsC11 input.parser
+is-c11 w list tables standard end live input c11 of = record {
   grammar = c11.are.grammar;
-  is = subst (IsParserOf c11.are.grammar) (sym of.parser) (is-parser c11.are.grammar c11.are.entries c11.are.terminals c11.are.nonterminals (tables_of c11.states tables) (tables_of of.states tables) c11.are.exact refl refl);
+  is = subst (IsParserOf c11.are.grammar) (sym of.parser) (is-parser c11.are.grammar c11.are.entries c11.are.terminals c11.are.nonterminals standard (tables_of c11.states tables) (tables_of of.states tables) c11.are.exact refl refl);
 }
 
 module _ (input : Input) (last : core.Core) (done : core.IsFinished last) (stands : Stands input last) where

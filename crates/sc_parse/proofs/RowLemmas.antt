@@ -284,27 +284,27 @@ row-of subparsers rows n next s row within has phase is =
 
 module _ (old new : Sets) (lines added : List Line) (i : ℕ) (s t : Steps) (names files : List (List ℕ)) (input : Input) (first : core.Core)
     (goes : GoesOn old new lines added i s t) (own : OwnsSteps old (length lines) s) (run : IsRun (tables_with old lines names files) input first s) where
-  pub put-waits : (r : Rows) (k number : ℕ) (row next : Vec ℕ) → slice_get r.rows.items k ≡ Some row → AreNumbers s.core.rows.items (number ∷ numbers_in r)
-      → Replaces s.core.rows.items t.core.rows.items (number ∷ row.items) next.items
-      → (AreWaiting old input i s.core.rows.items (number ∷ row.items) → AreWaiting new input i t.core.rows.items next.items)
-      → AreWaiting old input i s.core.rows.items (number ∷ numbers_in r) → AreWaiting new input i t.core.rows.items (numbers_of (slice_set r.rows.items k next))
+  pub put-waits : (r : Rows) (k number : ℕ) (row next : Vec ℕ) → slice_get r.rows.items k ≡ Some row → AreNumbers s.core.subparsers (number ∷ numbers_in r)
+      → Replaces s.core.subparsers t.core.subparsers (number ∷ row.items) next.items
+      → (AreWaiting old input i s.core.subparsers (number ∷ row.items) → AreWaiting new input i t.core.subparsers next.items)
+      → AreWaiting old input i s.core.subparsers (number ∷ numbers_in r) → AreWaiting new input i t.core.subparsers (numbers_of (slice_set r.rows.items k next))
   put-waits r k number row next at are replaces joined waits =
-      each-in (IsWaiting new input i) t.core.rows.items (slice_set r.rows.items k next)
+      each-in (IsWaiting new input i) t.core.subparsers (slice_set r.rows.items k next)
       (λ j other is. elim (eqb_tells j k) [
         | inl same ↦
-            subst (λ (x : Vec ℕ). AreWaiting new input i t.core.rows.items x.items)
+            subst (λ (x : Vec ℕ). AreWaiting new input i t.core.subparsers x.items)
             (sym (set-same r.rows.items k next other (subst (λ n. slice_get (slice_set r.rows.items k next) n ≡ Some other) same.1 is))) (joined mine)
         | inr apart ↦
             let there = sym (set-other r.rows.items k j next apart.1) ∙ is in
             waiting-kept old new lines added i s t names files input first (number ∷ row.items) next.items other.items goes own run replaces
-            (each-row (IsWaiting old input i) s.core.rows.items r.rows.items j other there (All-tail P number (numbers_in r) waits))
-            (others-stay s.core.rows.items t.core.rows.items r k number row next at are replaces j other apart.1 there)
+            (each-row (IsWaiting old input i) s.core.subparsers r.rows.items j other there (All-tail P number (numbers_in r) waits))
+            (others-stay s.core.subparsers t.core.subparsers r k number row next at are replaces j other apart.1 there)
       ])
     where
       P : ℕ → Type 0
-      P n = (x : Subparser) × (Has s.core.rows.items n x × IsWaiting old input i x)
+      P n = (x : Subparser) × (Has s.core.subparsers n x × IsWaiting old input i x)
 
-      mine : AreWaiting old input i s.core.rows.items (number ∷ row.items)
+      mine : AreWaiting old input i s.core.subparsers (number ∷ row.items)
       mine =
-          each-of (IsWaiting old input i) s.core.rows.items (number ∷ numbers_in r) (number ∷ row.items) waits
+          each-of (IsWaiting old input i) s.core.subparsers (number ∷ numbers_in r) (number ∷ row.items) waits
           (λ n none. omega (arith, none, row-times r.rows.items k n row at))

@@ -70,24 +70,24 @@ goes-then a b c one two three place s t u first second = record {
 }
 
 -- each subparser is the stores'
-pub row-owned : (sets : Sets) (count : ℕ) (s : Steps) (n : ℕ) (sub : Subparser) → OwnsSteps sets count s → Has s.core.rows.items n sub → OwnsRow sets count s.core.source sub
+pub row-owned : (sets : Sets) (count : ℕ) (s : Steps) (n : ℕ) (sub : Subparser) → OwnsSteps sets count s → Has s.core.subparsers n sub → OwnsRow sets count s.core.source sub
 row-owned sets count s n sub own has =
     let Q : Option Subparser → Type 0 = λ row. IfSome row (OwnsRow sets count s.core.source) in
-    let rows : All Q s.core.rows.items = own.core.rows own.usable in
-    subst Q (get_or_from_slice_get s.core.rows.items n (Some sub) None has) (rows n None (slice_get_within s.core.rows.items n (Some sub) has))
+    let rows : All Q s.core.subparsers = own.core.rows own.usable in
+    subst Q (get_or_from_slice_get s.core.subparsers n (Some sub) None has) (rows n None (slice_get_within s.core.subparsers n (Some sub) has))
 
 -- the condition of each subparser is the store's
-pub row-cond : (sets : Sets) (count : ℕ) (s : Steps) (n : ℕ) (sub : Subparser) → OwnsSteps sets count s → Has s.core.rows.items n sub → IsCond sets sub.cond.0
+pub row-cond : (sets : Sets) (count : ℕ) (s : Steps) (n : ℕ) (sub : Subparser) → OwnsSteps sets count s → Has s.core.subparsers n sub → IsCond sets sub.cond.0
 row-cond sets count s n sub own has = (row-owned sets count s n sub own has).owns.cond
 
 -- subparsers that stay wait as they did
 pub waiting-kept : (old new : Sets) (lines added : List Line) (i : ℕ) (s t : Steps) (names files : List (List ℕ)) (input : Input) (first : core.Core) (gone made ns : List ℕ)
     → GoesOn old new lines added i s t → OwnsSteps old (length lines) s → IsRun (tables_with old lines names files) input first s
-    → Replaces s.core.rows.items t.core.rows.items gone made → AreWaiting old input i s.core.rows.items ns → ((n : ℕ) → 0 < times n ns → times n gone ≡ 0)
-    → AreWaiting new input i t.core.rows.items ns
+    → Replaces s.core.subparsers t.core.subparsers gone made → AreWaiting old input i s.core.subparsers ns → ((n : ℕ) → 0 < times n ns → times n gone ≡ 0)
+    → AreWaiting new input i t.core.subparsers ns
 waiting-kept old new lines added i s t names files input first gone made ns goes own run replaces waits apart =
-    times-all (λ n. (sub : Subparser) × (Has t.core.rows.items n sub × IsWaiting new input i sub)) ns (λ n some.
-    let was = all-times (λ m. (sub : Subparser) × (Has s.core.rows.items m sub × IsWaiting old input i sub)) ns n waits some in
+    times-all (λ n. (sub : Subparser) × (Has t.core.subparsers n sub × IsWaiting new input i sub)) ns (λ n some.
+    let was = all-times (λ m. (sub : Subparser) × (Has s.core.subparsers m sub × IsWaiting old input i sub)) ns n waits some in
     let cond : IsCond old was.0.cond.0 = row-cond old (length lines) s n was.0 own was.1.0 in
     let kept : IsWaiting new input i was.0 = record {
       next = was.1.1.next;

@@ -72,26 +72,26 @@ pub record IsShifting (old new : Sets) (lines added : List Line) (before after :
   pub goes : GoesOn old new lines added (j + 1) before after
   pub taken : List ℕ
   pub is : now ≡ first ++ taken
-  pub replaces : Replaces before.core.rows.items after.core.rows.items (number ∷ []) (taken ++ left)
-  pub numbers : AreNumbers after.core.rows.items (taken ++ left)
-  pub behind : Each (IsBetween (j + 1)) after.core.rows.items taken
-  pub past : Each (IsPast before.core.source j) after.core.rows.items left
+  pub replaces : Replaces before.core.subparsers after.core.subparsers (number ∷ []) (taken ++ left)
+  pub numbers : AreNumbers after.core.subparsers (taken ++ left)
+  pub behind : Each (IsBetween (j + 1)) after.core.subparsers taken
+  pub past : Each (IsPast before.core.source j) after.core.subparsers left
   pub none : j ≡ length before.core.source.list.now → taken ≡ []
 
-pub shift-begins : (a b : Sets) (lines added : List Line) (s t : Steps) (j number : ℕ) (first made : List ℕ) → Each (IsReady s.core.source j) s.core.rows.items (number ∷ [])
+pub shift-begins : (a b : Sets) (lines added : List Line) (s t : Steps) (j number : ℕ) (first made : List ℕ) → Each (IsReady s.core.source j) s.core.subparsers (number ∷ [])
     → HasMade s.core (Shift number) t.core made → GoesOn a b lines added (j + 1) s t → IsShifting a b lines added s t j number first first made
 shift-begins a b lines added s t j number first made ready has goes =
-    let head = All-head (λ n. (x : Subparser) × (Has s.core.rows.items n x × IsReady s.core.source j x)) number [] ready in
-    let one = one-number s.core.rows.items number head.0 head.1.0 in
+    let head = All-head (λ n. (x : Subparser) × (Has s.core.subparsers n x × IsReady s.core.source j x)) number [] ready in
+    let one = one-number s.core.subparsers number head.0 head.1.0 in
     let replaces = event-replaces s.core t.core (Shift number) made has one in
     record {
       goes = goes;
       taken = [];
       is = sym (append-nil first);
       replaces = replaces;
-      numbers = numbers-after s.core.rows.items t.core.rows.items (number ∷ []) made replaces one;
-      behind = All-nil (λ n. (x : Subparser) × (Has t.core.rows.items n x × IsBetween (j + 1) x));
-      past = made-each (IsPast s.core.source j) s.core t.core (Shift number) made has (shift-pieces s.core.source s.core.rows.items number j head.0 has.pieces head.1.0 head.1.1.at has.makes);
+      numbers = numbers-after s.core.subparsers t.core.subparsers (number ∷ []) made replaces one;
+      behind = All-nil (λ n. (x : Subparser) × (Has t.core.subparsers n x × IsBetween (j + 1) x));
+      past = made-each (IsPast s.core.source j) s.core t.core (Shift number) made has (shift-pieces s.core.source s.core.subparsers number j head.0 has.pieces head.1.0 head.1.1.at has.makes);
       none = λ end. refl;
     }
 
@@ -122,7 +122,7 @@ pub shift-ends : {a b : Sets} {lines added : List Line} {s t : Steps} {j number 
 shift-ends {s = s} {t = t} {number = number} is was = record {
   made = was.taken;
   is = was.is;
-  replaces = subst (Replaces s.core.rows.items t.core.rows.items (number ∷ [])) (ap (λ ns. was.taken ++ ns) is ∙ append-nil was.taken) was.replaces;
+  replaces = subst (Replaces s.core.subparsers t.core.subparsers (number ∷ [])) (ap (λ ns. was.taken ++ ns) is ∙ append-nil was.taken) was.replaces;
   behind = was.behind;
   none = was.none;
 }
@@ -138,58 +138,58 @@ apart-right : (rows : List (Option Subparser)) (xs : List ℕ) (m : ℕ) (ys : L
 apart-right rows xs m ys are n some = omega (arith, are.once n, filled-most rows n, some, times-append n xs (m ∷ ys))
 
 module _ {a b : Sets} {lines added : List Line} {s t : Steps} {j number : ℕ} {first now : List ℕ} {m : ℕ} {left : List ℕ} (was : IsShifting a b lines added s t j number first now (m ∷ left)) where
-  pub next-past : (x : Subparser) × (Has t.core.rows.items m x × IsPast s.core.source j x)
-  next-past = All-head (λ n. (x : Subparser) × (Has t.core.rows.items n x × IsPast s.core.source j x)) m left was.past
+  pub next-past : (x : Subparser) × (Has t.core.subparsers m x × IsPast s.core.source j x)
+  next-past = All-head (λ n. (x : Subparser) × (Has t.core.subparsers n x × IsPast s.core.source j x)) m left was.past
 
-  pub next-named : (x : Subparser) (k : ℕ) → Has t.core.rows.items m x → x.phase ≡ Named k → x.phase ≡ Named j
+  pub next-named : (x : Subparser) (k : ℕ) → Has t.core.subparsers m x → x.phase ≡ Named k → x.phase ≡ Named j
   next-named x k has named =
-      past-named s.core.source j k x (subst (IsPast s.core.source j) (same-subparser t.core.rows.items m next-past.0 x next-past.1.0 has) next-past.1.1) named
+      past-named s.core.source j k x (subst (IsPast s.core.source j) (same-subparser t.core.subparsers m next-past.0 x next-past.1.0 has) next-past.1.1) named
 
   -- one that has its kind already
-  pub shift-kept : (x : Subparser) → Has t.core.rows.items m x → ((k : ℕ) → x.phase ≡ Named k → ⊥) → IsShifting a b lines added s t j number first (now ++ m ∷ []) left
+  pub shift-kept : (x : Subparser) → Has t.core.subparsers m x → ((k : ℕ) → x.phase ≡ Named k → ⊥) → IsShifting a b lines added s t j number first (now ++ m ∷ []) left
   shift-kept x has other = record {
     goes = was.goes;
     taken = was.taken ++ m ∷ [];
     is = ap (λ ns. ns ++ m ∷ []) was.is ∙ append_assoc first was.taken (m ∷ []);
-    replaces = subst (Replaces s.core.rows.items t.core.rows.items (number ∷ [])) (sym (append_assoc was.taken (m ∷ []) left)) was.replaces;
-    numbers = subst (AreNumbers t.core.rows.items) (sym (append_assoc was.taken (m ∷ []) left)) was.numbers;
-    behind = each-append (IsBetween (j + 1)) t.core.rows.items was.taken (m ∷ []) was.behind
-        (All-cons (λ n. (y : Subparser) × (Has t.core.rows.items n y × IsBetween (j + 1) y)) m [] (
+    replaces = subst (Replaces s.core.subparsers t.core.subparsers (number ∷ [])) (sym (append_assoc was.taken (m ∷ []) left)) was.replaces;
+    numbers = subst (AreNumbers t.core.subparsers) (sym (append_assoc was.taken (m ∷ []) left)) was.numbers;
+    behind = each-append (IsBetween (j + 1)) t.core.subparsers was.taken (m ∷ []) was.behind
+        (All-cons (λ n. (y : Subparser) × (Has t.core.subparsers n y × IsBetween (j + 1) y)) m [] (
           next-past.0,
           (
             next-past.1.0,
             past-between s.core.source j next-past.0 next-past.1.1
-                (λ k named. other k (ap (λ (y : Subparser). y.phase) (same-subparser t.core.rows.items m x next-past.0 has next-past.1.0) ∙ named)),
+                (λ k named. other k (ap (λ (y : Subparser). y.phase) (same-subparser t.core.subparsers m x next-past.0 has next-past.1.0) ∙ named)),
           ),
         )
-        (All-nil (λ n. (y : Subparser) × (Has t.core.rows.items n y × IsBetween (j + 1) y))));
-    past = All-tail (λ n. (x : Subparser) × (Has t.core.rows.items n x × IsPast s.core.source j x)) m left was.past;
+        (All-nil (λ n. (y : Subparser) × (Has t.core.subparsers n y × IsBetween (j + 1) y))));
+    past = All-tail (λ n. (x : Subparser) × (Has t.core.subparsers n x × IsPast s.core.source j x)) m left was.past;
     none = λ end. absurd (omega (arith, end, next-past.1.1.within));
   }
 
   -- one whose kinds are shifted
-  pub shift-kinds : Each (IsReady s.core.source j) s.core.rows.items (number ∷ []) → (c : Sets) (more : List Line) (u : Steps) (x : Subparser) (k : ℕ) (kinds : List ℕ) → Has t.core.rows.items m x → x.phase ≡ Named k
+  pub shift-kinds : Each (IsReady s.core.source j) s.core.subparsers (number ∷ []) → (c : Sets) (more : List Line) (u : Steps) (x : Subparser) (k : ℕ) (kinds : List ℕ) → Has t.core.subparsers m x → x.phase ≡ Named k
       → HasMade t.core (Classify m) u.core kinds → GoesOn b c added more (j + 1) t u → IsShifting a c lines more s u j number first (now ++ kinds) left
   shift-kinds ready c more u x k kinds has named made goes = record {
     goes = goes-then a b c lines added more (j + 1) s t u was.goes goes;
     taken = was.taken ++ kinds;
     is = ap (λ ns. ns ++ kinds) was.is ∙ append_assoc first was.taken kinds;
     replaces = after;
-    numbers = numbers-after s.core.rows.items u.core.rows.items (number ∷ []) ((was.taken ++ kinds) ++ left) after (let one = first-ready s.core.source s.core.rows.items j number ready in one-number s.core.rows.items number one.0 one.1.0);
-    behind = each-append (IsBetween (j + 1)) u.core.rows.items was.taken kinds
-        (each-kept (IsBetween (j + 1)) t.core.rows.items u.core.rows.items (m ∷ []) kinds was.taken replaces was.behind (apart-left t.core.rows.items was.taken m left was.numbers))
-        (made-each (IsBetween (j + 1)) t.core u.core (Classify m) kinds made (classify-pieces t.core.source t.core.rows.items m j x made.pieces has (next-named x k has named) made.makes));
-    past = each-kept (IsPast s.core.source j) t.core.rows.items u.core.rows.items (m ∷ []) kinds left replaces
-        (All-tail (λ n. (x : Subparser) × (Has t.core.rows.items n x × IsPast s.core.source j x)) m left was.past) (apart-right t.core.rows.items was.taken m left was.numbers);
+    numbers = numbers-after s.core.subparsers u.core.subparsers (number ∷ []) ((was.taken ++ kinds) ++ left) after (let one = first-ready s.core.source s.core.subparsers j number ready in one-number s.core.subparsers number one.0 one.1.0);
+    behind = each-append (IsBetween (j + 1)) u.core.subparsers was.taken kinds
+        (each-kept (IsBetween (j + 1)) t.core.subparsers u.core.subparsers (m ∷ []) kinds was.taken replaces was.behind (apart-left t.core.subparsers was.taken m left was.numbers))
+        (made-each (IsBetween (j + 1)) t.core u.core (Classify m) kinds made (classify-pieces t.core.source t.core.subparsers m j x made.pieces has (next-named x k has named) made.makes));
+    past = each-kept (IsPast s.core.source j) t.core.subparsers u.core.subparsers (m ∷ []) kinds left replaces
+        (All-tail (λ n. (x : Subparser) × (Has t.core.subparsers n x × IsPast s.core.source j x)) m left was.past) (apart-right t.core.subparsers was.taken m left was.numbers);
     none = λ end. absurd (omega (arith, end, next-past.1.1.within));
   }
     where
-      replaces : Replaces t.core.rows.items u.core.rows.items (m ∷ []) kinds
-      replaces = event-replaces t.core u.core (Classify m) kinds made (one-number t.core.rows.items m x has)
+      replaces : Replaces t.core.subparsers u.core.subparsers (m ∷ []) kinds
+      replaces = event-replaces t.core u.core (Classify m) kinds made (one-number t.core.subparsers m x has)
 
-      after : Replaces s.core.rows.items u.core.rows.items (number ∷ []) ((was.taken ++ kinds) ++ left)
+      after : Replaces s.core.subparsers u.core.subparsers (number ∷ []) ((was.taken ++ kinds) ++ left)
       after =
-          replaces-then s.core.rows.items t.core.rows.items u.core.rows.items (number ∷ []) (was.taken ++ m ∷ left) (m ∷ []) kinds (number ∷ []) ((was.taken ++ kinds) ++ left) was.replaces replaces
+          replaces-then s.core.subparsers t.core.subparsers u.core.subparsers (number ∷ []) (was.taken ++ m ∷ left) (m ∷ []) kinds (number ∷ []) ((was.taken ++ kinds) ++ left) was.replaces replaces
           (λ n. omega (arith, times-append n was.taken (m ∷ left), times-append n (was.taken ++ kinds) left, times-append n was.taken kinds))
           (λ n none. none) (λ n none no_made. omega (arith, no_made, times-append n was.taken (m ∷ left)))
 
@@ -199,19 +199,19 @@ module _ {a b : Sets} {lines added : List Line} {s t : Steps} {j number : ℕ} {
 -- with no reduction to be done.
 pub record AreShifting (old new : Sets) (lines added : List Line) (before after : Steps) (j : ℕ) (row behind left : List ℕ) : Type 0 where
   pub goes : GoesOn old new lines added (j + 1) before after
-  pub replaces : Replaces before.core.rows.items after.core.rows.items row (behind ++ left)
-  pub numbers : AreNumbers after.core.rows.items (behind ++ left)
-  pub past : Each (IsBetween (j + 1)) after.core.rows.items behind
-  pub ready : Each (IsReady after.core.source j) after.core.rows.items left
+  pub replaces : Replaces before.core.subparsers after.core.subparsers row (behind ++ left)
+  pub numbers : AreNumbers after.core.subparsers (behind ++ left)
+  pub past : Each (IsBetween (j + 1)) after.core.subparsers behind
+  pub ready : Each (IsReady after.core.source j) after.core.subparsers left
   pub none : j ≡ length before.core.source.list.now → behind ≡ []
 
-pub shifting-begins : (a b : Sets) (lines added : List Line) (s t : Steps) (j : ℕ) (row left : List ℕ) → AreNumbers s.core.rows.items row → Replaces s.core.rows.items t.core.rows.items row left
-    → Each (IsReady t.core.source j) t.core.rows.items left → GoesOn a b lines added (j + 1) s t → AreShifting a b lines added s t j row [] left
+pub shifting-begins : (a b : Sets) (lines added : List Line) (s t : Steps) (j : ℕ) (row left : List ℕ) → AreNumbers s.core.subparsers row → Replaces s.core.subparsers t.core.subparsers row left
+    → Each (IsReady t.core.source j) t.core.subparsers left → GoesOn a b lines added (j + 1) s t → AreShifting a b lines added s t j row [] left
 shifting-begins a b lines added s t j row left numbers replaces ready goes = record {
   goes = goes;
   replaces = replaces;
-  numbers = numbers-after s.core.rows.items t.core.rows.items row left replaces numbers;
-  past = All-nil (λ n. (x : Subparser) × (Has t.core.rows.items n x × IsBetween (j + 1) x));
+  numbers = numbers-after s.core.subparsers t.core.subparsers row left replaces numbers;
+  past = All-nil (λ n. (x : Subparser) × (Has t.core.subparsers n x × IsBetween (j + 1) x));
   ready = ready;
   none = λ end. refl;
 }
@@ -221,13 +221,13 @@ pub shifting-next : {a b : Sets} {lines added : List Line} {s t : Steps} {j : �
 shifting-next {a} {b} {lines} {added} {s} {t} {j} {row} {behind} is was = subst (AreShifting a b lines added s t j row behind) is was
 
 pub shifting-ends : {a b : Sets} {lines added : List Line} {s t : Steps} {j : ℕ} {row behind items : List ℕ} → items ≡ [] → AreShifting a b lines added s t j row behind items
-    → Replaces s.core.rows.items t.core.rows.items row behind
-shifting-ends {s = s} {t} {row = row} {behind} is was = subst (Replaces s.core.rows.items t.core.rows.items row) (ap (λ ns. behind ++ ns) is ∙ append-nil behind) was.replaces
+    → Replaces s.core.subparsers t.core.subparsers row behind
+shifting-ends {s = s} {t} {row = row} {behind} is was = subst (Replaces s.core.subparsers t.core.subparsers row) (ap (λ ns. behind ++ ns) is ∙ append-nil behind) was.replaces
 
 module _ {a b : Sets} {lines added : List Line} {s t : Steps} {j : ℕ} {row behind : List ℕ} {m : ℕ} {left : List ℕ} (was : AreShifting a b lines added s t j row behind (m ∷ left)) where
-  pub next-ready : Each (IsReady t.core.source j) t.core.rows.items (m ∷ [])
-  next-ready = All-cons (λ n. (x : Subparser) × (Has t.core.rows.items n x × IsReady t.core.source j x)) m [] (All-head (λ n. (x : Subparser) × (Has t.core.rows.items n x × IsReady t.core.source j x)) m left was.ready)
-      (All-nil (λ n. (x : Subparser) × (Has t.core.rows.items n x × IsReady t.core.source j x)))
+  pub next-ready : Each (IsReady t.core.source j) t.core.subparsers (m ∷ [])
+  next-ready = All-cons (λ n. (x : Subparser) × (Has t.core.subparsers n x × IsReady t.core.source j x)) m [] (All-head (λ n. (x : Subparser) × (Has t.core.subparsers n x × IsReady t.core.source j x)) m left was.ready)
+      (All-nil (λ n. (x : Subparser) × (Has t.core.subparsers n x × IsReady t.core.source j x)))
 
   pub shifting-more : (c : Sets) (more : List Line) (u : Steps) (after : List ℕ) → GoesOn b c added more (j + 1) t u → HasShifted t.core j m u.core behind after
       → AreShifting a c lines more s u j row after left
@@ -235,19 +235,19 @@ module _ {a b : Sets} {lines added : List Line} {s t : Steps} {j : ℕ} {row beh
     goes = goes-then a b c lines added more (j + 1) s t u was.goes goes;
     replaces = replaces;
     numbers = record { once = λ n. omega (arith, shifted.replaces.counts n, was.numbers.once n, times-append n behind (m ∷ left), times-append n after left, ap (times n) shifted.is, times-append n behind shifted.made) };
-    past = subst (Each (IsBetween (j + 1)) u.core.rows.items) (sym shifted.is)
-        (each-append (IsBetween (j + 1)) u.core.rows.items behind shifted.made
-        (each-kept (IsBetween (j + 1)) t.core.rows.items u.core.rows.items (m ∷ []) shifted.made behind shifted.replaces was.past (apart-left t.core.rows.items behind m left was.numbers))
+    past = subst (Each (IsBetween (j + 1)) u.core.subparsers) (sym shifted.is)
+        (each-append (IsBetween (j + 1)) u.core.subparsers behind shifted.made
+        (each-kept (IsBetween (j + 1)) t.core.subparsers u.core.subparsers (m ∷ []) shifted.made behind shifted.replaces was.past (apart-left t.core.subparsers behind m left was.numbers))
         shifted.behind);
     ready =
-        subst (λ (x : Source). Each (IsReady x j) u.core.rows.items left) (sym goes.source)
-        (each-kept (IsReady t.core.source j) t.core.rows.items u.core.rows.items (m ∷ []) shifted.made left shifted.replaces
-        (All-tail (λ n. (x : Subparser) × (Has t.core.rows.items n x × IsReady t.core.source j x)) m left was.ready) (apart-right t.core.rows.items behind m left was.numbers));
+        subst (λ (x : Source). Each (IsReady x j) u.core.subparsers left) (sym goes.source)
+        (each-kept (IsReady t.core.source j) t.core.subparsers u.core.subparsers (m ∷ []) shifted.made left shifted.replaces
+        (All-tail (λ n. (x : Subparser) × (Has t.core.subparsers n x × IsReady t.core.source j x)) m left was.ready) (apart-right t.core.subparsers behind m left was.numbers));
     none = λ end. shifted.is ∙ ap (λ ns. ns ++ shifted.made) (was.none end) ∙ shifted.none (end ∙ ap (λ (x : Source). length x.list.now) (sym was.goes.source));
   }
     where
-      replaces : Replaces s.core.rows.items u.core.rows.items row (after ++ left)
+      replaces : Replaces s.core.subparsers u.core.subparsers row (after ++ left)
       replaces =
-          replaces-then s.core.rows.items t.core.rows.items u.core.rows.items row (behind ++ m ∷ left) (m ∷ []) shifted.made row (after ++ left) was.replaces shifted.replaces
+          replaces-then s.core.subparsers t.core.subparsers u.core.subparsers row (behind ++ m ∷ left) (m ∷ []) shifted.made row (after ++ left) was.replaces shifted.replaces
           (λ n. omega (arith, times-append n behind (m ∷ left), times-append n after left, ap (times n) shifted.is, times-append n behind shifted.made))
           (λ n none. none) (λ n none no_made. omega (arith, no_made, times-append n behind (m ∷ left)))

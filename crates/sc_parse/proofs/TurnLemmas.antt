@@ -152,23 +152,23 @@ filed-kept old new r gone made filed replaces stays = record {
 -- others, and the rest is left.
 pub record ArePutBack (old new : Sets) (lines added : List Line) (before after : Steps) (r now : Rows) (at : ℕ) (left : List ℕ) : Type 0 where
   pub goes : GoesOn old new lines added (at + 1) before after
-  pub filed : AreFiled after.core.rows.items now
-  pub all : (n : ℕ) → times n left + times n (numbers_in now) ≡ filled_at after.core.rows.items n
+  pub filed : AreFiled after.core.subparsers now
+  pub all : (n : ℕ) → times n left + times n (numbers_in now) ≡ filled_at after.core.subparsers n
   pub done : HasNoneBefore now (at + 1)
   pub long : length now.rows.items ≡ length after.core.source.list.now + 1
   pub limit : now.branches ≡ r.branches
-  pub between : Each (IsBetween (at + 1)) after.core.rows.items left
+  pub between : Each (IsBetween (at + 1)) after.core.subparsers left
   pub waiting : (names files : List (List ℕ)) (input : Input) (first : core.Core) → IsAtPlace (tables_with old lines names files) input first before r at
-      → at + 1 < length input.items + 1 → AreWaiting new input (at + 1) after.core.rows.items (numbers_in now)
+      → at + 1 < length input.items + 1 → AreWaiting new input (at + 1) after.core.subparsers (numbers_in now)
 
 -- the row is taken, and what comes of it is left
 pub turn-begins : (a b : Sets) (lines added : List Line) (s t : Steps) (r taken : Rows) (at : ℕ) (row left : List ℕ) → OwnsSteps a (length lines) s → AreAllFiled s.core r at
-    → ((n : ℕ) → times n (numbers_in taken) + times n row ≡ times n (numbers_in r)) → AreFiled s.core.rows.items taken → HasNoneBefore taken (at + 1)
-    → length taken.rows.items ≡ length r.rows.items → taken.branches ≡ r.branches → GoesOn a b lines added (at + 1) s t → Replaces s.core.rows.items t.core.rows.items row left
-    → Each (IsBetween (at + 1)) t.core.rows.items left → ArePutBack a b lines added s t r taken at left
+    → ((n : ℕ) → times n (numbers_in taken) + times n row ≡ times n (numbers_in r)) → AreFiled s.core.subparsers taken → HasNoneBefore taken (at + 1)
+    → length taken.rows.items ≡ length r.rows.items → taken.branches ≡ r.branches → GoesOn a b lines added (at + 1) s t → Replaces s.core.subparsers t.core.subparsers row left
+    → Each (IsBetween (at + 1)) t.core.subparsers left → ArePutBack a b lines added s t r taken at left
 turn-begins a b lines added s t r taken at row left own was parts filed none long limit goes replaces between = record {
   goes = goes;
-  filed = filed-kept s.core.rows.items t.core.rows.items taken row left filed replaces stays;
+  filed = filed-kept s.core.subparsers t.core.subparsers taken row left filed replaces stays;
   all = λ n. omega (arith, replaces.counts n, was.all n, parts n);
   done = none;
   long = long ∙ was.long ∙ ap (λ (x : Source). length x.list.now + 1) (sym goes.source);
@@ -179,39 +179,39 @@ turn-begins a b lines added s t r taken at row left own was parts filed none lon
 }
   where
     stays : (n : ℕ) → 0 < times n (numbers_in taken) → times n row ≡ 0
-    stays n some = omega (arith, some, parts n, was.all n, filled-most s.core.rows.items n)
+    stays n some = omega (arith, some, parts n, was.all n, filled-most s.core.subparsers n)
 
-    later : (input : Input) → AreWaiting a input at s.core.rows.items (numbers_in r) → AreWaiting a input (at + 1) s.core.rows.items (numbers_in taken)
+    later : (input : Input) → AreWaiting a input at s.core.subparsers (numbers_in r) → AreWaiting a input (at + 1) s.core.subparsers (numbers_in taken)
     later input waits =
-        each-then (λ x. IsWaiting a input at x × IsFrom (at + 1) x) (IsWaiting a input (at + 1)) s.core.rows.items (numbers_in taken)
+        each-then (λ x. IsWaiting a input at x × IsFrom (at + 1) x) (IsWaiting a input (at + 1)) s.core.subparsers (numbers_in taken)
         (λ x both. waiting-later a input at both.1.0 x both.0 both.1.1.1 (omega (arith, both.1.1.0)))
-        (each-both (IsWaiting a input at) (IsFrom (at + 1)) s.core.rows.items (numbers_in taken)
-        (each-of (IsWaiting a input at) s.core.rows.items (numbers_in r) (numbers_in taken) waits (λ n empty. omega (arith, empty, parts n)))
-        (rows-from s.core.rows.items taken (at + 1) filed none))
+        (each-both (IsWaiting a input at) (IsFrom (at + 1)) s.core.subparsers (numbers_in taken)
+        (each-of (IsWaiting a input at) s.core.subparsers (numbers_in r) (numbers_in taken) waits (λ n empty. omega (arith, empty, parts n)))
+        (rows-from s.core.subparsers taken (at + 1) filed none))
 
 pub turn-next : {a b : Sets} {lines added : List Line} {s t : Steps} {r now : Rows} {at : ℕ} {items : List ℕ} {m : ℕ} {left : List ℕ} → items ≡ m ∷ left
     → ArePutBack a b lines added s t r now at items → ArePutBack a b lines added s t r now at (m ∷ left)
 turn-next {a} {b} {lines} {added} {s} {t} {r} {now} {at} is was = subst (ArePutBack a b lines added s t r now at) is was
 
 module _ {a b : Sets} {lines added : List Line} {s t : Steps} {r now : Rows} {at m : ℕ} {left : List ℕ} (was : ArePutBack a b lines added s t r now at (m ∷ left)) where
-  pub next-numbers : AreNumbers t.core.rows.items (m ∷ numbers_in now)
+  pub next-numbers : AreNumbers t.core.subparsers (m ∷ numbers_in now)
   next-numbers = record { once = λ n. omega (arith, was.all n) }
 
-  pub next-between : Each (IsBetween (at + 1)) t.core.rows.items (m ∷ [])
-  next-between = All-cons (λ n. (x : Subparser) × (Has t.core.rows.items n x × IsBetween (at + 1) x)) m []
-      (All-head (λ n. (x : Subparser) × (Has t.core.rows.items n x × IsBetween (at + 1) x)) m left was.between) (All-nil (λ n. (x : Subparser) × (Has t.core.rows.items n x × IsBetween (at + 1) x)))
+  pub next-between : Each (IsBetween (at + 1)) t.core.subparsers (m ∷ [])
+  next-between = All-cons (λ n. (x : Subparser) × (Has t.core.subparsers n x × IsBetween (at + 1) x)) m []
+      (All-head (λ n. (x : Subparser) × (Has t.core.subparsers n x × IsBetween (at + 1) x)) m left was.between) (All-nil (λ n. (x : Subparser) × (Has t.core.subparsers n x × IsBetween (at + 1) x)))
 
   pub next-waits : (names files : List (List ℕ)) (input : Input) (first : core.Core) → IsAtPlace (tables_with a lines names files) input first s r at
-      → AreWaiting b input (at + 1) t.core.rows.items (numbers_in now)
+      → AreWaiting b input (at + 1) t.core.subparsers (numbers_in now)
   next-waits names files input first place =
       let run = was.goes.run names files input first place.run in
       was.waiting names files input first place (place-within b added m (at + 1) t names files input first was.goes.own run next-between)
 
   pub turn-more : (c : Sets) (more : List Line) (u : Steps) (after : Rows) → GoesOn b c added more (at + 1) t u
-      → Replaces t.core.rows.items u.core.rows.items (m ∷ numbers_in now) (numbers_in after) → AreFiled u.core.rows.items after → HasNoneBefore after (at + 1)
+      → Replaces t.core.subparsers u.core.subparsers (m ∷ numbers_in now) (numbers_in after) → AreFiled u.core.subparsers after → HasNoneBefore after (at + 1)
       → length after.rows.items ≡ length now.rows.items → after.branches ≡ now.branches
-      → ((names files : List (List ℕ)) (input : Input) (first : core.Core) → IsRun (tables_with b added names files) input first t → AreWaiting b input (at + 1) t.core.rows.items (numbers_in now)
-      → AreWaiting c input (at + 1) u.core.rows.items (numbers_in after))
+      → ((names files : List (List ℕ)) (input : Input) (first : core.Core) → IsRun (tables_with b added names files) input first t → AreWaiting b input (at + 1) t.core.subparsers (numbers_in now)
+      → AreWaiting c input (at + 1) u.core.subparsers (numbers_in after))
       → ArePutBack a c lines more s u r after at left
   turn-more c more u after goes replaces filed none long limit waits = record {
     goes = goes-then a b c lines added more (at + 1) s t u was.goes goes;
@@ -220,9 +220,9 @@ module _ {a b : Sets} {lines added : List Line} {s t : Steps} {r now : Rows} {at
     done = none;
     long = long ∙ was.long ∙ ap (λ (x : Source). length x.list.now + 1) (sym goes.source);
     limit = limit ∙ was.limit;
-    between = each-kept (IsBetween (at + 1)) t.core.rows.items u.core.rows.items (m ∷ numbers_in now) (numbers_in after) left replaces
-        (All-tail (λ n. (x : Subparser) × (Has t.core.rows.items n x × IsBetween (at + 1) x)) m left was.between)
-        (λ n some. omega (arith, some, was.all n, filled-most t.core.rows.items n));
+    between = each-kept (IsBetween (at + 1)) t.core.subparsers u.core.subparsers (m ∷ numbers_in now) (numbers_in after) left replaces
+        (All-tail (λ n. (x : Subparser) × (Has t.core.subparsers n x × IsBetween (at + 1) x)) m left was.between)
+        (λ n some. omega (arith, some, was.all n, filled-most t.core.subparsers n));
     waiting = λ names files input first place within.
         waits names files input first (was.goes.run names files input first place.run) (was.waiting names files input first place within);
   }
@@ -247,8 +247,8 @@ module _ {a b : Sets} {lines added : List Line} {s t : Steps} {r now : Rows} {at
       run : IsRun (tables_with b added names files) input first t
       run = was.goes.run names files input first place.run
 
-      ended : at + 1 < length input.items + 1 → HaveEndedBefore b input (at + 1) t.core.ended.items
-      ended within = was.goes.ended names files input first place.run within (ended-later a input at s.core.ended.items (place.ended (omega (arith, within))))
+      ended : at + 1 < length input.items + 1 → HaveEndedBefore b input (at + 1) t.core.ended
+      ended within = was.goes.ended names files input first place.run within (ended-later a input at s.core.ended (place.ended (omega (arith, within))))
 
       places : (k : ℕ) → k ≤ at + 1 → k < length input.items + 1 → HasPlace input first (map event_of t.events.items) k
       places k up within = elim (cases_lt k (at + 1)) [

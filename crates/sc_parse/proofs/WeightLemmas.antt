@@ -27,7 +27,7 @@ use Rattle.lr_tables.specs.Paths.{Path, above, lowest, top}
 use Rattle.sc_fork.proofs.ProductionLemmas.{is-grammar, reduction-of}
 use Rattle.lr_tables.proofs.Members.{passes}
 use Rattle.sc_fork.specs.declared.event.Event.TheVariants.{Reduce}
-use Rattle.sc_fork.specs.declared.fork.Core.{Core}
+use Rattle.sc_fork.specs.View.{View, states_in}
 use Rattle.sc_fork.specs.declared.piece.Piece.{Piece}
 use Rattle.sc_fork.specs.declared.piece.Piece.TheVariants.{Going, Over}
 use Rattle.sc_fork.specs.declared.source.Source.{Source}
@@ -53,7 +53,6 @@ use Rattle.sc_parse.specs.declared.steps.Steps.{Steps}
 use Rattle.sc_parse.specs.Numbers.{AreLike, AreNumbers, Each, IsAt, IsLikeOne, IsReady, Replaces, times}
 use Rattle.sc_parse.specs.Runs.{GoesOn, IsBefore, OwnsSteps}
 use Rattle.sc_parse.specs.Weights.{AreBelow, AreWeighed, HasWeight, IsRanked, IsReducing, IsWeighed, Moves, number_of, numbers_of, rank_of}
-use Rattle.sc_stack.specs.Entries.{states_of}
 use Rattle.sc_tree.specs.Lines.{Line, OwnsBranches}
 
 abbrev Entry : Type 0
@@ -262,7 +261,7 @@ pub first-ranked : (sets : Sets) (count : ℕ) (source : Source) (s : Subparser)
 first-ranked sets count source s own = record {
   path = λ c11.
       let on = own.path c11 in
-      (on.symbols, (on.path, rank-most c11.are.grammar c11.are.entries c11.are.terminals c11.are.nonterminals c11.states (states_of s.stack) on.symbols on.path));
+      (on.symbols, (on.path, rank-most c11.are.grammar c11.are.entries c11.are.terminals c11.are.nonterminals c11.states (states_in s) on.symbols on.path));
 }
 
 -- the left side of a production has a lower rank than one symbol that is the whole right side
@@ -316,15 +315,15 @@ module _ (source : Source) (j p : ℕ) (s t : Subparser) (by : IsReducedBy sourc
   unit-lowers c11 rank ranked one =
       let sides = by.sides c11 in
       let path = ranked.path c11 in
-      let same = same_symbols c11.are.grammar c11.states (states_of s.stack) sides.symbols path.0 sides.was path.1.0 in
+      let same = same_symbols c11.are.grammar c11.states (states_in s) sides.symbols path.0 sides.was path.1.0 in
       unit-falls by.rule.left rank by.rule.right path.0 one (rule-falls p by.rule by.numbered).1
       (subst (λ symbols. slice_get symbols 0 ≡ option_map (symbol_number 96) (slice_get by.rule.right 0)) same (sides.alone one)) path.1.1
 
   pub lighter : HasC11Tables source.tables.now → (rank : ℕ) → IsRanked source rank s
-      → 101 * length (states_of t.stack) + by.rule.left < 101 * length (states_of s.stack) + rank
+      → 101 * length (states_in t) + by.rule.left < 101 * length (states_in s) + rank
   lighter c11 rank ranked = sized (length by.rule.right) refl
     where
-      sized : (n : ℕ) → length by.rule.right ≡ n → 101 * length (states_of t.stack) + by.rule.left < 101 * length (states_of s.stack) + rank
+      sized : (n : ℕ) → length by.rule.right ≡ n → 101 * length (states_in t) + by.rule.left < 101 * length (states_in s) + rank
       sized zero is = absurd (omega (arith, is, by.some))
       sized (suc zero) is = let less = unit-lowers c11 rank ranked is in omega (arith, is, less, by.height)
       sized (suc (suc n)) is = let low = (rule-falls p by.rule by.numbered).0 in omega (arith, is, low, by.height)
@@ -365,20 +364,20 @@ one-reduction source s i j p q same first second =
     cc
 
 -- each subparser that a reduction makes is reduced by the production
-pub made-reduced : (before after : Core) (n : ℕ) (made : List ℕ) (s : Subparser) (j p : ℕ) → HasMade before (Reduce n) after made → Has before.rows.items n s → s.phase ≡ At j
-    → action_in before.source s j ≡ Some (Reduction p) → Each (IsReducedBy before.source j p s) after.rows.items made
+pub made-reduced : (before after : View) (n : ℕ) (made : List ℕ) (s : Subparser) (j p : ℕ) → HasMade before (Reduce n) after made → Has before.subparsers n s → s.phase ≡ At j
+    → action_in before.source s j ≡ Some (Reduction p) → Each (IsReducedBy before.source j p s) after.subparsers made
 made-reduced before after n made s j p has there phase action =
-    let of = of-one before.source before.rows.items n has.pieces s there has.makes in
+    let of = of-one before.source before.subparsers n has.pieces s there has.makes in
     let at : of.j ≡ j = one-at s of.j j of.phase phase in
     let same : of.p ≡ p = one-reduction before.source s of.j j of.p p at of.action action in
-    subst (λ q. Each (IsReducedBy before.source j q s) after.rows.items made) same
-    (subst (λ i. Each (IsReducedBy before.source i of.p s) after.rows.items made) at
+    subst (λ q. Each (IsReducedBy before.source j q s) after.subparsers made) same
+    (subst (λ i. Each (IsReducedBy before.source i of.p s) after.subparsers made) at
     (made-each (IsReducedBy before.source of.j of.p s) before after (Reduce n) made has of.each))
 
-pub made-few : (before after : Core) (n : ℕ) (made : List ℕ) (s : Subparser) → HasMade before (Reduce n) after made → Has before.rows.items n s → length made ≤ 1
+pub made-few : (before after : View) (n : ℕ) (made : List ℕ) (s : Subparser) → HasMade before (Reduce n) after made → Has before.subparsers n s → length made ≤ 1
 made-few before after n made s has there =
-    let of = of-one before.source before.rows.items n has.pieces s there has.makes in
-    subst (λ ns. length ns ≤ 1) (sym has.becomes.numbers) (subst (λ k. k ≤ 1) (sym (long (length before.rows.items) (length (going_of has.pieces)))) of.one)
+    let of = of-one before.source before.subparsers n has.pieces s there has.makes in
+    subst (λ ns. length ns ≤ 1) (sym has.becomes.numbers) (subst (λ k. k ≤ 1) (sym (long (length before.subparsers) (length (going_of has.pieces)))) of.one)
   where
     long : (a n : ℕ) → length (range_with_len a n) ≡ n
     long a zero = refl
@@ -416,22 +415,22 @@ each-then-others P old new gone news others whole ends replaces are counts comes
     (each-of P old whole others each (λ n none. let a = counts n in omega (arith, a, none)))))
     (λ n none. let t = times-append n news others in let b = comes n in omega (arith, t, b, none))
 
-pub moves-nowhere : (sets : Sets) (lines : List Line) (j : ℕ) (s : Steps) (ns : List ℕ) → OwnsSteps sets (length lines) s → OwnsBranches sets lines → Each (IsAt j) s.core.rows.items ns
+pub moves-nowhere : (sets : Sets) (lines : List Line) (j : ℕ) (s : Steps) (ns : List ℕ) → OwnsSteps sets (length lines) s → OwnsBranches sets lines → Each (IsAt j) s.core.subparsers ns
     → Moves sets sets lines lines j s s ns ns
 moves-nowhere sets lines j s ns own branches at = record {
   goes_on = goes-nowhere sets lines (j + 1) s own branches;
-  replaces = replaces-same s.core.rows.items ns;
+  replaces = replaces-same s.core.subparsers ns;
   at = at;
 }
 
-pub moves-then : (a b c : Sets) (one two three : List Line) (j : ℕ) (s t u : Steps) (all whole gone news others ends : List ℕ) → Moves a b one two j s t all whole → AreNumbers t.core.rows.items whole
-    → GoesOn b c two three (j + 1) t u → Replaces t.core.rows.items u.core.rows.items gone news → ((n : ℕ) → times n whole ≡ times n gone + times n others)
-    → ((n : ℕ) → times n ends ≡ times n news + times n others) → Each (IsAt j) u.core.rows.items news → Moves a c one three j s u all ends
+pub moves-then : (a b c : Sets) (one two three : List Line) (j : ℕ) (s t u : Steps) (all whole gone news others ends : List ℕ) → Moves a b one two j s t all whole → AreNumbers t.core.subparsers whole
+    → GoesOn b c two three (j + 1) t u → Replaces t.core.subparsers u.core.subparsers gone news → ((n : ℕ) → times n whole ≡ times n gone + times n others)
+    → ((n : ℕ) → times n ends ≡ times n news + times n others) → Each (IsAt j) u.core.subparsers news → Moves a c one three j s u all ends
 moves-then a b c one two three j s t u all whole gone news others ends first are goes replaces counts comes at = record {
   goes_on = goes-then a b c one two three (j + 1) s t u first.goes_on goes;
-  replaces = replaces-then s.core.rows.items t.core.rows.items u.core.rows.items all whole gone news all ends first.replaces replaces
+  replaces = replaces-then s.core.subparsers t.core.subparsers u.core.subparsers all whole gone news all ends first.replaces replaces
       (λ n. let x = counts n in let y = comes n in omega (arith, x, y)) (λ n none. none) (λ n none without. let x = counts n in omega (arith, x, without));
-  at = each-then-others (IsAt j) t.core.rows.items u.core.rows.items gone news others whole ends replaces are counts comes first.at at;
+  at = each-then-others (IsAt j) t.core.subparsers u.core.subparsers gone news others whole ends replaces are counts comes first.at at;
 }
 
 -- ---- one reduction
@@ -445,9 +444,9 @@ tail-of : (P : Subparser → Type 0) (rows : List (Option Subparser)) (n : ℕ) 
 tail-of P rows n ns each = All-tail (λ m. (t : Subparser) × (Has rows m t × P t)) n ns each
 
 -- the number of a production by which a subparser is reduced
-pub reduction-number : (sets : Sets) (count : ℕ) (s : Steps) (n p : ℕ) → OwnsSteps sets count s → Each (IsReducing s.core.source p) s.core.rows.items (n ∷ []) → (1 ≤ p) × (p ≤ 288)
+pub reduction-number : (sets : Sets) (count : ℕ) (s : Steps) (n p : ℕ) → OwnsSteps sets count s → Each (IsReducing s.core.source p) s.core.subparsers (n ∷ []) → (1 ≤ p) × (p ≤ 288)
 reduction-number sets count s n p own each =
-    let h = All-head (λ m. (t : Subparser) × (Has s.core.rows.items m t × IsReducing s.core.source p t)) n [] each in
+    let h = All-head (λ m. (t : Subparser) × (Has s.core.subparsers m t × IsReducing s.core.source p t)) n [] each in
     let row = row-owned sets count s n h.0 own h.1.0 in
     let c11 = own.core.source.tables in
     let r = reduction-of s.core.source h.0 h.1.1.at p own.core.source c11 (row.path c11) h.1.1.action in
@@ -462,7 +461,7 @@ before-next rows n ns j each = λ s has. let e = ap (λ (phase : Phase). index_o
 
 -- by this rank the subparser is below the weight
 abbrev pub IsLighter : ℕ → Weight → Subparser → Type 0
-IsLighter rank w s = 101 * length (states_of s.stack) + rank < number_of w
+IsLighter rank w s = 101 * length (states_in s) + rank < number_of w
 
 -- A subparser was reduced. What has come of it and is left has this rank, and the others wait.
 pub record HasReduced (old new : Sets) (lines added : List Line) (before after : Steps) (number : ℕ) (waited : List Entry) (rank : ℕ) (left : List ℕ) (waiting : List Entry) : Type 0 where
@@ -470,38 +469,38 @@ pub record HasReduced (old new : Sets) (lines added : List Line) (before after :
   pub branches : OwnsBranches new added
   pub keeps : Keeps old new
   pub grows : Extends lines added
-  pub numbers : AreNumbers after.core.rows.items (left ++ numbers_of waiting)
-  pub weighed : AreWeighed after.core.source after.core.rows.items waiting
-  pub ranked : Each (IsRanked after.core.source rank) after.core.rows.items left
-  pub moves : (j : ℕ) → Each (IsAt j) before.core.rows.items (number ∷ numbers_of waited)
+  pub numbers : AreNumbers after.core.subparsers (left ++ numbers_of waiting)
+  pub weighed : AreWeighed after.core.source after.core.subparsers waiting
+  pub ranked : Each (IsRanked after.core.source rank) after.core.subparsers left
+  pub moves : (j : ℕ) → Each (IsAt j) before.core.subparsers (number ∷ numbers_of waited)
       → Moves old new lines added j before after (number ∷ numbers_of waited) (left ++ numbers_of waiting)
-  pub below : (w : Weight) → Each (HasWeight before.core.source w) before.core.rows.items (number ∷ []) → AreBelow (number_of w) waited
-      → AreBelow (number_of w) waiting × Each (IsLighter rank w) after.core.rows.items left
+  pub below : (w : Weight) → Each (HasWeight before.core.source w) before.core.subparsers (number ∷ []) → AreBelow (number_of w) waited
+      → AreBelow (number_of w) waiting × Each (IsLighter rank w) after.core.subparsers left
 
 module _ (old new : Sets) (lines added : List Line) (s t : Steps) (n p : ℕ) (rule : Production) (es : List Entry) (made : List ℕ) (own : OwnsSteps old (length lines) s) (branches : OwnsBranches old lines)
-    (numbers : AreNumbers s.core.rows.items (n ∷ numbers_of es)) (j : ℕ) (at : Each (IsAt j) s.core.rows.items (n ∷ numbers_of es)) (weighed : AreWeighed s.core.source s.core.rows.items es)
-    (reducing : Each (IsReducing s.core.source p) s.core.rows.items (n ∷ [])) (numbered : slice_get productions (p - 1) ≡ Some rule) (has : HasMade s.core (Reduce n) t.core made)
-    (goes : (place : ℕ) → IsBefore s.core.rows.items place (Reduce n) → GoesOn old new lines added place s t) where
-  replaced : Replaces s.core.rows.items t.core.rows.items (n ∷ []) made
-  replaced = event-replaces s.core t.core (Reduce n) made has (fewer-numbers s.core.rows.items (n ∷ numbers_of es) (n ∷ []) numbers (λ m. omega arith))
+    (numbers : AreNumbers s.core.subparsers (n ∷ numbers_of es)) (j : ℕ) (at : Each (IsAt j) s.core.subparsers (n ∷ numbers_of es)) (weighed : AreWeighed s.core.source s.core.subparsers es)
+    (reducing : Each (IsReducing s.core.source p) s.core.subparsers (n ∷ [])) (numbered : slice_get productions (p - 1) ≡ Some rule) (has : HasMade s.core (Reduce n) t.core made)
+    (goes : (place : ℕ) → IsBefore s.core.subparsers place (Reduce n) → GoesOn old new lines added place s t) where
+  replaced : Replaces s.core.subparsers t.core.subparsers (n ∷ []) made
+  replaced = event-replaces s.core t.core (Reduce n) made has (fewer-numbers s.core.subparsers (n ∷ numbers_of es) (n ∷ []) numbers (λ m. omega arith))
 
   counts : (m : ℕ) → times m (n ∷ numbers_of es) ≡ times m (n ∷ []) + times m (numbers_of es)
   counts m = omega arith
 
-  parent : (x : Subparser) × (Has s.core.rows.items n x × IsReducing s.core.source p x)
-  parent = All-head (λ m. (x : Subparser) × (Has s.core.rows.items m x × IsReducing s.core.source p x)) n [] reducing
+  parent : (x : Subparser) × (Has s.core.subparsers n x × IsReducing s.core.source p x)
+  parent = All-head (λ m. (x : Subparser) × (Has s.core.subparsers m x × IsReducing s.core.source p x)) n [] reducing
 
-  each-reduced : Each (IsReducedBy s.core.source parent.1.1.at p parent.0) t.core.rows.items made
+  each-reduced : Each (IsReducedBy s.core.source parent.1.1.at p parent.0) t.core.subparsers made
   each-reduced = made-reduced s.core t.core n made parent.0 parent.1.1.at p has parent.1.0 parent.1.1.phase parent.1.1.action
 
   same-rule : (x : Subparser) (by : IsReducedBy s.core.source parent.1.1.at p parent.0 x) → by.rule.left ≡ rule.left
   same-rule x by = ap (λ (q : Production). q.left) (same_Some by.rule rule (sym by.numbered ∙ numbered))
 
   went : GoesOn old new lines added (j + 1) s t
-  went = goes (j + 1) (before-next s.core.rows.items n (numbers_of es) j at)
+  went = goes (j + 1) (before-next s.core.subparsers n (numbers_of es) j at)
 
-  at-of : (i : ℕ) → Each (IsAt i) s.core.rows.items (n ∷ numbers_of es) → (x : Subparser) → IsReducedBy s.core.source parent.1.1.at p parent.0 x → IsAt i x
-  at-of i each x by = by.phase ∙ ap At (one-at parent.0 parent.1.1.at i parent.1.1.phase (at-number (IsAt i) s.core.rows.items n (numbers_of es) parent.0 parent.1.0 each))
+  at-of : (i : ℕ) → Each (IsAt i) s.core.subparsers (n ∷ numbers_of es) → (x : Subparser) → IsReducedBy s.core.source parent.1.1.at p parent.0 x → IsAt i x
+  at-of i each x by = by.phase ∙ ap At (one-at parent.0 parent.1.1.at i parent.1.1.phase (at-number (IsAt i) s.core.subparsers n (numbers_of es) parent.0 parent.1.0 each))
 
   pub reduced-first : HasReduced old new lines added s t n es rule.left made es
   reduced-first = record {
@@ -509,21 +508,21 @@ module _ (old new : Sets) (lines added : List Line) (s t : Steps) (n p : ℕ) (r
     branches = went.branches;
     keeps = went.keeps;
     grows = went.grows;
-    numbers = numbers-then s.core.rows.items t.core.rows.items (n ∷ []) made (numbers_of es) (n ∷ numbers_of es) (made ++ numbers_of es) replaced numbers counts (λ m. times-append m made (numbers_of es));
-    weighed = subst (λ source. AreWeighed source t.core.rows.items es) (sym went.source)
-        (weighed-then s.core.source s.core.rows.items t.core.rows.items (n ∷ []) made (n ∷ numbers_of es) es replaced numbers (λ m. omega arith) weighed);
-    ranked = subst (λ source. Each (IsRanked source rule.left) t.core.rows.items made) (sym went.source)
-        (each-then (IsReducedBy s.core.source parent.1.1.at p parent.0) (IsRanked s.core.source rule.left) t.core.rows.items made
+    numbers = numbers-then s.core.subparsers t.core.subparsers (n ∷ []) made (numbers_of es) (n ∷ numbers_of es) (made ++ numbers_of es) replaced numbers counts (λ m. times-append m made (numbers_of es));
+    weighed = subst (λ source. AreWeighed source t.core.subparsers es) (sym went.source)
+        (weighed-then s.core.source s.core.subparsers t.core.subparsers (n ∷ []) made (n ∷ numbers_of es) es replaced numbers (λ m. omega arith) weighed);
+    ranked = subst (λ source. Each (IsRanked source rule.left) t.core.subparsers made) (sym went.source)
+        (each-then (IsReducedBy s.core.source parent.1.1.at p parent.0) (IsRanked s.core.source rule.left) t.core.subparsers made
         (λ x by. subst (λ rank. IsRanked s.core.source rank x) (same-rule x by) (reduced-ranked s.core.source parent.1.1.at p parent.0 x by)) each-reduced);
     moves = λ i each.
         moves-then old old new lines lines added i s s t (n ∷ numbers_of es) (n ∷ numbers_of es) (n ∷ []) made (numbers_of es) (made ++ numbers_of es) (moves-nowhere old lines i s (n ∷ numbers_of es) own branches each) numbers
-        (goes (i + 1) (before-next s.core.rows.items n (numbers_of es) i each)) replaced counts (λ m. times-append m made (numbers_of es))
-        (each-then (IsReducedBy s.core.source parent.1.1.at p parent.0) (IsAt i) t.core.rows.items made (at-of i each) each-reduced);
+        (goes (i + 1) (before-next s.core.subparsers n (numbers_of es) i each)) replaced counts (λ m. times-append m made (numbers_of es))
+        (each-then (IsReducedBy s.core.source parent.1.1.at p parent.0) (IsAt i) t.core.subparsers made (at-of i each) each-reduced);
     below = λ w heavy low. (
       low,
-      each-then (IsReducedBy s.core.source parent.1.1.at p parent.0) (IsLighter rule.left w) t.core.rows.items made
+      each-then (IsReducedBy s.core.source parent.1.1.at p parent.0) (IsLighter rule.left w) t.core.subparsers made
           (λ x by.
-          let weight = at-number (HasWeight s.core.source w) s.core.rows.items n [] parent.0 parent.1.0 heavy in
+          let weight = at-number (HasWeight s.core.source w) s.core.subparsers n [] parent.0 parent.1.0 heavy in
           let less = lighter s.core.source parent.1.1.at p parent.0 x by own.core.source.tables w.rank weight.ranked in
           let height = weight.height in
           let left = same-rule x by in
@@ -533,19 +532,19 @@ module _ (old new : Sets) (lines added : List Line) (s t : Steps) (n p : ℕ) (r
   }
 
 module _ (a b c : Sets) (one two three : List Line) (s t u : Steps) (n : ℕ) (waited : List Entry) (rank m : ℕ) (rest : List ℕ) (es new : List Entry) (h : HasReduced a b one two s t n waited rank (m ∷ rest) es)
-    (goes : (place : ℕ) → GoesOn b c two three place t u) (replaces : Replaces t.core.rows.items u.core.rows.items (m ∷ numbers_of es) (numbers_of new)) (weighed : AreWeighed u.core.source u.core.rows.items new)
-    (at : (j : ℕ) → Each (IsAt j) t.core.rows.items (m ∷ numbers_of es) → Each (IsAt j) u.core.rows.items (numbers_of new))
-    (below : (bound : ℕ) (x : Subparser) → Has t.core.rows.items m x → AreBelow bound es → 101 * length (states_of x.stack) + rank < bound → AreBelow bound new) where
+    (goes : (place : ℕ) → GoesOn b c two three place t u) (replaces : Replaces t.core.subparsers u.core.subparsers (m ∷ numbers_of es) (numbers_of new)) (weighed : AreWeighed u.core.source u.core.subparsers new)
+    (at : (j : ℕ) → Each (IsAt j) t.core.subparsers (m ∷ numbers_of es) → Each (IsAt j) u.core.subparsers (numbers_of new))
+    (below : (bound : ℕ) (x : Subparser) → Has t.core.subparsers m x → AreBelow bound es → 101 * length (states_in x) + rank < bound → AreBelow bound new) where
   counts-2 : (k : ℕ) → times k ((m ∷ rest) ++ numbers_of es) ≡ times k (m ∷ numbers_of es) + times k rest
   counts-2 k = let e = times-append k (m ∷ rest) (numbers_of es) in omega (arith, e)
 
   comes-2 : (k : ℕ) → times k (rest ++ numbers_of new) ≡ times k (numbers_of new) + times k rest
   comes-2 k = let e = times-append k rest (numbers_of new) in omega (arith, e)
 
-  kept-2 : (P : Subparser → Type 0) → Each P t.core.rows.items (m ∷ rest) → Each P u.core.rows.items rest
+  kept-2 : (P : Subparser → Type 0) → Each P t.core.subparsers (m ∷ rest) → Each P u.core.subparsers rest
   kept-2 P each =
-      others-kept P t.core.rows.items u.core.rows.items (m ∷ numbers_of es) (numbers_of new) rest ((m ∷ rest) ++ numbers_of es) replaces h.numbers
-      (λ k. let e = counts-2 k in omega (arith, e)) (tail-of P t.core.rows.items m rest each)
+      others-kept P t.core.subparsers u.core.subparsers (m ∷ numbers_of es) (numbers_of new) rest ((m ∷ rest) ++ numbers_of es) replaces h.numbers
+      (λ k. let e = counts-2 k in omega (arith, e)) (tail-of P t.core.subparsers m rest each)
 
   pub reduced-next : HasReduced a c one three s u n waited rank rest new
   reduced-next = record {
@@ -553,17 +552,17 @@ module _ (a b c : Sets) (one two three : List Line) (s t u : Steps) (n : ℕ) (w
     branches = (goes 0).branches;
     keeps = Keeps-trans h.keeps (goes 0).keeps;
     grows = Extends-trans h.grows (goes 0).grows;
-    numbers = numbers-then t.core.rows.items u.core.rows.items (m ∷ numbers_of es) (numbers_of new) rest ((m ∷ rest) ++ numbers_of es) (rest ++ numbers_of new) replaces h.numbers counts-2 comes-2;
+    numbers = numbers-then t.core.subparsers u.core.subparsers (m ∷ numbers_of es) (numbers_of new) rest ((m ∷ rest) ++ numbers_of es) (rest ++ numbers_of new) replaces h.numbers counts-2 comes-2;
     weighed = weighed;
-    ranked = subst (λ source. Each (IsRanked source rank) u.core.rows.items rest) (sym (goes 0).source) (kept-2 (IsRanked t.core.source rank) h.ranked);
+    ranked = subst (λ source. Each (IsRanked source rank) u.core.subparsers rest) (sym (goes 0).source) (kept-2 (IsRanked t.core.source rank) h.ranked);
     moves = λ j each.
         let first = h.moves j each in
         moves-then a b c one two three j s t u (n ∷ numbers_of waited) ((m ∷ rest) ++ numbers_of es) (m ∷ numbers_of es) (numbers_of new) rest (rest ++ numbers_of new) first h.numbers
         (goes (j + 1)) replaces counts-2 comes-2
-        (at j (each-of (IsAt j) t.core.rows.items ((m ∷ rest) ++ numbers_of es) (m ∷ numbers_of es) first.at (λ k none. let e = counts-2 k in omega (arith, e, none))));
+        (at j (each-of (IsAt j) t.core.subparsers ((m ∷ rest) ++ numbers_of es) (m ∷ numbers_of es) first.at (λ k none. let e = counts-2 k in omega (arith, e, none))));
     below = λ w heavy low.
         let first = h.below w heavy low in
-        let head = All-head (λ k. (x : Subparser) × (Has t.core.rows.items k x × IsLighter rank w x)) m rest first.1 in
+        let head = All-head (λ k. (x : Subparser) × (Has t.core.subparsers k x × IsLighter rank w x)) m rest first.1 in
         (below (number_of w) head.0 head.1.0 first.0 head.1.1, kept-2 (IsLighter rank w) first.1);
   }
 
@@ -580,17 +579,17 @@ pub record HasTaken (old new : Sets) (lines added : List Line) (before after : S
   pub branches : OwnsBranches new added
   pub keeps : Keeps old new
   pub grows : Extends lines added
-  pub numbers : AreNumbers after.core.rows.items (ready ++ (left ++ numbers_of waiting))
-  pub weighed : AreWeighed after.core.source after.core.rows.items waiting
-  pub moves : (j : ℕ) → Each (IsAt j) before.core.rows.items (was_ready ++ (heaviest ++ numbers_of waited))
+  pub numbers : AreNumbers after.core.subparsers (ready ++ (left ++ numbers_of waiting))
+  pub weighed : AreWeighed after.core.source after.core.subparsers waiting
+  pub moves : (j : ℕ) → Each (IsAt j) before.core.subparsers (was_ready ++ (heaviest ++ numbers_of waited))
       → Moves old new lines added j before after (was_ready ++ (heaviest ++ numbers_of waited)) (ready ++ (left ++ numbers_of waiting))
-  pub are_ready : (j : ℕ) → Each (IsAt j) before.core.rows.items (was_ready ++ (heaviest ++ numbers_of waited)) → Each (IsReady before.core.source j) before.core.rows.items was_ready
-      → Each (IsReady after.core.source j) after.core.rows.items ready
-  pub below : (w : Weight) → Each (HasWeight before.core.source w) before.core.rows.items heaviest → AreBelow (number_of w) waited
-      → AreBelow (number_of w) waiting × Each (HasWeight after.core.source w) after.core.rows.items left
+  pub are_ready : (j : ℕ) → Each (IsAt j) before.core.subparsers (was_ready ++ (heaviest ++ numbers_of waited)) → Each (IsReady before.core.source j) before.core.subparsers was_ready
+      → Each (IsReady after.core.source j) after.core.subparsers ready
+  pub below : (w : Weight) → Each (HasWeight before.core.source w) before.core.subparsers heaviest → AreBelow (number_of w) waited
+      → AreBelow (number_of w) waiting × Each (HasWeight after.core.source w) after.core.subparsers left
 
 pub taken-first : (sets : Sets) (lines : List Line) (s : Steps) (ready heaviest left : List ℕ) (es : List Entry) → left ≡ heaviest → OwnsSteps sets (length lines) s → OwnsBranches sets lines
-    → AreNumbers s.core.rows.items (ready ++ (heaviest ++ numbers_of es)) → AreWeighed s.core.source s.core.rows.items es
+    → AreNumbers s.core.subparsers (ready ++ (heaviest ++ numbers_of es)) → AreWeighed s.core.source s.core.subparsers es
     → HasTaken sets sets lines lines s s ready heaviest es ready left es
 taken-first sets lines s ready heaviest left es same own branches numbers weighed =
     let G : GoesOn sets sets lines lines 0 s s = goes-nowhere sets lines 0 s own branches in
@@ -619,35 +618,35 @@ module _ (a b : Sets) (one two : List Line) (s t : Steps) (was_ready heaviest : 
   parts-3 k = let e = times-append k ready ((m ∷ rest) ++ numbers_of es) in let f = times-append k (m ∷ rest) (numbers_of es) in omega (arith, e, f)
 
   -- the one that comes next, and those that wait
-  pub next-numbers : AreNumbers t.core.rows.items (m ∷ numbers_of es)
-  next-numbers = fewer-numbers t.core.rows.items whole-3 (m ∷ numbers_of es) h.numbers (λ k. let e = parts-3 k in omega (arith, e))
+  pub next-numbers : AreNumbers t.core.subparsers (m ∷ numbers_of es)
+  next-numbers = fewer-numbers t.core.subparsers whole-3 (m ∷ numbers_of es) h.numbers (λ k. let e = parts-3 k in omega (arith, e))
 
-  pub next-at : (j : ℕ) → Each (IsAt j) s.core.rows.items all-3 → Each (IsAt j) t.core.rows.items (m ∷ numbers_of es)
-  next-at j each = each-of (IsAt j) t.core.rows.items whole-3 (m ∷ numbers_of es) (h.moves j each).at (λ k none. let e = parts-3 k in omega (arith, e, none))
+  pub next-at : (j : ℕ) → Each (IsAt j) s.core.subparsers all-3 → Each (IsAt j) t.core.subparsers (m ∷ numbers_of es)
+  next-at j each = each-of (IsAt j) t.core.subparsers whole-3 (m ∷ numbers_of es) (h.moves j each).at (λ k none. let e = parts-3 k in omega (arith, e, none))
 
   -- where its action is no reduction, it is ready
-  pub taken-ready : ((j : ℕ) (x : Subparser) → Has t.core.rows.items m x → IsAt j x → (p : ℕ) → action_in t.core.source x j ≡ Some (Reduction p) → ⊥)
+  pub taken-ready : ((j : ℕ) (x : Subparser) → Has t.core.subparsers m x → IsAt j x → (p : ℕ) → action_in t.core.source x j ≡ Some (Reduction p) → ⊥)
       → HasTaken a b one two s t was_ready heaviest waited (ready ++ m ∷ []) rest es
   taken-ready shifts = record {
     own = h.own;
     branches = h.branches;
     keeps = h.keeps;
     grows = h.grows;
-    numbers = fewer-numbers t.core.rows.items whole-3 ((ready ++ m ∷ []) ++ (rest ++ numbers_of es)) h.numbers (λ k. let e = same k in omega (arith, e));
+    numbers = fewer-numbers t.core.subparsers whole-3 ((ready ++ m ∷ []) ++ (rest ++ numbers_of es)) h.numbers (λ k. let e = same k in omega (arith, e));
     weighed = h.weighed;
     moves = λ j each.
         let first = h.moves j each in
         record {
           goes_on = first.goes_on;
           replaces = record { counts = λ k. let e = same k in let was = first.replaces.counts k in omega (arith, e, was); kept = first.replaces.kept };
-          at = each-of (IsAt j) t.core.rows.items whole-3 ((ready ++ m ∷ []) ++ (rest ++ numbers_of es)) first.at (λ k none. let e = same k in omega (arith, e, none));
+          at = each-of (IsAt j) t.core.subparsers whole-3 ((ready ++ m ∷ []) ++ (rest ++ numbers_of es)) first.at (λ k none. let e = same k in omega (arith, e, none));
         };
     are_ready = λ j each before.
-        let at = All-head (λ k. (x : Subparser) × (Has t.core.rows.items k x × IsAt j x)) m (numbers_of es) (next-at j each) in
-        let R : ℕ → Type 0 = λ k. (x : Subparser) × (Has t.core.rows.items k x × IsReady t.core.source j x) in
-        each-append (IsReady t.core.source j) t.core.rows.items ready (m ∷ []) (h.are_ready j each before)
+        let at = All-head (λ k. (x : Subparser) × (Has t.core.subparsers k x × IsAt j x)) m (numbers_of es) (next-at j each) in
+        let R : ℕ → Type 0 = λ k. (x : Subparser) × (Has t.core.subparsers k x × IsReady t.core.source j x) in
+        each-append (IsReady t.core.source j) t.core.subparsers ready (m ∷ []) (h.are_ready j each before)
         (All-cons R m [] (at.0, (at.1.0, record { at = at.1.1; shifts = shifts j at.0 at.1.0 at.1.1 })) (All-nil R));
-    below = λ w heavy low. let first = h.below w heavy low in (first.0, tail-of (HasWeight t.core.source w) t.core.rows.items m rest first.1);
+    below = λ w heavy low. let first = h.below w heavy low in (first.0, tail-of (HasWeight t.core.source w) t.core.subparsers m rest first.1);
   }
     where
       same : (k : ℕ) → times k ((ready ++ m ∷ []) ++ (rest ++ numbers_of es)) ≡ times k whole-3
@@ -658,9 +657,9 @@ module _ (a b : Sets) (one two : List Line) (s t : Steps) (was_ready heaviest : 
           let r = times-append k rest (numbers_of es) in
           omega (arith, e, f, o, r)
 
-  module _ (c : Sets) (three : List Line) (u : Steps) (new : List Entry) (i : ℕ) (each-i : Each (IsAt i) s.core.rows.items all-3)
-      (went : (j : ℕ) → Each (IsAt j) t.core.rows.items (m ∷ numbers_of es) → Moves b c two three j t u (m ∷ numbers_of es) (numbers_of new)) (weighed : AreWeighed u.core.source u.core.rows.items new)
-      (below : (w : Weight) → Each (HasWeight t.core.source w) t.core.rows.items (m ∷ []) → AreBelow (number_of w) es → AreBelow (number_of w) new) where
+  module _ (c : Sets) (three : List Line) (u : Steps) (new : List Entry) (i : ℕ) (each-i : Each (IsAt i) s.core.subparsers all-3)
+      (went : (j : ℕ) → Each (IsAt j) t.core.subparsers (m ∷ numbers_of es) → Moves b c two three j t u (m ∷ numbers_of es) (numbers_of new)) (weighed : AreWeighed u.core.source u.core.subparsers new)
+      (below : (w : Weight) → Each (HasWeight t.core.source w) t.core.subparsers (m ∷ []) → AreBelow (number_of w) es → AreBelow (number_of w) new) where
     went-i : Moves b c two three i t u (m ∷ numbers_of es) (numbers_of new)
     went-i = went i (next-at i each-i)
 
@@ -675,9 +674,9 @@ module _ (a b : Sets) (one two : List Line) (s t : Steps) (was_ready heaviest : 
         omega (arith, e, f, r)
 
     -- what is true of others stays true
-    kept-3 : (P : Subparser → Type 0) (ns : List ℕ) → ((k : ℕ) → times k ns ≤ times k (ready ++ rest)) → Each P t.core.rows.items ns → Each P u.core.rows.items ns
+    kept-3 : (P : Subparser → Type 0) (ns : List ℕ) → ((k : ℕ) → times k ns ≤ times k (ready ++ rest)) → Each P t.core.subparsers ns → Each P u.core.subparsers ns
     kept-3 P ns few each =
-        others-kept P t.core.rows.items u.core.rows.items (m ∷ numbers_of es) (numbers_of new) ns whole-3 went-i.replaces h.numbers
+        others-kept P t.core.subparsers u.core.subparsers (m ∷ numbers_of es) (numbers_of new) ns whole-3 went-i.replaces h.numbers
         (λ k. let e = counts-3 k in let f = few k in omega (arith, e, f)) each
 
     pub taken-reduced : HasTaken a c one three s u was_ready heaviest waited ready rest new
@@ -686,21 +685,21 @@ module _ (a b : Sets) (one two : List Line) (s t : Steps) (was_ready heaviest : 
       branches = went-i.goes_on.branches;
       keeps = Keeps-trans h.keeps went-i.goes_on.keeps;
       grows = Extends-trans h.grows went-i.goes_on.grows;
-      numbers = numbers-then t.core.rows.items u.core.rows.items (m ∷ numbers_of es) (numbers_of new) (ready ++ rest) whole-3 (ready ++ (rest ++ numbers_of new)) went-i.replaces h.numbers counts-3 comes-3;
+      numbers = numbers-then t.core.subparsers u.core.subparsers (m ∷ numbers_of es) (numbers_of new) (ready ++ rest) whole-3 (ready ++ (rest ++ numbers_of new)) went-i.replaces h.numbers counts-3 comes-3;
       weighed = weighed;
       moves = λ j each.
           let now = went j (next-at j each) in
           moves-then a b c one two three j s t u all-3 whole-3 (m ∷ numbers_of es) (numbers_of new) (ready ++ rest) (ready ++ (rest ++ numbers_of new)) (h.moves j each) h.numbers now.goes_on now.replaces
           counts-3 comes-3 now.at;
       are_ready = λ j each before.
-          subst (λ source. Each (IsReady source j) u.core.rows.items ready) (sym went-i.goes_on.source)
+          subst (λ source. Each (IsReady source j) u.core.subparsers ready) (sym went-i.goes_on.source)
           (kept-3 (IsReady t.core.source j) ready (λ k. let e = times-append k ready rest in omega (arith, e)) (h.are_ready j each before));
       below = λ w heavy low.
           let first = h.below w heavy low in
-          let N : ℕ → Type 0 = λ k. (x : Subparser) × (Has t.core.rows.items k x × HasWeight t.core.source w x) in (
+          let N : ℕ → Type 0 = λ k. (x : Subparser) × (Has t.core.subparsers k x × HasWeight t.core.source w x) in (
             below w (All-cons N m [] (All-head N m rest first.1) (All-nil N)) first.0,
-            subst (λ source. Each (HasWeight source w) u.core.rows.items rest) (sym went-i.goes_on.source)
-                (kept-3 (HasWeight t.core.source w) rest (λ k. let e = times-append k ready rest in omega (arith, e)) (tail-of (HasWeight t.core.source w) t.core.rows.items m rest first.1)),
+            subst (λ source. Each (HasWeight source w) u.core.subparsers rest) (sym went-i.goes_on.source)
+                (kept-3 (HasWeight t.core.source w) rest (λ k. let e = times-append k ready rest in omega (arith, e)) (tail-of (HasWeight t.core.source w) t.core.subparsers m rest first.1)),
           );
     }
 
@@ -735,7 +734,7 @@ reduction-enabled source rows n s j p _ has phase acts (no_reduction _ i t there
     other p (subst (λ k. action_in source t k ≡ Some (Reduction p)) here (subst (λ (z : Subparser). action_in source z j ≡ Some (Reduction p)) same acts))
 
 abbrev height_in : Option (Option Subparser) → ℕ
-height_in (Some (Some s)) = length (states_of s.stack)
+height_in (Some (Some s)) = length (states_in s)
 height_in _ = 0
 
 -- how high the stack of the subparser is
@@ -748,15 +747,15 @@ pub record IsAlone (old new : Sets) (lines added : List Line) (before after : St
   pub branches : OwnsBranches new added
   pub keeps : Keeps old new
   pub grows : Extends lines added
-  pub numbers : AreNumbers after.core.rows.items (number ∷ [])
-  pub ranked : Each (IsRanked after.core.source rank) after.core.rows.items (number ∷ [])
-  pub moves : (j : ℕ) → Each (IsAt j) before.core.rows.items (first ∷ []) → Moves old new lines added j before after (first ∷ []) (number ∷ [])
+  pub numbers : AreNumbers after.core.subparsers (number ∷ [])
+  pub ranked : Each (IsRanked after.core.source rank) after.core.subparsers (number ∷ [])
+  pub moves : (j : ℕ) → Each (IsAt j) before.core.subparsers (first ∷ []) → Moves old new lines added j before after (first ∷ []) (number ∷ [])
 
-pub first-alone : (sets : Sets) (lines : List Line) (s : Steps) (n : ℕ) → OwnsSteps sets (length lines) s → OwnsBranches sets lines → AreNumbers s.core.rows.items (n ∷ []) → IsAlone sets sets lines lines s s n n 100
+pub first-alone : (sets : Sets) (lines : List Line) (s : Steps) (n : ℕ) → OwnsSteps sets (length lines) s → OwnsBranches sets lines → AreNumbers s.core.subparsers (n ∷ []) → IsAlone sets sets lines lines s s n n 100
 first-alone sets lines s n own branches numbers =
     let G : GoesOn sets sets lines lines 0 s s = goes-nowhere sets lines 0 s own branches in
-    let there = first-number s.core.rows.items n [] numbers in
-    let R : ℕ → Type 0 = λ m. (x : Subparser) × (Has s.core.rows.items m x × IsRanked s.core.source 100 x) in
+    let there = first-number s.core.subparsers n [] numbers in
+    let R : ℕ → Type 0 = λ m. (x : Subparser) × (Has s.core.subparsers m x × IsRanked s.core.source 100 x) in
     record {
       own = own;
       branches = branches;
@@ -768,19 +767,19 @@ first-alone sets lines s n own branches numbers =
     }
 
 -- where one symbol is the whole right side, the rank of the subparser is higher than its left side
-pub rank-falls : (sets : Sets) (count : ℕ) (s : Steps) (n rank p : ℕ) (rule : Production) → OwnsSteps sets count s → Each (IsRanked s.core.source rank) s.core.rows.items (n ∷ [])
-    → Each (IsReducing s.core.source p) s.core.rows.items (n ∷ []) → slice_get productions (p - 1) ≡ Some rule → length rule.right ≤ 1 → rule.left < rank
+pub rank-falls : (sets : Sets) (count : ℕ) (s : Steps) (n rank p : ℕ) (rule : Production) → OwnsSteps sets count s → Each (IsRanked s.core.source rank) s.core.subparsers (n ∷ [])
+    → Each (IsReducing s.core.source p) s.core.subparsers (n ∷ []) → slice_get productions (p - 1) ≡ Some rule → length rule.right ≤ 1 → rule.left < rank
 rank-falls sets count s n rank p rule own ranked reducing numbered few =
-    let h = All-head (λ m. (t : Subparser) × (Has s.core.rows.items m t × IsReducing s.core.source p t)) n [] reducing in
+    let h = All-head (λ m. (t : Subparser) × (Has s.core.subparsers m t × IsReducing s.core.source p t)) n [] reducing in
     let row = row-owned sets count s n h.0 own h.1.0 in
     let c11 = own.core.source.tables in
     let on = row.path c11 in
-    let path = (at-number (IsRanked s.core.source rank) s.core.rows.items n [] h.0 h.1.0 ranked).path c11 in
+    let path = (at-number (IsRanked s.core.source rank) s.core.subparsers n [] h.0 h.1.0 ranked).path c11 in
     let r = reduction-of s.core.source h.0 h.1.1.at p own.core.source c11 on h.1.1.action in
     let same : r.production ≡ rule = same_Some r.production rule (sym r.at ∙ numbered) in
     let long : length r.production.right ≡ length rule.right = ap (λ (q : Production). length q.right) same in
     let some = r.not_empty in
-    let symbols = same_symbols c11.are.grammar c11.states (states_of h.0.stack) on.symbols path.0 on.path path.1.0 in
+    let symbols = same_symbols c11.are.grammar c11.states (states_in h.0) on.symbols path.0 on.path path.1.0 in
     unit-falls rule.left rank rule.right path.0 (omega (arith, some, few, long)) (rule-falls p rule numbered).1
     (subst (λ xs. slice_get xs 0 ≡ option_map (symbol_number 96) (slice_get rule.right 0)) symbols
     (subst (λ (q : Production). slice_get on.symbols 0 ≡ option_map (symbol_number 96) (slice_get q.right 0)) same (r.head (omega (arith, some, few, long)))))
@@ -789,7 +788,7 @@ rank-falls sets count s n rank p rule own ranked reducing numbered few =
 module _ (a b c : Sets) (one two three : List Line) (s t u : Steps) (first n rank left : ℕ) (made : List ℕ) (alone : IsAlone a b one two s t first n rank)
     (h : HasReduced b c two three t u n [] left made []) where
   -- what is made of the one subparser takes its place
-  pub alone-moves : (j : ℕ) → Each (IsAt j) s.core.rows.items (first ∷ []) → Moves a c one three j s u (first ∷ []) made
+  pub alone-moves : (j : ℕ) → Each (IsAt j) s.core.subparsers (first ∷ []) → Moves a c one three j s u (first ∷ []) made
   alone-moves j each =
       let before = alone.moves j each in
       let now = h.moves j before.at in
@@ -809,21 +808,21 @@ module _ (a b c : Sets) (one two three : List Line) (s t u : Steps) (first n ran
       branches = h.branches;
       keeps = alone-keeps;
       grows = alone-grows;
-      numbers = subst (λ ns. AreNumbers u.core.rows.items (ns ++ [])) same h.numbers;
-      ranked = subst (λ ns. Each (IsRanked u.core.source left) u.core.rows.items ns) same h.ranked;
+      numbers = subst (λ ns. AreNumbers u.core.subparsers (ns ++ [])) same h.numbers;
+      ranked = subst (λ ns. Each (IsRanked u.core.source left) u.core.subparsers ns) same h.ranked;
       moves = λ j each. subst (λ ns. Moves a c one three j s u (first ∷ []) ns) same (alone-moves j each);
     }
 
     -- the stack is less high, or the rank is lower
-    pub alone-lower : 101 * height_at u.core.rows.items m + left < 101 * height_at t.core.rows.items n + rank
+    pub alone-lower : 101 * height_at u.core.subparsers m + left < 101 * height_at t.core.subparsers n + rank
     alone-lower =
-        let before = All-head (λ k. (x : Subparser) × (Has t.core.rows.items k x × IsRanked t.core.source rank x)) n [] alone.ranked in
-        let w : Weight = record { height = length (states_of before.0.stack); rank = rank } in
-        let W : ℕ → Type 0 = λ k. (x : Subparser) × (Has t.core.rows.items k x × HasWeight t.core.source w x) in
+        let before = All-head (λ k. (x : Subparser) × (Has t.core.subparsers k x × IsRanked t.core.source rank x)) n [] alone.ranked in
+        let w : Weight = record { height = length (states_in before.0); rank = rank } in
+        let W : ℕ → Type 0 = λ k. (x : Subparser) × (Has t.core.subparsers k x × HasWeight t.core.source w x) in
         let light = (h.below w (All-cons W n [] (before.0, (before.1.0, record { height = refl; ranked = before.1.1 })) (All-nil W)) (All-nil (λ (entry : Entry). number_of entry.0 < number_of w))).1 in
-        let after = All-head (λ k. (x : Subparser) × (Has u.core.rows.items k x × IsLighter left w x)) m [] (subst (λ ns. Each (IsLighter left w) u.core.rows.items ns) same light) in
-        let high : height_at t.core.rows.items n ≡ length (states_of before.0.stack) = ap height_in before.1.0 in
-        let low : height_at u.core.rows.items m ≡ length (states_of after.0.stack) = ap height_in after.1.0 in
+        let after = All-head (λ k. (x : Subparser) × (Has u.core.subparsers k x × IsLighter left w x)) m [] (subst (λ ns. Each (IsLighter left w) u.core.subparsers ns) same light) in
+        let high : height_at t.core.subparsers n ≡ length (states_in before.0) = ap height_in before.1.0 in
+        let low : height_at u.core.subparsers m ≡ length (states_in after.0) = ap height_in after.1.0 in
         let less = after.1.1 in
         omega (arith, high, low, less)
 
@@ -842,13 +841,13 @@ pub record HasGone (old new : Sets) (lines added : List Line) (before after : St
   pub branches : OwnsBranches new added
   pub keeps : Keeps old new
   pub grows : Extends lines added
-  pub numbers : AreNumbers after.core.rows.items (ready ++ (left ++ numbers_of waiting))
-  pub weighed : AreWeighed after.core.source after.core.rows.items waiting
-  pub moves : (j : ℕ) → Each (IsAt j) before.core.rows.items all → Moves old new lines added j before after all (ready ++ (left ++ numbers_of waiting))
-  pub are_ready : (j : ℕ) → Each (IsAt j) before.core.rows.items all → Each (IsReady after.core.source j) after.core.rows.items ready
+  pub numbers : AreNumbers after.core.subparsers (ready ++ (left ++ numbers_of waiting))
+  pub weighed : AreWeighed after.core.source after.core.subparsers waiting
+  pub moves : (j : ℕ) → Each (IsAt j) before.core.subparsers all → Moves old new lines added j before after all (ready ++ (left ++ numbers_of waiting))
+  pub are_ready : (j : ℕ) → Each (IsAt j) before.core.subparsers all → Each (IsReady after.core.source j) after.core.subparsers ready
 
 pub gone-first : (sets : Sets) (lines : List Line) (s : Steps) (all left : List ℕ) (es : List Entry) → left ≡ all → es ≡ [] → OwnsSteps sets (length lines) s → OwnsBranches sets lines
-    → AreNumbers s.core.rows.items all → HasGone sets sets lines lines s s all [] left es
+    → AreNumbers s.core.subparsers all → HasGone sets sets lines lines s s all [] left es
 gone-first sets lines s all left es same none own branches numbers =
     let G : GoesOn sets sets lines lines 0 s s = goes-nowhere sets lines 0 s own branches in
     let whole : all ++ [] ≡ all = append-nil all in
@@ -859,29 +858,29 @@ gone-first sets lines s all left es same none own branches numbers =
       branches = branches;
       keeps = G.keeps;
       grows = G.grows;
-      numbers = subst (λ ns. AreNumbers s.core.rows.items ns) (sym whole) numbers;
-      weighed = All-nil (IsWeighed s.core.source s.core.rows.items);
+      numbers = subst (λ ns. AreNumbers s.core.subparsers ns) (sym whole) numbers;
+      weighed = All-nil (IsWeighed s.core.source s.core.subparsers);
       moves = λ j at. subst (λ ns. Moves sets sets lines lines j s s all ns) (sym whole) (moves-nowhere sets lines j s all own branches at);
-      are_ready = λ j at. All-nil (λ n. (x : Subparser) × (Has s.core.rows.items n x × IsReady s.core.source j x));
+      are_ready = λ j at. All-nil (λ n. (x : Subparser) × (Has s.core.subparsers n x × IsReady s.core.source j x));
     }))
 
 -- the next one of those that are left is put to those that wait
 pub gone-waiting : (a b c : Sets) (one two three : List Line) (s t u : Steps) (all : List ℕ) (m : ℕ) (rest : List ℕ) (es new : List Entry) → HasGone a b one two s t all [] (m ∷ rest) es
-    → ((place : ℕ) → GoesOn b c two three place t u) → Replaces t.core.rows.items u.core.rows.items (m ∷ numbers_of es) (numbers_of new) → AreWeighed u.core.source u.core.rows.items new
-    → ((j : ℕ) → Each (IsAt j) t.core.rows.items (m ∷ numbers_of es) → Each (IsAt j) u.core.rows.items (numbers_of new)) → HasGone a c one three s u all [] rest new
+    → ((place : ℕ) → GoesOn b c two three place t u) → Replaces t.core.subparsers u.core.subparsers (m ∷ numbers_of es) (numbers_of new) → AreWeighed u.core.source u.core.subparsers new
+    → ((j : ℕ) → Each (IsAt j) t.core.subparsers (m ∷ numbers_of es) → Each (IsAt j) u.core.subparsers (numbers_of new)) → HasGone a c one three s u all [] rest new
 gone-waiting a b c one two three s t u all m rest es new h goes replaces weighed at = record {
   own = (goes 0).own;
   branches = (goes 0).branches;
   keeps = Keeps-trans h.keeps (goes 0).keeps;
   grows = Extends-trans h.grows (goes 0).grows;
-  numbers = numbers-then t.core.rows.items u.core.rows.items (m ∷ numbers_of es) (numbers_of new) rest ((m ∷ rest) ++ numbers_of es) (rest ++ numbers_of new) replaces h.numbers counts comes;
+  numbers = numbers-then t.core.subparsers u.core.subparsers (m ∷ numbers_of es) (numbers_of new) rest ((m ∷ rest) ++ numbers_of es) (rest ++ numbers_of new) replaces h.numbers counts comes;
   weighed = weighed;
   moves = λ j each.
       let first = h.moves j each in
       moves-then a b c one two three j s t u all ((m ∷ rest) ++ numbers_of es) (m ∷ numbers_of es) (numbers_of new) rest (rest ++ numbers_of new) first h.numbers
       (goes (j + 1)) replaces counts comes
-      (at j (each-of (IsAt j) t.core.rows.items ((m ∷ rest) ++ numbers_of es) (m ∷ numbers_of es) first.at (λ k none. let e = counts k in omega (arith, e, none))));
-  are_ready = λ j each. All-nil (λ n. (x : Subparser) × (Has u.core.rows.items n x × IsReady u.core.source j x));
+      (at j (each-of (IsAt j) t.core.subparsers ((m ∷ rest) ++ numbers_of es) (m ∷ numbers_of es) first.at (λ k none. let e = counts k in omega (arith, e, none))));
+  are_ready = λ j each. All-nil (λ n. (x : Subparser) × (Has u.core.subparsers n x × IsReady u.core.source j x));
 }
   where
     counts : (k : ℕ) → times k ((m ∷ rest) ++ numbers_of es) ≡ times k (m ∷ numbers_of es) + times k rest
@@ -919,22 +918,22 @@ module _ (a b : Sets) (one two : List Line) (s t : Steps) (all ready : List ℕ)
       let p : times n (numbers_of entries) ≡ times n v.items + times n (numbers_of es) = ap (λ (xs : List Entry). times n (numbers_of xs)) popped ∙ times-last n es (w, v) in
       omega (arith, e, f, o, p)
 
-  pub popped-numbers : AreNumbers t.core.rows.items (ready ++ (v.items ++ numbers_of es))
-  popped-numbers = fewer-numbers t.core.rows.items (ready ++ ([] ++ numbers_of entries)) (ready ++ (v.items ++ numbers_of es)) h.numbers (λ n. let e = same-numbers n in omega (arith, e))
+  pub popped-numbers : AreNumbers t.core.subparsers (ready ++ (v.items ++ numbers_of es))
+  popped-numbers = fewer-numbers t.core.subparsers (ready ++ ([] ++ numbers_of entries)) (ready ++ (v.items ++ numbers_of es)) h.numbers (λ n. let e = same-numbers n in omega (arith, e))
 
-  pub popped-at : (j : ℕ) → Each (IsAt j) s.core.rows.items all → Each (IsAt j) t.core.rows.items (ready ++ (v.items ++ numbers_of es))
-  popped-at j each = each-of (IsAt j) t.core.rows.items (ready ++ ([] ++ numbers_of entries)) (ready ++ (v.items ++ numbers_of es)) (h.moves j each).at (λ n none. let e = same-numbers n in omega (arith, e, none))
+  pub popped-at : (j : ℕ) → Each (IsAt j) s.core.subparsers all → Each (IsAt j) t.core.subparsers (ready ++ (v.items ++ numbers_of es))
+  popped-at j each = each-of (IsAt j) t.core.subparsers (ready ++ ([] ++ numbers_of entries)) (ready ++ (v.items ++ numbers_of es)) (h.moves j each).at (λ n none. let e = same-numbers n in omega (arith, e, none))
 
-  parts : AreWeighed t.core.source t.core.rows.items es × IsWeighed t.core.source t.core.rows.items (w, v)
-  parts = all-front (IsWeighed t.core.source t.core.rows.items) es (w, v) (subst (λ (xs : List Entry). AreWeighed t.core.source t.core.rows.items xs) popped h.weighed)
+  parts : AreWeighed t.core.source t.core.subparsers es × IsWeighed t.core.source t.core.subparsers (w, v)
+  parts = all-front (IsWeighed t.core.source t.core.subparsers) es (w, v) (subst (λ (xs : List Entry). AreWeighed t.core.source t.core.subparsers xs) popped h.weighed)
 
-  pub popped-weighed : AreWeighed t.core.source t.core.rows.items es
+  pub popped-weighed : AreWeighed t.core.source t.core.subparsers es
   popped-weighed = parts.0
 
-  pub gone-reduced : (c : Sets) (three : List Line) (u : Steps) (news : List ℕ) (new : List Entry) (i : ℕ) → Each (IsAt i) s.core.rows.items all
-      → ((j : ℕ) → Each (IsAt j) t.core.rows.items (ready ++ (v.items ++ numbers_of es)) → Moves b c two three j t u (ready ++ (v.items ++ numbers_of es)) (news ++ numbers_of new))
-      → ((j : ℕ) → Each (IsAt j) t.core.rows.items (ready ++ (v.items ++ numbers_of es)) → Each (IsReady t.core.source j) t.core.rows.items ready → Each (IsReady u.core.source j) u.core.rows.items news)
-      → AreWeighed u.core.source u.core.rows.items new → HasGone a c one three s u all news [] new
+  pub gone-reduced : (c : Sets) (three : List Line) (u : Steps) (news : List ℕ) (new : List Entry) (i : ℕ) → Each (IsAt i) s.core.subparsers all
+      → ((j : ℕ) → Each (IsAt j) t.core.subparsers (ready ++ (v.items ++ numbers_of es)) → Moves b c two three j t u (ready ++ (v.items ++ numbers_of es)) (news ++ numbers_of new))
+      → ((j : ℕ) → Each (IsAt j) t.core.subparsers (ready ++ (v.items ++ numbers_of es)) → Each (IsReady t.core.source j) t.core.subparsers ready → Each (IsReady u.core.source j) u.core.subparsers news)
+      → AreWeighed u.core.source u.core.subparsers new → HasGone a c one three s u all news [] new
   gone-reduced c three u news new i each-i goes are weighed =
       let now = goes i (popped-at i each-i) in
       record {
@@ -942,7 +941,7 @@ module _ (a b : Sets) (one two : List Line) (s t : Steps) (all ready : List ℕ)
         branches = now.goes_on.branches;
         keeps = Keeps-trans h.keeps now.goes_on.keeps;
         grows = Extends-trans h.grows now.goes_on.grows;
-        numbers = numbers-after t.core.rows.items u.core.rows.items (ready ++ (v.items ++ numbers_of es)) (news ++ numbers_of new) now.replaces popped-numbers;
+        numbers = numbers-after t.core.subparsers u.core.subparsers (ready ++ (v.items ++ numbers_of es)) (news ++ numbers_of new) now.replaces popped-numbers;
         weighed = weighed;
         moves = λ j each.
             let later = goes j (popped-at j each) in
@@ -953,9 +952,9 @@ module _ (a b : Sets) (one two : List Line) (s t : Steps) (all ready : List ℕ)
 
   -- what waits then is lighter
   pub gone-lower : (new : List Entry) → All (λ q. weight_cmp q w ≡ Less) (keys_of es)
-      → ((x : Weight) → Each (HasWeight t.core.source x) t.core.rows.items v.items → AreBelow (number_of x) es → AreBelow (number_of x) new) → bound_of new < bound_of entries
+      → ((x : Weight) → Each (HasWeight t.core.source x) t.core.subparsers v.items → AreBelow (number_of x) es → AreBelow (number_of x) new) → bound_of new < bound_of entries
   gone-lower new keys below =
-      let low = All-weaker (IsWeighed t.core.source t.core.rows.items) (λ (e : Entry). e.0.rank ≤ 100) (λ e one. one.low) es parts.0 in
+      let low = All-weaker (IsWeighed t.core.source t.core.subparsers) (λ (e : Entry). e.0.rank ≤ 100) (λ e one. one.low) es parts.0 in
       let under = below-last (λ q. weight_cmp q w ≡ Less) w (λ q before rank. weight-lower q w (ap is_lt before) rank) es keys low in
       let least = bound-least (number_of w) new (below w parts.1.each under) in
       let last = last-bound es (w, v) in

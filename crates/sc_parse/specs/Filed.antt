@@ -2,7 +2,7 @@
 use Rattle.std.specs.Prelude.{◌≡◌, ◌<◌, ◌≤◌, ◌+◌, ℕ, List, [], length, slice_get, Option, Some}
 use Rattle.std.specs.Global.{Vec}
 use Rattle.std.specs.List.{flat_map}
-use Rattle.sc_fork.specs.declared.fork.Core.{Core}
+use Rattle.sc_fork.specs.View.{View}
 use Rattle.sc_merge.specs.declared.subparser.Subparser.{Subparser}
 use Rattle.sc_parse.specs.declared.rows.Rows.{Rows}
 use Rattle.sc_parse.specs.Numbers.{AreApart, Each, filled_at, IsAt, times}
@@ -25,8 +25,8 @@ pub record HasNoneBefore (r : Rows) (i : ℕ) : Type 0 where
 
 -- All subparsers of the core are in the rows, where elements before this one are done. There is a
 -- row for each element, and one for the end.
-pub record AreAllFiled (core : Core) (r : Rows) (i : ℕ) : Type 0 where
-  pub filed : AreFiled core.rows.items r
-  pub all : (n : ℕ) → times n (numbers_in r) ≡ filled_at core.rows.items n
+pub record AreAllFiled (core : View) (r : Rows) (i : ℕ) : Type 0 where
+  pub filed : AreFiled core.subparsers r
+  pub all : (n : ℕ) → times n (numbers_in r) ≡ filled_at core.subparsers n
   pub done : HasNoneBefore r i
   pub long : length r.rows.items ≡ length core.source.list.now + 1

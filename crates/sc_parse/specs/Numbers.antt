@@ -2,7 +2,7 @@
 use Rattle.std.specs.Prelude.{◌≡◌, ◌≤◌, ◌+◌, ◌==◌, ℕ, List, [], ◌∷◌, ◌++◌, length, slice_get, Option, Some, All, AllPairs, if◌then◌else◌}
 use Rattle.std.specs.List.{Contains}
 use Rattle.lr_tables.specs.declared.grammar.Action.TheVariants.{Reduce}
-use Rattle.sc_fork.specs.declared.fork.Core.{Core}
+use Rattle.sc_fork.specs.View.{View}
 use Rattle.sc_fork.specs.declared.source.Source.{Source}
 use Rattle.sc_fork.specs.Enabled.{Has}
 use Rattle.sc_fork.specs.Seen.{action_in}
@@ -67,9 +67,9 @@ AreLike old others new numbers = All (IsLikeOne old others new) numbers
 
 -- the number is gone, and those have come that are added, which are behind the element; there are
 -- none behind the end
-pub record HasShifted (old : Core) (j number : ℕ) (new : Core) (before after : List ℕ) : Type 0 where
+pub record HasShifted (old : View) (j number : ℕ) (new : View) (before after : List ℕ) : Type 0 where
   pub made : List ℕ
   pub is : after ≡ before ++ made
-  pub replaces : Replaces old.rows.items new.rows.items (number ∷ []) made
-  pub behind : Each (IsBetween (j + 1)) new.rows.items made
+  pub replaces : Replaces old.subparsers new.subparsers (number ∷ []) made
+  pub behind : Each (IsBetween (j + 1)) new.subparsers made
   pub none : j ≡ length old.source.list.now → made ≡ []

@@ -25,11 +25,12 @@ use Rattle.sc_model.specs.Token as plain
 use Rattle.sc_parse.specs.declared.parsed.Parsed.{Parsed}
 use Rattle.sc_parse.specs.MostClasses.{HasMostClasses}
 use Rattle.sc_tree.specs.Reads.{Tables}
+use Rattle.sc_model.specs.declared.standard.Standard.{Standard}
 
 -- the list with its end is what is parsed, for the configurations that are live
-pub record IsInputOf (w : Tables) (list : List (Cond × Token)) (tables : code.Tables) (end : declared.Place) (live : Cond) (input : Input) : Type 0 where
+pub record IsInputOf (w : Tables) (list : List (Cond × Token)) (tables : code.Tables) (standard : Standard) (end : declared.Place) (live : Cond) (input : Input) : Type 0 where
   pub states : List (List ℕ)
-  pub parser : input.parser ≡ c11_parser (tables_of states tables)
+  pub parser : input.parser ≡ c11_parser standard (tables_of states tables)
   pub arities : input.arities ≡ w.sets.arities
   pub ends : input.end ≡ seen_place w.files end
   pub has_live : Has input input.live (w.sets.has live.0)

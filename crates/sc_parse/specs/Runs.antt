@@ -8,7 +8,7 @@ use Rattle.c11_parsing.specs.Trees.{Tree}
 use Rattle.sc_fork.specs.Choices.{AddsLeaves, AreSound}
 use Rattle.sc_fork.specs.declared.event.Event.{Event}
 use Rattle.sc_fork.specs.declared.event.Event.TheVariants.{Split, Reduce, Shift, Classify, Merge}
-use Rattle.sc_fork.specs.declared.fork.Core.{Core}
+use Rattle.sc_fork.specs.View.{View, states_in, depth_of}
 use Rattle.sc_fork.specs.declared.piece.Ended.{Ended}
 use Rattle.sc_fork.specs.Cores.{event_of, IsCore}
 use Rattle.sc_fork.specs.Enabled.{Has}
@@ -22,8 +22,6 @@ use Rattle.sc_model.specs.Growth.{Extends}
 use Rattle.sc_model.specs.Sets.{Sets, IsConfig, Keeps}
 use Rattle.sc_parse.specs.declared.steps.Steps.{Steps}
 use Rattle.sc_parse.specs.Numbers.{Each}
-use Rattle.sc_scope.specs.Seen.{levels_in}
-use Rattle.sc_stack.specs.Entries.{states_of}
 use Rattle.sc_tree.specs.Lines.{Line, OwnsBranches}
 use Rattle.sc_tree.specs.Reads.{Tables}
 
@@ -59,7 +57,7 @@ HaveEndedBefore sets input i ended =
 pub record IsOfClass (input : Input) (i : ℕ) (c : List ℕ) (s : Subparser) (next : ℕ) : Type 0 where
   pub run : Run
   pub live : IsLive input i c run
-  pub class : class_of input i c run ≡ record { states = states_of s.stack; next = next; depth = length (levels_in s.scopes) }
+  pub class : class_of input i c run ≡ record { states = states_in s; next = next; depth = depth_of s }
 
 -- at each of its configurations the subparser is in the configuration's class at the place
 pub record IsWaiting (sets : Sets) (input : Input) (i : ℕ) (s : Subparser) : Type 0 where
@@ -74,7 +72,7 @@ AreWaiting sets input i rows numbers = Each (IsWaiting sets input i) rows number
 -- ---- what calls do
 
 -- an event is the step of the core as it is seen
-pub record IsStepTo (w v : Tables) (input : Input) (old : Core) (event : Event) (new : Core) : Type 0 where
+pub record IsStepTo (w v : Tables) (input : Input) (old : View) (event : Event) (new : View) : Type 0 where
   pub before : core.Core
   pub was : IsCore w input old before
   pub stands : Stands input before
@@ -102,7 +100,7 @@ pub record GoesOn (old new : Sets) (lines added : List Line) (place : ℕ) (befo
   pub run : (names files : List (List ℕ)) (input : Input) (first : core.Core) → IsRun (tables_with old lines names files) input first before
       → IsRun (tables_with new added names files) input first after
   pub ended : (names files : List (List ℕ)) (input : Input) (first : core.Core) → IsRun (tables_with old lines names files) input first before
-      → place < length input.items + 1 → HaveEndedBefore old input place before.core.ended.items → HaveEndedBefore new input place after.core.ended.items
+      → place < length input.items + 1 → HaveEndedBefore old input place before.core.ended → HaveEndedBefore new input place after.core.ended
   pub sound : (names files : List (List ℕ)) (input : Input) (first : core.Core) → IsRun (tables_with old lines names files) input first before
       → AreSound old lines → AreSound new added
   pub more : List core.Event

@@ -3,7 +3,7 @@ use Rattle.std.specs.Prelude.{◌≡◌, ◌<◌, ◌≤◌, ◌+◌, ℕ, List,
 use Rattle.c11_parsing.specs.Classes.{AreDistinct, Input}
 use Rattle.c11_parsing.specs.Core as core
 use Rattle.sc_fork.specs.Cores.{event_of}
-use Rattle.sc_fork.specs.declared.fork.Core.{Core}
+use Rattle.sc_fork.specs.View.{View}
 use Rattle.sc_fork.specs.Enabled.{Has}
 use Rattle.sc_merge.specs.declared.subparser.Phase.TheVariants.{Between}
 use Rattle.sc_merge.specs.declared.subparser.Subparser.{Subparser}
@@ -27,11 +27,11 @@ pub record HasMostBefore (input : Input) (i most : ℕ) : Type 0 where
 -- each place up to this one.
 pub record IsAtPlace (w : Tables) (input : Input) (first : core.Core) (s : Steps) (r : Rows) (i : ℕ) : Type 0 where
   pub run : IsRun w input first s
-  pub waiting : i < length input.items + 1 → AreWaiting w.sets input i s.core.rows.items (numbers_in r)
-  pub ended : i < length input.items + 1 → HaveEndedBefore w.sets input i s.core.ended.items
+  pub waiting : i < length input.items + 1 → AreWaiting w.sets input i s.core.subparsers (numbers_in r)
+  pub ended : i < length input.items + 1 → HaveEndedBefore w.sets input i s.core.ended
   pub places : (k : ℕ) → k ≤ i → k < length input.items + 1 → HasPlace input first (map event_of s.events.items) k
 
 -- the core has one subparser, number 0, before the first element, or none
-pub record HasBegun (c : Core) : Type 0 where
-  pub rows : (n : ℕ) (s : Subparser) → Has c.rows.items n s → (n ≡ 0) × (s.phase ≡ Between 0)
-  pub none : c.ended.items ≡ []
+pub record HasBegun (c : View) : Type 0 where
+  pub rows : (n : ℕ) (s : Subparser) → Has c.subparsers n s → (n ≡ 0) × (s.phase ≡ Between 0)
+  pub none : c.ended ≡ []

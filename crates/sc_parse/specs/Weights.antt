@@ -7,6 +7,7 @@ use Rattle.lr_tables.specs.Paths.{Path}
 use Rattle.sc_fork.specs.declared.source.Source.{Source}
 use Rattle.sc_fork.specs.Owns.{HasC11Tables}
 use Rattle.sc_fork.specs.Seen.{action_in}
+use Rattle.sc_fork.specs.View.{states_in}
 use Rattle.sc_merge.specs.declared.subparser.Phase.TheVariants.{At}
 use Rattle.sc_merge.specs.declared.subparser.Subparser.{Subparser}
 use Rattle.sc_model.specs.Sets.{Sets}
@@ -14,7 +15,6 @@ use Rattle.sc_parse.specs.declared.reductions.Weight.{Weight}
 use Rattle.sc_parse.specs.declared.steps.Steps.{Steps}
 use Rattle.sc_parse.specs.Numbers.{Each, IsAt, Replaces}
 use Rattle.sc_parse.specs.Runs.{GoesOn}
-use Rattle.sc_stack.specs.Entries.{states_of}
 use Rattle.sc_tree.specs.Lines.{Line}
 
 -- the rank of the symbol on top: a nonterminal's number, or that of their count
@@ -24,11 +24,11 @@ rank_of (x ∷ symbols) = if nat_lt x 96 then 100 else x - 96
 
 -- the symbol on top of the stack has no higher rank
 pub record IsRanked (source : Source) (rank : ℕ) (s : Subparser) : Type 0 where
-  pub path : (c11 : HasC11Tables source.tables.now) → (symbols : List ℕ) × (Path c11.are.grammar c11.states (states_of s.stack) symbols × rank_of symbols ≤ rank)
+  pub path : (c11 : HasC11Tables source.tables.now) → (symbols : List ℕ) × (Path c11.are.grammar c11.states (states_in s) symbols × rank_of symbols ≤ rank)
 
 -- the subparser has this weight
 pub record HasWeight (source : Source) (w : Weight) (s : Subparser) : Type 0 where
-  pub height : length (states_of s.stack) ≡ w.height
+  pub height : length (states_in s) ≡ w.height
   pub ranked : IsRanked source w.rank s
 
 -- the numbers of all weights, one weight after the other
@@ -60,5 +60,5 @@ pub record IsReducing (source : Source) (p : ℕ) (s : Subparser) : Type 0 where
 -- the subparsers that are gone and those that have come look at one element
 pub record Moves (old new : Sets) (lines added : List Line) (j : ℕ) (before after : Steps) (gone made : List ℕ) : Type 0 where
   pub goes_on : GoesOn old new lines added (j + 1) before after
-  pub replaces : Replaces before.core.rows.items after.core.rows.items gone made
-  pub at : Each (IsAt j) after.core.rows.items made
+  pub replaces : Replaces before.core.subparsers after.core.subparsers gone made
+  pub at : Each (IsAt j) after.core.subparsers made

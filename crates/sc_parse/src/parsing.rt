@@ -27,6 +27,7 @@ use sc_fork::{Core, Event};
 use sc_guarded::Guarded;
 use sc_lalr::Tables;
 use sc_merge::Phase;
+use sc_model::Standard;
 use sc_presence::Conditions;
 use sc_tree::Trees;
 use std::alloc::Global;
@@ -44,22 +45,23 @@ pub fn parse<C: Conditions>(
     end: Place,
     tables: &Tables,
     limits: Limits,
+    standard: Standard,
 ) -> Result<Parsed, Stop>
     requires tables { HasC11Tables tables.now }
     requires live { IsCond (C.sets conds.old) live.0 }
     requires items { All (λ item. IsCond (C.sets conds.old) item.0.0) list.now }
     requires held { All (λ item. IsHeld names.now item.1) list.now }
     requires branches { OwnsBranches (C.sets conds.old) trees.old }
-    ensures parse { IfOk result (λ p. (files : List (List ℕ)) (input : Input) → IsInputOf (tables_with (C.sets conds.old) trees.old names.now files) list.now tables.now end live input
+    ensures parse { IfOk result (λ p. (files : List (List ℕ)) (input : Input) → IsInputOf (tables_with (C.sets conds.old) trees.old names.now files) list.now tables.now standard end live input
         → IsParse (tables_with (C.sets conds.new) trees.new names.now files) input p) }
-    ensures schedule { IfOk result (λ p. (files : List (List ℕ)) (input : Input) → IsInputOf (tables_with (C.sets conds.old) trees.old names.now files) list.now tables.now end live input
+    ensures schedule { IfOk result (λ p. (files : List (List ℕ)) (input : Input) → IsInputOf (tables_with (C.sets conds.old) trees.old names.now files) list.now tables.now standard end live input
         → IsSchedule input p.events.items) }
     ensures few { IfOk result (λ p. p.classes ≤ limits.branches) }
     ensures own { IfOk result (OwnsParsed (C.sets conds.new) (length trees.new) list.now end) }
     ensures leaves { IfOk result (λ p. AddsLeaves list.now trees.old trees.new) }
-    ensures stops { IfErr result (λ stop. (files : List (List ℕ)) (input : Input) → IsInputOf (tables_with (C.sets conds.old) trees.old names.now files) list.now tables.now end live input
+    ensures stops { IfErr result (λ stop. (files : List (List ℕ)) (input : Input) → IsInputOf (tables_with (C.sets conds.old) trees.old names.now files) list.now tables.now standard end live input
         → StopsFor input limits.branches stop) }
-    ensures choices { IfOk result (λ p. (files : List (List ℕ)) (input : Input) → IsInputOf (tables_with (C.sets conds.old) trees.old names.now files) list.now tables.now end live input
+    ensures choices { IfOk result (λ p. (files : List (List ℕ)) (input : Input) → IsInputOf (tables_with (C.sets conds.old) trees.old names.now files) list.now tables.now standard end live input
         → AreSound (C.sets conds.old) trees.old → AreSound (C.sets conds.new) trees.new) }
 
     // at every outcome
@@ -68,7 +70,7 @@ pub fn parse<C: Conditions>(
     ensures owns { OwnsBranches (C.sets conds.new) trees.new }
 {
     names.one_to_one();
-    let core = Core::start(alloc, conds, names, list, live, end, tables)?;
+    let core = Core::start(alloc, conds, names, list, live, end, tables, standard)?;
     let mut steps = Steps {
         core,
         events: Vec::new(alloc),
@@ -168,13 +170,13 @@ fn shifted<C: Conditions>(
 ) -> Result<Vec<usize>, OutOfMemory>
     requires own { OwnsSteps (C.sets conds.old) (length trees.old) steps.old }
     requires branches { OwnsBranches (C.sets conds.old) trees.old }
-    requires numbers { AreNumbers steps.old.core.rows.items row.items }
-    requires at { (j : ℕ) × Each (IsAt j) steps.old.core.rows.items row.items }
-    ensures goes_on { IfOk result (λ behind. (j : ℕ) → Each (IsAt j) steps.old.core.rows.items row.items
+    requires numbers { AreNumbers steps.old.core.subparsers row.items }
+    requires at { (j : ℕ) × Each (IsAt j) steps.old.core.subparsers row.items }
+    ensures goes_on { IfOk result (λ behind. (j : ℕ) → Each (IsAt j) steps.old.core.subparsers row.items
         → GoesOn (C.sets conds.old) (C.sets conds.new) trees.old trees.new (j + 1) steps.old steps.new) }
-    ensures replaces { IfOk result (λ behind. Replaces steps.old.core.rows.items steps.new.core.rows.items row.items behind.items) }
-    ensures between { IfOk result (λ behind. (j : ℕ) → Each (IsAt j) steps.old.core.rows.items row.items → Each (IsBetween (j + 1)) steps.new.core.rows.items behind.items) }
-    ensures end { IfOk result (λ behind. Each (IsAt (length steps.old.core.source.list.now)) steps.old.core.rows.items row.items → behind.items ≡ []) }
+    ensures replaces { IfOk result (λ behind. Replaces steps.old.core.subparsers steps.new.core.subparsers row.items behind.items) }
+    ensures between { IfOk result (λ behind. (j : ℕ) → Each (IsAt j) steps.old.core.subparsers row.items → Each (IsBetween (j + 1)) steps.new.core.subparsers behind.items) }
+    ensures end { IfOk result (λ behind. Each (IsAt (length steps.old.core.source.list.now)) steps.old.core.subparsers row.items → behind.items ≡ []) }
 
     // at every outcome
     ensures keeps { Keeps (C.sets conds.old) (C.sets conds.new) }
@@ -199,10 +201,10 @@ fn shift<C: Conditions>(
 ) -> Result<(), OutOfMemory>
     requires own { OwnsSteps (C.sets conds.old) (length trees.old) steps.old }
     requires branches { OwnsBranches (C.sets conds.old) trees.old }
-    requires ready { (j : ℕ) × Each (IsReady steps.old.core.source j) steps.old.core.rows.items (number ∷ []) }
-    ensures goes_on { IfOk result (λ u. (j : ℕ) → Each (IsReady steps.old.core.source j) steps.old.core.rows.items (number ∷ [])
+    requires ready { (j : ℕ) × Each (IsReady steps.old.core.source j) steps.old.core.subparsers (number ∷ []) }
+    ensures goes_on { IfOk result (λ u. (j : ℕ) → Each (IsReady steps.old.core.source j) steps.old.core.subparsers (number ∷ [])
         → GoesOn (C.sets conds.old) (C.sets conds.new) trees.old trees.new (j + 1) steps.old steps.new) }
-    ensures shifts { IfOk result (λ u. (j : ℕ) → Each (IsReady steps.old.core.source j) steps.old.core.rows.items (number ∷ [])
+    ensures shifts { IfOk result (λ u. (j : ℕ) → Each (IsReady steps.old.core.source j) steps.old.core.subparsers (number ∷ [])
         → HasShifted steps.old.core j number steps.new.core behind.old.items behind.new.items) }
 
     // at every outcome

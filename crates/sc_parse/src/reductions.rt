@@ -3,6 +3,7 @@ ghost use Rattle.std.specs.Prelude.{◌≡◌, ◌<◌, ◌≤◌, ◌+◌, ◌�
 ghost use Rattle.lr_tables.specs.declared.grammar.Action.TheVariants.{Reduce};
 ghost use Rattle.sc_fork.specs.Enabled.{Has, LooksAt};
 ghost use Rattle.sc_fork.specs.Seen.{action_in};
+ghost use Rattle.sc_fork.specs.View.{states_in};
 ghost use Rattle.sc_merge.specs.declared.subparser.Subparser.{Subparser};
 ghost use Rattle.sc_model.specs.Growth.{Extends};
 ghost use Rattle.sc_model.specs.Sets.{Keeps};
@@ -10,7 +11,6 @@ ghost use Rattle.sc_parse.specs.Numbers.{AreNumbers, Each, IsAt, IsReady, Replac
 ghost use Rattle.sc_parse.specs.Runs.{GoesOn, OwnsSteps};
 ghost use Rattle.sc_parse.specs.Weights.{AreBelow, AreWeighed, HasWeight, IsRanked, IsReducing, Moves, number_of, numbers_of};
 ghost use Rattle.sc_parse.specs.declared.reductions.Weight.{Weight};
-ghost use Rattle.sc_stack.specs.Entries.{states_of};
 ghost use Rattle.sc_tree.specs.Lines.{OwnsBranches};
 
 use crate::steps::Steps;
@@ -46,12 +46,12 @@ pub(crate) fn reduced<C: Conditions>(
 ) -> Result<Vec<usize>, OutOfMemory>
     requires own { OwnsSteps (C.sets conds.old) (length trees.old) steps.old }
     requires branches { OwnsBranches (C.sets conds.old) trees.old }
-    requires numbers { AreNumbers steps.old.core.rows.items row.items }
-    requires at { (j : ℕ) × Each (IsAt j) steps.old.core.rows.items row.items }
-    ensures goes_on { IfOk result (λ ready. (j : ℕ) → Each (IsAt j) steps.old.core.rows.items row.items
+    requires numbers { AreNumbers steps.old.core.subparsers row.items }
+    requires at { (j : ℕ) × Each (IsAt j) steps.old.core.subparsers row.items }
+    ensures goes_on { IfOk result (λ ready. (j : ℕ) → Each (IsAt j) steps.old.core.subparsers row.items
         → GoesOn (C.sets conds.old) (C.sets conds.new) trees.old trees.new (j + 1) steps.old steps.new) }
-    ensures replaces { IfOk result (λ ready. Replaces steps.old.core.rows.items steps.new.core.rows.items row.items ready.items) }
-    ensures ready { IfOk result (λ ready. (j : ℕ) → Each (IsAt j) steps.old.core.rows.items row.items → Each (IsReady steps.new.core.source j) steps.new.core.rows.items ready.items) }
+    ensures replaces { IfOk result (λ ready. Replaces steps.old.core.subparsers steps.new.core.subparsers row.items ready.items) }
+    ensures ready { IfOk result (λ ready. (j : ℕ) → Each (IsAt j) steps.old.core.subparsers row.items → Each (IsReady steps.new.core.source j) steps.new.core.subparsers ready.items) }
 
     // at every outcome
     ensures keeps { Keeps (C.sets conds.old) (C.sets conds.new) }
@@ -100,16 +100,16 @@ fn reduce_each<C: Conditions>(
 ) -> Result<(), OutOfMemory>
     requires own { OwnsSteps (C.sets conds.old) (length trees.old) steps.old }
     requires branches { OwnsBranches (C.sets conds.old) trees.old }
-    requires numbers { AreNumbers steps.old.core.rows.items (ready.old.items ++ (heaviest.items ++ numbers_of waiting.old.entries)) }
-    requires at { (j : ℕ) × Each (IsAt j) steps.old.core.rows.items (ready.old.items ++ (heaviest.items ++ numbers_of waiting.old.entries)) }
-    requires weighed { AreWeighed steps.old.core.source steps.old.core.rows.items waiting.old.entries }
-    ensures moves { IfOk result (λ u. (j : ℕ) → Each (IsAt j) steps.old.core.rows.items (ready.old.items ++ (heaviest.items ++ numbers_of waiting.old.entries))
+    requires numbers { AreNumbers steps.old.core.subparsers (ready.old.items ++ (heaviest.items ++ numbers_of waiting.old.entries)) }
+    requires at { (j : ℕ) × Each (IsAt j) steps.old.core.subparsers (ready.old.items ++ (heaviest.items ++ numbers_of waiting.old.entries)) }
+    requires weighed { AreWeighed steps.old.core.source steps.old.core.subparsers waiting.old.entries }
+    ensures moves { IfOk result (λ u. (j : ℕ) → Each (IsAt j) steps.old.core.subparsers (ready.old.items ++ (heaviest.items ++ numbers_of waiting.old.entries))
         → Moves (C.sets conds.old) (C.sets conds.new) trees.old trees.new j steps.old steps.new
         (ready.old.items ++ (heaviest.items ++ numbers_of waiting.old.entries)) (ready.new.items ++ numbers_of waiting.new.entries)) }
-    ensures ready { IfOk result (λ u. (j : ℕ) → Each (IsAt j) steps.old.core.rows.items (ready.old.items ++ (heaviest.items ++ numbers_of waiting.old.entries))
-        → Each (IsReady steps.old.core.source j) steps.old.core.rows.items ready.old.items → Each (IsReady steps.new.core.source j) steps.new.core.rows.items ready.new.items) }
-    ensures weighed { IfOk result (λ u. AreWeighed steps.new.core.source steps.new.core.rows.items waiting.new.entries) }
-    ensures below { IfOk result (λ u. (w : Weight) → Each (HasWeight steps.old.core.source w) steps.old.core.rows.items heaviest.items
+    ensures ready { IfOk result (λ u. (j : ℕ) → Each (IsAt j) steps.old.core.subparsers (ready.old.items ++ (heaviest.items ++ numbers_of waiting.old.entries))
+        → Each (IsReady steps.old.core.source j) steps.old.core.subparsers ready.old.items → Each (IsReady steps.new.core.source j) steps.new.core.subparsers ready.new.items) }
+    ensures weighed { IfOk result (λ u. AreWeighed steps.new.core.source steps.new.core.subparsers waiting.new.entries) }
+    ensures below { IfOk result (λ u. (w : Weight) → Each (HasWeight steps.old.core.source w) steps.old.core.subparsers heaviest.items
         → AreBelow (number_of w) waiting.old.entries → AreBelow (number_of w) waiting.new.entries) }
 
     // at every outcome
@@ -138,14 +138,14 @@ fn reduce_one<C: Conditions>(
 ) -> Result<(), OutOfMemory>
     requires own { OwnsSteps (C.sets conds.old) (length trees.old) steps.old }
     requires branches { OwnsBranches (C.sets conds.old) trees.old }
-    requires numbers { AreNumbers steps.old.core.rows.items (number ∷ numbers_of waiting.old.entries) }
-    requires at { (j : ℕ) × Each (IsAt j) steps.old.core.rows.items (number ∷ numbers_of waiting.old.entries) }
-    requires weighed { AreWeighed steps.old.core.source steps.old.core.rows.items waiting.old.entries }
-    requires reduces { Each (IsReducing steps.old.core.source rule) steps.old.core.rows.items (number ∷ []) }
-    ensures moves { IfOk result (λ u. (j : ℕ) → Each (IsAt j) steps.old.core.rows.items (number ∷ numbers_of waiting.old.entries)
+    requires numbers { AreNumbers steps.old.core.subparsers (number ∷ numbers_of waiting.old.entries) }
+    requires at { (j : ℕ) × Each (IsAt j) steps.old.core.subparsers (number ∷ numbers_of waiting.old.entries) }
+    requires weighed { AreWeighed steps.old.core.source steps.old.core.subparsers waiting.old.entries }
+    requires reduces { Each (IsReducing steps.old.core.source rule) steps.old.core.subparsers (number ∷ []) }
+    ensures moves { IfOk result (λ u. (j : ℕ) → Each (IsAt j) steps.old.core.subparsers (number ∷ numbers_of waiting.old.entries)
         → Moves (C.sets conds.old) (C.sets conds.new) trees.old trees.new j steps.old steps.new (number ∷ numbers_of waiting.old.entries) (numbers_of waiting.new.entries)) }
-    ensures weighed { IfOk result (λ u. AreWeighed steps.new.core.source steps.new.core.rows.items waiting.new.entries) }
-    ensures below { IfOk result (λ u. (w : Weight) → Each (HasWeight steps.old.core.source w) steps.old.core.rows.items (number ∷ [])
+    ensures weighed { IfOk result (λ u. AreWeighed steps.new.core.source steps.new.core.subparsers waiting.new.entries) }
+    ensures below { IfOk result (λ u. (w : Weight) → Each (HasWeight steps.old.core.source w) steps.old.core.subparsers (number ∷ [])
         → AreBelow (number_of w) waiting.old.entries → AreBelow (number_of w) waiting.new.entries) }
 
     // at every outcome
@@ -170,12 +170,12 @@ fn reduced_alone<C: Conditions>(
 ) -> Result<Vec<usize>, OutOfMemory>
     requires own { OwnsSteps (C.sets conds.old) (length trees.old) steps.old }
     requires branches { OwnsBranches (C.sets conds.old) trees.old }
-    requires numbers { AreNumbers steps.old.core.rows.items (number ∷ []) }
-    requires at { (j : ℕ) × Each (IsAt j) steps.old.core.rows.items (number ∷ []) }
-    ensures goes_on { IfOk result (λ ready. (j : ℕ) → Each (IsAt j) steps.old.core.rows.items (number ∷ [])
+    requires numbers { AreNumbers steps.old.core.subparsers (number ∷ []) }
+    requires at { (j : ℕ) × Each (IsAt j) steps.old.core.subparsers (number ∷ []) }
+    ensures goes_on { IfOk result (λ ready. (j : ℕ) → Each (IsAt j) steps.old.core.subparsers (number ∷ [])
         → GoesOn (C.sets conds.old) (C.sets conds.new) trees.old trees.new (j + 1) steps.old steps.new) }
-    ensures replaces { IfOk result (λ ready. Replaces steps.old.core.rows.items steps.new.core.rows.items (number ∷ []) ready.items) }
-    ensures ready { IfOk result (λ ready. (j : ℕ) → Each (IsAt j) steps.old.core.rows.items (number ∷ []) → Each (IsReady steps.new.core.source j) steps.new.core.rows.items ready.items) }
+    ensures replaces { IfOk result (λ ready. Replaces steps.old.core.subparsers steps.new.core.subparsers (number ∷ []) ready.items) }
+    ensures ready { IfOk result (λ ready. (j : ℕ) → Each (IsAt j) steps.old.core.subparsers (number ∷ []) → Each (IsReady steps.new.core.source j) steps.new.core.subparsers ready.items) }
 
     // at every outcome
     ensures keeps { Keeps (C.sets conds.old) (C.sets conds.new) }
@@ -199,8 +199,8 @@ fn reduced_alone<C: Conditions>(
 
 /// The production by which the subparser is reduced at the element that comes next.
 fn reduction(steps: &Steps<'_>, number: usize) -> Option<usize>
-    ensures some { IfSome result (λ rule. (s : Subparser) (at : ℕ) → LooksAt steps.now.core.rows.items number s at → action_in steps.now.core.source s at ≡ Some (Reduce rule)) }
-    ensures none { result ≡ None → (s : Subparser) (at : ℕ) → LooksAt steps.now.core.rows.items number s at
+    ensures some { IfSome result (λ rule. (s : Subparser) (at : ℕ) → LooksAt steps.now.core.subparsers number s at → action_in steps.now.core.source s at ≡ Some (Reduce rule)) }
+    ensures none { result ≡ None → (s : Subparser) (at : ℕ) → LooksAt steps.now.core.subparsers number s at
         → (p : ℕ) → action_in steps.now.core.source s at ≡ Some (Reduce p) → ⊥ }
 {
     match steps.core.action(number)? {
@@ -221,17 +221,17 @@ fn wait<C: Conditions>(
 ) -> Result<(), OutOfMemory>
     requires own { OwnsSteps (C.sets conds.old) (length trees.old) steps.old }
     requires branches { OwnsBranches (C.sets conds.old) trees.old }
-    requires numbers { AreNumbers steps.old.core.rows.items (number ∷ numbers_of waiting.old.entries) }
-    requires weighed { AreWeighed steps.old.core.source steps.old.core.rows.items waiting.old.entries }
-    requires ranked { (s : Subparser) → Has steps.old.core.rows.items number s → IsRanked steps.old.core.source rank s }
+    requires numbers { AreNumbers steps.old.core.subparsers (number ∷ numbers_of waiting.old.entries) }
+    requires weighed { AreWeighed steps.old.core.source steps.old.core.subparsers waiting.old.entries }
+    requires ranked { (s : Subparser) → Has steps.old.core.subparsers number s → IsRanked steps.old.core.source rank s }
     requires low { rank ≤ 100 }
     ensures goes_on { IfOk result (λ u. (place : ℕ) → GoesOn (C.sets conds.old) (C.sets conds.new) trees.old trees.new place steps.old steps.new) }
-    ensures replaces { IfOk result (λ u. Replaces steps.old.core.rows.items steps.new.core.rows.items (number ∷ numbers_of waiting.old.entries) (numbers_of waiting.new.entries)) }
-    ensures weighed { IfOk result (λ u. AreWeighed steps.new.core.source steps.new.core.rows.items waiting.new.entries) }
-    ensures at { IfOk result (λ u. (j : ℕ) → Each (IsAt j) steps.old.core.rows.items (number ∷ numbers_of waiting.old.entries)
-        → Each (IsAt j) steps.new.core.rows.items (numbers_of waiting.new.entries)) }
-    ensures below { IfOk result (λ u. (bound : ℕ) (s : Subparser) → Has steps.old.core.rows.items number s → AreBelow bound waiting.old.entries
-        → number_of (record { height = length (states_of s.stack); rank = rank }) < bound → AreBelow bound waiting.new.entries) }
+    ensures replaces { IfOk result (λ u. Replaces steps.old.core.subparsers steps.new.core.subparsers (number ∷ numbers_of waiting.old.entries) (numbers_of waiting.new.entries)) }
+    ensures weighed { IfOk result (λ u. AreWeighed steps.new.core.source steps.new.core.subparsers waiting.new.entries) }
+    ensures at { IfOk result (λ u. (j : ℕ) → Each (IsAt j) steps.old.core.subparsers (number ∷ numbers_of waiting.old.entries)
+        → Each (IsAt j) steps.new.core.subparsers (numbers_of waiting.new.entries)) }
+    ensures below { IfOk result (λ u. (bound : ℕ) (s : Subparser) → Has steps.old.core.subparsers number s → AreBelow bound waiting.old.entries
+        → number_of (record { height = length (states_in s); rank = rank }) < bound → AreBelow bound waiting.new.entries) }
 
     // at every outcome
     ensures keeps { Keeps (C.sets conds.old) (C.sets conds.new) }

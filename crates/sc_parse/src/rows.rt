@@ -80,21 +80,21 @@ impl Rows {
     ) -> Result<(), Stop>
         requires own { OwnsSteps (C.sets conds.old) (length trees.old) steps.old }
         requires branches { OwnsBranches (C.sets conds.old) trees.old }
-        requires numbers { AreNumbers steps.old.core.rows.items (number ∷ numbers_in self.old) }
-        requires between { (i : ℕ) × Each (IsBetween i) steps.old.core.rows.items (number ∷ []) }
-        requires filed { AreFiled steps.old.core.rows.items self.old }
+        requires numbers { AreNumbers steps.old.core.subparsers (number ∷ numbers_in self.old) }
+        requires between { (i : ℕ) × Each (IsBetween i) steps.old.core.subparsers (number ∷ []) }
+        requires filed { AreFiled steps.old.core.subparsers self.old }
         requires long { length self.old.rows.items ≡ length steps.old.core.source.list.now + 1 }
         ensures goes_on { IfOk result (λ u. (place : ℕ) → GoesOn (C.sets conds.old) (C.sets conds.new) trees.old trees.new place steps.old steps.new) }
-        ensures replaces { IfOk result (λ u. Replaces steps.old.core.rows.items steps.new.core.rows.items (number ∷ numbers_in self.old) (numbers_in self.new)) }
-        ensures filed { IfOk result (λ u. AreFiled steps.new.core.rows.items self.new) }
-        ensures done { IfOk result (λ u. (i : ℕ) → Each (IsBetween i) steps.old.core.rows.items (number ∷ []) → HasNoneBefore self.old i → HasNoneBefore self.new i) }
+        ensures replaces { IfOk result (λ u. Replaces steps.old.core.subparsers steps.new.core.subparsers (number ∷ numbers_in self.old) (numbers_in self.new)) }
+        ensures filed { IfOk result (λ u. AreFiled steps.new.core.subparsers self.new) }
+        ensures done { IfOk result (λ u. (i : ℕ) → Each (IsBetween i) steps.old.core.subparsers (number ∷ []) → HasNoneBefore self.old i → HasNoneBefore self.new i) }
         ensures long { IfOk result (λ u. length self.new.rows.items ≡ length self.old.rows.items) }
         ensures limit { IfOk result (λ u. self.new.branches ≡ self.old.branches) }
         ensures waiting { IfOk result (λ u. (names files : List (List ℕ)) (input : Input) (first : core.Core) (place : ℕ) → IsRun (tables_with (C.sets conds.old) trees.old names files) input first steps.old
-            → Each (IsBetween place) steps.old.core.rows.items (number ∷ []) → AreWaiting (C.sets conds.old) input place steps.old.core.rows.items (numbers_in self.old)
-            → AreWaiting (C.sets conds.new) input place steps.new.core.rows.items (numbers_in self.new)) }
+            → Each (IsBetween place) steps.old.core.subparsers (number ∷ []) → AreWaiting (C.sets conds.old) input place steps.old.core.subparsers (numbers_in self.old)
+            → AreWaiting (C.sets conds.new) input place steps.new.core.subparsers (numbers_in self.new)) }
         ensures stops { IfErr result (λ stop. (names files : List (List ℕ)) (input : Input) (first : core.Core) (place : ℕ) → IsRun (tables_with (C.sets conds.old) trees.old names files) input first steps.old
-            → Each (IsBetween place) steps.old.core.rows.items (number ∷ []) → AreWaiting (C.sets conds.old) input place steps.old.core.rows.items (numbers_in self.old)
+            → Each (IsBetween place) steps.old.core.subparsers (number ∷ []) → AreWaiting (C.sets conds.old) input place steps.old.core.subparsers (numbers_in self.old)
             → StopsFor input self.old.branches stop) }
 
         // at every outcome
@@ -119,20 +119,20 @@ impl Rows {
     ) -> Result<(), Stop>
         requires own { OwnsSteps (C.sets conds.old) (length trees.old) steps.old }
         requires branches { OwnsBranches (C.sets conds.old) trees.old }
-        requires numbers { AreNumbers steps.old.core.rows.items (number ∷ numbers_in self.old) }
-        requires at { (k : ℕ) × (Each (IsAt k) steps.old.core.rows.items (number ∷ []) × k < length self.old.rows.items) }
-        requires filed { AreFiled steps.old.core.rows.items self.old }
+        requires numbers { AreNumbers steps.old.core.subparsers (number ∷ numbers_in self.old) }
+        requires at { (k : ℕ) × (Each (IsAt k) steps.old.core.subparsers (number ∷ []) × k < length self.old.rows.items) }
+        requires filed { AreFiled steps.old.core.subparsers self.old }
         ensures goes_on { IfOk result (λ u. (place : ℕ) → GoesOn (C.sets conds.old) (C.sets conds.new) trees.old trees.new place steps.old steps.new) }
-        ensures replaces { IfOk result (λ u. Replaces steps.old.core.rows.items steps.new.core.rows.items (number ∷ numbers_in self.old) (numbers_in self.new)) }
-        ensures filed { IfOk result (λ u. AreFiled steps.new.core.rows.items self.new) }
-        ensures done { IfOk result (λ u. (i k : ℕ) → Each (IsAt k) steps.old.core.rows.items (number ∷ []) → i ≤ k → HasNoneBefore self.old i → HasNoneBefore self.new i) }
+        ensures replaces { IfOk result (λ u. Replaces steps.old.core.subparsers steps.new.core.subparsers (number ∷ numbers_in self.old) (numbers_in self.new)) }
+        ensures filed { IfOk result (λ u. AreFiled steps.new.core.subparsers self.new) }
+        ensures done { IfOk result (λ u. (i k : ℕ) → Each (IsAt k) steps.old.core.subparsers (number ∷ []) → i ≤ k → HasNoneBefore self.old i → HasNoneBefore self.new i) }
         ensures long { IfOk result (λ u. length self.new.rows.items ≡ length self.old.rows.items) }
         ensures limit { IfOk result (λ u. self.new.branches ≡ self.old.branches) }
         ensures waiting { IfOk result (λ u. (names files : List (List ℕ)) (input : Input) (first : core.Core) (place : ℕ) → IsRun (tables_with (C.sets conds.old) trees.old names files) input first steps.old
-            → AreWaiting (C.sets conds.old) input place steps.old.core.rows.items (number ∷ numbers_in self.old)
-            → AreWaiting (C.sets conds.new) input place steps.new.core.rows.items (numbers_in self.new)) }
+            → AreWaiting (C.sets conds.old) input place steps.old.core.subparsers (number ∷ numbers_in self.old)
+            → AreWaiting (C.sets conds.new) input place steps.new.core.subparsers (numbers_in self.new)) }
         ensures stops { IfErr result (λ stop. (names files : List (List ℕ)) (input : Input) (first : core.Core) (place : ℕ) → IsRun (tables_with (C.sets conds.old) trees.old names files) input first steps.old
-            → AreWaiting (C.sets conds.old) input place steps.old.core.rows.items (number ∷ numbers_in self.old) → place < length input.items + 1
+            → AreWaiting (C.sets conds.old) input place steps.old.core.subparsers (number ∷ numbers_in self.old) → place < length input.items + 1
             → StopsFor input self.old.branches stop) }
 
         // at every outcome

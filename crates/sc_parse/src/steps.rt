@@ -40,11 +40,11 @@ impl Steps<'_> {
     ) -> Result<Vec<usize>, OutOfMemory>
         requires own { OwnsSteps (C.sets conds.old) (length trees.old) self.old }
         requires branches { OwnsBranches (C.sets conds.old) trees.old }
-        requires enabled { (fact : Fact) → IsRefused self.old.core.source self.old.core.rows.items event fact → ⊥ }
+        requires enabled { (fact : Fact) → IsRefused self.old.core.source self.old.core.subparsers event fact → ⊥ }
         ensures made { IfOk result (λ made. HasMade self.old.core event self.new.core made.items) }
         ensures step { IfOk result (λ made. (names files : List (List ℕ)) (input : Input) (first : core.Core) → IsRun (tables_with (C.sets conds.old) trees.old names files) input first self.old
             → IsStepTo (tables_with (C.sets conds.old) trees.old names files) (tables_with (C.sets conds.new) trees.new names files) input self.old.core event self.new.core) }
-        ensures goes_on { IfOk result (λ made. (place : ℕ) → IsBefore self.old.core.rows.items place event
+        ensures goes_on { IfOk result (λ made. (place : ℕ) → IsBefore self.old.core.subparsers place event
             → GoesOn (C.sets conds.old) (C.sets conds.new) trees.old trees.new place self.old self.new) }
 
         // at every outcome
@@ -76,15 +76,15 @@ impl Steps<'_> {
     ) -> Result<bool, OutOfMemory>
         requires own { OwnsSteps (C.sets conds.old) (length trees.old) self.old }
         requires branches { OwnsBranches (C.sets conds.old) trees.old }
-        requires numbers { AreNumbers self.old.core.rows.items (number ∷ others.old.items) }
+        requires numbers { AreNumbers self.old.core.subparsers (number ∷ others.old.items) }
         ensures goes_on { IfOk result (λ more. (place : ℕ) → GoesOn (C.sets conds.old) (C.sets conds.new) trees.old trees.new place self.old self.new) }
-        ensures replaces { IfOk result (λ more. Replaces self.old.core.rows.items self.new.core.rows.items (number ∷ others.old.items) others.new.items) }
-        ensures alike { IfOk result (λ more. AreLike self.old.core.rows.items (number ∷ others.old.items) self.new.core.rows.items others.new.items) }
+        ensures replaces { IfOk result (λ more. Replaces self.old.core.subparsers self.new.core.subparsers (number ∷ others.old.items) others.new.items) }
+        ensures alike { IfOk result (λ more. AreLike self.old.core.subparsers (number ∷ others.old.items) self.new.core.subparsers others.new.items) }
         ensures count { IfOk result (λ more. length others.new.items ≡ length others.old.items + (if more then 1 else 0)) }
-        ensures apart { IfOk result (λ more. AreApart self.old.core.rows.items others.old.items → AreApart self.new.core.rows.items others.new.items) }
+        ensures apart { IfOk result (λ more. AreApart self.old.core.subparsers others.old.items → AreApart self.new.core.subparsers others.new.items) }
         ensures waiting { IfOk result (λ more. (names files : List (List ℕ)) (input : Input) (first : core.Core) (place : ℕ) → IsRun (tables_with (C.sets conds.old) trees.old names files) input first self.old
-            → AreWaiting (C.sets conds.old) input place self.old.core.rows.items (number ∷ others.old.items)
-            → AreWaiting (C.sets conds.new) input place self.new.core.rows.items others.new.items) }
+            → AreWaiting (C.sets conds.old) input place self.old.core.subparsers (number ∷ others.old.items)
+            → AreWaiting (C.sets conds.new) input place self.new.core.subparsers others.new.items) }
 
         // at every outcome
         ensures keeps { Keeps (C.sets conds.old) (C.sets conds.new) }
@@ -102,10 +102,10 @@ impl Steps<'_> {
     /// Where the one that is like the subparser stands.
     fn place_of_like(&self, others: &[usize], number: usize) -> Option<usize>
         requires usable { self.now.core.is_given_up ≡ false }
-        requires numbers { AreNumbers self.now.core.rows.items (number ∷ others.now) }
+        requires numbers { AreNumbers self.now.core.subparsers (number ∷ others.now) }
         ensures some { IfSome result (λ place. place < length others.now
-            × ((s t : Subparser) → Has self.now.core.rows.items (get_or others.now place 0) s → Has self.now.core.rows.items number t → AreAlike s t)) }
-        ensures none { result ≡ None → All (λ other. (s t : Subparser) → Has self.now.core.rows.items other s → Has self.now.core.rows.items number t → AreAlike s t → ⊥) others.now }
+            × ((s t : Subparser) → Has self.now.core.subparsers (get_or others.now place 0) s → Has self.now.core.subparsers number t → AreAlike s t)) }
+        ensures none { result ≡ None → All (λ other. (s t : Subparser) → Has self.now.core.subparsers other s → Has self.now.core.subparsers number t → AreAlike s t → ⊥) others.now }
     {
         let key = self.key(number);
         for place in 0..others.len() {
@@ -127,14 +127,14 @@ impl Steps<'_> {
     ) -> Result<usize, OutOfMemory>
         requires own { OwnsSteps (C.sets conds.old) (length trees.old) self.old }
         requires branches { OwnsBranches (C.sets conds.old) trees.old }
-        requires numbers { AreNumbers self.old.core.rows.items (number ∷ (other ∷ [])) }
-        requires alike { (s t : Subparser) → Has self.old.core.rows.items number s → Has self.old.core.rows.items other t → AreAlike s t }
+        requires numbers { AreNumbers self.old.core.subparsers (number ∷ (other ∷ [])) }
+        requires alike { (s t : Subparser) → Has self.old.core.subparsers number s → Has self.old.core.subparsers other t → AreAlike s t }
         ensures goes_on { IfOk result (λ merged. (place : ℕ) → GoesOn (C.sets conds.old) (C.sets conds.new) trees.old trees.new place self.old self.new) }
-        ensures replaces { IfOk result (λ merged. Replaces self.old.core.rows.items self.new.core.rows.items (number ∷ (other ∷ [])) (merged ∷ [])) }
-        ensures merged { IfOk result (λ merged. (s : Subparser) → Has self.old.core.rows.items number s → (u : Subparser) × (Has self.new.core.rows.items merged u × AreAlike s u)) }
+        ensures replaces { IfOk result (λ merged. Replaces self.old.core.subparsers self.new.core.subparsers (number ∷ (other ∷ [])) (merged ∷ [])) }
+        ensures merged { IfOk result (λ merged. (s : Subparser) → Has self.old.core.subparsers number s → (u : Subparser) × (Has self.new.core.subparsers merged u × AreAlike s u)) }
         ensures waiting { IfOk result (λ merged. (names files : List (List ℕ)) (input : Input) (first : core.Core) (place : ℕ) → IsRun (tables_with (C.sets conds.old) trees.old names files) input first self.old
-            → AreWaiting (C.sets conds.old) input place self.old.core.rows.items (number ∷ (other ∷ []))
-            → AreWaiting (C.sets conds.new) input place self.new.core.rows.items (merged ∷ [])) }
+            → AreWaiting (C.sets conds.old) input place self.old.core.subparsers (number ∷ (other ∷ []))
+            → AreWaiting (C.sets conds.new) input place self.new.core.subparsers (merged ∷ [])) }
 
         // at every outcome
         ensures keeps { Keeps (C.sets conds.old) (C.sets conds.new) }
@@ -151,8 +151,8 @@ impl Steps<'_> {
     /// The key of a subparser that is not gone.
     pub(crate) fn key(&self, number: usize) -> Key<'_>
         requires usable { self.now.core.is_given_up ≡ false }
-        requires there { (s : Subparser) × Has self.now.core.rows.items number s }
-        ensures { (s : Subparser) × (Has self.now.core.rows.items number s × IsKeyOf result s) }
+        requires there { (s : Subparser) × Has self.now.core.subparsers number s }
+        ensures { (s : Subparser) × (Has self.now.core.subparsers number s × IsKeyOf result s) }
     {
         match self.core.look(number) {
             Some((_, key)) => key,

@@ -5,6 +5,7 @@ use crate::parse::{END, TYPE_OR_VARIABLE, c11_tables, list_of};
 use sc_base::{Cond, Names, OutOfMemory};
 use sc_fork::{Core, CoreStop, Event};
 use sc_lalr::Tables;
+use sc_model::Standard;
 use sc_presence::{Conditions, PlainSets};
 use sc_tree::Trees;
 use std::alloc::Global;
@@ -98,7 +99,16 @@ fn checks_given_up<C: Conditions>(
     let mut names = Names::new(alloc)?;
     let list = list_of(alloc, conds, &mut names, TYPE_OR_VARIABLE.texts)?;
     let live = conds.always();
-    let mut core = Core::start(alloc, conds, &names, &list, live, END, tables)?;
+    let mut core = Core::start(
+        alloc,
+        conds,
+        &names,
+        &list,
+        live,
+        END,
+        tables,
+        Standard::C11,
+    )?;
     let mut trees = Trees::new(alloc);
     conds.has_memory = false;
     let first = core.apply(alloc, conds, &mut trees, Event::Split(0));

@@ -10,7 +10,7 @@ use sc_guarded::Guarded;
 use sc_items::states;
 use sc_lalr::{Tables, build};
 use sc_lex::tokens;
-use sc_model::Kind;
+use sc_model::{Kind, Standard};
 use sc_parse::{Parsed, parse};
 use sc_presence::{Conditions, PlainSets};
 use sc_tree::{TreeView, Trees};
@@ -181,7 +181,16 @@ fn parsed<C: Conditions>(
     };
     let mut trees = Trees::new(alloc);
     let parsed = parse(
-        alloc, conds, &mut trees, &names, &list, live, END, tables, limits,
+        alloc,
+        conds,
+        &mut trees,
+        &names,
+        &list,
+        live,
+        END,
+        tables,
+        limits,
+        Standard::C11,
     )?;
     Ok((trees, parsed))
 }

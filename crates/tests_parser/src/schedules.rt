@@ -8,6 +8,7 @@ use sc_base::{Cond, Names};
 use sc_fork::{Core, CoreStop, Event, Fact};
 use sc_lalr::Tables;
 use sc_merge::Phase;
+use sc_model::Standard;
 use sc_presence::{Conditions, PlainSets};
 use sc_tree::Trees;
 use std::alloc::Global;
@@ -166,7 +167,16 @@ fn checks_order<C: Conditions>(
     let mut names = Names::new(alloc)?;
     let list = list_of(alloc, conds, &mut names, TYPE_OR_VARIABLE.texts)?;
     let live = conds.always();
-    let mut core = Core::start(alloc, conds, &names, &list, live, END, tables)?;
+    let mut core = Core::start(
+        alloc,
+        conds,
+        &names,
+        &list,
+        live,
+        END,
+        tables,
+        Standard::C11,
+    )?;
     let mut trees = Trees::new(alloc);
     run(rt, alloc, conds, &mut trees, &mut core, order)?;
     checks_result(rt, alloc, conds, &mut trees, &core)

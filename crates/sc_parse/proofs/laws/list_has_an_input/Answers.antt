@@ -10,9 +10,9 @@ use Rattle.sc_model.specs.Token as plain
 use Rattle.sc_parse.proofs.laws.list_has_an_input.Goals as goal
 
 pub returns : goal.returns
-returns c = λ w list tables end live placed.
+returns c = λ w list tables standard end live placed.
     let item_seen : Cond × Token → Condition × plain.Token = λ item. (w.sets.has item.0.0, seen w.names w.files item.1) in (
-      record { parser = c11_parser (tables_of [] tables); arities = w.sets.arities; items = map item_seen list; end = seen_place w.files end; live = w.sets.has live.0 },
+      record { parser = c11_parser standard (tables_of [] tables); arities = w.sets.arities; items = map item_seen list; end = seen_place w.files end; live = w.sets.has live.0 },
       record {
         states = [];
         parser = refl;

@@ -15,7 +15,7 @@ part-requires-clause-between g c =
     (0, first-between c.args.steps.now c.requires.begun there.0 there.1)
 
 pub part-requires-clause-filed : goal.part-requires-clause-filed
-part-requires-clause-filed g c = c.in_ok-rows.ensures.filed c.args.steps.now.core.rows.items
+part-requires-clause-filed g c = c.in_ok-rows.ensures.filed c.args.steps.now.core.subparsers
 
 pub returns-in_err-part-clause-stops : goal.returns-in_err-part-clause-stops
 returns-in_err-part-clause-stops g c =
@@ -26,7 +26,7 @@ returns-in_err-part-clause-stops g c =
     (λ names files input first run.
     subst (λ n. StopsFor input n c.in_err-part.field-0.0) c.in_ok-rows.ensures.branches
     (c.in_err-part.ensures.stops names files input first 0 run (first-between steps c.requires.begun there.0 there.1)
-    (no-waiting (g.C.Conditions.sets c.args.conds.now) input 0 steps.core.rows.items (numbers_in c.in_ok-rows.rows) c.in_ok-rows.ensures.numbers)))
+    (no-waiting (g.C.Conditions.sets c.args.conds.now) input 0 steps.core.subparsers (numbers_in c.in_ok-rows.rows) c.in_ok-rows.ensures.numbers)))
 
 pub loop-at-init : goal.loop-at-init
 loop-at-init g c =
@@ -43,7 +43,7 @@ loop-at-init g c =
       | else-is_some w ↦
           rw (w.conds-is, w.trees-is, w.steps-is, w.rows-is)
           (come-empty (s c.args.conds.now) c.args.trees.now c.args.elements c.args.branches steps c.in_ok-rows.rows c.requires.own c.requires.branches c.requires.long c.requires.begun
-          (c.look.ensures.none (first-none c.look.result w.if-is_some.ensures) c.requires.own.usable) rows.numbers (rows.filed steps.core.rows.items) rows.long rows.branches)
+          (c.look.ensures.none (first-none c.look.result w.if-is_some.ensures) c.requires.own.usable) rows.numbers (rows.filed steps.core.subparsers) rows.long rows.branches)
     ]
 
 pub take_element-requires-clause-own : goal.take_element-requires-clause-own

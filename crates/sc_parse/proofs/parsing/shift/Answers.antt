@@ -12,10 +12,10 @@ loop-made-init g c =
     let gives = c.into_iter-made-iterator.ensures.into_iter_gives in
     record {
       shifting = λ j ready.
-          let one = first-ready c.args.steps.now.core.source c.args.steps.now.core.rows.items j c.args.number ready in
+          let one = first-ready c.args.steps.now.core.source c.args.steps.now.core.subparsers j c.args.number ready in
           rw c.into_iter-made-iterator.ensures.into_iter_gives.0
           (shift-begins _ _ _ _ c.args.steps.now _ j c.args.number c.args.behind.now.items _ ready c.in_ok-made-items.ensures.made
-          (c.in_ok-made-items.ensures.goes_on (j + 1) (shift-before c.args.steps.now.core.rows.items c.args.number j one.0 one.1.0 one.1.1.at)));
+          (c.in_ok-made-items.ensures.goes_on (j + 1) (shift-before c.args.steps.now.core.subparsers c.args.number j one.0 one.1.0 one.1.1.at)));
       count = omega (arith, gives.1, ap length gives.0, c.in_ok-made-items.made-items.ok.0);
     }
 
@@ -36,7 +36,7 @@ apply-requires-then-matches-clause-branches g c = (c.loop-made.invariant.shiftin
 pub apply-requires-then-matches-clause-enabled : goal.apply-requires-then-matches-clause-enabled
 apply-requires-then-matches-clause-enabled g c = elim c.match-matches.branch [
   | in-Named w ↦
-      classify-enabled c.loop-made.steps.core.source c.loop-made.steps.core.rows.items c.in-Some.made w.in-Named.field-0 c.key.ensures.0 c.key.ensures.1.0
+      classify-enabled c.loop-made.steps.core.source c.loop-made.steps.core.subparsers c.in-Some.made w.in-Named.field-0 c.key.ensures.0 c.key.ensures.1.0
       (sym c.key.ensures.1.1.phase ∙ sym w.in-Named.ensures)
   | in_default w ↦ absurd (cc)
 ]
@@ -57,7 +57,7 @@ pub loop-made-preserved-then-matches : goal.loop-made-preserved-then-matches
 loop-made-preserved-then-matches g c = record {
   shifting = λ j ready. elim c.match-matches.branch [
     | in-Named w ↦
-        let rows = c.loop-made.steps.core.rows.items in
+        let rows = c.loop-made.steps.core.subparsers in
         let is : c.key.ensures.0.phase ≡ Named w.in-Named.field-0 = sym c.key.ensures.1.1.phase ∙ sym w.in-Named.ensures in
         let was = shift-next c.in-Some.ensures.steps.0 (c.loop-made.invariant.shifting j ready) in
         rw c.in_ok-append.ensures.items (shift-kinds was ready _ _ c.apply-then-matches.new.self c.key.ensures.0 w.in-Named.field-0 _ c.key.ensures.1.0 is c.in_ok-kinds.ensures.made

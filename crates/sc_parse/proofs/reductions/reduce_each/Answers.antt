@@ -28,7 +28,7 @@ taken g c =
     c.args.heaviest.items c.args.waiting.now.entries c.loop-number.ready.items ns c.loop-number.waiting.entries)
     c.in-Some.ensures.steps.0 c.loop-number.invariant.taken
 
-at-next : (g : _) (c : In-Some g) → Each (IsAt c.requires.at.0) c.loop-number.steps.core.rows.items (c.in-Some.number ∷ numbers_of c.loop-number.waiting.entries)
+at-next : (g : _) (c : In-Some g) → Each (IsAt c.requires.at.0) c.loop-number.steps.core.subparsers (c.in-Some.number ∷ numbers_of c.loop-number.waiting.entries)
 at-next g c =
     next-at (g.C.Conditions.sets c.args.conds.now) (g.C.Conditions.sets c.loop-number.conds) c.args.trees.now c.loop-number.trees c.args.steps.now c.loop-number.steps c.args.ready.now.items
     c.args.heaviest.items c.args.waiting.now.entries c.loop-number.ready.items c.in-Some.number (into_iter_items c.next.new.self) c.loop-number.waiting.entries (taken g c) c.requires.at.0 c.requires.at.1
@@ -52,7 +52,7 @@ reduce_one-requires-clause-weighed g c = c.loop-number.invariant.taken.weighed
 
 pub reduce_one-requires-clause-reduces : goal.reduce_one-requires-clause-reduces
 reduce_one-requires-clause-reduces g c =
-    reducing-one c.loop-number.steps.core.source c.loop-number.steps.core.rows.items c.in-Some.number c.requires.at.0 c.in-Some-reduction.rule (numbers_of c.loop-number.waiting.entries)
+    reducing-one c.loop-number.steps.core.source c.loop-number.steps.core.subparsers c.in-Some.number c.requires.at.0 c.in-Some-reduction.rule (numbers_of c.loop-number.waiting.entries)
     (at-next g (goal.at.reduce_one-requires-clause-reduces g c).In-Some)
     (λ s has at. c.in-Some-reduction.ensures.some s c.requires.at.0 (record { has = has; phase = at }))
 

@@ -39,7 +39,7 @@ pub wait-requires-clause-numbers : goal.wait-requires-clause-numbers
 wait-requires-clause-numbers g c =
     let at = c.loop-made in
     let steps : into_iter_items at.made-iterator ≡ c.in-Some.made ∷ into_iter_items c.next.new.self = c.in-Some.ensures.steps.0 in
-    fewer-numbers at.steps.core.rows.items (into_iter_items at.made-iterator ++ numbers_of at.waiting.entries) (c.in-Some.made ∷ numbers_of at.waiting.entries) at.invariant.reduced.numbers
+    fewer-numbers at.steps.core.subparsers (into_iter_items at.made-iterator ++ numbers_of at.waiting.entries) (c.in-Some.made ∷ numbers_of at.waiting.entries) at.invariant.reduced.numbers
     (λ n.
     let first = ap (λ ns. times n (ns ++ numbers_of at.waiting.entries)) steps in
     let e = times-append n (c.in-Some.made ∷ into_iter_items c.next.new.self) (numbers_of at.waiting.entries) in
@@ -53,8 +53,8 @@ wait-requires-clause-ranked g c = λ s has.
     let at = c.loop-made in
     let R = IsRanked at.steps.core.source c.production-rank.result.left.0 in
     let steps : into_iter_items at.made-iterator ≡ c.in-Some.made ∷ into_iter_items c.next.new.self = c.in-Some.ensures.steps.0 in
-    at-number R at.steps.core.rows.items c.in-Some.made (into_iter_items c.next.new.self) s has
-    (subst (λ ns. Each R at.steps.core.rows.items ns) steps at.invariant.reduced.ranked)
+    at-number R at.steps.core.subparsers c.in-Some.made (into_iter_items c.next.new.self) s has
+    (subst (λ ns. Each R at.steps.core.subparsers ns) steps at.invariant.reduced.ranked)
 
 pub wait-requires-clause-low : goal.wait-requires-clause-low
 wait-requires-clause-low g c = let h = rule-left c.args.rule (production_of c.production-rank.result) c.production-rank.ensures in omega (arith, h)

@@ -17,21 +17,21 @@ pub reduced_alone-requires-clause-at : goal.reduced_alone-requires-clause-at
 reduced_alone-requires-clause-at g c =
     let items = c.as_slice.result.now in (
       c.requires.at.0,
-      subst (λ ns. Each (IsAt c.requires.at.0) c.args.steps.now.core.rows.items ns) (sym c.as_slice.ensures.value ∙ one-item items c.in-len1.len_at_least c.in-len1.len_below) c.requires.at.1,
+      subst (λ ns. Each (IsAt c.requires.at.0) c.args.steps.now.core.subparsers ns) (sym c.as_slice.ensures.value ∙ one-item items c.in-len1.len_at_least c.in-len1.len_below) c.requires.at.1,
     )
 
 pub returns-in-len1-clause-goes_on : goal.returns-in-len1-clause-goes_on
 returns-in-len1-clause-goes_on g c =
     let items = c.as_slice.result.now in
-    subst (λ ns. IfOk c.reduced_alone.result (λ ready. (j : ℕ) → Each (IsAt j) c.args.steps.now.core.rows.items ns
+    subst (λ ns. IfOk c.reduced_alone.result (λ ready. (j : ℕ) → Each (IsAt j) c.args.steps.now.core.subparsers ns
     → GoesOn (g.C.Conditions.sets c.args.conds.now) (g.C.Conditions.sets c.reduced_alone.new.conds) c.args.trees.now c.reduced_alone.new.trees (j + 1) c.args.steps.now c.reduced_alone.new.steps))
     (sym (one-item items c.in-len1.len_at_least c.in-len1.len_below) ∙ c.as_slice.ensures.value) c.reduced_alone.ensures.goes_on
 
 pub returns-in-len1-clause-ready : goal.returns-in-len1-clause-ready
 returns-in-len1-clause-ready g c =
     let items = c.as_slice.result.now in
-    subst (λ ns. IfOk c.reduced_alone.result (λ ready. (j : ℕ) → Each (IsAt j) c.args.steps.now.core.rows.items ns
-    → Each (IsReady c.reduced_alone.new.steps.core.source j) c.reduced_alone.new.steps.core.rows.items ready.items))
+    subst (λ ns. IfOk c.reduced_alone.result (λ ready. (j : ℕ) → Each (IsAt j) c.args.steps.now.core.subparsers ns
+    → Each (IsReady c.reduced_alone.new.steps.core.source j) c.reduced_alone.new.steps.core.subparsers ready.items))
     (sym (one-item items c.in-len1.len_at_least c.in-len1.len_below) ∙ c.as_slice.ensures.value) c.reduced_alone.ensures.ready
 
 -- ---- each waits
@@ -57,7 +57,7 @@ pub wait-requires-clause-numbers : goal.wait-requires-clause-numbers
 wait-requires-clause-numbers g c =
     let at = c.loop-number in
     let steps : into_iter_items at.number-iterator ≡ c.in-Some.number ∷ into_iter_items c.next.new.self = c.in-Some.ensures.steps.0 in
-    fewer-numbers at.steps.core.rows.items (into_iter_items at.number-iterator ++ numbers_of at.waiting.entries) (c.in-Some.number ∷ numbers_of at.waiting.entries) at.invariant.gone.numbers
+    fewer-numbers at.steps.core.subparsers (into_iter_items at.number-iterator ++ numbers_of at.waiting.entries) (c.in-Some.number ∷ numbers_of at.waiting.entries) at.invariant.gone.numbers
     (λ n.
     let first = ap (λ ns. times n (ns ++ numbers_of at.waiting.entries)) steps in
     let e = times-append n (c.in-Some.number ∷ into_iter_items c.next.new.self) (numbers_of at.waiting.entries) in
@@ -157,7 +157,7 @@ pub returns-clause-replaces : goal.returns-clause-replaces
 returns-clause-replaces g c =
     let at = c.loop-heaviest in
     let none : at.waiting.entries ≡ [] = none-popped at.waiting.entries c.pop_last.result c.in_default-pop_last.is c.pop_last.ensures.variant.1 in
-    subst (λ ns. Replaces c.args.steps.now.core.rows.items at.steps.core.rows.items c.args.row.items ns) (ap (λ es. at.ready.items ++ numbers_of es) none ∙ append-nil at.ready.items)
+    subst (λ ns. Replaces c.args.steps.now.core.subparsers at.steps.core.subparsers c.args.row.items ns) (ap (λ es. at.ready.items ++ numbers_of es) none ∙ append-nil at.ready.items)
     (at.invariant.moves c.requires.at.0 c.requires.at.1).replaces
 
 pub returns-clause-ready : goal.returns-clause-ready

@@ -18,12 +18,12 @@ pub loop-rule-init : goal.loop-rule-init
 loop-rule-init g c = first-alone (g.C.Conditions.sets c.args.conds.now) c.args.trees.now c.args.steps.now c.args.number c.requires.own c.requires.branches c.requires.numbers
 
 -- the element that comes next
-looks : (g : _) (c : In-Some g) → Each (IsAt c.requires.at.0) c.loop-rule.steps.core.rows.items (c.loop-rule.number ∷ [])
+looks : (g : _) (c : In-Some g) → Each (IsAt c.requires.at.0) c.loop-rule.steps.core.subparsers (c.loop-rule.number ∷ [])
 looks g c = (c.loop-rule.invariant.moves c.requires.at.0 c.requires.at.1).at
 
-reduces : (g : _) (c : In-Some g) → Each (IsReducing c.loop-rule.steps.core.source c.in-Some.rule) c.loop-rule.steps.core.rows.items (c.loop-rule.number ∷ [])
+reduces : (g : _) (c : In-Some g) → Each (IsReducing c.loop-rule.steps.core.source c.in-Some.rule) c.loop-rule.steps.core.subparsers (c.loop-rule.number ∷ [])
 reduces g c =
-    reducing-one c.loop-rule.steps.core.source c.loop-rule.steps.core.rows.items c.loop-rule.number c.requires.at.0 c.in-Some.rule [] (looks g c)
+    reducing-one c.loop-rule.steps.core.source c.loop-rule.steps.core.subparsers c.loop-rule.number c.requires.at.0 c.in-Some.rule [] (looks g c)
     (λ s has at. c.in-Some.ensures.some s c.requires.at.0 (record { has = has; phase = at }))
 
 -- what the reduction makes of it
@@ -34,8 +34,8 @@ once g c =
     let at = c.loop-rule in
     reduced-first (g.C.Conditions.sets at.conds) (g.C.Conditions.sets c.apply.new.conds) at.trees c.apply.new.trees at.steps c.apply.new.self at.number c.in-Some.rule
     (production_of c.production-production.result) [] c.in_ok-made.made.items at.invariant.own at.invariant.branches at.invariant.numbers c.requires.at.0
-    (at.invariant.moves c.requires.at.0 c.requires.at.1).at (All-nil (IsWeighed at.steps.core.source at.steps.core.rows.items))
-    (reducing-one at.steps.core.source at.steps.core.rows.items at.number c.requires.at.0 c.in-Some.rule [] (at.invariant.moves c.requires.at.0 c.requires.at.1).at
+    (at.invariant.moves c.requires.at.0 c.requires.at.1).at (All-nil (IsWeighed at.steps.core.source at.steps.core.subparsers))
+    (reducing-one at.steps.core.source at.steps.core.subparsers at.number c.requires.at.0 c.in-Some.rule [] (at.invariant.moves c.requires.at.0 c.requires.at.1).at
     (λ s has phase. c.in-Some.ensures.some s c.requires.at.0 (record { has = has; phase = phase })))
     c.production-production.ensures c.in_ok-made.ensures.made c.in_ok-made.ensures.goes_on
 
@@ -73,7 +73,7 @@ apply-requires-clause-branches g c = c.loop-rule.invariant.branches
 pub apply-requires-clause-enabled : goal.apply-requires-clause-enabled
 apply-requires-clause-enabled g c = λ fact refused.
     let j = c.requires.at.0 in
-    let rows = c.loop-rule.steps.core.rows.items in
+    let rows = c.loop-rule.steps.core.subparsers in
     let at = All-head (λ n. (s : Subparser) × (Has rows n s × IsAt j s)) c.loop-rule.number [] (looks g (goal.at.apply-requires-clause-enabled g c).In-Some) in
     reduction-enabled c.loop-rule.steps.core.source rows c.loop-rule.number at.0 j c.in-Some.rule fact at.1.0 at.1.1 (c.in-Some.ensures.some at.0 j (record { has = at.1.0; phase = at.1.1 })) refused
 
@@ -96,7 +96,7 @@ returns-in_default-first-clause-goes_on g c = λ j each.
 
 pub returns-in_default-first-clause-replaces : goal.returns-in_default-first-clause-replaces
 returns-in_default-first-clause-replaces g c =
-    subst (λ ns. Replaces c.args.steps.now.core.rows.items c.apply.new.self.core.rows.items (c.args.number ∷ []) ns) (none-there g c ∙ sym c.new.ensures.items)
+    subst (λ ns. Replaces c.args.steps.now.core.subparsers c.apply.new.self.core.subparsers (c.args.number ∷ []) ns) (none-there g c ∙ sym c.new.ensures.items)
     (alone-moves (g.C.Conditions.sets c.args.conds.now) (g.C.Conditions.sets c.loop-rule.conds) (g.C.Conditions.sets c.apply.new.conds) c.args.trees.now c.loop-rule.trees c.apply.new.trees
     c.args.steps.now c.loop-rule.steps c.apply.new.self c.args.number c.loop-rule.number c.loop-rule.rank c.production-production.result.left.0 c.in_ok-made.made.items c.loop-rule.invariant
     (once g (goal.at.returns-in_default-first-clause-replaces g c).In_ok-made) c.requires.at.0 c.requires.at.1).replaces
@@ -112,7 +112,7 @@ returns-in_default-first-clause-grows g c = Extends-trans c.loop-rule.invariant.
 one-there : (g : _) (c : goal.After-drop-made-in-Some g) → c.in_ok-made.made.items ≡ c.in-Some-first.next.now ∷ []
 one-there g c =
     let j = c.requires.at.0 in
-    let rows = c.loop-rule.steps.core.rows.items in
+    let rows = c.loop-rule.steps.core.subparsers in
     let at = All-head (λ n. (s : Subparser) × (Has rows n s × IsAt j s)) c.loop-rule.number [] (c.loop-rule.invariant.moves j c.requires.at.1).at in
     one-made c.in_ok-made.made.items c.in-Some-first.next.now
     (ap (λ ns. slice_get ns 0) (sym c.deref.ensures.value) ∙ sym c.first.ensures.value ∙ ap option_copied c.in-Some-first.is)
@@ -144,13 +144,13 @@ returns-clause-goes_on g c = λ j each. (c.loop-rule.invariant.moves j each).goe
 
 pub returns-clause-replaces : goal.returns-clause-replaces
 returns-clause-replaces g c =
-    subst (λ ns. Replaces c.args.steps.now.core.rows.items c.loop-rule.steps.core.rows.items (c.args.number ∷ []) ns) (sym c.in_ok-vec.ensures.items)
+    subst (λ ns. Replaces c.args.steps.now.core.subparsers c.loop-rule.steps.core.subparsers (c.args.number ∷ []) ns) (sym c.in_ok-vec.ensures.items)
     (c.loop-rule.invariant.moves c.requires.at.0 c.requires.at.1).replaces
 
 pub returns-clause-ready : goal.returns-clause-ready
 returns-clause-ready g c = λ j each.
-    subst (λ ns. Each (IsReady c.loop-rule.steps.core.source j) c.loop-rule.steps.core.rows.items ns) (sym c.in_ok-vec.ensures.items)
-    (alone-ready c.loop-rule.steps.core.source c.loop-rule.steps.core.rows.items c.loop-rule.number j (c.loop-rule.invariant.moves j each).at
+    subst (λ ns. Each (IsReady c.loop-rule.steps.core.source j) c.loop-rule.steps.core.subparsers ns) (sym c.in_ok-vec.ensures.items)
+    (alone-ready c.loop-rule.steps.core.source c.loop-rule.steps.core.subparsers c.loop-rule.number j (c.loop-rule.invariant.moves j each).at
     (λ s has at p acts. c.reduction.ensures.none c.in_default.is s j (record { has = has; phase = at }) p acts))
 
 pub returns-clause-keeps : goal.returns-clause-keeps

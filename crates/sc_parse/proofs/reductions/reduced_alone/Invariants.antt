@@ -7,4 +7,4 @@ invariant-loop-rule g l = IsAlone (g.C.Conditions.sets l.fn.conds) (g.C.Conditio
 
 -- each reduction lowers the stack, or the rank alone
 abbrev pub decreases-loop-rule : goal.decreases-loop-rule
-decreases-loop-rule g l = 101 * height_at l.steps.core.rows.items l.number + l.rank
+decreases-loop-rule g l = 101 * height_at l.steps.core.subparsers l.number + l.rank

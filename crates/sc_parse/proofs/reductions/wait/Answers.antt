@@ -6,6 +6,7 @@ use Rattle.std.specs.Global.{Vec}
 use Rattle.std.specs.Map.{lookup, remove_entry}
 use Rattle.std.specs.BTreeMap.{is_at}
 use Rattle.sc_fork.specs.Enabled.{Has}
+use Rattle.sc_fork.specs.View.{states_in}
 use Rattle.sc_merge.specs.declared.subparser.Subparser.{Subparser}
 use Rattle.sc_parse.proofs.NumberLemmas.{each-append, each-of, fewer-numbers, first-number, times-append}
 use Rattle.sc_parse.proofs.WeightLemmas.{all-put, all-removed, each-like, items_in, like-at, like-weight, others-kept, replaces-among, taken-weighed, times-put, times-taken, weight_cmp, weight-same, weighed-then}
@@ -17,7 +18,7 @@ use Rattle.sc_parse.proofs.reductions.wait.Goals as goal
 use Rattle.sc_parse.proofs.reductions.wait.Goals.{After-alike-1, in-Some, in-None}
 
 pub key-requires-clause-there : goal.key-requires-clause-there
-key-requires-clause-there g c = first-number c.args.steps.now.core.rows.items c.args.number (numbers_of c.args.waiting.now.entries) c.requires.numbers
+key-requires-clause-there g c = first-number c.args.steps.now.core.subparsers c.args.number (numbers_of c.args.waiting.now.entries) c.requires.numbers
 
 -- the subparsers of the weight
 taken-are : (g : _) (c : After-alike-1 g) → c.match-remove.alike.items ≡ items_in c.remove.result
@@ -40,22 +41,22 @@ whole : (g : _) (c : After-alike-1 g) (n : ℕ)
     → times n (c.args.number ∷ numbers_of c.args.waiting.now.entries) ≡ times n (c.args.number ∷ c.match-remove.alike.items) + times n (numbers_of c.remove.new.self.entries)
 whole g c n = let h = counted g c n in omega (arith, h)
 
-height-is : (g : _) (c : After-alike-1 g) (s : Subparser) → Has c.args.steps.now.core.rows.items c.args.number s → length (states_of s.stack) ≡ c.height.result
+height-is : (g : _) (c : After-alike-1 g) (s : Subparser) → Has c.args.steps.now.core.subparsers c.args.number s → length (states_in s) ≡ c.height.result
 height-is g c s has =
     let key = c.key.ensures in
     let same : key.0 ≡ s = same_Some key.0 s (same_Some (Some key.0) (Some s) (sym key.1.0 ∙ has)) in
-    let states : length (states_of c.key.result.stack.now) ≡ length (states_of key.0.stack) = ap length key.1.1.states in
-    ap (λ (z : Subparser). length (states_of z.stack)) (sym same) ∙ sym states ∙ length-map c.key.result.stack.now (λ (entry : Entry). entry.state) ∙ sym c.height.ensures
+    let states : length (states_of c.key.result.stack.now) ≡ length (states_in key.0) = ap length key.1.1.states in
+    ap (λ (z : Subparser). length (states_in z)) (sym same) ∙ sym states ∙ length-map c.key.result.stack.now (λ (entry : Entry). entry.state) ∙ sym c.height.ensures
 
 pub join-requires-clause-numbers : goal.join-requires-clause-numbers
 join-requires-clause-numbers g c =
-    fewer-numbers c.args.steps.now.core.rows.items (c.args.number ∷ numbers_of c.args.waiting.now.entries) (c.args.number ∷ c.match-remove.alike.items) c.requires.numbers
+    fewer-numbers c.args.steps.now.core.subparsers (c.args.number ∷ numbers_of c.args.waiting.now.entries) (c.args.number ∷ c.match-remove.alike.items) c.requires.numbers
     (λ n. let h = whole g c n in omega (arith, h))
 
 pub returns-clause-replaces : goal.returns-clause-replaces
 returns-clause-replaces g c =
-    let old = c.args.steps.now.core.rows.items in
-    let new = c.join.new.self.core.rows.items in
+    let old = c.args.steps.now.core.subparsers in
+    let new = c.join.new.self.core.subparsers in
     let rest = c.remove.new.self.entries in
     replaces-among old new (c.args.number ∷ c.match-remove.alike.items) c.join.new.others.items (numbers_of rest) (c.args.number ∷ numbers_of c.args.waiting.now.entries) (numbers_of c.insert.new.self.entries)
     c.in_ok-join.ensures.replaces (whole g (goal.at.returns-clause-replaces g c).After-alike-1)
@@ -65,8 +66,8 @@ pub returns-clause-weighed : goal.returns-clause-weighed
 returns-clause-weighed g c =
     let s = c.args.steps.now.core.source in
     let at = (goal.at.returns-clause-weighed g c).After-alike-1 in
-    let old = c.args.steps.now.core.rows.items in
-    let new = c.join.new.self.core.rows.items in
+    let old = c.args.steps.now.core.subparsers in
+    let new = c.join.new.self.core.subparsers in
     let rest = c.remove.new.self.entries in
     let w : Weight = record { height = c.height.result; rank = c.args.rank } in
     let N : ℕ → Type 0 = λ n. (t : Subparser) × (Has old n t × HasWeight s w t) in
@@ -89,8 +90,8 @@ returns-clause-weighed g c =
 pub returns-clause-at : goal.returns-clause-at
 returns-clause-at g c = λ j each.
     let at = (goal.at.returns-clause-at g c).After-alike-1 in
-    let old = c.args.steps.now.core.rows.items in
-    let new = c.join.new.self.core.rows.items in
+    let old = c.args.steps.now.core.subparsers in
+    let new = c.join.new.self.core.subparsers in
     let rest = c.remove.new.self.entries in
     let all = c.args.number ∷ numbers_of c.args.waiting.now.entries in
     let gone = c.args.number ∷ c.match-remove.alike.items in

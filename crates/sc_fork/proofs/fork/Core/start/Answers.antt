@@ -1,12 +1,15 @@
 use Rattle.std.proofs.Common.{List, All, sym, subst}
 use Rattle.sc_base.specs.declared.id.Cond.{Cond}
 use Rattle.sc_base.specs.declared.token.Token.{Token}
-use Rattle.sc_fork.proofs.StartLemmas.{starts, start-owns}
+use Rattle.sc_fork.proofs.StartLemmas.{first-numbered, starts, start-owns}
 use Rattle.sc_fork.specs.Owns.{HasC11Tables, AreTerminals}
 use Rattle.sc_lalr.specs.declared.tables.Tables.{Tables}
 use Rattle.sc_merge.specs.Merges.{tables_with}
 use Rattle.sc_model.specs.Sets.{IsCond}
 use Rattle.sc_fork.proofs.fork.Core.start.Goals as goal
+
+pub invariant_of-result : goal.invariant_of-result
+invariant_of-result g c = λ usable. first-numbered (g.C.Conditions.sets c.args.conds.now) c.args.live c.new-3.result _ c.in_ok-rows.ensures
 
 pub returns-clause-start : goal.returns-clause-start
 returns-clause-start g c = λ lines files.
@@ -19,8 +22,9 @@ returns-clause-own g c =
     start-owns sets count _ c.args.live
     (record {
       tables = subst (λ (t : Tables). HasC11Tables t) (sym c.in_ok-source.ensures.tables) c.requires.tables;
+      standard = c.args.standard;
       names = c.args.names.now;
-      terminals = subst (λ (list : List (Cond × Token)). AreTerminals c.args.names.now list c.in_ok-source.source.terminals.items) (sym c.in_ok-source.ensures.list) c.in_ok-source.ensures.terminals;
+      terminals = subst (λ (list : List (Cond × Token)). AreTerminals c.args.standard c.args.names.now list c.in_ok-source.source.terminals.items) (sym c.in_ok-source.ensures.list) c.in_ok-source.ensures.terminals;
     })
     (subst (λ (list : List (Cond × Token)). All (λ (item : Cond × Token). IsCond sets item.0.0) list) (sym c.in_ok-source.ensures.list) c.requires.items)
     c.requires.live c.in_ok-rows.ensures c.new-2.ensures.items

@@ -41,26 +41,26 @@ module _ (g : Over) (c : In-Some g) where
       subst (λ (ns : List ℕ). ArePartlyFiled (g.C.Conditions.sets c.args.conds.now) (g.C.Conditions.sets c.loop-part.conds) c.args.trees.now c.loop-part.trees c.args.number c.args.self.now
       c.args.steps.now ns c.loop-part.self c.loop-part.steps) c.in-Some.ensures.steps.0 c.loop-part.invariant.parts
 
-  numbers : AreNumbers c.loop-part.steps.core.rows.items (c.in-Some.part ∷ numbers_in c.loop-part.self)
+  numbers : AreNumbers c.loop-part.steps.core.subparsers (c.in-Some.part ∷ numbers_in c.loop-part.self)
   numbers =
       next-numbers (g.C.Conditions.sets c.args.conds.now) (g.C.Conditions.sets c.loop-part.conds) c.args.trees.now c.loop-part.trees c.args.number c.args.self.now c.loop-part.self c.args.steps.now
       c.loop-part.steps c.in-Some.part (into_iter_items c.next.new.self) parts c.requires.numbers
 
-  at : (k : ℕ) × (Each (IsAt k) c.loop-part.steps.core.rows.items (c.in-Some.part ∷ []) × k < length c.loop-part.self.rows.items)
+  at : (k : ℕ) × (Each (IsAt k) c.loop-part.steps.core.subparsers (c.in-Some.part ∷ []) × k < length c.loop-part.self.rows.items)
   at =
       let one =
       next-looks (g.C.Conditions.sets c.args.conds.now) (g.C.Conditions.sets c.loop-part.conds) c.args.trees.now c.loop-part.trees c.args.number c.args.self.now c.loop-part.self c.args.steps.now
       c.loop-part.steps c.in-Some.part (into_iter_items c.next.new.self) parts c.requires.numbers c.requires.between.0 c.requires.between.1
       in
       let k = one.1.1.at in
-      let P = λ (m : ℕ). (x : Subparser) × (Has c.loop-part.steps.core.rows.items m x × IsAt k x) in
+      let P = λ (m : ℕ). (x : Subparser) × (Has c.loop-part.steps.core.subparsers m x × IsAt k x) in
       (k, (All-cons P c.in-Some.part [] (one.0, (one.1.0, one.1.1.phase)) (All-nil P), omega (arith, one.1.1.high, parts.long, c.requires.long)))
 
   waits : (names files : List (List ℕ)) (input : Input) (first : core.Core) (place : ℕ)
       → IsRun (tables_with (g.C.Conditions.sets c.args.conds.now) c.args.trees.now names files) input first c.args.steps.now
-      → Each (IsBetween place) c.args.steps.now.core.rows.items (c.args.number ∷ [])
-      → AreWaiting (g.C.Conditions.sets c.args.conds.now) input place c.args.steps.now.core.rows.items (numbers_in c.args.self.now)
-      → AreWaiting (g.C.Conditions.sets c.loop-part.conds) input place c.loop-part.steps.core.rows.items (c.in-Some.part ∷ numbers_in c.loop-part.self)
+      → Each (IsBetween place) c.args.steps.now.core.subparsers (c.args.number ∷ [])
+      → AreWaiting (g.C.Conditions.sets c.args.conds.now) input place c.args.steps.now.core.subparsers (numbers_in c.args.self.now)
+      → AreWaiting (g.C.Conditions.sets c.loop-part.conds) input place c.loop-part.steps.core.subparsers (c.in-Some.part ∷ numbers_in c.loop-part.self)
   waits =
       next-waits (g.C.Conditions.sets c.args.conds.now) (g.C.Conditions.sets c.loop-part.conds) c.args.trees.now c.loop-part.trees c.args.number c.args.self.now c.loop-part.self c.args.steps.now
       c.loop-part.steps c.in-Some.part (into_iter_items c.next.new.self) parts c.requires.numbers
@@ -123,5 +123,5 @@ pub returns-clause-waiting : goal.returns-clause-waiting
 returns-clause-waiting g c = λ names files input first place run between waiting.
     let left = into_iter_items c.loop-part.part-iterator in
     let none : left ≡ [] = nil_from_length left (omega (arith, c.loop-part.invariant.count, c.in-None.ensures.steps.0)) in
-    subst (λ (ns : List ℕ). AreWaiting (g.C.Conditions.sets c.loop-part.conds) input place c.loop-part.steps.core.rows.items (ns ++ numbers_in c.loop-part.self)) none
+    subst (λ (ns : List ℕ). AreWaiting (g.C.Conditions.sets c.loop-part.conds) input place c.loop-part.steps.core.subparsers (ns ++ numbers_in c.loop-part.self)) none
     (c.loop-part.invariant.parts.waiting names files input first place run between waiting)

@@ -9,13 +9,13 @@ use Rattle.sc_parse.proofs.steps.Steps.merge.Goals as goal
 -- src/steps.rt:130:20
 pub apply-requires-clause-enabled : goal.apply-requires-clause-enabled
 apply-requires-clause-enabled g c = λ fact refused.
-    merge-enabled c.args.self.now.core.source c.args.self.now.core.rows.items c.args.number c.args.other fact c.requires.numbers c.requires.alike refused
+    merge-enabled c.args.self.now.core.source c.args.self.now.core.subparsers c.args.number c.args.other fact c.requires.numbers c.requires.alike refused
 
 pub unreachable-requires : goal.unreachable-requires
 unreachable-requires g c =
     let to = merged-to c.args.self.now.core c.apply.new.self.core c.args.number c.args.other c.in_ok-made.made.items c.in_ok-made.ensures.made in
     let none : None ≡ slice_get c.deref.result.now 0 = c.in-None.ensures.value in
-    let some : None ≡ Some (length c.args.self.now.core.rows.items) = none ∙ ap (λ made. slice_get made 0) (c.deref.ensures.value ∙ to.is) in
+    let some : None ≡ Some (length c.args.self.now.core.subparsers) = none ∙ ap (λ made. slice_get made 0) (c.deref.ensures.value ∙ to.is) in
     cc (some)
 
 pub returns-clause-goes_on : goal.returns-clause-goes_on
@@ -26,7 +26,7 @@ returns-clause-replaces g c =
     let before = c.args.self.now.core in
     let after = c.apply.new.self.core in
     let first : slice_get c.in_ok-made.made.items 0 ≡ Some c.in-Some.merged.now = ap (λ made. slice_get made 0) (sym c.deref.ensures.value) ∙ sym c.in-Some.ensures.value in
-    subst (Replaces before.rows.items after.rows.items (c.args.number ∷ (c.args.other ∷ [])))
+    subst (Replaces before.subparsers after.subparsers (c.args.number ∷ (c.args.other ∷ [])))
     (merged-made before after c.args.number c.args.other c.in_ok-made.made.items c.in-Some.merged.now c.in_ok-made.ensures.made first)
     (event-replaces before after (event.Merge c.args.number c.args.other) c.in_ok-made.made.items c.in_ok-made.ensures.made c.requires.numbers)
 

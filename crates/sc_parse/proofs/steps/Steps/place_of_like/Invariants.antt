@@ -4,4 +4,4 @@ use Rattle.sc_parse.proofs.steps.Steps.place_of_like.Given as goal
 
 -- src/steps.rt:108:9
 abbrev pub invariant-loop-place : goal.invariant-loop-place
-invariant-loop-place l = (k : ℕ) → k < l.place → AreUnlike l.self.core.rows.items (get_or l.others k 0) l.number
+invariant-loop-place l = (k : ℕ) → k < l.place → AreUnlike l.self.core.subparsers (get_or l.others k 0) l.number
